@@ -1,0 +1,2 @@
+pub mod ListReading
+pub mod MapReading

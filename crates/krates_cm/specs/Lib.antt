@@ -1,0 +1,7 @@
+pub mod Document
+pub mod Faults
+pub mod Names
+pub mod PackageParts
+pub mod Parsing
+pub mod Reading
+pub mod Tables

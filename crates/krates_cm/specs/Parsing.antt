@@ -1,0 +1,36 @@
+-- When a text is no document.
+use Rattle.std.specs.Prelude.{◌≡◌, [], Some, None, ⊤}
+use Rattle.serde_json.specs.Data.{Data}
+use Rattle.serde_json.specs.Errors.{IsMemory}
+use Rattle.serde_json.specs.Read.{read}
+use Rattle.serde_json.specs.declared.error.Error as json
+use Rattle.krates_cm.specs.Document.{Text, MetadataModel}
+use Rattle.krates_cm.specs.Faults.{fault_of}
+use Rattle.krates_cm.specs.Tables.{metadata}
+use Rattle.krates_cm.specs.declared.error.Error.{Error}
+use Rattle.krates_cm.specs.declared.error.Error.TheVariants as errors
+use Rattle.krates_cm.specs.declared.read_error.ReadError.{ReadError}
+use Rattle.krates_cm.specs.declared.read_error.ReadError.TheVariants as read_errors
+
+-- The text is JSON, and this is what the tables read of it.
+abbrev pub IsDocument : Text → MetadataModel → Type 0
+IsDocument text m = (d : Data) × (read text ≡ Some d) × ((metadata [] d).value ≡ Some m)
+
+-- The text is no JSON, or its data no metadata, for a fault that is true of it. Memory may always run out.
+abbrev pub IsRefusal : Text → Error → Type 0
+IsRefusal text (errors.Json e) = read text ≡ None
+IsRefusal text (errors.Value e) = (d : Data) × (read text ≡ Some d) × ((metadata [] d).value ≡ None) × (metadata [] d).IsFault (fault_of e)
+IsRefusal text errors.Memory = ⊤
+IsRefusal text _ = ⊥
+
+-- what a JSON error becomes
+abbrev pub JsonBecomes : json.Error → Error → Type 0
+JsonBecomes e (errors.Json same) = (same ≡ e) × (IsMemory e → ⊥)
+JsonBecomes e errors.Memory = IsMemory e
+JsonBecomes e _ = ⊥
+
+-- what a refusal of a value becomes
+abbrev pub ReadErrorBecomes : ReadError → Error → Type 0
+ReadErrorBecomes e (errors.Value same) = (same ≡ e) × (e ≡ read_errors.Memory → ⊥)
+ReadErrorBecomes e errors.Memory = e ≡ read_errors.Memory
+ReadErrorBecomes e _ = ⊥

@@ -1,0 +1,26 @@
+//! The document of `cargo metadata --format-version 1`: its types, and how they are read from JSON.
+#![tactic(auto)]
+
+pub mod command;
+pub mod dependency;
+pub mod error;
+pub mod metadata;
+pub mod names;
+pub mod package;
+pub mod package_id;
+pub mod read;
+pub mod read_error;
+pub mod resolve;
+pub mod target;
+
+pub use command::MetadataCommand;
+pub use dependency::{Dependency, DependencyKind};
+pub use error::Error;
+pub use metadata::{Metadata, WorkspaceDefaultMembers};
+pub use names::UnknownName;
+pub use package::{Package, Source};
+pub use package_id::PackageId;
+pub use read::FromValue;
+pub use read_error::ReadError;
+pub use resolve::{DepKindInfo, Node, NodeDep, Resolve};
+pub use target::{CrateType, Edition, Target, TargetKind};

@@ -1,0 +1,81 @@
+//! The texts by which the document names target kinds, crate types and editions.
+
+ghost use Rattle.std.specs.Prelude.{◌≡◌, Some, None, MatchResult};
+ghost use Rattle.krates_cm.specs.Names.{target_kind_named, crate_type_named, edition_named};
+ghost use Rattle.krates_cm.specs.declared.names.UnknownName.TheVariants as unknown;
+
+use crate::target::{CrateType, Edition, TargetKind};
+use std::str::FromStr;
+use thiserror::Error;
+
+/// A text that names no value of its type.
+#[derive(Debug, Drop, Error)]
+pub enum UnknownName {
+    #[error("unknown target kind")]
+    TargetKind,
+    #[error("unknown crate type")]
+    CrateType,
+    #[error("unknown edition")]
+    Edition,
+}
+
+impl FromStr for TargetKind {
+    type Err = UnknownName;
+
+    ghost from_str_gives = { λ text r. MatchResult r (λ x. target_kind_named text ≡ Some x)
+        (λ e. (e ≡ unknown.TargetKind) × (target_kind_named text ≡ None)) };
+
+    fn from_str(text: &str) -> Result<TargetKind, UnknownName> {
+        match text {
+            "bench" => Ok(TargetKind::Bench),
+            "bin" => Ok(TargetKind::Bin),
+            "custom-build" => Ok(TargetKind::CustomBuild),
+            "cdylib" => Ok(TargetKind::CDyLib),
+            "dylib" => Ok(TargetKind::DyLib),
+            "example" => Ok(TargetKind::Example),
+            "lib" => Ok(TargetKind::Lib),
+            "proc-macro" => Ok(TargetKind::ProcMacro),
+            "rlib" => Ok(TargetKind::RLib),
+            "staticlib" => Ok(TargetKind::StaticLib),
+            "test" => Ok(TargetKind::Test),
+            _ => Err(UnknownName::TargetKind),
+        }
+    }
+}
+
+impl FromStr for CrateType {
+    type Err = UnknownName;
+
+    ghost from_str_gives = { λ text r. MatchResult r (λ x. crate_type_named text ≡ Some x)
+        (λ e. (e ≡ unknown.CrateType) × (crate_type_named text ≡ None)) };
+
+    fn from_str(text: &str) -> Result<CrateType, UnknownName> {
+        match text {
+            "bin" => Ok(CrateType::Bin),
+            "cdylib" => Ok(CrateType::CDyLib),
+            "dylib" => Ok(CrateType::DyLib),
+            "lib" => Ok(CrateType::Lib),
+            "proc-macro" => Ok(CrateType::ProcMacro),
+            "rlib" => Ok(CrateType::RLib),
+            "staticlib" => Ok(CrateType::StaticLib),
+            _ => Err(UnknownName::CrateType),
+        }
+    }
+}
+
+impl FromStr for Edition {
+    type Err = UnknownName;
+
+    ghost from_str_gives = { λ text r. MatchResult r (λ x. edition_named text ≡ Some x)
+        (λ e. (e ≡ unknown.Edition) × (edition_named text ≡ None)) };
+
+    fn from_str(text: &str) -> Result<Edition, UnknownName> {
+        match text {
+            "2015" => Ok(Edition::E2015),
+            "2018" => Ok(Edition::E2018),
+            "2021" => Ok(Edition::E2021),
+            "2024" => Ok(Edition::E2024),
+            _ => Err(UnknownName::Edition),
+        }
+    }
+}

@@ -1,0 +1,34 @@
+//! What can be read from a JSON value.
+
+ghost use Rattle.std.specs.Prelude.{ℕ, List, []};
+ghost use Rattle.serde_json.specs.Data.{Data};
+ghost use Rattle.serde_json.specs.View.{view as data_of};
+ghost use Rattle.krates_cm.specs.Reading.{Reading, Gives};
+
+use crate::read_error::ReadError;
+use serde_json::Value;
+use std::alloc::Global;
+
+/// A type that is read from a JSON value.
+pub trait FromValue: Sized + Drop {
+    /// What clauses see of the type.
+    ghost Model: { Type 0 };
+
+    ghost view: { Self → Model };
+
+    /// What is read of the data that stands under a key, and which faults are true of it.
+    ghost reads: { List ℕ → Data → Reading Model };
+
+    /// Reads the value that stands under `key`, which a refusal may name.
+    fn from_value_at(alloc: Global, value: &Value, key: &'static str) -> Result<Self, ReadError>
+        ensures { Gives view result (reads key.now (data_of value.now)) };
+
+    /// Reads a whole value.
+    ///
+    /// A refusal is true of the value; where several are, which one is named is left open.
+    final fn from_value(alloc: Global, value: &Value) -> Result<Self, ReadError>
+        ensures { Gives view result (reads [] (data_of value.now)) }
+    {
+        Self::from_value_at(alloc, value, "")
+    }
+}

@@ -1,0 +1,60 @@
+//! Why a JSON value isn't read.
+
+ghost use Rattle.std.specs.Prelude.{◌≡◌};
+ghost use Rattle.krates_cm.specs.declared.read_error.ReadError.TheVariants.{Memory};
+
+use std::alloc::{AllocError, AllocFailed};
+use thiserror::Error;
+
+/// What is wrong with a JSON value that isn't read. Where several refusals are true of a value,
+/// which one is named is left open.
+#[derive(Debug, Drop, Error)]
+pub enum ReadError {
+    /// An object lacks this key.
+    #[error("missing key: {0}")]
+    Missing(&'static str),
+    /// What stands under this key, or in the list under it, has another JSON type, or is null where
+    /// null isn't allowed. The key is empty for the whole value.
+    #[error("wrong type at key: {0}")]
+    WrongType(&'static str),
+    /// A text is no semantic version.
+    #[error("bad version")]
+    BadVersion,
+    /// A text is no version requirement.
+    #[error("bad version requirement")]
+    BadReq,
+    /// A text names no dependency kind.
+    #[error("bad dependency kind")]
+    BadKind,
+    /// A text names no target kind.
+    #[error("bad target kind")]
+    BadTargetKind,
+    /// A text names no crate type.
+    #[error("bad crate type")]
+    BadCrateType,
+    /// A text names no edition.
+    #[error("bad edition")]
+    BadEdition,
+    /// A text is no version of Rust.
+    #[error("bad rust version")]
+    BadRustVersion,
+    /// Memory ran out.
+    #[error("out of memory")]
+    Memory,
+}
+
+impl From<AllocError> for ReadError {
+    ghost from_gives = { λ _ e. e ≡ Memory };
+
+    fn from(_error: AllocError) -> ReadError {
+        ReadError::Memory
+    }
+}
+
+impl<T: Drop> From<AllocFailed<T>> for ReadError {
+    ghost from_gives = { λ _ e. e ≡ Memory };
+
+    fn from(_error: AllocFailed<T>) -> ReadError {
+        ReadError::Memory
+    }
+}
