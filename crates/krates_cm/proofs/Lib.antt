@@ -1,2 +1,3 @@
+pub mod ExactFaults
 pub mod ListReading
 pub mod MapReading

@@ -128,3 +128,14 @@ or_default read default key d = found (read_as default) (read key) (get key d)
 -- a field that may be absent or null, and then has none
 abbrev pub optional : {A : Type 0} → Reader A → Reader (Option A)
 optional read = or_default (nullable read) None
+
+-- ---- what readings keep
+
+-- Some fault is true exactly where nothing is read.
+pub record IsExact {A : Type 0} (reading : Reading A) : Type 0 where
+  pub unread : (fault : Fault) → reading.IsFault fault → reading.value ≡ None
+  pub faulty : reading.value ≡ None → (fault : Fault) × reading.IsFault fault
+
+-- whatever data stands under whatever key
+abbrev pub AlwaysExact : {A : Type 0} → Reader A → Type 0
+AlwaysExact read = (key : List ℕ) (d : Data) → IsExact (read key d)

@@ -4,6 +4,7 @@
 pub mod command;
 pub mod dependency;
 pub mod error;
+pub mod laws;
 pub mod metadata;
 pub mod names;
 pub mod package;

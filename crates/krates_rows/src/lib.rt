@@ -1,0 +1,9 @@
+//! Worked examples: what the crates answer on documents and texts whose answers are known.
+//!
+//! They stand apart from the crates that they test, since a crate with tests is proved twice.
+#![tactic(auto)]
+
+#[cfg(test)]
+mod documents;
+#[cfg(test)]
+mod reading;
