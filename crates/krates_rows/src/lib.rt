@@ -4,6 +4,10 @@
 #![tactic(auto)]
 
 #[cfg(test)]
+mod admission;
+#[cfg(test)]
 mod documents;
+#[cfg(test)]
+mod ids;
 #[cfg(test)]
 mod reading;

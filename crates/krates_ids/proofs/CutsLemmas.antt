@@ -1,0 +1,89 @@
+-- Laws of texts that are cut at a byte.
+use Rattle.std.proofs.Common.{◌≡◌, ◌≢◌, ℕ, ◌+◌, ◌<◌, ◌≤◌, suc, [], ◌∷◌, ◌++◌, length, get_or, take, drop, refl, sym, ap, ◌∙◌, arith, eqb, append_assoc, take-append-drop}
+use Rattle.std.specs.Prelude.{MatchOption, Option, Some, None, is_some}
+use Rattle.std.specs.Str.{NoCharPasses}
+use Rattle.std.specs.Str.Pattern.{RFindsChar, HasCharAt}
+use Rattle.std.specs.Borrow.{Bor}
+use Rattle.std.proofs.lemmas.Str.Pattern.{split_parts, IsSplitOnceResult, NoCharPasses-char, drop_at_char}
+use Rattle.krates_cm.specs.Document.{Text}
+use Rattle.krates_ids.specs.Cuts.{Lacks, FirstAt, LastAt, EndsWith, CutsFirst, CutsLast, TellsHas}
+
+-- ---- what the methods of `str` answer
+
+-- a byte that is read nowhere is not in the text
+pub Lacks-from_reads : (c : ℕ) (t : Text) → ((i : ℕ) → i < length t → get_or t i 0 ≢ c) → Lacks c t
+Lacks-from_reads c [] h = tt
+Lacks-from_reads c (b ∷ t) h = (h 0 (omega arith), Lacks-from_reads c t (λ i within. h (suc i) (omega arith)))
+
+-- the clause of `split_once` at an ASCII character
+pub CutsFirst-split_once : (c : ℕ) (t : Text) (r : Option (Bor Text × Bor Text)) → IsSplitOnceResult c t r → c < 128 → CutsFirst c t r
+CutsFirst-split_once c t None h small = Lacks-from_reads c t (split_parts c t None h small)
+CutsFirst-split_once c t (Some p) h small =
+    let parts = split_parts c t (Some p) h small in
+    record { is = parts.0; lacks = Lacks-from_reads c p.0.now parts.1 }
+
+abbrev pub IsRSplitOnceResult : ℕ → Text → Option (Bor Text × Bor Text) → Type 0
+IsRSplitOnceResult c bs r = MatchOption r (RFindsChar c bs None) (λ x. (i : ℕ) × (j : ℕ) × RFindsChar c bs (Some (i, j)) × (x.0.now ≡ take i bs) × (x.1.now ≡ drop j bs) × (i ≤ j) × (length x.0.now ≡ i) × (length x.1.now + j ≡ length bs))
+
+LastAt-found : (c : ℕ) (t x y : Text) (i j : ℕ) → NoCharPasses (λ d. eqb d c) (drop j t) → HasCharAt c t i j → x ≡ take i t → y ≡ drop j t → c < 128 → LastAt c t x y
+LastAt-found c t x y i j none found front back small =
+    let there : drop i t ≡ c ∷ drop j t = drop_at_char c t i j found small in
+    record {
+      is = rw (front, back, ← there) (sym (take-append-drop i t));
+      lacks = rw back (Lacks-from_reads c (drop j t) (λ k within. NoCharPasses-char c (drop j t) k none small within));
+    }
+
+-- the clause of `rsplit_once` at an ASCII character
+pub CutsLast-rsplit_once : (c : ℕ) (t : Text) (r : Option (Bor Text × Bor Text)) → IsRSplitOnceResult c t r → c < 128 → CutsLast c t r
+CutsLast-rsplit_once c t None h small = Lacks-from_reads c t (λ i within. NoCharPasses-char c t i h small within)
+CutsLast-rsplit_once c t (Some p) h small = LastAt-found c t p.0.now p.1.now h.0 h.1 h.2.0 h.2.1 h.3 h.4 small
+
+-- ---- a byte that a text lacks
+
+-- a text with a c has it
+pub Lacks-middle : (c : ℕ) (x y : Text) → Lacks c (x ++ c ∷ y) → ⊥
+Lacks-middle c [] y h = h.0 refl
+Lacks-middle c (b ∷ x) y h = Lacks-middle c x y h.1
+
+pub FirstAt-lacks : {c : ℕ} {t x y : Text} → Lacks c t → FirstAt c t x y → ⊥
+FirstAt-lacks {c} {t} {x} {y} h f = Lacks-middle c x y (rw (← f.is) h)
+
+pub LastAt-lacks : {c : ℕ} {t x y : Text} → Lacks c t → LastAt c t x y → ⊥
+LastAt-lacks {c} {t} {x} {y} h f = Lacks-middle c x y (rw (← f.is) h)
+
+-- the answer of `is_some` on a cut
+pub TellsHas-cut : (c : ℕ) (t : Text) (r : Option (Bor Text × Bor Text)) → CutsFirst c t r → TellsHas c t (is_some r)
+TellsHas-cut c t None h = h
+TellsHas-cut c t (Some p) h = λ none. FirstAt-lacks none h
+
+-- ---- a text is cut in one way
+
+first_cut_once : (c : ℕ) (x x' y y' : Text) → Lacks c x → Lacks c x' → x ++ c ∷ y ≡ x' ++ c ∷ y' → (x ≡ x') × (y ≡ y')
+first_cut_once c [] [] y y' h h' e = (refl, cc)
+first_cut_once c [] (b ∷ x') y y' h h' e = absurd (h'.0 (cc))
+first_cut_once c (b ∷ x) [] y y' h h' e = absurd (h.0 (cc))
+first_cut_once c (b ∷ x) (b' ∷ x') y y' h h' e =
+    let rest = first_cut_once c x x' y y' h.1 h'.1 (cc) in
+    (cc, rest.1)
+
+last_cut_once : (c : ℕ) (x x' y y' : Text) → Lacks c y → Lacks c y' → x ++ c ∷ y ≡ x' ++ c ∷ y' → (x ≡ x') × (y ≡ y')
+last_cut_once c [] [] y y' h h' e = (refl, cc)
+last_cut_once c [] (b ∷ x') y y' h h' e =
+    let tails : y ≡ x' ++ c ∷ y' = cc in
+    absurd (Lacks-middle c x' y' (rw (← tails) h))
+last_cut_once c (b ∷ x) [] y y' h h' e =
+    let tails : x ++ c ∷ y ≡ y' = cc in
+    absurd (Lacks-middle c x y (rw tails h'))
+last_cut_once c (b ∷ x) (b' ∷ x') y y' h h' e =
+    let rest = last_cut_once c x x' y y' h h' (cc) in
+    (cc, rest.1)
+
+pub FirstAt-once : {c : ℕ} {t x y x' y' : Text} → FirstAt c t x y → FirstAt c t x' y' → (x ≡ x') × (y ≡ y')
+FirstAt-once {c} {t} {x} {y} {x'} {y'} f g = first_cut_once c x x' y y' f.lacks g.lacks (sym f.is ∙ g.is)
+
+pub LastAt-once : {c : ℕ} {t x y x' y' : Text} → LastAt c t x y → LastAt c t x' y' → (x ≡ x') × (y ≡ y')
+LastAt-once {c} {t} {x} {y} {x'} {y'} f g = last_cut_once c x x' y y' f.lacks g.lacks (sym f.is ∙ g.is)
+
+-- the last c of a text's end is the text's last c
+pub LastAt-end : {c : ℕ} {t body x y : Text} (w : EndsWith t body) → LastAt c body x y → LastAt c t (w.front ++ x) y
+LastAt-end {c} {t} {body} {x} {y} w f = record { is = w.is ∙ (ap (λ z. w.front ++ z) f.is ∙ sym (append_assoc w.front x (c ∷ y))); lacks = f.lacks }

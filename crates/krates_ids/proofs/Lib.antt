@@ -1,0 +1,9 @@
+pub mod ComparisonLemmas
+pub mod CutsLemmas
+pub mod EscapesLemmas
+pub mod IdentityLemmas
+pub mod KidLemmas
+pub mod OpaqueLemmas
+pub mod RefusalsLemmas
+pub mod SpansLemmas
+pub mod StableLemmas

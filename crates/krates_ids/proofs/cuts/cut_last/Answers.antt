@@ -1,0 +1,5 @@
+use Rattle.krates_ids.proofs.CutsLemmas.{CutsLast-rsplit_once}
+use Rattle.krates_ids.proofs.cuts.cut_last.Goals as goal
+
+pub returns : goal.returns
+returns c = CutsLast-rsplit_once _ _ _ c.rsplit_once.ensures.cases c.requires

@@ -1,0 +1,5 @@
+use Rattle.krates_ids.proofs.CutsLemmas.{TellsHas-cut}
+use Rattle.krates_ids.proofs.cuts.has.Goals as goal
+
+pub returns : goal.returns
+returns c = rw c.is_some.ensures (TellsHas-cut _ _ _ c.cut_first.ensures)

@@ -1,0 +1,13 @@
+use Rattle.std.proofs.Common.{◌≡◌, ◌∙◌, sym, subst}
+use Rattle.std.specs.Str.{IsUtf8}
+use Rattle.percent_encoding.specs.Percent.{percent_decode}
+use Rattle.krates_ids.proofs.EscapesLemmas.{IsUtf8-percent_decode}
+use Rattle.krates_ids.proofs.escapes.decoded_text.Goals as goal
+
+-- what is decoded is UTF-8, so that `decode_utf8` finds no other error than want of memory
+pub unreachable-requires : goal.unreachable-requires
+unreachable-requires c =
+    let input : c.percent_decode.result.bytes.now ≡ c.args.query.now = c.percent_decode.ensures.input ∙ c.as_bytes.ensures.value in
+    let text = subst (λ q. IsUtf8 (percent_decode q)) (sym input) (IsUtf8-percent_decode c.args.query.now c.utf8.query c.requires) in
+    let only = c.in-Err-Utf8.ensures.utf8 text in
+    cc (only, c.in-Err-Utf8.field-0-is)

@@ -1,0 +1,9 @@
+pub mod Cuts
+pub mod Escapes
+pub mod Identity
+pub mod MetadataError
+pub mod OpaqueParts
+pub mod Refusals
+pub mod Separators
+pub mod Spans
+pub mod StableParts

@@ -1,0 +1,235 @@
+//! Package ids, read and compared.
+
+ghost use Rattle.std.specs.Prelude.{◌≡◌, Some};
+ghost use Rattle.std.proofs.Common.{rules};
+ghost use Rattle.std.specs.Cmp.{partial_order_from_own_ties};
+ghost use Rattle.std.specs.Cmp.Rules.{comparing, hashing};
+ghost use Rattle.std.specs.Ordering.{as_partial_cmp};
+ghost use Rattle.krates_cm.specs.Document.{id_view};
+ghost use Rattle.krates_ids.specs.Cuts.{Lacks};
+ghost use Rattle.krates_ids.specs.Identity.{empty_identity, same_id, id_cmp, id_hash_input};
+ghost use Rattle.krates_ids.specs.Refusals.{Converts};
+ghost use Rattle.krates_ids.specs.Separators.{blank};
+
+use crate::cuts::has;
+use crate::escapes::{are_escapes, decoded_text};
+use crate::id_error::IdError;
+use crate::opaque::opaque_parts;
+use crate::span::{Parts, Span, part};
+use crate::stable::{escaped_query, parts_in, stable_pieces};
+use krates_cm::PackageId;
+use std::alloc::{AllocError, Global};
+use std::cmp::Ordering;
+use std::fmt;
+use std::hash::{Hash, Hasher};
+use std::marker::Model;
+
+/// A package's unique id: the text that cargo gives it, and the name, version and source in it (Cargo Book, "Package ID
+/// Specifications").
+///
+/// Two ids are equal where these three parts are, whatever else their texts have, as the commit of an opaque id. They are
+/// ordered by name, then version, then source, each compared by its bytes.
+#[derive(Debug, Drop)]
+pub struct Kid {
+    repr: String,
+    parts: Parts,
+    is_opaque: bool,
+}
+
+impl Model for Kid {
+    ghost use Rattle.std.specs.Prelude.{string_bytes};
+    ghost use Rattle.krates_ids.specs.Identity.{Identity};
+    ghost use Rattle.krates_ids.specs.Spans.{AreSpans, identity_of};
+
+    ghost Value = { Identity };
+
+    ghost view = { λ k. identity_of (string_bytes k.repr) k.parts k.is_opaque };
+
+    ghost invariant = { λ k. AreSpans (string_bytes k.repr) k.parts };
+}
+
+impl TryFrom<PackageId> for Kid {
+    type Error = IdError;
+
+    ghost try_from_gives = { Converts };
+
+    /// Reads the text of a package id.
+    ///
+    /// A text with a blank has to be of the opaque form, `NAME VERSION (SOURCE)`; any other has to be of the stable form,
+    /// `SOURCE#NAME@VERSION`, or `SOURCE#VERSION` where the name is the last piece of the source. The query of a git source
+    /// is decoded (RFC 3986, section 2.1), which alone takes memory, and only where it has an escape.
+    ///
+    /// A refusal hands the id back unchanged.
+    fn try_from(id: PackageId) -> Result<Kid, IdError> {
+        if !has(id.repr.as_str(), ' ') {
+            return read_stable(id);
+        }
+        match opaque_parts(id.repr.as_str()) {
+            Some(parts) => Ok(Kid {
+                repr: id.repr,
+                parts,
+                is_opaque: true,
+            }),
+            None => Err(IdError::Opaque(id)),
+        }
+    }
+}
+
+/// Reads an id whose text has no blank.
+fn read_stable(id: PackageId) -> Result<Kid, IdError>
+    requires { Lacks blank (id_view id) }
+    ensures { Converts id result }
+{
+    let Some(pieces) = stable_pieces(id.repr.as_str()) else {
+        return Err(IdError::Stable(id));
+    };
+    let Some((front, query)) = escaped_query(pieces.left) else {
+        let parts = parts_in(id.repr.as_str(), pieces);
+        return Ok(Kid {
+            repr: id.repr,
+            parts,
+            is_opaque: false,
+        });
+    };
+    if !are_escapes(query) {
+        return Err(IdError::Escape(id));
+    }
+    let Ok(repr) = decoded_text(*id.repr.allocator(), front, query, pieces.fragment) else {
+        return Err(IdError::Memory(id));
+    };
+    let parts = parts_in(repr.as_str(), pieces);
+    Ok(Kid {
+        repr,
+        parts,
+        is_opaque: false,
+    })
+}
+
+impl Kid {
+    /// The id of nothing: an empty text with three empty parts.
+    pub fn empty(alloc: Global) -> Kid
+        ensures { result ≡ empty_identity }
+    {
+        let nowhere = Span { start: 0, end: 0 };
+        Kid {
+            repr: String::new(alloc),
+            parts: Parts {
+                name: nowhere,
+                version: nowhere,
+                source: nowhere,
+            },
+            is_opaque: false,
+        }
+    }
+
+    /// The text of the id, the query of a git source decoded.
+    pub fn repr(&self) -> &str
+        ensures { result.now ≡ self.now.text }
+    {
+        self.repr.as_str()
+    }
+
+    /// The name of the package.
+    pub fn name(&self) -> &str
+        ensures { result.now ≡ self.now.name }
+    {
+        part(self.repr(), self.parts.name)
+    }
+
+    /// The version of the package, as text.
+    pub fn version(&self) -> &str
+        ensures { result.now ≡ self.now.version }
+    {
+        part(self.repr(), self.parts.version)
+    }
+
+    /// The source of the package, the query of a git source decoded.
+    pub fn source(&self) -> &str
+        ensures { result.now ≡ self.now.source }
+    {
+        part(self.repr(), self.parts.source)
+    }
+
+    /// Whether the id was of the opaque form, so whether its text as it was written has a blank.
+    pub fn is_opaque(&self) -> bool
+        ensures { result ≡ self.now.is_opaque }
+    {
+        self.is_opaque
+    }
+}
+
+impl Clone for Kid {
+    ghost is_clone = { λ a b. b ≡ a };
+
+    /// A copy that is equal in its text and all its parts.
+    fn clone(&self) -> Result<Kid, AllocError> {
+        Ok(Kid {
+            repr: self.repr.clone()?,
+            parts: self.parts,
+            is_opaque: self.is_opaque,
+        })
+    }
+}
+
+impl PartialEq for Kid {
+    ghost eq = { same_id };
+
+    ghost laws = { Prim.search (comparing, rules) depth 9 };
+
+    fn eq(&self, other: &Kid) -> bool {
+        self.name() == other.name()
+            && self.version() == other.version()
+            && self.source() == other.source()
+    }
+}
+
+impl Eq for Kid {
+    ghost laws = { Prim.search (comparing, rules) depth 9 };
+}
+
+impl Ord for Kid {
+    ghost cmp = { id_cmp };
+
+    ghost total = { Prim.search (comparing, rules) depth 9 };
+
+    ghost matches_partial_cmp = { Prim.search (comparing, rules) depth 9 };
+
+    ghost matches_eq = { Prim.search (comparing, rules) depth 9 };
+
+    fn cmp(&self, other: &Kid) -> Ordering {
+        self.name()
+            .cmp(&other.name())
+            .then(self.version().cmp(&other.version()))
+            .then(self.source().cmp(&other.source()))
+    }
+}
+
+impl PartialOrd for Kid {
+    ghost partial_cmp = { as_partial_cmp id_cmp };
+
+    ghost laws = { partial_order_from_own_ties (Prim.search (comparing, rules) depth 9) (Prim.search (comparing, rules) depth 9) };
+
+    fn partial_cmp(&self, other: &Kid) -> Option<Ordering> {
+        Some(self.cmp(other))
+    }
+}
+
+impl Hash for Kid {
+    ghost hash_input = { id_hash_input };
+
+    ghost respects_eq = { Prim.search (hashing, rules) };
+
+    fn hash<H: Hasher>(&self, state: &mut H) {
+        self.name().hash(state);
+        self.version().hash(state);
+        self.source().hash(state);
+    }
+}
+
+impl fmt::Display for Kid {
+    ghost output = { λ k. Some k.text };
+
+    fn fmt<W: fmt::Write>(&self, f: &mut fmt::Formatter<W>) -> fmt::Result {
+        f.write_str(self.repr())
+    }
+}

@@ -1,0 +1,27 @@
+//! Laws of package ids, for all texts and ids. Each is the contract of a function that does nothing.
+
+ghost use Rattle.std.specs.Prelude.{◌≡◌, ◌↔◌, true};
+ghost use Rattle.std.specs.Cmp.{IsTotalOrder};
+ghost use Rattle.std.specs.declared.cmp.Ordering.TheVariants.{Equal};
+ghost use Rattle.krates_cm.specs.Document.{Text};
+ghost use Rattle.krates_ids.specs.Identity.{Identity, Reads, NeedsDecoding, Fault, IsFault, IsSameId, same_id, id_cmp, id_hash_input};
+
+/// A text is read as at most one id, and a text with a fault as none; it has at most one fault. A text that has an escape to
+/// be decoded is read, so that want of memory never stands in place of a fault.
+pub fn one_reading()
+    ensures once { (t : Text) (a b : Identity) → Reads t a → Reads t b → a ≡ b }
+    ensures no_fault_beside { (t : Text) (id : Identity) (fault : Fault)
+        → Reads t id → IsFault t fault → ⊥ }
+    ensures one_fault { (t : Text) (fault other : Fault)
+        → IsFault t fault → IsFault t other → fault ≡ other }
+    ensures decodable { (t : Text) → NeedsDecoding t → (id : Identity) × Reads t id }
+{}
+
+/// Ids compare as equal exactly where their three parts are equal, the order of ids is total and agrees with that, and the
+/// same ids feed a hasher the same.
+pub fn comparison()
+    ensures equality { (a b : Identity) → (same_id a b ≡ true) ↔ IsSameId a b }
+    ensures order { (a b : Identity) → (id_cmp a b ≡ Equal) ↔ IsSameId a b }
+    ensures total { IsTotalOrder id_cmp }
+    ensures hash { (a b : Identity) → IsSameId a b → id_hash_input a ≡ id_hash_input b }
+{}

@@ -1,0 +1,16 @@
+//! Package ids: the text that cargo gives a package, taken apart into name, version and source.
+#![tactic(auto)]
+
+mod cuts;
+pub mod error;
+mod escapes;
+mod id_error;
+pub mod kid;
+pub mod laws;
+mod opaque;
+mod span;
+mod stable;
+
+pub use error::{Error, Lost};
+pub use id_error::IdError;
+pub use kid::Kid;

@@ -1,0 +1,42 @@
+-- Lists that are made item by item, each item in a relation to one of another list.
+use Rattle.std.proofs.Common.{◌≡◌, ℕ, ◌+◌, ◌<◌, ◌≤◌, List, [], ◌∷◌, ◌++◌, length, get_or, take, map, sym, ap, ◌∙◌, subst, Contains}
+use Rattle.std.proofs.lemmas.List.{map-append, length-map, get_or-map, take_more, take_all}
+use Rattle.std.specs.List.{AllZip, AllByRecursion}
+
+zip_push : {A B : Type 0} (R : A → B → Type 0) (xs : List A) (ys : List B) (x : A) (y : B) → AllZip R xs ys → R x y → AllZip R (xs ++ x ∷ []) (ys ++ y ∷ [])
+zip_push R [] [] x y h here = (here, tt)
+zip_push R [] (b ∷ ys) x y h here = absurd h
+zip_push R (a ∷ xs) [] x y h here = absurd h
+zip_push R (a ∷ xs) (b ∷ ys) x y h here = (h.0, zip_push R xs ys x y h.1 here)
+
+-- one more item is made
+pub zip_next : {X A B : Type 0} (R : A → B → Type 0) (seen : X → A) (xs : List X) (i : ℕ) (x : X) (ys : List B) (y : B) → i < length xs → x ≡ get_or xs i x
+    → R (seen x) y → AllZip R (map seen (take i xs)) ys → AllZip R (map seen (take (i + 1) xs)) (ys ++ y ∷ [])
+zip_next R seen xs i x ys y lt is here so_far =
+    let more : take (i + 1) xs ≡ take i xs ++ x ∷ [] = take_more xs i x lt ∙ ap (λ z. take i xs ++ z ∷ []) (sym is) in
+    rw (more, map-append) (zip_push R (map seen (take i xs)) ys (seen x) y so_far here)
+
+-- all are made
+pub zip_all : {X A B : Type 0} (R : A → B → Type 0) (seen : X → A) (xs : List X) (i : ℕ) (ys : List B) → length xs ≤ i → AllZip R (map seen (take i xs)) ys → AllZip R (map seen xs) ys
+zip_all R seen xs i ys le h = subst (λ zs. AllZip R (map seen zs) ys) (take_all i xs le) h
+
+-- ---- what holds of each item
+
+-- of one more that was made
+pub each_push : {A : Type 0} (P : A → Type 0) (xs : List A) (x : A) → AllByRecursion P xs → P x → AllByRecursion P (xs ++ x ∷ [])
+each_push P [] x h here = (here, tt)
+each_push P (y ∷ xs) x h here = (h.0, each_push P xs x h.1 here)
+
+-- of one more that was looked at
+pub each_next : {X A : Type 0} (P : A → Type 0) (seen : X → A) (xs : List X) (i : ℕ) (x : X) → i < length xs → x ≡ get_or xs i x
+    → P (seen x) → AllByRecursion P (map seen (take i xs)) → AllByRecursion P (map seen (take (i + 1) xs))
+each_next P seen xs i x lt is here so_far =
+    let more : take (i + 1) xs ≡ take i xs ++ x ∷ [] = take_more xs i x lt ∙ ap (λ z. take i xs ++ z ∷ []) (sym is) in
+    rw (more, map-append) (each_push P (map seen (take i xs)) (seen x) so_far here)
+
+pub each_all : {X A : Type 0} (P : A → Type 0) (seen : X → A) (xs : List X) (i : ℕ) → length xs ≤ i → AllByRecursion P (map seen (take i xs)) → AllByRecursion P (map seen xs)
+each_all P seen xs i le h = subst (λ zs. AllByRecursion P (map seen zs)) (take_all i xs le) h
+
+-- an item that was looked at is one of those that are seen
+pub one_seen : {X A : Type 0} (seen : X → A) (xs : List X) (i : ℕ) (x : X) → i < length xs → x ≡ get_or xs i x → Contains (map seen xs) (seen x)
+one_seen seen xs i x lt is = (i, rw length-map lt, get_or-map seen xs i x (seen x) lt ∙ ap seen (sym is))

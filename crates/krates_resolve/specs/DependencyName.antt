@@ -1,0 +1,12 @@
+-- When the name of a resolved dependency is a declared one.
+use Rattle.std.specs.Prelude.{◌≡◌, ◌⊎◌, ℕ}
+use Rattle.std.specs.List.{AllZip}
+use Rattle.krates_cm.specs.Document.{Text}
+
+-- the byte is the declared one, or stands for it: cargo resolves the name `a-b` as `a_b`
+abbrev pub IsByteOf : ℕ → ℕ → Type 0
+IsByteOf resolved declared = (resolved ≡ declared) ⊎ ((resolved ≡ 95) × (declared ≡ 45))
+
+-- the resolved name is the declared one, byte by byte
+abbrev pub IsNameOf : Text → Text → Type 0
+IsNameOf resolved declared = AllZip IsByteOf resolved declared

@@ -1,0 +1,13 @@
+pub mod Admission
+pub mod AdmissionRefusals
+pub mod DeclaredDependency
+pub mod DependencyName
+pub mod Derivation
+pub mod Facts
+pub mod Ids
+pub mod Questions
+pub mod References
+pub mod Resolved
+pub mod Rules
+pub mod Setting
+pub mod Table

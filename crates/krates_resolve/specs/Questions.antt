@@ -1,0 +1,93 @@
+-- What a document and a setting answer to the rules.
+use Rattle.std.specs.Prelude.{ℕ, Contains}
+use Rattle.krates_cm.specs.Document.{Text, DependencyModel, PackageModel, NodeDepModel, NodeModel}
+use Rattle.krates_resolve.specs.Facts.{Id, Edge}
+use Rattle.krates_resolve.specs.References.{Reference}
+use Rattle.krates_resolve.specs.Rules.{Questions}
+use Rattle.krates_resolve.specs.Resolved.{Resolved, HasPackage, NoPackage, HasNode, NoNode, HasDep}
+use Rattle.krates_resolve.specs.DeclaredDependency.{IsDeclared, IsUndeclared}
+use Rattle.krates_resolve.specs.Setting.{IsRoot, IsExcluded, IsIgnored, Passes}
+use Rattle.krates_resolve.specs.declared.setting.Setting.{Setting}
+
+-- ---- crates
+
+-- the crate has a package that isn't excluded
+pub record IsIncluded (r : Resolved) (s : Setting) (i : Id) : Type 0 where
+  pub pkg : PackageModel
+  pub has_package : HasPackage r i pkg
+  pub not_excluded : IsExcluded s pkg → ⊥
+
+-- the crate has a package that isn't excluded, and a node
+pub record Stands (r : Resolved) (s : Setting) (i : Id) : Type 0 where
+  pub included : IsIncluded r s i
+  pub node : NodeModel
+  pub has_node : HasNode r i node
+
+-- the crate has a package that isn't excluded, and no node
+pub record LacksNode (r : Resolved) (s : Setting) (i : Id) : Type 0 where
+  pub included : IsIncluded r s i
+  pub no_node : NoNode r i
+
+-- ---- edges
+
+-- this dependency of the parent's node lists the edge
+pub record ListsEdge (r : Resolved) (e : Edge) (d : NodeDepModel) : Type 0 where
+  pub node : NodeModel
+  pub has_node : HasNode r e.parent node
+  pub has_dep : HasDep node e.child d
+  pub has_kind : Contains d.dep_kinds (record { kind = e.kind; target = e.cfg })
+
+-- the edge is listed, and not ignored
+pub record IsListed (r : Resolved) (s : Setting) (e : Edge) (d : NodeDepModel) : Type 0 where
+  pub lists : ListsEdge r e d
+  pub not_ignored : IsIgnored r s e → ⊥
+
+-- the edge is listed, not ignored, and declared as this dependency, which stands at this place of its package's list
+pub record IsDeclaredAt (r : Resolved) (s : Setting) (e : Edge) (place : ℕ) (d : DependencyModel) : Type 0 where
+  pub dep : NodeDepModel
+  pub listed : IsListed r s e dep
+  pub pkg : PackageModel
+  pub has_package : HasPackage r e.parent pkg
+  pub declared : IsDeclared pkg (record { id = e.child; dep = dep }) e place d
+
+-- the edge is declared so, and passes the targets
+pub record IsWanted (r : Resolved) (s : Setting) (e : Edge) (d : DependencyModel) : Type 0 where
+  pub place : ℕ
+  pub declared : IsDeclaredAt r s e place d
+  pub passes : Passes s e.cfg
+
+-- the edge is listed, not ignored, and no package of its parent declares it
+pub record IsLoose (r : Resolved) (s : Setting) (e : Edge) : Type 0 where
+  pub dep : NodeDepModel
+  pub listed : IsListed r s e dep
+  pub undeclared : (p : PackageModel) → HasPackage r e.parent p → IsUndeclared p (record { id = e.child; dep = dep }) e
+
+-- ---- features, which aren't looked at yet
+
+abbrev pub ListsFeature : Resolved → Id → Text → Type 0
+ListsFeature r i f = ⊥
+
+abbrev pub LacksFeature : Resolved → Id → Text → Type 0
+LacksFeature r i f = ⊥
+
+abbrev pub HasReference : Resolved → Id → Text → Reference → Type 0
+HasReference r i f reference = ⊥
+
+abbrev pub IsReferent : Resolved → Setting → Id → Text → Id → Type 0
+IsReferent r s i dep child = ⊥
+
+-- ---- all that the rules ask
+
+unfoldable pub questions : Resolved → Setting → Questions
+questions r s = record {
+  Root = IsRoot r s;
+  Stands = Stands r s;
+  NoPackage = NoPackage r;
+  NoNode = LacksNode r s;
+  Lists = ListsFeature r;
+  Lacks = LacksFeature r;
+  Refers = HasReference r;
+  Referent = IsReferent r s;
+  Wanted = IsWanted r s;
+  Loose = IsLoose r s;
+}

@@ -1,0 +1,11 @@
+//! Resolution: which crates, features and edges of a document are kept under a setting.
+#![tactic(auto)]
+
+pub mod admission;
+pub mod ids;
+pub mod setting;
+mod table;
+
+pub use admission::admit;
+pub use ids::Ids;
+pub use setting::Setting;
