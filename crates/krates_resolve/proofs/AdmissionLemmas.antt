@@ -129,14 +129,14 @@ twice_deps ids errors.TooMany h = absurd h
 twice_deps ids errors.NoResolveGraph h = absurd h
 
 -- at the same place of the other list stands what it is read as
-left_of : {A B : Type 0} (R : A → B → Type 0) (xs : List A) (ys : List B) (k : ℕ) (y : B) → AllZip R xs ys → slice_get ys k ≡ Some y → (x : A) × (slice_get xs k ≡ Some x) × R x y
+pub left_of : {A B : Type 0} (R : A → B → Type 0) (xs : List A) (ys : List B) (k : ℕ) (y : B) → AllZip R xs ys → slice_get ys k ≡ Some y → (x : A) × (slice_get xs k ≡ Some x) × R x y
 left_of R [] [] k y z h = absurd cc
 left_of R [] (b ∷ ys) k y z h = absurd z
 left_of R (a ∷ xs) [] k y z h = absurd z
 left_of R (a ∷ xs) (b ∷ ys) zero y z h = let e : b ≡ y = cc in (a, refl, subst (R a) e z.0)
 left_of R (a ∷ xs) (b ∷ ys) (suc k) y z h = left_of R xs ys k y z.1 h
 
-right_of : {A B : Type 0} (R : A → B → Type 0) (xs : List A) (ys : List B) (k : ℕ) (x : A) → AllZip R xs ys → slice_get xs k ≡ Some x → (y : B) × (slice_get ys k ≡ Some y) × R x y
+pub right_of : {A B : Type 0} (R : A → B → Type 0) (xs : List A) (ys : List B) (k : ℕ) (x : A) → AllZip R xs ys → slice_get xs k ≡ Some x → (y : B) × (slice_get ys k ≡ Some y) × R x y
 right_of R [] [] k x z h = absurd cc
 right_of R [] (b ∷ ys) k x z h = absurd z
 right_of R (a ∷ xs) [] k x z h = absurd z

@@ -5,9 +5,11 @@ pub mod DependencyName
 pub mod Derivation
 pub mod Facts
 pub mod Ids
+pub mod Lookup
 pub mod Questions
 pub mod References
 pub mod Resolved
 pub mod Rules
 pub mod Setting
+pub mod Standing
 pub mod Table

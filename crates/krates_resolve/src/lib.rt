@@ -3,7 +3,9 @@
 
 pub mod admission;
 pub mod ids;
+mod lookup;
 pub mod setting;
+mod standing;
 mod table;
 
 pub use admission::admit;

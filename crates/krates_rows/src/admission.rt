@@ -80,50 +80,56 @@ fn documents_that_are_admitted(rt: HostRuntime) -> Result<(), Fail> {
 #[test]
 fn documents_that_are_not_admitted(rt: HostRuntime) -> Result<(), Fail> {
     let none = r#"{"root":null,"nodes":[]}"#;
-    for (packages, members, nodes, refusal) in [
-        ([A, B], ["x", A], "null", "no resolution graph was provided"),
-        ([A, B], ["x", A], none, "invalid package id: x"),
-        (["a b", B], [A, B], none, "invalid package id: a b"),
+    for (first, second, member, nodes, refusal) in [
+        (A, B, "x", "null", "no resolution graph was provided"),
+        (A, B, "x", none, "invalid package id: x"),
+        ("a b", B, A, none, "invalid package id: a b"),
         (
-            [A, B],
-            [A, B],
+            A,
+            B,
+            A,
             r#"{"root":"y","nodes":[]}"#,
             "invalid package id: y",
         ),
         (
-            [A, B],
-            [A, B],
+            A,
+            B,
+            A,
             r#"{"root":null,"nodes":[{"id":"z","dependencies":[]}]}"#,
             "invalid package id: z",
         ),
         (
-            [A, B],
-            [A, B],
+            A,
+            B,
+            A,
             r#"{"root":null,"nodes":[{"id":"path+file:///w/a#0.1.0","dependencies":[],"deps":[{"name":"b","pkg":"path+file:///w/b#b@1"}]}]}"#,
             "invalid package id: path+file:///w/b#b@1",
         ),
-        ([A, A], [A, B], none, "doubled id: path+file:///w/a#0.1.0"),
+        (A, A, A, none, "doubled id: path+file:///w/a#0.1.0"),
         (
-            [A, B],
-            [A, B],
+            A,
+            B,
+            A,
             r#"{"root":null,"nodes":[{"id":"path+file:///w/a#0.1.0","dependencies":[]},{"id":"path+file:///w/a#0.1.0","dependencies":[]}]}"#,
             "doubled id: path+file:///w/a#0.1.0",
         ),
         (
-            [A, B],
-            [A, B],
+            A,
+            B,
+            A,
             r#"{"root":null,"nodes":[{"id":"path+file:///w/a#0.1.0","dependencies":[],"deps":[{"name":"b","pkg":"path+file:///w/b#0.1.0"},{"name":"c","pkg":"path+file:///w/b#0.1.0"}]}]}"#,
             "doubled id: path+file:///w/b#0.1.0",
         ),
         (
-            [OPAQUE, OTHER_COMMIT],
-            [A, B],
+            OPAQUE,
+            OTHER_COMMIT,
+            A,
             none,
             "doubled id: fuser 0.4.1 (git+https://github.com/cberner/fuser?branch=master#3900e8a)",
         ),
     ] {
         assert_eq!(rt;
-            outcome(rt.alloc(), &packages, &members, nodes)?.as_str(),
+            outcome(rt.alloc(), &[first, second], &[member], nodes)?.as_str(),
             refusal
         );
     }

@@ -1,0 +1,36 @@
+-- What look-ups in a document answer.
+use Rattle.std.specs.Prelude.{◌≡◌, ℕ, Option, Some, MatchOption, slice_get}
+use Rattle.krates_cm.specs.Document.{PackageModel, NodeModel, metadata_view, resolve_view}
+use Rattle.krates_resolve.specs.Admission.{AreIdsOf}
+use Rattle.krates_resolve.specs.Facts.{Id}
+use Rattle.krates_resolve.specs.Ids.{ids_view}
+use Rattle.krates_resolve.specs.Resolved.{Resolved, ReadsAs, NoPackage, NoNode}
+use Rattle.krates_resolve.specs.Table.{ArePlacesOf}
+use Rattle.krates_resolve.specs.declared.lookup.Lookup.{Lookup}
+
+abbrev pub resolved_view : Lookup → Resolved
+resolved_view d = record { metadata = metadata_view d.metadata.now; graph = resolve_view d.resolve.now }
+
+-- the ids are those of the document, and the tables answer as they do
+pub record IsLookup (d : Lookup) : Type 0 where
+  pub ids : AreIdsOf (metadata_view d.metadata.now) (resolve_view d.resolve.now) (ids_view d.ids.now)
+  pub packages : ArePlacesOf d.ids.now.packages.items d.packages
+  pub nodes : ArePlacesOf d.ids.now.nodes.items d.nodes
+
+-- a package with the id stands at this place of the document
+pub record PackageAt (r : Resolved) (i : Id) (place : ℕ) : Type 0 where
+  pub pkg : PackageModel
+  pub at : slice_get r.metadata.packages place ≡ Some pkg
+  pub id : ReadsAs pkg.id i
+
+pub record NodeAt (r : Resolved) (i : Id) (place : ℕ) : Type 0 where
+  pub node : NodeModel
+  pub at : slice_get r.graph.nodes place ≡ Some node
+  pub id : ReadsAs node.id i
+
+-- a place of the package with the id, or none where the document has no such package
+abbrev pub IsPackagePlace : Resolved → Id → Option ℕ → Type 0
+IsPackagePlace r i answer = MatchOption answer (NoPackage r i) (PackageAt r i)
+
+abbrev pub IsNodePlace : Resolved → Id → Option ℕ → Type 0
+IsNodePlace r i answer = MatchOption answer (NoNode r i) (NodeAt r i)

@@ -1,0 +1,64 @@
+//! The document, looked up by id.
+
+ghost use Rattle.std.specs.Prelude.{◌≡◌, IfOk};
+ghost use Rattle.krates_cm.specs.Document.{metadata_view, resolve_view};
+ghost use Rattle.krates_resolve.specs.Admission.{AreIdsOf};
+ghost use Rattle.krates_resolve.specs.Ids.{ids_view};
+ghost use Rattle.krates_resolve.specs.Lookup.{IsLookup, IsPackagePlace, IsNodePlace, resolved_view};
+ghost use Rattle.krates_resolve.specs.Resolved.{id_of};
+
+use crate::ids::Ids;
+use crate::table::{place_of, places_by_id};
+use krates_cm::{Metadata, Resolve};
+use krates_ids::{Kid, laws};
+use std::alloc::{AllocError, Global};
+use std::collections::BTreeMap;
+
+/// A document with its ids, and where the packages and nodes of each id stand.
+pub(crate) struct Lookup<'a> {
+    pub metadata: &'a Metadata,
+    pub resolve: &'a Resolve,
+    pub ids: &'a Ids,
+    pub packages: BTreeMap<&'a Kid, usize>,
+    pub nodes: BTreeMap<&'a Kid, usize>,
+}
+
+/// The document, ready to be looked up.
+pub(crate) fn lookup_of<'a>(
+    alloc: Global,
+    metadata: &'a Metadata,
+    resolve: &'a Resolve,
+    ids: &'a Ids,
+) -> Result<Lookup<'a>, AllocError>
+    requires { AreIdsOf (metadata_view metadata.now) (resolve_view resolve.now) (ids_view ids.now) }
+    ensures lookup { IfOk result (λ d. IsLookup d) }
+    ensures of_these { IfOk result (λ d. (d.metadata.now ≡ metadata.now) × (d.resolve.now ≡ resolve.now) × (d.ids.now ≡ ids.now)) }
+{
+    let packages = places_by_id(alloc, &ids.packages)?;
+    let nodes = places_by_id(alloc, &ids.nodes)?;
+    Ok(Lookup {
+        metadata,
+        resolve,
+        ids,
+        packages,
+        nodes,
+    })
+}
+
+/// The place of the package with the id.
+pub(crate) fn package_place<'a>(lookup: &'a Lookup<'a>, id: &'a Kid) -> Option<usize>
+    requires { IsLookup lookup.now }
+    ensures { IsPackagePlace (resolved_view lookup.now) (id_of id.now) result }
+{
+    laws::one_reading();
+    place_of(&lookup.ids.packages, &lookup.packages, id)
+}
+
+/// The place of the node with the id.
+pub(crate) fn node_place<'a>(lookup: &'a Lookup<'a>, id: &'a Kid) -> Option<usize>
+    requires { IsLookup lookup.now }
+    ensures { IsNodePlace (resolved_view lookup.now) (id_of id.now) result }
+{
+    laws::one_reading();
+    place_of(&lookup.ids.nodes, &lookup.nodes, id)
+}

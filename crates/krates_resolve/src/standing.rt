@@ -1,0 +1,33 @@
+//! Whether a crate can be kept.
+
+ghost use Rattle.krates_resolve.specs.Lookup.{IsLookup, resolved_view};
+ghost use Rattle.krates_resolve.specs.Resolved.{id_of};
+ghost use Rattle.krates_resolve.specs.Standing.{IsStanding};
+
+use crate::lookup::{Lookup, node_place, package_place};
+use crate::setting::Setting;
+use krates_ids::Kid;
+
+/// What a document and a setting have for a crate.
+pub(crate) enum Standing {
+    /// A package, and a node at this place.
+    Stands(usize),
+    /// No package.
+    NoPackage,
+    /// A package, and no node.
+    NoNode,
+}
+
+/// Whether a crate can be kept.
+pub(crate) fn standing_of<'a>(lookup: &'a Lookup<'a>, setting: &Setting, id: &'a Kid) -> Standing
+    requires { IsLookup lookup.now }
+    ensures { IsStanding (resolved_view lookup.now) setting.now (id_of id.now) result }
+{
+    match package_place(lookup, id) {
+        None => Standing::NoPackage,
+        Some(_) => match node_place(lookup, id) {
+            None => Standing::NoNode,
+            Some(place) => Standing::Stands(place),
+        },
+    }
+}
