@@ -2,8 +2,8 @@
 use Rattle.std.proofs.Common.{ℕ, List, Contains}
 use Rattle.krates_cm.specs.Document.{Text, DependencyModel}
 use Rattle.krates_resolve.specs.Facts.{Id, Edge, Fact}
-use Rattle.krates_resolve.specs.References.{Reference}
-use Rattle.krates_resolve.specs.Rules.{Questions, Open, IsAskedFor, Rule, root_crate, root_feature, lost_root_package, lost_root_node, feature_crate, simple, lost_simple, asked, strong, lost_asked_package, lost_asked_node, lost_strong, required, target, lost_undeclared, lost_required_package, lost_required_node, declared, by_default, lost_declared, weak, toggled, lost_weak}
+use Rattle.krates_text.specs.FeatureReference.{Reference}
+use Rattle.krates_resolve.specs.Rules.{Questions, Open, IsAskedFor, Rule, root_crate, root_feature, lost_root_package, lost_root_node, feature_crate, named, lost_named, asked, toggled_strongly, lost_asked_package, lost_asked_node, lost_toggled_strongly, required, target, lost_undeclared, lost_required_package, lost_required_node, declared, by_default, lost_declared, toggled_weakly, toggled_feature, lost_toggled_weakly}
 use Rattle.krates_resolve.specs.Derivation.{Among, Derivable, follows, IsClosed}
 
 -- whatever the first answers yes to, the second does
@@ -31,13 +31,13 @@ rule_within w (root_feature r s n) = root_feature (w.root _ r) (w.stands _ s) (w
 rule_within w (lost_root_package r s) = lost_root_package (w.root _ r) (w.no_package _ s)
 rule_within w (lost_root_node r s) = lost_root_node (w.root _ r) (w.no_node _ s)
 rule_within w feature_crate = feature_crate
-rule_within w (simple r n) = simple (w.refers _ _ _ r) (w.lists _ _ n)
-rule_within w (lost_simple r n) = lost_simple (w.refers _ _ _ r) (w.lacks _ _ n)
+rule_within w (named r n) = named (w.refers _ _ _ r) (w.lists _ _ n)
+rule_within w (lost_named r n) = lost_named (w.refers _ _ _ r) (w.lacks _ _ n)
 rule_within w (asked {e} {f} {d} x o) = asked {e = e} {f = f} {d = d} (asked_within w x) (open_within w o)
-rule_within w (strong {e} {f} {g} {c} r q n) = strong {e = e} {f = f} {g = g} {c = c} (w.refers _ _ _ r) (w.referent _ _ _ q) (w.lists _ _ n)
+rule_within w (toggled_strongly {e} {f} {g} {c} r q n) = toggled_strongly {e = e} {f = f} {g = g} {c = c} (w.refers _ _ _ r) (w.referent _ _ _ q) (w.lists _ _ n)
 rule_within w (lost_asked_package {e} {f} {d} y x s) = lost_asked_package {e = e} {f = f} {d = d} (asked_within w y) (w.wanted _ _ x) (w.no_package _ s)
 rule_within w (lost_asked_node {e} {f} {d} y x s) = lost_asked_node {e = e} {f = f} {d = d} (asked_within w y) (w.wanted _ _ x) (w.no_node _ s)
-rule_within w (lost_strong {e} {f} {g} {c} r q n) = lost_strong {e = e} {f = f} {g = g} {c = c} (w.refers _ _ _ r) (w.referent _ _ _ q) (w.lacks _ _ n)
+rule_within w (lost_toggled_strongly {e} {f} {g} {c} r q n) = lost_toggled_strongly {e = e} {f = f} {g = g} {c = c} (w.refers _ _ _ r) (w.referent _ _ _ q) (w.lacks _ _ n)
 rule_within w (required {e} {d} o h) = required {e = e} {d = d} (open_within w o) h
 rule_within w (target {e}) = target {e = e}
 rule_within w (lost_undeclared {e} l) = lost_undeclared {e = e} (w.loose _ l)
@@ -46,9 +46,9 @@ rule_within w (lost_required_node {e} {d} x h s) = lost_required_node {e = e} {d
 rule_within w (declared {e} {d} {g} x c n) = declared {e = e} {d = d} {g = g} (w.wanted _ _ x) c (w.lists _ _ n)
 rule_within w (by_default {e} {d} x u n) = by_default {e = e} {d = d} (w.wanted _ _ x) u (w.lists _ _ n)
 rule_within w (lost_declared {e} {d} {g} x c n) = lost_declared {e = e} {d = d} {g = g} (w.wanted _ _ x) c (w.lacks _ _ n)
-rule_within w (weak {e} {f} {g} {c} r q n) = weak {e = e} {f = f} {g = g} {c = c} (w.refers _ _ _ r) (w.referent _ _ _ q) (w.lists _ _ n)
-rule_within w toggled = toggled
-rule_within w (lost_weak {e} {f} {g} {c} r q n) = lost_weak {e = e} {f = f} {g = g} {c = c} (w.refers _ _ _ r) (w.referent _ _ _ q) (w.lacks _ _ n)
+rule_within w (toggled_weakly {e} {f} {g} {c} r q n) = toggled_weakly {e = e} {f = f} {g = g} {c = c} (w.refers _ _ _ r) (w.referent _ _ _ q) (w.lists _ _ n)
+rule_within w toggled_feature = toggled_feature
+rule_within w (lost_toggled_weakly {e} {f} {g} {c} r q n) = lost_toggled_weakly {e = e} {f = f} {g = g} {c = c} (w.refers _ _ _ r) (w.referent _ _ _ q) (w.lacks _ _ n)
 
 -- derivable grows with each question, what is lost included
 pub derivable_within : {a b : Questions} → Within a b → {f : Fact} → Derivable a f → Derivable b f

@@ -2,7 +2,7 @@
 use Rattle.std.specs.Prelude.{ℕ, Contains}
 use Rattle.krates_cm.specs.Document.{Text, DependencyModel, PackageModel, NodeDepModel, NodeModel}
 use Rattle.krates_resolve.specs.Facts.{Id, Edge}
-use Rattle.krates_resolve.specs.References.{Reference}
+use Rattle.krates_text.specs.FeatureReference.{Reference}
 use Rattle.krates_resolve.specs.Rules.{Questions}
 use Rattle.krates_resolve.specs.Resolved.{Resolved, HasPackage, NoPackage, HasNode, NoNode, HasDep}
 use Rattle.krates_resolve.specs.DeclaredDependency.{IsDeclared, IsUndeclared}

@@ -1,20 +1,11 @@
--- What a feature refers to in its list, by the form of the reference.
+-- Which references of a feature ask for a dependency.
 use Rattle.std.specs.Prelude.{◌≡◌}
 use Rattle.krates_cm.specs.Document.{Text}
+use Rattle.krates_text.specs.FeatureReference.{Reference, krate, weak, strong, simple}
 
-pub data Reference : Type 0 where
-  -- a feature of the same crate
-  Simple : (feature : Text) → Reference
-  -- a dependency, `dep:name`
-  Krate : (dep : Text) → Reference
-  -- a feature of a dependency, which is then kept, `name/feature`
-  Strong : (dep feature : Text) → Reference
-  -- a feature of a dependency where that is kept anyway, `name?/feature`
-  Weak : (dep feature : Text) → Reference
-
--- the reference asks for the edges to the dependency of this name
+-- the reference asks for the edges to the dependency of this name: a weak one doesn't
 abbrev pub AsksFor : Reference → Text → Type 0
-AsksFor (Simple f) dep = ⊥
-AsksFor (Krate c) dep = dep ≡ c
-AsksFor (Strong c f) dep = dep ≡ c
-AsksFor (Weak c f) dep = ⊥
+AsksFor (simple f) dep = ⊥
+AsksFor (krate c) dep = dep ≡ c
+AsksFor (strong c f) dep = dep ≡ c
+AsksFor (weak c f) dep = ⊥

@@ -5,7 +5,8 @@
 use Rattle.std.specs.Prelude.{◌≡◌, ℕ, List, [], ◌∷◌, false, true, Contains, codes}
 use Rattle.krates_cm.specs.Document.{Text, DependencyModel}
 use Rattle.krates_resolve.specs.Facts.{Id, Edge, Cause, LostPackage, LostNode, LostFeature, Undeclared, Fact, Crate, Feature, Kept, Toggled, Lost}
-use Rattle.krates_resolve.specs.References.{Reference, Simple, Weak, Strong, AsksFor}
+use Rattle.krates_text.specs.FeatureReference.{Reference, simple, weak, strong}
+use Rattle.krates_resolve.specs.References.{AsksFor}
 
 -- what the rules ask a document and a setting
 pub record Questions : Type 1 where
@@ -55,14 +56,14 @@ pub data Rule (q : Questions) : ℕ → List Fact → Fact → Type 0 where
   -- 2. the crate of an enabled feature is kept
   feature_crate : {p : Id} {f : Text} → Rule q 2 (Feature p f ∷ []) (Crate p)
   -- 3. an enabled feature enables the features of its crate that it names
-  simple : {p : Id} {f g : Text} → q.Refers p f (Simple g) → q.Lists p g → Rule q 3 (Feature p f ∷ []) (Feature p g)
-  lost_simple : {p : Id} {f g : Text} → q.Refers p f (Simple g) → q.Lacks p g → Rule q 3 (Feature p f ∷ []) (Lost (LostFeature p g))
+  named : {p : Id} {f g : Text} → q.Refers p f (simple g) → q.Lists p g → Rule q 3 (Feature p f ∷ []) (Feature p g)
+  lost_named : {p : Id} {f g : Text} → q.Refers p f (simple g) → q.Lacks p g → Rule q 3 (Feature p f ∷ []) (Lost (LostFeature p g))
   -- 4. an enabled feature keeps the open edges to a dependency that it asks for, and toggles the feature that it names there
   asked : {e : Edge} {f : Text} {d : DependencyModel} → IsAskedFor q f e → Open q e d → Rule q 4 (Feature e.parent f ∷ []) (Kept e)
-  strong : {e : Edge} {f g c : Text} → q.Refers e.parent f (Strong c g) → q.Referent e.parent c e.child → q.Lists e.child g → Rule q 4 (Feature e.parent f ∷ Kept e ∷ []) (Toggled e.parent e.child g)
+  toggled_strongly : {e : Edge} {f g c : Text} → q.Refers e.parent f (strong c g) → q.Referent e.parent c e.child → q.Lists e.child g → Rule q 4 (Feature e.parent f ∷ Kept e ∷ []) (Toggled e.parent e.child g)
   lost_asked_package : {e : Edge} {f : Text} {d : DependencyModel} → IsAskedFor q f e → q.Wanted e d → q.NoPackage e.child → Rule q 4 (Feature e.parent f ∷ []) (Lost (LostPackage e.child))
   lost_asked_node : {e : Edge} {f : Text} {d : DependencyModel} → IsAskedFor q f e → q.Wanted e d → q.NoNode e.child → Rule q 4 (Feature e.parent f ∷ []) (Lost (LostNode e.child))
-  lost_strong : {e : Edge} {f g c : Text} → q.Refers e.parent f (Strong c g) → q.Referent e.parent c e.child → q.Lacks e.child g → Rule q 4 (Feature e.parent f ∷ Kept e ∷ []) (Lost (LostFeature e.child g))
+  lost_toggled_strongly : {e : Edge} {f g c : Text} → q.Refers e.parent f (strong c g) → q.Referent e.parent c e.child → q.Lacks e.child g → Rule q 4 (Feature e.parent f ∷ Kept e ∷ []) (Lost (LostFeature e.child g))
   -- 5. a kept crate keeps its open edges that aren't optional; a kept edge keeps its child
   required : {e : Edge} {d : DependencyModel} → Open q e d → d.optional ≡ false → Rule q 5 (Crate e.parent ∷ []) (Kept e)
   target : {e : Edge} → Rule q 5 (Kept e ∷ []) (Crate e.child)
@@ -74,6 +75,6 @@ pub data Rule (q : Questions) : ℕ → List Fact → Fact → Type 0 where
   by_default : {e : Edge} {d : DependencyModel} → q.Wanted e d → d.uses_default_features ≡ true → q.Lists e.child default_name → Rule q 6 (Kept e ∷ []) (Feature e.child default_name)
   lost_declared : {e : Edge} {d : DependencyModel} {g : Text} → q.Wanted e d → Contains d.features g → q.Lacks e.child g → Rule q 6 (Kept e ∷ []) (Lost (LostFeature e.child g))
   -- 7. a weak reference of an enabled feature toggles only over a kept edge; a toggled feature is enabled
-  weak : {e : Edge} {f g c : Text} → q.Refers e.parent f (Weak c g) → q.Referent e.parent c e.child → q.Lists e.child g → Rule q 7 (Feature e.parent f ∷ Kept e ∷ []) (Toggled e.parent e.child g)
-  toggled : {p c : Id} {g : Text} → Rule q 7 (Toggled p c g ∷ []) (Feature c g)
-  lost_weak : {e : Edge} {f g c : Text} → q.Refers e.parent f (Weak c g) → q.Referent e.parent c e.child → q.Lacks e.child g → Rule q 7 (Feature e.parent f ∷ Kept e ∷ []) (Lost (LostFeature e.child g))
+  toggled_weakly : {e : Edge} {f g c : Text} → q.Refers e.parent f (weak c g) → q.Referent e.parent c e.child → q.Lists e.child g → Rule q 7 (Feature e.parent f ∷ Kept e ∷ []) (Toggled e.parent e.child g)
+  toggled_feature : {p c : Id} {g : Text} → Rule q 7 (Toggled p c g ∷ []) (Feature c g)
+  lost_toggled_weakly : {e : Edge} {f g c : Text} → q.Refers e.parent f (weak c g) → q.Referent e.parent c e.child → q.Lacks e.child g → Rule q 7 (Feature e.parent f ∷ Kept e ∷ []) (Lost (LostFeature e.child g))

@@ -78,7 +78,7 @@ fn documents_that_are_admitted(rt: HostRuntime) -> Result<(), Fail> {
 }
 
 #[test]
-fn documents_that_are_not_admitted(rt: HostRuntime) -> Result<(), Fail> {
+fn documents_without_graph_or_with_invalid_ids(rt: HostRuntime) -> Result<(), Fail> {
     let none = r#"{"root":null,"nodes":[]}"#;
     for (first, second, member, nodes, refusal) in [
         (A, B, "x", "null", "no resolution graph was provided"),
@@ -105,31 +105,41 @@ fn documents_that_are_not_admitted(rt: HostRuntime) -> Result<(), Fail> {
             r#"{"root":null,"nodes":[{"id":"path+file:///w/a#0.1.0","dependencies":[],"deps":[{"name":"b","pkg":"path+file:///w/b#b@1"}]}]}"#,
             "invalid package id: path+file:///w/b#b@1",
         ),
-        (A, A, A, none, "doubled id: path+file:///w/a#0.1.0"),
+    ] {
+        assert_eq!(rt;
+            outcome(rt.alloc(), &[first, second], &[member], nodes)?.as_str(),
+            refusal
+        );
+    }
+    Ok(())
+}
+
+#[test]
+fn documents_with_doubled_ids(rt: HostRuntime) -> Result<(), Fail> {
+    let none = r#"{"root":null,"nodes":[]}"#;
+    for (first, second, nodes, refusal) in [
+        (A, A, none, "doubled id: path+file:///w/a#0.1.0"),
         (
             A,
             B,
-            A,
             r#"{"root":null,"nodes":[{"id":"path+file:///w/a#0.1.0","dependencies":[]},{"id":"path+file:///w/a#0.1.0","dependencies":[]}]}"#,
             "doubled id: path+file:///w/a#0.1.0",
         ),
         (
             A,
             B,
-            A,
             r#"{"root":null,"nodes":[{"id":"path+file:///w/a#0.1.0","dependencies":[],"deps":[{"name":"b","pkg":"path+file:///w/b#0.1.0"},{"name":"c","pkg":"path+file:///w/b#0.1.0"}]}]}"#,
             "doubled id: path+file:///w/b#0.1.0",
         ),
         (
             OPAQUE,
             OTHER_COMMIT,
-            A,
             none,
             "doubled id: fuser 0.4.1 (git+https://github.com/cberner/fuser?branch=master#3900e8a)",
         ),
     ] {
         assert_eq!(rt;
-            outcome(rt.alloc(), &[first, second], &[member], nodes)?.as_str(),
+            outcome(rt.alloc(), &[first, second], &[A], nodes)?.as_str(),
             refusal
         );
     }

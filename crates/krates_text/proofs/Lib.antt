@@ -1,0 +1,11 @@
+pub mod Text
+pub mod FeatureReference
+pub mod PathLemmas
+pub mod TargetTable
+pub mod CfgReading
+pub mod CfgFrames
+pub mod CfgSteps
+pub mod CfgTrees
+pub mod CfgSound
+pub mod CfgParsing
+pub mod CfgPassing

@@ -1,0 +1,15 @@
+pub mod Text
+pub mod FeatureReference
+pub mod Path
+pub mod TargetTable
+pub mod TableRow
+pub mod CfgGrammar
+pub mod CfgReader
+pub mod CfgView
+pub mod CfgFrames
+pub mod CfgPlaces
+pub mod CfgValue
+pub mod CfgFault
+pub mod CfgExpression
+pub mod Passing
+pub mod AskedTargets

@@ -1,0 +1,32 @@
+-- Whether the target text of a dependency lets it pass at some targets.
+use Rattle.std.specs.Prelude.{◌≡◌, ℕ, ◌||◌, Bool, true, nat_lt, List, [], ◌∷◌, Option, MatchOption}
+use Rattle.std.specs.Borrow.{Bor}
+use Rattle.std.specs.List.{list_any}
+use Rattle.std.specs.Str.{bytes_eq}
+use Rattle.krates_text.specs.TargetTable.{DescribedTarget, unknown, printed}
+use Rattle.krates_text.specs.CfgGrammar.{Tree, IsExpression, IsNoExpression}
+use Rattle.krates_text.specs.CfgValue.{value, count}
+
+-- a target and its features
+pub record Asked : Type 0 where
+  pub target : DescribedTarget
+  pub features : List (List ℕ)
+
+-- without targets, whatever asks something of one or is true; else where one single target makes the whole true
+abbrev pub expression_passes : Tree → List Asked → Bool
+expression_passes p [] = nat_lt 0 (count p) || value (unknown []) [] p
+expression_passes p (first ∷ rest) = list_any (λ a. value a.target a.features p) (first ∷ rest)
+
+-- without targets, any triple; else the printed text of one of them
+abbrev pub triple_passes : List ℕ → List Asked → Bool
+triple_passes text [] = true
+triple_passes text (first ∷ rest) = list_any (λ a. bytes_eq (printed a.target) text) (first ∷ rest)
+
+-- a text that is an expression is asked as one, and any other is a triple
+pub record TellsPassing (text : List ℕ) (targets : List Asked) (passes : Bool) : Type 0 where
+  pub expression : (p : Tree) → IsExpression text p → passes ≡ expression_passes p targets
+  pub triple : IsNoExpression text → passes ≡ triple_passes text targets
+
+-- what has no target text passes
+abbrev pub TellsPassingOf : Option (Bor (List ℕ)) → List Asked → Bool → Type 0
+TellsPassingOf text targets passes = MatchOption text (passes ≡ true) (λ t. TellsPassing t.now targets passes)

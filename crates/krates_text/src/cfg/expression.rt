@@ -1,0 +1,55 @@
+//! A cfg expression that was read.
+ghost use Rattle.std.specs.Prelude.{◌≡◌, ◌^◌, ◌<◌, IfOk, IfErr, map, string_bytes};
+ghost use Rattle.krates_text.specs.CfgView.{tree_of};
+ghost use Rattle.krates_text.specs.CfgValue.{count};
+
+use crate::cfg::CfgError;
+use crate::cfg::predicate::{self, Predicate};
+use crate::cfg::reader::read;
+use crate::target::Target;
+use std::alloc::Global;
+
+/// A cfg expression, such as `cfg(all(unix, not(target_os = "linux")))`.
+#[derive(Debug, Drop)]
+pub struct Expression {
+    predicate: Predicate,
+    ghost countable: { count (tree_of predicate) < 2 ^ 64 },
+}
+
+impl Expression {
+    ghost use Rattle.krates_text.specs.CfgGrammar.{IsExpression};
+    ghost use Rattle.krates_text.specs.CfgFault.{IsFault};
+    ghost use Rattle.krates_text.specs.CfgValue.{value};
+    ghost use Rattle.krates_text.specs.CfgExpression.{tree};
+    ghost use Rattle.krates_text.specs.TargetTable.{target_of};
+
+    /// The expression that a text is. `TooDeep` comes where a beginning of the text opens a 128th form in the forms
+    /// that it has opened, with no fault before; `Syntax` for every other text outside the grammar.
+    pub fn parse(alloc: Global, text: &str) -> Result<Expression, CfgError>
+        ensures found { IfOk result (λ e. IsExpression text.now (tree e)) }
+        ensures fault { IfErr result (λ e. IsFault text.now e) }
+    {
+        let Some(behind) = text.strip_prefix("cfg(") else {
+            return Err(CfgError::Syntax);
+        };
+        let predicate = read(alloc, behind)?;
+        Ok(Expression { predicate })
+    }
+
+    /// How many words and pairs the expression has; `true` and `false` are none.
+    pub fn predicates(&self) -> usize
+        ensures { result ≡ count (tree self.now) }
+    {
+        predicate::count(&self.predicate)
+    }
+
+    /// Whether the expression is true at a target that has these features.
+    pub fn eval(&self, target: &Target, features: &[String]) -> bool
+        ensures { result ≡ value (target_of target.now) (map string_bytes features.now) (tree self.now) }
+    {
+        predicate::eval(&self.predicate, target, features)
+    }
+}
+
+#[cfg(test)]
+mod tests;

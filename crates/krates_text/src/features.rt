@@ -1,0 +1,90 @@
+//! Feature references: what an entry in the list of a feature in a manifest enables.
+//!
+//! Source: the Cargo Book, "Features".
+ghost use Rattle.std.specs.Prelude.{◌≡◌};
+ghost use Rattle.krates_text.specs.FeatureReference.{IsReference, reference_of};
+
+/// What a feature reference enables, its parts borrowed from the text.
+#[derive(Clone, Copy, Debug, PartialEq, Eq)]
+pub enum Feature<'f> {
+    /// `dep:<crate>`: an optional dependency, without a feature of that name.
+    Krate(&'f str),
+    /// `<crate>?/<feature>`: a feature of a dependency, if something else enables that dependency.
+    Weak { krate: &'f str, feature: &'f str },
+    /// `<crate>/<feature>`: a feature of a dependency, which it also enables.
+    Strong { krate: &'f str, feature: &'f str },
+    /// A feature of the same crate.
+    Simple(&'f str),
+}
+
+/// A feature reference as it is written. Any text is one.
+#[derive(Clone, Copy, Debug)]
+pub struct ParsedFeature<'f> {
+    /// The text as it is written.
+    pub text: &'f str,
+}
+
+impl<'f> From<&'f str> for ParsedFeature<'f> {
+    ghost from_gives = { λ text parsed. parsed.text.now ≡ text.now };
+
+    fn from(text: &'f str) -> Self {
+        ParsedFeature { text }
+    }
+}
+
+impl<'f> ParsedFeature<'f> {
+    /// The reference that the text is: what follows `dep:` at its start; else what stands on the two sides of its
+    /// first `?/`; else of its first `/`; else all of it, which may be empty.
+    pub fn feat(&self) -> Feature<'f>
+        ensures { IsReference self.now.text.now (reference_of result) }
+    {
+        if let Some(krate) = self.text.strip_prefix("dep:") {
+            return Feature::Krate(krate);
+        }
+        if let Some((krate, feature)) = self.text.split_once("?/") {
+            return Feature::Weak { krate, feature };
+        }
+        match self.text.split_once("/") {
+            Some((krate, feature)) => Feature::Strong { krate, feature },
+            None => Feature::Simple(self.text),
+        }
+    }
+}
+
+#[cfg(test)]
+mod tests {
+    use super::*;
+
+    #[test]
+    fn reads_each_form(rt: HostRuntime) {
+        let forms = [
+            (
+                "a/b?/c",
+                Feature::Weak {
+                    krate: "a/b",
+                    feature: "c",
+                },
+            ),
+            (
+                "reqwest?/json",
+                Feature::Weak {
+                    krate: "reqwest",
+                    feature: "json",
+                },
+            ),
+            (
+                "serde/derive",
+                Feature::Strong {
+                    krate: "serde",
+                    feature: "derive",
+                },
+            ),
+            ("dep:x/y", Feature::Krate("x/y")),
+            ("std", Feature::Simple("std")),
+            ("", Feature::Simple("")),
+        ];
+        for (text, want) in forms {
+            assert_eq!(rt; ParsedFeature::from(text).feat(), want, "at {text}");
+        }
+    }
+}

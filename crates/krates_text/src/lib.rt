@@ -1,0 +1,10 @@
+//! The small languages of a manifest and of cargo's metadata: paths, feature references, cfg expressions and the
+//! targets at which they are asked.
+#![tactic(auto)]
+
+pub mod cfg;
+pub mod features;
+pub mod laws;
+pub mod passing;
+pub mod path;
+pub mod target;

@@ -1,0 +1,107 @@
+//! Whether the target text of a dependency lets it pass at some targets.
+//!
+//! Source: the Cargo Book, "Platform specific dependencies".
+ghost use Rattle.std.specs.Prelude.{◌≡◌, IfOk, map};
+ghost use Rattle.krates_text.specs.Passing.{TellsPassingOf, expression_passes, triple_passes};
+ghost use Rattle.krates_text.specs.AskedTargets.{asked_of};
+ghost use Rattle.krates_text.specs.CfgExpression.{tree};
+
+use crate::cfg::{CfgError, Expression};
+use crate::target::Target;
+use std::alloc::{AllocError, Global};
+
+/// Whether a target text passes. No text does. A text that is a cfg expression passes where one single target makes
+/// the whole of it true, and any other where it is the printed text of a target. Without targets all pass but an
+/// expression that asks nothing and is false. The only error is want of memory.
+pub fn passes(
+    alloc: Global,
+    text: Option<&str>,
+    targets: &[(Target, Vec<String>)],
+) -> Result<bool, AllocError>
+    ensures { IfOk result (λ b. TellsPassingOf text.entry (map asked_of targets.now) b) }
+{
+    let Some(text) = text else {
+        return Ok(true);
+    };
+    match Expression::parse(alloc, text) {
+        Ok(expression) => Ok(expression_passes(alloc, &expression, targets)),
+        Err(CfgError::Memory) => Err(AllocError),
+        Err(CfgError::Syntax | CfgError::TooDeep) => Ok(triple_passes(text, targets)),
+    }
+}
+
+fn expression_passes(
+    alloc: Global,
+    expression: &Expression,
+    targets: &[(Target, Vec<String>)],
+) -> bool
+    ensures { result ≡ expression_passes (tree expression.now) (map asked_of targets.now) }
+{
+    if targets.is_empty() {
+        let nowhere = Target::Unknown(String::new(alloc));
+        return expression.predicates() > 0 || expression.eval(&nowhere, &[]);
+    }
+    for (target, features) in targets {
+        if expression.eval(target, features.as_slice()) {
+            return true;
+        }
+    }
+    false
+}
+
+fn triple_passes(text: &str, targets: &[(Target, Vec<String>)]) -> bool
+    ensures { result ≡ triple_passes text.now (map asked_of targets.now) }
+{
+    if targets.is_empty() {
+        return true;
+    }
+    for (target, _) in targets {
+        if target.as_str() == text {
+            return true;
+        }
+    }
+    false
+}
+
+#[cfg(test)]
+mod tests {
+    use super::*;
+    use std::test::Fail;
+
+    #[test]
+    fn passes_by_one_single_target(rt: HostRuntime) -> Result<(), Fail> {
+        let all = "cfg(all(windows, target_env = \"musl\"))";
+        let mut targets = Vec::new(rt.alloc());
+        for (text, want) in [
+            ("cfg(any(false, false))", false),
+            ("cfg(not(any()))", true),
+            ("cfg(foo)", true),
+            ("cfg(unix", true),
+            (all, true),
+        ] {
+            assert_eq!(rt;
+                passes(rt.alloc(), Some(text), targets.as_slice())?,
+                want,
+                "{text}"
+            );
+        }
+        for triple in ["x86_64-pc-windows-msvc", "x86_64-unknown-linux-musl"] {
+            targets.push((Target::new(rt.alloc(), triple)?, Vec::new(rt.alloc())))?;
+        }
+        for (text, want) in [
+            (all, false),
+            ("cfg(windows)", true),
+            ("cfg(unix", false),
+            ("x86_64-unknown-linux-musl", true),
+            ("x86_64-unknown-linux-gnu", false),
+        ] {
+            assert_eq!(rt;
+                passes(rt.alloc(), Some(text), targets.as_slice())?,
+                want,
+                "{text}"
+            );
+        }
+        assert!(rt; passes(rt.alloc(), None, targets.as_slice())?);
+        Ok(())
+    }
+}

@@ -1,0 +1,155 @@
+//! Paths as texts, with `/` as the separator. They are compared by their components as they are written: nothing is
+//! looked up, and `..` is a name like others.
+ghost use Rattle.std.specs.Prelude.{◌≡◌, ◌↔◌, ◌<◌, MatchOption, IfOk, IsTrue, string_bytes};
+ghost use Rattle.std.specs.Path.{components_remaining, is_name, slash};
+ghost use Rattle.krates_text.specs.Text.{CutsAtLast};
+ghost use Rattle.krates_text.specs.Path.{components, HasNoParent, IsParent, EndsWithPath, joined, SplitsLast, or_root};
+
+use std::alloc::{AllocError, Global};
+use std::path::{Components, Path};
+
+/// The components of a path, in order: `/` where it begins with one, and then its pieces between `/`, without empty
+/// ones and without `.`, except a `.` that comes first in a path that doesn't begin with `/`.
+pub fn components(path: &str) -> Components<'_>
+    ensures { components_remaining result ≡ components path.now }
+{
+    Path::new(path).components()
+}
+
+/// The path up to the end of its last component but one: `/` where only the root stands before the last, the empty
+/// text where nothing does. `None` for a path without a component and for the root alone.
+pub fn parent(path: &str) -> Option<&str>
+    ensures { MatchOption result (HasNoParent path.now) (λ p. IsParent path.now p.now) }
+{
+    let (before, whole) = split_last(path);
+    if whole.is_empty() || whole == "/" {
+        return None;
+    }
+    let (_, parent) = split_last(before);
+    Some(parent)
+}
+
+/// The path `path` as it is meant at `base`: itself where it begins with `/`, and else the two with a `/` between
+/// unless the base is empty or ends with one. The only error is want of memory.
+pub fn join(alloc: Global, base: &str, path: &str) -> Result<String, AllocError>
+    ensures { IfOk result (λ s. string_bytes s ≡ joined base.now path.now) }
+{
+    Ok(Path::new(base).join(alloc, path)?.into_string())
+}
+
+/// Whether the components of `end` are the last ones of `path`.
+pub fn ends_with(path: &str, end: &str) -> bool
+    ensures { IsTrue result ↔ EndsWithPath path.now end.now }
+{
+    Path::new(path).ends_with(end)
+}
+
+/// Whether two paths have equal components.
+pub fn same(a: &str, b: &str) -> bool
+    ensures { IsTrue result ↔ (components a.now ≡ components b.now) }
+{
+    ends_with(a, b) && ends_with(b, a)
+}
+
+/// The path without what trails its last component, and before it what stands before that component.
+fn split_last(path: &str) -> (&str, &str)
+    ensures { SplitsLast path.now result.0.now result.1.now }
+{
+    let mut rest = path;
+    while let Some((before, piece)) = cut_at_last_slash(rest) {
+        if is_name(piece) {
+            return (or_root(before), rest);
+        }
+        if before.is_empty() {
+            return ("", "/");
+        }
+        rest = before;
+    }
+    ("", rest)
+}
+
+/// The two sides of the last `/`.
+fn cut_at_last_slash(text: &str) -> Option<(&str, &str)>
+    ensures { CutsAtLast slash text.now result }
+{
+    text.rsplit_once('/')
+}
+
+/// Whether a piece names something.
+fn is_name(piece: &str) -> bool
+    ensures { result ≡ is_name piece.now }
+{
+    !(piece.is_empty() || piece == ".")
+}
+
+/// What stands before a last component: the root where nothing is left of it but the `/`.
+fn or_root(before: &str) -> &str
+    ensures { result.now ≡ or_root before.now }
+{
+    if before.is_empty() { "/" } else { before }
+}
+
+#[cfg(test)]
+mod tests {
+    use super::*;
+    use std::test::Fail;
+
+    #[test]
+    fn gives_the_components(rt: HostRuntime) {
+        let mut windows = components("/D:/a//krates/./tests/");
+        for want in ["/", "D:", "a", "krates", "tests"] {
+            assert_eq!(rt; windows.next().map(|c| c.as_os_str()), Some(want));
+        }
+        assert_eq!(rt; windows.next(), None);
+        let mut relative = components("./a/.././.b");
+        for want in [".", "a", "..", ".b"] {
+            assert_eq!(rt; relative.next().map(|c| c.as_os_str()), Some(want));
+        }
+        assert_eq!(rt; relative.next(), None);
+    }
+
+    #[test]
+    fn gives_the_parent(rt: HostRuntime) {
+        let parents = [
+            ("/w/a/Cargo.toml", Some("/w/a")),
+            ("/w/./a//Cargo.toml/.", Some("/w/./a")),
+            ("/w", Some("/")),
+            ("//./w/", Some("/")),
+            ("Cargo.toml", Some("")),
+            ("./a", Some(".")),
+            (".", Some("")),
+            ("/", None),
+            ("//.", None),
+            ("", None),
+        ];
+        for (path, want) in parents {
+            assert_eq!(rt; parent(path), want, "at {path}");
+        }
+    }
+
+    #[test]
+    fn joins(rt: HostRuntime) -> Result<(), Fail> {
+        let joins = [
+            ("/w/a", "LICENSE", "/w/a/LICENSE"),
+            ("/w/a", "../L", "/w/a/../L"),
+            ("/w/a", "/x", "/x"),
+            ("/w/", "a", "/w/a"),
+            ("", "R", "R"),
+        ];
+        for (base, path, want) in joins {
+            assert_eq!(rt; join(rt.alloc(), base, path)?.as_str(), want);
+        }
+        Ok(())
+    }
+
+    #[test]
+    fn compares_by_components(rt: HostRuntime) {
+        assert!(rt; ends_with("/w/./c//Cargo.toml", "c/Cargo.toml"));
+        assert!(rt; ends_with("/w", ""));
+        assert!(rt; !ends_with("/w/MyCargo.toml", "Cargo.toml"));
+        assert!(rt; !ends_with("/w/c", "/c"));
+        assert!(rt; same("/w/./c//Cargo.toml", "/w/c/Cargo.toml/"));
+        assert!(rt; !same("/w/c", "w/c"));
+        assert!(rt; !same("./c", "c"));
+    }
+}

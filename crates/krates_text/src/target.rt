@@ -1,0 +1,293 @@
+//! Targets, at which cfg expressions are asked.
+ghost use Rattle.std.specs.Prelude.{◌≡◌, Some, IfOk, find, map, string_bytes};
+ghost use Rattle.std.specs.Option.{option_copied, option_map};
+ghost use Rattle.std.specs.Str.{bytes_eq};
+ghost use Rattle.krates_text.specs.TargetTable.{table, row_of, description_of, target_of, target_named, printed};
+ghost use Rattle.krates_text.specs.TableRow.{described};
+
+use std::alloc::{AllocError, Global};
+use std::fmt;
+
+/// What a target is, by the texts that a cfg expression compares. A caller may describe a target of its own.
+#[derive(Clone, Debug, Drop)]
+pub struct TargetInfo {
+    pub triple: String,
+    pub arch: String,
+    pub os: String,
+    pub env: String,
+    pub abi: String,
+    pub vendor: String,
+    pub pointer_width: String,
+    pub endian: String,
+    pub panic: String,
+    pub families: Vec<String>,
+    pub atomics: Vec<String>,
+}
+
+/// A target to build for.
+#[derive(Clone, Debug, Drop)]
+pub enum Target {
+    /// A target that is described.
+    Builtin(TargetInfo),
+    /// A text of which nothing is known.
+    Unknown(String),
+}
+
+/// What differs between the targets of the table.
+#[derive(Clone, Copy)]
+struct Row {
+    triple: &'static str,
+    arch: &'static str,
+    os: &'static str,
+    env: &'static str,
+    vendor: &'static str,
+    family: &'static str,
+    pointer_width: &'static str,
+    panic: &'static str,
+}
+
+const TABLE: [Row; 7] = [
+    Row {
+        triple: "x86_64-unknown-linux-gnu",
+        arch: "x86_64",
+        os: "linux",
+        env: "gnu",
+        vendor: "unknown",
+        family: "unix",
+        pointer_width: "64",
+        panic: "unwind",
+    },
+    Row {
+        triple: "x86_64-unknown-linux-musl",
+        arch: "x86_64",
+        os: "linux",
+        env: "musl",
+        vendor: "unknown",
+        family: "unix",
+        pointer_width: "64",
+        panic: "unwind",
+    },
+    Row {
+        triple: "aarch64-unknown-linux-gnu",
+        arch: "aarch64",
+        os: "linux",
+        env: "gnu",
+        vendor: "unknown",
+        family: "unix",
+        pointer_width: "64",
+        panic: "unwind",
+    },
+    Row {
+        triple: "x86_64-pc-windows-msvc",
+        arch: "x86_64",
+        os: "windows",
+        env: "msvc",
+        vendor: "pc",
+        family: "windows",
+        pointer_width: "64",
+        panic: "unwind",
+    },
+    Row {
+        triple: "x86_64-apple-darwin",
+        arch: "x86_64",
+        os: "macos",
+        env: "",
+        vendor: "apple",
+        family: "unix",
+        pointer_width: "64",
+        panic: "unwind",
+    },
+    Row {
+        triple: "aarch64-apple-darwin",
+        arch: "aarch64",
+        os: "macos",
+        env: "",
+        vendor: "apple",
+        family: "unix",
+        pointer_width: "64",
+        panic: "unwind",
+    },
+    Row {
+        triple: "wasm32-unknown-unknown",
+        arch: "wasm32",
+        os: "unknown",
+        env: "",
+        vendor: "unknown",
+        family: "wasm",
+        pointer_width: "32",
+        panic: "abort",
+    },
+];
+
+/// The first of these rows with this triple.
+fn find_row<'r>(rows: &'r [Row], triple: &str) -> Option<&'r Row>
+    ensures { option_copied result ≡ find (λ row. bytes_eq row.triple.now triple.now) rows.now }
+{
+    rows.iter().find(|row| row.triple == triple)
+}
+
+/// The same, told by what the rows describe.
+fn described_row<'r>(rows: &'r [Row], triple: &str) -> Option<&'r Row>
+    ensures { option_map (λ row. described row.now) result ≡ find (λ d. bytes_eq d.triple triple.now) (map described rows.now) }
+{
+    find_row(rows, triple)
+}
+
+/// The row of the table with this triple.
+fn row_with(triple: &str) -> Option<&'static Row>
+    ensures { option_map (λ row. described row.now) result ≡ row_of triple.now }
+{
+    described_row(&TABLE, triple)
+}
+
+impl Row {
+    fn describe(&self, alloc: Global) -> Result<TargetInfo, AllocError>
+        ensures { IfOk result (λ info. description_of info ≡ described self.now) }
+    {
+        Ok(TargetInfo {
+            triple: String::from_str(alloc, self.triple)?,
+            arch: String::from_str(alloc, self.arch)?,
+            os: String::from_str(alloc, self.os)?,
+            env: String::from_str(alloc, self.env)?,
+            abi: String::new(alloc),
+            vendor: String::from_str(alloc, self.vendor)?,
+            pointer_width: String::from_str(alloc, self.pointer_width)?,
+            endian: String::from_str(alloc, "little")?,
+            panic: String::from_str(alloc, self.panic)?,
+            families: strings(alloc, &[self.family])?,
+            atomics: strings(alloc, &["8", "16", "32", "64", "ptr"])?,
+        })
+    }
+}
+
+fn strings(alloc: Global, texts: &[&str]) -> Result<Vec<String>, AllocError>
+    ensures { IfOk result (λ v. map string_bytes v.items ≡ map (λ text. text.now) texts.now) }
+{
+    let mut all = Vec::new(alloc);
+    for text in texts {
+        all.push(String::from_str(alloc, *text)?)?;
+    }
+    Ok(all)
+}
+
+/// The description of the target with this triple, where the table has it. The only error is want of memory.
+pub fn builtin(alloc: Global, triple: &str) -> Result<Option<TargetInfo>, AllocError>
+    ensures { IfOk result (λ info. option_map description_of info ≡ row_of triple.now) }
+{
+    match row_with(triple) {
+        Some(row) => Ok(Some(row.describe(alloc)?)),
+        None => Ok(None),
+    }
+}
+
+impl Target {
+    /// The target that a text names: described where it is a triple of the table, and unknown otherwise. The only
+    /// error is want of memory.
+    pub fn new(alloc: Global, text: &str) -> Result<Target, AllocError>
+        ensures { IfOk result (λ target. target_of target ≡ target_named text.now) }
+    {
+        match builtin(alloc, text)? {
+            Some(info) => Ok(Target::Builtin(info)),
+            None => Ok(Target::Unknown(String::from_str(alloc, text)?)),
+        }
+    }
+
+    /// The triple, or the unknown text.
+    pub fn as_str(&self) -> &str
+        ensures { result.now ≡ printed (target_of self.now) }
+    {
+        match self {
+            Target::Builtin(info) => info.triple.as_str(),
+            Target::Unknown(text) => text.as_str(),
+        }
+    }
+}
+
+/// The triple, or the unknown text.
+impl fmt::Display for Target {
+    ghost output = { λ target. Some (printed (target_of target)) };
+
+    fn fmt<W: fmt::Write>(&self, f: &mut fmt::Formatter<W>) -> fmt::Result {
+        f.pad(self.as_str())
+    }
+}
+
+#[cfg(test)]
+mod tests {
+    use super::*;
+    use std::test::Fail;
+
+    fn summary(alloc: Global, info: &TargetInfo) -> Result<String, AllocError> {
+        let TargetInfo {
+            arch,
+            os,
+            env,
+            abi,
+            vendor,
+            pointer_width,
+            endian,
+            panic,
+            ..
+        } = info;
+        let mut text = format!(in alloc;
+            "{arch},{os},{env},{abi},{vendor},{pointer_width},{endian},{panic}"
+        )?;
+        for family in &info.families {
+            write!(text, " {family}")?;
+        }
+        for atomic in &info.atomics {
+            write!(text, " {atomic}")?;
+        }
+        Ok(text)
+    }
+
+    #[test]
+    fn gives_each_row(rt: HostRuntime) -> Result<(), Fail> {
+        let rows = [
+            (
+                "x86_64-unknown-linux-gnu",
+                "x86_64,linux,gnu,,unknown,64,little,unwind unix 8 16 32 64 ptr",
+            ),
+            (
+                "x86_64-unknown-linux-musl",
+                "x86_64,linux,musl,,unknown,64,little,unwind unix 8 16 32 64 ptr",
+            ),
+            (
+                "aarch64-unknown-linux-gnu",
+                "aarch64,linux,gnu,,unknown,64,little,unwind unix 8 16 32 64 ptr",
+            ),
+            (
+                "x86_64-pc-windows-msvc",
+                "x86_64,windows,msvc,,pc,64,little,unwind windows 8 16 32 64 ptr",
+            ),
+            (
+                "x86_64-apple-darwin",
+                "x86_64,macos,,,apple,64,little,unwind unix 8 16 32 64 ptr",
+            ),
+            (
+                "aarch64-apple-darwin",
+                "aarch64,macos,,,apple,64,little,unwind unix 8 16 32 64 ptr",
+            ),
+            (
+                "wasm32-unknown-unknown",
+                "wasm32,unknown,,,unknown,32,little,abort wasm 8 16 32 64 ptr",
+            ),
+        ];
+        for (triple, want) in rows {
+            let info = builtin(rt.alloc(), triple)?.ok_or("a row")?;
+            assert_eq!(rt; info.triple.as_str(), triple);
+            assert_eq!(rt; summary(rt.alloc(), &info)?.as_str(), want);
+        }
+        assert!(rt; builtin(rt.alloc(), "x86_64")?.is_none());
+        Ok(())
+    }
+
+    #[test]
+    fn prints_the_target(rt: HostRuntime) -> Result<(), Fail> {
+        for text in ["wasm32-unknown-unknown", "x", ""] {
+            let target = Target::new(rt.alloc(), text)?;
+            assert_eq!(rt; target.clone()?.to_string(rt.alloc())?.as_str(), text);
+        }
+        Ok(())
+    }
+}
