@@ -209,6 +209,19 @@ fn targets(rt: HostRuntime) -> Result<(), Fail> {
             r#"{"name":"t","kind":[],"src_path":"s"}"#,
             r#"Target { name: "t", kind: [], crate_types: [], required_features: [], src_path: "s", edition: E2015, doctest: true, test: true, doc: true }"#,
         ),
+    ] {
+        assert_eq!(rt;
+            outcome::<Target>(rt.alloc(), json)?.as_str(),
+            wanted,
+            "{json}"
+        );
+    }
+    Ok(())
+}
+
+#[test]
+fn targets_that_are_refused(rt: HostRuntime) -> Result<(), Fail> {
+    for (json, wanted) in [
         (
             r#"{"name":"t","kind":["library"],"src_path":"s"}"#,
             "bad target kind",
