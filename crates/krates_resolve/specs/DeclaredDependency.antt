@@ -1,15 +1,18 @@
 -- The declared dependency of a listed edge.
-use Rattle.std.specs.Prelude.{◌≡◌, ◌≢◌, ◌⊎◌, ℕ, ◌<◌, List, [], Option, Some, true, length, slice_get, unwrap_or}
+use Rattle.std.specs.Prelude.{◌≡◌, ◌≢◌, ◌⊎◌, ℕ, ◌<◌, List, [], Some, true, slice_get, unwrap_or}
 use Rattle.semver.specs.EvalViews.{matches_views}
-use Rattle.krates_cm.specs.Document.{Text, VersionModel, RequirementModel, DependencyModel, NodeDepModel, PackageModel}
+use Rattle.krates_cm.specs.Document.{Text, VersionModel, RequirementModel, DependencyModel, DepKindInfoModel, NodeDepModel}
 use Rattle.krates_cm.specs.Names.{version_named}
 use Rattle.krates_resolve.specs.DependencyName.{IsNameOf}
-use Rattle.krates_resolve.specs.Facts.{Id, Edge}
+use Rattle.krates_resolve.specs.Facts.{Id}
 
 -- a dependency of a node, with its id
 pub record DependencyEntry : Type 0 where
   pub id : Id
   pub dep : NodeDepModel
+
+abbrev pub dependency_entry : Id → NodeDepModel → DependencyEntry
+dependency_entry i d = record { id = i; dep = d }
 
 -- the name under which the manifest knows the dependency
 abbrev pub declared_name : DependencyModel → Text
@@ -28,12 +31,12 @@ pub record VersionFits (n : DependencyEntry) (d : DependencyModel) : Type 0 wher
   pub named : version_named n.id.version ≡ Some version
   pub matches : VersionMatches version d.req
 
--- the declared dependency fits the edge, which this dependency of the node lists
-pub record Fits (n : DependencyEntry) (e : Edge) (d : DependencyModel) : Type 0 where
-  pub kind : d.kind ≡ e.kind
+-- the declared dependency fits this dependency of a node, for this purpose and target
+pub record Fits (n : DependencyEntry) (k : DepKindInfoModel) (d : DependencyModel) : Type 0 where
+  pub kind : d.kind ≡ k.kind
   pub name : NameFits n d
   pub version : VersionFits n d
-  pub target : d.target ≡ e.cfg
+  pub target : d.target ≡ k.target
 
 -- the first element of a list with the property stands at this place
 pub record FirstAt {A : Type 0} (P : A → Type 0) (xs : List A) (place : ℕ) (x : A) : Type 0 where
@@ -41,10 +44,10 @@ pub record FirstAt {A : Type 0} (P : A → Type 0) (xs : List A) (place : ℕ) (
   pub holds : P x
   pub before : (k : ℕ) (y : A) → k < place → slice_get xs k ≡ Some y → P y → ⊥
 
--- The declared dependency of the edge: the first that fits.
-abbrev pub IsDeclared : PackageModel → DependencyEntry → Edge → ℕ → DependencyModel → Type 0
-IsDeclared p n e place d = FirstAt (Fits n e) p.dependencies place d
+-- The declared dependency, among those of the parent's package: the first that fits.
+abbrev pub IsDeclared : List DependencyModel → DependencyEntry → DepKindInfoModel → ℕ → DependencyModel → Type 0
+IsDeclared declared n k place d = FirstAt (Fits n k) declared place d
 
 -- none of the declared dependencies fits
-abbrev pub IsUndeclared : PackageModel → DependencyEntry → Edge → Type 0
-IsUndeclared p n e = (place : ℕ) (d : DependencyModel) → IsDeclared p n e place d → ⊥
+abbrev pub IsUndeclared : List DependencyModel → DependencyEntry → DepKindInfoModel → Type 0
+IsUndeclared declared n k = (place : ℕ) (d : DependencyModel) → IsDeclared declared n k place d → ⊥

@@ -1,11 +1,11 @@
 -- What a document and a setting answer to the rules.
 use Rattle.std.specs.Prelude.{ℕ, Contains}
-use Rattle.krates_cm.specs.Document.{Text, DependencyModel, PackageModel, NodeDepModel, NodeModel}
+use Rattle.krates_cm.specs.Document.{Text, DependencyModel, DepKindInfoModel, PackageModel, NodeDepModel, NodeModel}
 use Rattle.krates_resolve.specs.Facts.{Id, Edge}
 use Rattle.krates_text.specs.FeatureReference.{Reference}
 use Rattle.krates_resolve.specs.Rules.{Questions}
 use Rattle.krates_resolve.specs.Resolved.{Resolved, HasPackage, NoPackage, HasNode, NoNode, HasDep}
-use Rattle.krates_resolve.specs.DeclaredDependency.{IsDeclared, IsUndeclared}
+use Rattle.krates_resolve.specs.DeclaredDependency.{dependency_entry, IsDeclared, IsUndeclared}
 use Rattle.krates_resolve.specs.Setting.{IsRoot, IsExcluded, IsIgnored, Passes}
 use Rattle.krates_resolve.specs.declared.setting.Setting.{Setting}
 
@@ -30,12 +30,16 @@ pub record LacksNode (r : Resolved) (s : Setting) (i : Id) : Type 0 where
 
 -- ---- edges
 
+-- the purpose and the target of the edge
+abbrev pub kind_info_of : Edge → DepKindInfoModel
+kind_info_of e = record { kind = e.kind; target = e.cfg }
+
 -- this dependency of the parent's node lists the edge
 pub record ListsEdge (r : Resolved) (e : Edge) (d : NodeDepModel) : Type 0 where
   pub node : NodeModel
   pub has_node : HasNode r e.parent node
   pub has_dep : HasDep node e.child d
-  pub has_kind : Contains d.dep_kinds (record { kind = e.kind; target = e.cfg })
+  pub has_kind : Contains d.dep_kinds (kind_info_of e)
 
 -- the edge is listed, and not ignored
 pub record IsListed (r : Resolved) (s : Setting) (e : Edge) (d : NodeDepModel) : Type 0 where
@@ -48,7 +52,7 @@ pub record IsDeclaredAt (r : Resolved) (s : Setting) (e : Edge) (place : ℕ) (d
   pub listed : IsListed r s e dep
   pub pkg : PackageModel
   pub has_package : HasPackage r e.parent pkg
-  pub declared : IsDeclared pkg (record { id = e.child; dep = dep }) e place d
+  pub declared : IsDeclared pkg.dependencies (dependency_entry e.child dep) (kind_info_of e) place d
 
 -- the edge is declared so, and passes the targets
 pub record IsWanted (r : Resolved) (s : Setting) (e : Edge) (d : DependencyModel) : Type 0 where
@@ -60,7 +64,7 @@ pub record IsWanted (r : Resolved) (s : Setting) (e : Edge) (d : DependencyModel
 pub record IsLoose (r : Resolved) (s : Setting) (e : Edge) : Type 0 where
   pub dep : NodeDepModel
   pub listed : IsListed r s e dep
-  pub undeclared : (p : PackageModel) → HasPackage r e.parent p → IsUndeclared p (record { id = e.child; dep = dep }) e
+  pub undeclared : (p : PackageModel) → HasPackage r e.parent p → IsUndeclared p.dependencies (dependency_entry e.child dep) (kind_info_of e)
 
 -- ---- features, which aren't looked at yet
 

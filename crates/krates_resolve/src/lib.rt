@@ -2,6 +2,8 @@
 #![tactic(auto)]
 
 pub mod admission;
+mod declared_dependency;
+mod dependency_name;
 pub mod ids;
 mod lookup;
 pub mod setting;
