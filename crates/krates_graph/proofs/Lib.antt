@@ -1,0 +1,2 @@
+pub mod AgendaLemmas
+pub mod GraphLemmas

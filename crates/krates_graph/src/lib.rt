@@ -1,0 +1,8 @@
+//! The two small machines under a dependency graph: a stored graph that only grows, and an agenda
+//! that hands out each number once.
+#![tactic(auto)]
+
+pub mod agenda;
+pub mod graph;
+#[cfg(test)]
+mod tests;
