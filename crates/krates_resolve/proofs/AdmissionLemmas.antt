@@ -1,5 +1,5 @@
 -- How the parts of a document's ids make the whole.
-use Rattle.std.proofs.Common.{◌≡◌, ◌⊎◌, ℕ, zero, suc, ◌<◌, List, [], ◌∷◌, length, get_or, Contains, Some, lit<, refl, ap, sym, ◌∙◌, subst, inl, inr, arith, string_bytes, map}
+use Rattle.std.proofs.Common.{◌≡◌, ℕ, zero, suc, ◌<◌, List, [], ◌∷◌, length, get_or, Contains, Some, lit<, refl, ap, sym, ◌∙◌, subst, inl, inr, arith, string_bytes, map}
 use Rattle.std.specs.List.{AllZip, AllByRecursion, slice_get}
 use Rattle.std.proofs.lemmas.Simd.{map-map}
 use Rattle.krates_cm.specs.Document.{Text, NodeModel, ResolveModel, MetadataModel, id_view, node_view, node_dep_view, package_view, resolve_view, metadata_view}

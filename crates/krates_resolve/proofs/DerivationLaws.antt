@@ -54,6 +54,14 @@ rule_within w (lost_toggled_weakly {e} {f} {g} {c} r q n) = lost_toggled_weakly 
 pub derivable_within : {a b : Questions} → Within a b → {f : Fact} → Derivable a f → Derivable b f
 derivable_within w (follows r ds) = follows (rule_within w r) (λ g m. derivable_within w (ds g m))
 
+-- it holds of what follows by one rule from what it holds of
+abbrev pub IsClosedUnder : Questions → (Fact → Type 0) → Type 0
+IsClosedUnder q P = (rule : ℕ) (premises : List Fact) (f : Fact) → Rule q rule premises f → ((g : Fact) → Among g premises → P g) → P f
+
+-- and so it holds of every derivable fact
+pub closed_under : (q : Questions) (P : Fact → Type 0) → IsClosedUnder q P → {f : Fact} → Derivable q f → P f
+closed_under q P c (follows r ds) = c _ _ _ r (λ g m. closed_under q P c (ds g m))
+
 -- a closed list has every derivable fact
 pub closed_has_all : (q : Questions) (fs : List Fact) → IsClosed q fs → {f : Fact} → Derivable q f → Contains fs f
-closed_has_all q fs c (follows r ds) = c _ _ _ r (λ g m. closed_has_all q fs c (ds g m))
+closed_has_all q fs c d = closed_under q (Contains fs) c d

@@ -1,5 +1,5 @@
 -- Look-ups by the list of ids are look-ups in the document.
-use Rattle.std.proofs.Common.{◌≡◌, ℕ, zero, suc, ◌<◌, List, [], ◌∷◌, length, get_or, map, Option, Some, None, MatchOption, option_map, refl, sym, ap, ◌∙◌, arith, subst, Contains}
+use Rattle.std.proofs.Common.{◌≡◌, ℕ, zero, suc, List, [], ◌∷◌, map, Option, Some, None, option_map, refl, sym, ap, ◌∙◌, subst, Contains}
 use Rattle.std.proofs.lemmas.Option.{slice_get-map, slice_get-get_or}
 use Rattle.std.specs.List.{AllZip, slice_get}
 use Rattle.krates_cm.specs.Document.{Text, PackageModel, NodeModel}
@@ -17,7 +17,7 @@ mapped_at text (x ∷ xs) zero t h = (x, refl, cc)
 mapped_at text (x ∷ xs) (suc k) t h = mapped_at text xs k t h
 
 -- where the id stands in the list of ids, an element with the id stands in the other
-at_place : {A : Type 0} (text : A → Text) (xs : List A) (ids : List Identity) (i : Id) (place : ℕ) → AllZip Reads (map text xs) ids → StandsAt ids i place
+pub at_place : {A : Type 0} (text : A → Text) (xs : List A) (ids : List Identity) (i : Id) (place : ℕ) → AllZip Reads (map text xs) ids → StandsAt ids i place
     → (x : A) × (slice_get xs place ≡ Some x) × ReadsAs (text x) i
 at_place text xs ids i place z s =
     let t = left_of Reads (map text xs) ids place s.there z s.at in

@@ -1,5 +1,5 @@
 -- A package and a node, found at their places.
-use Rattle.std.proofs.Common.{◌≡◌, ℕ, zero, suc, ◌<◌, List, [], ◌∷◌, Some, Contains, arith}
+use Rattle.std.proofs.Common.{◌≡◌, ℕ, List, Some, Contains}
 use Rattle.std.proofs.lemmas.Option.{slice_get_within, get_or_from_slice_get}
 use Rattle.std.specs.List.{slice_get}
 use Rattle.krates_resolve.specs.Facts.{Id}

@@ -1,5 +1,5 @@
 -- Which documents can be resolved at all: there is a resolved graph, each id that matters is read, and none is doubled.
-use Rattle.std.specs.Prelude.{◌≡◌, ◌⊎◌, ℕ, ◌<◌, List, Option, Some, None, map, Contains, slice_get, MatchOption, IsSomeAnd}
+use Rattle.std.specs.Prelude.{◌≡◌, ℕ, ◌<◌, List, Option, Some, None, map, Contains, slice_get, MatchOption, IsSomeAnd}
 use Rattle.std.specs.List.{AllZip, AllByRecursion}
 use Rattle.krates_cm.specs.Document.{Text, NodeModel, ResolveModel, MetadataModel}
 use Rattle.krates_cm.specs.Names.{version_named}

@@ -8,14 +8,8 @@ use Rattle.krates_ids.specs.declared.error.Error.{Error}
 use Rattle.krates_ids.specs.declared.error.Error.TheVariants as errors
 use Rattle.krates_resolve.specs.Admission.{dep_texts, IsInvalidId, IsDoubled}
 use Rattle.krates_resolve.specs.Facts.{Id}
-use Rattle.krates_resolve.specs.Resolved.{id_of}
+use Rattle.krates_resolve.specs.Resolved.{id_of, HasGraphWith}
 use Rattle.krates_resolve.specs.Ids.{IdsModel}
-
--- the graph of the document has an id that is no id, or stands twice
-pub record HasGraphWith (m : MetadataModel) (P : ResolveModel → Type 0) : Type 0 where
-  pub graph : ResolveModel
-  pub has_graph : m.resolve ≡ Some graph
-  pub holds : P graph
 
 -- The cause is true of the document; memory may always run out.
 abbrev pub IsRefused : MetadataModel → Error → Type 0

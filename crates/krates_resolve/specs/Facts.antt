@@ -1,5 +1,5 @@
 -- The facts about crates, features and edges that the rules derive.
-use Rattle.std.specs.Prelude.{List, Option}
+use Rattle.std.specs.Prelude.{Option}
 use Rattle.krates_cm.specs.Document.{Text}
 use Rattle.krates_cm.specs.declared.dependency.DependencyKind.{DependencyKind}
 

@@ -4,12 +4,17 @@ pub mod DeclaredDependency
 pub mod DependencyName
 pub mod Derivation
 pub mod Facts
+pub mod Found
 pub mod Ids
 pub mod Lookup
+pub mod NodeEntry
 pub mod Questions
 pub mod References
 pub mod Resolved
 pub mod Rules
+pub mod Selection
+pub mod SelectionOrder
+pub mod SelectionRefusals
 pub mod Setting
 pub mod Standing
 pub mod Table

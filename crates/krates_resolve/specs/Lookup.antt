@@ -1,7 +1,7 @@
 -- What look-ups in a document answer.
 use Rattle.std.specs.Prelude.{◌≡◌, ℕ, Option, Some, MatchOption, slice_get}
 use Rattle.krates_cm.specs.Document.{PackageModel, NodeModel, metadata_view, resolve_view}
-use Rattle.krates_resolve.specs.Admission.{AreIdsOf}
+use Rattle.krates_resolve.specs.Admission.{AreIdsOf, NoneDoubled}
 use Rattle.krates_resolve.specs.Facts.{Id}
 use Rattle.krates_resolve.specs.Ids.{ids_view}
 use Rattle.krates_resolve.specs.Resolved.{Resolved, ReadsAs, NoPackage, NoNode}
@@ -11,9 +11,10 @@ use Rattle.krates_resolve.specs.declared.lookup.Lookup.{Lookup}
 abbrev pub resolved_view : Lookup → Resolved
 resolved_view d = record { metadata = metadata_view d.metadata.now; graph = resolve_view d.resolve.now }
 
--- the ids are those of the document, and the tables answer as they do
+-- the ids are those of the document, none is doubled, and the tables answer as they do
 pub record IsLookup (d : Lookup) : Type 0 where
   pub ids : AreIdsOf (metadata_view d.metadata.now) (resolve_view d.resolve.now) (ids_view d.ids.now)
+  pub distinct : NoneDoubled (metadata_view d.metadata.now) (resolve_view d.resolve.now)
   pub packages : ArePlacesOf d.ids.now.packages.items d.packages
   pub nodes : ArePlacesOf d.ids.now.nodes.items d.nodes
 

@@ -1,5 +1,5 @@
 -- The document, looked up by package id: by membership and without order.
-use Rattle.std.specs.Prelude.{◌≡◌, Option, MatchOption, Contains}
+use Rattle.std.specs.Prelude.{◌≡◌, Some, Contains}
 use Rattle.krates_cm.specs.Document.{Text, PackageModel, NodeDepModel, NodeModel, ResolveModel, MetadataModel}
 use Rattle.krates_ids.specs.Identity.{Identity, Reads}
 use Rattle.krates_resolve.specs.Facts.{Id}
@@ -18,6 +18,15 @@ pub record ReadsAs (t : Text) (i : Id) : Type 0 where
 pub record Resolved : Type 0 where
   pub metadata : MetadataModel
   pub graph : ResolveModel
+
+abbrev pub resolved : MetadataModel → ResolveModel → Resolved
+resolved m g = record { metadata = m; graph = g }
+
+-- the document has a resolved graph, and of that it holds
+pub record HasGraphWith (m : MetadataModel) (P : ResolveModel → Type 0) : Type 0 where
+  pub graph : ResolveModel
+  pub has_graph : m.resolve ≡ Some graph
+  pub holds : P graph
 
 -- the document has this package, and its id is so
 pub record HasPackage (r : Resolved) (i : Id) (p : PackageModel) : Type 0 where

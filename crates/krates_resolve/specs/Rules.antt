@@ -4,7 +4,7 @@
 -- fact is `Lost` say what counts as lost: the same rules, where what they ask for isn't there.
 use Rattle.std.specs.Prelude.{◌≡◌, ℕ, List, [], ◌∷◌, false, true, Contains, codes}
 use Rattle.krates_cm.specs.Document.{Text, DependencyModel}
-use Rattle.krates_resolve.specs.Facts.{Id, Edge, Cause, LostPackage, LostNode, LostFeature, Undeclared, Fact, Crate, Feature, Kept, Toggled, Lost}
+use Rattle.krates_resolve.specs.Facts.{Id, Edge, LostPackage, LostNode, LostFeature, Undeclared, Fact, Crate, Feature, Kept, Toggled, Lost}
 use Rattle.krates_text.specs.FeatureReference.{Reference, simple, weak, strong}
 use Rattle.krates_resolve.specs.References.{AsksFor}
 

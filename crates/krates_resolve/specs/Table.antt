@@ -1,5 +1,5 @@
 -- A map from ids to places, which answers exactly as a list of ids does.
-use Rattle.std.specs.Prelude.{◌≡◌, ℕ, ◌<◌, List, Option, Some, MatchOption, slice_get}
+use Rattle.std.specs.Prelude.{◌≡◌, ℕ, List, Option, Some, MatchOption, slice_get}
 use Rattle.std.specs.Borrow.{Bor}
 use Rattle.std.specs.BTreeMap.{BTreeMap, get}
 use Rattle.krates_ids.specs.Identity.{Identity, id_cmp}

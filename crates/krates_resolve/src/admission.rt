@@ -9,10 +9,10 @@ ghost use Rattle.krates_resolve.specs.Admission.{HasVersion, AreDepIds, IsRootId
 ghost use Rattle.krates_resolve.specs.AdmissionRefusals.{IsRefused, IsBadId, IsUnread, IsBadDep, IsBadNode, AreDistinct, IsTwice, IsTwiceIn, AreAllDistinct, IsTwiceWithin};
 ghost use Rattle.krates_resolve.specs.Ids.{ids_view};
 
+use crate::declared_dependency::version_of;
 use crate::ids::Ids;
 use krates_cm::{Metadata, Node, NodeDep, Package, PackageId, Resolve};
 use krates_ids::{Error, IdError, Kid, laws};
-use semver::Version;
 use std::alloc::{AllocError, Global};
 use std::collections::BTreeSet;
 
@@ -152,11 +152,7 @@ fn read_ids<T: HasId>(alloc: Global, items: &[T]) -> Result<Vec<Kid>, Error>
 fn has_version(alloc: Global, kid: &Kid) -> Result<bool, AllocError>
     ensures { IfOk result (λ has. MatchBool has (HasVersion kid.now) (version_named kid.now.version ≡ None)) }
 {
-    match Version::parse(alloc, kid.version()) {
-        Ok(_) => Ok(true),
-        Err(error) if error == semver::Error::from(AllocError) => Err(AllocError),
-        Err(_) => Ok(false),
-    }
+    Ok(version_of(alloc, kid)?.is_some())
 }
 
 /// Reads the id of a dependency, whose version has to be semantic.

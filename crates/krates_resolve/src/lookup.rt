@@ -2,7 +2,7 @@
 
 ghost use Rattle.std.specs.Prelude.{◌≡◌, IfOk};
 ghost use Rattle.krates_cm.specs.Document.{metadata_view, resolve_view};
-ghost use Rattle.krates_resolve.specs.Admission.{AreIdsOf};
+ghost use Rattle.krates_resolve.specs.Admission.{AreIdsOf, NoneDoubled};
 ghost use Rattle.krates_resolve.specs.Ids.{ids_view};
 ghost use Rattle.krates_resolve.specs.Lookup.{IsLookup, IsPackagePlace, IsNodePlace, resolved_view};
 ghost use Rattle.krates_resolve.specs.Resolved.{id_of};
@@ -15,6 +15,7 @@ use std::alloc::{AllocError, Global};
 use std::collections::BTreeMap;
 
 /// A document with its ids, and where the packages and nodes of each id stand.
+#[derive(Drop)]
 pub(crate) struct Lookup<'a> {
     pub metadata: &'a Metadata,
     pub resolve: &'a Resolve,
@@ -30,7 +31,8 @@ pub(crate) fn lookup_of<'a>(
     resolve: &'a Resolve,
     ids: &'a Ids,
 ) -> Result<Lookup<'a>, AllocError>
-    requires { AreIdsOf (metadata_view metadata.now) (resolve_view resolve.now) (ids_view ids.now) }
+    requires read { AreIdsOf (metadata_view metadata.now) (resolve_view resolve.now) (ids_view ids.now) }
+    requires distinct { NoneDoubled (metadata_view metadata.now) (resolve_view resolve.now) }
     ensures lookup { IfOk result (λ d. IsLookup d) }
     ensures of_these { IfOk result (λ d. (d.metadata.now ≡ metadata.now) × (d.resolve.now ≡ resolve.now) × (d.ids.now ≡ ids.now)) }
 {
@@ -46,7 +48,7 @@ pub(crate) fn lookup_of<'a>(
 }
 
 /// The place of the package with the id.
-pub(crate) fn package_place<'a>(lookup: &'a Lookup<'a>, id: &'a Kid) -> Option<usize>
+pub(crate) fn package_place<'a>(lookup: &Lookup<'a>, id: &'a Kid) -> Option<usize>
     requires { IsLookup lookup.now }
     ensures { IsPackagePlace (resolved_view lookup.now) (id_of id.now) result }
 {
@@ -55,7 +57,7 @@ pub(crate) fn package_place<'a>(lookup: &'a Lookup<'a>, id: &'a Kid) -> Option<u
 }
 
 /// The place of the node with the id.
-pub(crate) fn node_place<'a>(lookup: &'a Lookup<'a>, id: &'a Kid) -> Option<usize>
+pub(crate) fn node_place<'a>(lookup: &Lookup<'a>, id: &'a Kid) -> Option<usize>
     requires { IsLookup lookup.now }
     ensures { IsNodePlace (resolved_view lookup.now) (id_of id.now) result }
 {

@@ -19,7 +19,7 @@ pub(crate) enum Standing {
 }
 
 /// Whether a crate can be kept.
-pub(crate) fn standing_of<'a>(lookup: &'a Lookup<'a>, setting: &Setting, id: &'a Kid) -> Standing
+pub(crate) fn standing_of<'a>(lookup: &Lookup<'a>, setting: &Setting, id: &'a Kid) -> Standing
     requires { IsLookup lookup.now }
     ensures { IsStanding (resolved_view lookup.now) setting.now (id_of id.now) result }
 {

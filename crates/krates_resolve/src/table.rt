@@ -26,7 +26,7 @@ pub(crate) fn places_by_id<'a>(
 /// The place of an id in a list, by the places of the list's ids.
 pub(crate) fn place_of<'a>(
     ids: &'a [Kid],
-    places: &'a BTreeMap<&'a Kid, usize>,
+    places: &BTreeMap<&'a Kid, usize>,
     id: &'a Kid,
 ) -> Option<usize>
     requires { ArePlacesOf ids.now places.now }

@@ -1,6 +1,4 @@
-use Rattle.std.proofs.Common.{◌≡◌, Err, IfErr, ◌∙◌, ap, subst}
 use Rattle.krates_ids.specs.Identity.{no_opaque_form, no_stable_form, bad_escape}
-use Rattle.krates_ids.specs.Refusals.{IsRefusal, Converts}
 use Rattle.krates_resolve.proofs.AdmissionLemmas.{back_unread}
 use Rattle.krates_resolve.proofs.admission.read_id.Goals as goal
 

@@ -5,7 +5,8 @@ use Rattle.krates_resolve.proofs.lookup.lookup_of.Goals as goal
 
 pub returns-clause-lookup : goal.returns-clause-lookup
 returns-clause-lookup c = record {
-  ids = c.requires;
+  ids = c.requires.read;
+  distinct = c.requires.distinct;
   packages = subst (λ (ids : List Identity). ArePlacesOf ids c.in_ok-packages.packages) c.deref.ensures.value c.in_ok-packages.ensures;
   nodes = subst (λ (ids : List Identity). ArePlacesOf ids c.in_ok-nodes.nodes) c.deref-2.ensures.value c.in_ok-nodes.ensures;
 }

@@ -1,0 +1,164 @@
+-- A node of the document at its place, with the ids of its dependencies.
+use Rattle.std.proofs.Common.{◌≡◌, ℕ, suc, ◌+◌, ◌<◌, ◌≤◌, List, [], ◌∷◌, length, get_or, map, Some, option_map, inl, inr, refl, sym, ap, ◌∙◌, subst, arith}
+use Rattle.std.proofs.lemmas.Bool.{cases_lt}
+use Rattle.std.proofs.lemmas.List.{length-map}
+use Rattle.std.proofs.lemmas.List.Elements.{All-from_recursion}
+use Rattle.std.proofs.lemmas.Option.{slice_get-map, slice_get-get_or, get_or_from_slice_get, slice_get_within, slice_get_read, same_Some}
+use Rattle.std.specs.Global.{Vec}
+use Rattle.std.specs.Vec.{vec_len}
+use Rattle.std.specs.List.{AllZip, slice_get}
+use Rattle.krates_cm.specs.Document.{NodeModel, NodeDepModel, ResolveModel, dependency_view, node_view, node_dep_view}
+use Rattle.krates_cm.specs.declared.resolve.Node.{Node}
+use Rattle.krates_cm.specs.declared.resolve.NodeDep.{NodeDep}
+use Rattle.krates_ids.specs.Identity.{Identity, Reads}
+use Rattle.krates_resolve.specs.Admission.{NoneDoubled, AreDepIds, HasVersion, node_texts, dep_texts}
+use Rattle.krates_resolve.specs.Facts.{Id, Edge}
+use Rattle.krates_resolve.specs.Found.{IsTried, AreTried, IsExpanded, Grows}
+use Rattle.krates_resolve.specs.Lookup.{NodeAt, IsLookup, resolved_view}
+use Rattle.krates_resolve.specs.NodeEntry.{AreDeclaredBy, AreParts, edge_between}
+use Rattle.krates_resolve.specs.Questions.{IsListed, kind_info_of}
+use Rattle.krates_resolve.specs.Resolved.{Resolved, id_of, ReadsAs, HasNode, HasDep}
+use Rattle.krates_resolve.specs.declared.found.Found.{Found}
+use Rattle.krates_resolve.specs.declared.lookup.Lookup.{Lookup}
+use Rattle.krates_resolve.specs.declared.node_entry.NodeParts.{NodeParts}
+use Rattle.krates_resolve.specs.declared.setting.Setting.{Setting}
+use Rattle.krates_resolve.proofs.AdmissionLemmas.{ReadsOnce, left_of, right_of}
+use Rattle.krates_resolve.proofs.Growth.{tried_grows}
+use Rattle.krates_resolve.proofs.Lookups.{at_place}
+use Rattle.krates_resolve.proofs.OnlyOne.{place_in, one_node}
+use Rattle.krates_resolve.proofs.Standings.{contains_at}
+
+-- related lists are equally long
+long_zip : {A B : Type 0} (R : A → B → Type 0) (xs : List A) (ys : List B) → AllZip R xs ys → length xs ≡ length ys
+long_zip R [] [] z = refl
+long_zip R [] (y ∷ ys) z = absurd z
+long_zip R (x ∷ xs) [] z = absurd z
+long_zip R (x ∷ xs) (y ∷ ys) z = ap suc (long_zip R xs ys z.1)
+
+-- what stands at one place of two lists is related
+zip_at : {A B : Type 0} (R : A → B → Type 0) (xs : List A) (ys : List B) (k : ℕ) (x : A) (y : B) → AllZip R xs ys → slice_get xs k ≡ Some x → slice_get ys k ≡ Some y → R x y
+zip_at R xs ys k x y z a b = let w = left_of R xs ys k y z b in subst (λ v. R v y) (same_Some w.0 x (sym w.1 ∙ a)) w.2
+
+-- the node at a place has the id at that place
+pub node_here : (r : Resolved) (ids : List Identity) (k : ℕ) (i : Identity) → AllZip Reads (node_texts r.graph) ids → slice_get ids k ≡ Some i → NodeAt r (id_of i) k
+node_here r ids k i z at =
+    let w = at_place (λ (n : NodeModel). n.id) r.graph.nodes ids (id_of i) k z (record { there = i; at = at; same = refl }) in
+    record { node = w.0; at = w.1; id = w.2 }
+
+-- the dependency at a place has the id at that place
+pub has_dep_here : (n : NodeModel) (ids : List Identity) (k : ℕ) (d : NodeDepModel) (i : Identity) → AreDepIds n ids → slice_get n.deps k ≡ Some d → slice_get ids k ≡ Some i → HasDep n (id_of i) d
+has_dep_here n ids k d i z here at =
+    let w = at_place (λ (d : NodeDepModel). d.pkg) n.deps ids (id_of i) k z.read (record { there = i; at = at; same = refl }) in
+    record { among = contains_at n.deps k d here; id = subst (λ (e : NodeDepModel). ReadsAs e.pkg (id_of i)) (same_Some w.0 d (sym w.1 ∙ here)) w.2 }
+
+pub has_version_here : (n : NodeModel) (ids : List Identity) (k : ℕ) (i : Identity) → AreDepIds n ids → slice_get ids k ≡ Some i → HasVersion i
+has_version_here n ids k i z at =
+    subst HasVersion (get_or_from_slice_get ids k i i at) (All-from_recursion HasVersion ids z.versions k i (slice_get_within ids k i at))
+
+pub dep_ids_here : (g : ResolveModel) (lists : List (List Identity)) (k : ℕ) (n : NodeModel) (ids : List Identity) → AllZip AreDepIds g.nodes lists → slice_get g.nodes k ≡ Some n → slice_get lists k ≡ Some ids → AreDepIds n ids
+dep_ids_here g lists k n ids z a b = zip_at AreDepIds g.nodes lists k n ids z a b
+
+-- ---- the dependencies of a node, gone over
+
+-- the edges of the dependencies so far have been tried
+abbrev pub TriedBelow : Resolved → Setting → Found → Id → List NodeDepModel → List Identity → ℕ → Type 0
+TriedBelow r s x parent ds ids end = (k : ℕ) (d : NodeDepModel) (i : Identity) → k < end → slice_get ds k ≡ Some d → slice_get ids k ≡ Some i → AreTried r s x parent (id_of i) d
+
+pub tried_more : (r : Resolved) (s : Setting) (x y : Found) (parent : Id) (ds : List NodeDepModel) (ids : List Identity) (at : ℕ) (d : NodeDepModel) (i : Identity) → Grows r x y → slice_get ds at ≡ Some d
+    → slice_get ids at ≡ Some i → TriedBelow r s x parent ds ids at → AreTried r s y parent (id_of i) d → TriedBelow r s y parent ds ids (at + 1)
+tried_more r s x y parent ds ids at d i g here id_here h now k e j below there id_there = elim (cases_lt k at) [
+  | inl lower ↦ (λ info c. tried_grows r s x y (edge_between parent (id_of j) info) g (h k e j lower there id_there info c))
+  | inr le ↦ (
+      let same : at ≡ k = omega arith in
+      let dep : d ≡ e = same_Some d e (sym here ∙ ap (λ m. slice_get ds m) same ∙ there) in
+      let id : i ≡ j = same_Some i j (sym id_here ∙ ap (λ m. slice_get ids m) same ∙ id_there) in
+      subst (λ (z : Identity). AreTried r s y parent (id_of z) e) id (subst (AreTried r s y parent (id_of i)) dep now))
+]
+
+-- an edge that the node lists is one of those that were tried
+listed_tried : ReadsOnce → (r : Resolved) (s : Setting) (x : Found) (e : Edge) (n : NodeModel) (ids : List Identity) (dep : NodeDepModel) → NoneDoubled r.metadata r.graph → HasNode r e.parent n → AreDepIds n ids
+    → TriedBelow r s x e.parent n.deps ids (length ids) → IsListed r s e dep → IsTried r s x e
+listed_tried once r s x e n ids dep none has z all l =
+    let same = one_node r e.parent l.lists.node n none l.lists.has_node has in
+    let d = subst (λ (m : NodeModel). HasDep m e.child dep) same l.lists.has_dep in
+    let at = place_in n.deps dep d.among in
+    let text : slice_get (dep_texts n) at.0 ≡ Some dep.pkg = slice_get-map (λ (d : NodeDepModel). d.pkg) n.deps at.0 ∙ ap (option_map (λ (d : NodeDepModel). d.pkg)) at.1 in
+    let y = right_of Reads (dep_texts n) ids at.0 dep.pkg z.read text in
+    let child : id_of y.0 ≡ e.child = ap id_of (once dep.pkg y.0 d.id.read y.2 d.id.reads) ∙ d.id.same in
+    let tried = all at.0 dep y.0 (slice_get_within ids at.0 y.0 y.1) at.1 y.1 (kind_info_of e) l.lists.has_kind in
+    subst (λ (c : Id). IsTried r s x (edge_between e.parent c (kind_info_of e))) child tried
+
+-- so all edges of the crate have been tried
+pub expanded_here : ReadsOnce → (r : Resolved) (s : Setting) (x : Found) (i : Id) (n : NodeModel) (ids : List Identity) → NoneDoubled r.metadata r.graph → HasNode r i n → AreDepIds n ids
+    → TriedBelow r s x i n.deps ids (length ids) → IsExpanded r s x i
+expanded_here once r s x i n ids none has z all e same =
+    let node = subst (λ (p : Id). HasNode r p n) (sym same) has in
+    let each = subst (λ (p : Id). TriedBelow r s x p n.deps ids (length ids)) (sym same) all in
+    let tried : (dep : NodeDepModel) → IsListed r s e dep → IsTried r s x e = λ dep l. listed_tried once r s x e n ids dep none node z each l in
+    record {
+      kept = λ d w is_required stands. (tried w.declared.dep w.declared.listed).kept d w is_required stands;
+      declared = λ loose. (tried loose.dep loose.listed).declared loose;
+      has_package = λ d w is_required lost. (tried w.declared.dep w.declared.listed).has_package d w is_required lost;
+      has_node = λ d w is_required lost. (tried w.declared.dep w.declared.listed).has_node d w is_required lost;
+    }
+
+-- how many there are of each
+pub nodes_long : (d : Lookup) → IsLookup d → (length (resolved_view d).graph.nodes ≡ length d.ids.now.nodes.items) × (length (resolved_view d).graph.nodes ≡ length d.resolve.now.nodes.items) × (length (resolved_view d).graph.nodes ≡ length d.ids.now.deps.items)
+nodes_long d h =
+    let r = resolved_view d in
+    let items : Vec Identity → List Identity = λ v. v.items in (
+      sym (length-map r.graph.nodes (λ (n : NodeModel). n.id)) ∙ long_zip Reads (node_texts r.graph) d.ids.now.nodes.items h.ids.nodes,
+      length-map d.resolve.now.nodes.items node_view,
+      long_zip AreDepIds r.graph.nodes (map items d.ids.now.deps.items) h.ids.deps ∙ length-map d.ids.now.deps.items items,
+    )
+
+-- ---- at a place, as the code finds them
+
+node_seen : (d : Lookup) (place : ℕ) (n : Node) → place < length (resolved_view d).graph.nodes → n ≡ get_or d.resolve.now.nodes.items place n → slice_get (resolved_view d).graph.nodes place ≡ Some (node_view n)
+node_seen d place n lt is =
+    let ns = d.resolve.now.nodes.items in
+    let below : place < length ns = subst (λ (m : ℕ). place < m) (length-map ns node_view) lt in
+    slice_get-map node_view ns place ∙ ap (option_map node_view) (slice_get_read ns (length ns) place n refl below is)
+
+pub parts_here : (d : Lookup) (place : ℕ) (x : NodeParts) (n : Node) (ids : Vec Identity) → IsLookup d → place < length (resolved_view d).graph.nodes → x.parent.now ≡ get_or d.ids.now.nodes.items place x.parent.now
+    → n ≡ get_or d.resolve.now.nodes.items place n → ids ≡ get_or d.ids.now.deps.items place ids → x.deps.now ≡ n.deps.items → x.children.now ≡ ids.items
+    → AreDeclaredBy (resolved_view d) (id_of x.parent.now) (map dependency_view x.declared.now) → AreParts (resolved_view d) place x
+parts_here d place x n ids h lt is_id is_node is_ids deps children declares =
+    let r = resolved_view d in
+    let long = nodes_long d h in
+    let nodes = d.ids.now.nodes.items in
+    let lists = d.ids.now.deps.items in
+    let here = node_seen d place n lt is_node in
+    let at = node_here r nodes place x.parent.now h.ids.nodes (slice_get_read nodes (length nodes) place x.parent.now refl (subst (λ (m : ℕ). place < m) long.0 lt) is_id) in
+    let same : at.node ≡ node_view n = same_Some at.node (node_view n) (sym at.at ∙ here) in
+    let items : Vec Identity → List Identity = λ v. v.items in
+    let list = slice_get-map items lists place ∙ ap (option_map items) (slice_get_read lists (length lists) place ids refl (subst (λ (m : ℕ). place < m) long.2 lt) is_ids) in
+    let whole = dep_ids_here r.graph (map items lists) place (node_view n) ids.items h.ids.deps here list in
+    record {
+      at = at;
+      has_node = record { among = contains_at r.graph.nodes place at.node at.at; id = at.id };
+      deps = ap (λ (m : NodeModel). m.deps) same ∙ ap (map node_dep_view) (sym deps);
+      children = subst (λ (m : NodeModel). AreDepIds m x.children.now) (sym same) (subst (AreDepIds (node_view n)) (sym children) whole);
+      declares = declares;
+    }
+
+-- a child has the dependency at its place
+pub deps_long : (r : Resolved) (place : ℕ) (x : NodeParts) → AreParts r place x → length x.children.now ≡ length x.deps.now
+deps_long r place x p =
+    sym (long_zip Reads (dep_texts p.at.node) x.children.now p.children.read) ∙ length-map p.at.node.deps (λ (d : NodeDepModel). d.pkg) ∙ ap length p.deps ∙ length-map x.deps.now node_dep_view
+
+pub dep_seen : (ds : List NodeDep) (k : ℕ) (d : NodeDep) → k < length ds → slice_get (map node_dep_view ds) k ≡ Some (node_dep_view (get_or ds k d))
+dep_seen ds k d lt = slice_get-map node_dep_view ds k ∙ ap (option_map node_dep_view) (slice_get-get_or ds k d lt)
+
+pub id_seen : (ids : List Identity) (k : ℕ) (i : Identity) → k < length ids → i ≡ get_or ids k i → slice_get ids k ≡ Some i
+id_seen ids k i lt is = slice_get_read ids (length ids) k i refl lt is
+
+-- all have been gone over
+pub tried_whole : (r : Resolved) (s : Setting) (x : Found) (parent : Id) (ds es : List NodeDepModel) (ids : List Identity) (end : ℕ) → es ≡ ds → length ids ≤ end → TriedBelow r s x parent ds ids end
+    → TriedBelow r s x parent es ids (length ids)
+tried_whole r s x parent ds es ids end same le h =
+    subst (λ (ms : List NodeDepModel). TriedBelow r s x parent ms ids (length ids)) (sym same) (λ k d i lt. h k d i (omega arith))
+
+-- within a vector's items is within the vector
+pub within_vec : {A : Type 0} (v : Vec A) (k : ℕ) → k < length v.items → k < vec_len v
+within_vec v k lt = subst (λ (n : ℕ). k < n) (sym v.ok.0) lt

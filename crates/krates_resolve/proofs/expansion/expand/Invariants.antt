@@ -1,0 +1,13 @@
+use Rattle.std.proofs.Common.{map}
+use Rattle.krates_cm.specs.Document.{node_dep_view}
+use Rattle.krates_resolve.specs.Found.{Advances}
+use Rattle.krates_resolve.specs.Lookup.{resolved_view}
+use Rattle.krates_resolve.specs.Resolved.{id_of}
+use Rattle.krates_resolve.proofs.NodeParts.{TriedBelow}
+use Rattle.krates_resolve.proofs.expansion.expand.Given as goal
+
+-- the edges of the dependencies so far have been tried
+abbrev pub invariant-loop-index : goal.invariant-loop-index
+invariant-loop-index l =
+    Advances (resolved_view l.lookup) l.setting l.fn.found l.found
+    × TriedBelow (resolved_view l.lookup) l.setting l.found (id_of l.parts.parent.now) (map node_dep_view l.parts.deps.now) l.child-items l.index

@@ -1,0 +1,61 @@
+use Rattle.std.proofs.Common.{ℕ, ◌<◌, sym, subst, true, false}
+use Rattle.std.proofs.lemmas.Option.{slice_get_within}
+use Rattle.std.proofs.lemmas.Result.{on_ok_weaker}
+use Rattle.krates_cm.specs.Document.{dep_kind_info_view}
+use Rattle.krates_resolve.specs.Lookup.{resolved_view}
+use Rattle.krates_resolve.proofs.Declared.{optional_here}
+use Rattle.krates_resolve.proofs.EdgeGrowth.{kept_here}
+use Rattle.krates_resolve.proofs.Entries.{optional_tried, undeclared_lost, package_lost, node_lost, wanted}
+use Rattle.krates_resolve.proofs.expansion.expand_edge.Goals as goal
+
+pub returns-in_default-clause-refused : goal.returns-in_default-clause-refused
+returns-in_default-clause-refused c =
+    let k = dep_kind_info_view c.args.info.now in
+    rw (c.in_ok-clone.ensures.cases, c.in_ok-clone-2.ensures.cases)
+    (undeclared_lost (resolved_view c.args.lookup.now) c.args.setting.now c.args.entry.now k c.requires.entry c.requires.listed c.in_default.ensures.first c.requires.kept)
+
+pub returns-then-entry-declared-clause-tried : goal.returns-then-entry-declared-clause-tried
+returns-then-entry-declared-clause-tried c =
+    let k = dep_kind_info_view c.args.info.now in
+    let d = c.in-Some.ensures.first in
+    let is = optional_here c.args.entry.now.declared.now c.in-Some.declared d.0 c.index-entry-declared.result d.1.here true c.if-entry-declared.true in
+    optional_tried (resolved_view c.args.lookup.now) c.args.setting.now c.args.found.now c.args.entry.now k c.in-Some.declared d.0 c.requires.lookup.distinct c.requires.entry d.1 is
+
+pub keep-requires : goal.keep-requires
+keep-requires c =
+    let node = c.in-Stands.ensures.1 in
+    subst (λ (n : ℕ). c.in-Stands.node < n) (sym c.requires.sound.size) (slice_get_within (resolved_view c.args.lookup.now).graph.nodes c.in-Stands.node node.node node.at)
+
+pub returns-in_ok-clone-in-NoPackage-clause-refused : goal.returns-in_ok-clone-in-NoPackage-clause-refused
+returns-in_ok-clone-in-NoPackage-clause-refused c =
+    let r = resolved_view c.args.lookup.now in
+    let k = dep_kind_info_view c.args.info.now in
+    let d = c.in-Some.ensures.first in
+    let is = optional_here c.args.entry.now.declared.now c.in-Some.declared d.0 c.index-entry-declared.result d.1.here false c.if-entry-declared.false in
+    let w = wanted r c.args.setting.now c.args.entry.now k c.in-Some.declared d.0 c.requires.entry c.requires.listed d.1 in
+    rw c.in_ok-clone-in-NoPackage.ensures.cases (package_lost r c.args.setting.now c.args.entry.now k d.0 w is c.in-NoPackage.ensures c.requires.kept)
+
+pub returns-in_ok-clone-in-NoNode-clause-refused : goal.returns-in_ok-clone-in-NoNode-clause-refused
+returns-in_ok-clone-in-NoNode-clause-refused c =
+    let r = resolved_view c.args.lookup.now in
+    let k = dep_kind_info_view c.args.info.now in
+    let d = c.in-Some.ensures.first in
+    let is = optional_here c.args.entry.now.declared.now c.in-Some.declared d.0 c.index-entry-declared.result d.1.here false c.if-entry-declared.false in
+    let w = wanted r c.args.setting.now c.args.entry.now k c.in-Some.declared d.0 c.requires.entry c.requires.listed d.1 in
+    rw c.in_ok-clone-in-NoNode.ensures.cases (node_lost r c.args.setting.now c.args.entry.now k d.0 w is c.in-NoNode.ensures c.requires.kept)
+
+pub returns-in_ok-kept_edge-in-Stands-clause-advanced : goal.returns-in_ok-kept_edge-in-Stands-clause-advanced
+returns-in_ok-kept_edge-in-Stands-clause-advanced c =
+    let d = c.in-Some.ensures.first in
+    let is = optional_here c.args.entry.now.declared.now c.in-Some.declared d.0 c.index-entry-declared.result d.1.here false c.if-entry-declared.false in
+    let e = c.in_ok-kept_edge-in-Stands in
+    on_ok_weaker c.keep.result (λ h. (kept_here c.one_reading.ensures.once (resolved_view c.args.lookup.now) c.args.setting.now c.args.found.now c.keep.new.found c.args.entry.now (dep_kind_info_view c.args.info.now)
+    e.field-0 c.in-Some.declared c.in-Stands.node d.0 c.requires.lookup.distinct c.requires.entry c.requires.listed c.requires.sound c.requires.kept d.1 is c.in-Stands.ensures.0 c.in-Stands.ensures.1 e.ensures.edge e.ensures.declared e.ensures.place h).0) c.keep.ensures.kept
+
+pub returns-in_ok-kept_edge-in-Stands-clause-tried : goal.returns-in_ok-kept_edge-in-Stands-clause-tried
+returns-in_ok-kept_edge-in-Stands-clause-tried c =
+    let d = c.in-Some.ensures.first in
+    let is = optional_here c.args.entry.now.declared.now c.in-Some.declared d.0 c.index-entry-declared.result d.1.here false c.if-entry-declared.false in
+    let e = c.in_ok-kept_edge-in-Stands in
+    on_ok_weaker c.keep.result (λ h. (kept_here c.one_reading.ensures.once (resolved_view c.args.lookup.now) c.args.setting.now c.args.found.now c.keep.new.found c.args.entry.now (dep_kind_info_view c.args.info.now)
+    e.field-0 c.in-Some.declared c.in-Stands.node d.0 c.requires.lookup.distinct c.requires.entry c.requires.listed c.requires.sound c.requires.kept d.1 is c.in-Stands.ensures.0 c.in-Stands.ensures.1 e.ensures.edge e.ensures.declared e.ensures.place h).1) c.keep.ensures.kept

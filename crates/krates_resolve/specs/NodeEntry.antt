@@ -1,0 +1,50 @@
+-- The node of a kept crate, and each dependency of it beside what its package declares.
+use Rattle.std.specs.Prelude.{◌≡◌, ℕ, List, Some, map, slice_get}
+use Rattle.krates_cm.specs.Document.{DependencyModel, DepKindInfoModel, NodeModel, PackageModel, node_dep_view, dependency_view}
+use Rattle.krates_resolve.specs.Admission.{AreDepIds}
+use Rattle.krates_resolve.specs.Facts.{Id, Edge}
+use Rattle.krates_resolve.specs.Lookup.{NodeAt}
+use Rattle.krates_resolve.specs.Resolved.{Resolved, id_of, HasPackage, HasNode, HasDep}
+use Rattle.krates_resolve.specs.DeclaredDependency.{DependencyEntry, dependency_entry}
+use Rattle.krates_resolve.specs.declared.node_entry.NodeEntry.{NodeEntry}
+use Rattle.krates_resolve.specs.declared.node_entry.NodeParts.{NodeParts}
+
+-- these are the dependencies that the package of the crate declares; none where it has no package
+pub record AreDeclaredBy (r : Resolved) (i : Id) (ds : List DependencyModel) : Type 0 where
+  pub each : (p : PackageModel) → HasPackage r i p → p.dependencies ≡ ds
+  pub from : (place : ℕ) (d : DependencyModel) → slice_get ds place ≡ Some d → (p : PackageModel) × HasPackage r i p
+
+-- these are the parts of the node at the place
+pub record AreParts (r : Resolved) (place : ℕ) (x : NodeParts) : Type 0 where
+  pub at : NodeAt r (id_of x.parent.now) place
+  pub has_node : HasNode r (id_of x.parent.now) at.node
+  pub deps : at.node.deps ≡ map node_dep_view x.deps.now
+  pub children : AreDepIds at.node x.children.now
+  pub declares : AreDeclaredBy r (id_of x.parent.now) (map dependency_view x.declared.now)
+
+abbrev pub parent_of : NodeEntry → Id
+parent_of x = id_of x.parent.now
+
+abbrev pub child_of : NodeEntry → Id
+child_of x = id_of x.child.now
+
+abbrev pub declared_in : NodeEntry → List DependencyModel
+declared_in x = map dependency_view x.declared.now
+
+abbrev pub entry_of : NodeEntry → DependencyEntry
+entry_of x = dependency_entry (child_of x) (node_dep_view x.dep.now)
+
+-- the parts of an entry belong together
+pub record IsEntry (r : Resolved) (x : NodeEntry) : Type 0 where
+  pub node : NodeModel
+  pub has_node : HasNode r (parent_of x) node
+  pub has_dep : HasDep node (child_of x) (node_dep_view x.dep.now)
+  pub declares : AreDeclaredBy r (parent_of x) (declared_in x)
+
+-- the edge between two crates for one purpose and target
+abbrev pub edge_between : Id → Id → DepKindInfoModel → Edge
+edge_between p c k = record { parent = p; child = c; kind = k.kind; cfg = k.target }
+
+-- that of an entry
+abbrev pub edge_for : NodeEntry → DepKindInfoModel → Edge
+edge_for x k = edge_between (parent_of x) (child_of x) k

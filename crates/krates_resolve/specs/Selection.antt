@@ -1,0 +1,51 @@
+-- What a selection says, and when it is that of a document and a setting.
+use Rattle.std.specs.Prelude.{◌≡◌, ◌↔◌, ◌++◌, List, All, Contains, map, option_map}
+use Rattle.std.specs.List.Sorted.{IsStrictlySortedBy}
+use Rattle.krates_cm.specs.Document.{DependencyModel, text_view}
+use Rattle.krates_ids.specs.Identity.{Identity, id_cmp}
+use Rattle.krates_resolve.specs.DeclaredDependency.{FirstAt}
+use Rattle.krates_resolve.specs.Derivation.{Derivable}
+use Rattle.krates_resolve.specs.Facts.{Edge, Fact, Crate, Kept, Feature, Toggled}
+use Rattle.krates_resolve.specs.Questions.{IsDeclaredAt, kind_info_of, questions}
+use Rattle.krates_resolve.specs.Resolved.{Resolved, id_of}
+use Rattle.krates_resolve.specs.SelectionOrder.{place_cmp}
+use Rattle.krates_resolve.specs.declared.selection.EnabledFeature.{EnabledFeature}
+use Rattle.krates_resolve.specs.declared.selection.KeptEdge.{KeptEdge}
+use Rattle.krates_resolve.specs.declared.selection.Selection.{Selection}
+use Rattle.krates_resolve.specs.declared.selection.ToggledFeature.{ToggledFeature}
+use Rattle.krates_resolve.specs.declared.setting.Setting.{Setting}
+
+-- ---- the facts of a selection
+
+abbrev pub edge_view : KeptEdge → Edge
+edge_view e = record { parent = id_of e.parent; child = id_of e.child; kind = e.kind; cfg = option_map text_view e.cfg }
+
+abbrev pub crate_fact : Identity → Fact
+crate_fact i = Crate (id_of i)
+
+abbrev pub edge_fact : KeptEdge → Fact
+edge_fact e = Kept (edge_view e)
+
+abbrev pub feature_fact : EnabledFeature → Fact
+feature_fact f = Feature (id_of f.krate) (text_view f.name)
+
+abbrev pub toggled_fact : ToggledFeature → Fact
+toggled_fact t = Toggled (id_of t.by) (id_of t.krate) (text_view t.name)
+
+abbrev pub facts_of : Selection → List Fact
+facts_of x = map crate_fact x.krates.items ++ (map edge_fact x.edges.items ++ (map feature_fact x.features.items ++ map toggled_fact x.toggled.items))
+
+-- ---- the selection of a document
+
+-- the edge names its declared dependency, and the first place of its purpose and target
+pub record IsPlaced (r : Resolved) (s : Setting) (e : KeptEdge) : Type 0 where
+  pub dependency : DependencyModel
+  pub declared : IsDeclaredAt r s (edge_view e) e.declared dependency
+  pub place : FirstAt (λ k. k ≡ kind_info_of (edge_view e)) declared.dep.dep_kinds e.place (kind_info_of (edge_view e))
+
+-- The selection has exactly the derivable facts, each list in order and without doubles.
+pub record IsSelection (r : Resolved) (s : Setting) (x : Selection) : Type 0 where
+  pub facts : (f : Fact) → Derivable (questions r s) f ↔ Contains (facts_of x) f
+  pub krates : IsStrictlySortedBy id_cmp x.krates.items
+  pub edges : IsStrictlySortedBy place_cmp x.edges.items
+  pub placed : All (IsPlaced r s) x.edges.items

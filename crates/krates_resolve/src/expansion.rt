@@ -1,0 +1,186 @@
+//! What the rules give from the roots and from each kept crate.
+
+ghost use Rattle.std.specs.Prelude.{◌≡◌, ◌<◌, All, IfErr, OnOk, Some, Contains, map};
+ghost use Rattle.semver.specs.Identifiers.{parts_of};
+ghost use Rattle.krates_cm.specs.Document.{dep_kind_info_view, node_dep_view};
+ghost use Rattle.krates_cm.specs.Names.{version_named};
+ghost use Rattle.krates_resolve.specs.Derivation.{Derivable};
+ghost use Rattle.krates_resolve.specs.Admission.{HasVersion};
+ghost use Rattle.krates_resolve.specs.Facts.{Id, Crate};
+ghost use Rattle.krates_resolve.specs.Found.{IsSound, Advances, IsRooted, HasRoots, IsTried, AreTried, IsExpanded};
+ghost use Rattle.krates_resolve.specs.Lookup.{IsLookup, NodeAt, resolved_view};
+ghost use Rattle.krates_resolve.specs.NodeEntry.{IsEntry, parent_of, child_of, edge_for};
+ghost use Rattle.krates_resolve.specs.Questions.{questions};
+ghost use Rattle.krates_resolve.specs.Resolved.{id_of};
+ghost use Rattle.krates_resolve.specs.SelectionRefusals.{IsUnselected};
+ghost use Rattle.krates_resolve.specs.Setting.{IsRoot};
+
+use crate::declared_dependency::{declared_of, version_of};
+use crate::found::{Found, keep};
+use crate::lookup::Lookup;
+use crate::node_entry::{NodeEntry, kept_edge, parts_of};
+use crate::setting::Setting;
+use crate::standing::{Standing, standing_of};
+use krates_cm::DepKindInfo;
+use krates_graph::agenda::Taken;
+use krates_ids::{Error, Kid, Lost, laws};
+use semver::Version;
+use std::alloc::Global;
+
+/// Puts the roots: the graph's root, where there is one, else each member.
+pub(crate) fn put_roots<'a>(
+    lookup: &Lookup<'a>,
+    setting: &Setting,
+    found: &mut Found,
+) -> Result<(), Error>
+    requires lookup { IsLookup lookup.now }
+    requires sound { IsSound (resolved_view lookup.now) setting.now found.old }
+    ensures advanced { OnOk result (Advances (resolved_view lookup.now) setting.now found.old found.new) }
+    ensures roots { OnOk result (HasRoots (resolved_view lookup.now) setting.now found.new) }
+    ensures refused { IfErr result (IsUnselected (questions (resolved_view lookup.now) setting.now)) }
+{
+    laws::one_reading();
+    match &lookup.ids.root {
+        Some(root) => put_root(lookup, setting, root, found),
+        None => put_members(lookup, setting, &lookup.ids.members, found),
+    }
+}
+
+/// Puts each of these members of the workspace, where the graph has no root.
+fn put_members<'a>(
+    lookup: &Lookup<'a>,
+    setting: &Setting,
+    members: &'a [Kid],
+    found: &mut Found,
+) -> Result<(), Error>
+    requires lookup { IsLookup lookup.now }
+    requires sound { IsSound (resolved_view lookup.now) setting.now found.old }
+    requires roots { All (λ member. IsRoot (resolved_view lookup.now) setting.now (id_of member)) members.now }
+    ensures advanced { OnOk result (Advances (resolved_view lookup.now) setting.now found.old found.new) }
+    ensures rooted { OnOk result (All (λ member. IsRooted (resolved_view lookup.now) setting.now found.new (id_of member)) members.now) }
+    ensures refused { IfErr result (IsUnselected (questions (resolved_view lookup.now) setting.now)) }
+{
+    for member in members {
+        put_root(lookup, setting, member, found)?;
+    }
+    Ok(())
+}
+
+/// Puts a root that stands.
+fn put_root<'a>(
+    lookup: &Lookup<'a>,
+    setting: &Setting,
+    root: &'a Kid,
+    found: &mut Found,
+) -> Result<(), Error>
+    requires lookup { IsLookup lookup.now }
+    requires sound { IsSound (resolved_view lookup.now) setting.now found.old }
+    requires root { IsRoot (resolved_view lookup.now) setting.now (id_of root.now) }
+    ensures advanced { OnOk result (Advances (resolved_view lookup.now) setting.now found.old found.new) }
+    ensures rooted { OnOk result (IsRooted (resolved_view lookup.now) setting.now found.new (id_of root.now)) }
+    ensures refused { IfErr result (IsUnselected (questions (resolved_view lookup.now) setting.now)) }
+{
+    laws::one_reading();
+    match standing_of(lookup, setting, root) {
+        Standing::NoPackage => Err(Error::Lost(Lost::Package(root.clone()?))),
+        Standing::NoNode => Err(Error::Lost(Lost::Node(root.clone()?))),
+        Standing::Stands(place) => {
+            let _ = found.agenda.put(place);
+            Ok(())
+        }
+    }
+}
+
+/// Keeps what a kept crate needs: tries each edge of its node.
+///
+/// It is handed the crate as it was taken, so that each is expanded once.
+pub(crate) fn expand<'a>(
+    alloc: Global,
+    lookup: &Lookup<'a>,
+    setting: &Setting,
+    taken: Taken,
+    found: &mut Found,
+) -> Result<(), Error>
+    requires lookup { IsLookup lookup.now }
+    requires sound { IsSound (resolved_view lookup.now) setting.now found.old }
+    requires put { Contains found.old.agenda.put taken }
+    requires within { taken < found.old.agenda.size }
+    ensures advanced { OnOk result (Advances (resolved_view lookup.now) setting.now found.old found.new) }
+    ensures expanded { OnOk result ((krate : Id) → NodeAt (resolved_view lookup.now) krate taken → IsExpanded (resolved_view lookup.now) setting.now found.new krate) }
+    ensures refused { IfErr result (IsUnselected (questions (resolved_view lookup.now) setting.now)) }
+{
+    laws::one_reading();
+    let parts = parts_of(lookup, taken.number());
+    for (index, child) in parts.children.iter().enumerate() {
+        let entry = NodeEntry {
+            parent: parts.parent,
+            declared: parts.declared,
+            dep: &parts.deps[index],
+            child,
+        };
+        expand_entry(alloc, lookup, setting, &entry, found)?;
+    }
+    Ok(())
+}
+
+/// Tries each edge of an entry.
+fn expand_entry<'a>(
+    alloc: Global,
+    lookup: &Lookup<'a>,
+    setting: &Setting,
+    entry: &NodeEntry<'a>,
+    found: &mut Found,
+) -> Result<(), Error>
+    requires lookup { IsLookup lookup.now }
+    requires entry { IsEntry (resolved_view lookup.now) entry.now }
+    requires version { HasVersion entry.now.child.now }
+    requires sound { IsSound (resolved_view lookup.now) setting.now found.old }
+    requires kept { Derivable (questions (resolved_view lookup.now) setting.now) (Crate (parent_of entry.now)) }
+    ensures advanced { OnOk result (Advances (resolved_view lookup.now) setting.now found.old found.new) }
+    ensures tried { OnOk result (AreTried (resolved_view lookup.now) setting.now found.new (parent_of entry.now) (child_of entry.now) (node_dep_view entry.now.dep.now)) }
+    ensures refused { IfErr result (IsUnselected (questions (resolved_view lookup.now) setting.now)) }
+{
+    let Some(version) = version_of(alloc, entry.child)? else {
+        unreachable!()
+    };
+    for info in entry.dep.dep_kinds.as_slice() {
+        expand_edge(lookup, setting, entry, &version, info, found)?;
+    }
+    Ok(())
+}
+
+/// Keeps an edge of an entry, for one purpose and target, unless it is optional.
+fn expand_edge<'a>(
+    lookup: &Lookup<'a>,
+    setting: &Setting,
+    entry: &NodeEntry<'a>,
+    version: &Version,
+    info: &DepKindInfo,
+    found: &mut Found,
+) -> Result<(), Error>
+    requires lookup { IsLookup lookup.now }
+    requires entry { IsEntry (resolved_view lookup.now) entry.now }
+    requires version { version_named entry.now.child.now.version ≡ Some (parts_of version.now) }
+    requires listed { Contains (map dep_kind_info_view entry.now.dep.now.dep_kinds.items) (dep_kind_info_view info.now) }
+    requires sound { IsSound (resolved_view lookup.now) setting.now found.old }
+    requires kept { Derivable (questions (resolved_view lookup.now) setting.now) (Crate (parent_of entry.now)) }
+    ensures advanced { OnOk result (Advances (resolved_view lookup.now) setting.now found.old found.new) }
+    ensures tried { OnOk result (IsTried (resolved_view lookup.now) setting.now found.new (edge_for entry.now (dep_kind_info_view info.now))) }
+    ensures refused { IfErr result (IsUnselected (questions (resolved_view lookup.now) setting.now)) }
+{
+    laws::one_reading();
+    let Some(declared) = declared_of(entry.declared, entry.dep, entry.child, version, info) else {
+        return Err(Error::Lost(Lost::Undeclared {
+            krate: entry.parent.clone()?,
+            dep: entry.child.clone()?,
+        }));
+    };
+    if entry.declared[declared].optional {
+        return Ok(());
+    }
+    match standing_of(lookup, setting, entry.child) {
+        Standing::NoPackage => Err(Error::Lost(Lost::Package(entry.child.clone()?))),
+        Standing::NoNode => Err(Error::Lost(Lost::Node(entry.child.clone()?))),
+        Standing::Stands(node) => keep(found, kept_edge(entry, info, declared)?, node),
+    }
+}

@@ -1,0 +1,106 @@
+//! The node of a kept crate, and each dependency of it.
+
+ghost use Rattle.std.specs.Prelude.{◌≡◌, ◌<◌, ◌↔◌, Contains, IfOk, IsTrue, length, map};
+ghost use Rattle.krates_cm.specs.Document.{dependency_view, dep_kind_info_view};
+ghost use Rattle.krates_resolve.specs.Lookup.{IsLookup, resolved_view};
+ghost use Rattle.krates_resolve.specs.DeclaredDependency.{FirstAt};
+ghost use Rattle.krates_resolve.specs.NodeEntry.{AreDeclaredBy, AreParts, edge_for};
+ghost use Rattle.krates_resolve.specs.Resolved.{id_of};
+ghost use Rattle.krates_resolve.specs.Selection.{edge_view};
+
+use crate::lookup::{Lookup, package_place};
+use crate::selection::KeptEdge;
+use krates_cm::{DepKindInfo, Dependency, NodeDep};
+use krates_ids::Kid;
+use std::alloc::AllocError;
+
+/// A dependency of a kept crate's node, beside what its package declares.
+#[derive(Clone, Copy)]
+pub(crate) struct NodeEntry<'a> {
+    /// The kept crate.
+    pub parent: &'a Kid,
+    /// The dependencies that its package declares.
+    pub declared: &'a [Dependency],
+    /// The dependency of its node.
+    pub dep: &'a NodeDep,
+    /// The crate that is depended on.
+    pub child: &'a Kid,
+}
+
+/// The node of a kept crate, taken apart.
+#[derive(Clone, Copy)]
+pub(crate) struct NodeParts<'a> {
+    /// The kept crate.
+    pub parent: &'a Kid,
+    /// The dependencies that its package declares.
+    pub declared: &'a [Dependency],
+    /// The dependencies of its node.
+    pub deps: &'a [NodeDep],
+    /// Their ids.
+    pub children: &'a [Kid],
+}
+
+/// The node at a place, taken apart.
+pub(crate) fn parts_of<'a>(lookup: &Lookup<'a>, place: usize) -> NodeParts<'a>
+    requires lookup { IsLookup lookup.now }
+    requires within { place < length (resolved_view lookup.now).graph.nodes }
+    ensures { AreParts (resolved_view lookup.now) place result }
+{
+    let parent = &lookup.ids.nodes[place];
+    NodeParts {
+        parent,
+        declared: declared_by(lookup, parent),
+        deps: &lookup.resolve.nodes[place].deps,
+        children: &lookup.ids.deps[place],
+    }
+}
+
+/// The dependencies that the package of a crate declares; none where it has no package.
+pub(crate) fn declared_by<'a>(lookup: &Lookup<'a>, krate: &'a Kid) -> &'a [Dependency]
+    requires { IsLookup lookup.now }
+    ensures { AreDeclaredBy (resolved_view lookup.now) (id_of krate.now) (map dependency_view result.now) }
+{
+    match package_place(lookup, krate) {
+        Some(place) => &lookup.metadata.packages[place].dependencies,
+        None => &[],
+    }
+}
+
+/// The edge of an entry for one purpose and target, with the place of its declared dependency.
+pub(crate) fn kept_edge<'a>(
+    entry: &NodeEntry<'a>,
+    info: &DepKindInfo,
+    declared: usize,
+) -> Result<KeptEdge, AllocError>
+    requires { Contains (map dep_kind_info_view entry.now.dep.now.dep_kinds.items) (dep_kind_info_view info.now) }
+    ensures edge { IfOk result (λ kept. edge_view kept ≡ edge_for entry.now (dep_kind_info_view info.now)) }
+    ensures declared { IfOk result (λ kept. kept.declared ≡ declared) }
+    ensures place { IfOk result (λ kept. FirstAt (λ k. k ≡ dep_kind_info_view info.now) (map dep_kind_info_view entry.now.dep.now.dep_kinds.items) kept.place (dep_kind_info_view info.now)) }
+{
+    Ok(KeptEdge {
+        parent: entry.parent.clone()?,
+        child: entry.child.clone()?,
+        kind: info.kind,
+        cfg: info.target.clone()?,
+        place: first_place(&entry.dep.dep_kinds, info),
+        declared,
+    })
+}
+
+/// The first place of a purpose and target in a list that has it.
+fn first_place(infos: &[DepKindInfo], info: &DepKindInfo) -> usize
+    requires { Contains (map dep_kind_info_view infos.now) (dep_kind_info_view info.now) }
+    ensures { FirstAt (λ k. k ≡ dep_kind_info_view info.now) (map dep_kind_info_view infos.now) result (dep_kind_info_view info.now) }
+{
+    match infos.iter().position(|other| is_same_info(other, info)) {
+        Some(place) => place,
+        None => unreachable!(),
+    }
+}
+
+/// Whether the two are for the same purpose and target.
+fn is_same_info(one: &DepKindInfo, other: &DepKindInfo) -> bool
+    ensures { IsTrue result ↔ (dep_kind_info_view one.now ≡ dep_kind_info_view other.now) }
+{
+    one.kind == other.kind && one.target == other.target
+}
