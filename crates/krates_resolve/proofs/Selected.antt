@@ -1,8 +1,11 @@
 -- A selection that is made of the places and edges that were found.
-use Rattle.std.proofs.Common.{◌≡◌, ◌⊎◌, ◌↔◌, ℕ, ◌+◌, ◌<◌, List, [], ◌∷◌, ◌++◌, length, get_or, map, take, Bool, true, false, ◌&&◌, All, Contains, Some, option_map, inl, inr, refl, sym, ap, ◌∙◌, subst, arith, eqb-true}
+use Rattle.std.proofs.Common.{◌≡◌, ◌⊎◌, ◌↔◌, ℕ, ◌+◌, ◌<◌, List, [], ◌∷◌, ◌++◌, length, get_or, map, take, Bool, true, false, ◌&&◌, ◌==◌, All, Contains, Some, option_map, inl, inr, refl, sym, ap, ◌∙◌, subst, arith, eqb-true}
+use Rattle.std.proofs.lemmas.Bool.{cases_lt, eqb-false}
 use Rattle.std.proofs.lemmas.List.{get_or_default, map-append, take_more}
 use Rattle.std.proofs.lemmas.List.Elements.{All-contains, Contains-append_left, Contains-append_right, Contains-append_cases}
 use Rattle.std.proofs.lemmas.Option.{slice_get-map, slice_get_read, same_Some}
+use Rattle.std.specs.Global.{Vec}
+use Rattle.std.specs.Vec.{vec_len}
 use Rattle.std.specs.List.{AllZip, slice_get}
 use Rattle.std.specs.List.Sorted.{IsStrictlySortedBy}
 use Rattle.krates_cm.specs.Document.{NodeDepModel, DepKindInfoModel}
@@ -116,6 +119,15 @@ facts_cases x f no_features no_toggled c = elim (Contains-append_cases (map crat
 
 -- ---- the whole
 
+-- a vector that isn't empty has an element
+pub has_element : {A : Type 0} (v : Vec A) → false ≡ (vec_len v == 0) → 0 < length v.items
+has_element v h = elim (cases_lt 0 (length v.items)) [
+  | inl lt ↦ lt
+  | inr le ↦ (
+      let none : length v.items ≡ 0 = omega arith in
+      absurd (eqb-false (vec_len v) 0 (sym h) (v.ok.0 ∙ none)))
+]
+
 -- the list is another in order: what stands in it is from that, and each element of that has an equal one in it
 pub record IsOrdered {A : Type 0} (eq : A → A → Bool) (old new : List A) : Type 0 where
   pub from : (x : A) → Contains new x → Contains old x
@@ -124,10 +136,17 @@ pub record IsOrdered {A : Type 0} (eq : A → A → Bool) (old new : List A) : T
 pub selected : ReadsOnce → EqualityTellsSame → (r : Resolved) (s : Setting) (ids : List Identity) (places : List ℕ) (edges : List KeptEdge) (kids : List Identity) (x : Selection) → NoneDoubled r.metadata r.graph
     → AllZip Reads (node_texts r.graph) ids → ((f : Fact) → Derivable (questions r s) f ↔ IsFoundIn r places edges f) → All (IsPlaced r s) edges → AreAt ids places kids
     → IsStrictlySortedBy id_cmp x.krates.items → IsOrdered same_id kids x.krates.items → IsStrictlySortedBy place_cmp x.edges.items → IsOrdered same_place edges x.edges.items
-    → x.features.items ≡ [] → x.toggled.items ≡ [] → IsSelection r s x
-selected once tells r s ids places edges kids x none z exact placed same up krates rise kept no_features no_toggled =
-    record { facts = λ f. (forth f, back f); krates = up; edges = rise; placed = λ k d lt. here (get_or x.edges.items k d) (contains_or x.edges.items k d lt) }
+    → x.features.items ≡ [] → x.toggled.items ≡ [] → 0 < length places → IsSelection r s x
+selected once tells r s ids places edges kids x none z exact placed same up krates rise kept no_features no_toggled some =
+    record { facts = λ f. (forth f, back f); some = root; krates = up; edges = rise; placed = λ k d lt. here (get_or x.edges.items k d) (contains_or x.edges.items k d lt) }
   where
+    -- the crate at the first place
+    root : (i : Id) × Derivable (questions r s) (Crate i)
+    root =
+        let among = contains_or places 0 0 some in
+        let k = kid_at ids places kids (get_or places 0 0) same among in
+        (id_of k.0, (exact (Crate (id_of k.0))).1 (record { place = get_or places 0 0; among = among; node = node_here r ids (get_or places 0 0) k.0 z k.2 }))
+
     -- each edge is placed
     here : (e : KeptEdge) → Contains x.edges.items e → IsPlaced r s e
     here e c = All-contains (IsPlaced r s) edges e placed (kept.from e c)

@@ -5,7 +5,7 @@ use Rattle.krates_cm.specs.Document.{DependencyModel, text_view}
 use Rattle.krates_ids.specs.Identity.{Identity, id_cmp}
 use Rattle.krates_resolve.specs.DeclaredDependency.{FirstAt}
 use Rattle.krates_resolve.specs.Derivation.{Derivable}
-use Rattle.krates_resolve.specs.Facts.{Edge, Fact, Crate, Kept, Feature, Toggled}
+use Rattle.krates_resolve.specs.Facts.{Id, Edge, Fact, Crate, Kept, Feature, Toggled}
 use Rattle.krates_resolve.specs.Questions.{IsDeclaredAt, kind_info_of, questions}
 use Rattle.krates_resolve.specs.Resolved.{Resolved, id_of}
 use Rattle.krates_resolve.specs.SelectionOrder.{place_cmp}
@@ -43,9 +43,10 @@ pub record IsPlaced (r : Resolved) (s : Setting) (e : KeptEdge) : Type 0 where
   pub declared : IsDeclaredAt r s (edge_view e) e.declared dependency
   pub place : FirstAt (λ k. k ≡ kind_info_of (edge_view e)) declared.dep.dep_kinds e.place (kind_info_of (edge_view e))
 
--- The selection has exactly the derivable facts, each list in order and without doubles.
+-- The selection has exactly the derivable facts, a crate among them, each list in order and without doubles.
 pub record IsSelection (r : Resolved) (s : Setting) (x : Selection) : Type 0 where
   pub facts : (f : Fact) → Derivable (questions r s) f ↔ Contains (facts_of x) f
+  pub some : (i : Id) × Derivable (questions r s) (Crate i)
   pub krates : IsStrictlySortedBy id_cmp x.krates.items
   pub edges : IsStrictlySortedBy place_cmp x.edges.items
   pub placed : All (IsPlaced r s) x.edges.items

@@ -6,8 +6,12 @@
 #[cfg(test)]
 mod admission;
 #[cfg(test)]
+mod building;
+#[cfg(test)]
 mod documents;
 #[cfg(test)]
 mod ids;
+#[cfg(test)]
+mod listing;
 #[cfg(test)]
 mod reading;

@@ -12,7 +12,7 @@ use Rattle.krates_resolve.specs.SelectionOrder.{same_place}
 use Rattle.krates_resolve.specs.declared.ids.Ids.{Ids}
 use Rattle.krates_resolve.specs.declared.selection.Selection.{Selection}
 use Rattle.krates_resolve.proofs.NodeParts.{nodes_long}
-use Rattle.krates_resolve.proofs.Selected.{AreAt, IsOrdered, selected}
+use Rattle.krates_resolve.proofs.Selected.{AreAt, IsOrdered, has_element, selected}
 use Rattle.krates_resolve.proofs.selection.select.Goals as goal
 
 pub lookup_of-requires-clause-distinct : goal.lookup_of-requires-clause-distinct
@@ -47,6 +47,6 @@ returns-clause-selected c =
     let krates : IsOrdered same_id kids x.krates.items = record { from = c.in_ok-krates.ensures.from; kept = c.in_ok-krates.ensures.kept } in
     let kept : IsOrdered same_place edges x.edges.items = record { from = c.in_ok-in_order.ensures.from; kept = c.in_ok-in_order.ensures.kept } in
     let here = selected c.one_reading.ensures.once c.comparison.ensures.equality (resolved_view look) s ids places edges kids x h.distinct h.ids.nodes c.in_ok-places.ensures.exact c.in_ok-places.ensures.placed at
-    c.in_ok-krates.ensures.ascending krates c.in_ok-in_order.ensures.ascending kept c.new.ensures.items c.new-2.ensures.items in
+    c.in_ok-krates.ensures.ascending krates c.in_ok-in_order.ensures.ascending kept c.new.ensures.items c.new-2.ensures.items (has_element c.in_ok-places.places c.if-is_empty.ensures) in
     let same : resolved_view look ≡ resolved m g = ap (λ (d : Metadata). resolved (metadata_view d) (resolve_view look.resolve.now)) of.0 ∙ ap (λ (d : Resolve). resolved m (resolve_view d)) of.1 in
     record { graph = g; has_graph = ap (option_map resolve_view) c.in-Some.is; holds = subst (λ (r : Resolved). IsSelection r s x) same here }

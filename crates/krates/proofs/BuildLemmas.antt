@@ -1,0 +1,195 @@
+-- What a build keeps, and why it is refused.
+use Rattle.std.proofs.Common.{◌≡◌, ◌≢◌, ◌↔◌, ℕ, zero, suc, ◌<◌, ◌≤◌, ◌^◌, List, [], ◌∷◌, length, get_or, map, AllPairs, Some, slice_get, Contains, refl, sym, ap, ◌∙◌, subst, inl, inr, arith}
+use Rattle.std.proofs.lemmas.List.{get_or-map, length-map}
+use Rattle.std.proofs.lemmas.List.Elements.{Contains-get_or}
+use Rattle.std.specs.List.{AllZip}
+use Rattle.std.specs.List.Sorted.{IsStrictlySortedBy}
+use Rattle.krates_cm.specs.Document.{Text, MetadataModel, ResolveModel, PackageModel, id_view, package_view, metadata_view}
+use Rattle.krates_cm.specs.declared.metadata.Metadata.{Metadata}
+use Rattle.krates_cm.specs.declared.package.Package.{Package}
+use Rattle.krates_ids.specs.Identity.{Identity, empty_identity, Reads, id_cmp}
+use Rattle.krates_ids.specs.declared.error.Error.{Error}
+use Rattle.krates_ids.specs.declared.error.Error.TheVariants as errors
+use Rattle.krates_resolve.specs.Admission.{IsAdmitted, package_texts, doubled_package}
+use Rattle.krates_resolve.specs.AdmissionRefusals.{AreDistinct}
+use Rattle.krates_resolve.specs.Facts.{Id, Cause, Crate, Lost}
+use Rattle.krates_resolve.specs.Ids.{IdsModel}
+use Rattle.krates_resolve.specs.Questions.{Stands, questions}
+use Rattle.krates_resolve.specs.Resolved.{ReadsAs, resolved, id_of}
+use Rattle.krates_resolve.specs.declared.selection.Selection.{Selection}
+use Rattle.krates_resolve.specs.declared.setting.Setting.{Setting}
+use Rattle.krates.specs.Build.{IsResolvable, IsKept, IsNotKept, IsLost, AreThosePackages, HasTooMany, IsBuildRefused, IsMiscount}
+use Rattle.krates.specs.Division.{IsAmong, IsDivision}
+use Rattle.krates.specs.Krate.{krate_ids, krate_packages}
+use Rattle.krates.specs.declared.division.Division.{Division}
+use Rattle.krates.proofs.DivisionLemmas.{ReadsOnce}
+use Rattle.krates.proofs.Membership.{Member, member_of, contains_of, mapped_of, member_map}
+use Rattle.krates.proofs.OrderedIds.{Compares, not_earlier}
+use Rattle.krates.proofs.SelectionFacts.{Selects, derived_at, derived_of, kept_among, none_lost}
+use Rattle.krates.proofs.StandingLaws.{derivable_stands}
+
+-- ---- an admitted document
+
+texts_of : (ps : List Package) → map (λ (p : PackageModel). p.id) (map package_view ps) ≡ map (λ (p : Package). id_view p.id) ps
+texts_of [] = refl
+texts_of (p ∷ ps) = ap (λ ts. id_view p.id ∷ ts) (texts_of ps)
+
+pub package_ids : (m : Metadata) (ids : IdsModel) → IsAdmitted (metadata_view m) ids → AllZip Reads (map (λ p. id_view p.id) m.packages.items) ids.packages
+package_ids m ids a = subst (λ ts. AllZip Reads ts ids.packages) (texts_of m.packages.items) a.read.packages
+
+record TextAt (texts : List Text) (place : ℕ) (i : Identity) : Type 0 where
+  text : Text
+  at : slice_get texts place ≡ Some text
+  reads : Reads text i
+
+text_at : (texts : List Text) (ids : List Identity) → AllZip Reads texts ids → (place : ℕ) (i : Identity) → slice_get ids place ≡ Some i → TextAt texts place i
+text_at [] [] h place i e = absurd cc
+text_at [] (j ∷ ids) h place i e = absurd h
+text_at (t ∷ texts) [] h place i e = absurd h
+text_at (t ∷ texts) (j ∷ ids) h zero i e = let same : j ≡ i = cc in record { text = t; at = refl; reads = subst (λ x. Reads t x) same h.0 }
+text_at (t ∷ texts) (j ∷ ids) h (suc place) i e = let w = text_at texts ids h.1 place i e in record { text = w.text; at = w.at; reads = w.reads }
+
+pub ids_distinct : (m : MetadataModel) (ids : IdsModel) → IsAdmitted m ids → AreDistinct ids.packages
+ids_distinct m ids a id t =
+    let one = text_at (package_texts m) ids.packages a.read.packages t.first t.one t.at_first in
+    let other = text_at (package_texts m) ids.packages a.read.packages t.second t.other t.at_second in
+    a.none_doubled id (doubled_package (record {
+      first = t.first;
+      second = t.second;
+      apart = t.apart;
+      one = one.text;
+      other = other.text;
+      at_first = one.at;
+      at_second = other.at;
+      one_reads = record { read = t.one; reads = one.reads; same = t.one_is };
+      other_reads = record { read = t.other; reads = other.reads; same = t.other_is };
+    }))
+
+-- ---- those packages
+
+-- ids that are the same in one sense are so in another
+pub those_same : (all : List Package) (P Q : Id → Type 0) (ids : List Identity) (listed : List Package) → ((i : Id) → P i ↔ Q i) → AreThosePackages all P ids listed → AreThosePackages all Q ids listed
+those_same all P Q ids listed iff h = record {
+  read = h.read;
+  ascending = h.ascending;
+  exactly = λ pkg. (
+    λ c. (let both = (h.exactly pkg).0 c in (both.0, record { id = both.1.id; reads = both.1.reads; holds = (iff both.1.id).0 both.1.holds })),
+    λ both. (h.exactly pkg).1 (both.0, record { id = both.1.id; reads = both.1.reads; holds = (iff both.1.id).1 both.1.holds }),
+  );
+}
+
+-- a package that is listed has an id beside it, and the other way round
+record Beside (ids : List Identity) (pkg : Package) : Type 0 where
+  id : Identity
+  member : Member ids id
+  reads : Reads (id_view pkg.id) id
+
+beside : (listed : List Package) (ids : List Identity) → AllZip (λ p i. Reads (id_view p.id) i) listed ids → (pkg : Package) → Member listed pkg → Beside ids pkg
+beside [] ids h pkg m = absurd m
+beside (p ∷ ps) [] h pkg m = absurd h
+beside (p ∷ ps) (i ∷ ids) h pkg (inl e) = record { id = i; member = inl refl; reads = subst (λ (x : Package). Reads (id_view x.id) i) e h.0 }
+beside (p ∷ ps) (i ∷ ids) h pkg (inr m) = let w = beside ps ids h.1 pkg m in record { id = w.id; member = inr w.member; reads = w.reads }
+
+record BesideId (listed : List Package) (id : Identity) : Type 0 where
+  pkg : Package
+  member : Member listed pkg
+  reads : Reads (id_view pkg.id) id
+
+beside_id : (listed : List Package) (ids : List Identity) → AllZip (λ p i. Reads (id_view p.id) i) listed ids → (id : Identity) → Member ids id → BesideId listed id
+beside_id [] [] h id m = absurd m
+beside_id [] (i ∷ ids) h id m = absurd h
+beside_id (p ∷ ps) [] h id m = absurd m
+beside_id (p ∷ ps) (i ∷ ids) h id (inl e) = record { pkg = p; member = inl refl; reads = subst (λ (x : Identity). Reads (id_view p.id) x) e h.0 }
+beside_id (p ∷ ps) (i ∷ ids) h id (inr m) = let w = beside_id ps ids h.1 id m in record { pkg = w.pkg; member = inr w.member; reads = w.reads }
+
+-- where each of those ids has a package, the ids of the list are exactly those
+pub exactly_those : ReadsOnce → (all : List Package) (P : Id → Type 0) (ids : List Identity) (listed : List Package) → AreThosePackages all P ids listed
+    → ((i : Id) → P i → (pkg : Package) × Contains all pkg × ReadsAs (id_view pkg.id) i)
+    → (i : Id) → P i ↔ Contains (map id_of ids) i
+exactly_those once all P ids listed h has i = (
+  λ holds.
+      (let (pkg, among, reads) = has i holds in
+      let there = (h.exactly pkg).1 (among, record { id = i; reads = reads; holds = holds }) in
+      let w = beside listed ids h.read pkg (member_of listed pkg there) in
+      let same : id_of w.id ≡ i = ap id_of (once (id_view pkg.id) w.id reads.read w.reads reads.reads) ∙ reads.same in
+      subst (λ z. Contains (map id_of ids) z) same (contains_of (map id_of ids) (id_of w.id) (member_map id_of ids w.id w.member))),
+  λ c.
+      (let w = mapped_of id_of ids i (member_of (map id_of ids) i c) in
+      let p = beside_id listed ids h.read w.from w.member in
+      let both = (h.exactly p.pkg).0 (contains_of listed p.pkg p.member) in
+      let same : both.1.id ≡ i = sym both.1.reads.same ∙ ap id_of (once (id_view p.pkg.id) both.1.reads.read w.from both.1.reads.reads p.reads) ∙ w.is in
+      subst P same both.1.holds),
+)
+
+-- ---- what is kept
+
+-- what is kept has a package
+pub has_package : (m : Metadata) (s : Setting) (i : Id) → IsKept (metadata_view m) s i → (pkg : Package) × Contains m.packages.items pkg × ReadsAs (id_view pkg.id) i
+has_package m s i h =
+    let stands : Stands (resolved (metadata_view m) h.graph) s i = unfold questions in derivable_stands (questions (resolved (metadata_view m) h.graph) s) h.holds in
+    let found = stands.included.has_package in
+    let w = mapped_of package_view m.packages.items stands.included.pkg (member_of _ stands.included.pkg found.among) in
+    (w.from, contains_of m.packages.items w.from w.member, subst (λ (p : PackageModel). ReadsAs p.id i) (sym w.is) found.id)
+
+-- all that a build says of what it keeps
+pub record Builds (m : Metadata) (s : Setting) (d : Division) : Type 0 where
+  pub kept : (i : Id) → IsKept (metadata_view m) s i ↔ Contains (map id_of (krate_ids d.kept.items)) i
+  pub some : (i : Id) × IsKept (metadata_view m) s i
+  pub none_lost : (c : Cause) → IsLost (metadata_view m) s c → ⊥
+  pub packages : AreThosePackages m.packages.items (IsKept (metadata_view m) s) (krate_ids d.kept.items) (krate_packages d.kept.items)
+  pub others : AreThosePackages m.packages.items (IsNotKept (metadata_view m) s) (krate_ids d.others.items) (krate_packages d.others.items)
+
+flip_iff : (P Q : Type 0) → P ↔ Q → Q ↔ P
+flip_iff P Q h = (h.1, h.0)
+
+not_iff : (P Q : Type 0) → P ↔ Q → (P → ⊥) ↔ (Q → ⊥)
+not_iff P Q h = (λ n q. n (h.1 q), λ n p. n (h.0 p))
+
+pub builds : ReadsOnce → (m : Metadata) (s : Setting) (x : Selection) (d : Division) → Selects (metadata_view m) s x → IsDivision m.packages.items x.krates.items d → Builds m s d
+builds once m s x d sel div =
+    let iff : (i : Id) → IsAmong x.krates.items i ↔ IsKept (metadata_view m) s i = λ i. flip_iff _ _ (kept_among (metadata_view m) s x sel i) in
+    let packages = those_same m.packages.items (IsAmong x.krates.items) (IsKept (metadata_view m) s) (krate_ids d.kept.items) (krate_packages d.kept.items) iff div.kept in
+    record {
+      kept = exactly_those once m.packages.items (IsKept (metadata_view m) s) (krate_ids d.kept.items) (krate_packages d.kept.items) packages (has_package m s);
+      some = (sel.holds.some.0, record { graph = sel.graph; has_graph = sel.has_graph; holds = sel.holds.some.1 });
+      none_lost = none_lost (metadata_view m) s x sel;
+      packages = packages;
+      others = those_same m.packages.items (λ i. IsAmong x.krates.items i → ⊥) (IsNotKept (metadata_view m) s) (krate_ids d.others.items) (krate_packages d.others.items) (λ i. not_iff _ _ (iff i)) div.others;
+    }
+
+-- the same, of what the body has in hand
+pub built : ReadsOnce → (m : Metadata) (s t : Setting) (x : Selection) (selected : List Identity) (d : Division) → t ≡ s → selected ≡ x.krates.items → Selects (metadata_view m) t x → IsDivision m.packages.items selected d → Builds m s d
+built once m s t x selected d same those sel div =
+    builds once m s x d (subst (λ z. Selects (metadata_view m) z x) same sel) (subst (λ ids. IsDivision m.packages.items ids d) those div)
+
+-- ---- too many
+
+resolvable : (m : MetadataModel) (ids : IdsModel) → IsAdmitted m ids → IsResolvable m
+resolvable m ids a = record { ids = ids; admitted = a }
+
+distinct_ids : Compares → (ids : List Identity) → IsStrictlySortedBy id_cmp ids → AllPairs (λ a b. a ≢ b) (map id_of ids)
+distinct_ids o ids sorted i j d lt within e =
+    let w : j < length ids = simp length-map at within in
+    not_earlier o ids sorted i j empty_identity lt w (sym (get_or-map id_of ids i empty_identity d (omega arith)) ∙ e ∙ get_or-map id_of ids j empty_identity d w)
+
+miscounted_many : Compares → (m : Metadata) (s : Setting) (d : Division) (g : ResolveModel) → (metadata_view m).resolve ≡ Some g → Builds m s d → 2 ^ 32 ≤ length d.kept.items → HasTooMany (questions (resolved (metadata_view m) g) s)
+miscounted_many o m s d g is b many =
+    let ids : List Id = map id_of (krate_ids d.kept.items) in
+    record {
+      none_lost = λ c h. b.none_lost c (derived_of (metadata_view m) s g (Lost c) is h);
+      ids = ids;
+      distinct = distinct_ids o (krate_ids d.kept.items) b.packages.ascending;
+      kept = λ k z lt. derived_at (metadata_view m) s g (Crate (get_or ids k z)) is ((b.kept (get_or ids k z)).1 (Contains-get_or ids k z lt));
+      many = simp length-map many;
+    }
+
+pub miscount_refused : Compares → (m : Metadata) (s : Setting) (d : Division) (ids : IdsModel) → IsAdmitted (metadata_view m) ids → Builds m s d → (e : Error) → IsMiscount (length d.kept.items) e → IsBuildRefused (metadata_view m) s e
+miscount_refused o m s d ids a b errors.NoResolveGraph h = absurd h
+miscount_refused o m s d ids a b (errors.Metadata inner) h = absurd h
+miscount_refused o m s d ids a b (errors.InvalidPkgSpec t) h = absurd h
+miscount_refused o m s d ids a b errors.NoRootKrates h = absurd h
+miscount_refused o m s d ids a b (errors.InvalidId t) h = absurd h
+miscount_refused o m s d ids a b (errors.Doubled kid) h = absurd h
+miscount_refused o m s d ids a b (errors.Lost what) h = absurd h
+miscount_refused o m s d ids a b errors.TooMany h = (resolvable (metadata_view m) ids a, record { graph = a.graph; has_graph = a.has_graph; holds = miscounted_many o m s d a.graph a.has_graph b h })
+miscount_refused o m s d ids a b errors.Memory h = absurd h

@@ -1,0 +1,148 @@
+-- Lists of ids in order: what a search finds, and which lists are in strict order.
+use Rattle.std.proofs.Common.{◌≡◌, ◌↔◌, ℕ, ◌+◌, ◌<◌, List, [], ◌∷◌, length, get_or, map, true, false, ◌||◌, Result, Ok, Err, is_ok, refl, sym, ap, ◌∙◌, subst, inl, inr, arith, HoldsAt, Ordering, Less, Equal, Greater}
+use Rattle.std.proofs.Math.Bool.{or_comm}
+use Rattle.std.proofs.lemmas.Bool.{cases_lt, cases_order}
+use Rattle.std.proofs.lemmas.List.{get_or-map, length-map}
+use Rattle.std.proofs.lemmas.List.Folds.{list_any_at, list_any_none}
+use Rattle.std.proofs.lemmas.List.Sorted.{searchable_from_sorted}
+use Rattle.std.proofs.lemmas.Map.Keys.{Less-from_sorted}
+use Rattle.std.proofs.lemmas.Option.{slice_get-get_or, get_or_from_slice_get, slice_get_within, slice_get_cases}
+use Rattle.std.specs.Cmp.{IsTotalOrder}
+use Rattle.std.specs.List.Sorted.{IsStrictlySortedBy, IsSorted, IsSortedBy, IsBinarySearchResult, IsSearchInRange, IsPartitionPoint, IsNonDecreasingBy}
+use Rattle.std.specs.Ordering.{is_eq, is_lt, ordering_index, ordering_reverse}
+use Rattle.krates_ids.specs.Identity.{Identity, IsSameId, id_cmp}
+use Rattle.krates_resolve.specs.Facts.{Id}
+use Rattle.krates_resolve.specs.Resolved.{id_of}
+use Rattle.krates_resolve.specs.Table.{StandsAt}
+use Rattle.krates.specs.Division.{has_same, IsAmong}
+use Rattle.krates.specs.Krate.{krate_ids}
+use Rattle.krates.specs.declared.krate.Krate.{Krate}
+use Rattle.krates.proofs.Membership.{Member, member_of, contains_of}
+
+-- the order of ids is total, and tells which are the same
+pub record Compares : Type 0 where
+  pub total : IsTotalOrder id_cmp
+  pub tells : (a b : Identity) → (id_cmp a b ≡ Equal) ↔ IsSameId a b
+
+pub id_of_same : (a b : Identity) → IsSameId a b → id_of a ≡ id_of b
+id_of_same a b s = rw (s.name, s.version, s.source) refl
+
+pub same_of : (a b : Identity) → id_of a ≡ id_of b → IsSameId a b
+same_of a b e = record { name = ap (λ (i : Id). i.name) e; version = ap (λ (i : Id). i.version) e; source = ap (λ (i : Id). i.source) e }
+
+pub equal_of : Compares → (a b : Identity) → id_of a ≡ id_of b → id_cmp a b ≡ Equal
+equal_of o a b e = (o.tells a b).1 (same_of a b e)
+
+pub id_of_equal : Compares → (a b : Identity) → id_cmp a b ≡ Equal → id_of a ≡ id_of b
+id_of_equal o a b e = id_of_same a b ((o.tells a b).0 e)
+
+-- ---- a search in strict order
+
+not_less : (r : Ordering) → r ≡ Less → is_lt (ordering_reverse r) ≡ false
+not_less r e = rw e refl
+
+pub sorted_weakly : Compares → (ids : List Identity) → IsStrictlySortedBy id_cmp ids → IsSorted id_cmp ids
+sorted_weakly o ids s k d low lt =
+    let less : id_cmp (get_or ids k d) (get_or ids (k + 1) d) ≡ Less = Less-from_sorted id_cmp ids k (k + 1) d s (omega arith) lt in
+    ap is_lt (o.total.antisymm (get_or ids (k + 1) d) (get_or ids k d)) ∙ not_less _ less
+
+krates_weakly : (krates : List Krate) → IsSorted id_cmp (krate_ids krates) → IsSortedBy (λ a b. is_lt (id_cmp a.id b.id)) krates
+krates_weakly krates s k d low lt =
+    let at = s k d.id low (rw length-map lt) in
+    let here = get_or-map (λ (x : Krate). x.id) krates k d d.id (omega arith) in
+    let next = get_or-map (λ (x : Krate). x.id) krates (k + 1) d d.id lt in
+    rw (here, next) at at
+
+-- nothing compares as equal where the search found nothing
+pub none_equal : {X : Type 0} (ord : X → Ordering) (xs : List X) (i : ℕ) → IsPartitionPoint (λ y. ord y ≡ Less) (λ y. ord y ≡ Greater) xs i
+    → (k : ℕ) (d : X) → k < length xs → ord (get_or xs k d) ≡ Equal → ⊥
+none_equal ord xs i p k d lt e = elim (cases_lt k i) [
+  | inl below ↦ (let l = p.0 k d (omega arith) below in cc)
+  | inr above ↦ (let g = p.1 k d above lt in cc)
+]
+
+unequal : (r : Ordering) → (r ≡ Equal → ⊥) → is_eq r ≡ false
+unequal Less h = refl
+unequal Equal h = absurd (h refl)
+unequal Greater h = refl
+
+pub found : Compares → (ids : List Identity) (x : Identity) (r : Result ℕ ℕ) → IsStrictlySortedBy id_cmp ids → IsSearchInRange r (length ids)
+    → IsBinarySearchResult (λ y. id_cmp y x) ids r → is_ok r ≡ has_same ids x
+found o ids x (Ok i) s lt at = sym (list_any_at (λ y. is_eq (id_cmp y x)) ids i x lt (ap is_eq (at x)))
+found o ids x (Err i) s le at =
+    let rises : IsNonDecreasingBy (λ y. ordering_index (id_cmp y x)) ids = searchable_from_sorted o.total (λ (y : Identity). y) ids x (sorted_weakly o ids s) in
+    sym (list_any_none (λ y. is_eq (id_cmp y x)) ids (λ k d lt. unequal _ (none_equal (λ y. id_cmp y x) ids i (at rises) k d lt)))
+
+-- ---- places in strict order
+
+-- the same id doesn't stand at an earlier place
+pub not_earlier : Compares → (ids : List Identity) → IsStrictlySortedBy id_cmp ids → (i j : ℕ) (d : Identity) → i < j → j < length ids → id_of (get_or ids i d) ≡ id_of (get_or ids j d) → ⊥
+not_earlier o ids s i j d lt within e =
+    let less = Less-from_sorted id_cmp ids i j d s lt within in
+    let equal = equal_of o (get_or ids i d) (get_or ids j d) e in
+    cc
+
+pub one_place : Compares → (ids : List Identity) → IsStrictlySortedBy id_cmp ids → (i j : ℕ) (d : Identity) → i < length ids → j < length ids → id_of (get_or ids i d) ≡ id_of (get_or ids j d) → i ≡ j
+one_place o ids s i j d li lj e = elim (cases_order i j) [
+  | inl is ↦ is
+  | inr (inl lt) ↦ absurd (not_earlier o ids s i j d lt lj e)
+  | inr (inr gt) ↦ absurd (not_earlier o ids s j i d gt li (sym e))
+]
+
+pub stands : (ids : List Identity) (id : Id) (n : ℕ) (d : Identity) → n < length ids → id_of (get_or ids n d) ≡ id → StandsAt ids id n
+stands ids id n d lt e = record { there = get_or ids n d; at = slice_get-get_or ids n d lt; same = e }
+
+pub stands_within : (ids : List Identity) (id : Id) (n : ℕ) → StandsAt ids id n → n < length ids
+stands_within ids id n h = slice_get_within ids n h.there h.at
+
+pub stands_same : (ids : List Identity) (id : Id) (n : ℕ) (d : Identity) → StandsAt ids id n → id_of (get_or ids n d) ≡ id
+stands_same ids id n d h = ap id_of (get_or_from_slice_get ids n h.there d h.at) ∙ h.same
+
+-- ---- whether an id is among a list
+
+among_step : Compares → (i : Identity) (ids : List Identity) (x : Identity) (r : Ordering) → id_cmp i x ≡ r → (has_same ids x ≡ true → Member (map id_of ids) (id_of x)) → (is_eq r || has_same ids x) ≡ true → Member (map id_of (i ∷ ids)) (id_of x)
+among_step o i ids x Less e more h = inr (more h)
+among_step o i ids x Equal e more h = inl (id_of_equal o i x e)
+among_step o i ids x Greater e more h = inr (more h)
+
+member_same : Compares → (ids : List Identity) (x : Identity) → has_same ids x ≡ true → Member (map id_of ids) (id_of x)
+member_same o [] x h = absurd cc
+member_same o (i ∷ ids) x h = among_step o i ids x (id_cmp i x) refl (member_same o ids x) h
+
+same_member : Compares → (ids : List Identity) (x : Identity) → Member (map id_of ids) (id_of x) → has_same ids x ≡ true
+same_member o [] x m = absurd m
+same_member o (i ∷ ids) x (inl e) = ap (λ r. is_eq r || has_same ids x) (equal_of o i x e)
+same_member o (i ∷ ids) x (inr m) = rw (same_member o ids x m) (or_comm (is_eq (id_cmp i x)) true)
+
+pub is_among : Compares → (ids : List Identity) (x : Identity) → (has_same ids x ≡ true) ↔ IsAmong ids (id_of x)
+is_among o ids x = (λ h. contains_of (map id_of ids) (id_of x) (member_same o ids x h), λ c. same_member o ids x (member_of (map id_of ids) (id_of x) c))
+
+-- ---- an id's place among crates in order
+
+-- the place that the search found
+pub number_found : Compares → (krates : List Krate) (kid : Identity) (place : ℕ) → IsStrictlySortedBy id_cmp (krate_ids krates) → place < length krates
+    → HoldsAt (λ k. id_cmp k.id kid ≡ Equal) krates place → (n : ℕ) → (place ≡ n) ↔ StandsAt (krate_ids krates) (id_of kid) n
+number_found o krates kid place s lt at n =
+    let within : place < length (krate_ids krates) = rw length-map lt in
+    let equal : id_of (get_or (krate_ids krates) place kid) ≡ id_of kid = elim (slice_get_cases krates place).1 [
+      | inl (k, low, got, is) ↦ ap id_of (get_or-map (λ (x : Krate). x.id) krates place k kid lt) ∙ id_of_equal o (get_or krates place k).id kid (at k)
+      | inr past ↦ absurd (omega (arith, past.0))
+    ] in (
+      λ e. subst (λ m. StandsAt (krate_ids krates) (id_of kid) m) e (stands (krate_ids krates) (id_of kid) place kid within equal),
+      λ h. one_place o (krate_ids krates) s place n kid within (stands_within _ _ n h) (equal ∙ sym (stands_same _ _ n kid h)),
+    )
+
+-- the search found none
+pub no_number : Compares → (krates : List Krate) (kid : Identity) (place : ℕ) → IsStrictlySortedBy id_cmp (krate_ids krates)
+    → (IsNonDecreasingBy (λ k. ordering_index (id_cmp k.id kid)) krates → IsPartitionPoint (λ k. id_cmp k.id kid ≡ Less) (λ k. id_cmp k.id kid ≡ Greater) krates place)
+    → (n : ℕ) → StandsAt (krate_ids krates) (id_of kid) n → ⊥
+no_number o krates kid place s parts n h =
+    let lt : n < length krates = simp length-map at (stands_within _ _ n h) in
+    let rises : IsNonDecreasingBy (λ k. ordering_index (id_cmp k.id kid)) krates = searchable_from_sorted o.total (λ (k : Krate). k.id) krates kid (krates_weakly krates (sorted_weakly o (krate_ids krates) s)) in
+    elim (slice_get_cases krates n).1 [
+      | inl (k, low, got, is) ↦ (
+          let same : id_of (get_or krates n k).id ≡ id_of kid = sym (ap id_of (get_or-map (λ (x : Krate). x.id) krates n k kid lt)) ∙ stands_same _ _ n kid h in
+          none_equal (λ (x : Krate). id_cmp x.id kid) krates place (parts rises) n k lt (equal_of o (get_or krates n k).id kid same)
+          )
+      | inr past ↦ absurd (omega (arith, past.0))
+    ]

@@ -1,0 +1,86 @@
+-- Which crates and causes are among the facts of a selection, and of the document and the setting.
+use Rattle.std.proofs.Common.{◌≡◌, ◌↔◌, List, ◌++◌, map, Some, Contains, subst, inl, inr}
+use Rattle.krates_cm.specs.Document.{MetadataModel, ResolveModel}
+use Rattle.krates_resolve.specs.Derivation.{Derivable}
+use Rattle.krates_resolve.specs.Facts.{Id, Cause, Fact, Crate, Lost}
+use Rattle.krates_resolve.specs.Questions.{questions}
+use Rattle.krates_resolve.specs.Resolved.{HasGraphWith, resolved, id_of}
+use Rattle.krates_resolve.specs.Selection.{IsSelection, crate_fact, edge_fact, feature_fact, toggled_fact, facts_of}
+use Rattle.krates_resolve.specs.declared.selection.EnabledFeature.{EnabledFeature}
+use Rattle.krates_resolve.specs.declared.selection.KeptEdge.{KeptEdge}
+use Rattle.krates_resolve.specs.declared.selection.Selection.{Selection}
+use Rattle.krates_resolve.specs.declared.selection.ToggledFeature.{ToggledFeature}
+use Rattle.krates_resolve.specs.declared.setting.Setting.{Setting}
+use Rattle.krates.specs.Build.{IsDerived, IsKept, IsLost}
+use Rattle.krates.specs.Division.{IsAmong}
+use Rattle.krates.proofs.Membership.{Member, member_of, contains_of, mapped_of, member_map, member_append, member_left}
+
+-- ---- the facts of a selection
+
+-- the fact is none of an edge or a feature
+record IsApart (f : Fact) : Type 0 where
+  edge : (e : KeptEdge) → edge_fact e ≡ f → ⊥
+  feature : (e : EnabledFeature) → feature_fact e ≡ f → ⊥
+  toggled : (t : ToggledFeature) → toggled_fact t ≡ f → ⊥
+
+not_mapped : {X : Type 0} (fact : X → Fact) (f : Fact) → ((x : X) → fact x ≡ f → ⊥) → (xs : List X) → Member (map fact xs) f → ⊥
+not_mapped fact f none xs m = let w = mapped_of fact xs f m in none w.from w.is
+
+-- such a fact is one of the crates
+crate_only : (x : Selection) (f : Fact) → IsApart f → Member (facts_of x) f → Member (map crate_fact x.krates.items) f
+crate_only x f apart m = elim (member_append (map crate_fact x.krates.items) _ f m) [
+  | inl here ↦ here
+  | inr more ↦ elim (member_append (map edge_fact x.edges.items) _ f more) [
+    | inl edge ↦ absurd (not_mapped edge_fact f apart.edge x.edges.items edge)
+    | inr rest ↦ elim (member_append (map feature_fact x.features.items) _ f rest) [
+      | inl feature ↦ absurd (not_mapped feature_fact f apart.feature x.features.items feature)
+      | inr toggled ↦ absurd (not_mapped toggled_fact f apart.toggled x.toggled.items toggled)
+    ]
+  ]
+]
+
+crate_apart : (i : Id) → IsApart (Crate i)
+crate_apart i = record { edge = λ e h. cc h; feature = λ e h. cc h; toggled = λ e h. cc h }
+
+lost_apart : (c : Cause) → IsApart (Lost c)
+lost_apart c = record { edge = λ e h. cc h; feature = λ e h. cc h; toggled = λ e h. cc h }
+
+crate_among : (x : Selection) (i : Id) → Contains (facts_of x) (Crate i) → IsAmong x.krates.items i
+crate_among x i c =
+    let w = mapped_of crate_fact x.krates.items (Crate i) (crate_only x (Crate i) (crate_apart i) (member_of (facts_of x) (Crate i) c)) in
+    let same : id_of w.from ≡ i = cc (w.is) in
+    subst (λ z. IsAmong x.krates.items z) same (contains_of (map id_of x.krates.items) (id_of w.from) (member_map id_of x.krates.items w.from w.member))
+
+among_crate : (x : Selection) (i : Id) → IsAmong x.krates.items i → Contains (facts_of x) (Crate i)
+among_crate x i c =
+    let w = mapped_of id_of x.krates.items i (member_of (map id_of x.krates.items) i c) in
+    let m = member_left (map crate_fact x.krates.items) (map edge_fact x.edges.items ++ (map feature_fact x.features.items ++ map toggled_fact x.toggled.items)) (crate_fact w.from) (member_map crate_fact x.krates.items w.from w.member) in
+    subst (λ z. Contains (facts_of x) (Crate z)) w.is (contains_of (facts_of x) (crate_fact w.from) m)
+
+no_lost_among : (x : Selection) (c : Cause) → Contains (facts_of x) (Lost c) → ⊥
+no_lost_among x c h =
+    let w = mapped_of crate_fact x.krates.items (Lost c) (crate_only x (Lost c) (lost_apart c) (member_of (facts_of x) (Lost c) h)) in
+    cc (w.is)
+
+-- ---- the facts of a document
+
+-- of one graph there is one answer
+pub derived_at : (m : MetadataModel) (s : Setting) (g : ResolveModel) (f : Fact) → m.resolve ≡ Some g → IsDerived m s f → Derivable (questions (resolved m g) s) f
+derived_at m s g f is h =
+    let same : h.graph ≡ g = cc (h.has_graph, is) in
+    subst (λ z. Derivable (questions (resolved m z) s) f) same h.holds
+
+pub derived_of : (m : MetadataModel) (s : Setting) (g : ResolveModel) (f : Fact) → m.resolve ≡ Some g → Derivable (questions (resolved m g) s) f → IsDerived m s f
+derived_of m s g f is d = record { graph = g; has_graph = is; holds = d }
+
+abbrev pub Selects : MetadataModel → Setting → Selection → Type 0
+Selects m s x = HasGraphWith m (λ g. IsSelection (resolved m g) s x)
+
+pub kept_among : (m : MetadataModel) (s : Setting) (x : Selection) → Selects m s x → (i : Id) → IsKept m s i ↔ IsAmong x.krates.items i
+kept_among m s x h i = (
+  λ k. crate_among x i ((h.holds.facts (Crate i)).0 (derived_at m s h.graph (Crate i) h.has_graph k)),
+  λ a. derived_of m s h.graph (Crate i) h.has_graph ((h.holds.facts (Crate i)).1 (among_crate x i a)),
+)
+
+pub none_lost : (m : MetadataModel) (s : Setting) (x : Selection) → Selects m s x → (c : Cause) → IsLost m s c → ⊥
+none_lost m s x h c l = no_lost_among x c ((h.holds.facts (Lost c)).0 (derived_at m s h.graph (Lost c) h.has_graph l))

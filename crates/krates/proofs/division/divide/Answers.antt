@@ -1,0 +1,12 @@
+use Rattle.std.proofs.Common.{subst, List, IsPermutation}
+use Rattle.krates.specs.Krate.{paired}
+use Rattle.krates.specs.declared.krate.Krate.{Krate}
+use Rattle.krates.proofs.DivisionLemmas.{if_divides}
+use Rattle.krates.proofs.division.divide.Goals as goal
+
+pub returns : goal.returns
+returns c =
+    let perm : IsPermutation (paired c.args.packages.items c.args.ids.items) c.sort_unstable.new.self.items = subst (λ (ks : List Krate). IsPermutation ks c.sort_unstable.new.self.items) c.in_ok-krates.ensures c.sort_unstable.ensures.permutation in
+    if_divides (record { total = c.comparison.ensures.total; tells = c.comparison.ensures.order }) c.one_reading.ensures.once
+    c.args.packages.items c.args.ids.items c.args.selected.now c.sort_unstable.new.self.items c.divided.result
+    c.requires.read c.requires.distinct perm c.sort_unstable.ensures.sorted c.divided.ensures.kept c.divided.ensures.others

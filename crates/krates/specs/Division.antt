@@ -1,0 +1,29 @@
+-- How packages are divided into the selected ones and the others.
+use Rattle.std.specs.Prelude.{Bool, List, Contains, map}
+use Rattle.std.specs.List.{list_any}
+use Rattle.std.specs.Ordering.{is_eq}
+use Rattle.krates_cm.specs.declared.package.Package.{Package}
+use Rattle.krates_ids.specs.Identity.{Identity, id_cmp}
+use Rattle.krates_resolve.specs.Facts.{Id}
+use Rattle.krates_resolve.specs.Resolved.{id_of}
+use Rattle.krates.specs.Build.{AreThosePackages}
+use Rattle.krates.specs.Krate.{krate_ids, krate_packages}
+use Rattle.krates.specs.declared.division.Division.{Division}
+use Rattle.krates.specs.declared.krate.Krate.{Krate}
+
+-- the id is one of the list
+abbrev pub IsAmong : List Identity → Id → Type 0
+IsAmong ids i = Contains (map id_of ids) i
+
+-- whether one of the list compares as equal to the id
+abbrev pub has_same : List Identity → Identity → Bool
+has_same ids id = list_any (λ i. is_eq (id_cmp i id)) ids
+
+-- whether the crate's id is one of the list
+abbrev pub is_selected : List Identity → Krate → Bool
+is_selected ids k = has_same ids k.id
+
+-- The packages with a selected id, and those without.
+pub record IsDivision (packages : List Package) (selected : List Identity) (d : Division) : Type 0 where
+  pub kept : AreThosePackages packages (IsAmong selected) (krate_ids d.kept.items) (krate_packages d.kept.items)
+  pub others : AreThosePackages packages (λ i. IsAmong selected i → ⊥) (krate_ids d.others.items) (krate_packages d.others.items)

@@ -1,0 +1,4 @@
+pub mod Build
+pub mod Division
+pub mod Kept
+pub mod Krate

@@ -1,0 +1,81 @@
+//! The packages of a document, divided into the selected ones and the others.
+
+ghost use Rattle.std.specs.Prelude.{◌≡◌, IfOk, map, filter, not};
+ghost use Rattle.std.specs.List.{AllZip};
+ghost use Rattle.std.specs.List.Sorted.{IsStrictlySortedBy};
+ghost use Rattle.krates_cm.specs.Document.{id_view};
+ghost use Rattle.krates_ids.specs.Identity.{Reads, id_cmp};
+ghost use Rattle.krates_resolve.specs.AdmissionRefusals.{AreDistinct};
+ghost use Rattle.krates.specs.Division.{IsDivision, has_same, is_selected};
+ghost use Rattle.krates.specs.Krate.{paired};
+
+use crate::krate::Krate;
+use krates_cm::Package;
+use krates_ids::{Kid, laws};
+use std::alloc::{AllocError, Global};
+
+/// The packages of a document with their ids, each list in the order of the ids.
+#[derive(Debug, Drop)]
+pub(crate) struct Division {
+    /// Those that are selected.
+    pub(crate) kept: Vec<Krate>,
+    /// All others.
+    pub(crate) others: Vec<Krate>,
+}
+
+/// Divides the packages, whose ids these are, into those with a selected id and the others.
+pub(crate) fn divide(
+    alloc: Global,
+    packages: Vec<Package>,
+    ids: Vec<Kid>,
+    selected: &[Kid],
+) -> Result<Division, AllocError>
+    requires read { AllZip Reads (map (λ p. id_view p.id) packages.items) ids.items }
+    requires distinct { AreDistinct ids.items }
+    requires ascending { IsStrictlySortedBy id_cmp selected.now }
+    ensures { IfOk result (IsDivision packages.items selected.now) }
+{
+    laws::one_reading();
+    laws::comparison();
+    let mut krates = with_ids(alloc, packages, ids)?;
+    krates.sort_unstable();
+    divided(alloc, krates, selected)
+}
+
+/// Each package with the id at its place.
+fn with_ids(alloc: Global, packages: Vec<Package>, ids: Vec<Kid>) -> Result<Vec<Krate>, AllocError>
+    ensures { IfOk result (λ krates. krates.items ≡ paired packages.items ids.items) }
+{
+    packages
+        .into_iter()
+        .zip(ids)
+        .map(|(pkg, id)| Krate { id, pkg })
+        .collect(alloc)
+}
+
+/// Divides crates, and leaves them in their order.
+fn divided(alloc: Global, krates: Vec<Krate>, selected: &[Kid]) -> Result<Division, AllocError>
+    requires { IsStrictlySortedBy id_cmp selected.now }
+    ensures kept { IfOk result (λ d. d.kept.items ≡ filter (is_selected selected.now) krates.items) }
+    ensures others { IfOk result (λ d. d.others.items ≡ filter (λ k. not (is_selected selected.now k)) krates.items) }
+{
+    let mut kept = Vec::new(alloc);
+    let mut others = Vec::new(alloc);
+    for krate in krates {
+        if has(selected, &krate.id) {
+            kept.push(krate)?;
+        } else {
+            others.push(krate)?;
+        }
+    }
+    Ok(Division { kept, others })
+}
+
+/// Whether an id is one of a list in order.
+fn has(ids: &[Kid], id: &Kid) -> bool
+    requires { IsStrictlySortedBy id_cmp ids.now }
+    ensures { result ≡ has_same ids.now id.now }
+{
+    laws::comparison();
+    ids.binary_search(id).is_ok()
+}

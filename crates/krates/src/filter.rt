@@ -1,0 +1,47 @@
+//! What is told of the packages that aren't kept.
+
+ghost use Rattle.std.specs.Prelude.{◌≡◌};
+ghost use Rattle.std.specs.List.{FoldsTo};
+ghost use Rattle.krates_cm.specs.declared.package.Package.{Package};
+ghost use Rattle.krates.specs.Krate.{krate_packages};
+
+use crate::krate::Krate;
+use krates_cm::Package;
+
+/// What is called with each package that isn't kept.
+pub trait OnFilter {
+    /// Whether the filter may be called in this state.
+    ghost can_filter: { Self → Type 0 } = { λ _. Unit {0} };
+
+    /// How the state before and the package stand to the state after.
+    ghost filters: { Self → Package → Self → Type 0 };
+
+    /// Takes a package that isn't kept, and may be called again.
+    fn filtered(&mut self, pkg: Package)
+        requires { can_filter self.old }
+        ensures step { filters self.old pkg self.new }
+        ensures again { can_filter self.new };
+}
+
+/// Lets each package go.
+#[derive(Clone, Copy, Debug, PartialEq, Eq)]
+pub struct NoneFilter;
+
+impl OnFilter for NoneFilter {
+    ghost filters = { λ old _ new. new ≡ old };
+
+    fn filtered(&mut self, pkg: Package) {
+        drop(pkg);
+    }
+}
+
+/// Hands each package to the filter, in their order.
+pub(crate) fn report<F: OnFilter>(krates: Vec<Krate>, filter: &mut F)
+    requires { F.can_filter filter.old }
+    ensures run { FoldsTo F.filters filter.old (krate_packages krates.items) filter.new }
+    ensures again { F.can_filter filter.new }
+{
+    for krate in krates {
+        filter.filtered(krate.pkg);
+    }
+}

@@ -1,0 +1,127 @@
+//! The crates that a build keeps.
+
+ghost use Rattle.std.specs.Prelude.{◌≡◌, ◌↔◌, ℕ, ◌<◌, ◌^◌, List, Some, length, string_bytes};
+ghost use Rattle.std.specs.Iterator.{YieldsFirstRef, item_count};
+ghost use Rattle.krates_resolve.specs.Resolved.{id_of};
+ghost use Rattle.krates_resolve.specs.Table.{StandsAt};
+ghost use Rattle.krates.specs.Kept.{AreOrdered, kept_crates};
+ghost use Rattle.krates.specs.Krate.{krate_ids};
+
+use crate::krate::Krate;
+use krates_cm::Package;
+use krates_graph::graph::NodeId;
+use krates_ids::{Kid, laws};
+use std::marker::Model;
+
+/// The crates that a build keeps: their ids and their packages in the order of the ids, and the path of the workspace.
+///
+/// The crates are numbered from 0 in this order.
+#[derive(Debug, Drop)]
+pub struct Krates {
+    kept: Vec<Krate>,
+    workspace_root: String,
+}
+
+impl Model for Krates {
+    ghost use Rattle.std.specs.Prelude.{string_bytes};
+    ghost use Rattle.krates.specs.Kept.{KeptCrates, AreOrdered, kept_crates};
+    ghost use Rattle.krates.specs.Krate.{krate_ids};
+
+    ghost Value = { KeptCrates };
+
+    ghost use Rattle.std.specs.Coded.{codes};
+    ghost use Rattle.krates_cm.specs.contracts.package.Package as packages;
+
+    ghost coded = { Prim.hlevel (codes, packages.the_row.coded) };
+
+    ghost view = { λ k. kept_crates k.kept.items (string_bytes k.workspace_root) };
+
+    ghost invariant = { λ k. AreOrdered (krate_ids k.kept.items) };
+}
+
+impl Krates {
+    /// These crates, of a workspace at this path.
+    pub(crate) fn new(kept: Vec<Krate>, workspace_root: String) -> Krates
+        requires { AreOrdered (krate_ids kept.items) }
+        ensures { result ≡ kept_crates kept.items (string_bytes workspace_root) }
+    {
+        Krates {
+            kept,
+            workspace_root,
+        }
+    }
+
+    /// How many crates are kept: at most 4,294,967,295.
+    pub fn len(&self) -> usize
+        ensures count { result ≡ length self.now.ids }
+        ensures numbered { result < 2 ^ 32 }
+    {
+        self.kept.len()
+    }
+
+    /// The packages of the kept crates, by increasing id.
+    pub fn krates(&self) -> KratesIter<'_>
+        ensures packages { result ≡ self.now.packages }
+        ensures ordered { AreOrdered self.now.ids }
+        ensures matched { length self.now.packages ≡ length self.now.ids }
+    {
+        KratesIter {
+            left: self.kept.as_slice(),
+        }
+    }
+
+    /// The number of a crate: `Some` exactly for a kept crate, with its place in the order of the ids.
+    pub fn nid_for_kid(&self, kid: &Kid) -> Option<NodeId>
+        ensures { (n : ℕ) → (result ≡ Some n) ↔ StandsAt self.now.ids (id_of kid.now) n }
+    {
+        laws::comparison();
+        match self.kept.binary_search_by(|krate| krate.id.cmp(kid)) {
+            Ok(place) => Some(NodeId::new(place as u32)),
+            Err(_) => None,
+        }
+    }
+
+    /// The path of the workspace, as the document writes it.
+    pub fn workspace_root(&self) -> &str
+        ensures { result.now ≡ self.now.workspace_root }
+    {
+        self.workspace_root.as_str()
+    }
+}
+
+/// The packages of the kept crates, by increasing id.
+#[derive(Debug, Drop)]
+pub struct KratesIter<'a> {
+    left: &'a [Krate],
+}
+
+impl<'a> Model for KratesIter<'a> {
+    ghost use Rattle.std.specs.Prelude.{List};
+    ghost use Rattle.krates_cm.specs.declared.package.Package.{Package};
+    ghost use Rattle.krates.specs.Krate.{krate_packages};
+
+    ghost Value = { List Package };
+
+    ghost use Rattle.std.specs.Coded.{codes};
+    ghost use Rattle.krates_cm.specs.contracts.package.Package as packages;
+
+    ghost coded = { Prim.hlevel (codes, packages.the_row.coded) };
+
+    ghost view = { λ iter. krate_packages iter.left.now };
+}
+
+impl<'a> Iterator for KratesIter<'a> {
+    type Item = &'a Package;
+
+    ghost next_gives = { YieldsFirstRef (λ left. left) };
+
+    ghost remaining = { item_count (λ left. left) };
+
+    fn next(&mut self) -> Option<&'a Package> {
+        let Some((first, rest)) = self.left.split_first() else {
+            return None;
+        };
+        self.left = rest;
+        Some(&first.pkg)
+    }
+}

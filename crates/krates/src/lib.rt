@@ -1,0 +1,27 @@
+//! Graphs of crates, built from the output of `cargo metadata`: which crates are kept under a setting, and which aren't.
+//!
+//! The items of the crates below are given again under their names, so that a caller needs no other crate.
+#![tactic(auto)]
+
+pub mod builder;
+mod division;
+pub mod filter;
+pub mod kept;
+mod krate;
+
+pub use builder::Builder;
+pub use filter::{NoneFilter, OnFilter};
+pub use kept::{Krates, KratesIter};
+pub use krates_cm as cm;
+pub use krates_cm::{Metadata, Package, PackageId};
+pub use krates_graph::graph::NodeId;
+pub use krates_graph::{agenda, graph};
+pub use krates_ids::{Error, IdError, Kid, Lost};
+pub use krates_text::{cfg, features, path, target};
+
+/// Which documents can be resolved, and what is kept of them.
+pub mod resolve {
+    pub use krates_resolve::{
+        EnabledFeature, Ids, KeptEdge, Selection, Setting, ToggledFeature, admit, select,
+    };
+}

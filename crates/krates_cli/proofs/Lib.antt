@@ -1,0 +1,3 @@
+pub mod CountedLemmas
+pub mod ListingLemmas
+pub mod ReportedLemmas

@@ -1,0 +1,12 @@
+use Rattle.std.proofs.Common.{◌≤◌, ◌-◌, ◌^◌, vec_len}
+use Rattle.std.specs.Io.KnownBytes.{Consumes}
+use Rattle.krates_cli.specs.Counted.{inner_of, failures_of}
+use Rattle.krates_cli.proofs.counted.Counted.read_to_end.Given as goal
+
+abbrev pub invariant-loop-count : goal.invariant-loop-count
+invariant-loop-count g l =
+    Consumes (g.R.Read.remaining (inner_of l.fn.self)) (g.R.Read.remaining (inner_of l.self)) l.bytes.items
+    × (failures_of l.fn.self ≤ failures_of l.self)
+
+abbrev pub decreases-loop-count : goal.decreases-loop-count
+decreases-loop-count g l = 2 ^ 64 - vec_len l.bytes

@@ -1,0 +1,103 @@
+//! All that the program does, over any reader and writers: words, run, refusal and status.
+
+ghost use Rattle.std.specs.Prelude.{◌≡◌, ◌≢◌, ◌≤◌, ◌⊎◌, [], IfOk, IfSome, string_bytes};
+ghost use Rattle.krates_cm.specs.Document.{Text};
+ghost use Rattle.krates_cli.specs.CommandLine.{IsRefusalLine, IsTold, RefusedRun, no_memory_line, usage_line};
+ghost use Rattle.krates_cli.specs.Counted.{HasFailed, inner_of};
+ghost use Rattle.krates_cli.specs.Listing.{WritesListing};
+
+use crate::counted::Counted;
+use crate::listing::run;
+use crate::options::options_of;
+use crate::run_error::RunError;
+use std::alloc::{AllocError, Global};
+use std::io;
+use std::io::{ErrorKind, Read, Write};
+
+const USAGE_LINE: &str =
+    "usage: krates-list [--workspace] [--ignore-kind KIND] [--target TRIPLE] [--exclude SPEC] [--cargo PROGRAM]\n";
+
+const NO_MEMORY_LINE: &str = "refused: out of memory\n";
+
+const DONE: u8 = 0;
+
+const REFUSED: u8 = 1;
+
+const UNKNOWN_WORD: u8 = 2;
+
+/// Does all that `main` does, with the words after the program's name, and answers the exit status: 0 where the lines were
+/// written; 1 where the run was refused, with the cause in a line on `errors`; 2 where a word is unknown, with the usage line
+/// on `errors`.
+///
+/// All words are read before any input. So far every word is unknown.
+pub fn program<R: Read, W: Write, E: Write>(
+    alloc: Global,
+    words: &[String],
+    input: &mut Counted<R>,
+    output: &mut Counted<W>,
+    errors: &mut Counted<E>,
+) -> u8
+    ensures status { result ≤ 2 }
+    ensures known_words { result ≢ 2 → words.now ≡ [] }
+    ensures unknown_word { words.now ≢ [] → (result ≡ 2) × IsTold E.contents errors.old errors.new usage_line }
+    ensures unread { result ≡ 2 → (input.new ≡ input.old) × (output.new ≡ output.old) }
+    ensures listed { result ≡ 0 → IfSome (R.remaining (inner_of input.old)) (λ bytes. WritesListing bytes (W.contents (inner_of output.old)) (W.contents (inner_of output.new))) }
+    ensures silent { result ≡ 0 → errors.new ≡ errors.old }
+    ensures refused { result ≡ 1 → RefusedRun R.remaining E.contents input.old errors.old errors.new }
+    ensures unwritten { result ≡ 1 → (output.new ≡ output.old) ⊎ HasFailed output.old output.new }
+{
+    let Some(options) = options_of(words) else {
+        tell(errors, USAGE_LINE);
+        return UNKNOWN_WORD;
+    };
+    match run(alloc, &options, input, output) {
+        Ok(()) => DONE,
+        Err(error) => {
+            refuse(alloc, &error, errors);
+            REFUSED
+        }
+    }
+}
+
+/// Answers the exit status where the words couldn't be had: 2 and the usage line where one is no text, which is a word that
+/// isn't known; else 1 and a line that memory is wanting.
+pub fn refuse_words<E: Write>(error: &io::Error, errors: &mut Counted<E>) -> u8
+    ensures status { (result ≡ 1) ⊎ (result ≡ 2) }
+    ensures unknown_word { result ≡ 2 → IsTold E.contents errors.old errors.new usage_line }
+    ensures no_memory { result ≡ 1 → IsTold E.contents errors.old errors.new no_memory_line }
+{
+    if error.kind() == ErrorKind::InvalidData {
+        tell(errors, USAGE_LINE);
+        return UNKNOWN_WORD;
+    }
+    tell(errors, NO_MEMORY_LINE);
+    REFUSED
+}
+
+/// Writes the cause of a refusal in a line; where there is no memory for that line, it says so in its place.
+fn refuse<E: Write>(alloc: Global, error: &RunError, errors: &mut Counted<E>)
+    ensures { (line : Text) × IsRefusalLine line × IsTold E.contents errors.old errors.new line }
+{
+    match refusal_line(alloc, error) {
+        Ok(line) => tell(errors, line.as_str()),
+        Err(_) => tell(errors, NO_MEMORY_LINE),
+    }
+}
+
+/// `refused: `, the cause's text, and a newline.
+fn refusal_line(alloc: Global, error: &RunError) -> Result<String, AllocError>
+    ensures { IfOk result (λ line. IsRefusalLine (string_bytes line)) }
+{
+    let cause = error.to_string(alloc)?;
+    let mut line = String::from_str(alloc, "refused: ")?;
+    line.push_str(cause.as_str())?;
+    line.push_str("\n")?;
+    Ok(line)
+}
+
+/// Writes the text. Where that fails there is nowhere to say so.
+fn tell<E: Write>(errors: &mut Counted<E>, text: &str)
+    ensures { IsTold E.contents errors.old errors.new text.now }
+{
+    let _ = errors.write_all(text.as_bytes());
+}

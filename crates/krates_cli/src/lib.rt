@@ -1,0 +1,16 @@
+//! The command line of `krates-list`: what `main` does, over any reader and writers.
+#![tactic(auto)]
+
+pub mod command_line;
+pub mod counted;
+mod lines;
+pub mod listing;
+pub mod options;
+mod reported;
+pub mod run_error;
+
+pub use command_line::{program, refuse_words};
+pub use counted::Counted;
+pub use listing::run;
+pub use options::Options;
+pub use run_error::RunError;

@@ -1,0 +1,32 @@
+//! The lines that are written.
+
+ghost use Rattle.std.specs.Prelude.{◌≡◌, ◌++◌, IfOk, OnOk, string_bytes};
+ghost use Rattle.krates_cli.specs.Lines.{kept_lines, line};
+
+use krates::{Krates, Package};
+use std::alloc::{AllocError, Global};
+
+/// Adds a line: the mark, the id text of the package as the document has it, and a newline.
+pub(crate) fn push_line(lines: &mut String, mark: &str, pkg: &Package) -> Result<(), AllocError>
+    ensures { OnOk result (string_bytes lines.new ≡ string_bytes lines.old ++ line mark.now pkg.now) }
+{
+    lines.push_str(mark)?;
+    lines.push_str(pkg.id.repr.as_str())?;
+    lines.push_str("\n")
+}
+
+/// The lines of the kept crates in the order of their ids, and then those of the others, which are given.
+pub(crate) fn all_lines(
+    alloc: Global,
+    krates: &Krates,
+    reported: &str,
+) -> Result<String, AllocError>
+    ensures { IfOk result (λ lines. string_bytes lines ≡ kept_lines krates.now.packages ++ reported.now) }
+{
+    let mut lines = String::new(alloc);
+    for pkg in krates.krates() {
+        push_line(&mut lines, "+ ", pkg)?;
+    }
+    lines.push_str(reported)?;
+    Ok(lines)
+}

@@ -1,0 +1,58 @@
+//! The run of `krates-list`: from the bytes that come in to the bytes that go out.
+
+ghost use Rattle.std.specs.Prelude.{◌≡◌, ◌≢◌, IfErr, IfOk, IfSome, OnOk, string_bytes};
+ghost use Rattle.krates_cli.specs.Counted.{HasFailed, inner_of};
+ghost use Rattle.krates_cli.specs.Listing.{IsListing, WritesListing};
+ghost use Rattle.krates_cli.specs.ListingRefusals.{IsUnlisted, IsRunRefused};
+ghost use Rattle.krates_cli.specs.declared.run_error.RunError.TheVariants as errors;
+
+use crate::counted::Counted;
+use crate::lines::all_lines;
+use crate::options::Options;
+use crate::reported::Reported;
+use crate::run_error::RunError;
+use krates::Builder;
+use krates::cm::MetadataCommand;
+use std::alloc::Global;
+use std::io::{Read, Write};
+
+/// The lines of a document: those of the kept packages, then those of the others. It is refused as `Parse`, `Build` or
+/// `Memory`.
+fn listing(alloc: Global, options: &Options, text: &str) -> Result<String, RunError>
+    ensures listed { IfOk result (λ lines. IsListing text.now (string_bytes lines)) }
+    ensures refused { IfErr result (IsUnlisted text.now) }
+{
+    // Nothing is set so far; an option that is added has to be heeded here.
+    let Options = options;
+    let metadata = MetadataCommand::parse(alloc, text)?;
+    let mut reported = Reported::new(alloc);
+    let krates = Builder::new(alloc).build_with_metadata(metadata, &mut reported)?;
+    let reported = reported.into_lines()?;
+    Ok(all_lines(alloc, &krates, reported.as_str())?)
+}
+
+/// Reads one document up to the end of the input, builds, and writes a line `+ ` and the id for each kept crate, then a line
+/// `- ` and the id for each other package, both in the order of the ids.
+///
+/// It is refused as `Read`, `Utf8`, `Parse`, `Build` or `Write`, in this order and only where that is true of the reader, of
+/// what was read, or of the writer; `Memory` may stand in place of any answer. The whole text is made before the first byte is
+/// written, so after each refusal but `Write` nothing was written. What was read is gone.
+pub fn run<R: Read, W: Write>(
+    alloc: Global,
+    options: &Options,
+    input: &mut Counted<R>,
+    output: &mut Counted<W>,
+) -> Result<(), RunError>
+    ensures written { OnOk result (IfSome (R.remaining (inner_of input.old)) (λ bytes. WritesListing bytes (W.contents (inner_of output.old)) (W.contents (inner_of output.new)))) }
+    ensures refused { IfErr result (λ e. IfSome (R.remaining (inner_of input.old)) (λ bytes. IsRunRefused bytes e)) }
+    ensures read { result ≡ Err errors.Read → HasFailed input.old input.new }
+    ensures write { result ≡ Err errors.Write → HasFailed output.old output.new }
+    ensures unwritten { IfErr result (λ e. e ≢ errors.Write → output.new ≡ output.old) }
+{
+    let bytes = input.read_to_end(alloc)?;
+    let Ok(text) = String::from_utf8(bytes) else {
+        return Err(RunError::Utf8);
+    };
+    let lines = listing(alloc, options, text.as_str())?;
+    output.write_all(lines.as_bytes())
+}

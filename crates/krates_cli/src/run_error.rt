@@ -1,0 +1,69 @@
+//! Why a run has no answer.
+
+ghost use Rattle.std.specs.Prelude.{◌≡◌};
+ghost use Rattle.krates_cli.specs.declared.run_error.RunError.TheVariants.{Memory};
+
+use krates::Error as BuildError;
+use krates::cm::Error as ParseError;
+use std::alloc::AllocError;
+use thiserror::Error;
+
+/// Why a run wrote no lines, or not all of them.
+///
+/// The first that is true counts: a failed read, then bytes that are no text, a text that is no document, a document that
+/// can't be built, then a failed write. Memory may run out at each of these.
+#[derive(Debug, Drop, Error)]
+pub enum RunError {
+    /// A call of the reader failed.
+    #[error("read failed")]
+    Read,
+    /// What was read is no UTF-8.
+    #[error("input is not UTF-8")]
+    Utf8,
+    /// The text is no document.
+    #[error("{0}")]
+    Parse(ParseError),
+    /// The document has no graph of crates.
+    #[error("{0}")]
+    Build(BuildError),
+    /// A call of the writer failed, or took no byte. Some bytes may have been written.
+    #[error("write failed")]
+    Write,
+    /// Memory ran out.
+    #[error("out of memory")]
+    Memory,
+}
+
+impl From<ParseError> for RunError {
+    ghost use Rattle.krates_cli.specs.RunError.{ParseErrorBecomes};
+
+    ghost from_gives = { ParseErrorBecomes };
+
+    fn from(error: ParseError) -> RunError {
+        match error {
+            ParseError::Memory => RunError::Memory,
+            _ => RunError::Parse(error),
+        }
+    }
+}
+
+impl From<BuildError> for RunError {
+    ghost use Rattle.krates_cli.specs.RunError.{BuildErrorBecomes};
+
+    ghost from_gives = { BuildErrorBecomes };
+
+    fn from(error: BuildError) -> RunError {
+        match error {
+            BuildError::Memory => RunError::Memory,
+            _ => RunError::Build(error),
+        }
+    }
+}
+
+impl From<AllocError> for RunError {
+    ghost from_gives = { λ _ e. e ≡ Memory };
+
+    fn from(_error: AllocError) -> RunError {
+        RunError::Memory
+    }
+}

@@ -1,0 +1,34 @@
+//! `krates-list`: reads the document of `cargo metadata --format-version 1` from standard input, and writes a line for each
+//! package: `+ ` and its id where it is kept, `- ` and its id where nothing needs it.
+#![tactic(auto)]
+
+use krates_cli::{Counted, program, refuse_words};
+use std::process::ExitCode;
+use std::{env, io};
+
+/// The words after the program's name.
+fn words_of(rt: &HostRuntime) -> io::Result<Vec<String>> {
+    let mut words = Vec::new(rt.alloc());
+    for word in env::args(rt)?.skip(1) {
+        words.push(word)?;
+    }
+    Ok(words)
+}
+
+/// Hands the words and the standard streams to the program.
+fn main(rt: HostRuntime) -> ExitCode {
+    let mut input = Counted::new(rt.reader());
+    let mut output = Counted::new(rt.stdout());
+    let mut errors = Counted::new(rt.stderr());
+    let status = match words_of(&rt) {
+        Ok(words) => program(
+            rt.alloc(),
+            words.as_slice(),
+            &mut input,
+            &mut output,
+            &mut errors,
+        ),
+        Err(error) => refuse_words(&error, &mut errors),
+    };
+    ExitCode::from(status)
+}
