@@ -3,7 +3,7 @@
 ghost use Rattle.std.specs.Prelude.{⊤};
 
 use krates::cm::MetadataCommand;
-use krates::{Builder, OnFilter, Package};
+use krates::{Builder, Kid, NoneFilter, OnFilter, Package, PackageId};
 use std::alloc::Global;
 use std::test::Fail;
 
@@ -175,5 +175,26 @@ fn refused(rt: HostRuntime) -> Result<(), Fail> {
         let json = document(rt.alloc(), packages, nodes, members, "null")?;
         assert_eq!(rt; outcome(rt.alloc(), json.as_str())?.as_str(), expected);
     }
+    Ok(())
+}
+
+#[test]
+fn queries_of_kept_crates(rt: HostRuntime) -> Result<(), Fail> {
+    let alloc = rt.alloc();
+    let json = document(alloc, "c|b|a b", "a b|b|c", "a", "null")?;
+    let metadata = MetadataCommand::parse(alloc, json.as_str())?;
+    let krates = Builder::new(alloc).build_with_metadata(metadata, &mut NoneFilter)?;
+    let mut text = format!(in alloc; "{} of {}", krates.len(), krates.workspace_root())?;
+    for name in ["a", "b", "c"] {
+        let repr = format!(in alloc; "path+file:///w/{name}#0.1.0")?;
+        let Ok(kid) = Kid::try_from(PackageId { repr }) else {
+            return Err(Fail::from("no id"));
+        };
+        match krates.nid_for_kid(&kid) {
+            Some(id) => text.push_str(format!(in alloc; " {name}={}", id.index())?.as_str())?,
+            None => text.push_str(" none")?,
+        }
+    }
+    assert_eq!(rt; text.as_str(), "2 of /w a=0 b=1 none");
     Ok(())
 }

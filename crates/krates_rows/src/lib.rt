@@ -15,3 +15,5 @@ mod ids;
 mod listing;
 #[cfg(test)]
 mod reading;
+#[cfg(test)]
+mod selection;
