@@ -6,4 +6,6 @@ pub mod KidLemmas
 pub mod OpaqueLemmas
 pub mod RefusalsLemmas
 pub mod SpansLemmas
+pub mod SpecificationLawLemmas
+pub mod SpecificationLemmas
 pub mod StableLemmas

@@ -3,7 +3,9 @@ pub mod Escapes
 pub mod Identity
 pub mod MetadataError
 pub mod OpaqueParts
+pub mod PackageSpecification
 pub mod Refusals
 pub mod Separators
 pub mod Spans
+pub mod SpecificationAnswers
 pub mod StableParts

@@ -1,10 +1,11 @@
-//! Laws of package ids, for all texts and ids. Each is the contract of a function that does nothing.
+//! Laws of package ids and package specifications, for all texts and ids. Each is the contract of a function that does nothing.
 
-ghost use Rattle.std.specs.Prelude.{◌≡◌, ◌↔◌, true};
+ghost use Rattle.std.specs.Prelude.{◌≡◌, ◌↔◌, ◌⊎◌, true};
 ghost use Rattle.std.specs.Cmp.{IsTotalOrder};
 ghost use Rattle.std.specs.declared.cmp.Ordering.TheVariants.{Equal};
 ghost use Rattle.krates_cm.specs.Document.{Text};
 ghost use Rattle.krates_ids.specs.Identity.{Identity, Reads, NeedsDecoding, Fault, IsFault, IsSameId, same_id, id_cmp, id_hash_input};
+ghost use Rattle.krates_ids.specs.PackageSpecification.{Specification, IsSpec, IsSpecFault};
 
 /// A text is read as at most one id, and a text with a fault as none; it has at most one fault. A text that has an escape to
 /// be decoded is read, so that want of memory never stands in place of a fault.
@@ -24,4 +25,16 @@ pub fn comparison()
     ensures order { (a b : Identity) → (id_cmp a b ≡ Equal) ↔ IsSameId a b }
     ensures total { IsTotalOrder id_cmp }
     ensures hash { (a b : Identity) → IsSameId a b → id_hash_input a ≡ id_hash_input b }
+{}
+
+/// Each text is a package specification or has a refusal, never both; it is at most one specification, and has at most one
+/// refusal.
+pub fn one_specification()
+    ensures either { (t : Text) → ((a : Specification) × IsSpec t a.name a.version a.url) ⊎ ((refusal : Text) × IsSpecFault t refusal) }
+    ensures never_both { (t : Text) (a : Specification) (refusal : Text)
+        → IsSpec t a.name a.version a.url → IsSpecFault t refusal → ⊥ }
+    ensures one { (t : Text) (a b : Specification)
+        → IsSpec t a.name a.version a.url → IsSpec t b.name b.version b.url → a ≡ b }
+    ensures one_refusal { (t : Text) (refusal other : Text)
+        → IsSpecFault t refusal → IsSpecFault t other → refusal ≡ other }
 {}

@@ -8,9 +8,11 @@ mod id_error;
 pub mod kid;
 pub mod laws;
 mod opaque;
+pub mod pkgspec;
 mod span;
 mod stable;
 
 pub use error::{Error, Lost};
 pub use id_error::IdError;
 pub use kid::Kid;
+pub use pkgspec::PkgSpec;

@@ -1,0 +1,6 @@
+use Rattle.krates_ids.proofs.SpecificationLemmas.{Splits-at}
+use Rattle.krates_ids.proofs.pkgspec.split.Goals as goal
+
+pub returns-then-has : goal.returns-then-has
+returns-then-has c =
+    Splits-at _ _ _ _ c.in-Some.ensures (rw c.if-has.true at c.has.ensures) c.cut_first-then-has.ensures
