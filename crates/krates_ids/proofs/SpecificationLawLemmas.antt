@@ -1,6 +1,6 @@
 -- Each text gives exactly one outcome: it is one specification, or has one refusal.
 use Rattle.std.proofs.Common.{◌≡◌, ◌≢◌, ℕ, [], ◌∷◌, ◌++◌, Bool, true, false, refl, sym, ap, ◌∙◌, inl, inr}
-use Rattle.std.specs.Prelude.{◌⊎◌, ◌==◌, if◌then◌else◌, MatchBool, Option, Some, None, Result, Ok, Err, codes}
+use Rattle.std.specs.Prelude.{◌⊎◌, ◌==◌, if◌then◌else◌, MatchBool, Option, Some, None, Result, Ok, Err, IfOk, IfErr, codes}
 use Rattle.std.specs.List.{ends_with}
 use Rattle.std.specs.Str.Iter.{HasSubslice}
 use Rattle.std.proofs.lemmas.Bool.{cases_eq}
@@ -8,6 +8,10 @@ use Rattle.krates_cm.specs.Document.{Text}
 use Rattle.krates_ids.specs.Cuts.{Lacks, FirstAt, LastAt}
 use Rattle.krates_ids.specs.PackageSpecification.{Specification, Outcome, SplitAt, IsUnsplit, FragmentGives, HasScheme, PathGives, UrlGives, UrlAloneGives, WithFragment, AroundHashGives, UrlTextGives, LocatedGives, Gives, IsSpec, IsSpecFault, both_sides, checked_name, url_alone, whole_fragment, ends_with_slash, ends_with_hash, missing_scheme, missing_path, default_scheme}
 use Rattle.krates_ids.specs.Separators.{hash_sign, slash, colon, at_sign}
+use Rattle.krates_ids.specs.SpecificationAnswers.{spec_view, IsRefusedBy, Answers}
+use Rattle.krates_ids.specs.declared.error.Error.{Error}
+use Rattle.krates_ids.specs.declared.error.Error.TheVariants as errors
+use Rattle.krates_ids.specs.declared.pkgspec.PkgSpec.{PkgSpec}
 use Rattle.krates_ids.proofs.CutsLemmas.{Lacks-middle, FirstAt-lacks, FirstAt-once, LastAt-once}
 use Rattle.krates_ids.proofs.SpecificationLemmas.{HasScheme-slash}
 
@@ -282,3 +286,26 @@ pub IsSpec-or_fault : (t : Text) → ((a : Specification) × IsSpec t a.name a.v
 IsSpec-or_fault t =
     let o = Gives-some t in
     either_of t o.0 o.1
+
+-- ---- what reading answers
+
+-- a text that is a specification is refused for want of memory only
+spec_error : (t : Text) (e : Error) → IsRefusedBy (λ refusal. Gives t (Err refusal)) e → (a : Specification) → IsSpec t a.name a.version a.url → e ≡ errors.Memory
+spec_error t (errors.InvalidPkgSpec refusal) h a k = absurd (IsSpec-no_fault t a refusal.now k h)
+spec_error t errors.Memory h a k = refl
+spec_error t errors.NoResolveGraph h a k = absurd h
+spec_error t (errors.Metadata cause) h a k = absurd h
+spec_error t errors.NoRootKrates h a k = absurd h
+spec_error t (errors.InvalidId id) h a k = absurd h
+spec_error t (errors.Doubled id) h a k = absurd h
+spec_error t (errors.Lost lost) h a k = absurd h
+spec_error t errors.TooMany h a k = absurd h
+
+pub Answers-spec : (t : Text) (r : Result PkgSpec Error) → Answers spec_view (Gives t) r → (a : Specification) → IsSpec t a.name a.version a.url → IfErr r (λ e. e ≡ errors.Memory)
+Answers-spec t (Ok s) h a k = tt
+Answers-spec t (Err e) h a k = spec_error t e h a k
+
+-- a text that has a refusal is not read
+pub Answers-fault : (t : Text) (r : Result PkgSpec Error) → Answers spec_view (Gives t) r → (refusal : Text) → IsSpecFault t refusal → IfOk r (λ _. ⊥)
+Answers-fault t (Ok s) h refusal k = IsSpec-no_fault t (spec_view s) refusal h k
+Answers-fault t (Err e) h refusal k = tt

@@ -103,7 +103,7 @@ abbrev pub both_sides : Option Text → Text → Text → Outcome
 both_sides url name [] = Err ends_with_separator
 both_sides url name (b ∷ rest) = name_then_version url name (b ∷ rest)
 
--- a fragment that is split is a name and a version; what is it whole?
+-- a fragment that is split is a name and a version; one that is not gives the outcome that is said for it whole
 abbrev pub FragmentGives : Option Text → Outcome → Text → Outcome → Type 0
 FragmentGives url whole fragment outcome = (IsUnsplit fragment × (outcome ≡ whole))
     ⊎ ((name version : Text) × SplitAt fragment name version × (outcome ≡ both_sides url name version))

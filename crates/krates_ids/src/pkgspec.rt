@@ -2,11 +2,12 @@
 
 ghost use Rattle.std.specs.Prelude.{◌≡◌, ◌++◌, ◌↔◌, IsTrue, IfOk, IfErr, IfSome, MatchBool, Ok, Err, Some, None, option_map, string_bytes};
 ghost use Rattle.semver.specs.Identifiers.{parts_of};
-ghost use Rattle.krates_cm.specs.Document.{source_view, package_view};
+ghost use Rattle.krates_cm.specs.Document.{Text, source_view, package_view};
 ghost use Rattle.krates_cm.specs.Names.{version_named};
 ghost use Rattle.krates_ids.specs.Escapes.{Tells};
 ghost use Rattle.krates_ids.specs.PackageSpecification as grammar;
-ghost use Rattle.krates_ids.specs.PackageSpecification.{specification, checked_name, name_then_version, version_then_name, both_sides, whole_fragment, AloneGives, AfterUrlGives, HasScheme, UrlGives, UrlTextGives, IsSpec, IsSpecFault, SpecFits};
+ghost use Rattle.krates_ids.specs.PackageSpecification.{Specification, specification, Gives, checked_name, name_then_version, version_then_name, both_sides, whole_fragment, AloneGives, AfterUrlGives, HasScheme, UrlGives, UrlTextGives, IsSpec, IsSpecFault, SpecFits};
+ghost use Rattle.krates_ids.specs.declared.error.Error.TheVariants.{Memory};
 ghost use Rattle.krates_ids.specs.SpecificationAnswers.{spec_view, given, IsRefusedBy, Answers, version_outcome, Splits, FindsUrl};
 
 use crate::cuts::{cut_first, cut_last, has};
@@ -40,15 +41,11 @@ impl PkgSpec {
         ensures read { IfOk result (λ spec. IsSpec text.now
             (string_bytes spec.name) (option_map parts_of spec.version) (option_map string_bytes spec.url)) }
         ensures refused { IfErr result (λ error. IsRefusedBy (IsSpecFault text.now) error) }
+        ensures only_memory { (spec : Specification) → IsSpec text.now spec.name spec.version spec.url
+            → IfErr result (λ error. error ≡ Memory) }
+        ensures not_read { (refusal : Text) → IsSpecFault text.now refusal → IfOk result (λ _. ⊥) }
     {
-        if !has(text, '/') {
-            return alone(alloc, text);
-        }
-        if has_scheme(text) {
-            return located(alloc, text);
-        }
-        let text = format!(in alloc; "cargo://{text}")?;
-        located(alloc, text.as_str())
+        read(alloc, text)
     }
 
     /// Whether the package is meant: its name is equal, its version is equal in all five parts where one is given, and the url
@@ -62,6 +59,20 @@ impl PkgSpec {
             && version_fits(&self.version, &pkg.version)
             && url_fits(&self.url, &pkg.source)
     }
+}
+
+/// Reads a specification.
+fn read(alloc: Global, text: &str) -> Result<PkgSpec, Error>
+    ensures { Answers spec_view (Gives text.now) result }
+{
+    if !has(text, '/') {
+        return alone(alloc, text);
+    }
+    if has_scheme(text) {
+        return located(alloc, text);
+    }
+    let text = format!(in alloc; "cargo://{text}")?;
+    located(alloc, text.as_str())
 }
 
 /// The specification of these parts.

@@ -17,3 +17,5 @@ mod listing;
 mod reading;
 #[cfg(test)]
 mod selection;
+#[cfg(test)]
+mod specifications;

@@ -1,17 +1,21 @@
-use Rattle.std.proofs.Common.{◌∙◌}
 use Rattle.krates_ids.specs.PackageSpecification.{Gives}
-use Rattle.krates_ids.specs.SpecificationAnswers.{Answers, spec_view}
-use Rattle.krates_ids.proofs.SpecificationLemmas.{Answers-map, Answers-ok, Answers-err, Gives-cargo}
+use Rattle.krates_ids.specs.SpecificationAnswers.{spec_view}
+use Rattle.krates_ids.proofs.SpecificationLemmas.{Answers-ok, Answers-err}
+use Rattle.krates_ids.proofs.SpecificationLawLemmas.{Answers-spec, Answers-fault}
 use Rattle.krates_ids.proofs.pkgspec.PkgSpec.from_str.Goals as goal
 
-answers : (c : goal.After-drop-text) → Answers spec_view (Gives c.args.text.now) c.located-2.result
-answers c =
-    Answers-map _ _ _ _
-    (Gives-cargo _ _ (c.as_str.ensures.value ∙ c.in_ok-text.ensures.ok) (rw c.if-not-has.false at c.has.ensures) (rw c.if-has_scheme.false at c.has_scheme.ensures))
-    c.located-2.ensures
-
 pub returns-clause-read : goal.returns-clause-read
-returns-clause-read c = Answers-ok spec_view (Gives c.args.text.now) c.located-2.result (answers c)
+returns-clause-read c =
+    Answers-ok spec_view (Gives c.args.text.now) c.read.result c.read.ensures
 
 pub returns-clause-refused : goal.returns-clause-refused
-returns-clause-refused c = Answers-err spec_view (Gives c.args.text.now) c.located-2.result (answers c)
+returns-clause-refused c =
+    Answers-err spec_view (Gives c.args.text.now) c.read.result c.read.ensures
+
+pub returns-clause-only_memory : goal.returns-clause-only_memory
+returns-clause-only_memory c =
+    Answers-spec c.args.text.now c.read.result c.read.ensures
+
+pub returns-clause-not_read : goal.returns-clause-not_read
+returns-clause-not_read c =
+    Answers-fault c.args.text.now c.read.result c.read.ensures
