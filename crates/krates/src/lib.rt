@@ -16,7 +16,7 @@ pub use krates_cm as cm;
 pub use krates_cm::{Metadata, Package, PackageId};
 pub use krates_graph::graph::NodeId;
 pub use krates_graph::{agenda, graph};
-pub use krates_ids::{Error, IdError, Kid, Lost};
+pub use krates_ids::{Error, IdError, Kid, Lost, PkgSpec};
 pub use krates_text::{cfg, features, path, target};
 
 /// Which documents can be resolved, and what is kept of them.
