@@ -1,11 +1,16 @@
 pub mod ComparisonLemmas
+pub mod CorrectedLemmas
+pub mod CorrectionLemmas
 pub mod CutsLemmas
 pub mod EscapesLemmas
 pub mod IdentityLemmas
+pub mod IndexLemmas
 pub mod KidLemmas
 pub mod OpaqueLemmas
+pub mod ReferencesLemmas
 pub mod RefusalsLemmas
 pub mod SpansLemmas
 pub mod SpecificationLawLemmas
 pub mod SpecificationLemmas
 pub mod StableLemmas
+pub mod TwiceLemmas

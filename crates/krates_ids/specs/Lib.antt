@@ -1,3 +1,4 @@
+pub mod Correction
 pub mod Cuts
 pub mod Escapes
 pub mod Identity

@@ -1,9 +1,10 @@
-//! Laws of package ids and package specifications, for all texts and ids. Each is the contract of a function that does nothing.
+//! Laws of package ids, package specifications and index correction, for all texts, ids and packages. Each is the contract of a function that does nothing.
 
 ghost use Rattle.std.specs.Prelude.{◌≡◌, ◌↔◌, ◌⊎◌, true};
 ghost use Rattle.std.specs.Cmp.{IsTotalOrder};
 ghost use Rattle.std.specs.declared.cmp.Ordering.TheVariants.{Equal};
-ghost use Rattle.krates_cm.specs.Document.{Text};
+ghost use Rattle.krates_cm.specs.Document.{Text, PackageModel};
+ghost use Rattle.krates_ids.specs.Correction.{named, IndexModel, IsCorrected};
 ghost use Rattle.krates_ids.specs.Identity.{Identity, Reads, NeedsDecoding, Fault, IsFault, IsSameId, same_id, id_cmp, id_hash_input};
 ghost use Rattle.krates_ids.specs.PackageSpecification.{Specification, IsSpec, IsSpecFault};
 
@@ -37,4 +38,10 @@ pub fn one_specification()
         → IsSpec t a.name a.version a.url → IsSpec t b.name b.version b.url → a ≡ b }
     ensures one_refusal { (t : Text) (refusal other : Text)
         → IsSpecFault t refusal → IsSpecFault t other → refusal ≡ other }
+{}
+
+/// A package that is corrected again by the same answer keeps all features as they are.
+pub fn correcting_twice()
+    ensures { (index : IndexModel) (before once again : PackageModel) → IsCorrected index before once → IsCorrected index once again
+        → (name : Text) → named again.features name ≡ named once.features name }
 {}

@@ -1,10 +1,12 @@
 //! Package ids: the text that cargo gives a package, taken apart into name, version and source.
 #![tactic(auto)]
 
+mod corrected_features;
 mod cuts;
 pub mod error;
 mod escapes;
 mod id_error;
+pub mod index;
 pub mod kid;
 pub mod laws;
 mod opaque;
@@ -14,5 +16,9 @@ mod stable;
 
 pub use error::{Error, Lost};
 pub use id_error::IdError;
+pub use index::{
+    BuildIndexCache, CachingIndex, FeaturesMap, IndexAnswer, IndexKrate, IndexKrateVersion,
+    PackageNames,
+};
 pub use kid::Kid;
 pub use pkgspec::PkgSpec;

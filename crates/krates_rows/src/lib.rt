@@ -8,6 +8,8 @@ mod admission;
 #[cfg(test)]
 mod building;
 #[cfg(test)]
+mod correction;
+#[cfg(test)]
 mod documents;
 #[cfg(test)]
 mod ids;

@@ -1,0 +1,99 @@
+-- To correct twice is to correct once.
+use Rattle.std.proofs.Common.{◌≡◌, ◌⊎◌, inl, inr, ℕ, List, [], ◌∷◌, Option, Some, None, refl, sym, ap, ◌∙◌, subst, arith, Contains, slice_get}
+use Rattle.std.proofs.lemmas.Bool.{cases_order}
+use Rattle.std.proofs.lemmas.List.Elements.{Contains-push_cases}
+use Rattle.std.proofs.lemmas.Option.{same_Some}
+use Rattle.krates_cm.specs.Document.{Text, VersionModel, FeaturesModel, PackageModel}
+use Rattle.krates_text.specs.FeatureReference.{IsReference, simple}
+use Rattle.krates_ids.specs.Correction.{named, or_else, joined, Refers, dependency_reference, IsCorrection, IndexModel, IndexVersionModel, IsFirstEqual, IsIndexed, IsCorrected, unknown, known, with_features}
+use Rattle.krates_ids.proofs.CorrectedLemmas.{some_is_not_none}
+
+-- what is there or not
+seen : {A : Type 0} (found : Option A) → ((x : A) × (found ≡ Some x)) ⊎ (found ≡ None)
+seen None = inr refl
+seen (Some x) = inl (x, refl)
+
+-- what is joined is there
+joined_stays : (manifest index corrected : FeaturesModel) → IsCorrection manifest index corrected → (name : Text) (values : List Text) → joined manifest index name ≡ Some values → named corrected name ≡ Some values
+joined_stays manifest index corrected is name values e =
+    elim (seen (named manifest name)) [
+      | inl there ↦ is.kept name values (there.1 ∙ sym (ap (λ x. or_else x (named index name)) there.1) ∙ e)
+      | inr none ↦ is.added name values none (sym (ap (λ x. or_else x (named index name)) none) ∙ e)
+    ]
+
+-- what is absent was joined from neither
+joined_absent : (manifest index corrected : FeaturesModel) → IsCorrection manifest index corrected → (name : Text) → named corrected name ≡ None → joined manifest index name ≡ None
+joined_absent manifest index corrected is name e =
+    elim (seen (joined manifest index name)) [
+      | inl there ↦ absurd (some_is_not_none (named corrected name) there.0 (joined_stays manifest index corrected is name there.0 there.1) e)
+      | inr none ↦ none
+    ]
+
+second_absent : {A : Type 0} (first other : Option A) → or_else first other ≡ None → other ≡ None
+second_absent None other e = e
+second_absent (Some x) other e = absurd cc
+
+-- the reference that is added is no simple one
+not_plain : (feature name : Text) → Contains (dependency_reference feature ∷ []) name → IsReference name (simple name) → ⊥
+not_plain feature name among plain =
+    elim (Contains-push_cases [] (dependency_reference feature) name among) [
+      | inl none ↦ let below = none.1 in omega arith
+      | inr same ↦ plain.0 (record { rest = feature; is = sym same })
+    ]
+
+-- nothing more is referred to after a correction
+no_more : (manifest index once : FeaturesModel) → IsCorrection manifest index once → (name : Text) → named once name ≡ None → Refers (joined once index) name → ⊥
+no_more manifest index once is name absent r =
+    elim (seen (named once r.feature)) [
+      | inr none ↦ some_is_not_none (named index r.feature) r.values (sym (ap (λ x. or_else x (named index r.feature)) none) ∙ r.is)
+          (second_absent (named manifest r.feature) (named index r.feature) (joined_absent manifest index once is r.feature none))
+      | inl there ↦
+          let here : named once r.feature ≡ Some r.values = there.1 ∙ sym (ap (λ x. or_else x (named index r.feature)) there.1) ∙ r.is in
+          elim (seen (joined manifest index r.feature)) [
+            | inl before ↦
+                let same : joined manifest index r.feature ≡ Some r.values = before.1 ∙ sym (joined_stays manifest index once is r.feature before.0 before.1) ∙ here in
+                some_is_not_none (named once name) (dependency_reference name ∷ [])
+                (is.referred name (joined_absent manifest index once is name absent) (record { feature = r.feature; values = r.values; is = same; among = r.among; plain = r.plain })) absent
+            | inr new ↦
+                some_is_not_none (named once r.feature) r.values here
+                (is.no_other r.feature new (λ again. let values : r.values ≡ dependency_reference r.feature ∷ [] = same_Some _ _ (sym here ∙ is.referred r.feature new again) in
+                not_plain r.feature name (subst (λ vs. Contains vs name) values r.among) r.plain))
+          ]
+    ]
+
+pub twice : (manifest index once again : FeaturesModel) → IsCorrection manifest index once → IsCorrection once index again → (name : Text) → named again name ≡ named once name
+twice manifest index once again first second name =
+    elim (seen (named once name)) [
+      | inl there ↦ second.kept name there.0 there.1 ∙ sym there.1
+      | inr none ↦
+          second.no_other name (ap (λ x. or_else x (named index name)) none ∙ second_absent (named manifest name) (named index name) (joined_absent manifest index once first name none)) (no_more manifest index once first name none)
+          ∙ sym none
+    ]
+
+-- there is one first version
+one_first : (versions : List IndexVersionModel) (version : VersionModel) (j k : ℕ) (a b : FeaturesModel) → IsFirstEqual versions version j a → IsFirstEqual versions version k b → a ≡ b
+one_first versions version j k a b p q = elim (cases_order j k) [
+  | inl e ↦
+      let same : p.found ≡ q.found = same_Some p.found q.found (sym p.here ∙ ap (λ n. slice_get versions n) e ∙ q.here) in
+      sym p.has_features ∙ ap (λ v. v.features) same ∙ q.has_features
+  | inr r ↦ elim r [ inl lt ↦ absurd (q.first j p.found lt p.here p.is_version) | inr lt ↦ absurd (p.first k q.found lt q.here q.is_version) ]
+]
+
+-- the features that the index has of a package are one
+one_indexed : (index : IndexModel) (pkg : PackageModel) (a b : FeaturesModel) → IsIndexed index pkg a → IsIndexed index pkg b → a ≡ b
+one_indexed index pkg a b p q =
+    let same : p.version.0 ≡ q.version.0 = same_Some _ _ (same_Some _ _ (sym p.version.2 ∙ q.version.2)) in
+    one_first q.version.0 pkg.version p.version.1 q.version.1 a b (subst (λ vs. IsFirstEqual vs pkg.version p.version.1 a) same p.version.3) q.version.3
+
+-- the index has the same of a package with other features
+indexed_before : (index : IndexModel) (before : PackageModel) (features found : FeaturesModel) → IsIndexed index (with_features before features) found → IsIndexed index before found
+indexed_before index before features found i = record { source = i.source; version = i.version }
+
+pub corrected_twice : (index : IndexModel) (before once again : PackageModel) → IsCorrected index before once → IsCorrected index once again → (name : Text) → named again.features name ≡ named once.features name
+corrected_twice index before once again first (unknown not same) name = ap (λ p. named p.features name) same
+corrected_twice index before once again (unknown not is) (known features indexed done same) name =
+    absurd (not features (subst (λ p. IsIndexed index p features) is indexed))
+corrected_twice index before once again (known features indexed done is) (known later indexed_again done_again same) name =
+    let there = indexed_before index before once.features later (subst (λ p. IsIndexed index p later) is indexed_again) in
+    let one : later ≡ features = one_indexed index before later features there indexed in
+    twice before.features features once.features again.features done (subst (λ f. IsCorrection once.features f again.features) one done_again) name
