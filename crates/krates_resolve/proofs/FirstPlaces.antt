@@ -2,7 +2,7 @@
 use Rattle.std.proofs.Common.{◌≡◌, inl, inr, ℕ, ◌<◌, List, length, get_or, map, sym, ap, ◌∙◌, subst, arith, Option, Some, None, slice_get, option_map, MatchOption, HoldsAt, Contains}
 use Rattle.std.proofs.lemmas.Option.{none-some, same_Some, slice_get-map, slice_get-get_or, slice_get_cases}
 use Rattle.std.specs.List.{AllWithin}
-use Rattle.krates_resolve.specs.DeclaredDependency.{FirstAt}
+use Rattle.krates_resolve.specs.DeclaredDependency.{FirstAt, IsFirstPlace}
 
 -- what is seen at a place is an element of the list there
 pub seen_at : {A B : Type 0} (f : A → B) (xs : List A) (k : ℕ) (y : B) → slice_get (map f xs) k ≡ Some y → (x : A) × (k < length xs) × (f (get_or xs k x) ≡ y)
@@ -30,17 +30,13 @@ first_here f P xs i lt holds none =
       | inr r ↦ absurd (omega arith)
     ]
 
--- there is no first one, where none has the property
-none_first : {A B : Type 0} (f : A → B) (P : B → Type 0) (xs : List A) → AllWithin (λ x. P (f x) → ⊥) xs 0 (length xs) → (k : ℕ) (y : B) → FirstAt P (map f xs) k y → ⊥
-none_first f P xs none k y first =
-    let s = seen_at f xs k y first.here in
-    none k s.0 (omega arith) s.1 (subst P (sym s.2) first.holds)
-
 -- what `position` answers of a list, said of what is seen
 pub first_place : {A B : Type 0} (f : A → B) (P : B → Type 0) (xs : List A) (r : Option ℕ)
     → MatchOption r (AllWithin (λ x. P (f x) → ⊥) xs 0 (length xs)) (λ i. (i < length xs) × HoldsAt (λ x. P (f x)) xs i × AllWithin (λ x. P (f x) → ⊥) xs 0 i)
-    → MatchOption r ((k : ℕ) (y : B) → FirstAt P (map f xs) k y → ⊥) (λ i. (y : B) × FirstAt P (map f xs) i y)
-first_place f P xs None none = none_first f P xs none
+    → IsFirstPlace P (map f xs) r
+first_place f P xs None none = λ k y here p.
+    let s = seen_at f xs k y here in
+    none k s.0 (omega arith) s.1 (subst P (sym s.2) p)
 first_place f P xs (Some i) found = first_here f P xs i found.0 found.1 found.2
 
 -- ---- where the place is looked for of an element that is there

@@ -15,7 +15,7 @@ use Rattle.krates_resolve.specs.Resolved.{Resolved, id_of, ReadsAs}
 use Rattle.krates_resolve.specs.Selection.{edge_view, IsPlaced}
 use Rattle.krates_resolve.specs.declared.found.Found.{Found}
 use Rattle.krates_resolve.specs.declared.selection.KeptEdge.{KeptEdge}
-use Rattle.krates_resolve.specs.declared.setting.Setting.{Setting}
+use Rattle.krates_resolve.specs.Setting.{SettingModel}
 use Rattle.krates_resolve.proofs.AdmissionLemmas.{ReadsOnce}
 use Rattle.krates_resolve.proofs.Entries.{child_derivable}
 
@@ -64,17 +64,17 @@ grows_refl r x = record { found = λ f h. h; put = λ k place h. h; taken = refl
 pub grows_trans : (r : Resolved) (x y z : Found) → Grows r x y → Grows r y z → Grows r x z
 grows_trans r x y z g h = record { found = λ f a. h.found f (g.found f a); put = λ k place a. h.put k place (g.put k place a); taken = h.taken ∙ g.taken }
 
-pub advances_refl : (r : Resolved) (s : Setting) (x : Found) → IsSound r s x → Advances r s x x
+pub advances_refl : (r : Resolved) (s : SettingModel) (x : Found) → IsSound r s x → Advances r s x x
 advances_refl r s x sound = record { sound = sound; grows = grows_refl r x }
 
-pub advances_trans : (r : Resolved) (s : Setting) (x y z : Found) → Advances r s x y → Advances r s y z → Advances r s x z
+pub advances_trans : (r : Resolved) (s : SettingModel) (x y z : Found) → Advances r s x y → Advances r s y z → Advances r s x z
 advances_trans r s x y z a b = record { sound = b.sound; grows = grows_trans r x y z a.grows b.grows }
 
 -- what stood in it stands in it
-pub tried_grows : (r : Resolved) (s : Setting) (x y : Found) (e : Edge) → Grows r x y → IsTried r s x e → IsTried r s y e
+pub tried_grows : (r : Resolved) (s : SettingModel) (x y : Found) (e : Edge) → Grows r x y → IsTried r s x e → IsTried r s y e
 tried_grows r s x y e g t = record { kept = λ d w o st. g.found (Kept e) (t.kept d w o st); declared = t.declared; has_package = t.has_package; has_node = t.has_node }
 
-pub rooted_grows : (r : Resolved) (s : Setting) (x y : Found) (i : Id) → Grows r x y → IsRooted r s x i → IsRooted r s y i
+pub rooted_grows : (r : Resolved) (s : SettingModel) (x y : Found) (i : Id) → Grows r x y → IsRooted r s x i → IsRooted r s y i
 rooted_grows r s x y i g t = record { kept = λ st. g.found (Crate i) (t.kept st); has_package = t.has_package; has_node = t.has_node }
 
 -- ---- one more crate
@@ -95,7 +95,7 @@ crate_from once r old new place i j p n h = elim (put_from old.agenda new.agenda
   | inr e ↦ inr (one_id once r j i h.place h.node (subst (λ (k : ℕ). NodeAt r i k) e n))
 ]
 
-pub root_advances : ReadsOnce → (r : Resolved) (s : Setting) (old new : Found) (place : ℕ) (i : Id) → IsSound r s old → new.edges ≡ old.edges → HasPut old.agenda new.agenda place
+pub root_advances : ReadsOnce → (r : Resolved) (s : SettingModel) (old new : Found) (place : ℕ) (i : Id) → IsSound r s old → new.edges ≡ old.edges → HasPut old.agenda new.agenda place
     → NodeAt r i place → Derivable (questions r s) (Crate i) → Advances r s old new × HasFound r new (Crate i)
 root_advances once r s old new place i sound same p n d =
     let items = ap (λ v. v.items) same in
@@ -137,7 +137,7 @@ edge_keeps old new x e more h =
 edge_there : (old new : Found) (x : KeptEdge) → new.edges.items ≡ old.edges.items ++ x ∷ [] → Contains (map edge_view new.edges.items) (edge_view x)
 edge_there old new x more = subst (λ (es : List Edge). Contains es (edge_view x)) (sym (ap (map edge_view) more ∙ map-append edge_view old.edges.items (x ∷ []))) (Contains-push (map edge_view old.edges.items) (edge_view x))
 
-pub edge_advances : ReadsOnce → (r : Resolved) (s : Setting) (old new : Found) (x : KeptEdge) (place : ℕ) → IsSound r s old → new.edges.items ≡ old.edges.items ++ x ∷ [] → HasPut old.agenda new.agenda place
+pub edge_advances : ReadsOnce → (r : Resolved) (s : SettingModel) (old new : Found) (x : KeptEdge) (place : ℕ) → IsSound r s old → new.edges.items ≡ old.edges.items ++ x ∷ [] → HasPut old.agenda new.agenda place
     → NodeAt r (edge_view x).child place → IsPlaced r s x → Derivable (questions r s) (Kept (edge_view x)) → Advances r s old new × HasFound r new (Kept (edge_view x))
 edge_advances once r s old new x place sound more p n placed d =
     let grown = found_grows r old new (λ k h. put_keeps old.agenda new.agenda place k p h) (λ e h. edge_keeps old new x e more h) in

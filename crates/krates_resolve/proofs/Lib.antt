@@ -1,5 +1,6 @@
 pub mod AdmissionLemmas
 pub mod Declared
+pub mod DeclaredOnce
 pub mod DerivationLaws
 pub mod DistinctIds
 pub mod EdgeGrowth
@@ -9,6 +10,7 @@ pub mod Growth
 pub mod Lookups
 pub mod NodeParts
 pub mod OnlyOne
+pub mod Passing
 pub mod RootLemmas
 pub mod Saturated
 pub mod Seen

@@ -1,15 +1,17 @@
 -- Look-ups by the list of ids are look-ups in the document.
-use Rattle.std.proofs.Common.{◌≡◌, ℕ, zero, suc, List, [], ◌∷◌, map, Option, Some, None, option_map, refl, sym, ap, ◌∙◌, subst, Contains}
+use Rattle.std.proofs.Common.{◌≡◌, ℕ, zero, suc, List, [], ◌∷◌, map, Option, Some, None, option_map, refl, sym, ap, ◌∙◌, subst, Contains, is_some}
 use Rattle.std.proofs.lemmas.Option.{slice_get-map, slice_get-get_or}
 use Rattle.std.specs.List.{AllZip, slice_get}
 use Rattle.krates_cm.specs.Document.{Text, PackageModel, NodeModel}
 use Rattle.krates_ids.specs.Identity.{Identity, Reads}
 use Rattle.krates_resolve.specs.Facts.{Id}
 use Rattle.krates_resolve.specs.Admission.{package_texts, node_texts}
-use Rattle.krates_resolve.specs.Lookup.{IsPackagePlace, IsNodePlace}
+use Rattle.krates_resolve.specs.Lookup.{IsPackagePlace, IsNodePlace, TellsMember}
 use Rattle.krates_resolve.specs.Resolved.{Resolved, id_of, ReadsAs}
 use Rattle.krates_resolve.specs.Table.{StandsAt, IsPlaceOf}
 use Rattle.krates_resolve.proofs.AdmissionLemmas.{ReadsOnce, left_of, right_of}
+use Rattle.krates_resolve.proofs.OnlyOne.{place_in}
+use Rattle.krates_resolve.proofs.Standings.{contains_at}
 
 mapped_at : {A : Type 0} (text : A → Text) (xs : List A) (k : ℕ) (t : Text) → slice_get (map text xs) k ≡ Some t → (x : A) × (slice_get xs k ≡ Some x) × (text x ≡ t)
 mapped_at text [] k t h = absurd cc
@@ -37,6 +39,16 @@ nowhere text xs ids i once z none x (k, lt, is) r =
 pub package_answer : (r : Resolved) (ids : List Identity) (i : Id) (answer : Option ℕ) → ReadsOnce → AllZip Reads (package_texts r.metadata) ids → IsPlaceOf ids i answer → IsPackagePlace r i answer
 package_answer r ids i None once z none = λ p h. nowhere (λ (p : PackageModel). p.id) r.metadata.packages ids i once z none p h.among h.id
 package_answer r ids i (Some place) once z s = let w = at_place (λ (p : PackageModel). p.id) r.metadata.packages ids i place z s in record { pkg = w.0; at = w.1; id = w.2 }
+
+-- and one of a member tells that there is one
+pub member_answer : (r : Resolved) (ids : List Identity) (i : Id) (answer : Option ℕ) → ReadsOnce → AllZip Reads r.metadata.workspace_members ids → IsPlaceOf ids i answer → TellsMember r i (is_some answer)
+member_answer r ids i None once z none = λ m.
+    let at = place_in r.metadata.workspace_members m.text m.among in
+    let y = right_of Reads r.metadata.workspace_members ids at.0 m.text z at.1 in
+    none at.0 (record { there = y.0; at = y.1; same = ap id_of (once m.text y.0 m.id.read y.2 m.id.reads) ∙ m.id.same })
+member_answer r ids i (Some place) once z s =
+    let t = left_of Reads r.metadata.workspace_members ids place s.there z s.at in
+    record { text = t.0; among = contains_at r.metadata.workspace_members place t.0 t.1; id = record { read = s.there; reads = t.2; same = s.same } }
 
 -- and of the node
 pub node_answer : (r : Resolved) (ids : List Identity) (i : Id) (answer : Option ℕ) → ReadsOnce → AllZip Reads (node_texts r.graph) ids → IsPlaceOf ids i answer → IsNodePlace r i answer

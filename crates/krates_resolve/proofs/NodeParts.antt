@@ -14,14 +14,14 @@ use Rattle.krates_ids.specs.Identity.{Identity, Reads}
 use Rattle.krates_resolve.specs.Admission.{NoneDoubled, AreDepIds, HasVersion, node_texts, dep_texts}
 use Rattle.krates_resolve.specs.Facts.{Id, Edge}
 use Rattle.krates_resolve.specs.Found.{IsTried, AreTried, IsExpanded, Grows}
-use Rattle.krates_resolve.specs.Lookup.{NodeAt, IsLookup, resolved_view}
+use Rattle.krates_resolve.specs.Lookup.{NodeAt, IsLookup, TellsMember, resolved_view}
 use Rattle.krates_resolve.specs.NodeEntry.{AreDeclaredBy, AreParts, edge_between}
 use Rattle.krates_resolve.specs.Questions.{IsListed, kind_info_of}
 use Rattle.krates_resolve.specs.Resolved.{Resolved, id_of, ReadsAs, HasNode, HasDep}
 use Rattle.krates_resolve.specs.declared.found.Found.{Found}
 use Rattle.krates_resolve.specs.declared.lookup.Lookup.{Lookup}
 use Rattle.krates_resolve.specs.declared.node_entry.NodeParts.{NodeParts}
-use Rattle.krates_resolve.specs.declared.setting.Setting.{Setting}
+use Rattle.krates_resolve.specs.Setting.{SettingModel}
 use Rattle.krates_resolve.proofs.AdmissionLemmas.{ReadsOnce, left_of, right_of}
 use Rattle.krates_resolve.proofs.Growth.{tried_grows}
 use Rattle.krates_resolve.proofs.Lookups.{at_place}
@@ -61,10 +61,10 @@ dep_ids_here g lists k n ids z a b = zip_at AreDepIds g.nodes lists k n ids z a 
 -- ---- the dependencies of a node, gone over
 
 -- the edges of the dependencies so far have been tried
-abbrev pub TriedBelow : Resolved → Setting → Found → Id → List NodeDepModel → List Identity → ℕ → Type 0
+abbrev pub TriedBelow : Resolved → SettingModel → Found → Id → List NodeDepModel → List Identity → ℕ → Type 0
 TriedBelow r s x parent ds ids end = (k : ℕ) (d : NodeDepModel) (i : Identity) → k < end → slice_get ds k ≡ Some d → slice_get ids k ≡ Some i → AreTried r s x parent (id_of i) d
 
-pub tried_more : (r : Resolved) (s : Setting) (x y : Found) (parent : Id) (ds : List NodeDepModel) (ids : List Identity) (at : ℕ) (d : NodeDepModel) (i : Identity) → Grows r x y → slice_get ds at ≡ Some d
+pub tried_more : (r : Resolved) (s : SettingModel) (x y : Found) (parent : Id) (ds : List NodeDepModel) (ids : List Identity) (at : ℕ) (d : NodeDepModel) (i : Identity) → Grows r x y → slice_get ds at ≡ Some d
     → slice_get ids at ≡ Some i → TriedBelow r s x parent ds ids at → AreTried r s y parent (id_of i) d → TriedBelow r s y parent ds ids (at + 1)
 tried_more r s x y parent ds ids at d i g here id_here h now k e j below there id_there = elim (cases_lt k at) [
   | inl lower ↦ (λ info c. tried_grows r s x y (edge_between parent (id_of j) info) g (h k e j lower there id_there info c))
@@ -76,7 +76,7 @@ tried_more r s x y parent ds ids at d i g here id_here h now k e j below there i
 ]
 
 -- an edge that the node lists is one of those that were tried
-listed_tried : ReadsOnce → (r : Resolved) (s : Setting) (x : Found) (e : Edge) (n : NodeModel) (ids : List Identity) (dep : NodeDepModel) → NoneDoubled r.metadata r.graph → HasNode r e.parent n → AreDepIds n ids
+listed_tried : ReadsOnce → (r : Resolved) (s : SettingModel) (x : Found) (e : Edge) (n : NodeModel) (ids : List Identity) (dep : NodeDepModel) → NoneDoubled r.metadata r.graph → HasNode r e.parent n → AreDepIds n ids
     → TriedBelow r s x e.parent n.deps ids (length ids) → IsListed r s e dep → IsTried r s x e
 listed_tried once r s x e n ids dep none has z all l =
     let same = one_node r e.parent l.lists.node n none l.lists.has_node has in
@@ -89,7 +89,7 @@ listed_tried once r s x e n ids dep none has z all l =
     subst (λ (c : Id). IsTried r s x (edge_between e.parent c (kind_info_of e))) child tried
 
 -- so all edges of the crate have been tried
-pub expanded_here : ReadsOnce → (r : Resolved) (s : Setting) (x : Found) (i : Id) (n : NodeModel) (ids : List Identity) → NoneDoubled r.metadata r.graph → HasNode r i n → AreDepIds n ids
+pub expanded_here : ReadsOnce → (r : Resolved) (s : SettingModel) (x : Found) (i : Id) (n : NodeModel) (ids : List Identity) → NoneDoubled r.metadata r.graph → HasNode r i n → AreDepIds n ids
     → TriedBelow r s x i n.deps ids (length ids) → IsExpanded r s x i
 expanded_here once r s x i n ids none has z all e same =
     let node = subst (λ (p : Id). HasNode r p n) (sym same) has in
@@ -122,8 +122,8 @@ node_seen d place n lt is =
 
 pub parts_here : (d : Lookup) (place : ℕ) (x : NodeParts) (n : Node) (ids : Vec Identity) → IsLookup d → place < length (resolved_view d).graph.nodes → x.parent.now ≡ get_or d.ids.now.nodes.items place x.parent.now
     → n ≡ get_or d.resolve.now.nodes.items place n → ids ≡ get_or d.ids.now.deps.items place ids → x.deps.now ≡ n.deps.items → x.children.now ≡ ids.items
-    → AreDeclaredBy (resolved_view d) (id_of x.parent.now) (map dependency_view x.declared.now) → AreParts (resolved_view d) place x
-parts_here d place x n ids h lt is_id is_node is_ids deps children declares =
+    → AreDeclaredBy (resolved_view d) (id_of x.parent.now) (map dependency_view x.declared.now) → TellsMember (resolved_view d) (id_of x.parent.now) x.is_member → AreParts (resolved_view d) place x
+parts_here d place x n ids h lt is_id is_node is_ids deps children declares tells =
     let r = resolved_view d in
     let long = nodes_long d h in
     let nodes = d.ids.now.nodes.items in
@@ -140,6 +140,7 @@ parts_here d place x n ids h lt is_id is_node is_ids deps children declares =
       deps = ap (λ (m : NodeModel). m.deps) same ∙ ap (map node_dep_view) (sym deps);
       children = subst (λ (m : NodeModel). AreDepIds m x.children.now) (sym same) (subst (AreDepIds (node_view n)) (sym children) whole);
       declares = declares;
+      tells = tells;
     }
 
 -- a child has the dependency at its place
@@ -154,7 +155,7 @@ pub id_seen : (ids : List Identity) (k : ℕ) (i : Identity) → k < length ids 
 id_seen ids k i lt is = slice_get_read ids (length ids) k i refl lt is
 
 -- all have been gone over
-pub tried_whole : (r : Resolved) (s : Setting) (x : Found) (parent : Id) (ds es : List NodeDepModel) (ids : List Identity) (end : ℕ) → es ≡ ds → length ids ≤ end → TriedBelow r s x parent ds ids end
+pub tried_whole : (r : Resolved) (s : SettingModel) (x : Found) (parent : Id) (ds es : List NodeDepModel) (ids : List Identity) (end : ℕ) → es ≡ ds → length ids ≤ end → TriedBelow r s x parent ds ids end
     → TriedBelow r s x parent es ids (length ids)
 tried_whole r s x parent ds es ids end same le h =
     subst (λ (ms : List NodeDepModel). TriedBelow r s x parent ms ids (length ids)) (sym same) (λ k d i lt. h k d i (omega arith))

@@ -1,86 +1,129 @@
 -- The roots of a document, by the ids that were read.
-use Rattle.std.proofs.Common.{◌≡◌, List, [], get_or, Option, Some, None, MatchOption, All, refl, ap, ◌∙◌, subst}
+use Rattle.std.proofs.Common.{◌≡◌, ◌↔◌, List, [], ◌∷◌, Bool, true, false, get_or, Option, Some, None, All, Contains, refl, sym, ap, ◌∙◌, subst, arith}
 use Rattle.std.proofs.lemmas.Option.{slice_get-get_or, get_or_from_slice_get, slice_get_within}
 use Rattle.std.specs.List.{AllZip}
-use Rattle.krates_cm.specs.Document.{Text}
+use Rattle.krates_cm.specs.Document.{Text, PackageModel}
 use Rattle.krates_ids.specs.Identity.{Identity, Reads}
-use Rattle.krates_resolve.specs.Admission.{IsRootId}
+use Rattle.krates_text.specs.Path.{components}
+use Rattle.krates_resolve.specs.Admission.{IsRootId, NoneDoubled}
 use Rattle.krates_resolve.specs.Derivation.{Derivable, follows, Among}
 use Rattle.krates_resolve.specs.Facts.{Id, Fact, LostPackage, LostNode, Crate, Lost}
 use Rattle.krates_resolve.specs.Found.{HasFound, IsRooted, HasRoots}
 use Rattle.krates_resolve.specs.Questions.{Stands, LacksNode, questions}
-use Rattle.krates_resolve.specs.Resolved.{Resolved, id_of, ReadsAs, IsMember, NoPackage}
+use Rattle.krates_resolve.specs.Resolved.{Resolved, id_of, ReadsAs, IsMember, HasPackage, NoPackage}
+use Rattle.krates_resolve.specs.RootChoice.{AsksFor, AsksForManifests, HasOneOf}
+use Rattle.krates_resolve.specs.Roots.{IsRoot, of_graph, of_workspace, of_manifests, AsksForWorkspace, by_setting, without_root, by_manifest, HasManifest}
 use Rattle.krates_resolve.specs.Rules.{Questions, root_crate, lost_root_package, lost_root_node}
-use Rattle.krates_resolve.specs.Setting.{IsRoot}
+use Rattle.krates_resolve.specs.Setting.{SettingModel}
+use Rattle.krates_resolve.specs.Standing.{IsLeftOut}
 use Rattle.krates_resolve.specs.declared.found.Found.{Found}
-use Rattle.krates_resolve.specs.declared.setting.Setting.{Setting}
 use Rattle.krates_resolve.proofs.AdmissionLemmas.{ReadsOnce, left_of, right_of}
-use Rattle.krates_resolve.proofs.OnlyOne.{place_in}
-use Rattle.krates_resolve.proofs.Standings.{contains_at}
+use Rattle.krates_resolve.proofs.OnlyOne.{place_in, one_package}
+use Rattle.krates_resolve.proofs.Standings.{contains_at, not_included}
 
--- ---- the graph's root
+-- ---- which crates are roots
 
-named_root : (r : Resolved) (o : Option Text) (root : Identity) → IsRootId o (Some root) → MatchOption o (IsMember r (id_of root)) (λ t. ReadsAs t (id_of root))
-named_root r None root h = absurd cc
-named_root r (Some t) root h = record { read = root; reads = h; same = refl }
+-- nothing is asked for, so the graph's root is the only one
+pub graph_root : ReadsOnce → (r : Resolved) (s : SettingModel) (root : Identity) → s.manifests ≡ [] → s.workspace ≡ false → IsRootId r.graph.root (Some root)
+    → IsRoot r s (id_of root) × ((i : Id) → IsRoot r s i → i ≡ id_of root)
+graph_root once r s root none off is =
+    let text = root_text r.graph.root is in
+    (of_graph none off text.1 (record { read = root; reads = text.2; same = refl }), alone text.0 text.1 text.2)
+  where
+    root_text : (o : Option Text) → IsRootId o (Some root) → (t : Text) × (o ≡ Some t) × Reads t root
+    root_text None h = absurd cc
+    root_text (Some t) h = (t, refl, h)
 
-one_root : (r : Resolved) (o : Option Text) (root : Identity) (i : Id) → ReadsOnce → IsRootId o (Some root) → MatchOption o (IsMember r i) (λ t. ReadsAs t i) → id_of root ≡ i
-one_root r None root i once h m = absurd cc
-one_root r (Some t) root i once h m = ap id_of (once t root m.read h m.reads) ∙ m.same
+    same_text : (o : Option Text) (t u : Text) → o ≡ Some t → o ≡ Some u → u ≡ t
+    same_text o t u a b = cc
 
-pub is_root : (r : Resolved) (s : Setting) (root : Identity) → IsRootId r.graph.root (Some root) → IsRoot r s (id_of root)
-is_root r s root h = named_root r r.graph.root root h
+    some_manifest : (m : Text) → [] ≡ m ∷ [] → ⊥
+    some_manifest m e = cc
 
-pub root_alone : (r : Resolved) (s : Setting) (x : Found) (root : Identity) → ReadsOnce → IsRootId r.graph.root (Some root) → IsRooted r s x (id_of root) → HasRoots r s x
-root_alone r s x root once h rooted i is = subst (IsRooted r s x) (one_root r r.graph.root root i once h is) rooted
+    no_manifest : (m : Text) → Contains [] m → ⊥
+    no_manifest m (k, lt, is) = omega (arith, lt)
 
--- ---- the members
+    alone : (t : Text) → r.graph.root ≡ Some t → Reads t root → (i : Id) → IsRoot r s i → i ≡ id_of root
+    alone t at reads i (of_graph {t = u} _ _ there named) =
+        sym named.same ∙ ap id_of (once t named.read root (subst (λ v. Reads v named.read) (same_text r.graph.root t u at there) named.reads) reads)
+    alone t at reads i (of_workspace (by_setting _ on) m) = absurd (cc (off, on))
+    alone t at reads i (of_workspace (without_root _ no_root) m) = absurd (cc (at, no_root))
+    alone t at reads i (of_workspace (by_manifest w) m) = absurd (some_manifest w.manifest (sym none ∙ w.alone))
+    alone t at reads i (of_manifests _ m h) = absurd (no_manifest h.manifest (subst (λ ms. Contains ms h.manifest) none h.among))
 
-member_root : (r : Resolved) (o : Option Text) (i : Id) → IsRootId o None → IsMember r i → MatchOption o (IsMember r i) (λ t. ReadsAs t i)
-member_root r None i h m = m
-member_root r (Some t) i h m = absurd h
+-- where members are asked for, only they are roots
+pub root_member : (r : Resolved) (s : SettingModel) (all : Bool) (i : Id) → AsksFor r s all → IsRoot r s i → IsMember r i
+root_member r s all i asks (of_workspace _ m) = m
+root_member r s all i asks (of_manifests _ m _) = m
+root_member r s true i (by_setting _ on) (of_graph _ off _ _) = absurd (cc (on, off))
+root_member r s true i (without_root _ no_root) (of_graph _ _ at _) = absurd (cc (no_root, at))
+root_member r s true i (by_manifest w) (of_graph none _ _ _) = absurd (cc (w.alone, none))
+root_member r s false i asks (of_graph none _ _ _) = absurd (asks.some none)
 
-root_member : (r : Resolved) (o : Option Text) (i : Id) → IsRootId o None → MatchOption o (IsMember r i) (λ t. ReadsAs t i) → IsMember r i
-root_member r None i h m = m
-root_member r (Some t) i h m = absurd h
+-- where manifests are asked for, those members are roots whose package has one
+pub manifest_root : (r : Resolved) (s : SettingModel) (i : Id) → AsksForManifests r s → IsMember r i → HasManifest r s i ↔ IsRoot r s i
+manifest_root r s i asks m = (of_manifests asks.not_workspace m, back)
+  where
+    back : IsRoot r s i → HasManifest r s i
+    back (of_graph none _ _ _) = absurd (asks.some none)
+    back (of_workspace (by_setting none _) _) = absurd (asks.some none)
+    back (of_workspace (without_root none _) _) = absurd (asks.some none)
+    back (of_workspace (by_manifest w) _) = absurd (asks.not_workspace w)
+    back (of_manifests _ _ h) = h
 
-pub members_are_roots : (r : Resolved) (s : Setting) (members : List Identity) → IsRootId r.graph.root None → AllZip Reads r.metadata.workspace_members members → All (λ m. IsRoot r s (id_of m)) members
-members_are_roots r s members none z k d lt =
+-- the manifest of the package with the id is looked for
+pub manifest_here : (r : Resolved) (s : SettingModel) (i : Id) (p : PackageModel) → NoneDoubled r.metadata r.graph → HasPackage r i p → HasOneOf s.manifests p.manifest_path ↔ HasManifest r s i
+manifest_here r s i p none has = (
+  λ h. record { pkg = p; has_package = has; manifest = h.other; among = h.among; same = h.same },
+  λ h. record { other = h.manifest; among = h.among; same = h.same ∙ ap (λ (q : PackageModel). components q.manifest_path) (one_package r i h.pkg p none h.has_package has) },
+)
+
+-- ---- the members, by the ids that were read
+
+pub are_members : (r : Resolved) (members : List Identity) → AllZip Reads r.metadata.workspace_members members → All (λ m. IsMember r (id_of m)) members
+are_members r members z k d lt =
     let y = get_or members k d in
     let t = left_of Reads r.metadata.workspace_members members k y z (slice_get-get_or members k d lt) in
-    member_root r r.graph.root (id_of y) none (record { text = t.0; among = contains_at r.metadata.workspace_members k t.0 t.1; id = record { read = y; reads = t.2; same = refl } })
+    record { text = t.0; among = contains_at r.metadata.workspace_members k t.0 t.1; id = record { read = y; reads = t.2; same = refl } }
 
-pub members_rooted : (r : Resolved) (s : Setting) (x : Found) (members : List Identity) → ReadsOnce → IsRootId r.graph.root None → AllZip Reads r.metadata.workspace_members members
-    → All (λ m. IsRooted r s x (id_of m)) members → HasRoots r s x
-members_rooted r s x members once none z rooted i is =
-    let m = root_member r r.graph.root i none is in
+pub members_rooted : ReadsOnce → (r : Resolved) (s : SettingModel) (x : Found) (all : Bool) (members : List Identity) → AsksFor r s all → AllZip Reads r.metadata.workspace_members members
+    → All (λ m. IsRoot r s (id_of m) → IsRooted r s x (id_of m)) members → HasRoots r s x
+members_rooted once r s x all members asks z rooted i is =
+    let m = root_member r s all i asks is in
     let at = place_in r.metadata.workspace_members m.text m.among in
     let y = right_of Reads r.metadata.workspace_members members at.0 m.text z at.1 in
-    let here = rooted at.0 y.0 (slice_get_within members at.0 y.0 y.1) in
     let same = ap id_of (get_or_from_slice_get members at.0 y.0 y.0 y.1) ∙ ap id_of (once m.text y.0 m.id.read y.2 m.id.reads) ∙ m.id.same in
-    subst (IsRooted r s x) same here
+    subst (λ (j : Id). IsRoot r s j → IsRooted r s x j) same (rooted at.0 y.0 (slice_get_within members at.0 y.0 y.1)) is
 
 -- ---- derivations
 
 nothing : (q : Questions) (f : Fact) → Among f [] → Derivable q f
 nothing q f m = absurd m
 
-pub root_derivable : (r : Resolved) (s : Setting) (i : Id) → IsRoot r s i → Stands r s i → Derivable (questions r s) (Crate i)
+pub root_derivable : (r : Resolved) (s : SettingModel) (i : Id) → IsRoot r s i → Stands r s i → Derivable (questions r s) (Crate i)
 unfolding questions
 root_derivable r s i root stands = follows (root_crate {p = i} root stands) (nothing (questions r s))
 
-pub root_package_lost : (r : Resolved) (s : Setting) (i : Id) → IsRoot r s i → NoPackage r i → Derivable (questions r s) (Lost (LostPackage i))
+pub root_package_lost : (r : Resolved) (s : SettingModel) (i : Id) → IsRoot r s i → NoPackage r i → Derivable (questions r s) (Lost (LostPackage i))
 unfolding questions
 root_package_lost r s i root none = follows (lost_root_package {p = i} root none) (nothing (questions r s))
 
-pub root_node_lost : (r : Resolved) (s : Setting) (i : Id) → IsRoot r s i → LacksNode r s i → Derivable (questions r s) (Lost (LostNode i))
+pub root_node_lost : (r : Resolved) (s : SettingModel) (i : Id) → IsRoot r s i → LacksNode r s i → Derivable (questions r s) (Lost (LostNode i))
 unfolding questions
 root_node_lost r s i root none = follows (lost_root_node {p = i} root none) (nothing (questions r s))
 
 -- all that a root that stands gives
-pub rooted_here : (r : Resolved) (s : Setting) (x : Found) (i : Id) → Stands r s i → HasFound r x (Crate i) → IsRooted r s x i
+pub rooted_here : (r : Resolved) (s : SettingModel) (x : Found) (i : Id) → Stands r s i → HasFound r x (Crate i) → IsRooted r s x i
 rooted_here r s x i stands found = record {
   kept = λ there. found;
   has_package = λ none. none stands.included.pkg stands.included.has_package;
   has_node = λ none. none.no_node stands.node stands.has_node;
+}
+
+-- and all that an excluded one gives: nothing
+pub left_out_rooted : (r : Resolved) (s : SettingModel) (x : Found) (i : Id) → NoneDoubled r.metadata r.graph → IsLeftOut r s i → IsRooted r s x i
+left_out_rooted r s x i none out = record {
+  kept = λ there. absurd (not_included r s i none out there.included);
+  has_package = λ lost. lost out.pkg out.has_package;
+  has_node = λ lost. not_included r s i none out lost.included;
 }

@@ -15,7 +15,7 @@ use Rattle.krates_resolve.specs.Resolved.{Resolved}
 use Rattle.krates_resolve.specs.Rules.{Rule, root_crate, root_feature, lost_root_package, lost_root_node, feature_crate, named, lost_named, asked, toggled_strongly, lost_asked_package, lost_asked_node, lost_toggled_strongly, required, target, lost_undeclared, lost_required_package, lost_required_node, declared, by_default, lost_declared, toggled_weakly, toggled_feature, lost_toggled_weakly}
 use Rattle.krates_resolve.specs.declared.found.Found.{Found}
 use Rattle.krates_resolve.specs.declared.selection.KeptEdge.{KeptEdge}
-use Rattle.krates_resolve.specs.declared.setting.Setting.{Setting}
+use Rattle.krates_resolve.specs.Setting.{SettingModel}
 use Rattle.krates_resolve.proofs.DerivationLaws.{closed_under}
 use Rattle.krates_resolve.proofs.Growth.{rooted_grows, tried_grows}
 use Rattle.krates_resolve.proofs.OnlyOne.{place_in}
@@ -23,16 +23,16 @@ use Rattle.krates_resolve.proofs.Standings.{contains_at}
 
 -- ---- one is taken
 
-pub sound_taken : (r : Resolved) (s : Setting) (x : Found) (a : PutNumbers) (n : ℕ) → a ≡ record x.agenda { taken = n } → IsSound r s x → IsSound r s (record { agenda = a; edges = x.edges })
+pub sound_taken : (r : Resolved) (s : SettingModel) (x : Found) (a : PutNumbers) (n : ℕ) → a ≡ record x.agenda { taken = n } → IsSound r s x → IsSound r s (record { agenda = a; edges = x.edges })
 sound_taken r s x a n e h =
     subst (λ (b : PutNumbers). IsSound r s (record { agenda = b; edges = x.edges })) (sym e) (record { size = h.size; derivable = h.derivable; placed = h.placed; reached = h.reached })
 
-pub roots_taken : (r : Resolved) (s : Setting) (x : Found) (a : PutNumbers) (n : ℕ) → a ≡ record x.agenda { taken = n } → HasRoots r s x → HasRoots r s (record { agenda = a; edges = x.edges })
+pub roots_taken : (r : Resolved) (s : SettingModel) (x : Found) (a : PutNumbers) (n : ℕ) → a ≡ record x.agenda { taken = n } → HasRoots r s x → HasRoots r s (record { agenda = a; edges = x.edges })
 roots_taken r s x a n e h =
     subst (λ (b : PutNumbers). HasRoots r s (record { agenda = b; edges = x.edges })) (sym e)
     (λ i root. let y = h i root in record { kept = y.kept; has_package = y.has_package; has_node = y.has_node })
 
-expanded_taken : (r : Resolved) (s : Setting) (x : Found) (a : PutNumbers) (n : ℕ) (i : Id) → a ≡ record x.agenda { taken = n } → IsExpanded r s x i → IsExpanded r s (record { agenda = a; edges = x.edges }) i
+expanded_taken : (r : Resolved) (s : SettingModel) (x : Found) (a : PutNumbers) (n : ℕ) (i : Id) → a ≡ record x.agenda { taken = n } → IsExpanded r s x i → IsExpanded r s (record { agenda = a; edges = x.edges }) i
 expanded_taken r s x a n i e h =
     subst (λ (b : PutNumbers). IsExpanded r s (record { agenda = b; edges = x.edges }) i) (sym e)
     (λ edge same. let y = h edge same in record { kept = y.kept; declared = y.declared; has_package = y.has_package; has_node = y.has_node })
@@ -52,10 +52,10 @@ fewer_left x y z room e o same here there =
 
 -- ---- it grows
 
-pub roots_grow : (r : Resolved) (s : Setting) (x y : Found) → Grows r x y → HasRoots r s x → HasRoots r s y
+pub roots_grow : (r : Resolved) (s : SettingModel) (x y : Found) → Grows r x y → HasRoots r s x → HasRoots r s y
 roots_grow r s x y g h i root = rooted_grows r s x y i g (h i root)
 
-pub expanded_grows : (r : Resolved) (s : Setting) (x y : Found) (i : Id) → Grows r x y → IsExpanded r s x i → IsExpanded r s y i
+pub expanded_grows : (r : Resolved) (s : SettingModel) (x y : Found) (i : Id) → Grows r x y → IsExpanded r s x i → IsExpanded r s y i
 expanded_grows r s x y i g h e same = tried_grows r s x y e g (h e same)
 
 -- what held of the places that were taken holds of one more
@@ -73,7 +73,7 @@ below_more xs ys n t P Q stays at h weaker here k p lt there = elim (cases_lt k 
 ]
 
 -- the crate that was taken has been expanded, and those before it
-pub expanded_more : (r : Resolved) (s : Setting) (x : Found) (a : PutNumbers) (z : Found) (t : ℕ) → a ≡ record x.agenda { taken = x.agenda.taken + 1 } → Grows r (record { agenda = a; edges = x.edges }) z
+pub expanded_more : (r : Resolved) (s : SettingModel) (x : Found) (a : PutNumbers) (z : Found) (t : ℕ) → a ≡ record x.agenda { taken = x.agenda.taken + 1 } → Grows r (record { agenda = a; edges = x.edges }) z
     → slice_get x.agenda.put x.agenda.taken ≡ Some t → AreExpanded r s x x.agenda.taken → ((i : Id) → NodeAt r i t → IsExpanded r s z i) → AreExpanded r s z z.agenda.taken
 expanded_more r s x a z t e g at h now k place i lt there node =
     let y : Found = record { agenda = a; edges = x.edges } in
@@ -128,10 +128,10 @@ same_found r xs ys edges (Lost c) w h = h
 -- ---- in the end
 
 -- each crate that was put has been expanded
-abbrev pub AllExpanded : Resolved → Setting → Found → Type 0
+abbrev pub AllExpanded : Resolved → SettingModel → Found → Type 0
 AllExpanded r s x = (i : Id) → HasFound r x (Crate i) → IsExpanded r s x i
 
-rule_closed : (r : Resolved) (s : Setting) (x : Found) → HasRoots r s x → AllExpanded r s x → ((e : Edge) → HasFound r x (Kept e) → HasFound r x (Crate e.child))
+rule_closed : (r : Resolved) (s : SettingModel) (x : Found) → HasRoots r s x → AllExpanded r s x → ((e : Edge) → HasFound r x (Kept e) → HasFound r x (Crate e.child))
     → {n : ℕ} {ps : List Fact} {f : Fact} → Rule (questions r s) n ps f → ((g : Fact) → Among g ps → HasFound r x g) → HasFound r x f
 unfolding questions
 rule_closed r s x roots all reached (root_crate {p} root stands) h = (roots p root).kept stands
@@ -159,18 +159,18 @@ rule_closed r s x roots all reached (toggled_feature {p} {c} {g}) h = absurd (h 
 rule_closed r s x roots all reached (lost_toggled_weakly refers referent lacks) h = absurd refers
 
 -- the places that were put are those that were taken
-all_taken : (r : Resolved) (s : Setting) (x : Found) → AreExpanded r s x x.agenda.taken → length x.agenda.put ≤ x.agenda.taken → AllExpanded r s x
+all_taken : (r : Resolved) (s : SettingModel) (x : Found) → AreExpanded r s x x.agenda.taken → length x.agenda.put ≤ x.agenda.taken → AllExpanded r s x
 all_taken r s x expanded le i put =
     let at = place_in x.agenda.put put.place put.among in
     expanded at.0 put.place i (omega (arith, slice_get_within x.agenda.put at.0 put.place at.1)) at.1 put.node
 
 -- what has been found is exactly what is derivable
-pub saturated : (r : Resolved) (s : Setting) (x : Found) → IsSound r s x → HasRoots r s x → AreExpanded r s x x.agenda.taken → length x.agenda.put ≤ x.agenda.taken → (f : Fact) → Derivable (questions r s) f ↔ HasFound r x f
+pub saturated : (r : Resolved) (s : SettingModel) (x : Found) → IsSound r s x → HasRoots r s x → AreExpanded r s x x.agenda.taken → length x.agenda.put ≤ x.agenda.taken → (f : Fact) → Derivable (questions r s) f ↔ HasFound r x f
 saturated r s x sound roots expanded le f =
     (λ d. closed_under (questions r s) (HasFound r x) (λ n ps g rule h. rule_closed r s x roots (all_taken r s x expanded le) sound.reached rule h) d, λ h. sound.derivable f h)
 
 -- and it is found in the places that were taken
-pub exactly_found : (r : Resolved) (s : Setting) (x : Found) (places : List ℕ) → IsSound r s x → HasRoots r s x → AreExpanded r s x x.agenda.taken → AreTaken places x.agenda
+pub exactly_found : (r : Resolved) (s : SettingModel) (x : Found) (places : List ℕ) → IsSound r s x → HasRoots r s x → AreExpanded r s x x.agenda.taken → AreTaken places x.agenda
     → slice_get x.agenda.put x.agenda.taken ≡ None → (f : Fact) → Derivable (questions r s) f ↔ IsFoundIn r places x.edges.items f
 exactly_found r s x places sound roots expanded t none f =
     let le = none_left x.agenda.put x.agenda.taken none in

@@ -23,7 +23,7 @@ use Rattle.krates_resolve.specs.declared.selection.EnabledFeature.{EnabledFeatur
 use Rattle.krates_resolve.specs.declared.selection.KeptEdge.{KeptEdge}
 use Rattle.krates_resolve.specs.declared.selection.Selection.{Selection}
 use Rattle.krates_resolve.specs.declared.selection.ToggledFeature.{ToggledFeature}
-use Rattle.krates_resolve.specs.declared.setting.Setting.{Setting}
+use Rattle.krates_resolve.specs.Setting.{SettingModel}
 use Rattle.krates_resolve.proofs.AdmissionLemmas.{ReadsOnce}
 use Rattle.krates_resolve.proofs.DistinctIds.{id_of_same}
 use Rattle.krates_resolve.proofs.FirstPlaces.{seen_at}
@@ -83,7 +83,7 @@ both : (p q : Bool) → (p && q) ≡ true → (p ≡ true) × (q ≡ true)
 both true q h = (refl, h)
 both false q h = absurd cc
 
-one_edge : EqualityTellsSame → (r : Resolved) (s : Setting) (a b : KeptEdge) → NoneDoubled r.metadata r.graph → IsPlaced r s a → IsPlaced r s b → same_place a b ≡ true → edge_view b ≡ edge_view a
+one_edge : EqualityTellsSame → (r : Resolved) (s : SettingModel) (a b : KeptEdge) → NoneDoubled r.metadata r.graph → IsPlaced r s a → IsPlaced r s b → same_place a b ≡ true → edge_view b ≡ edge_view a
 one_edge tells r s a b none x y same =
     let outer = both (same_id a.parent b.parent) _ same in
     let inner = both (same_id a.child b.child) _ outer.1 in
@@ -133,7 +133,7 @@ pub record IsOrdered {A : Type 0} (eq : A → A → Bool) (old new : List A) : T
   pub from : (x : A) → Contains new x → Contains old x
   pub kept : (x : A) → Contains old x → (y : A) × Contains new y × (eq x y ≡ true)
 
-pub selected : ReadsOnce → EqualityTellsSame → (r : Resolved) (s : Setting) (ids : List Identity) (places : List ℕ) (edges : List KeptEdge) (kids : List Identity) (x : Selection) → NoneDoubled r.metadata r.graph
+pub selected : ReadsOnce → EqualityTellsSame → (r : Resolved) (s : SettingModel) (ids : List Identity) (places : List ℕ) (edges : List KeptEdge) (kids : List Identity) (x : Selection) → NoneDoubled r.metadata r.graph
     → AllZip Reads (node_texts r.graph) ids → ((f : Fact) → Derivable (questions r s) f ↔ IsFoundIn r places edges f) → All (IsPlaced r s) edges → AreAt ids places kids
     → IsStrictlySortedBy id_cmp x.krates.items → IsOrdered same_id kids x.krates.items → IsStrictlySortedBy place_cmp x.edges.items → IsOrdered same_place edges x.edges.items
     → x.features.items ≡ [] → x.toggled.items ≡ [] → 0 < length places → IsSelection r s x

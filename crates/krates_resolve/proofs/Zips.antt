@@ -1,6 +1,6 @@
 -- Lists that are made item by item, each item in a relation to one of another list.
 use Rattle.std.proofs.Common.{◌≡◌, ℕ, ◌+◌, ◌<◌, ◌≤◌, List, [], ◌∷◌, ◌++◌, length, get_or, take, map, sym, ap, ◌∙◌, subst, Contains}
-use Rattle.std.proofs.lemmas.List.{map-append, length-map, get_or-map, take_more, take_all}
+use Rattle.std.proofs.lemmas.List.{map-append, length-map, get_or-map, get_or_default, take_more, take_all}
 use Rattle.std.specs.List.{AllZip, AllByRecursion}
 
 zip_push : {A B : Type 0} (R : A → B → Type 0) (xs : List A) (ys : List B) (x : A) (y : B) → AllZip R xs ys → R x y → AllZip R (xs ++ x ∷ []) (ys ++ y ∷ [])
@@ -15,6 +15,11 @@ pub zip_next : {X A B : Type 0} (R : A → B → Type 0) (seen : X → A) (xs : 
 zip_next R seen xs i x ys y lt is here so_far =
     let more : take (i + 1) xs ≡ take i xs ++ x ∷ [] = take_more xs i x lt ∙ ap (λ z. take i xs ++ z ∷ []) (sym is) in
     rw (more, map-append) (zip_push R (map seen (take i xs)) ys (seen x) y so_far here)
+
+-- the same, of an item that is read with a default
+pub zip_read : {X A B : Type 0} (R : A → B → Type 0) (seen : X → A) (xs : List X) (i : ℕ) (d : X) (ys : List B) (y : B) → i < length xs
+    → R (seen (get_or xs i d)) y → AllZip R (map seen (take i xs)) ys → AllZip R (map seen (take (i + 1) xs)) (ys ++ y ∷ [])
+zip_read R seen xs i d ys y lt here so_far = zip_next R seen xs i (get_or xs i d) ys y lt (get_or_default xs i d (get_or xs i d) lt) here so_far
 
 -- all are made
 pub zip_all : {X A B : Type 0} (R : A → B → Type 0) (seen : X → A) (xs : List X) (i : ℕ) (ys : List B) → length xs ≤ i → AllZip R (map seen (take i xs)) ys → AllZip R (map seen xs) ys

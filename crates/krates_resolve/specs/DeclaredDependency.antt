@@ -1,8 +1,9 @@
 -- The declared dependency of a listed edge.
-use Rattle.std.specs.Prelude.{◌≡◌, ◌≢◌, ◌⊎◌, ℕ, ◌<◌, List, [], Some, true, slice_get, unwrap_or}
+use Rattle.std.specs.Prelude.{◌≡◌, ◌≢◌, ◌⊎◌, ℕ, ◌<◌, List, [], Option, Some, true, slice_get, unwrap_or, MatchOption}
 use Rattle.semver.specs.EvalViews.{matches_views}
 use Rattle.krates_cm.specs.Document.{Text, VersionModel, RequirementModel, DependencyModel, DepKindInfoModel, NodeDepModel}
 use Rattle.krates_cm.specs.Names.{version_named}
+use Rattle.krates_resolve.specs.DeclaredSource.{HasSource}
 use Rattle.krates_resolve.specs.DependencyName.{IsNameOf}
 use Rattle.krates_resolve.specs.Facts.{Id}
 
@@ -44,10 +45,33 @@ pub record FirstAt {A : Type 0} (P : A → Type 0) (xs : List A) (place : ℕ) (
   pub holds : P x
   pub before : (k : ℕ) (y : A) → k < place → slice_get xs k ≡ Some y → P y → ⊥
 
--- The declared dependency, among those of the parent's package: the first that fits.
-abbrev pub IsDeclared : List DependencyModel → DependencyEntry → DepKindInfoModel → ℕ → DependencyModel → Type 0
-IsDeclared declared n k place d = FirstAt (Fits n k) declared place d
+-- this place of a list is the first with the property, or no place has it
+abbrev pub IsFirstPlace : {A : Type 0} → (A → Type 0) → List A → Option ℕ → Type 0
+IsFirstPlace {A} P xs r = MatchOption r ((place : ℕ) (x : A) → slice_get xs place ≡ Some x → P x → ⊥) (λ place. (x : A) × FirstAt P xs place x)
 
--- none of the declared dependencies fits
+-- two places of the list fit
+pub record SeveralFit (declared : List DependencyModel) (n : DependencyEntry) (k : DepKindInfoModel) : Type 0 where
+  pub first : ℕ
+  pub second : ℕ
+  pub apart : first < second
+  pub one : DependencyModel
+  pub other : DependencyModel
+  pub at_first : slice_get declared first ≡ Some one
+  pub at_second : slice_get declared second ≡ Some other
+  pub one_fits : Fits n k one
+  pub other_fits : Fits n k other
+
+-- the declared dependency fits, and its source is that of the dependency's id
+pub record FitsBySource (n : DependencyEntry) (k : DepKindInfoModel) (d : DependencyModel) : Type 0 where
+  pub fits : Fits n k d
+  pub source : HasSource n.dep.pkg n.id.source d
+
+-- The declared dependency, among those of the parent's package: the one that fits; where several fit, the first of
+-- them that has the source of the dependency's id.
+abbrev pub IsDeclared : List DependencyModel → DependencyEntry → DepKindInfoModel → ℕ → DependencyModel → Type 0
+IsDeclared declared n k place d = (¬ (SeveralFit declared n k) × FirstAt (Fits n k) declared place d)
+    ⊎ (SeveralFit declared n k × FirstAt (FitsBySource n k) declared place d)
+
+-- none fits, or several do and none of them has the source
 abbrev pub IsUndeclared : List DependencyModel → DependencyEntry → DepKindInfoModel → Type 0
 IsUndeclared declared n k = (place : ℕ) (d : DependencyModel) → IsDeclared declared n k place d → ⊥

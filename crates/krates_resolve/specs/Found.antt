@@ -9,10 +9,10 @@ use Rattle.krates_resolve.specs.NodeEntry.{edge_between}
 use Rattle.krates_resolve.specs.Questions.{Stands, LacksNode, IsWanted, IsLoose, questions}
 use Rattle.krates_resolve.specs.Resolved.{Resolved, NoPackage}
 use Rattle.krates_resolve.specs.Selection.{edge_view, IsPlaced}
-use Rattle.krates_resolve.specs.Setting.{IsRoot}
+use Rattle.krates_resolve.specs.Roots.{IsRoot}
 use Rattle.krates_resolve.specs.declared.found.Found.{Found}
 use Rattle.krates_resolve.specs.declared.selection.KeptEdge.{KeptEdge}
-use Rattle.krates_resolve.specs.declared.setting.Setting.{Setting}
+use Rattle.krates_resolve.specs.Setting.{SettingModel}
 
 -- the place of the crate's node is among these
 pub record IsPut (r : Resolved) (put : List ℕ) (i : Id) : Type 0 where
@@ -31,7 +31,7 @@ abbrev pub HasFound : Resolved → Found → Fact → Type 0
 HasFound r x f = IsFoundIn r x.agenda.put x.edges.items f
 
 -- all that has been found is right
-pub record IsSound (r : Resolved) (s : Setting) (x : Found) : Type 0 where
+pub record IsSound (r : Resolved) (s : SettingModel) (x : Found) : Type 0 where
   -- there is room for each node
   pub size : x.agenda.size ≡ length r.graph.nodes
   pub derivable : (f : Fact) → HasFound r x f → Derivable (questions r s) f
@@ -45,7 +45,7 @@ pub record Grows (r : Resolved) (old new : Found) : Type 0 where
   pub put : (k place : ℕ) → slice_get old.agenda.put k ≡ Some place → slice_get new.agenda.put k ≡ Some place
   pub taken : new.agenda.taken ≡ old.agenda.taken
 
-pub record Advances (r : Resolved) (s : Setting) (old new : Found) : Type 0 where
+pub record Advances (r : Resolved) (s : SettingModel) (old new : Found) : Type 0 where
   pub sound : IsSound r s new
   pub grows : Grows r old new
 
@@ -62,30 +62,30 @@ pub record Keeps (old new : Found) (edge : KeptEdge) (place : ℕ) : Type 0 wher
 -- ---- what the rules give stands in it
 
 -- all that a root gives
-pub record IsRooted (r : Resolved) (s : Setting) (x : Found) (i : Id) : Type 0 where
+pub record IsRooted (r : Resolved) (s : SettingModel) (x : Found) (i : Id) : Type 0 where
   pub kept : Stands r s i → HasFound r x (Crate i)
   pub has_package : NoPackage r i → ⊥
   pub has_node : LacksNode r s i → ⊥
 
 -- all that a kept crate gives by this edge
-pub record IsTried (r : Resolved) (s : Setting) (x : Found) (e : Edge) : Type 0 where
+pub record IsTried (r : Resolved) (s : SettingModel) (x : Found) (e : Edge) : Type 0 where
   pub kept : (d : DependencyModel) → IsWanted r s e d → d.optional ≡ false → Stands r s e.child → HasFound r x (Kept e)
   pub declared : IsLoose r s e → ⊥
   pub has_package : (d : DependencyModel) → IsWanted r s e d → d.optional ≡ false → NoPackage r e.child → ⊥
   pub has_node : (d : DependencyModel) → IsWanted r s e d → d.optional ≡ false → LacksNode r s e.child → ⊥
 
 -- each edge from the parent to the child by this dependency of a node has been tried
-abbrev pub AreTried : Resolved → Setting → Found → Id → Id → NodeDepModel → Type 0
+abbrev pub AreTried : Resolved → SettingModel → Found → Id → Id → NodeDepModel → Type 0
 AreTried r s x parent child dep = (info : DepKindInfoModel) → Contains dep.dep_kinds info → IsTried r s x (edge_between parent child info)
 
 -- each edge of the crate has been tried
-abbrev pub IsExpanded : Resolved → Setting → Found → Id → Type 0
+abbrev pub IsExpanded : Resolved → SettingModel → Found → Id → Type 0
 IsExpanded r s x i = (e : Edge) → e.parent ≡ i → IsTried r s x e
 
 -- each root stands in it
-abbrev pub HasRoots : Resolved → Setting → Found → Type 0
+abbrev pub HasRoots : Resolved → SettingModel → Found → Type 0
 HasRoots r s x = (i : Id) → IsRoot r s i → IsRooted r s x i
 
 -- the crates of the first places that were put have been expanded
-abbrev pub AreExpanded : Resolved → Setting → Found → ℕ → Type 0
+abbrev pub AreExpanded : Resolved → SettingModel → Found → ℕ → Type 0
 AreExpanded r s x n = (k place : ℕ) (i : Id) → k < n → slice_get x.agenda.put k ≡ Some place → NodeAt r i place → IsExpanded r s x i

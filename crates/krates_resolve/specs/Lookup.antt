@@ -1,10 +1,10 @@
 -- What look-ups in a document answer.
-use Rattle.std.specs.Prelude.{◌≡◌, ℕ, Option, Some, MatchOption, slice_get}
+use Rattle.std.specs.Prelude.{◌≡◌, ℕ, Bool, Option, Some, MatchOption, MatchBool, slice_get}
 use Rattle.krates_cm.specs.Document.{PackageModel, NodeModel, metadata_view, resolve_view}
 use Rattle.krates_resolve.specs.Admission.{AreIdsOf, NoneDoubled}
 use Rattle.krates_resolve.specs.Facts.{Id}
 use Rattle.krates_resolve.specs.Ids.{ids_view}
-use Rattle.krates_resolve.specs.Resolved.{Resolved, ReadsAs, NoPackage, NoNode}
+use Rattle.krates_resolve.specs.Resolved.{Resolved, ReadsAs, HasPackage, NoPackage, NoNode, IsMember}
 use Rattle.krates_resolve.specs.Table.{ArePlacesOf}
 use Rattle.krates_resolve.specs.declared.lookup.Lookup.{Lookup}
 
@@ -17,6 +17,11 @@ pub record IsLookup (d : Lookup) : Type 0 where
   pub distinct : NoneDoubled (metadata_view d.metadata.now) (resolve_view d.resolve.now)
   pub packages : ArePlacesOf d.ids.now.packages.items d.packages
   pub nodes : ArePlacesOf d.ids.now.nodes.items d.nodes
+  pub members : ArePlacesOf d.ids.now.members.items d.members
+
+-- whether the crate is a member of the workspace
+abbrev pub TellsMember : Resolved → Id → Bool → Type 0
+TellsMember r i is_member = MatchBool is_member (IsMember r i) (IsMember r i → ⊥)
 
 -- a package with the id stands at this place of the document
 pub record PackageAt (r : Resolved) (i : Id) (place : ℕ) : Type 0 where
@@ -33,5 +38,10 @@ pub record NodeAt (r : Resolved) (i : Id) (place : ℕ) : Type 0 where
 abbrev pub IsPackagePlace : Resolved → Id → Option ℕ → Type 0
 IsPackagePlace r i answer = MatchOption answer (NoPackage r i) (PackageAt r i)
 
+-- the package with the id, or none where the document has no such package
+abbrev pub IsPackageOf : Resolved → Id → Option PackageModel → Type 0
+IsPackageOf r i answer = MatchOption answer (NoPackage r i) (HasPackage r i)
+
+-- a place of the node with the id, or none where the graph has no such node
 abbrev pub IsNodePlace : Resolved → Id → Option ℕ → Type 0
 IsNodePlace r i answer = MatchOption answer (NoNode r i) (NodeAt r i)

@@ -3,7 +3,7 @@ use Rattle.std.specs.Prelude.{◌≡◌, ℕ, List, Some, map, slice_get}
 use Rattle.krates_cm.specs.Document.{DependencyModel, DepKindInfoModel, NodeModel, PackageModel, node_dep_view, dependency_view}
 use Rattle.krates_resolve.specs.Admission.{AreDepIds}
 use Rattle.krates_resolve.specs.Facts.{Id, Edge}
-use Rattle.krates_resolve.specs.Lookup.{NodeAt}
+use Rattle.krates_resolve.specs.Lookup.{NodeAt, TellsMember}
 use Rattle.krates_resolve.specs.Resolved.{Resolved, id_of, HasPackage, HasNode, HasDep}
 use Rattle.krates_resolve.specs.DeclaredDependency.{DependencyEntry, dependency_entry}
 use Rattle.krates_resolve.specs.declared.node_entry.NodeEntry.{NodeEntry}
@@ -21,6 +21,7 @@ pub record AreParts (r : Resolved) (place : ℕ) (x : NodeParts) : Type 0 where
   pub deps : at.node.deps ≡ map node_dep_view x.deps.now
   pub children : AreDepIds at.node x.children.now
   pub declares : AreDeclaredBy r (id_of x.parent.now) (map dependency_view x.declared.now)
+  pub tells : TellsMember r (id_of x.parent.now) x.is_member
 
 abbrev pub parent_of : NodeEntry → Id
 parent_of x = id_of x.parent.now
@@ -40,6 +41,7 @@ pub record IsEntry (r : Resolved) (x : NodeEntry) : Type 0 where
   pub has_node : HasNode r (parent_of x) node
   pub has_dep : HasDep node (child_of x) (node_dep_view x.dep.now)
   pub declares : AreDeclaredBy r (parent_of x) (declared_in x)
+  pub tells : TellsMember r (parent_of x) x.is_member
 
 -- the edge between two crates for one purpose and target
 abbrev pub edge_between : Id → Id → DepKindInfoModel → Edge

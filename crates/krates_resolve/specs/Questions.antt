@@ -6,25 +6,25 @@ use Rattle.krates_text.specs.FeatureReference.{Reference}
 use Rattle.krates_resolve.specs.Rules.{Questions}
 use Rattle.krates_resolve.specs.Resolved.{Resolved, HasPackage, NoPackage, HasNode, NoNode, HasDep}
 use Rattle.krates_resolve.specs.DeclaredDependency.{dependency_entry, IsDeclared, IsUndeclared}
-use Rattle.krates_resolve.specs.Setting.{IsRoot, IsExcluded, IsIgnored, Passes}
-use Rattle.krates_resolve.specs.declared.setting.Setting.{Setting}
+use Rattle.krates_resolve.specs.Roots.{IsRoot}
+use Rattle.krates_resolve.specs.Setting.{SettingModel, IsExcluded, IsIgnored, Passes}
 
 -- ---- crates
 
 -- the crate has a package that isn't excluded
-pub record IsIncluded (r : Resolved) (s : Setting) (i : Id) : Type 0 where
+pub record IsIncluded (r : Resolved) (s : SettingModel) (i : Id) : Type 0 where
   pub pkg : PackageModel
   pub has_package : HasPackage r i pkg
   pub not_excluded : IsExcluded s pkg → ⊥
 
 -- the crate has a package that isn't excluded, and a node
-pub record Stands (r : Resolved) (s : Setting) (i : Id) : Type 0 where
+pub record Stands (r : Resolved) (s : SettingModel) (i : Id) : Type 0 where
   pub included : IsIncluded r s i
   pub node : NodeModel
   pub has_node : HasNode r i node
 
 -- the crate has a package that isn't excluded, and no node
-pub record LacksNode (r : Resolved) (s : Setting) (i : Id) : Type 0 where
+pub record LacksNode (r : Resolved) (s : SettingModel) (i : Id) : Type 0 where
   pub included : IsIncluded r s i
   pub no_node : NoNode r i
 
@@ -42,12 +42,12 @@ pub record ListsEdge (r : Resolved) (e : Edge) (d : NodeDepModel) : Type 0 where
   pub has_kind : Contains d.dep_kinds (kind_info_of e)
 
 -- the edge is listed, and not ignored
-pub record IsListed (r : Resolved) (s : Setting) (e : Edge) (d : NodeDepModel) : Type 0 where
+pub record IsListed (r : Resolved) (s : SettingModel) (e : Edge) (d : NodeDepModel) : Type 0 where
   pub lists : ListsEdge r e d
   pub not_ignored : IsIgnored r s e → ⊥
 
 -- the edge is listed, not ignored, and declared as this dependency, which stands at this place of its package's list
-pub record IsDeclaredAt (r : Resolved) (s : Setting) (e : Edge) (place : ℕ) (d : DependencyModel) : Type 0 where
+pub record IsDeclaredAt (r : Resolved) (s : SettingModel) (e : Edge) (place : ℕ) (d : DependencyModel) : Type 0 where
   pub dep : NodeDepModel
   pub listed : IsListed r s e dep
   pub pkg : PackageModel
@@ -55,13 +55,13 @@ pub record IsDeclaredAt (r : Resolved) (s : Setting) (e : Edge) (place : ℕ) (d
   pub declared : IsDeclared pkg.dependencies (dependency_entry e.child dep) (kind_info_of e) place d
 
 -- the edge is declared so, and passes the targets
-pub record IsWanted (r : Resolved) (s : Setting) (e : Edge) (d : DependencyModel) : Type 0 where
+pub record IsWanted (r : Resolved) (s : SettingModel) (e : Edge) (d : DependencyModel) : Type 0 where
   pub place : ℕ
   pub declared : IsDeclaredAt r s e place d
   pub passes : Passes s e.cfg
 
 -- the edge is listed, not ignored, and no package of its parent declares it
-pub record IsLoose (r : Resolved) (s : Setting) (e : Edge) : Type 0 where
+pub record IsLoose (r : Resolved) (s : SettingModel) (e : Edge) : Type 0 where
   pub dep : NodeDepModel
   pub listed : IsListed r s e dep
   pub undeclared : (p : PackageModel) → HasPackage r e.parent p → IsUndeclared p.dependencies (dependency_entry e.child dep) (kind_info_of e)
@@ -77,12 +77,12 @@ LacksFeature r i f = ⊥
 abbrev pub HasReference : Resolved → Id → Text → Reference → Type 0
 HasReference r i f reference = ⊥
 
-abbrev pub IsReferent : Resolved → Setting → Id → Text → Id → Type 0
+abbrev pub IsReferent : Resolved → SettingModel → Id → Text → Id → Type 0
 IsReferent r s i dep child = ⊥
 
 -- ---- all that the rules ask
 
-unfoldable pub questions : Resolved → Setting → Questions
+unfoldable pub questions : Resolved → SettingModel → Questions
 questions r s = record {
   Root = IsRoot r s;
   Stands = Stands r s;

@@ -13,7 +13,7 @@ use Rattle.krates_resolve.specs.declared.selection.EnabledFeature.{EnabledFeatur
 use Rattle.krates_resolve.specs.declared.selection.KeptEdge.{KeptEdge}
 use Rattle.krates_resolve.specs.declared.selection.Selection.{Selection}
 use Rattle.krates_resolve.specs.declared.selection.ToggledFeature.{ToggledFeature}
-use Rattle.krates_resolve.specs.declared.setting.Setting.{Setting}
+use Rattle.krates_resolve.specs.Setting.{SettingModel}
 
 -- ---- the facts of a selection
 
@@ -38,13 +38,13 @@ facts_of x = map crate_fact x.krates.items ++ (map edge_fact x.edges.items ++ (m
 -- ---- the selection of a document
 
 -- the edge names its declared dependency, and the first place of its purpose and target
-pub record IsPlaced (r : Resolved) (s : Setting) (e : KeptEdge) : Type 0 where
+pub record IsPlaced (r : Resolved) (s : SettingModel) (e : KeptEdge) : Type 0 where
   pub dependency : DependencyModel
   pub declared : IsDeclaredAt r s (edge_view e) e.declared dependency
   pub place : FirstAt (λ k. k ≡ kind_info_of (edge_view e)) declared.dep.dep_kinds e.place (kind_info_of (edge_view e))
 
 -- The selection has exactly the derivable facts, a crate among them, each list in order and without doubles.
-pub record IsSelection (r : Resolved) (s : Setting) (x : Selection) : Type 0 where
+pub record IsSelection (r : Resolved) (s : SettingModel) (x : Selection) : Type 0 where
   pub facts : (f : Fact) → Derivable (questions r s) f ↔ Contains (facts_of x) f
   pub some : (i : Id) × Derivable (questions r s) (Crate i)
   pub krates : IsStrictlySortedBy id_cmp x.krates.items

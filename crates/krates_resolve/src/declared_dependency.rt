@@ -5,8 +5,9 @@ ghost use Rattle.semver.specs.Identifiers.{parts_of};
 ghost use Rattle.krates_cm.specs.Document.{VersionModel, DependencyModel, node_dep_view, dep_kind_info_view, dependency_view, requirement_view};
 ghost use Rattle.krates_cm.specs.Names.{version_named};
 ghost use Rattle.krates_resolve.specs.Resolved.{id_of};
-ghost use Rattle.krates_resolve.specs.DeclaredDependency.{declared_name, dependency_entry, NameFits, VersionMatches, Fits, IsDeclared, IsUndeclared};
+ghost use Rattle.krates_resolve.specs.DeclaredDependency.{declared_name, dependency_entry, NameFits, VersionMatches, Fits, FitsBySource, IsFirstPlace, IsDeclared, IsUndeclared};
 
+use crate::declared_source::has_source;
 use crate::dependency_name::is_name_of;
 use krates_cm::{DepKindInfo, Dependency, NodeDep};
 use krates_ids::Kid;
@@ -28,7 +29,8 @@ pub(crate) fn version_of(alloc: Global, kid: &Kid) -> Result<Option<Version>, Al
 }
 
 /// The place of the declared dependency of a node's dependency, for one purpose and target, among those that the node's
-/// package declares: the first that fits, or none where none does.
+/// package declares: the one that fits; where several fit, the first of them whose source is that of the dependency's
+/// id. None where none fits, and where several fit and none of them has the source.
 ///
 /// The version is that of the dependency's id.
 pub(crate) fn declared_of(
@@ -45,9 +47,62 @@ pub(crate) fn declared_of(
         let kind = dep_kind_info_view info.now in
         MatchOption result (IsUndeclared all entry kind) (λ place. (d : DependencyModel) × IsDeclared all entry kind place d) }
 {
+    let first = first_fitting(declared, dep, kid, version, info)?;
+    let behind = &declared[first + 1..];
+    if first_fitting(behind, dep, kid, version, info).is_none() {
+        return Some(first);
+    }
+    first_of_source(declared, dep, kid, version, info)
+}
+
+/// The place of the first declared dependency that fits.
+fn first_fitting(
+    declared: &[Dependency],
+    dep: &NodeDep,
+    kid: &Kid,
+    version: &Version,
+    info: &DepKindInfo,
+) -> Option<usize>
+    requires { version_named kid.now.version ≡ Some (parts_of version.now) }
+    ensures within { IfSome result (λ place. place < length declared.now) }
+    ensures first { let entry = dependency_entry (id_of kid.now) (node_dep_view dep.now) in
+        IsFirstPlace (Fits entry (dep_kind_info_view info.now)) (map dependency_view declared.now) result }
+{
     declared
         .iter()
         .position(|dependency| fits(dep, kid, version, info, dependency))
+}
+
+/// The place of the first declared dependency that fits and has the source of the dependency's id.
+fn first_of_source(
+    declared: &[Dependency],
+    dep: &NodeDep,
+    kid: &Kid,
+    version: &Version,
+    info: &DepKindInfo,
+) -> Option<usize>
+    requires { version_named kid.now.version ≡ Some (parts_of version.now) }
+    ensures within { IfSome result (λ place. place < length declared.now) }
+    ensures first { let entry = dependency_entry (id_of kid.now) (node_dep_view dep.now) in
+        IsFirstPlace (FitsBySource entry (dep_kind_info_view info.now)) (map dependency_view declared.now) result }
+{
+    declared.iter().position(|dependency| fits_by_source(dep, kid, version, info, dependency))
+}
+
+/// Whether the declared dependency fits, and its source is that of the dependency's id.
+fn fits_by_source(
+    dep: &NodeDep,
+    kid: &Kid,
+    version: &Version,
+    info: &DepKindInfo,
+    declared: &Dependency,
+) -> bool
+    requires { version_named kid.now.version ≡ Some (parts_of version.now) }
+    ensures { let entry = dependency_entry (id_of kid.now) (node_dep_view dep.now) in
+        IsTrue result ↔ FitsBySource entry (dep_kind_info_view info.now) (dependency_view declared.now) }
+{
+    fits(dep, kid, version, info, declared)
+        && has_source(declared, dep.pkg.repr.as_str(), kid.source())
 }
 
 /// Whether the declared dependency fits this dependency of a node, for this purpose and target: the purpose and the text

@@ -1,19 +1,17 @@
-//! What the rules give from the roots and from each kept crate.
+//! What the rules give from each kept crate.
 
-ghost use Rattle.std.specs.Prelude.{◌≡◌, ◌<◌, All, IfErr, OnOk, Some, Contains, map};
+ghost use Rattle.std.specs.Prelude.{◌≡◌, ◌<◌, IfErr, OnOk, Some, Contains, map};
 ghost use Rattle.semver.specs.Identifiers.{parts_of};
 ghost use Rattle.krates_cm.specs.Document.{dep_kind_info_view, node_dep_view};
 ghost use Rattle.krates_cm.specs.Names.{version_named};
 ghost use Rattle.krates_resolve.specs.Derivation.{Derivable};
 ghost use Rattle.krates_resolve.specs.Admission.{HasVersion};
 ghost use Rattle.krates_resolve.specs.Facts.{Id, Crate};
-ghost use Rattle.krates_resolve.specs.Found.{IsSound, Advances, IsRooted, HasRoots, IsTried, AreTried, IsExpanded};
+ghost use Rattle.krates_resolve.specs.Found.{IsSound, Advances, IsTried, AreTried, IsExpanded};
 ghost use Rattle.krates_resolve.specs.Lookup.{IsLookup, NodeAt, resolved_view};
 ghost use Rattle.krates_resolve.specs.NodeEntry.{IsEntry, parent_of, child_of, edge_for};
 ghost use Rattle.krates_resolve.specs.Questions.{questions};
-ghost use Rattle.krates_resolve.specs.Resolved.{id_of};
 ghost use Rattle.krates_resolve.specs.SelectionRefusals.{IsUnselected};
-ghost use Rattle.krates_resolve.specs.Setting.{IsRoot};
 
 use crate::declared_dependency::{declared_of, version_of};
 use crate::found::{Found, keep};
@@ -23,73 +21,9 @@ use crate::setting::Setting;
 use crate::standing::{Standing, standing_of};
 use krates_cm::DepKindInfo;
 use krates_graph::agenda::Taken;
-use krates_ids::{Error, Kid, Lost, laws};
+use krates_ids::{Error, Lost, laws};
 use semver::Version;
 use std::alloc::Global;
-
-/// Puts the roots: the graph's root, where there is one, else each member.
-pub(crate) fn put_roots<'a>(
-    lookup: &Lookup<'a>,
-    setting: &Setting,
-    found: &mut Found,
-) -> Result<(), Error>
-    requires lookup { IsLookup lookup.now }
-    requires sound { IsSound (resolved_view lookup.now) setting.now found.old }
-    ensures advanced { OnOk result (Advances (resolved_view lookup.now) setting.now found.old found.new) }
-    ensures roots { OnOk result (HasRoots (resolved_view lookup.now) setting.now found.new) }
-    ensures refused { IfErr result (IsUnselected (questions (resolved_view lookup.now) setting.now)) }
-{
-    laws::one_reading();
-    match &lookup.ids.root {
-        Some(root) => put_root(lookup, setting, root, found),
-        None => put_members(lookup, setting, &lookup.ids.members, found),
-    }
-}
-
-/// Puts each of these members of the workspace, where the graph has no root.
-fn put_members<'a>(
-    lookup: &Lookup<'a>,
-    setting: &Setting,
-    members: &'a [Kid],
-    found: &mut Found,
-) -> Result<(), Error>
-    requires lookup { IsLookup lookup.now }
-    requires sound { IsSound (resolved_view lookup.now) setting.now found.old }
-    requires roots { All (λ member. IsRoot (resolved_view lookup.now) setting.now (id_of member)) members.now }
-    ensures advanced { OnOk result (Advances (resolved_view lookup.now) setting.now found.old found.new) }
-    ensures rooted { OnOk result (All (λ member. IsRooted (resolved_view lookup.now) setting.now found.new (id_of member)) members.now) }
-    ensures refused { IfErr result (IsUnselected (questions (resolved_view lookup.now) setting.now)) }
-{
-    for member in members {
-        put_root(lookup, setting, member, found)?;
-    }
-    Ok(())
-}
-
-/// Puts a root that stands.
-fn put_root<'a>(
-    lookup: &Lookup<'a>,
-    setting: &Setting,
-    root: &'a Kid,
-    found: &mut Found,
-) -> Result<(), Error>
-    requires lookup { IsLookup lookup.now }
-    requires sound { IsSound (resolved_view lookup.now) setting.now found.old }
-    requires root { IsRoot (resolved_view lookup.now) setting.now (id_of root.now) }
-    ensures advanced { OnOk result (Advances (resolved_view lookup.now) setting.now found.old found.new) }
-    ensures rooted { OnOk result (IsRooted (resolved_view lookup.now) setting.now found.new (id_of root.now)) }
-    ensures refused { IfErr result (IsUnselected (questions (resolved_view lookup.now) setting.now)) }
-{
-    laws::one_reading();
-    match standing_of(lookup, setting, root) {
-        Standing::NoPackage => Err(Error::Lost(Lost::Package(root.clone()?))),
-        Standing::NoNode => Err(Error::Lost(Lost::Node(root.clone()?))),
-        Standing::Stands(place) => {
-            let _ = found.agenda.put(place);
-            Ok(())
-        }
-    }
-}
 
 /// Keeps what a kept crate needs: tries each edge of its node.
 ///
@@ -114,6 +48,7 @@ pub(crate) fn expand<'a>(
     for (index, child) in parts.children.iter().enumerate() {
         let entry = NodeEntry {
             parent: parts.parent,
+            is_member: parts.is_member,
             declared: parts.declared,
             dep: &parts.deps[index],
             child,
@@ -144,13 +79,14 @@ fn expand_entry<'a>(
         unreachable!()
     };
     for info in entry.dep.dep_kinds.as_slice() {
-        expand_edge(lookup, setting, entry, &version, info, found)?;
+        expand_edge(alloc, lookup, setting, entry, &version, info, found)?;
     }
     Ok(())
 }
 
-/// Keeps an edge of an entry, for one purpose and target, unless it is optional.
+/// Keeps an edge of an entry, for one purpose and target, unless it is ignored or optional, or its target doesn't pass.
 fn expand_edge<'a>(
+    alloc: Global,
     lookup: &Lookup<'a>,
     setting: &Setting,
     entry: &NodeEntry<'a>,
@@ -169,6 +105,9 @@ fn expand_edge<'a>(
     ensures refused { IfErr result (IsUnselected (questions (resolved_view lookup.now) setting.now)) }
 {
     laws::one_reading();
+    if setting.ignores(info.kind, entry.is_member) {
+        return Ok(());
+    }
     let Some(declared) = declared_of(entry.declared, entry.dep, entry.child, version, info) else {
         return Err(Error::Lost(Lost::Undeclared {
             krate: entry.parent.clone()?,
@@ -178,9 +117,14 @@ fn expand_edge<'a>(
     if entry.declared[declared].optional {
         return Ok(());
     }
+    let passes = setting.passes(alloc, &info.target)?;
+    if !passes {
+        return Ok(());
+    }
     match standing_of(lookup, setting, entry.child) {
         Standing::NoPackage => Err(Error::Lost(Lost::Package(entry.child.clone()?))),
         Standing::NoNode => Err(Error::Lost(Lost::Node(entry.child.clone()?))),
+        Standing::Excluded => Ok(()),
         Standing::Stands(node) => keep(found, kept_edge(entry, info, declared)?, node),
     }
 }

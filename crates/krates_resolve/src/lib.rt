@@ -3,12 +3,15 @@
 
 pub mod admission;
 mod declared_dependency;
+pub mod declared_source;
 mod dependency_name;
 mod expansion;
 mod found;
 pub mod ids;
+pub mod kind;
 mod lookup;
 mod node_entry;
+mod roots;
 mod saturation;
 pub mod selection;
 pub mod setting;
@@ -18,5 +21,6 @@ mod table;
 
 pub use admission::admit;
 pub use ids::Ids;
+pub use kind::{DepKind, Scope};
 pub use selection::{EnabledFeature, KeptEdge, Selection, ToggledFeature, select};
 pub use setting::Setting;

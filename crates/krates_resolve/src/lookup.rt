@@ -1,20 +1,20 @@
 //! The document, looked up by id.
 
-ghost use Rattle.std.specs.Prelude.{◌≡◌, IfOk};
-ghost use Rattle.krates_cm.specs.Document.{metadata_view, resolve_view};
+ghost use Rattle.std.specs.Prelude.{◌≡◌, IfOk, option_map};
+ghost use Rattle.krates_cm.specs.Document.{metadata_view, package_view, resolve_view};
 ghost use Rattle.krates_resolve.specs.Admission.{AreIdsOf, NoneDoubled};
 ghost use Rattle.krates_resolve.specs.Ids.{ids_view};
-ghost use Rattle.krates_resolve.specs.Lookup.{IsLookup, IsPackagePlace, IsNodePlace, resolved_view};
+ghost use Rattle.krates_resolve.specs.Lookup.{IsLookup, IsPackagePlace, IsPackageOf, IsNodePlace, TellsMember, resolved_view};
 ghost use Rattle.krates_resolve.specs.Resolved.{id_of};
 
 use crate::ids::Ids;
 use crate::table::{place_of, places_by_id};
-use krates_cm::{Metadata, Resolve};
+use krates_cm::{Metadata, Package, Resolve};
 use krates_ids::{Kid, laws};
 use std::alloc::{AllocError, Global};
 use std::collections::BTreeMap;
 
-/// A document with its ids, and where the packages and nodes of each id stand.
+/// A document with its ids, and where the packages, the nodes and the members of each id stand.
 #[derive(Drop)]
 pub(crate) struct Lookup<'a> {
     pub metadata: &'a Metadata,
@@ -22,6 +22,7 @@ pub(crate) struct Lookup<'a> {
     pub ids: &'a Ids,
     pub packages: BTreeMap<&'a Kid, usize>,
     pub nodes: BTreeMap<&'a Kid, usize>,
+    pub members: BTreeMap<&'a Kid, usize>,
 }
 
 /// The document, ready to be looked up.
@@ -38,17 +39,28 @@ pub(crate) fn lookup_of<'a>(
 {
     let packages = places_by_id(alloc, &ids.packages)?;
     let nodes = places_by_id(alloc, &ids.nodes)?;
+    let members = places_by_id(alloc, &ids.members)?;
     Ok(Lookup {
         metadata,
         resolve,
         ids,
         packages,
         nodes,
+        members,
     })
 }
 
+/// The package with the id.
+pub(crate) fn package_of<'a>(lookup: &Lookup<'a>, id: &'a Kid) -> Option<&'a Package>
+    requires { IsLookup lookup.now }
+    ensures { IsPackageOf (resolved_view lookup.now) (id_of id.now) (option_map (λ pkg. package_view pkg.now) result) }
+{
+    let place = package_place(lookup, id)?;
+    Some(&lookup.metadata.packages[place])
+}
+
 /// The place of the package with the id.
-pub(crate) fn package_place<'a>(lookup: &Lookup<'a>, id: &'a Kid) -> Option<usize>
+fn package_place<'a>(lookup: &Lookup<'a>, id: &'a Kid) -> Option<usize>
     requires { IsLookup lookup.now }
     ensures { IsPackagePlace (resolved_view lookup.now) (id_of id.now) result }
 {
@@ -63,4 +75,13 @@ pub(crate) fn node_place<'a>(lookup: &Lookup<'a>, id: &'a Kid) -> Option<usize>
 {
     laws::one_reading();
     place_of(&lookup.ids.nodes, &lookup.nodes, id)
+}
+
+/// Whether the crate is a member of the workspace.
+pub(crate) fn is_member<'a>(lookup: &Lookup<'a>, id: &'a Kid) -> bool
+    requires { IsLookup lookup.now }
+    ensures { TellsMember (resolved_view lookup.now) (id_of id.now) result }
+{
+    laws::one_reading();
+    place_of(&lookup.ids.members, &lookup.members, id).is_some()
 }

@@ -8,7 +8,7 @@ ghost use Rattle.krates_resolve.specs.NodeEntry.{AreDeclaredBy, AreParts, edge_f
 ghost use Rattle.krates_resolve.specs.Resolved.{id_of};
 ghost use Rattle.krates_resolve.specs.Selection.{edge_view};
 
-use crate::lookup::{Lookup, package_place};
+use crate::lookup::{Lookup, is_member, package_of};
 use crate::selection::KeptEdge;
 use krates_cm::{DepKindInfo, Dependency, NodeDep};
 use krates_ids::Kid;
@@ -25,6 +25,8 @@ pub(crate) struct NodeEntry<'a> {
     pub dep: &'a NodeDep,
     /// The crate that is depended on.
     pub child: &'a Kid,
+    /// Whether the kept crate is a member of the workspace.
+    pub is_member: bool,
 }
 
 /// The node of a kept crate, taken apart.
@@ -38,6 +40,8 @@ pub(crate) struct NodeParts<'a> {
     pub deps: &'a [NodeDep],
     /// Their ids.
     pub children: &'a [Kid],
+    /// Whether the kept crate is a member of the workspace.
+    pub is_member: bool,
 }
 
 /// The node at a place, taken apart.
@@ -52,6 +56,7 @@ pub(crate) fn parts_of<'a>(lookup: &Lookup<'a>, place: usize) -> NodeParts<'a>
         declared: declared_by(lookup, parent),
         deps: &lookup.resolve.nodes[place].deps,
         children: &lookup.ids.deps[place],
+        is_member: is_member(lookup, parent),
     }
 }
 
@@ -60,8 +65,8 @@ pub(crate) fn declared_by<'a>(lookup: &Lookup<'a>, krate: &'a Kid) -> &'a [Depen
     requires { IsLookup lookup.now }
     ensures { AreDeclaredBy (resolved_view lookup.now) (id_of krate.now) (map dependency_view result.now) }
 {
-    match package_place(lookup, krate) {
-        Some(place) => &lookup.metadata.packages[place].dependencies,
+    match package_of(lookup, krate) {
+        Some(pkg) => &pkg.dependencies,
         None => &[],
     }
 }

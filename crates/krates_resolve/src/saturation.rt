@@ -9,9 +9,10 @@ ghost use Rattle.krates_resolve.specs.Questions.{questions};
 ghost use Rattle.krates_resolve.specs.Selection.{IsPlaced};
 ghost use Rattle.krates_resolve.specs.SelectionRefusals.{IsUnselected};
 
-use crate::expansion::{expand, put_roots};
+use crate::expansion::expand;
 use crate::found::Found;
 use crate::lookup::Lookup;
+use crate::roots::put_roots;
 use crate::selection::KeptEdge;
 use crate::setting::Setting;
 use krates_graph::agenda::Agenda;

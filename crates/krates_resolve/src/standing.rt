@@ -4,7 +4,7 @@ ghost use Rattle.krates_resolve.specs.Lookup.{IsLookup, resolved_view};
 ghost use Rattle.krates_resolve.specs.Resolved.{id_of};
 ghost use Rattle.krates_resolve.specs.Standing.{IsStanding};
 
-use crate::lookup::{Lookup, node_place, package_place};
+use crate::lookup::{Lookup, node_place, package_of};
 use crate::setting::Setting;
 use krates_ids::Kid;
 
@@ -16,6 +16,8 @@ pub(crate) enum Standing {
     NoPackage,
     /// A package, and no node.
     NoNode,
+    /// A package that is excluded.
+    Excluded,
 }
 
 /// Whether a crate can be kept.
@@ -23,11 +25,14 @@ pub(crate) fn standing_of<'a>(lookup: &Lookup<'a>, setting: &Setting, id: &'a Ki
     requires { IsLookup lookup.now }
     ensures { IsStanding (resolved_view lookup.now) setting.now (id_of id.now) result }
 {
-    match package_place(lookup, id) {
-        None => Standing::NoPackage,
-        Some(_) => match node_place(lookup, id) {
-            None => Standing::NoNode,
-            Some(place) => Standing::Stands(place),
-        },
+    let Some(pkg) = package_of(lookup, id) else {
+        return Standing::NoPackage;
+    };
+    if setting.excludes(pkg) {
+        return Standing::Excluded;
+    }
+    match node_place(lookup, id) {
+        Some(place) => Standing::Stands(place),
+        None => Standing::NoNode,
     }
 }

@@ -30,6 +30,7 @@ expand_entry-requires-clause-entry c =
       has_node = p.has_node;
       has_dep = has_dep_here p.at.node parts.children.now k (node_dep_view d) c.child-item.result p.children dep child;
       declares = p.declares;
+      tells = p.tells;
     }
 
 pub expand_entry-requires-clause-sound : goal.expand_entry-requires-clause-sound

@@ -9,4 +9,5 @@ returns-clause-lookup c = record {
   distinct = c.requires.distinct;
   packages = subst (λ (ids : List Identity). ArePlacesOf ids c.in_ok-packages.packages) c.deref.ensures.value c.in_ok-packages.ensures;
   nodes = subst (λ (ids : List Identity). ArePlacesOf ids c.in_ok-nodes.nodes) c.deref-2.ensures.value c.in_ok-nodes.ensures;
+  members = subst (λ (ids : List Identity). ArePlacesOf ids c.in_ok-members.members) c.deref-3.ensures.value c.in_ok-members.ensures;
 }

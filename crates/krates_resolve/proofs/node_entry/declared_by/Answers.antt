@@ -1,4 +1,5 @@
-use Rattle.std.proofs.Common.{refl}
+use Rattle.std.proofs.Common.{sym, ap, map}
+use Rattle.krates_cm.specs.Document.{dependency_view, package_view}
 use Rattle.krates_resolve.specs.Lookup.{resolved_view}
 use Rattle.krates_resolve.specs.Resolved.{id_of}
 use Rattle.krates_resolve.proofs.Declared.{declared_here, none_declared}
@@ -6,8 +7,8 @@ use Rattle.krates_resolve.proofs.node_entry.declared_by.Goals as goal
 
 pub returns-in-Some : goal.returns-in-Some
 returns-in-Some c =
-    declared_here (resolved_view c.args.lookup.now) (id_of c.args.krate.now) c.args.lookup.now.metadata.now.packages.items c.in-Some.place c.index.result.now c.deref.result.now c.requires.distinct refl
-    c.in-Some.ensures c.index.ensures c.deref.ensures.value
+    declared_here (resolved_view c.args.lookup.now) (id_of c.args.krate.now) (package_view c.in-Some.pkg.now) (map dependency_view c.deref.result.now) c.requires.distinct c.in-Some.ensures
+    (ap (map dependency_view) (sym c.deref.ensures.value))
 
 pub returns-in-None : goal.returns-in-None
 returns-in-None c = none_declared (resolved_view c.args.lookup.now) (id_of c.args.krate.now) c.in-None.ensures

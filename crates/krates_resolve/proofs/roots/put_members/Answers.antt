@@ -3,27 +3,28 @@ use Rattle.krates_ids.specs.Identity.{Identity}
 use Rattle.krates_resolve.specs.Found.{IsRooted}
 use Rattle.krates_resolve.specs.Lookup.{resolved_view}
 use Rattle.krates_resolve.specs.Resolved.{id_of}
+use Rattle.krates_resolve.specs.Roots.{IsRoot}
 use Rattle.krates_resolve.proofs.Growth.{advances_refl, advances_trans, rooted_grows}
 use Rattle.krates_resolve.proofs.Seen.{seen_more, seen_all}
-use Rattle.krates_resolve.proofs.expansion.put_members.Goals as goal
+use Rattle.krates_resolve.proofs.roots.put_members.Goals as goal
 
 pub loop-member-init : goal.loop-member-init
 loop-member-init c = (advances_refl (resolved_view c.args.lookup.now) c.args.setting.now c.args.found.now c.requires.sound, λ k d lt. absurd (omega (arith, lt)))
 
-pub put_root-requires-clause-sound : goal.put_root-requires-clause-sound
-put_root-requires-clause-sound c = c.loop-member.invariant.0.sound
+pub put_member-requires-clause-sound : goal.put_member-requires-clause-sound
+put_member-requires-clause-sound c = c.loop-member.invariant.0.sound
 
 pub loop-member-preserved : goal.loop-member-preserved
 loop-member-preserved c =
     let r = resolved_view c.args.lookup.now in
     let s = c.args.setting.now in
     let x = c.loop-member.found in
-    let y = c.put_root.new.found in
+    let y = c.put_member.new.found in
     let inv = c.loop-member.invariant in
-    let step = c.in_ok-put_root.ensures in (
+    let step = c.in_ok-put_member.ensures in (
       advances_trans r s c.args.found.now x y inv.0 step.advanced,
-      seen_more (λ (member : Identity). IsRooted r s y (id_of member)) c.args.members.now c.loop-member.member-index c.member-item.result c.loop-member-test.true c.member-item.is
-          (λ k d lt. rooted_grows r s x y _ step.advanced.grows (inv.1 k d lt)) step.rooted,
+      seen_more (λ (member : Identity). IsRoot r s (id_of member) → IsRooted r s y (id_of member)) c.args.members.now c.loop-member.member-index c.member-item.result c.loop-member-test.true c.member-item.is
+          (λ k d lt is. rooted_grows r s x y _ step.advanced.grows (inv.1 k d lt is)) step.rooted,
     )
 
 pub returns-clause-advanced : goal.returns-clause-advanced
@@ -31,5 +32,5 @@ returns-clause-advanced c = c.loop-member.invariant.0
 
 pub returns-clause-rooted : goal.returns-clause-rooted
 returns-clause-rooted c =
-    seen_all (λ (member : Identity). IsRooted (resolved_view c.args.lookup.now) c.args.setting.now c.loop-member.found (id_of member)) c.args.members.now c.args.members.now c.loop-member.member-index refl (omega arith)
+    seen_all (λ (member : Identity). IsRoot (resolved_view c.args.lookup.now) c.args.setting.now (id_of member) → IsRooted (resolved_view c.args.lookup.now) c.args.setting.now c.loop-member.found (id_of member)) c.args.members.now c.args.members.now c.loop-member.member-index refl (omega arith)
     c.loop-member.invariant.1

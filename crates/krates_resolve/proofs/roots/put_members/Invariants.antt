@@ -2,11 +2,12 @@ use Rattle.krates_ids.specs.Identity.{Identity}
 use Rattle.krates_resolve.specs.Found.{Advances, IsRooted}
 use Rattle.krates_resolve.specs.Lookup.{resolved_view}
 use Rattle.krates_resolve.specs.Resolved.{id_of}
+use Rattle.krates_resolve.specs.Roots.{IsRoot}
 use Rattle.krates_resolve.proofs.Seen.{SeenBelow}
-use Rattle.krates_resolve.proofs.expansion.put_members.Given as goal
+use Rattle.krates_resolve.proofs.roots.put_members.Given as goal
 
--- each member so far stands in it
+-- each member so far that is a root stands in it
 abbrev pub invariant-loop-member : goal.invariant-loop-member
 invariant-loop-member l =
     Advances (resolved_view l.lookup) l.setting l.fn.found l.found
-    × SeenBelow (λ (member : Identity). IsRooted (resolved_view l.lookup) l.setting l.found (id_of member)) l.members l.member-index
+    × SeenBelow (λ (member : Identity). IsRoot (resolved_view l.lookup) l.setting (id_of member) → IsRooted (resolved_view l.lookup) l.setting l.found (id_of member)) l.members l.member-index

@@ -1,0 +1,76 @@
+-- When the source that a package declares for a dependency is the one that the id of the dependency has.
+use Rattle.std.specs.Prelude.{◌≡◌, ◌⊎◌, ◌<◌, ◌==◌, ℕ, List, ◌∷◌, ◌++◌, codes, MatchOption, IsSomeAnd}
+use Rattle.std.specs.List.{slice_split}
+use Rattle.std.specs.Path.{IsAbsolute, IsRelative}
+use Rattle.krates_cm.specs.Document.{Text, DependencyModel}
+use Rattle.krates_ids.specs.Cuts.{Lacks, Has, LastAt}
+use Rattle.krates_ids.specs.Separators.{blank, hash_sign}
+use Rattle.krates_text.specs.Path.{components}
+use Rattle.krates_text.specs.Text.{BeginsWith}
+
+-- ---- a declared path
+
+-- how the source of a package begins that lies in a directory
+abbrev pub path_start : Text
+path_start = codes "path+file://"
+
+-- '\', which stands between the names of a path on Windows
+abbrev pub backslash : ℕ
+backslash = 92
+
+-- what stands before, between and after the backslashes, empty texts too
+abbrev pub between_backslashes : Text → List Text
+between_backslashes path = slice_split (λ byte. byte == backslash) path
+
+-- The names between backslashes are the components of the directory, less its first character, which is ASCII: the
+-- slash before the drive, in `/D:/a` for `D:\a`.
+pub record HasNamesOf (path directory : Text) : Type 0 where
+  pub first : ℕ
+  pub is_ascii : first < 128
+  pub rest : Text
+  pub is : directory ≡ first ∷ rest
+  pub same : between_backslashes path ≡ components rest
+
+-- a path that begins with `/` has the components of the directory; any other has its names
+abbrev pub LeadsTo : Text → Text → Type 0
+LeadsTo path directory = (IsAbsolute path × (components path ≡ components directory)) ⊎ (IsRelative path × HasNamesOf path directory)
+
+-- the source is that of a directory, and the path leads there
+pub record IsPathOf (path source : Text) : Type 0 where
+  pub directory : Text
+  pub is : source ≡ path_start ++ directory
+  pub leads : LeadsTo path directory
+
+-- ---- a declared source
+
+-- how a git source begins
+abbrev pub git_start : Text
+git_start = codes "git+"
+
+-- the text of an id is opaque
+abbrev pub IsOpaque : Text → Type 0
+IsOpaque text = Has blank text
+
+-- what stands before the last '#', or the whole text where it has none
+abbrev pub IsWithoutCommit : Text → Text → Type 0
+IsWithoutCommit text front = ((commit : Text) × LastAt hash_sign text front commit) ⊎ (Lacks hash_sign text × (front ≡ text))
+
+-- what is compared of a declared git source: an opaque id has no commit in its source
+abbrev pub IsCompared : Text → Text → Text → Type 0
+IsCompared id declared compared = (IsOpaque id × IsWithoutCommit declared compared) ⊎ (Lacks blank id × (compared ≡ declared))
+
+-- both sources are git's, and the id's is what is compared of the declared one
+pub record IsSameGit (id declared source : Text) : Type 0 where
+  pub given : Text
+  pub declared_is : declared ≡ git_start ++ given
+  pub url : Text
+  pub source_is : source ≡ git_start ++ url
+  pub compared : IsCompared id given url
+
+-- the declared source is the source of this id: without the commit where both are git's, and else as a text
+abbrev pub IsSameSource : Text → Text → Text → Type 0
+IsSameSource id declared source = IsSameGit id declared source ⊎ (¬ (BeginsWith git_start declared × BeginsWith git_start source) × (declared ≡ source))
+
+-- the declared dependency has the source of the id with this text: by its source where one is declared, and else by its path
+abbrev pub HasSource : Text → Text → DependencyModel → Type 0
+HasSource id source d = MatchOption d.source (IsSomeAnd d.path (λ path. IsPathOf path source)) (λ declared. IsSameSource id declared source)
