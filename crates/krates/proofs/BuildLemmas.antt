@@ -17,8 +17,8 @@ use Rattle.krates_resolve.specs.Ids.{IdsModel}
 use Rattle.krates_resolve.specs.Questions.{Stands, questions}
 use Rattle.krates_resolve.specs.Resolved.{ReadsAs, resolved, id_of}
 use Rattle.krates_resolve.specs.declared.selection.Selection.{Selection}
-use Rattle.krates_resolve.specs.declared.setting.Setting.{Setting}
-use Rattle.krates.specs.Build.{IsResolvable, IsKept, IsNotKept, IsLost, AreThosePackages, HasTooMany, IsBuildRefused, IsMiscount}
+use Rattle.krates_resolve.specs.Setting.{SettingModel}
+use Rattle.krates.specs.Build.{IsResolvable, IsKept, IsNotKept, IsLost, AreThosePackages, HasTooMany, IsUnbuilt, IsMiscount}
 use Rattle.krates.specs.Division.{IsAmong, IsDivision}
 use Rattle.krates.specs.Krate.{krate_ids, krate_packages}
 use Rattle.krates.specs.declared.division.Division.{Division}
@@ -124,7 +124,7 @@ exactly_those once all P ids listed h has i = (
 -- ---- what is kept
 
 -- what is kept has a package
-pub has_package : (m : Metadata) (s : Setting) (i : Id) → IsKept (metadata_view m) s i → (pkg : Package) × Contains m.packages.items pkg × ReadsAs (id_view pkg.id) i
+pub has_package : (m : Metadata) (s : SettingModel) (i : Id) → IsKept (metadata_view m) s i → (pkg : Package) × Contains m.packages.items pkg × ReadsAs (id_view pkg.id) i
 has_package m s i h =
     let stands : Stands (resolved (metadata_view m) h.graph) s i = unfold questions in derivable_stands (questions (resolved (metadata_view m) h.graph) s) h.holds in
     let found = stands.included.has_package in
@@ -132,7 +132,7 @@ has_package m s i h =
     (w.from, contains_of m.packages.items w.from w.member, subst (λ (p : PackageModel). ReadsAs p.id i) (sym w.is) found.id)
 
 -- all that a build says of what it keeps
-pub record Builds (m : Metadata) (s : Setting) (d : Division) : Type 0 where
+pub record Builds (m : Metadata) (s : SettingModel) (d : Division) : Type 0 where
   pub kept : (i : Id) → IsKept (metadata_view m) s i ↔ Contains (map id_of (krate_ids d.kept.items)) i
   pub some : (i : Id) × IsKept (metadata_view m) s i
   pub none_lost : (c : Cause) → IsLost (metadata_view m) s c → ⊥
@@ -145,7 +145,7 @@ flip_iff P Q h = (h.1, h.0)
 not_iff : (P Q : Type 0) → P ↔ Q → (P → ⊥) ↔ (Q → ⊥)
 not_iff P Q h = (λ n q. n (h.1 q), λ n p. n (h.0 p))
 
-pub builds : ReadsOnce → (m : Metadata) (s : Setting) (x : Selection) (d : Division) → Selects (metadata_view m) s x → IsDivision m.packages.items x.krates.items d → Builds m s d
+pub builds : ReadsOnce → (m : Metadata) (s : SettingModel) (x : Selection) (d : Division) → Selects (metadata_view m) s x → IsDivision m.packages.items x.krates.items d → Builds m s d
 builds once m s x d sel div =
     let iff : (i : Id) → IsAmong x.krates.items i ↔ IsKept (metadata_view m) s i = λ i. flip_iff _ _ (kept_among (metadata_view m) s x sel i) in
     let packages = those_same m.packages.items (IsAmong x.krates.items) (IsKept (metadata_view m) s) (krate_ids d.kept.items) (krate_packages d.kept.items) iff div.kept in
@@ -158,13 +158,13 @@ builds once m s x d sel div =
     }
 
 -- the same, of what the body has in hand
-pub built : ReadsOnce → (m : Metadata) (s t : Setting) (x : Selection) (selected : List Identity) (d : Division) → t ≡ s → selected ≡ x.krates.items → Selects (metadata_view m) t x → IsDivision m.packages.items selected d → Builds m s d
+pub built : ReadsOnce → (m : Metadata) (s t : SettingModel) (x : Selection) (selected : List Identity) (d : Division) → t ≡ s → selected ≡ x.krates.items → Selects (metadata_view m) t x → IsDivision m.packages.items selected d → Builds m s d
 built once m s t x selected d same those sel div =
     builds once m s x d (subst (λ z. Selects (metadata_view m) z x) same sel) (subst (λ ids. IsDivision m.packages.items ids d) those div)
 
 -- ---- too many
 
-resolvable : (m : MetadataModel) (ids : IdsModel) → IsAdmitted m ids → IsResolvable m
+pub resolvable : (m : MetadataModel) (ids : IdsModel) → IsAdmitted m ids → IsResolvable m
 resolvable m ids a = record { ids = ids; admitted = a }
 
 distinct_ids : Compares → (ids : List Identity) → IsStrictlySortedBy id_cmp ids → AllPairs (λ a b. a ≢ b) (map id_of ids)
@@ -172,7 +172,7 @@ distinct_ids o ids sorted i j d lt within e =
     let w : j < length ids = simp length-map at within in
     not_earlier o ids sorted i j empty_identity lt w (sym (get_or-map id_of ids i empty_identity d (omega arith)) ∙ e ∙ get_or-map id_of ids j empty_identity d w)
 
-miscounted_many : Compares → (m : Metadata) (s : Setting) (d : Division) (g : ResolveModel) → (metadata_view m).resolve ≡ Some g → Builds m s d → 2 ^ 32 ≤ length d.kept.items → HasTooMany (questions (resolved (metadata_view m) g) s)
+miscounted_many : Compares → (m : Metadata) (s : SettingModel) (d : Division) (g : ResolveModel) → (metadata_view m).resolve ≡ Some g → Builds m s d → 2 ^ 32 ≤ length d.kept.items → HasTooMany (questions (resolved (metadata_view m) g) s)
 miscounted_many o m s d g is b many =
     let ids : List Id = map id_of (krate_ids d.kept.items) in
     record {
@@ -183,7 +183,7 @@ miscounted_many o m s d g is b many =
       many = simp length-map many;
     }
 
-pub miscount_refused : Compares → (m : Metadata) (s : Setting) (d : Division) (ids : IdsModel) → IsAdmitted (metadata_view m) ids → Builds m s d → (e : Error) → IsMiscount (length d.kept.items) e → IsBuildRefused (metadata_view m) s e
+pub miscount_refused : Compares → (m : Metadata) (s : SettingModel) (d : Division) (ids : IdsModel) → IsAdmitted (metadata_view m) ids → Builds m s d → (e : Error) → IsMiscount (length d.kept.items) e → IsUnbuilt (metadata_view m) s e
 miscount_refused o m s d ids a b errors.NoResolveGraph h = absurd h
 miscount_refused o m s d ids a b (errors.Metadata inner) h = absurd h
 miscount_refused o m s d ids a b (errors.InvalidPkgSpec t) h = absurd h
@@ -191,5 +191,5 @@ miscount_refused o m s d ids a b errors.NoRootKrates h = absurd h
 miscount_refused o m s d ids a b (errors.InvalidId t) h = absurd h
 miscount_refused o m s d ids a b (errors.Doubled kid) h = absurd h
 miscount_refused o m s d ids a b (errors.Lost what) h = absurd h
-miscount_refused o m s d ids a b errors.TooMany h = (resolvable (metadata_view m) ids a, record { graph = a.graph; has_graph = a.has_graph; holds = miscounted_many o m s d a.graph a.has_graph b h })
+miscount_refused o m s d ids a b errors.TooMany h = record { graph = a.graph; has_graph = a.has_graph; holds = miscounted_many o m s d a.graph a.has_graph b h }
 miscount_refused o m s d ids a b errors.Memory h = absurd h

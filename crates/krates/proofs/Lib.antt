@@ -1,6 +1,12 @@
 pub mod BuildLemmas
+pub mod CorrectedSoFar
 pub mod DivisionLemmas
+pub mod HandedBack
 pub mod Membership
 pub mod OrderedIds
+pub mod ResultValues
+pub mod SeenLemmas
 pub mod SelectionFacts
 pub mod StandingLaws
+pub mod VecArgument
+pub mod Walking

@@ -10,7 +10,7 @@ use Rattle.krates_resolve.specs.declared.selection.EnabledFeature.{EnabledFeatur
 use Rattle.krates_resolve.specs.declared.selection.KeptEdge.{KeptEdge}
 use Rattle.krates_resolve.specs.declared.selection.Selection.{Selection}
 use Rattle.krates_resolve.specs.declared.selection.ToggledFeature.{ToggledFeature}
-use Rattle.krates_resolve.specs.declared.setting.Setting.{Setting}
+use Rattle.krates_resolve.specs.Setting.{SettingModel}
 use Rattle.krates.specs.Build.{IsDerived, IsKept, IsLost}
 use Rattle.krates.specs.Division.{IsAmong}
 use Rattle.krates.proofs.Membership.{Member, member_of, contains_of, mapped_of, member_map, member_append, member_left}
@@ -65,22 +65,22 @@ no_lost_among x c h =
 -- ---- the facts of a document
 
 -- of one graph there is one answer
-pub derived_at : (m : MetadataModel) (s : Setting) (g : ResolveModel) (f : Fact) → m.resolve ≡ Some g → IsDerived m s f → Derivable (questions (resolved m g) s) f
+pub derived_at : (m : MetadataModel) (s : SettingModel) (g : ResolveModel) (f : Fact) → m.resolve ≡ Some g → IsDerived m s f → Derivable (questions (resolved m g) s) f
 derived_at m s g f is h =
     let same : h.graph ≡ g = cc (h.has_graph, is) in
     subst (λ z. Derivable (questions (resolved m z) s) f) same h.holds
 
-pub derived_of : (m : MetadataModel) (s : Setting) (g : ResolveModel) (f : Fact) → m.resolve ≡ Some g → Derivable (questions (resolved m g) s) f → IsDerived m s f
+pub derived_of : (m : MetadataModel) (s : SettingModel) (g : ResolveModel) (f : Fact) → m.resolve ≡ Some g → Derivable (questions (resolved m g) s) f → IsDerived m s f
 derived_of m s g f is d = record { graph = g; has_graph = is; holds = d }
 
-abbrev pub Selects : MetadataModel → Setting → Selection → Type 0
+abbrev pub Selects : MetadataModel → SettingModel → Selection → Type 0
 Selects m s x = HasGraphWith m (λ g. IsSelection (resolved m g) s x)
 
-pub kept_among : (m : MetadataModel) (s : Setting) (x : Selection) → Selects m s x → (i : Id) → IsKept m s i ↔ IsAmong x.krates.items i
+pub kept_among : (m : MetadataModel) (s : SettingModel) (x : Selection) → Selects m s x → (i : Id) → IsKept m s i ↔ IsAmong x.krates.items i
 kept_among m s x h i = (
   λ k. crate_among x i ((h.holds.facts (Crate i)).0 (derived_at m s h.graph (Crate i) h.has_graph k)),
   λ a. derived_of m s h.graph (Crate i) h.has_graph ((h.holds.facts (Crate i)).1 (among_crate x i a)),
 )
 
-pub none_lost : (m : MetadataModel) (s : Setting) (x : Selection) → Selects m s x → (c : Cause) → IsLost m s c → ⊥
+pub none_lost : (m : MetadataModel) (s : SettingModel) (x : Selection) → Selects m s x → (c : Cause) → IsLost m s c → ⊥
 none_lost m s x h c l = no_lost_among x c ((h.holds.facts (Lost c)).0 (derived_at m s h.graph (Lost c) h.has_graph l))

@@ -1,10 +1,10 @@
 -- What a build keeps of a document, what it reports, and why it is refused.
 --
 -- Which crates are kept is said by derivations alone: by what the document and the setting answer to the rules.
-use Rattle.std.specs.Prelude.{ℕ, ◌≢◌, ◌↔◌, ◌≤◌, ◌^◌, List, All, AllPairs, Contains, length, ⊤}
+use Rattle.std.specs.Prelude.{ℕ, ◌≢◌, ◌≡◌, ◌↔◌, ◌≤◌, ◌^◌, List, Option, map, All, AllPairs, Contains, length, ⊤}
 use Rattle.std.specs.List.{AllZip, FoldsTo}
 use Rattle.std.specs.List.Sorted.{IsStrictlySortedBy}
-use Rattle.krates_cm.specs.Document.{MetadataModel, id_view, metadata_view}
+use Rattle.krates_cm.specs.Document.{MetadataModel, id_view, metadata_view, text_view}
 use Rattle.krates_cm.specs.declared.metadata.Metadata.{Metadata}
 use Rattle.krates_cm.specs.declared.package.Package.{Package}
 use Rattle.krates_ids.specs.Identity.{Identity, Reads, id_cmp}
@@ -16,14 +16,12 @@ use Rattle.krates_resolve.specs.Derivation.{Derivable}
 use Rattle.krates_resolve.specs.Facts.{Id, Cause, Fact, Crate, Lost}
 use Rattle.krates_resolve.specs.Ids.{IdsModel}
 use Rattle.krates_resolve.specs.Questions.{questions}
-use Rattle.krates_resolve.specs.Resolved.{HasGraphWith, ReadsAs, resolved}
+use Rattle.krates_resolve.specs.Resolved.{HasGraphWith, ReadsAs, id_of, resolved}
 use Rattle.krates_resolve.specs.Rules.{Questions}
 use Rattle.krates_resolve.specs.SelectionRefusals.{IsUnselected}
-use Rattle.krates_resolve.specs.declared.setting.Setting.{Setting}
-
--- nothing is set
-abbrev pub plain_setting : Setting
-plain_setting = record {}
+use Rattle.krates_resolve.specs.Setting.{SettingModel}
+use Rattle.krates.specs.Indexed.{Answering, Sees}
+use Rattle.krates.specs.Kept.{KeptCrates}
 
 -- ---- the document
 
@@ -33,22 +31,22 @@ pub record IsResolvable (m : MetadataModel) : Type 0 where
   pub admitted : IsAdmitted m ids
 
 -- of what the document's graph and the setting answer to the rules, this holds
-abbrev pub Answers : MetadataModel → Setting → (Questions → Type 0) → Type 0
+abbrev pub Answers : MetadataModel → SettingModel → (Questions → Type 0) → Type 0
 Answers m s P = HasGraphWith m (λ g. P (questions (resolved m g) s))
 
 -- the fact has a derivation from the roots by the rules
-abbrev pub IsDerived : MetadataModel → Setting → Fact → Type 0
+abbrev pub IsDerived : MetadataModel → SettingModel → Fact → Type 0
 IsDerived m s f = Answers m s (λ q. Derivable q f)
 
 -- the crate has to be kept
-abbrev pub IsKept : MetadataModel → Setting → Id → Type 0
+abbrev pub IsKept : MetadataModel → SettingModel → Id → Type 0
 IsKept m s i = IsDerived m s (Crate i)
 
-abbrev pub IsNotKept : MetadataModel → Setting → Id → Type 0
+abbrev pub IsNotKept : MetadataModel → SettingModel → Id → Type 0
 IsNotKept m s i = IsKept m s i → ⊥
 
 -- the document lacks this, and some derivation asks for it
-abbrev pub IsLost : MetadataModel → Setting → Cause → Type 0
+abbrev pub IsLost : MetadataModel → SettingModel → Cause → Type 0
 IsLost m s c = IsDerived m s (Lost c)
 
 -- ---- the packages
@@ -68,11 +66,21 @@ pub record AreThosePackages (all : List Package) (P : Id → Type 0) (ids : List
 
 -- The filter was called with each package of the document that isn't kept, once, in the order of their ids, and with no
 -- other: the states at entry and exit are the two ends of that run.
-pub record IsReported {F : Type 0} (filters : F → Package → F → Type 0) (m : Metadata) (s : Setting) (before after : F) : Type 0 where
+pub record IsReported {F : Type 0} (filters : F → Package → F → Type 0) (m : Metadata) (s : SettingModel) (before after : F) : Type 0 where
   pub ids : List Identity
   pub others : List Package
   pub not_kept : AreThosePackages m.packages.items (IsNotKept (metadata_view m) s) ids others
   pub run : FoldsTo filters before others after
+
+-- All that is true of what a build keeps of a document, and of what it reports.
+pub record IsBuilt {F : Type 0} (filters : F → Package → F → Type 0) (m : Metadata) (s : SettingModel) (before after : F) (k : KeptCrates) : Type 0 where
+  -- the crates with a derivation are kept, and no others
+  pub kept : (i : Id) → IsKept (metadata_view m) s i ↔ Contains (map id_of k.ids) i
+  pub some : (i : Id) × IsKept (metadata_view m) s i
+  pub none_lost : (c : Cause) → IsLost (metadata_view m) s c → ⊥
+  pub packages : AreThosePackages m.packages.items (IsKept (metadata_view m) s) k.ids k.packages
+  pub root : k.workspace_root ≡ text_view m.workspace_root
+  pub reported : IsReported filters m s before after
 
 -- ---- refusals
 
@@ -84,16 +92,36 @@ pub record HasTooMany (q : Questions) : Type 0 where
   pub kept : All (λ i. Derivable q (Crate i)) ids
   pub many : 2 ^ 32 ≤ length ids
 
--- The first class that is true of the document counts, and the cause is true; memory may always run out.
-abbrev pub IsBuildRefused : MetadataModel → Setting → Error → Type 0
-IsBuildRefused m s errors.NoResolveGraph = IsRefused m errors.NoResolveGraph
-IsBuildRefused m s (errors.InvalidId t) = IsRefused m (errors.InvalidId t)
-IsBuildRefused m s (errors.Doubled kid) = IsRefused m (errors.Doubled kid)
-IsBuildRefused m s (errors.Lost what) = IsResolvable m × Answers m s (λ q. IsUnselected q (errors.Lost what))
-IsBuildRefused m s errors.NoRootKrates = IsResolvable m × Answers m s (λ q. IsUnselected q errors.NoRootKrates)
-IsBuildRefused m s errors.TooMany = IsResolvable m × Answers m s HasTooMany
-IsBuildRefused m s errors.Memory = ⊤
-IsBuildRefused m s _ = ⊥
+-- why nothing is built of a document that can be resolved; memory may always run out
+abbrev pub IsUnbuilt : MetadataModel → SettingModel → Error → Type 0
+IsUnbuilt m s (errors.Lost what) = Answers m s (λ q. IsUnselected q (errors.Lost what))
+IsUnbuilt m s errors.NoRootKrates = Answers m s (λ q. IsUnselected q errors.NoRootKrates)
+IsUnbuilt m s errors.TooMany = Answers m s HasTooMany
+IsUnbuilt m s errors.Memory = ⊤
+IsUnbuilt m s _ = ⊥
+
+-- The first class that is true of the document counts, and the cause is true; memory may always run out. Whether the document
+-- can be resolved is asked of it as it is given, and all else of it as it is looked at.
+abbrev pub IsBuildRefused : {S : Type 0} → Answering S → Option S → Metadata → SettingModel → Error → Type 0
+IsBuildRefused may_answer index m s errors.NoResolveGraph = IsRefused (metadata_view m) errors.NoResolveGraph
+IsBuildRefused may_answer index m s (errors.InvalidId t) = IsRefused (metadata_view m) (errors.InvalidId t)
+IsBuildRefused may_answer index m s (errors.Doubled kid) = IsRefused (metadata_view m) (errors.Doubled kid)
+IsBuildRefused may_answer index m s (errors.Lost what) = IsResolvable (metadata_view m) × Sees may_answer index m (λ seen. IsUnbuilt (metadata_view seen) s (errors.Lost what))
+IsBuildRefused may_answer index m s errors.NoRootKrates = IsResolvable (metadata_view m) × Sees may_answer index m (λ seen. IsUnbuilt (metadata_view seen) s errors.NoRootKrates)
+IsBuildRefused may_answer index m s errors.TooMany = IsResolvable (metadata_view m) × Sees may_answer index m (λ seen. IsUnbuilt (metadata_view seen) s errors.TooMany)
+IsBuildRefused may_answer index m s errors.Memory = ⊤
+IsBuildRefused may_answer index m s _ = ⊥
+
+-- the same without an index, where the document is looked at as it is given
+abbrev pub IsRefusedAsGiven : Metadata → SettingModel → Error → Type 0
+IsRefusedAsGiven m s errors.NoResolveGraph = IsRefused (metadata_view m) errors.NoResolveGraph
+IsRefusedAsGiven m s (errors.InvalidId t) = IsRefused (metadata_view m) (errors.InvalidId t)
+IsRefusedAsGiven m s (errors.Doubled kid) = IsRefused (metadata_view m) (errors.Doubled kid)
+IsRefusedAsGiven m s (errors.Lost what) = IsResolvable (metadata_view m) × IsUnbuilt (metadata_view m) s (errors.Lost what)
+IsRefusedAsGiven m s errors.NoRootKrates = IsResolvable (metadata_view m) × IsUnbuilt (metadata_view m) s errors.NoRootKrates
+IsRefusedAsGiven m s errors.TooMany = IsResolvable (metadata_view m) × IsUnbuilt (metadata_view m) s errors.TooMany
+IsRefusedAsGiven m s errors.Memory = ⊤
+IsRefusedAsGiven m s _ = ⊥
 
 -- there are more kept crates than can be numbered
 abbrev pub IsMiscount : ℕ → Error → Type 0

@@ -1,4 +1,7 @@
 pub mod Build
+pub mod Builder
+pub mod BuilderModel
 pub mod Division
+pub mod Indexed
 pub mod Kept
 pub mod Krate

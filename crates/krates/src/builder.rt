@@ -1,49 +1,177 @@
 //! The build: from a document to the crates that are kept of it.
 
-ghost use Rattle.std.specs.Prelude.{◌≡◌, ◌↔◌, ◌<◌, ◌^◌, Contains, IfOk, IfErr, OnOk, OnErr, length, map};
-ghost use Rattle.krates_cm.specs.Document.{metadata_view, text_view};
-ghost use Rattle.krates_resolve.specs.Facts.{Id, Cause};
-ghost use Rattle.krates_resolve.specs.Resolved.{id_of};
-ghost use Rattle.krates.specs.Build.{plain_setting, IsResolvable, IsKept, IsLost, AreThosePackages, IsReported, IsBuildRefused, IsMiscount};
+ghost use Rattle.std.specs.Prelude.{◌≡◌, ◌↔◌, ◌<◌, ◌^◌, ◌++◌, Contains, None, MatchOption, IfOk, IfErr, OnOk, OnErr, length, map};
+ghost use Rattle.std.specs.Bool.{MatchBool};
+ghost use Rattle.std.specs.Borrow.{sem};
+ghost use Rattle.krates_cm.specs.Document.{metadata_view};
+ghost use Rattle.krates_ids.specs.SpecificationAnswers.{spec_view};
+ghost use Rattle.krates_text.specs.AskedTargets.{asked_of};
+ghost use Rattle.krates_resolve.specs.Admission.{IsAdmitted};
+ghost use Rattle.krates_resolve.specs.Ids.{ids_view};
+ghost use Rattle.krates_resolve.specs.Kind.{IgnoresMore};
+ghost use Rattle.krates_resolve.specs.PlainSetting.{plain_setting};
+ghost use Rattle.krates_resolve.specs.Setting.{AsksForPaths};
+ghost use Rattle.krates.specs.Build.{IsResolvable, IsBuilt, IsUnbuilt, IsBuildRefused, IsMiscount};
+ghost use Rattle.krates.specs.Builder.{RestsUnchanged};
+ghost use Rattle.krates.specs.BuilderModel.{with_setting};
+ghost use Rattle.krates.specs.Indexed.{Sees};
 
 use crate::division::divide;
 use crate::filter::{OnFilter, report};
+use crate::index::{IndexSource, seen_through};
 use crate::kept::Krates;
 use crate::krate::Krate;
 use krates_cm::Metadata;
-use krates_ids::{Error, laws};
-use krates_resolve::{Setting, admit, select};
-use std::alloc::Global;
+use krates_ids::{BuildIndexCache, Error, PkgSpec, laws};
+use krates_resolve::{DepKind, Ids, Scope, Setting, admit, select};
+use krates_text::target::Target;
+use std::alloc::{AllocError, Global};
 use std::marker::Model;
 
 /// Builds the graph of crates of a document under a setting.
-#[derive(Debug, Drop)]
-pub struct Builder {
+///
+/// The setters may be called in any order and again: what is ignored, excluded or included is added to what is so already.
+/// Those that append to a list want memory, and after a refusal they leave the builder as it was.
+///
+/// A chain of calls looks so: `builder.exclude(specs)?.workspace(true).include_targets(targets)?`.
+///
+/// The parameter is where packages are looked up, an `IndexSource`. No setter but that of the index depends on it.
+#[derive(Drop)]
+pub struct Builder<S: Drop = IndexSource> {
     alloc: Global,
     setting: Setting,
+    index: Option<S>,
 }
 
-impl Model for Builder {
-    ghost use Rattle.krates_resolve.specs.declared.setting.Setting.{Setting};
+impl<S: Drop> Model for Builder<S> {
+    ghost use Rattle.krates.specs.BuilderModel.{BuilderModel};
 
-    ghost Value = { Setting };
+    ghost Value = { BuilderModel S };
 
-    ghost view = { λ builder. builder.setting };
+    ghost view = { λ builder. record { setting = builder.setting; index = builder.index } };
+}
+
+impl<S: Drop + 'static> Builder<S> {
+    /// Ignores the dependencies for this purpose of the crates of the scope, beside those that are ignored already.
+    pub fn ignore_kind(&mut self, kind: DepKind, scope: Scope) -> &mut Self
+        ensures ignored { IgnoresMore self.old.setting.ignored result.now.setting.ignored kind scope }
+        ensures rest { result.now ≡ with_setting self.old (record (self.old.setting) { ignored = result.now.setting.ignored }) }
+        ensures same_reference { result.ghost_name ≡ self.entry.ghost_name }
+    {
+        self.setting.ignore_kind(kind, scope);
+        self
+    }
+
+    /// Whether every member of the workspace is a root, also where the graph has a root of its own.
+    pub fn workspace(&mut self, is_on: bool) -> &mut Self
+        ensures set { result.now ≡ with_setting self.old (record (self.old.setting) { workspace = is_on }) }
+        ensures same_reference { result.ghost_name ≡ self.entry.ghost_name }
+    {
+        self.setting.workspace(is_on);
+        self
+    }
+
+    /// Leaves out the packages that one of the specifications fits, beside those that are left out already. After a refusal
+    /// the builder is as it was.
+    pub fn exclude(&mut self, specs: Vec<PkgSpec>) -> Result<&mut Self, AllocError>
+        ensures* refused { sem 𝓛 (RestsUnchanged S.row self.entry result) }
+        ensures appended { IfOk result (λ b. b.now ≡ with_setting self.old (record (self.old.setting) { exclusions = self.old.setting.exclusions ++ map spec_view specs.items })) }
+        ensures same_reference { IfOk result (λ b. b.ghost_name ≡ self.entry.ghost_name) }
+    {
+        if self.has_excluded(specs) {
+            Ok(self)
+        } else {
+            Err(AllocError)
+        }
+    }
+
+    /// Leaves out more packages; whether it could.
+    fn has_excluded(&mut self, specs: Vec<PkgSpec>) -> bool
+        ensures { MatchBool result (self.new ≡ with_setting self.old (record (self.old.setting) { exclusions = self.old.setting.exclusions ++ map spec_view specs.items })) (self.new ≡ self.old) }
+    {
+        self.setting.exclude(specs).is_ok()
+    }
+
+    /// Asks for the crates with these manifests as roots, beside those that are asked for already. A path that doesn't end in
+    /// `Cargo.toml` means the manifest in that directory. After a refusal the builder is as it was.
+    pub fn include_workspace_crates(&mut self, paths: &[&str]) -> Result<&mut Self, AllocError>
+        ensures* refused { sem 𝓛 (RestsUnchanged S.row self.entry result) }
+        ensures appended { IfOk result (λ b. AsksForPaths self.old.setting b.now.setting paths.now × (b.now.index ≡ self.old.index)) }
+        ensures same_reference { IfOk result (λ b. b.ghost_name ≡ self.entry.ghost_name) }
+    {
+        if self.has_included_crates(paths) {
+            Ok(self)
+        } else {
+            Err(AllocError)
+        }
+    }
+
+    /// Asks for more crates; whether it could.
+    fn has_included_crates(&mut self, paths: &[&str]) -> bool
+        ensures { MatchBool result (AsksForPaths self.old.setting self.new.setting paths.now × (self.new.index ≡ self.old.index)) (self.new ≡ self.old) }
+    {
+        self.setting
+            .include_workspace_crates(self.alloc, paths)
+            .is_ok()
+    }
+
+    /// Keeps only dependencies whose target text passes at one of the targets, beside those that are set already. After a
+    /// refusal the builder is as it was.
+    pub fn include_targets(
+        &mut self,
+        targets: Vec<(Target, Vec<String>)>,
+    ) -> Result<&mut Self, AllocError>
+        ensures* refused { sem 𝓛 (RestsUnchanged S.row self.entry result) }
+        ensures appended { IfOk result (λ b. b.now ≡ with_setting self.old (record (self.old.setting) { targets = self.old.setting.targets ++ map asked_of targets.items })) }
+        ensures same_reference { IfOk result (λ b. b.ghost_name ≡ self.entry.ghost_name) }
+    {
+        if self.has_included_targets(targets) {
+            Ok(self)
+        } else {
+            Err(AllocError)
+        }
+    }
+
+    /// Keeps dependencies for more targets; whether it could.
+    fn has_included_targets(&mut self, targets: Vec<(Target, Vec<String>)>) -> bool
+        ensures { MatchBool result (self.new ≡ with_setting self.old (record (self.old.setting) { targets = self.old.setting.targets ++ map asked_of targets.items })) (self.new ≡ self.old) }
+    {
+        self.setting.include_targets(targets).is_ok()
+    }
 }
 
 impl Builder {
-    /// A builder with nothing set: every member, or the root, is kept with all that it needs.
+    /// A builder with nothing set, and without an index: every member, or the root, is kept with all that it needs.
     pub fn new(alloc: Global) -> Builder
-        ensures { result ≡ plain_setting }
+        ensures setting { result.setting ≡ plain_setting }
+        ensures index { result.index ≡ None }
     {
         Builder {
             alloc,
-            setting: Setting,
+            setting: Setting::new(alloc),
+            index: None,
         }
+    }
+
+    /// Looks all packages up in this index, and corrects their features by it, before anything else is looked at. A second
+    /// index takes the place of the first.
+    ///
+    /// It is asked once by a build, with the names of all packages, and not at all where the build is refused before.
+    pub fn with_crates_io_index(&mut self, build: BuildIndexCache) -> &mut Self
+        requires { BuildIndexCache.IsAlwaysCallable build }
+        ensures index { MatchOption result.now.index ⊥ (λ source. source.build ≡ build) }
+        ensures setting { result.now.setting ≡ self.old.setting }
+        ensures same_reference { result.ghost_name ≡ self.entry.ghost_name }
+    {
+        self.index = Some(IndexSource { build });
+        self
     }
 
     /// Keeps exactly the crates of the document that have a derivation from the roots by the rules, and hands every other
     /// package to the filter, once, in the order of their ids.
+    ///
+    /// With an index, all of this is meant of the document whose packages are corrected by what the index answers; only
+    /// whether the document can be resolved is asked of it as it is given, and does not depend on the correction.
     ///
     /// It is refused, in this order of classes: as `NoResolveGraph`, `InvalidId` or `Doubled` where the document can't be
     /// resolved, as `Lost` where it lacks what some derivation asks for, as `NoRootKrates` where no crate would be kept,
@@ -56,30 +184,44 @@ impl Builder {
     ) -> Result<Krates, Error>
         requires callable { F.can_filter filter.old }
         ensures admitted { OnOk result (IsResolvable (metadata_view metadata)) }
-        ensures kept { IfOk result (λ k. (i : Id) → IsKept (metadata_view metadata) self i ↔ Contains (map id_of k.ids) i) }
-        ensures some { IfOk result (λ k. (i : Id) × IsKept (metadata_view metadata) self i) }
-        ensures none_lost { OnOk result ((c : Cause) → IsLost (metadata_view metadata) self c → ⊥) }
-        ensures packages { IfOk result (λ k. AreThosePackages metadata.packages.items (IsKept (metadata_view metadata) self) k.ids k.packages) }
-        ensures root { IfOk result (λ k. k.workspace_root ≡ text_view metadata.workspace_root) }
-        ensures reported { OnOk result (IsReported F.filters metadata self filter.old filter.new) }
+        ensures built { IfOk result (λ krates. Sees (λ source. BuildIndexCache.post source.build) self.index metadata (λ seen. IsBuilt F.filters seen self.setting filter.old filter.new krates)) }
         ensures callable { F.can_filter filter.new }
-        ensures refused { IfErr result (IsBuildRefused (metadata_view metadata) self) }
+        ensures refused { IfErr result (IsBuildRefused (λ source. BuildIndexCache.post source.build) self.index metadata self.setting) }
         ensures unchanged { OnErr result (filter.new ≡ filter.old) }
     {
-        laws::one_reading();
-        laws::comparison();
-        let ids = admit(self.alloc, &metadata)?;
-        let selection = select(self.alloc, &metadata, &ids, &self.setting)?;
-        let division = divide(
-            self.alloc,
-            metadata.packages,
-            ids.packages,
-            &selection.krates,
-        )?;
-        expect_numbered(&division.kept)?;
-        report(division.others, filter);
-        Ok(Krates::new(division.kept, metadata.workspace_root))
+        let Builder {
+            alloc,
+            setting,
+            index,
+        } = self;
+        let ids = admit(alloc, &metadata)?;
+        let metadata = seen_through(alloc, index, metadata)?;
+        build_admitted(alloc, &setting, metadata, ids, filter)
     }
+}
+
+/// Builds of a document that was admitted with these ids.
+fn build_admitted<F: OnFilter>(
+    alloc: Global,
+    setting: &Setting,
+    metadata: Metadata,
+    ids: Ids,
+    filter: &mut F,
+) -> Result<Krates, Error>
+    requires admitted { IsAdmitted (metadata_view metadata) (ids_view ids) }
+    requires callable { F.can_filter filter.old }
+    ensures built { IfOk result (IsBuilt F.filters metadata setting.now filter.old filter.new) }
+    ensures callable { F.can_filter filter.new }
+    ensures refused { IfErr result (IsUnbuilt (metadata_view metadata) setting.now) }
+    ensures unchanged { OnErr result (filter.new ≡ filter.old) }
+{
+    laws::one_reading();
+    laws::comparison();
+    let selection = select(alloc, &metadata, &ids, setting)?;
+    let division = divide(alloc, metadata.packages, ids.packages, &selection.krates)?;
+    expect_numbered(&division.kept)?;
+    report(division.others, filter);
+    Ok(Krates::new(division.kept, metadata.workspace_root))
 }
 
 /// Refuses more crates than can be numbered.

@@ -6,17 +6,24 @@
 pub mod builder;
 mod division;
 pub mod filter;
+pub mod index;
 pub mod kept;
 mod krate;
 
 pub use builder::Builder;
 pub use filter::{NoneFilter, OnFilter};
+pub use index::IndexSource;
 pub use kept::{Krates, KratesIter};
 pub use krates_cm as cm;
 pub use krates_cm::{Metadata, Package, PackageId};
 pub use krates_graph::graph::NodeId;
 pub use krates_graph::{agenda, graph};
-pub use krates_ids::{Error, IdError, Kid, Lost, PkgSpec};
+pub use krates_ids::{
+    BuildIndexCache, Error, FeaturesMap, IdError, IndexAnswer, IndexKrate, IndexKrateVersion, Kid,
+    Lost, PackageNames, PkgSpec,
+};
+pub use krates_resolve::{DepKind, Scope};
+pub use krates_text::target::Target;
 pub use krates_text::{cfg, features, path, target};
 
 /// Which documents can be resolved, and what is kept of them.

@@ -1,48 +1,12 @@
-use Rattle.std.proofs.Common.{subst, length, List}
-use Rattle.std.proofs.lemmas.Result.{err_from_is_err_and}
-use Rattle.krates_cm.specs.Document.{metadata_view}
 use Rattle.krates_resolve.specs.Ids.{ids_view}
-use Rattle.krates.specs.Build.{IsMiscount}
-use Rattle.krates.specs.Krate.{krate_ids, krate_packages}
-use Rattle.krates.specs.declared.krate.Krate.{Krate}
-use Rattle.krates.proofs.BuildLemmas.{package_ids, ids_distinct, built, miscount_refused}
+use Rattle.krates.proofs.SeenLemmas.{admitted_seen, sees_built, sees_refused}
 use Rattle.krates.proofs.builder.Builder.build_with_metadata.Goals as goal
 
-pub divide-requires-clause-read : goal.divide-requires-clause-read
-divide-requires-clause-read g c = package_ids c.args.metadata (ids_view c.in_ok-ids.ids) c.in_ok-ids.ensures.admitted
+pub build_admitted-requires-clause-admitted : goal.build_admitted-requires-clause-admitted
+build_admitted-requires-clause-admitted g c = admitted_seen _ _ c.args.metadata c.in_ok-metadata.metadata (ids_view c.in_ok-ids.ids) c.in_ok-metadata.ensures c.in_ok-ids.ensures.admitted
 
-pub divide-requires-clause-distinct : goal.divide-requires-clause-distinct
-divide-requires-clause-distinct g c = ids_distinct (metadata_view c.args.metadata) (ids_view c.in_ok-ids.ids) c.in_ok-ids.ensures.admitted
+pub returns-clause-built : goal.returns-clause-built
+returns-clause-built g c = rw (← c.self.view_is) (sees_built _ _ c.args.metadata c.in_ok-metadata.metadata _ _ _ _ _ c.in_ok-metadata.ensures c.build_admitted.ensures.built)
 
-pub returns-in_err-expect_numbered-clause-refused : goal.returns-in_err-expect_numbered-clause-refused
-returns-in_err-expect_numbered-clause-refused g c =
-    let b = built c.one_reading.ensures.once c.args.metadata c.args.self c.self.inside.setting c.in_ok-selection.selection c.deref.result.now c.in_ok-division.division c.self.view_is c.deref.ensures.value c.in_ok-selection.ensures.selected c.in_ok-division.ensures in
-    let error = c.in_err-expect_numbered.field-0.0 in
-    let miscount = subst (λ (ks : List Krate). IsMiscount (length ks) error) c.deref-2.ensures.value c.in_err-expect_numbered.ensures.refused in
-    let p = err_from_is_err_and c.from_residual-in_err-expect_numbered.result c.from_residual-in_err-expect_numbered.ensures.1 in
-    rw (p.1, p.2) (miscount_refused (record { total = c.comparison.ensures.total; tells = c.comparison.ensures.order }) c.args.metadata c.args.self c.in_ok-division.division (ids_view c.in_ok-ids.ids) c.in_ok-ids.ensures.admitted b error miscount)
-
-pub returns-clause-kept : goal.returns-clause-kept
-returns-clause-kept g c =
-    let b = built c.one_reading.ensures.once c.args.metadata c.args.self c.self.inside.setting c.in_ok-selection.selection c.deref.result.now c.in_ok-division.division c.self.view_is c.deref.ensures.value c.in_ok-selection.ensures.selected c.in_ok-division.ensures in
-    rw c.new.ensures b.kept
-
-pub returns-clause-some : goal.returns-clause-some
-returns-clause-some g c =
-    let b = built c.one_reading.ensures.once c.args.metadata c.args.self c.self.inside.setting c.in_ok-selection.selection c.deref.result.now c.in_ok-division.division c.self.view_is c.deref.ensures.value c.in_ok-selection.ensures.selected c.in_ok-division.ensures in
-    b.some
-
-pub returns-clause-none_lost : goal.returns-clause-none_lost
-returns-clause-none_lost g c =
-    let b = built c.one_reading.ensures.once c.args.metadata c.args.self c.self.inside.setting c.in_ok-selection.selection c.deref.result.now c.in_ok-division.division c.self.view_is c.deref.ensures.value c.in_ok-selection.ensures.selected c.in_ok-division.ensures in
-    b.none_lost
-
-pub returns-clause-packages : goal.returns-clause-packages
-returns-clause-packages g c =
-    let b = built c.one_reading.ensures.once c.args.metadata c.args.self c.self.inside.setting c.in_ok-selection.selection c.deref.result.now c.in_ok-division.division c.self.view_is c.deref.ensures.value c.in_ok-selection.ensures.selected c.in_ok-division.ensures in
-    rw c.new.ensures b.packages
-
-pub returns-clause-reported : goal.returns-clause-reported
-returns-clause-reported g c =
-    let b = built c.one_reading.ensures.once c.args.metadata c.args.self c.self.inside.setting c.in_ok-selection.selection c.deref.result.now c.in_ok-division.division c.self.view_is c.deref.ensures.value c.in_ok-selection.ensures.selected c.in_ok-division.ensures in
-    record { ids = krate_ids c.in_ok-division.division.others.items; others = krate_packages c.in_ok-division.division.others.items; not_kept = b.others; run = c.report.ensures.run }
+pub returns-clause-refused : goal.returns-clause-refused
+returns-clause-refused g c = rw (← c.self.view_is) (sees_refused _ _ c.args.metadata c.in_ok-metadata.metadata _ (ids_view c.in_ok-ids.ids) _ c.in_ok-ids.ensures.admitted c.in_ok-metadata.ensures c.build_admitted.ensures.refused)

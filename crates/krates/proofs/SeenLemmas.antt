@@ -1,0 +1,84 @@
+-- A correction changes no id, so that a document whose packages are corrected is admitted with the same ids.
+use Rattle.std.proofs.Common.{◌≡◌, List, [], ◌∷◌, Option, Some, None, map, refl, sym, ap, ◌∙◌, subst}
+use Rattle.std.specs.List.{AllZip}
+use Rattle.krates_cm.specs.Document.{MetadataModel, ResolveModel, PackageModel, id_view, package_view, metadata_view}
+use Rattle.krates_cm.specs.declared.metadata.Metadata.{Metadata}
+use Rattle.krates_cm.specs.declared.package.Package.{Package}
+use Rattle.krates_ids.specs.Identity.{Reads}
+use Rattle.krates_ids.specs.declared.index.IndexAnswer.{IndexAnswer}
+use Rattle.krates_resolve.specs.Admission.{IsAdmitted, IsDoubled, StandsTwice, package_texts, doubled_package, doubled_node, doubled_dep}
+use Rattle.krates_resolve.specs.Facts.{Id}
+use Rattle.krates_resolve.specs.Ids.{IdsModel}
+use Rattle.std.specs.Prelude.{Result, Ok, Err, IfOk, IfErr}
+use Rattle.krates_ids.specs.declared.error.Error.{Error}
+use Rattle.krates_ids.specs.declared.error.Error.TheVariants as errors
+use Rattle.krates_resolve.specs.Setting.{SettingModel}
+use Rattle.krates.specs.Build.{IsResolvable, IsBuilt, IsUnbuilt, IsBuildRefused}
+use Rattle.krates.specs.Indexed.{Answering, IsCorrectedPackage, IsCorrectedDocument, IsSeen, Sees}
+use Rattle.krates.specs.Kept.{KeptCrates}
+
+-- the texts of the ids are those that they were
+same_texts : (answer : IndexAnswer) (xs ys : List Package) → AllZip (IsCorrectedPackage answer) xs ys
+    → map (λ (p : PackageModel). p.id) (map package_view ys) ≡ map (λ (p : PackageModel). p.id) (map package_view xs)
+same_texts answer [] [] h = refl
+same_texts answer [] (y ∷ ys) h = absurd h
+same_texts answer (x ∷ xs) [] h = absurd h
+same_texts answer (x ∷ xs) (y ∷ ys) h =
+    ap (λ t. t ∷ map (λ (p : PackageModel). p.id) (map package_view ys)) (ap (λ (p : Package). id_view p.id) h.0.nothing_else) ∙ ap (λ ts. id_view x.id ∷ ts) (same_texts answer xs ys h.1)
+
+same_doubled : (m n : MetadataModel) (g : ResolveModel) (id : Id) → package_texts n ≡ package_texts m → IsDoubled n g id → IsDoubled m g id
+same_doubled m n g id texts (doubled_package twice) = doubled_package (subst (λ ts. StandsTwice ts id) texts twice)
+same_doubled m n g id texts (doubled_node twice) = doubled_node twice
+same_doubled m n g id texts (doubled_dep node among twice) = doubled_dep node among twice
+
+same_admitted : (m n : MetadataModel) (ids : IdsModel) → n.resolve ≡ m.resolve → n.workspace_members ≡ m.workspace_members → package_texts n ≡ package_texts m
+    → IsAdmitted m ids → IsAdmitted n ids
+same_admitted m n ids graph members texts a = record {
+  graph = a.graph;
+  has_graph = graph ∙ a.has_graph;
+  read = record {
+    packages = subst (λ ts. AllZip Reads ts ids.packages) (sym texts) a.read.packages;
+    members = subst (λ ts. AllZip Reads ts ids.members) (sym members) a.read.members;
+    root = a.read.root;
+    nodes = a.read.nodes;
+    deps = a.read.deps;
+  };
+  none_doubled = λ id d. a.none_doubled id (same_doubled m n a.graph id texts d);
+}
+
+admitted_corrected : (answer : IndexAnswer) (given seen : Metadata) (ids : IdsModel) → IsCorrectedDocument answer given seen → IsAdmitted (metadata_view given) ids → IsAdmitted (metadata_view seen) ids
+admitted_corrected answer given seen ids c a =
+    same_admitted (metadata_view given) (metadata_view seen) ids
+    (ap (λ (m : Metadata). (metadata_view m).resolve) c.nothing_else)
+    (ap (λ (m : Metadata). (metadata_view m).workspace_members) c.nothing_else)
+    (same_texts answer given.packages.items seen.packages.items c.packages) a
+
+pub admitted_seen : {S : Type 0} (may_answer : Answering S) (index : Option S) (given seen : Metadata) (ids : IdsModel) → IsSeen may_answer index given seen
+    → IsAdmitted (metadata_view given) ids → IsAdmitted (metadata_view seen) ids
+admitted_seen may_answer None given seen ids is_seen a = subst (λ (m : Metadata). IsAdmitted (metadata_view m) ids) (sym is_seen) a
+admitted_seen may_answer (Some source) given seen ids is_seen a = admitted_corrected is_seen.answer given seen ids is_seen.corrected a
+
+-- ---- what is said of the document that is looked at
+
+pub sees_built : {S F : Type 0} (may_answer : Answering S) (index : Option S) (given seen : Metadata) (s : SettingModel) (filters : F → Package → F → Type 0) (before after : F)
+    (result : Result KeptCrates Error) → IsSeen may_answer index given seen → IfOk result (λ k. IsBuilt filters seen s before after k)
+    → IfOk result (λ k. Sees may_answer index given (λ m. IsBuilt filters m s before after k))
+sees_built may_answer index given seen s filters before after (Ok k) is_seen b = record { seen = seen; is_seen = is_seen; holds = b }
+sees_built may_answer index given seen s filters before after (Err e) is_seen b = tt
+
+refused_as : {S : Type 0} (may_answer : Answering S) (index : Option S) (given seen : Metadata) (s : SettingModel) → IsResolvable (metadata_view given) → IsSeen may_answer index given seen
+    → (e : Error) → IsUnbuilt (metadata_view seen) s e → IsBuildRefused may_answer index given s e
+refused_as may_answer index given seen s r is_seen errors.NoResolveGraph h = absurd h
+refused_as may_answer index given seen s r is_seen (errors.Metadata inner) h = absurd h
+refused_as may_answer index given seen s r is_seen (errors.InvalidPkgSpec t) h = absurd h
+refused_as may_answer index given seen s r is_seen errors.NoRootKrates h = (r, record { seen = seen; is_seen = is_seen; holds = h })
+refused_as may_answer index given seen s r is_seen (errors.InvalidId t) h = absurd h
+refused_as may_answer index given seen s r is_seen (errors.Doubled kid) h = absurd h
+refused_as may_answer index given seen s r is_seen (errors.Lost what) h = (r, record { seen = seen; is_seen = is_seen; holds = h })
+refused_as may_answer index given seen s r is_seen errors.TooMany h = (r, record { seen = seen; is_seen = is_seen; holds = h })
+refused_as may_answer index given seen s r is_seen errors.Memory h = tt
+
+pub sees_refused : {S : Type 0} (may_answer : Answering S) (index : Option S) (given seen : Metadata) (s : SettingModel) (ids : IdsModel) (result : Result KeptCrates Error)
+    → IsAdmitted (metadata_view given) ids → IsSeen may_answer index given seen → IfErr result (IsUnbuilt (metadata_view seen) s) → IfErr result (IsBuildRefused may_answer index given s)
+sees_refused may_answer index given seen s ids (Ok k) a is_seen h = tt
+sees_refused may_answer index given seen s ids (Err e) a is_seen h = refused_as may_answer index given seen s (record { ids = ids; admitted = a }) is_seen e h

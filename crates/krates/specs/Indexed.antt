@@ -1,0 +1,48 @@
+-- The document that a build looks at: the one that it is given, or that with each package corrected by what an index answers.
+use Rattle.std.specs.Prelude.{◌≡◌, List, Option, Some, None}
+use Rattle.std.specs.BTreeSet.{contains_text}
+use Rattle.std.specs.List.{AllZip, list_any}
+use Rattle.std.specs.Str.{bytes_eq}
+use Rattle.krates_cm.specs.Document.{Text, text_view, package_view}
+use Rattle.krates_cm.specs.declared.metadata.Metadata.{Metadata}
+use Rattle.krates_cm.specs.declared.package.Package.{Package}
+use Rattle.krates_ids.specs.Correction.{IsCorrected, index_view}
+use Rattle.krates_ids.specs.declared.index.IndexAnswer.{IndexAnswer}
+use Rattle.krates_ids.specs.declared.index.PackageNames.{PackageNames}
+
+-- the set has the name of each package, and no other
+abbrev pub HasNames : List Package → PackageNames → Type 0
+HasNames packages s = (t : Text) → contains_text s.names t ≡ list_any (λ p. bytes_eq (text_view p.name) t) packages
+
+-- the package is corrected by this answer, and nothing of it but its features is changed
+pub record IsCorrectedPackage (answer : IndexAnswer) (before after : Package) : Type 0 where
+  pub corrected : IsCorrected (index_view answer) (package_view before) (package_view after)
+  pub nothing_else : after ≡ record before { features = after.features }
+
+-- each package is corrected by this answer, and nothing else of the document is changed
+pub record IsCorrectedDocument (answer : IndexAnswer) (before after : Metadata) : Type 0 where
+  pub packages : AllZip (IsCorrectedPackage answer) before.packages.items after.packages.items
+  pub nothing_else : after ≡ record before { packages = after.packages }
+
+-- which answers a source may give for which names
+abbrev pub Answering : Type 0 → Type 1
+Answering S = S → PackageNames → IndexAnswer → Type 0
+
+-- for the names of all packages there is this answer, and the document is corrected by it
+pub record IsAnswered (may_answer : PackageNames → IndexAnswer → Type 0) (given seen : Metadata) : Type 0 where
+  pub names : PackageNames
+  pub answer : IndexAnswer
+  pub all_names : HasNames given.packages.items names
+  pub is_answer : may_answer names answer
+  pub corrected : IsCorrectedDocument answer given seen
+
+-- without an index the document is looked at as it is, and else as it is corrected
+abbrev pub IsSeen : {S : Type 0} → Answering S → Option S → Metadata → Metadata → Type 0
+IsSeen may_answer None given seen = seen ≡ given
+IsSeen may_answer (Some source) given seen = IsAnswered (may_answer source) given seen
+
+-- of the document that is looked at, this holds
+pub record Sees {S : Type 0} (may_answer : Answering S) (index : Option S) (given : Metadata) (P : Metadata → Type 0) : Type 0 where
+  pub seen : Metadata
+  pub is_seen : IsSeen may_answer index given seen
+  pub holds : P seen

@@ -1,0 +1,57 @@
+//! Looking packages up in an index, and correcting them by what it answers.
+
+ghost use Rattle.std.specs.Prelude.{IfOk};
+ghost use Rattle.krates.specs.Indexed.{HasNames, IsCorrectedDocument, IsSeen};
+
+use krates_cm::{Metadata, Package};
+use krates_ids::{BuildIndexCache, CachingIndex, PackageNames};
+use std::alloc::{AllocError, Global};
+use std::collections::BTreeSet;
+
+/// What looks the names of packages up in an index, and may be called.
+#[derive(Drop)]
+pub struct IndexSource {
+    pub(crate) build: BuildIndexCache,
+    ghost callable: { BuildIndexCache.IsAlwaysCallable build },
+}
+
+/// The document that a build looks at: with an index, which is asked once for the names of all packages, each package is
+/// corrected by its answer; without one, the document as it is.
+pub(crate) fn seen_through(
+    alloc: Global,
+    index: Option<IndexSource>,
+    metadata: Metadata,
+) -> Result<Metadata, AllocError>
+    ensures { IfOk result (IsSeen (λ source. BuildIndexCache.post source.build) index metadata) }
+{
+    let Some(IndexSource { build }) = index else {
+        return Ok(metadata);
+    };
+    let names = names_of(alloc, &metadata.packages)?;
+    corrected(alloc, &CachingIndex::new(build, names), metadata)
+}
+
+/// The names of the packages.
+fn names_of(alloc: Global, packages: &[Package]) -> Result<PackageNames, AllocError>
+    ensures { IfOk result (HasNames packages.now) }
+{
+    let mut names = BTreeSet::new(alloc);
+    for pkg in packages {
+        names.insert(pkg.name.clone()?)?;
+    }
+    Ok(PackageNames { names })
+}
+
+/// The document with each package corrected.
+fn corrected(
+    alloc: Global,
+    index: &CachingIndex,
+    mut metadata: Metadata,
+) -> Result<Metadata, AllocError>
+    ensures { IfOk result (IsCorrectedDocument index.now.answer metadata) }
+{
+    for pkg in metadata.packages.iter_mut() {
+        index.correct(alloc, pkg)?;
+    }
+    Ok(metadata)
+}
