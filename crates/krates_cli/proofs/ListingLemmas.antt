@@ -1,26 +1,77 @@
 -- What a refused build says of a text.
-use Rattle.std.proofs.Common.{sym, subst, ◌∙◌}
+use Rattle.std.proofs.Common.{◌≡◌, ◌++◌, [], true, Option, None, sym, ap, subst, ◌∙◌}
 use Rattle.krates_cm.specs.Document.{Text, metadata_view}
 use Rattle.krates_cm.specs.Parsing.{IsDocument}
 use Rattle.krates_cm.specs.declared.metadata.Metadata.{Metadata}
 use Rattle.krates_ids.specs.declared.error.Error as build
-use Rattle.krates.specs.Build.{plain_setting, IsBuildRefused}
+use Rattle.krates_resolve.specs.Setting.{SettingModel}
+use Rattle.krates_ids.specs.declared.error.Error.TheVariants as causes
+use Rattle.krates.specs.Build.{IsBuildRefused, IsBuilt, IsRefusedAsGiven, IsUnbuilt, IsResolvable}
+use Rattle.krates.specs.Indexed.{Answering, Sees}
 use Rattle.krates_cli.specs.declared.run_error.RunError.{RunError}
 use Rattle.krates_cli.specs.declared.run_error.RunError.TheVariants as errors
+use Rattle.krates.specs.Kept.{KeptCrates}
+use Rattle.krates_cli.specs.Lines.{kept_lines, reported_lines}
+use Rattle.krates_cli.specs.Listing.{IsListing}
 use Rattle.krates_cli.specs.ListingRefusals.{IsUnlisted}
+use Rattle.krates_cli.specs.Reported.{Reports, lines_in, is_whole}
+use Rattle.krates_cli.specs.declared.reported.Reported.{Reported}
+use Rattle.krates_cli.proofs.ReportedLemmas.{all_reported}
 use Rattle.krates_cli.specs.RunError.{BuildErrorBecomes}
 
+-- without an index the document is looked at as it is given
+pub as_given : {S : Type 0} (may_answer : Answering S) (m : Metadata) (P : Metadata → Type 0) → Sees may_answer None m P → P m
+as_given may_answer m P h = subst P h.is_seen h.holds
+
+pub refused_as_given : {S : Type 0} (may_answer : Answering S) (m : Metadata) (s : SettingModel) (cause : build.Error) → IsBuildRefused may_answer None m s cause → IsRefusedAsGiven m s cause
+refused_as_given a m s causes.NoResolveGraph h = h
+refused_as_given a m s (causes.InvalidId t) h = h
+refused_as_given a m s (causes.Doubled kid) h = h
+refused_as_given a m s (causes.Lost what) h = (h.0, as_given a m (λ seen. IsUnbuilt (metadata_view seen) s (causes.Lost what)) h.1)
+refused_as_given a m s causes.NoRootKrates h = (h.0, as_given a m (λ seen. IsUnbuilt (metadata_view seen) s causes.NoRootKrates) h.1)
+refused_as_given a m s causes.TooMany h = (h.0, as_given a m (λ seen. IsUnbuilt (metadata_view seen) s causes.TooMany) h.1)
+refused_as_given a m s causes.Memory h = tt
+refused_as_given a m s (causes.Metadata cause) h = absurd h
+refused_as_given a m s (causes.InvalidPkgSpec text) h = absurd h
+
 -- the text of a document whose build is refused has no listing, for the same reason
-pub unbuilt : (text : Text) (m : Metadata) → IsDocument text (metadata_view m) → (cause : build.Error) (e : RunError)
-    → IsBuildRefused (metadata_view m) plain_setting cause → BuildErrorBecomes cause e → IsUnlisted text e
-unbuilt text m document cause (errors.Build same) refused becomes = record {
+pub unbuilt : (s : SettingModel) (text : Text) (m : Metadata) → IsDocument text (metadata_view m) → (cause : build.Error) (e : RunError)
+    → IsRefusedAsGiven m s cause → BuildErrorBecomes cause e → IsUnlisted s text e
+unbuilt s text m document cause (errors.Build same) refused becomes = record {
   metadata = m;
   document = document;
-  refused = subst (IsBuildRefused (metadata_view m) plain_setting) (sym becomes.0) refused;
+  refused = subst (IsRefusedAsGiven m s) (sym becomes.0) refused;
   not_memory = λ is_memory. becomes.1 (sym becomes.0 ∙ is_memory);
 }
-unbuilt text m document cause errors.Memory refused becomes = tt
-unbuilt text m document cause errors.Read refused becomes = absurd becomes
-unbuilt text m document cause errors.Utf8 refused becomes = absurd becomes
-unbuilt text m document cause (errors.Parse same) refused becomes = absurd becomes
-unbuilt text m document cause errors.Write refused becomes = absurd becomes
+unbuilt s text m document cause errors.Memory refused becomes = tt
+unbuilt s text m document cause errors.Read refused becomes = absurd becomes
+unbuilt s text m document cause errors.Utf8 refused becomes = absurd becomes
+unbuilt s text m document cause (errors.Parse same) refused becomes = absurd becomes
+unbuilt s text m document cause errors.Write refused becomes = absurd becomes
+
+-- what a build without an index keeps and reports of a document is its listing
+pub listed : {S : Type 0} (may_answer : Answering S) (index : Option S) (s meant : SettingModel) (text lines told : Text) (m : Metadata) (kept : KeptCrates) (before after : Reported) → index ≡ None → s ≡ meant
+    → IsDocument text (metadata_view m) → IsResolvable (metadata_view m) → Sees may_answer index m (λ seen. IsBuilt Reports seen s before after kept) → lines_in before ≡ [] → is_whole after ≡ true → told ≡ lines_in after
+    → lines ≡ kept_lines kept.packages ++ told → IsListing meant text lines
+listed may_answer index s meant text lines told m kept before after none same document resolvable sees empty whole told_is written =
+    let built : IsBuilt Reports m s before after kept = as_given may_answer m (λ seen. IsBuilt Reports seen s before after kept) (subst (λ i. Sees may_answer i m (λ seen. IsBuilt Reports seen s before after kept)) none sees) in
+    let reported = built.reported in
+    let collected = all_reported before reported.others after reported.run whole in
+    let others : told ≡ reported_lines reported.others = told_is ∙ collected.1 ∙ ap (λ ls. ls ++ reported_lines reported.others) empty in
+    subst (λ t. IsListing t text lines) same (record {
+      metadata = m;
+      document = document;
+      kept = kept.packages;
+      others = reported.others;
+      split = record {
+        resolvable = resolvable;
+        none_lost = built.none_lost;
+        some = built.some;
+        kept_ids = kept.ids;
+        every = built.kept;
+        kept_are = built.packages;
+        other_ids = reported.ids;
+        others_are = reported.not_kept;
+      };
+      written = written ∙ ap (λ ls. kept_lines kept.packages ++ ls) others;
+    })

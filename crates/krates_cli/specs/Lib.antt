@@ -3,5 +3,7 @@ pub mod Counted
 pub mod Lines
 pub mod Listing
 pub mod ListingRefusals
+pub mod Options
+pub mod OptionsReading
 pub mod Reported
 pub mod RunError

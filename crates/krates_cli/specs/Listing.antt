@@ -1,4 +1,4 @@
--- The listing of a document: what is written for a text that is read.
+-- The listing of a document under a setting: what is written for a text that is read.
 use Rattle.std.specs.Prelude.{◌≡◌, ◌↔◌, List, Option, Contains, IsUtf8, map}
 use Rattle.std.specs.Io.KnownBytes.{Appends}
 use Rattle.krates_cm.specs.Document.{Text, metadata_view}
@@ -8,33 +8,34 @@ use Rattle.krates_cm.specs.declared.package.Package.{Package}
 use Rattle.krates_ids.specs.Identity.{Identity}
 use Rattle.krates_resolve.specs.Facts.{Id, Cause}
 use Rattle.krates_resolve.specs.Resolved.{id_of}
-use Rattle.krates.specs.Build.{plain_setting, IsResolvable, IsKept, IsNotKept, IsLost, AreThosePackages}
+use Rattle.krates_resolve.specs.Setting.{SettingModel}
+use Rattle.krates.specs.Build.{IsResolvable, IsKept, IsNotKept, IsLost, AreThosePackages}
 use Rattle.krates_cli.specs.Lines.{lines_of}
 
--- The document can be resolved and lacks nothing, and these are its packages: those that have to be kept, and the others,
--- both in the order of their ids.
-pub record IsSplit (m : Metadata) (kept others : List Package) : Type 0 where
+-- The document can be resolved and lacks nothing, and these are its packages: those that have to be kept under the
+-- setting, and the others, both in the order of their ids.
+pub record IsSplit (s : SettingModel) (m : Metadata) (kept others : List Package) : Type 0 where
   pub resolvable : IsResolvable (metadata_view m)
-  pub none_lost : (c : Cause) → IsLost (metadata_view m) plain_setting c → ⊥
-  pub some : (i : Id) × IsKept (metadata_view m) plain_setting i
+  pub none_lost : (c : Cause) → IsLost (metadata_view m) s c → ⊥
+  pub some : (i : Id) × IsKept (metadata_view m) s i
   pub kept_ids : List Identity
-  pub every : (i : Id) → IsKept (metadata_view m) plain_setting i ↔ Contains (map id_of kept_ids) i
-  pub kept_are : AreThosePackages m.packages.items (IsKept (metadata_view m) plain_setting) kept_ids kept
+  pub every : (i : Id) → IsKept (metadata_view m) s i ↔ Contains (map id_of kept_ids) i
+  pub kept_are : AreThosePackages m.packages.items (IsKept (metadata_view m) s) kept_ids kept
   pub other_ids : List Identity
-  pub others_are : AreThosePackages m.packages.items (IsNotKept (metadata_view m) plain_setting) other_ids others
+  pub others_are : AreThosePackages m.packages.items (IsNotKept (metadata_view m) s) other_ids others
 
 -- The text is a document, and these are the lines of its packages.
-pub record IsListing (text lines : Text) : Type 0 where
+pub record IsListing (s : SettingModel) (text lines : Text) : Type 0 where
   pub metadata : Metadata
   pub document : IsDocument text (metadata_view metadata)
   pub kept : List Package
   pub others : List Package
-  pub split : IsSplit metadata kept others
+  pub split : IsSplit s metadata kept others
   pub written : lines ≡ lines_of kept others
 
 -- The bytes are a text, and its listing is what was added to the known bytes of a writer.
-pub record WritesListing (bytes : Text) (old new : Option Text) : Type 0 where
+pub record WritesListing (s : SettingModel) (bytes : Text) (old new : Option Text) : Type 0 where
   pub is_text : IsUtf8 bytes
   pub lines : Text
-  pub listing : IsListing bytes lines
+  pub listing : IsListing s bytes lines
   pub appended : Appends old new lines

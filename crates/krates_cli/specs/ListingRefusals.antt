@@ -7,7 +7,8 @@ use Rattle.krates_cm.specs.declared.error.Error.TheVariants as cm_errors
 use Rattle.krates_cm.specs.declared.metadata.Metadata.{Metadata}
 use Rattle.krates_ids.specs.declared.error.Error as build
 use Rattle.krates_ids.specs.declared.error.Error.TheVariants as build_errors
-use Rattle.krates.specs.Build.{plain_setting, IsBuildRefused}
+use Rattle.krates_resolve.specs.Setting.{SettingModel}
+use Rattle.krates.specs.Build.{IsRefusedAsGiven}
 use Rattle.krates_cli.specs.Listing.{IsListing}
 use Rattle.krates_cli.specs.declared.run_error.RunError.{RunError}
 use Rattle.krates_cli.specs.declared.run_error.RunError.TheVariants as errors
@@ -17,26 +18,26 @@ pub record IsUnparsed (text : Text) (cause : cm.Error) : Type 0 where
   pub refused : IsRefusal text cause
   pub not_memory : cause ≡ cm_errors.Memory → ⊥
 
--- the text is a document that has no graph of crates, for this reason and not for want of memory
-pub record IsUnbuilt (text : Text) (cause : build.Error) : Type 0 where
+-- the text is a document that has no graph of crates under the setting, for this reason and not for want of memory
+pub record IsUnbuilt (s : SettingModel) (text : Text) (cause : build.Error) : Type 0 where
   pub metadata : Metadata
   pub document : IsDocument text (metadata_view metadata)
-  pub refused : IsBuildRefused (metadata_view metadata) plain_setting cause
+  pub refused : IsRefusedAsGiven metadata s cause
   pub not_memory : cause ≡ build_errors.Memory → ⊥
 
--- why a text has no listing
-abbrev pub IsUnlisted : Text → RunError → Type 0
-IsUnlisted text (errors.Parse cause) = IsUnparsed text cause
-IsUnlisted text (errors.Build cause) = IsUnbuilt text cause
-IsUnlisted text errors.Memory = ⊤
-IsUnlisted text _ = ⊥
+-- why a text has no listing under a setting
+abbrev pub IsUnlisted : SettingModel → Text → RunError → Type 0
+IsUnlisted s text (errors.Parse cause) = IsUnparsed text cause
+IsUnlisted s text (errors.Build cause) = IsUnbuilt s text cause
+IsUnlisted s text errors.Memory = ⊤
+IsUnlisted s text _ = ⊥
 
--- Why a run over these bytes has no answer: the first class that is true of them counts. Memory may always run out, and a
+-- Why a run over these bytes under a setting has no answer: the first class that is true of them counts. Memory may always run out, and a
 -- call of the reader or the writer may always fail.
-abbrev pub IsRunRefused : Text → RunError → Type 0
-IsRunRefused bytes errors.Read = ⊤
-IsRunRefused bytes errors.Utf8 = IsUtf8 bytes → ⊥
-IsRunRefused bytes (errors.Parse cause) = IsUtf8 bytes × IsUnparsed bytes cause
-IsRunRefused bytes (errors.Build cause) = IsUtf8 bytes × IsUnbuilt bytes cause
-IsRunRefused bytes errors.Write = IsUtf8 bytes × ((lines : Text) × IsListing bytes lines)
-IsRunRefused bytes errors.Memory = ⊤
+abbrev pub IsRunRefused : SettingModel → Text → RunError → Type 0
+IsRunRefused s bytes errors.Read = ⊤
+IsRunRefused s bytes errors.Utf8 = IsUtf8 bytes → ⊥
+IsRunRefused s bytes (errors.Parse cause) = IsUtf8 bytes × IsUnparsed bytes cause
+IsRunRefused s bytes (errors.Build cause) = IsUtf8 bytes × IsUnbuilt s bytes cause
+IsRunRefused s bytes errors.Write = IsUtf8 bytes × ((lines : Text) × IsListing s bytes lines)
+IsRunRefused s bytes errors.Memory = ⊤

@@ -1,14 +1,16 @@
 //! All that the program does, over any reader and writers: words, run, refusal and status.
 
-ghost use Rattle.std.specs.Prelude.{◌≡◌, ◌≢◌, ◌≤◌, ◌⊎◌, [], IfOk, IfSome, string_bytes};
+ghost use Rattle.std.specs.Prelude.{◌≡◌, ◌≢◌, ◌≤◌, ◌⊎◌, IfOk, IfSome, map, string_bytes};
 ghost use Rattle.krates_cm.specs.Document.{Text};
-ghost use Rattle.krates_cli.specs.CommandLine.{IsRefusalLine, IsTold, RefusedRun, no_memory_line, usage_line};
+ghost use Rattle.krates_cli.specs.CommandLine.{Asking, IsRefusalLine, IsTold, RefusedRun, no_memory_line, usage_line};
 ghost use Rattle.krates_cli.specs.Counted.{HasFailed, inner_of};
 ghost use Rattle.krates_cli.specs.Listing.{WritesListing};
+ghost use Rattle.krates_cli.specs.Options.{IsUnknown, setting_of};
+ghost use Rattle.krates_cli.specs.declared.options.OptionsError.TheVariants as options_errors;
 
 use crate::counted::Counted;
 use crate::listing::run;
-use crate::options::options_of;
+use crate::options::{OptionsError, options_of};
 use crate::run_error::RunError;
 use std::alloc::{AllocError, Global};
 use std::io;
@@ -26,10 +28,10 @@ const REFUSED: u8 = 1;
 const UNKNOWN_WORD: u8 = 2;
 
 /// Does all that `main` does, with the words after the program's name, and answers the exit status: 0 where the lines were
-/// written; 1 where the run was refused, with the cause in a line on `errors`; 2 where a word is unknown, with the usage line
-/// on `errors`.
+/// written; 1 where the run was refused, with the cause in a line on `errors`; 2 where the words aren't options, with the
+/// usage line on `errors`.
 ///
-/// All words are read before any input. So far every word is unknown.
+/// All words are read before any input; where memory runs out meanwhile, the status is 1 and nothing was read.
 pub fn program<R: Read, W: Write, E: Write>(
     alloc: Global,
     words: &[String],
@@ -38,22 +40,40 @@ pub fn program<R: Read, W: Write, E: Write>(
     errors: &mut Counted<E>,
 ) -> u8
     ensures status { result ≤ 2 }
-    ensures known_words { result ≢ 2 → words.now ≡ [] }
-    ensures unknown_word { words.now ≢ [] → (result ≡ 2) × IsTold E.contents errors.old errors.new usage_line }
+    ensures known_words { result ≡ 2 → IsUnknown (map string_bytes words.now) × IsTold E.contents errors.old errors.new usage_line }
+    ensures unknown_word { IsUnknown (map string_bytes words.now) → (result ≡ 2)
+        ⊎ ((result ≡ 1) × IsTold E.contents errors.old errors.new no_memory_line × (input.new ≡ input.old) × (output.new ≡ output.old)) }
     ensures unread { result ≡ 2 → (input.new ≡ input.old) × (output.new ≡ output.old) }
-    ensures listed { result ≡ 0 → IfSome (R.remaining (inner_of input.old)) (λ bytes. WritesListing bytes (W.contents (inner_of output.old)) (W.contents (inner_of output.new))) }
+    ensures listed { result ≡ 0 → Asking (map string_bytes words.now) (λ o. IfSome (R.remaining (inner_of input.old)) (λ bytes. WritesListing (setting_of o) bytes (W.contents (inner_of output.old)) (W.contents (inner_of output.new)))) }
     ensures silent { result ≡ 0 → errors.new ≡ errors.old }
-    ensures refused { result ≡ 1 → RefusedRun R.remaining E.contents input.old errors.old errors.new }
+    ensures refused { result ≡ 1 → RefusedRun (map string_bytes words.now) R.remaining E.contents input.old errors.old errors.new }
     ensures unwritten { result ≡ 1 → (output.new ≡ output.old) ⊎ HasFailed output.old output.new }
 {
-    let Some(options) = options_of(words) else {
-        tell(errors, USAGE_LINE);
-        return UNKNOWN_WORD;
+    let options = match options_of(alloc, words) {
+        Ok(options) => options,
+        Err(error) => return refuse_options(&error, errors),
     };
     match run(alloc, &options, input, output) {
         Ok(()) => DONE,
         Err(error) => {
             refuse(alloc, &error, errors);
+            REFUSED
+        }
+    }
+}
+
+/// Answers the exit status where the words aren't read: 2 and the usage line, or 1 and a line that memory is wanting.
+fn refuse_options<E: Write>(error: &OptionsError, errors: &mut Counted<E>) -> u8
+    ensures unknown { error.now ≡ options_errors.Unknown → (result ≡ 2) × IsTold E.contents errors.old errors.new usage_line }
+    ensures no_memory { error.now ≡ options_errors.Memory → (result ≡ 1) × IsTold E.contents errors.old errors.new no_memory_line }
+{
+    match error {
+        OptionsError::Unknown => {
+            tell(errors, USAGE_LINE);
+            UNKNOWN_WORD
+        }
+        OptionsError::Memory => {
+            tell(errors, NO_MEMORY_LINE);
             REFUSED
         }
     }

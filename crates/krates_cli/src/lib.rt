@@ -3,6 +3,7 @@
 
 pub mod command_line;
 pub mod counted;
+pub mod laws;
 mod lines;
 pub mod listing;
 pub mod options;
@@ -12,5 +13,5 @@ pub mod run_error;
 pub use command_line::{program, refuse_words};
 pub use counted::Counted;
 pub use listing::run;
-pub use options::Options;
+pub use options::{Options, OptionsError, options_of, set_options};
 pub use run_error::RunError;

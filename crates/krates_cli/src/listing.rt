@@ -4,11 +4,12 @@ ghost use Rattle.std.specs.Prelude.{◌≡◌, ◌≢◌, IfErr, IfOk, IfSome, O
 ghost use Rattle.krates_cli.specs.Counted.{HasFailed, inner_of};
 ghost use Rattle.krates_cli.specs.Listing.{IsListing, WritesListing};
 ghost use Rattle.krates_cli.specs.ListingRefusals.{IsUnlisted, IsRunRefused};
+ghost use Rattle.krates_cli.specs.Options.{meant_setting};
 ghost use Rattle.krates_cli.specs.declared.run_error.RunError.TheVariants as errors;
 
 use crate::counted::Counted;
 use crate::lines::all_lines;
-use crate::options::Options;
+use crate::options::{Options, set_options};
 use crate::reported::Reported;
 use crate::run_error::RunError;
 use krates::Builder;
@@ -16,22 +17,22 @@ use krates::cm::MetadataCommand;
 use std::alloc::Global;
 use std::io::{Read, Write};
 
-/// The lines of a document: those of the kept packages, then those of the others. It is refused as `Parse`, `Build` or
+/// The lines of a document under the options: those of the kept packages, then those of the others. It is refused as `Parse`, `Build` or
 /// `Memory`.
 fn listing(alloc: Global, options: &Options, text: &str) -> Result<String, RunError>
-    ensures listed { IfOk result (λ lines. IsListing text.now (string_bytes lines)) }
-    ensures refused { IfErr result (IsUnlisted text.now) }
+    ensures listed { IfOk result (λ lines. IsListing (meant_setting options.now) text.now (string_bytes lines)) }
+    ensures refused { IfErr result (IsUnlisted (meant_setting options.now) text.now) }
 {
-    // Nothing is set so far; an option that is added has to be heeded here.
-    let Options = options;
     let metadata = MetadataCommand::parse(alloc, text)?;
     let mut reported = Reported::new(alloc);
-    let krates = Builder::new(alloc).build_with_metadata(metadata, &mut reported)?;
+    let mut builder = Builder::new(alloc);
+    set_options(alloc, options, &mut builder)?;
+    let krates = builder.build_with_metadata(metadata, &mut reported)?;
     let reported = reported.into_lines()?;
     Ok(all_lines(alloc, &krates, reported.as_str())?)
 }
 
-/// Reads one document up to the end of the input, builds, and writes a line `+ ` and the id for each kept crate, then a line
+/// Reads one document up to the end of the input, builds under the options, and writes a line `+ ` and the id for each kept crate, then a line
 /// `- ` and the id for each other package, both in the order of the ids.
 ///
 /// It is refused as `Read`, `Utf8`, `Parse`, `Build` or `Write`, in this order and only where that is true of the reader, of
@@ -43,8 +44,8 @@ pub fn run<R: Read, W: Write>(
     input: &mut Counted<R>,
     output: &mut Counted<W>,
 ) -> Result<(), RunError>
-    ensures written { OnOk result (IfSome (R.remaining (inner_of input.old)) (λ bytes. WritesListing bytes (W.contents (inner_of output.old)) (W.contents (inner_of output.new)))) }
-    ensures refused { IfErr result (λ e. IfSome (R.remaining (inner_of input.old)) (λ bytes. IsRunRefused bytes e)) }
+    ensures written { OnOk result (IfSome (R.remaining (inner_of input.old)) (λ bytes. WritesListing (meant_setting options.now) bytes (W.contents (inner_of output.old)) (W.contents (inner_of output.new)))) }
+    ensures refused { IfErr result (λ e. IfSome (R.remaining (inner_of input.old)) (λ bytes. IsRunRefused (meant_setting options.now) bytes e)) }
     ensures read { result ≡ Err errors.Read → HasFailed input.old input.new }
     ensures write { result ≡ Err errors.Write → HasFailed output.old output.new }
     ensures unwritten { IfErr result (λ e. e ≢ errors.Write → output.new ≡ output.old) }

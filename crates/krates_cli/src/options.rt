@@ -1,18 +1,182 @@
-//! What is asked of a run.
+//! What is asked of a run: how it is read from words, and what it sets of a builder.
 
-ghost use Rattle.std.specs.Prelude.{◌≡◌, ◌↔◌, [], IsSome};
+ghost use Rattle.std.specs.Prelude.{◌≡◌, ◌∷◌, IfErr, IfOk, OnOk, map, option_map, string_bytes};
+ghost use Rattle.krates_ids.specs.PackageSpecification.{Specification, IsSpec};
+ghost use Rattle.krates_ids.specs.SpecificationAnswers.{spec_view};
+ghost use Rattle.krates_text.specs.AskedTargets.{asked_of};
+ghost use Rattle.krates_resolve.specs.PlainSetting.{plain_setting};
+ghost use Rattle.krates_cli.specs.Options.{IsCommandLine, IsUnknown, asked_at, kind_named, options_view, plain_options, setting_of, with_ignored};
+ghost use Rattle.krates_cli.specs.OptionsReading.{AddsFirst, AddsValue, BeginsUnknown, IsNoValue, IsUnread};
+ghost use Rattle.krates_cli.specs.declared.options.OptionsError.TheVariants.{Memory};
 
-/// What is asked of a run. So far nothing can be set.
-#[derive(Debug, PartialEq, Eq, Drop)]
-pub struct Options;
+use krates::target::Target;
+use krates::{Builder, Error, PkgSpec};
+use krates_resolve::{DepKind, Scope};
+use std::alloc::{AllocError, AllocFailed, Global};
 
-/// The options that the words ask for, or none where a word is unknown. So far every word is.
-pub(crate) fn options_of(words: &[String]) -> Option<Options>
-    ensures { IsSome result ↔ (words.now ≡ []) }
-{
-    if words.is_empty() {
-        Some(Options)
-    } else {
-        None
+/// What is asked of a run.
+#[derive(Debug, Drop)]
+pub struct Options {
+    /// Whether every member of the workspace is a root, also where the graph has a root of its own: `--workspace`.
+    pub workspace: bool,
+    /// The dependencies for these purposes are ignored, whichever crate has them: `--ignore-kind`.
+    pub ignored: Vec<DepKind>,
+    /// The triples of the targets: `--target`. Where none is given, any target is meant.
+    pub targets: Vec<String>,
+    /// The packages that one of these fits are left out: `--exclude`.
+    pub exclusions: Vec<PkgSpec>,
+}
+
+/// Why words aren't read as options.
+#[derive(Debug, Drop)]
+pub enum OptionsError {
+    /// A word is no option, an option has no value, or its value is no kind or no package specification.
+    Unknown,
+    /// Memory ran out.
+    Memory,
+}
+
+impl From<AllocError> for OptionsError {
+    ghost from_gives = { λ _ e. e ≡ Memory };
+
+    fn from(_error: AllocError) -> OptionsError {
+        OptionsError::Memory
     }
+}
+
+impl<T: Drop> From<AllocFailed<T>> for OptionsError {
+    ghost from_gives = { λ _ e. e ≡ Memory };
+
+    fn from(_error: AllocFailed<T>) -> OptionsError {
+        OptionsError::Memory
+    }
+}
+
+impl Options {
+    /// Nothing is asked.
+    pub fn new(alloc: Global) -> Options
+        ensures { options_view result ≡ plain_options }
+    {
+        Options {
+            workspace: false,
+            ignored: Vec::new(alloc),
+            targets: Vec::new(alloc),
+            exclusions: Vec::new(alloc),
+        }
+    }
+
+    /// Adds what the words ask for that begin with this option, and answers the words that follow it.
+    fn read_option<'w>(
+        &mut self,
+        alloc: Global,
+        option: &str,
+        values: &'w [String],
+    ) -> Result<&'w [String], OptionsError>
+        ensures read { IfOk result (λ rest. AddsFirst (option.now ∷ map string_bytes values.now) (options_view self.old) (options_view self.new) (map string_bytes rest.now)) }
+        ensures refused { IfErr result (IsUnread (BeginsUnknown (option.now ∷ map string_bytes values.now))) }
+    {
+        if option == "--workspace" {
+            self.workspace = true;
+            return Ok(values);
+        }
+        let Some((value, rest)) = values.split_first() else {
+            return Err(OptionsError::Unknown);
+        };
+        self.read_value(alloc, option, value)?;
+        Ok(rest)
+    }
+
+    /// Adds what the option asks for with this value.
+    fn read_value(&mut self, alloc: Global, option: &str, value: &str) -> Result<(), OptionsError>
+        ensures read { OnOk result (AddsValue option.now value.now (options_view self.old) (options_view self.new)) }
+        ensures refused { IfErr result (IsUnread (IsNoValue option.now value.now)) }
+    {
+        match option {
+            "--ignore-kind" => self.ignored.push(dep_kind(value)?)?,
+            "--target" => self.targets.push(String::from_str(alloc, value)?)?,
+            "--exclude" => self.exclusions.push(pkg_spec(alloc, value)?)?,
+            _ => return Err(OptionsError::Unknown),
+        }
+        Ok(())
+    }
+}
+
+/// The purpose that a word means.
+fn dep_kind(word: &str) -> Result<DepKind, OptionsError>
+    ensures read { IfOk result (λ kind. kind_named word.now ≡ Some kind) }
+    ensures refused { IfErr result (IsUnread (kind_named word.now ≡ None)) }
+{
+    match word {
+        "normal" => Ok(DepKind::Normal),
+        "build" => Ok(DepKind::Build),
+        "dev" => Ok(DepKind::Dev),
+        _ => Err(OptionsError::Unknown),
+    }
+}
+
+/// The package specification that a word is.
+fn pkg_spec(alloc: Global, word: &str) -> Result<PkgSpec, OptionsError>
+    ensures read { IfOk result (λ spec. let view = spec_view spec in IsSpec word.now view.name view.version view.url) }
+    ensures refused { IfErr result (IsUnread ((spec : Specification) → IsSpec word.now spec.name spec.version spec.url → ⊥)) }
+{
+    match PkgSpec::from_str(alloc, word) {
+        Ok(spec) => Ok(spec),
+        Err(Error::InvalidPkgSpec(_)) => Err(OptionsError::Unknown),
+        Err(_) => Err(OptionsError::Memory),
+    }
+}
+
+/// Reads options from words, which may come in any order and more than once. A value is the next word, whatever it is.
+///
+/// The options are `--workspace`; `--ignore-kind KIND`, where KIND is `normal`, `build` or `dev`; `--target TRIPLE`, and
+/// `--exclude SPEC`, where SPEC is a package specification. What is asked stands in the order of the words. It is refused as
+/// `Unknown` where the words are no such options, and only there; `Memory` may stand in place of any answer.
+pub fn options_of(alloc: Global, words: &[String]) -> Result<Options, OptionsError>
+    ensures read { IfOk result (λ options. IsCommandLine (map string_bytes words.now) (options_view options)) }
+    ensures refused { IfErr result (IsUnread (IsUnknown (map string_bytes words.now))) }
+{
+    let mut options = Options::new(alloc);
+    let mut rest = words;
+    while let Some((option, values)) = rest.split_first() {
+        rest = options.read_option(alloc, option, values)?;
+    }
+    Ok(options)
+}
+
+/// Sets what the options mean, where nothing is set yet. The only error is want of memory.
+pub fn set_options<S: Drop + 'static>(
+    alloc: Global,
+    options: &Options,
+    builder: &mut Builder<S>,
+) -> Result<(), AllocError>
+    requires { builder.old.setting ≡ plain_setting }
+    ensures setting { OnOk result (builder.new.setting ≡ setting_of (options_view options.now)) }
+    ensures index { OnOk result (builder.new.index ≡ builder.old.index) }
+{
+    builder.workspace(options.workspace);
+    ignore_kinds(builder, &options.ignored);
+    builder.include_targets(targets_of(alloc, &options.targets)?)?;
+    builder.exclude(options.exclusions.clone()?)?;
+    Ok(())
+}
+
+/// Ignores dependencies for these purposes, whichever crate has them.
+fn ignore_kinds<S: Drop + 'static>(builder: &mut Builder<S>, kinds: &[DepKind])
+    ensures setting { builder.new.setting ≡ record (builder.old.setting) { ignored = with_ignored kinds.now builder.old.setting.ignored } }
+    ensures index { builder.new.index ≡ builder.old.index }
+{
+    for kind in kinds {
+        builder.ignore_kind(*kind, Scope::All);
+    }
+}
+
+/// The targets with these triples, each without features.
+fn targets_of(alloc: Global, triples: &[String]) -> Result<Vec<(Target, Vec<String>)>, AllocError>
+    ensures { IfOk result (λ targets. map asked_of targets.items ≡ map asked_at (map string_bytes triples.now)) }
+{
+    let mut targets = Vec::new(alloc);
+    for triple in triples {
+        targets.push((Target::new(alloc, triple)?, Vec::new(alloc)))?;
+    }
+    Ok(targets)
 }

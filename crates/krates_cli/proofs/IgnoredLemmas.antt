@@ -1,0 +1,72 @@
+-- What one more ignored purpose is, as a set.
+use Rattle.std.proofs.Common.{◌≡◌, ℕ, ◌↔◌, ◌⊎◌, ◌+◌, ◌<◌, Bool, true, false, List, [], ◌∷◌, drop, length, get_or, refl, sym, ap, inl, inr, ⊎_elim, ◌∙◌}
+use Rattle.std.proofs.lemmas.Bool.{false≢true}
+use Rattle.std.proofs.lemmas.List.{drop_more}
+use Rattle.krates_resolve.specs.Kind.{has_kind, HasOneMore, IgnoresMore}
+use Rattle.krates_resolve.specs.Setting.{SettingModel}
+use Rattle.krates_resolve.specs.declared.kind.DepKind.{DepKind}
+use Rattle.krates_resolve.specs.declared.kind.DepKind.TheVariants as kinds
+use Rattle.krates_resolve.specs.declared.kind.IgnoredKinds.{IgnoredKinds}
+use Rattle.krates_resolve.specs.declared.kind.KindSet.{KindSet}
+use Rattle.krates_resolve.specs.declared.kind.Scope.TheVariants.{All}
+use Rattle.krates_cli.specs.Options.{with_kind, with_ignored}
+
+-- two answers that are yes for the same are the same
+same_answer : (a b : Bool) → ((a ≡ true) ↔ (b ≡ true)) → a ≡ b
+same_answer true b h = sym (h.0 refl)
+same_answer false true h = h.1 refl
+same_answer false false h = refl
+
+-- sets of the same purposes are the same
+same_set : (a b : KindSet) → ((k : DepKind) → (has_kind a k ≡ true) ↔ (has_kind b k ≡ true)) → a ≡ b
+same_set a b h =
+    let n = same_answer a.normal b.normal (h kinds.Normal) in
+    let u = same_answer a.build b.build (h kinds.Build) in
+    let d = same_answer a.dev b.dev (h kinds.Dev) in
+    ap (λ x. record a { normal = x }) n ∙ ap (λ x. record b { build = x; dev = a.dev }) u ∙ ap (λ x. record b { dev = x }) d
+
+-- two purposes differ
+abbrev is_same : DepKind → DepKind → Bool
+is_same kinds.Normal kinds.Normal = true
+is_same kinds.Build kinds.Build = true
+is_same kinds.Dev kinds.Dev = true
+is_same a b = false
+
+differ : {A : Type 0} (a b : DepKind) → is_same a b ≡ false → is_same b b ≡ true → a ≡ b → A
+differ a b apart same e = absurd (false≢true (sym apart ∙ ap (λ k. is_same k b) e ∙ same))
+
+-- the set with one more purpose has that, and what it had
+one_more : (set : KindSet) (kind : DepKind) → HasOneMore set (with_kind kind set) kind
+one_more set kinds.Normal kinds.Normal = (λ _. inr refl, λ _. refl)
+one_more set kinds.Normal kinds.Build = (λ h. inl h, λ h. ⊎_elim (λ had. had) (differ kinds.Build kinds.Normal refl refl) h)
+one_more set kinds.Normal kinds.Dev = (λ h. inl h, λ h. ⊎_elim (λ had. had) (differ kinds.Dev kinds.Normal refl refl) h)
+one_more set kinds.Build kinds.Normal = (λ h. inl h, λ h. ⊎_elim (λ had. had) (differ kinds.Normal kinds.Build refl refl) h)
+one_more set kinds.Build kinds.Build = (λ _. inr refl, λ _. refl)
+one_more set kinds.Build kinds.Dev = (λ h. inl h, λ h. ⊎_elim (λ had. had) (differ kinds.Dev kinds.Build refl refl) h)
+one_more set kinds.Dev kinds.Normal = (λ h. inl h, λ h. ⊎_elim (λ had. had) (differ kinds.Normal kinds.Dev refl refl) h)
+one_more set kinds.Dev kinds.Build = (λ h. inl h, λ h. ⊎_elim (λ had. had) (differ kinds.Build kinds.Dev refl refl) h)
+one_more set kinds.Dev kinds.Dev = (λ _. inr refl, λ _. refl)
+
+-- a set that has one more purpose is the one with that
+one_more_alone : (old new : KindSet) (kind : DepKind) → ((k : DepKind) → (has_kind new k ≡ true) ↔ ((has_kind old k ≡ true) ⊎ (k ≡ kind))) → new ≡ with_kind kind old
+one_more_alone old new kind more =
+    same_set new (with_kind kind old) (λ k. (λ has. (one_more old kind k).1 ((more k).0 has), λ has. (more k).1 ((one_more old kind k).0 has)))
+
+-- where one more purpose is ignored of every crate, it is in both sets
+pub ignores_alone : (old new : IgnoredKinds) (kind : DepKind) → IgnoresMore old new kind All → new ≡ with_ignored (kind ∷ []) old
+ignores_alone old new kind more =
+    let members = one_more_alone old.of_members new.of_members kind (λ k. (λ has. ⊎_elim (λ had. inl had) (λ is. inr is.0) ((more k true).0 has), λ has. (more k true).1 (⊎_elim (λ had. inl had) (λ is. inr (is, tt)) has))) in
+    let others = one_more_alone old.of_others new.of_others kind (λ k. (λ has. ⊎_elim (λ had. inl had) (λ is. inr is.0) ((more k false).0 has), λ has. (more k false).1 (⊎_elim (λ had. inl had) (λ is. inr (is, tt)) has))) in
+    λ i. record { of_members = members i; of_others = others i }
+
+-- one step of a loop that ignores purposes: what is left is ignored in the end, as all are
+pub next_ignored : (now new old start : SettingModel) (purposes : List DepKind) (i : ℕ) (kind d : DepKind) → now ≡ new
+    → IgnoresMore old.ignored new.ignored kind All → new ≡ record old { ignored = new.ignored } → i < length purposes → kind ≡ get_or purposes i d
+    → record old { ignored = with_ignored (drop i purposes) old.ignored } ≡ record start { ignored = with_ignored purposes start.ignored }
+    → record now { ignored = with_ignored (drop (i + 1) purposes) now.ignored } ≡ record start { ignored = with_ignored purposes start.ignored }
+next_ignored now new old start purposes i kind d same more rest lt is left =
+    let after : record now { ignored = with_ignored (drop (i + 1) purposes) now.ignored } ≡ record old { ignored = with_ignored (drop (i + 1) purposes) new.ignored }
+    = ap {A = SettingModel} {B = SettingModel} (λ s. record s { ignored = with_ignored (drop (i + 1) purposes) s.ignored }) same ∙ ap {A = SettingModel} {B = SettingModel} (λ s. record s { ignored = with_ignored (drop (i + 1) purposes) new.ignored }) rest in
+    let here = ap {A = IgnoredKinds} {B = SettingModel} (λ g. record old { ignored = with_ignored (drop (i + 1) purposes) g }) (ignores_alone old.ignored new.ignored kind more) in
+    let split : drop i purposes ≡ kind ∷ drop (i + 1) purposes = drop_more purposes i d lt ∙ ap (λ k. k ∷ drop (i + 1) purposes) (sym is) in
+    after ∙ here ∙ ap {A = List DepKind} {B = SettingModel} (λ l. record old { ignored = with_ignored l old.ignored }) (sym split) ∙ left

@@ -1,0 +1,253 @@
+-- How options are read from the front of words.
+use Rattle.std.proofs.Common.{◌≡◌, ◌⊎◌, ◌++◌, ◌||◌, Bool, true, false, List, [], ◌∷◌, Option, None, Some, bytes_eq, codes, drop, refl, sym, ap, inl, inr, ⊎_elim, subst, ◌∙◌, append_assoc, append-nil}
+use Rattle.std.proofs.Math.Bool.{or-true, or-false}
+use Rattle.std.proofs.lemmas.Bool.{false≢true}
+use Rattle.krates_cm.specs.Document.{Text}
+use Rattle.krates_ids.specs.PackageSpecification.{Specification, IsSpec}
+use Rattle.krates_resolve.specs.declared.kind.DepKind.{DepKind}
+use Rattle.krates_cli.specs.Options.{OptionsModel, plain_options, Wish, every_member, without_kind, at_target, without_package, with_wish, kind_named, AsksWith, ignore_kind, target, exclude, AsksFirst, workspace, valued, IsCommandLine, no_words, one_more, IsUnknown}
+use Rattle.krates_cli.specs.OptionsReading.{and_wish, AddsValue, AddsFirst, BeginsUnknown, IsNoValue, IsUnread}
+use Rattle.krates_cli.specs.declared.options.OptionsError.{OptionsError}
+use Rattle.krates_cli.specs.declared.options.OptionsError.TheVariants as errors
+
+-- ---- one option
+
+-- what an option with a value is
+abbrev pub IsAsked : Text → Text → Wish → Type 0
+IsAsked option value every_member = ⊥
+IsAsked option value (without_kind kind) = (option ≡ codes "--ignore-kind") × (kind_named value ≡ Some kind)
+IsAsked option value (at_target triple) = (option ≡ codes "--target") × (value ≡ triple)
+IsAsked option value (without_package spec) = (option ≡ codes "--exclude") × IsSpec value spec.name spec.version spec.url
+
+pub asked : (option value : Text) (wish : Wish) → AsksWith option value wish → IsAsked option value wish
+asked option value wish (ignore_kind h) = (refl, h)
+asked option value wish target = (refl, refl)
+asked option value wish (exclude h) = (refl, h)
+
+-- two names of options differ
+differ : {A : Type 0} (option a b : Text) → option ≡ a → option ≡ b → bytes_eq a b ≡ false → bytes_eq b b ≡ true → A
+differ option a b is_a is_b apart same = absurd (false≢true (sym apart ∙ ap (λ t. bytes_eq t b) (sym is_a ∙ is_b) ∙ same))
+
+-- an option with a value is not `--workspace`
+no_flag : (option value : Text) (wish : Wish) → AsksWith option value wish → option ≡ codes "--workspace" → ⊥
+no_flag option value wish (ignore_kind h) e = differ option (codes "--ignore-kind") (codes "--workspace") refl e refl refl
+no_flag option value wish target e = differ option (codes "--target") (codes "--workspace") refl e refl refl
+no_flag option value wish (exclude h) e = differ option (codes "--exclude") (codes "--workspace") refl e refl refl
+
+-- an option of another name asks for nothing
+pub no_value : (option value : Text) → (option ≡ codes "--ignore-kind" → ⊥) → (option ≡ codes "--target" → ⊥) → (option ≡ codes "--exclude" → ⊥) → IsNoValue option value
+no_value option value no_kind no_target no_spec wish (ignore_kind h) = no_kind refl
+no_value option value no_kind no_target no_spec wish target = no_target refl
+no_value option value no_kind no_target no_spec wish (exclude h) = no_spec refl
+
+pub no_spec_value : (option value : Text) → option ≡ codes "--exclude" → ((spec : Specification) → IsSpec value spec.name spec.version spec.url → ⊥) → IsNoValue option value
+no_spec_value option value is none wish (ignore_kind h) = differ option (codes "--ignore-kind") (codes "--exclude") refl is refl refl
+no_spec_value option value is none wish target = differ option (codes "--target") (codes "--exclude") refl is refl refl
+no_spec_value option value is none wish (exclude {spec = spec} h) = none spec h
+
+-- a value that is no specification is refused, and want of memory stays that
+pub spec_refused : (option value : Text) (why same : OptionsError) → option ≡ codes "--exclude" → IsUnread ((spec : Specification) → IsSpec value spec.name spec.version spec.url → ⊥) why
+    → same ≡ why → IsUnread (IsNoValue option value) same
+spec_refused option value errors.Unknown same is none e = subst (IsUnread (IsNoValue option value)) (sym e) (no_spec_value option value is none)
+spec_refused option value errors.Memory same is none e = subst (IsUnread (IsNoValue option value)) (sym e) tt
+
+pub kind_read : (option value : Text) (old : OptionsModel) (kind : DepKind) (kinds : List DepKind) → option ≡ codes "--ignore-kind" → kind_named value ≡ Some kind
+    → kinds ≡ old.ignored ++ kind ∷ [] → AddsValue option value old (record old { ignored = kinds })
+kind_read option value old kind kinds is named pushed = record {
+  wish = without_kind kind;
+  asks = subst (λ o. AsksWith o value (without_kind kind)) (sym is) (ignore_kind named);
+  added = ap (λ l. record old { ignored = l }) pushed;
+}
+
+pub target_read : (option value : Text) (old : OptionsModel) (triples : List Text) → option ≡ codes "--target"
+    → triples ≡ old.targets ++ value ∷ [] → AddsValue option value old (record old { targets = triples })
+target_read option value old triples is pushed = record {
+  wish = at_target value;
+  asks = subst (λ o. AsksWith o value (at_target value)) (sym is) target;
+  added = ap (λ l. record old { targets = l }) pushed;
+}
+
+pub spec_read : (option value : Text) (old : OptionsModel) (spec : Specification) (specs : List Specification) → option ≡ codes "--exclude" → IsSpec value spec.name spec.version spec.url
+    → specs ≡ old.exclusions ++ spec ∷ [] → AddsValue option value old (record old { exclusions = specs })
+spec_read option value old spec specs is named pushed = record {
+  wish = without_package spec;
+  asks = subst (λ o. AsksWith o value (without_package spec)) (sym is) (exclude named);
+  added = ap (λ l. record old { exclusions = l }) pushed;
+}
+
+-- ---- the first words
+
+pub flag_read : (option : Text) (values : List Text) (old : OptionsModel) → option ≡ codes "--workspace" → AddsFirst (option ∷ values) old (record old { workspace = true }) values
+flag_read option values old is = record {
+  wish = every_member;
+  asks = subst (λ o. AsksFirst (o ∷ values) every_member values) (sym is) workspace;
+  added = refl;
+}
+
+pub value_read : (option value : Text) (values rest : List Text) (old new : OptionsModel) → values ≡ value ∷ rest → AddsValue option value old new → AddsFirst (option ∷ values) old new rest
+value_read option value values rest old new split adds = record {
+  wish = adds.wish;
+  asks = subst (λ l. AsksFirst (option ∷ l) adds.wish rest) (sym split) (valued adds.asks);
+  added = adds.added;
+}
+
+-- how words begin with an option
+abbrev pub Begins : List Text → Wish → List Text → Type 0
+Begins words wish rest = ((words ≡ codes "--workspace" ∷ rest) × (wish ≡ every_member))
+    ⊎ ((option value : Text) × AsksWith option value wish × (words ≡ option ∷ value ∷ rest))
+
+begins : (words : List Text) (wish : Wish) (rest : List Text) → AsksFirst words wish rest → Begins words wish rest
+begins words wish rest workspace = inl (refl, refl)
+begins words wish rest (valued {option = option} {value = value} h) = inr (option, value, h, refl)
+
+-- ---- whole words
+
+-- what is asked by both, the first before the second
+abbrev pub joined : OptionsModel → OptionsModel → OptionsModel
+joined a b = record {
+  workspace = a.workspace || b.workspace;
+  ignored = a.ignored ++ b.ignored;
+  targets = a.targets ++ b.targets;
+  exclusions = a.exclusions ++ b.exclusions;
+}
+
+-- a wish at the end of the first stands before the second
+moves_over : (a b : OptionsModel) (wish : Wish) → joined (and_wish a wish) b ≡ joined a (with_wish wish b)
+moves_over a b every_member = ap (λ x. record (joined a b) { workspace = x }) (sym (or-true a.workspace))
+moves_over a b (without_kind kind) = ap (λ x. record (joined a b) { ignored = x }) (append_assoc a.ignored (kind ∷ []) b.ignored)
+moves_over a b (at_target triple) = ap (λ x. record (joined a b) { targets = x }) (append_assoc a.targets (triple ∷ []) b.targets)
+moves_over a b (without_package spec) = ap (λ x. record (joined a b) { exclusions = x }) (append_assoc a.exclusions (spec ∷ []) b.exclusions)
+
+joined_plain : (a : OptionsModel) → joined a plain_options ≡ a
+joined_plain a = λ i. record {
+  workspace = or-false a.workspace i;
+  ignored = append-nil a.ignored i;
+  targets = append-nil a.targets i;
+  exclusions = append-nil a.exclusions i;
+}
+
+-- So far this is asked, and these words are left: they are a command line exactly where all words are.
+pub record AreReadTo (all : List Text) (asked : OptionsModel) (left : List Text) : Type 0 where
+  pub whole : (o : OptionsModel) → IsCommandLine left o → IsCommandLine all (joined asked o)
+  pub back : (o : OptionsModel) → IsCommandLine all o → (p : OptionsModel) × IsCommandLine left p
+
+pub none_read : (all : List Text) (asked : OptionsModel) → asked ≡ plain_options → AreReadTo all asked all
+none_read all asked plain = record {
+  whole = λ o line. subst (λ a. IsCommandLine all (joined a o)) (sym plain) line;
+  back = λ o line. (o, line);
+}
+
+-- whether there is no word
+abbrev is_none : List Text → Bool
+is_none [] = true
+is_none (word ∷ words) = false
+
+-- there are words
+some_words : (option : Text) (values : List Text) → option ∷ values ≡ [] → ⊥
+some_words option values e = false≢true (ap is_none e)
+
+nothing_first : (words rest : List Text) (wish : Wish) → AsksFirst words wish rest → words ≡ [] → ⊥
+nothing_first words rest wish workspace e = some_words (codes "--workspace") rest e
+nothing_first words rest wish (valued {option = option} {value = value} asks) e = some_words option (value ∷ rest) e
+
+-- how a command line begins
+abbrev pub LineBegins : List Text → OptionsModel → Type 0
+LineBegins words o = ((words ≡ []) × (o ≡ plain_options))
+    ⊎ ((rest : List Text) × (wish : Wish) × (p : OptionsModel) × AsksFirst words wish rest × IsCommandLine rest p × (o ≡ with_wish wish p))
+
+pub line_begins : (words : List Text) (o : OptionsModel) → IsCommandLine words o → LineBegins words o
+line_begins words o no_words = inl (refl, refl)
+line_begins words o (one_more {rest = rest} {wish = wish} {o = p} asks line) = inr (rest, wish, p, asks, line, refl)
+
+-- the first word
+abbrev first : List Text → Text
+first [] = []
+first (word ∷ words) = word
+
+rests : (words : List Text) (wish other : Wish) (rest left : List Text) → Begins words wish rest → Begins words other left → rest ≡ left
+rests words wish other rest left (inl a) (inl b) = ap (λ l. drop 1 l) (sym a.0 ∙ b.0)
+rests words wish other rest left (inl a) (inr (option, value, asks, is)) = absurd (no_flag option value other asks (ap first (sym is ∙ a.0)))
+rests words wish other rest left (inr (option, value, asks, is)) (inl b) = absurd (no_flag option value wish asks (ap first (sym is ∙ b.0)))
+rests words wish other rest left (inr a) (inr b) = ap (λ l. drop 2 l) (sym a.3 ∙ b.3)
+
+-- the words that follow an option are these alone
+pub same_rest : (words : List Text) (wish other : Wish) (rest left : List Text) → AsksFirst words wish rest → AsksFirst words other left → rest ≡ left
+same_rest words wish other rest left asks also = rests words wish other rest left (begins words wish rest asks) (begins words other left also)
+
+-- what follows the first option of a command line is one
+follows : (words : List Text) (o : OptionsModel) (rest : List Text) (wish : Wish) → AsksFirst words wish rest → LineBegins words o → (p : OptionsModel) × IsCommandLine rest p
+follows words o rest wish asks (inl none) = absurd (nothing_first words rest wish asks none.0)
+follows words o rest wish asks (inr (left, other, p, also, line, is)) = (p, subst (λ l. IsCommandLine l p) (same_rest words other wish left rest also asks) line)
+
+never : (option : Text) (values : List Text) (o : OptionsModel) → BeginsUnknown (option ∷ values) → LineBegins (option ∷ values) o → ⊥
+never option values o unknown (inl none) = some_words option values none.0
+never option values o unknown (inr (left, wish, p, asks, line, is)) = unknown wish left asks
+
+-- one option is read
+pub one_read : (all : List Text) (old new : OptionsModel) (left words rest : List Text) → left ≡ words → AddsFirst words old new rest → AreReadTo all old left → AreReadTo all new rest
+one_read all old new left words rest split adds before = record {
+  whole = λ o line. subst (λ a. IsCommandLine all a) (sym (ap (λ a. joined a o) adds.added ∙ moves_over old o adds.wish))
+      (before.whole (with_wish adds.wish o) (subst (λ l. IsCommandLine l (with_wish adds.wish o)) (sym split) (one_more adds.asks line)));
+  back = λ o line. let (p, line_left) = before.back o line in follows words p rest adds.wish adds.asks (line_begins words p (subst (λ l. IsCommandLine l p) split line_left));
+}
+
+-- all words are read
+pub all_read : (all : List Text) (o : OptionsModel) (left : List Text) → left ≡ [] → AreReadTo all o left → IsCommandLine all o
+all_read all o left none are = subst (λ a. IsCommandLine all a) (joined_plain o) (are.whole plain_options (subst (λ l. IsCommandLine l plain_options) (sym none) no_words))
+
+-- words of which some are left that begin with no option are no command line
+unknown_left : (all : List Text) (o : OptionsModel) (option : Text) (left values : List Text) → left ≡ option ∷ values → BeginsUnknown (option ∷ values) → AreReadTo all o left → IsUnknown all
+unknown_left all o option left values split unknown are p line = let (q, line_left) = are.back p line in never option values q unknown (line_begins (option ∷ values) q (subst (λ l. IsCommandLine l q) split line_left))
+
+-- words aren't read where what is left of them isn't, and want of memory stays that
+pub unread_left : (all : List Text) (o : OptionsModel) (option : Text) (left values : List Text) (why same : OptionsError) → left ≡ option ∷ values
+    → IsUnread (BeginsUnknown (option ∷ values)) why → same ≡ why → AreReadTo all o left → IsUnread (IsUnknown all) same
+unread_left all o option left values errors.Unknown same split unknown e are = subst (IsUnread (IsUnknown all)) (sym e) (unknown_left all o option left values split unknown are)
+unread_left all o option left values errors.Memory same split unknown e are = subst (IsUnread (IsUnknown all)) (sym e) tt
+
+-- ---- one reading
+
+-- specifications are read in one way
+abbrev pub OneReading : Type 0
+OneReading = (t : Text) (a b : Specification) → IsSpec t a.name a.version a.url → IsSpec t b.name b.version b.url → a ≡ b
+
+abbrev kind_or : DepKind → Option DepKind → DepKind
+kind_or kind None = kind
+kind_or kind (Some other) = other
+
+same_asked : OneReading → (option value : Text) (a b : Wish) → IsAsked option value a → IsAsked option value b → a ≡ b
+same_asked one option value every_member b p q = absurd p
+same_asked one option value (without_kind k) every_member p q = absurd q
+same_asked one option value (without_kind k) (without_kind j) p q = ap (λ x. without_kind (kind_or k x)) (sym p.1 ∙ q.1)
+same_asked one option value (without_kind k) (at_target u) p q = differ option (codes "--ignore-kind") (codes "--target") p.0 q.0 refl refl
+same_asked one option value (without_kind k) (without_package s) p q = differ option (codes "--ignore-kind") (codes "--exclude") p.0 q.0 refl refl
+same_asked one option value (at_target t) every_member p q = absurd q
+same_asked one option value (at_target t) (without_kind k) p q = differ option (codes "--target") (codes "--ignore-kind") p.0 q.0 refl refl
+same_asked one option value (at_target t) (at_target u) p q = ap at_target (sym p.1 ∙ q.1)
+same_asked one option value (at_target t) (without_package s) p q = differ option (codes "--target") (codes "--exclude") p.0 q.0 refl refl
+same_asked one option value (without_package r) every_member p q = absurd q
+same_asked one option value (without_package r) (without_kind k) p q = differ option (codes "--exclude") (codes "--ignore-kind") p.0 q.0 refl refl
+same_asked one option value (without_package r) (at_target u) p q = differ option (codes "--exclude") (codes "--target") p.0 q.0 refl refl
+same_asked one option value (without_package r) (without_package s) p q = ap without_package (one value r s p.1 q.1)
+
+wishes : OneReading → (words : List Text) (a b : Wish) (rest left : List Text) → Begins words a rest → Begins words b left → a ≡ b
+wishes one words a b rest left (inl p) (inl q) = p.1 ∙ sym q.1
+wishes one words a b rest left (inl p) (inr (option, value, asks, is)) = absurd (no_flag option value b asks (ap first (sym is ∙ p.0)))
+wishes one words a b rest left (inr (option, value, asks, is)) (inl q) = absurd (no_flag option value a asks (ap first (sym is ∙ q.0)))
+wishes one words a b rest left (inr (option, value, asks, is)) (inr (other, also, wants, equal)) =
+    let same_option : other ≡ option = ap first (sym equal ∙ is) in
+    let same_value : also ≡ value = ap (λ l. first (drop 1 l)) (sym equal ∙ is) in
+    same_asked one option value a b (asked option value a asks) (subst (λ v. IsAsked option v b) same_value (subst (λ o. IsAsked o also b) same_option (asked other also b wants)))
+
+same_wish : OneReading → (words : List Text) (a b : Wish) (rest left : List Text) → AsksFirst words a rest → AsksFirst words b left → a ≡ b
+same_wish one words a b rest left asks also = wishes one words a b rest left (begins words a rest asks) (begins words b left also)
+
+-- words are read in one way, where specifications are
+pub same_line : OneReading → (words : List Text) (a b : OptionsModel) → IsCommandLine words a → IsCommandLine words b → a ≡ b
+same_line one words a b no_words second = ⊎_elim (λ none. sym none.1) (λ some. absurd (nothing_first [] some.0 some.1 some.3 refl)) (line_begins [] b second)
+same_line one words a b (one_more {rest = rest} {wish = wish} {o = o} asks line) second =
+    ⊎_elim (λ none. absurd (nothing_first words rest wish asks none.0))
+    (λ some.
+    let rest_line = subst (λ l. IsCommandLine l some.2) (same_rest words some.1 wish some.0 rest some.3 asks) some.4 in
+    ap (λ w. with_wish w o) (same_wish one words wish some.1 rest some.0 asks some.3) ∙ ap (λ p. with_wish some.1 p) (same_line one rest o some.2 line rest_line) ∙ sym some.5)
+    (line_begins words b second)

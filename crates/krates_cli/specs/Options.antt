@@ -1,0 +1,118 @@
+-- What is asked of a run: which words ask for what, and the setting that is meant.
+use Rattle.std.specs.Prelude.{◌≡◌, List, [], ◌∷◌, Bool, true, false, Option, Some, None, bytes_eq, codes, if◌then◌else◌, map, string_bytes}
+use Rattle.krates_cm.specs.Document.{Text}
+use Rattle.krates_ids.specs.PackageSpecification.{Specification, IsSpec}
+use Rattle.krates_ids.specs.SpecificationAnswers.{spec_view}
+use Rattle.krates_text.specs.Passing.{Asked}
+use Rattle.krates_text.specs.TargetTable.{target_named}
+use Rattle.krates_resolve.specs.PlainSetting.{nothing_ignored}
+use Rattle.krates_resolve.specs.Setting.{SettingModel}
+use Rattle.krates_resolve.specs.declared.kind.DepKind.{DepKind}
+use Rattle.krates_resolve.specs.declared.kind.DepKind.TheVariants as kinds
+use Rattle.krates_resolve.specs.declared.kind.IgnoredKinds.{IgnoredKinds}
+use Rattle.krates_resolve.specs.declared.kind.KindSet.{KindSet}
+use Rattle.krates_cli.specs.declared.options.Options.{Options}
+
+-- ---- what is asked
+
+pub record OptionsModel : Type 0 where
+  -- whether every member is asked for
+  pub workspace : Bool
+  -- the purposes of the dependencies that are ignored
+  pub ignored : List DepKind
+  -- the triples of the targets
+  pub targets : List Text
+  -- the packages that are left out
+  pub exclusions : List Specification
+
+-- nothing is asked
+abbrev pub plain_options : OptionsModel
+plain_options = record { workspace = false; ignored = []; targets = []; exclusions = [] }
+
+-- options, seen by the bytes of their texts
+abbrev pub options_view : Options → OptionsModel
+options_view o = record {
+  workspace = o.workspace;
+  ignored = o.ignored.items;
+  targets = map string_bytes o.targets.items;
+  exclusions = map spec_view o.exclusions.items;
+}
+
+-- ---- words
+
+-- what one option asks for
+pub data Wish : Type 0 where
+  every_member : Wish
+  without_kind : DepKind → Wish
+  at_target : Text → Wish
+  without_package : Specification → Wish
+
+-- what is asked where this wish comes first
+abbrev pub with_wish : Wish → OptionsModel → OptionsModel
+with_wish every_member o = record o { workspace = true }
+with_wish (without_kind kind) o = record o { ignored = kind ∷ o.ignored }
+with_wish (at_target triple) o = record o { targets = triple ∷ o.targets }
+with_wish (without_package spec) o = record o { exclusions = spec ∷ o.exclusions }
+
+-- the purpose that a word means
+abbrev pub kind_named : Text → Option DepKind
+kind_named word =
+    if bytes_eq word (codes "normal") then Some kinds.Normal
+    else if bytes_eq word (codes "build") then Some kinds.Build
+    else if bytes_eq word (codes "dev") then Some kinds.Dev
+    else None
+
+-- an option and its value ask for this
+pub data AsksWith : Text → Text → Wish → Type 0 where
+  ignore_kind : {value : Text} {kind : DepKind} → kind_named value ≡ Some kind → AsksWith (codes "--ignore-kind") value (without_kind kind)
+  target : {value : Text} → AsksWith (codes "--target") value (at_target value)
+  exclude : {value : Text} {spec : Specification} → IsSpec value spec.name spec.version spec.url → AsksWith (codes "--exclude") value (without_package spec)
+
+-- The words begin with an option that asks for this, and these words follow. A value is the next word, whatever it is.
+pub data AsksFirst : List Text → Wish → List Text → Type 0 where
+  workspace : {rest : List Text} → AsksFirst (codes "--workspace" ∷ rest) every_member rest
+  valued : {option value : Text} {wish : Wish} {rest : List Text} → AsksWith option value wish → AsksFirst (option ∷ value ∷ rest) wish rest
+
+-- the words are options that ask for this
+pub data IsCommandLine : List Text → OptionsModel → Type 0 where
+  no_words : IsCommandLine [] plain_options
+  one_more : {words rest : List Text} {wish : Wish} {o : OptionsModel} → AsksFirst words wish rest → IsCommandLine rest o → IsCommandLine words (with_wish wish o)
+
+-- the words ask for nothing that is known: one is no option, or an option has no value or a wrong one
+abbrev pub IsUnknown : List Text → Type 0
+IsUnknown words = (o : OptionsModel) → IsCommandLine words o → ⊥
+
+-- ---- the setting
+
+-- the target with this triple, without features
+abbrev pub asked_at : Text → Asked
+asked_at triple = record { target = target_named triple; features = [] }
+
+-- the set with one more purpose
+abbrev pub with_kind : DepKind → KindSet → KindSet
+with_kind kinds.Normal set = record set { normal = true }
+with_kind kinds.Build set = record set { build = true }
+with_kind kinds.Dev set = record set { dev = true }
+
+-- the set with these purposes too
+abbrev pub with_kinds : List DepKind → KindSet → KindSet
+with_kinds [] set = set
+with_kinds (kind ∷ rest) set = with_kinds rest (with_kind kind set)
+
+-- these purposes are ignored too, of every crate
+abbrev pub with_ignored : List DepKind → IgnoredKinds → IgnoredKinds
+with_ignored kinds ignored = record { of_members = with_kinds kinds ignored.of_members; of_others = with_kinds kinds ignored.of_others }
+
+-- the setting that is meant; no manifest is asked for
+abbrev pub setting_of : OptionsModel → SettingModel
+setting_of o = record {
+  targets = map asked_at o.targets;
+  manifests = [];
+  exclusions = o.exclusions;
+  ignored = with_ignored o.ignored nothing_ignored;
+  workspace = o.workspace;
+}
+
+-- the setting that these options mean
+abbrev pub meant_setting : Options → SettingModel
+meant_setting options = setting_of (options_view options)

@@ -1,0 +1,38 @@
+-- How options are read from the front of words. Cited by private functions alone.
+use Rattle.std.specs.Prelude.{◌≡◌, ◌++◌, List, [], ◌∷◌, true, ⊤}
+use Rattle.krates_cm.specs.Document.{Text}
+use Rattle.krates_cli.specs.Options.{OptionsModel, Wish, every_member, without_kind, at_target, without_package, AsksWith, AsksFirst}
+use Rattle.krates_cli.specs.declared.options.OptionsError.{OptionsError}
+use Rattle.krates_cli.specs.declared.options.OptionsError.TheVariants as errors
+
+-- what is asked where this wish comes last
+abbrev pub and_wish : OptionsModel → Wish → OptionsModel
+and_wish o every_member = record o { workspace = true }
+and_wish o (without_kind kind) = record o { ignored = o.ignored ++ kind ∷ [] }
+and_wish o (at_target triple) = record o { targets = o.targets ++ triple ∷ [] }
+and_wish o (without_package spec) = record o { exclusions = o.exclusions ++ spec ∷ [] }
+
+-- the option and its value ask for something, which is added
+pub record AddsValue (option value : Text) (old new : OptionsModel) : Type 0 where
+  pub wish : Wish
+  pub asks : AsksWith option value wish
+  pub added : new ≡ and_wish old wish
+
+-- the words begin with an option, for which is added what it asks, and these words follow
+pub record AddsFirst (words : List Text) (old new : OptionsModel) (rest : List Text) : Type 0 where
+  pub wish : Wish
+  pub asks : AsksFirst words wish rest
+  pub added : new ≡ and_wish old wish
+
+-- the option and this value ask for nothing
+abbrev pub IsNoValue : Text → Text → Type 0
+IsNoValue option value = (wish : Wish) → AsksWith option value wish → ⊥
+
+-- the words begin with no option
+abbrev pub BeginsUnknown : List Text → Type 0
+BeginsUnknown words = (wish : Wish) (rest : List Text) → AsksFirst words wish rest → ⊥
+
+-- words aren't read: since this is true of them, or since memory ran out
+abbrev pub IsUnread : Type 0 → OptionsError → Type 0
+IsUnread P errors.Unknown = P
+IsUnread P errors.Memory = ⊤
