@@ -4,5 +4,3 @@
 
 pub mod agenda;
 pub mod graph;
-#[cfg(test)]
-mod tests;

@@ -7,6 +7,34 @@ use krates::{Builder, Kid, NoneFilter, OnFilter, Package, PackageId};
 use std::alloc::Global;
 use std::test::Fail;
 
+/// A document in short texts.
+#[derive(Clone, Copy)]
+pub(crate) struct Short<'a> {
+    /// The packages, with bars between them: the name of each, and behind it the names that it declares; a question mark behind
+    /// a name makes one optional.
+    pub(crate) packages: &'a str,
+    /// The nodes, with bars between them: the name of each, and behind it the names that it needs.
+    pub(crate) nodes: &'a str,
+    /// The names of the members.
+    pub(crate) members: &'a str,
+    /// The id of the root, as JSON.
+    pub(crate) root: &'a str,
+    /// For what each dependency is needed, as JSON.
+    pub(crate) kind: &'a str,
+    /// The target text of each dependency, as JSON.
+    pub(crate) target: &'a str,
+}
+
+/// One member, which needs nothing; and in other documents what they don't say.
+pub(crate) const ALONE: Short<'static> = Short {
+    packages: "a",
+    nodes: "a",
+    members: "a",
+    root: "null",
+    kind: "null",
+    target: "null",
+};
+
 /// Adds an item to a JSON list.
 fn push_item(json: &mut String, item: &str) -> Result<(), Fail> {
     if !json.is_empty() {
@@ -17,13 +45,14 @@ fn push_item(json: &mut String, item: &str) -> Result<(), Fail> {
 }
 
 /// The declared dependencies of these names; a question mark behind a name makes one optional.
-fn declared(alloc: Global, names: &str) -> Result<String, Fail> {
+fn declared(alloc: Global, short: &Short<'_>, names: &str) -> Result<String, Fail> {
     let mut json = String::new(alloc);
     for word in names.split_whitespace() {
         let optional = word.ends_with('?');
         let name = word.trim_end_matches('?');
         let item = format!(in alloc;
-            "{{\"name\":\"{name}\",\"req\":\"*\",\"kind\":null,\"optional\":{optional},\"uses_default_features\":false,\"features\":[]}}"
+            "{{\"name\":\"{name}\",\"req\":\"*\",\"kind\":{},\"target\":{},\"optional\":{optional},\"uses_default_features\":false,\"features\":[]}}",
+            short.kind, short.target
         )?;
         push_item(&mut json, item.as_str())?;
     }
@@ -31,23 +60,24 @@ fn declared(alloc: Global, names: &str) -> Result<String, Fail> {
 }
 
 /// The dependencies of a node, of these names.
-fn deps(alloc: Global, names: &str) -> Result<String, Fail> {
+fn deps(alloc: Global, short: &Short<'_>, names: &str) -> Result<String, Fail> {
     let mut json = String::new(alloc);
     for name in names.split_whitespace() {
         let item = format!(in alloc;
-            "{{\"name\":\"{name}\",\"pkg\":\"path+file:///w/{name}#0.1.0\",\"dep_kinds\":[{{\"kind\":null,\"target\":null}}]}}"
+            "{{\"name\":\"{name}\",\"pkg\":\"path+file:///w/{name}#0.1.0\",\"dep_kinds\":[{{\"kind\":{},\"target\":{}}}]}}",
+            short.kind, short.target
         )?;
         push_item(&mut json, item.as_str())?;
     }
     Ok(json)
 }
 
-/// The packages that a text lists: between bars the name of each, and behind it the names that it declares.
-fn packages(alloc: Global, text: &str) -> Result<String, Fail> {
+/// The packages of a document.
+fn packages(alloc: Global, short: &Short<'_>) -> Result<String, Fail> {
     let mut json = String::new(alloc);
-    for line in text.split('|') {
+    for line in short.packages.split('|') {
         let (name, names) = line.split_once(' ').unwrap_or((line, ""));
-        let needs = declared(alloc, names)?;
+        let needs = declared(alloc, short, names)?;
         let item = format!(in alloc;
             "{{\"name\":\"{name}\",\"version\":\"0.1.0\",\"id\":\"path+file:///w/{name}#0.1.0\",\"dependencies\":[{needs}],\"targets\":[],\"features\":{{}},\"manifest_path\":\"/w/{name}/Cargo.toml\"}}"
         )?;
@@ -56,12 +86,12 @@ fn packages(alloc: Global, text: &str) -> Result<String, Fail> {
     Ok(json)
 }
 
-/// The nodes that a text lists, in the same way.
-fn nodes(alloc: Global, text: &str) -> Result<String, Fail> {
+/// The nodes of a document.
+fn nodes(alloc: Global, short: &Short<'_>) -> Result<String, Fail> {
     let mut json = String::new(alloc);
-    for line in text.split('|') {
+    for line in short.nodes.split('|') {
         let (name, names) = line.split_once(' ').unwrap_or((line, ""));
-        let needs = deps(alloc, names)?;
+        let needs = deps(alloc, short, names)?;
         let item = format!(in alloc;
             "{{\"id\":\"path+file:///w/{name}#0.1.0\",\"deps\":[{needs}],\"dependencies\":[],\"features\":[]}}"
         )?;
@@ -97,14 +127,14 @@ impl OnFilter for Names {
     }
 }
 
-/// What is kept and what is reported, in order, or the text of the refusal.
-fn outcome(alloc: Global, document: &str) -> Result<String, Fail> {
+/// What the builder keeps and what is reported, in order, or the text of the refusal.
+pub(crate) fn outcome(alloc: Global, builder: Builder, document: &str) -> Result<String, Fail> {
     let metadata = MetadataCommand::parse(alloc, document)?;
     let mut names = Names {
         text: String::new(alloc),
         is_whole: true,
     };
-    let krates = match Builder::new(alloc).build_with_metadata(metadata, &mut names) {
+    let krates = match builder.build_with_metadata(metadata, &mut names) {
         Ok(krates) => krates,
         Err(error) => return Ok(format!(in alloc; "{error}")?),
     };
@@ -117,19 +147,14 @@ fn outcome(alloc: Global, document: &str) -> Result<String, Fail> {
     Ok(text)
 }
 
-/// The document of these packages, nodes, members and root.
-fn document(
-    alloc: Global,
-    pkgs: &str,
-    graph: &str,
-    members: &str,
-    root: &str,
-) -> Result<String, Fail> {
-    let pkgs = packages(alloc, pkgs)?;
-    let graph = nodes(alloc, graph)?;
-    let members = ids(alloc, members)?;
+/// The document that stands in short texts.
+pub(crate) fn document(alloc: Global, short: &Short<'_>) -> Result<String, Fail> {
+    let pkgs = packages(alloc, short)?;
+    let graph = nodes(alloc, short)?;
+    let members = ids(alloc, short.members)?;
     Ok(format!(in alloc;
-        "{{\"packages\":[{pkgs}],\"workspace_members\":[{members}],\"workspace_root\":\"/w\",\"target_directory\":\"/t\",\"resolve\":{{\"root\":{root},\"nodes\":[{graph}]}}}}"
+        "{{\"packages\":[{pkgs}],\"workspace_members\":[{members}],\"workspace_root\":\"/w\",\"target_directory\":\"/t\",\"resolve\":{{\"root\":{},\"nodes\":[{graph}]}}}}",
+        short.root
     )?)
 }
 
@@ -150,8 +175,16 @@ fn kept_and_reported(rt: HostRuntime) -> Result<(), Fail> {
         // the root, where there is one, and not the members
         ("a|b", "a|b", "a b", "\"path+file:///w/b#0.1.0\"", " +b -a"),
     ] {
-        let json = document(rt.alloc(), packages, nodes, members, root)?;
-        assert_eq!(rt; outcome(rt.alloc(), json.as_str())?.as_str(), expected);
+        let short = Short {
+            packages,
+            nodes,
+            members,
+            root,
+            ..ALONE
+        };
+        let json = document(rt.alloc(), &short)?;
+        let told = outcome(rt.alloc(), Builder::new(rt.alloc()), json.as_str())?;
+        assert_eq!(rt; told.as_str(), expected);
     }
     Ok(())
 }
@@ -172,8 +205,15 @@ fn refused(rt: HostRuntime) -> Result<(), Fail> {
         ("a|b", "a|b", "", "no root crates available"),
         ("a|a", "a", "a", "doubled id: path+file:///w/a#0.1.0"),
     ] {
-        let json = document(rt.alloc(), packages, nodes, members, "null")?;
-        assert_eq!(rt; outcome(rt.alloc(), json.as_str())?.as_str(), expected);
+        let short = Short {
+            packages,
+            nodes,
+            members,
+            ..ALONE
+        };
+        let json = document(rt.alloc(), &short)?;
+        let told = outcome(rt.alloc(), Builder::new(rt.alloc()), json.as_str())?;
+        assert_eq!(rt; told.as_str(), expected);
     }
     Ok(())
 }
@@ -181,7 +221,12 @@ fn refused(rt: HostRuntime) -> Result<(), Fail> {
 #[test]
 fn queries_of_kept_crates(rt: HostRuntime) -> Result<(), Fail> {
     let alloc = rt.alloc();
-    let json = document(alloc, "c|b|a b", "a b|b|c", "a", "null")?;
+    let short = Short {
+        packages: "c|b|a b",
+        nodes: "a b|b|c",
+        ..ALONE
+    };
+    let json = document(alloc, &short)?;
     let metadata = MetadataCommand::parse(alloc, json.as_str())?;
     let krates = Builder::new(alloc).build_with_metadata(metadata, &mut NoneFilter)?;
     let mut text = format!(in alloc; "{} of {}", krates.len(), krates.workspace_root())?;

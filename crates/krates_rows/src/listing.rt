@@ -6,16 +6,16 @@ use std::io::{ErrorKind, Read, Write};
 use std::test::Fail;
 use std::{io, str};
 
-const A: &str = "path+file:///w/a#0.1.0";
+pub(crate) const A: &str = "path+file:///w/a#0.1.0";
 
-const B: &str = "path+file:///w/b#0.1.0";
+pub(crate) const B: &str = "path+file:///w/b#0.1.0";
 
 /// What the first package declares: that it needs the second for its tests.
-const NEEDS_B: &str =
+pub(crate) const NEEDS_B: &str =
     r#"{"name":"b","req":"*","kind":"dev","optional":false,"uses_default_features":false,"features":[]}"#;
 
 /// The nodes of the two packages, of which the first needs the second for its tests.
-const NODES: &str =
+pub(crate) const NODES: &str =
     r#"{"id":"path+file:///w/a#0.1.0","deps":[{"name":"b","pkg":"path+file:///w/b#0.1.0","dep_kinds":[{"kind":"dev","target":null}]}],"dependencies":["path+file:///w/b#0.1.0"],"features":[]},{"id":"path+file:///w/b#0.1.0","deps":[],"dependencies":[],"features":[]}"#;
 
 /// A third package, which no crate needs, and its node.
@@ -29,7 +29,7 @@ const NO_GRAPH: &str =
     r#"{"packages":[],"workspace_members":[],"workspace_root":"/w","target_directory":"/t"}"#;
 
 /// Two packages, with what the first declares, more packages, and the nodes.
-fn document(
+pub(crate) fn document(
     alloc: Global,
     declared: &str,
     more_packages: &str,
@@ -42,7 +42,7 @@ fn document(
 }
 
 /// The status, and what goes to standard error.
-fn told<R: Read, W: Write>(
+pub(crate) fn told<R: Read, W: Write>(
     alloc: Global,
     words: &[String],
     input: &mut Counted<R>,
@@ -55,7 +55,11 @@ fn told<R: Read, W: Write>(
 }
 
 /// The status and what goes to standard error, a bar, and what goes to standard output.
-fn outcome<R: Read + Drop>(alloc: Global, words: &[String], reader: R) -> Result<String, Fail> {
+pub(crate) fn outcome<R: Read + Drop>(
+    alloc: Global,
+    words: &[String],
+    reader: R,
+) -> Result<String, Fail> {
     let mut input = Counted::new(reader);
     let mut output = Counted::new(Vec::new(alloc));
     let told = told(alloc, words, &mut input, &mut output)?;
@@ -146,7 +150,8 @@ fn refuses_what_cannot_be_built(rt: HostRuntime) -> Result<(), Fail> {
 fn refuses_what_is_no_document(rt: HostRuntime) -> Result<(), Fail> {
     let mut input = Counted::new(b"{\"packages\":".as_slice());
     let mut output = Counted::new(Vec::new(rt.alloc()));
-    let result = run(rt.alloc(), &Options, &mut input, &mut output);
+    let options = Options::new(rt.alloc());
+    let result = run(rt.alloc(), &options, &mut input, &mut output);
     assert!(rt; matches!(result, Err(RunError::Parse(krates::cm::Error::Json(_)))));
     assert_eq!(rt;
         outcome(rt.alloc(), &[], [0xffu8].as_slice())?.as_str(),

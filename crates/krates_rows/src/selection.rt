@@ -30,7 +30,7 @@ const DOCUMENT: &str = r#"{"packages":[
 fn selected(alloc: Global, text: &str) -> Result<String, Fail> {
     let metadata = MetadataCommand::parse(alloc, text)?;
     let ids = admit(alloc, &metadata)?;
-    let selection = select(alloc, &metadata, &ids, &Setting)?;
+    let selection = select(alloc, &metadata, &ids, &Setting::new(alloc))?;
     let mut told = String::new(alloc);
     for kid in selection.krates.as_slice() {
         told.push_str(kid.name())?;

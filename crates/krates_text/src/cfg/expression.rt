@@ -50,6 +50,3 @@ impl Expression {
         predicate::eval(&self.predicate, target, features)
     }
 }
-
-#[cfg(test)]
-mod tests;

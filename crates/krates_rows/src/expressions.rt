@@ -1,5 +1,8 @@
-use super::*;
-use std::process::Abort;
+//! cfg expressions: their values at targets, what they count, and which text is none.
+
+use krates_text::cfg::{CfgError, Expression};
+use krates_text::target::Target;
+use std::alloc::Global;
 use std::test::Fail;
 
 const GNU: &str = "x86_64-unknown-linux-gnu";

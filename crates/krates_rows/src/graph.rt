@@ -1,5 +1,6 @@
-use crate::agenda::Agenda;
-use crate::graph::{Direction, EdgeId, Graph, GraphError, NodeId};
+//! The graph: its limits, its edges by number, and what is read of it.
+
+use krates_graph::graph::{Direction, EdgeId, Graph, GraphError, NodeId};
 use std::alloc::{AllocError, Global};
 use std::test::Fail;
 
@@ -159,24 +160,4 @@ fn ids_go_by_number(rt: HostRuntime) {
     assert!(rt; EdgeId::new(2) > EdgeId::new(1));
     assert_eq!(rt; NodeId::new(7), NodeId::new(7));
     assert_ne!(rt; EdgeId::new(7), EdgeId::new(8));
-}
-
-#[test]
-fn numbers_are_taken_once_in_the_order_of_their_puts(rt: HostRuntime) -> Result<(), Fail> {
-    let mut agenda = Agenda::new(rt.alloc(), 4)?;
-    assert!(rt; agenda.put(3));
-    assert!(rt; agenda.put(1));
-    assert!(rt; !agenda.put(3));
-    assert_eq!(rt; agenda.taken(), 0);
-    let first = agenda.take().ok_or("nothing to take")?;
-    assert_eq!(rt; first.number(), 3);
-    assert!(rt; !agenda.put(3));
-    assert!(rt; agenda.put(0));
-    let second = agenda.take().ok_or("nothing to take")?;
-    assert_eq!(rt; second.number(), 1);
-    let third = agenda.take().ok_or("nothing to take")?;
-    assert_eq!(rt; third.number(), 0);
-    assert!(rt; agenda.take().is_none());
-    assert_eq!(rt; agenda.taken(), 3);
-    Ok(())
 }
