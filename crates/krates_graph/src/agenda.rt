@@ -78,6 +78,14 @@ impl Agenda {
         Some(Taken { number })
     }
 
+    /// The numbers that were put, in the order of their puts.
+    pub fn numbers(&self) -> &[usize]
+        ensures put { result.now ≡ self.now.put }
+        ensures orderly { IsOrderly self.now }
+    {
+        &self.numbers
+    }
+
     /// How many numbers were taken.
     pub fn taken(&self) -> usize
         ensures count { result ≡ self.now.taken }
