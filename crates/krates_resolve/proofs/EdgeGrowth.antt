@@ -1,31 +1,140 @@
--- An edge of an entry is kept, where its child stands.
-use Rattle.std.proofs.Common.{◌≡◌, ℕ, false, sym, subst}
-use Rattle.krates_cm.specs.Document.{DependencyModel, DepKindInfoModel, node_dep_view}
+-- What has been found grows by an edge.
+use Rattle.std.proofs.Common.{◌≡◌, ℕ, ◌<◌, List, [], ◌∷◌, ◌++◌, length, get_or, map, All, Some, Contains, refl, sym, ap, ◌∙◌, subst, inl, inr}
+use Rattle.std.proofs.lemmas.List.{get_or_default}
+use Rattle.std.proofs.lemmas.List.Elements.{All-push}
+use Rattle.std.specs.Global.{Vec}
+use Rattle.std.specs.List.{slice_get}
+use Rattle.krates_cm.specs.Document.{DependencyModel, DepKindInfoModel, NodeDepModel, dependency_view, node_dep_view}
+use Rattle.krates_cm.specs.declared.dependency.Dependency.{Dependency}
 use Rattle.krates_resolve.specs.Admission.{NoneDoubled}
-use Rattle.krates_resolve.specs.DeclaredDependency.{FirstAt, IsDeclared}
+use Rattle.krates_resolve.specs.DeclaredDependency.{dependency_entry, FirstAt, IsDeclared}
 use Rattle.krates_resolve.specs.Derivation.{Derivable}
-use Rattle.krates_resolve.specs.Facts.{Edge, Crate, Kept}
-use Rattle.krates_resolve.specs.Found.{HasFound, IsSound, Advances, Keeps, IsTried}
-use Rattle.krates_resolve.specs.Lookup.{NodeAt}
-use Rattle.krates_resolve.specs.NodeEntry.{parent_of, child_of, declared_in, entry_of, edge_for}
-use Rattle.krates_resolve.specs.Questions.{Stands, questions}
+use Rattle.krates_resolve.specs.Facts.{Id, Edge, Fact, Crate, Feature, Kept, Toggled, Lost}
+use Rattle.krates_resolve.specs.Found.{HasFound, HasUsed, IsUsed, IsSound, Grows, Advances}
+use Rattle.krates_resolve.specs.Links.{DepAt, IsMarked}
+use Rattle.krates_resolve.specs.NodeEntry.{IsEntry, parent_of, child_of, declared_in, entry_of, edge_for}
+use Rattle.krates_resolve.specs.Questions.{IsDeclaredAt, IsWanted, kind_info_of, questions}
 use Rattle.krates_resolve.specs.Resolved.{Resolved}
-use Rattle.krates_resolve.specs.Selection.{edge_view}
+use Rattle.krates_resolve.specs.Selection.{edge_view, IsPlaced}
+use Rattle.krates_resolve.specs.Setting.{SettingModel}
 use Rattle.krates_resolve.specs.declared.found.Found.{Found}
+use Rattle.krates_resolve.specs.declared.links.Links.{Links}
 use Rattle.krates_resolve.specs.declared.node_entry.NodeEntry.{NodeEntry}
 use Rattle.krates_resolve.specs.declared.selection.KeptEdge.{KeptEdge}
-use Rattle.krates_resolve.specs.Setting.{SettingModel, Passes}
-use Rattle.krates_resolve.proofs.AdmissionLemmas.{ReadsOnce}
-use Rattle.krates_resolve.proofs.Entries.{Heeds, placed, wanted, kept_tried, edge_derivable}
-use Rattle.krates_resolve.proofs.Growth.{edge_advances}
+use Rattle.krates_resolve.proofs.DeclaredOnce.{declared_once}
+use Rattle.krates_resolve.proofs.FirstPlaces.{seen_at}
+use Rattle.krates_resolve.proofs.Growing.{used_grows, toggled_grows}
+use Rattle.krates_resolve.proofs.Growth.{seen_from, seen_still, seen_there}
+use Rattle.krates_resolve.proofs.OnlyOne.{one_dep}
+use Rattle.krates_resolve.proofs.Waking.{one_dep_place, wanted_once}
 
-pub kept_here : ReadsOnce → (r : Resolved) (s : SettingModel) (old new : Found) (x : NodeEntry) (k : DepKindInfoModel) (e : KeptEdge) (place node : ℕ) (d : DependencyModel) → NoneDoubled r.metadata r.graph → Heeds r s x k
-    → Passes s k.target → IsSound r s old → Derivable (questions r s) (Crate (parent_of x)) → IsDeclared (declared_in x) (entry_of x) k place d → d.optional ≡ false
-    → Stands r s (child_of x) → NodeAt r (child_of x) node → edge_view e ≡ edge_for x k → e.declared ≡ place → FirstAt (λ o. o ≡ k) (node_dep_view x.dep.now).dep_kinds e.place k
-    → Keeps old new e node → Advances r s old new × IsTried r s new (edge_for x k)
-kept_here once r s old new x k e place node d none h passes sound kept first is_required stands at is at_place first_of_kind keeps =
-    let w = wanted r s x k place d h first passes in
-    let derived = edge_derivable r s (edge_for x k) d w is_required stands kept in
-    let a = edge_advances once r s old new e node sound keeps.edges keeps.put (subst (λ (y : Edge). NodeAt r y.child node) (sym is) at) (placed r s x k e place d h first is at_place first_of_kind)
-    (subst (λ (y : Edge). Derivable (questions r s) (Kept y)) (sym is) derived) in
-    (a.0, kept_tried r s new x k place d none h.at first stands (subst (λ (y : Edge). HasFound r new (Kept y)) is a.1))
+abbrev WithEdges : Found → Vec KeptEdge → Found
+WithEdges x v = record x { edges = v }
+
+edge_found : (r : Resolved) (x : Found) (v : Vec KeptEdge) (e : KeptEdge) (f : Fact) → v.items ≡ x.edges.items ++ e ∷ [] → HasFound r x f → HasFound r (WithEdges x v) f
+edge_found r x v e (Kept y) more h = seen_still edge_view x.edges.items v.items e y more h
+edge_found r x v e (Crate i) more h = h
+edge_found r x v e (Feature i g) more h = h
+edge_found r x v e (Toggled i j g) more h = h
+edge_found r x v e (Lost c) more h = h
+
+edge_derivable : (r : Resolved) (s : SettingModel) (x : Found) (v : Vec KeptEdge) (e : KeptEdge) (f : Fact) → IsSound r s x → v.items ≡ x.edges.items ++ e ∷ [] → Derivable (questions r s) (Kept (edge_view e))
+    → HasFound r (WithEdges x v) f → Derivable (questions r s) f
+edge_derivable r s x v e (Kept y) sound more d h = elim (seen_from edge_view x.edges.items v.items e y more h) [
+  | inl o ↦ sound.derivable (Kept y) o
+  | inr is ↦ subst (λ (z : Edge). Derivable (questions r s) (Kept z)) is d
+]
+edge_derivable r s x v e (Crate i) sound more d h = sound.derivable (Crate i) h
+edge_derivable r s x v e (Feature i g) sound more d h = sound.derivable (Feature i g) h
+edge_derivable r s x v e (Toggled i j g) sound more d h = sound.derivable (Toggled i j g) h
+edge_derivable r s x v e (Lost c) sound more d h = absurd h
+
+-- what holds of each edge of the old and of the edge that is pushed holds of each of the new
+each_edge : (x : Found) (v : Vec KeptEdge) (e : KeptEdge) (P : Edge → Type 0) → v.items ≡ x.edges.items ++ e ∷ [] → ((y : Edge) → Contains (map edge_view x.edges.items) y → P y) → P (edge_view e)
+    → (y : Edge) → Contains (map edge_view v.items) y → P y
+each_edge x v e P more old here y h = elim (seen_from edge_view x.edges.items v.items e y more h) [
+  | inl o ↦ old y o
+  | inr is ↦ subst P is here
+]
+
+-- the edge that is pushed
+pub edge_kept : (x : Found) (v : Vec KeptEdge) (e : KeptEdge) (edge : Edge) → v.items ≡ x.edges.items ++ e ∷ [] → edge_view e ≡ edge → Contains (map edge_view v.items) edge
+edge_kept x v e edge more is = subst (Contains (map edge_view v.items)) is (seen_there edge_view x.edges.items v.items e more)
+
+-- an edge whose child is kept with what is asked of it, and whose dependency is marked
+pub edge_advances : (r : Resolved) (s : SettingModel) (x : Found) (v : Vec KeptEdge) (e : KeptEdge) (edge : Edge) → IsSound r s x → v.items ≡ x.edges.items ++ e ∷ [] → edge_view e ≡ edge → IsPlaced r s e
+    → HasFound r x (Crate edge.child) → IsUsed r s x edge → ((place index : ℕ) → DepAt r edge.parent edge.child place index → IsMarked x.links place index) → Derivable (questions r s) (Kept edge)
+    → Advances r s x (record x { edges = v }) × HasFound r (record x { edges = v }) (Kept edge)
+edge_advances r s x v e edge sound more is placed reached used marked d =
+    let y = WithEdges x v in
+    let grown : Grows r x y = record { found = λ f h. edge_found r x v e f more h; waits = λ k i z h. h; krates = λ k n h. h; features = λ k n h. h; krates_taken = refl; features_taken = refl } in
+    let back = sym is in (
+      record {
+        sound = record {
+          krates_size = sound.krates_size;
+          features_size = sound.features_size;
+          has_links = sound.has_links;
+          derivable = λ f h. edge_derivable r s x v e f sound more (subst (λ (z : Edge). Derivable (questions r s) (Kept z)) back d) h;
+          placed = subst (All (IsPlaced r s)) (sym more) (All-push (IsPlaced r s) x.edges.items e sound.placed placed);
+          reached = each_edge x v e (λ z. HasFound r x (Crate z.child)) more sound.reached (subst (λ (z : Edge). HasFound r x (Crate z.child)) back reached);
+          used = λ z h b w. used_grows r x y b z.child grown (each_edge x v e (IsUsed r s x) more sound.used (subst (IsUsed r s x) back used) z h b w);
+          marked = λ z place index h at.
+              each_edge x v e (λ a. (n i : ℕ) → DepAt r a.parent a.child n i → IsMarked x.links n i) more (λ a o n i there. sound.marked a n i o there)
+              (subst (λ (a : Edge). (n i : ℕ) → DepAt r a.parent a.child n i → IsMarked x.links n i) back marked) z h place index at;
+          asked = sound.asked;
+          woken = λ b k m n z at m2 waits. toggled_grows r x y b k z grown (sound.woken b k m n z at m2 waits);
+          arrived = sound.arrived;
+          kept = sound.kept;
+          toggled = sound.toggled;
+          enabled = sound.enabled;
+        };
+        grows = grown;
+      },
+      edge_kept x v e edge more is,
+    )
+
+-- ---- the edge of an entry
+
+-- where the edge of an entry is wanted, it is wanted as the entry declares it
+wanted_here : (r : Resolved) (s : SettingModel) (x : NodeEntry) (k : DepKindInfoModel) (place : ℕ) (d : DependencyModel) → NoneDoubled r.metadata r.graph → IsEntry r x → IsDeclared (declared_in x) (entry_of x) k place d
+    → (w : IsWanted r s (edge_for x k) d) → (w.place ≡ place) × (w.declared.dep ≡ node_dep_view x.dep.now)
+wanted_here r s x k place d none h first w =
+    let a = w.declared in
+    let dep = one_dep r (parent_of x) (child_of x) a.listed.lists.node h.node a.dep (node_dep_view x.dep.now) none a.listed.lists.has_node h.has_node a.listed.lists.has_dep h.has_dep in
+    let here = subst (λ (ds : List DependencyModel). IsDeclared ds (dependency_entry (child_of x) a.dep) k w.place d) (h.declares.each a.pkg a.has_package) a.declared in
+    let there = subst (λ (y : NodeDepModel). IsDeclared (declared_in x) (dependency_entry (child_of x) y) k w.place d) dep here in
+    ((declared_once (declared_in x) (entry_of x) k w.place place d d there first).0, dep)
+
+-- what an edge has beside itself, where it is placed
+abbrev PlacedAs : Resolved → SettingModel → ℕ → Edge → ℕ → DependencyModel → Type 0
+PlacedAs r s kind_place e place d = (a : IsDeclaredAt r s e place d) × FirstAt (λ o. o ≡ kind_info_of e) a.dep.dep_kinds kind_place (kind_info_of e)
+
+-- it is placed as the entry has it
+pub placed_here : (r : Resolved) (s : SettingModel) (x : NodeEntry) (k : DepKindInfoModel) (e : KeptEdge) (place : ℕ) (d : DependencyModel) → NoneDoubled r.metadata r.graph → IsEntry r x → IsDeclared (declared_in x) (entry_of x) k place d
+    → IsWanted r s (edge_for x k) d → edge_view e ≡ edge_for x k → e.declared ≡ place → FirstAt (λ o. o ≡ k) (node_dep_view x.dep.now).dep_kinds e.place k → IsPlaced r s e
+placed_here r s x k e place d none h first w is at first_of_kind =
+    let same = wanted_here r s x k place d none h first w in
+    let there : PlacedAs r s e.place (edge_for x k) w.place d = (w.declared, subst (λ (y : NodeDepModel). FirstAt (λ o. o ≡ k) y.dep_kinds e.place k) (sym same.1) first_of_kind) in
+    let edge = subst (λ (y : Edge). PlacedAs r s e.place y w.place d) (sym is) there in
+    let here = subst (λ (n : ℕ). PlacedAs r s e.place (edge_view e) n d) (same.0 ∙ sym at) edge in
+    record { dependency = d; declared = here.0; place = here.1 }
+
+-- the declared dependency at a place, as it is read there
+pub declared_read : (ds : List Dependency) (place : ℕ) (d : DependencyModel) (x : Dependency) → slice_get (map dependency_view ds) place ≡ Some d → dependency_view (get_or ds place x) ≡ d
+declared_read ds place d x at =
+    let s = seen_at dependency_view ds place d at in
+    sym (ap dependency_view (get_or_default ds place s.0 x s.1)) ∙ s.2
+
+-- there is one at the place
+pub declared_within : (ds : List Dependency) (place : ℕ) (d : DependencyModel) → slice_get (map dependency_view ds) place ≡ Some d → place < length ds
+declared_within ds place d at = (seen_at dependency_view ds place d at).1
+
+-- an edge that is wanted as one dependency alone is used as that is
+pub used_once : (r : Resolved) (s : SettingModel) (f : Found) (e : Edge) (d : DependencyModel) → NoneDoubled r.metadata r.graph → IsWanted r s e d → HasUsed r f d e.child → IsUsed r s f e
+used_once r s f e d none w used b v = subst (λ (y : DependencyModel). HasUsed r f y e.child) (wanted_once r s e d b none w v) used
+
+-- the mark of an entry is that of the dependency between its crates
+pub marked_once : (r : Resolved) (p c : Id) (m i : ℕ) (links : Links) → NoneDoubled r.metadata r.graph → DepAt r p c m i → IsMarked links m i → (n j : ℕ) → DepAt r p c n j → IsMarked links n j
+marked_once r p c m i links none at marked n j there =
+    let same = one_dep_place r p c m i n j none at there in
+    subst (λ (o : ℕ). IsMarked links o j) same.0 (subst (IsMarked links m) same.1 marked)

@@ -1,31 +1,34 @@
 -- A node of the document at its place, with the ids of its dependencies.
-use Rattle.std.proofs.Common.{◌≡◌, ℕ, suc, ◌+◌, ◌<◌, ◌≤◌, List, [], ◌∷◌, length, get_or, map, Some, option_map, inl, inr, refl, sym, ap, ◌∙◌, subst, arith}
+use Rattle.std.proofs.Common.{◌≡◌, ℕ, suc, Bool, ◌+◌, ◌<◌, ◌≤◌, List, [], ◌∷◌, length, get_or, map, Some, Contains, option_map, inl, inr, refl, sym, ap, ◌∙◌, subst, arith}
 use Rattle.std.proofs.lemmas.Bool.{cases_lt}
 use Rattle.std.proofs.lemmas.List.{length-map}
 use Rattle.std.proofs.lemmas.List.Elements.{All-from_recursion}
-use Rattle.std.proofs.lemmas.Option.{slice_get-map, slice_get-get_or, get_or_from_slice_get, slice_get_within, slice_get_read, same_Some}
+use Rattle.std.proofs.lemmas.Option.{slice_get-map, slice_get-get_or, get_or_from_slice_get, slice_get_within, slice_get_read, slice_get_cases, same_Some}
 use Rattle.std.specs.Global.{Vec}
 use Rattle.std.specs.Vec.{vec_len}
 use Rattle.std.specs.List.{AllZip, slice_get}
-use Rattle.krates_cm.specs.Document.{NodeModel, NodeDepModel, ResolveModel, dependency_view, node_view, node_dep_view}
+use Rattle.krates_cm.specs.Document.{DependencyModel, NodeModel, NodeDepModel, ResolveModel, dependency_view, node_view, node_dep_view}
+use Rattle.krates_cm.specs.declared.dependency.Dependency.{Dependency}
 use Rattle.krates_cm.specs.declared.resolve.Node.{Node}
 use Rattle.krates_cm.specs.declared.resolve.NodeDep.{NodeDep}
 use Rattle.krates_ids.specs.Identity.{Identity, Reads}
 use Rattle.krates_resolve.specs.Admission.{NoneDoubled, AreDepIds, HasVersion, node_texts, dep_texts}
 use Rattle.krates_resolve.specs.Facts.{Id, Edge}
-use Rattle.krates_resolve.specs.Found.{IsTried, AreTried, IsExpanded, Grows}
+use Rattle.krates_resolve.specs.Found.{IsTried, AreTried, IsExpanded, Grows, IsRequired}
+use Rattle.krates_resolve.specs.Links.{DepAt}
 use Rattle.krates_resolve.specs.Lookup.{NodeAt, IsLookup, TellsMember, resolved_view}
-use Rattle.krates_resolve.specs.NodeEntry.{AreDeclaredBy, AreParts, edge_between}
+use Rattle.krates_resolve.specs.NodeEntry.{AreDeclaredBy, AreParts, IsEntry, IsEntryOf, edge_between}
 use Rattle.krates_resolve.specs.Questions.{IsListed, kind_info_of}
 use Rattle.krates_resolve.specs.Resolved.{Resolved, id_of, ReadsAs, HasNode, HasDep}
 use Rattle.krates_resolve.specs.declared.found.Found.{Found}
 use Rattle.krates_resolve.specs.declared.lookup.Lookup.{Lookup}
+use Rattle.krates_resolve.specs.declared.node_entry.NodeEntry.{NodeEntry}
 use Rattle.krates_resolve.specs.declared.node_entry.NodeParts.{NodeParts}
 use Rattle.krates_resolve.specs.Setting.{SettingModel}
 use Rattle.krates_resolve.proofs.AdmissionLemmas.{ReadsOnce, left_of, right_of}
-use Rattle.krates_resolve.proofs.Growth.{tried_grows}
+use Rattle.krates_resolve.proofs.Growing.{tried_grows}
 use Rattle.krates_resolve.proofs.Lookups.{at_place}
-use Rattle.krates_resolve.proofs.OnlyOne.{place_in, one_node}
+use Rattle.krates_resolve.proofs.OnlyOne.{place_in, one_node, one_dep}
 use Rattle.krates_resolve.proofs.Standings.{contains_at}
 
 -- related lists are equally long
@@ -62,22 +65,31 @@ dep_ids_here g lists k n ids z a b = zip_at AreDepIds g.nodes lists k n ids z a 
 
 -- the edges of the dependencies so far have been tried
 abbrev pub TriedBelow : Resolved → SettingModel → Found → Id → List NodeDepModel → List Identity → ℕ → Type 0
-TriedBelow r s x parent ds ids end = (k : ℕ) (d : NodeDepModel) (i : Identity) → k < end → slice_get ds k ≡ Some d → slice_get ids k ≡ Some i → AreTried r s x parent (id_of i) d
+TriedBelow r s x parent ds ids end = (k : ℕ) (d : NodeDepModel) (i : Identity) → k < end → slice_get ds k ≡ Some d → slice_get ids k ≡ Some i → AreTried r s x parent (id_of i) d IsRequired
 
 pub tried_more : (r : Resolved) (s : SettingModel) (x y : Found) (parent : Id) (ds : List NodeDepModel) (ids : List Identity) (at : ℕ) (d : NodeDepModel) (i : Identity) → Grows r x y → slice_get ds at ≡ Some d
-    → slice_get ids at ≡ Some i → TriedBelow r s x parent ds ids at → AreTried r s y parent (id_of i) d → TriedBelow r s y parent ds ids (at + 1)
+    → slice_get ids at ≡ Some i → TriedBelow r s x parent ds ids at → AreTried r s y parent (id_of i) d IsRequired → TriedBelow r s y parent ds ids (at + 1)
 tried_more r s x y parent ds ids at d i g here id_here h now k e j below there id_there = elim (cases_lt k at) [
-  | inl lower ↦ (λ info c. tried_grows r s x y (edge_between parent (id_of j) info) g (h k e j lower there id_there info c))
+  | inl lower ↦ (λ info c. tried_grows r s x y (edge_between parent (id_of j) info) IsRequired g (h k e j lower there id_there info c))
   | inr le ↦ (
       let same : at ≡ k = omega arith in
       let dep : d ≡ e = same_Some d e (sym here ∙ ap (λ m. slice_get ds m) same ∙ there) in
       let id : i ≡ j = same_Some i j (sym id_here ∙ ap (λ m. slice_get ids m) same ∙ id_there) in
-      subst (λ (z : Identity). AreTried r s y parent (id_of z) e) id (subst (AreTried r s y parent (id_of i)) dep now))
+      subst (λ (z : Identity). AreTried r s y parent (id_of z) e IsRequired) id (subst (λ (m : NodeDepModel). AreTried r s y parent (id_of i) m IsRequired) dep now))
 ]
+
+-- the edge has been tried where it has been for each dependency that lists it
+tried_by_listed : (r : Resolved) (s : SettingModel) (x : Found) (e : Edge) (taken : DependencyModel → Type 0) → ((dep : NodeDepModel) → IsListed r s e dep → IsTried r s x e taken) → IsTried r s x e taken
+tried_by_listed r s x e taken tried = record {
+  kept = λ d w is_taken stands. (tried w.declared.dep w.declared.listed).kept d w is_taken stands;
+  declared = λ loose. (tried loose.dep loose.listed).declared loose;
+  has_package = λ d w is_taken lost. (tried w.declared.dep w.declared.listed).has_package d w is_taken lost;
+  has_node = λ d w is_taken lost. (tried w.declared.dep w.declared.listed).has_node d w is_taken lost;
+}
 
 -- an edge that the node lists is one of those that were tried
 listed_tried : ReadsOnce → (r : Resolved) (s : SettingModel) (x : Found) (e : Edge) (n : NodeModel) (ids : List Identity) (dep : NodeDepModel) → NoneDoubled r.metadata r.graph → HasNode r e.parent n → AreDepIds n ids
-    → TriedBelow r s x e.parent n.deps ids (length ids) → IsListed r s e dep → IsTried r s x e
+    → TriedBelow r s x e.parent n.deps ids (length ids) → IsListed r s e dep → IsTried r s x e IsRequired
 listed_tried once r s x e n ids dep none has z all l =
     let same = one_node r e.parent l.lists.node n none l.lists.has_node has in
     let d = subst (λ (m : NodeModel). HasDep m e.child dep) same l.lists.has_dep in
@@ -86,7 +98,7 @@ listed_tried once r s x e n ids dep none has z all l =
     let y = right_of Reads (dep_texts n) ids at.0 dep.pkg z.read text in
     let child : id_of y.0 ≡ e.child = ap id_of (once dep.pkg y.0 d.id.read y.2 d.id.reads) ∙ d.id.same in
     let tried = all at.0 dep y.0 (slice_get_within ids at.0 y.0 y.1) at.1 y.1 (kind_info_of e) l.lists.has_kind in
-    subst (λ (c : Id). IsTried r s x (edge_between e.parent c (kind_info_of e))) child tried
+    subst (λ (c : Id). IsTried r s x (edge_between e.parent c (kind_info_of e)) IsRequired) child tried
 
 -- so all edges of the crate have been tried
 pub expanded_here : ReadsOnce → (r : Resolved) (s : SettingModel) (x : Found) (i : Id) (n : NodeModel) (ids : List Identity) → NoneDoubled r.metadata r.graph → HasNode r i n → AreDepIds n ids
@@ -94,13 +106,14 @@ pub expanded_here : ReadsOnce → (r : Resolved) (s : SettingModel) (x : Found) 
 expanded_here once r s x i n ids none has z all e same =
     let node = subst (λ (p : Id). HasNode r p n) (sym same) has in
     let each = subst (λ (p : Id). TriedBelow r s x p n.deps ids (length ids)) (sym same) all in
-    let tried : (dep : NodeDepModel) → IsListed r s e dep → IsTried r s x e = λ dep l. listed_tried once r s x e n ids dep none node z each l in
-    record {
-      kept = λ d w is_required stands. (tried w.declared.dep w.declared.listed).kept d w is_required stands;
-      declared = λ loose. (tried loose.dep loose.listed).declared loose;
-      has_package = λ d w is_required lost. (tried w.declared.dep w.declared.listed).has_package d w is_required lost;
-      has_node = λ d w is_required lost. (tried w.declared.dep w.declared.listed).has_node d w is_required lost;
-    }
+    tried_by_listed r s x e IsRequired (λ dep l. listed_tried once r s x e n ids dep none node z each l)
+
+-- each edge between two crates has been tried, where those by the dependency between them have
+pub between_tried : (r : Resolved) (s : SettingModel) (x : Found) (e : Edge) (n : NodeModel) (dep : NodeDepModel) (taken : DependencyModel → Type 0) → NoneDoubled r.metadata r.graph → HasNode r e.parent n
+    → HasDep n e.child dep → AreTried r s x e.parent e.child dep taken → IsTried r s x e taken
+between_tried r s x e n dep taken none has there tried = tried_by_listed r s x e taken (λ d l.
+    let same = one_dep r e.parent e.child l.lists.node n d dep none l.lists.has_node has l.lists.has_dep there in
+    tried (kind_info_of e) (subst (λ (m : NodeDepModel). Contains m.dep_kinds (kind_info_of e)) same l.lists.has_kind))
 
 -- how many there are of each
 pub nodes_long : (d : Lookup) → IsLookup d → (length (resolved_view d).graph.nodes ≡ length d.ids.now.nodes.items) × (length (resolved_view d).graph.nodes ≡ length d.resolve.now.nodes.items) × (length (resolved_view d).graph.nodes ≡ length d.ids.now.deps.items)
@@ -122,8 +135,8 @@ node_seen d place n lt is =
 
 pub parts_here : (d : Lookup) (place : ℕ) (x : NodeParts) (n : Node) (ids : Vec Identity) → IsLookup d → place < length (resolved_view d).graph.nodes → x.parent.now ≡ get_or d.ids.now.nodes.items place x.parent.now
     → n ≡ get_or d.resolve.now.nodes.items place n → ids ≡ get_or d.ids.now.deps.items place ids → x.deps.now ≡ n.deps.items → x.children.now ≡ ids.items
-    → AreDeclaredBy (resolved_view d) (id_of x.parent.now) (map dependency_view x.declared.now) → TellsMember (resolved_view d) (id_of x.parent.now) x.is_member → AreParts (resolved_view d) place x
-parts_here d place x n ids h lt is_id is_node is_ids deps children declares tells =
+    → AreDeclaredBy (resolved_view d) (id_of x.parent.now) (map dependency_view x.declared.now) → TellsMember (resolved_view d) (id_of x.parent.now) x.is_member → x.place ≡ place → AreParts (resolved_view d) place x
+parts_here d place x n ids h lt is_id is_node is_ids deps children declares tells place_is =
     let r = resolved_view d in
     let long = nodes_long d h in
     let nodes = d.ids.now.nodes.items in
@@ -141,6 +154,7 @@ parts_here d place x n ids h lt is_id is_node is_ids deps children declares tell
       children = subst (λ (m : NodeModel). AreDepIds m x.children.now) (sym same) (subst (AreDepIds (node_view n)) (sym children) whole);
       declares = declares;
       tells = tells;
+      place_is = place_is;
     }
 
 -- a child has the dependency at its place
@@ -153,6 +167,51 @@ dep_seen ds k d lt = slice_get-map node_dep_view ds k ∙ ap (option_map node_de
 
 pub id_seen : (ids : List Identity) (k : ℕ) (i : Identity) → k < length ids → i ≡ get_or ids k i → slice_get ids k ≡ Some i
 id_seen ids k i lt is = slice_get_read ids (length ids) k i refl lt is
+
+-- the dependency at a place leads to the child there
+pub dep_there : (r : Resolved) (place : ℕ) (x : NodeParts) (k : ℕ) (d : NodeDepModel) (child : Identity) → AreParts r place x → slice_get (map node_dep_view x.deps.now) k ≡ Some d → slice_get x.children.now k ≡ Some child
+    → DepAt r (id_of x.parent.now) (id_of child) x.place k
+dep_there r place x k d child p dep there =
+    let here = ap (λ (ds : List NodeDepModel). slice_get ds k) p.deps ∙ dep in
+    let at : DepAt r (id_of x.parent.now) (id_of child) place k = record { node = p.at; dep = d; at = here; id = (has_dep_here p.at.node x.children.now k d child p.children here there).id } in
+    subst (λ (n : ℕ). DepAt r (id_of x.parent.now) (id_of child) n k) (sym p.place_is) at
+
+-- there is one at the place of each child
+pub dep_of_child : (r : Resolved) (place : ℕ) (x : NodeParts) (k : ℕ) (child : Identity) → AreParts r place x → slice_get x.children.now k ≡ Some child → DepAt r (id_of x.parent.now) (id_of child) x.place k
+dep_of_child r place x k child p there =
+    let lt = subst (λ (n : ℕ). k < n) (deps_long r place x p ∙ sym (length-map x.deps.now node_dep_view)) (slice_get_within x.children.now k child there) in
+    elim (slice_get_cases (map node_dep_view x.deps.now) k).1 [
+      | inl w ↦ dep_there r place x k w.0 child p w.2 there
+      | inr w ↦ absurd (omega (arith, lt, w.0))
+    ]
+
+-- what an entry has, said of the parts that it is taken from
+record HasEntry (r : Resolved) (parent : Id) (child : Identity) (dep : NodeDepModel) (declared : List DependencyModel) (is_member : Bool) (place index : ℕ) : Type 0 where
+  node : NodeModel
+  has_node : HasNode r parent node
+  has_dep : HasDep node (id_of child) dep
+  declares : AreDeclaredBy r parent declared
+  tells : TellsMember r parent is_member
+  at : DepAt r parent (id_of child) place index
+
+-- an entry of the parts of a node belongs together, and the version of its child is semantic
+pub entry_here : (r : Resolved) (place : ℕ) (x : NodeParts) (k : ℕ) (y : NodeEntry) → AreParts r place x → IsEntryOf x k y → IsEntry r y × HasVersion y.child.now
+entry_here r place x k y p e =
+    let dep = slice_get-map node_dep_view x.deps.now k ∙ ap (option_map node_dep_view) e.dep in
+    let here : HasEntry r (id_of x.parent.now) y.child.now (node_dep_view y.dep.now) (map dependency_view x.declared.now) x.is_member x.place k = record {
+      node = p.at.node;
+      has_node = p.has_node;
+      has_dep = has_dep_here p.at.node x.children.now k (node_dep_view y.dep.now) y.child.now p.children (ap (λ (ds : List NodeDepModel). slice_get ds k) p.deps ∙ dep) e.child;
+      declares = p.declares;
+      tells = p.tells;
+      at = dep_there r place x k (node_dep_view y.dep.now) y.child.now p dep e.child;
+    } in
+    let of_parent = subst (λ (i : Identity). HasEntry r (id_of i) y.child.now (node_dep_view y.dep.now) (map dependency_view x.declared.now) x.is_member x.place k) (sym e.parent) here in
+    let of_declared = subst (λ (ds : List Dependency). HasEntry r (id_of y.parent.now) y.child.now (node_dep_view y.dep.now) (map dependency_view ds) x.is_member x.place k) (sym e.declared) of_parent in
+    let of_member = subst (λ (b : Bool). HasEntry r (id_of y.parent.now) y.child.now (node_dep_view y.dep.now) (map dependency_view y.declared.now) b x.place k) (sym e.is_member) of_declared in
+    let of_place = subst (λ (n : ℕ). HasEntry r (id_of y.parent.now) y.child.now (node_dep_view y.dep.now) (map dependency_view y.declared.now) y.is_member n k) (sym e.place) of_member in
+    let whole = subst (λ (n : ℕ). HasEntry r (id_of y.parent.now) y.child.now (node_dep_view y.dep.now) (map dependency_view y.declared.now) y.is_member y.place n) (sym e.index) of_place in
+    (record { node = whole.node; has_node = whole.has_node; has_dep = whole.has_dep; declares = whole.declares; tells = whole.tells; at = whole.at }, has_version_here p.at.node x.children.now k y.child.now p.children e.child)
 
 -- all have been gone over
 pub tried_whole : (r : Resolved) (s : SettingModel) (x : Found) (parent : Id) (ds es : List NodeDepModel) (ids : List Identity) (end : ℕ) → es ≡ ds → length ids ≤ end → TriedBelow r s x parent ds ids end

@@ -1,5 +1,5 @@
 -- A target text passes, or it doesn't.
-use Rattle.std.proofs.Common.{◌≡◌, ◌↔◌, ℕ, List, Bool, true, false, IsTrue, refl, sym, ◌∙◌}
+use Rattle.std.proofs.Common.{◌≡◌, ◌↔◌, ℕ, List, Bool, true, false, IsTrue, refl}
 use Rattle.krates_text.specs.Passing.{Asked, TellsPassing}
 
 -- what is told of a text is told of it alone

@@ -1,24 +1,29 @@
 -- The roots of a document, by the ids that were read.
-use Rattle.std.proofs.Common.{◌≡◌, ◌↔◌, List, [], ◌∷◌, Bool, true, false, get_or, Option, Some, None, All, Contains, refl, sym, ap, ◌∙◌, subst, arith}
-use Rattle.std.proofs.lemmas.Option.{slice_get-get_or, get_or_from_slice_get, slice_get_within}
+use Rattle.std.proofs.Common.{◌≡◌, ◌↔◌, ℕ, ◌<◌, List, [], ◌∷◌, Bool, true, false, length, get_or, map, option_map, slice_get, Option, Some, None, All, Contains, refl, sym, ap, ◌∙◌, subst, arith}
+use Rattle.std.proofs.lemmas.List.{length-map}
+use Rattle.std.proofs.lemmas.Option.{slice_get-map, slice_get-get_or, slice_get_read, get_or_from_slice_get, slice_get_within, same_Some}
 use Rattle.std.specs.List.{AllZip}
-use Rattle.krates_cm.specs.Document.{Text, PackageModel}
+use Rattle.krates_cm.specs.Document.{Text, PackageModel, NodeModel, node_view, text_view}
+use Rattle.krates_cm.specs.declared.resolve.Node.{Node}
 use Rattle.krates_ids.specs.Identity.{Identity, Reads}
 use Rattle.krates_text.specs.Path.{components}
 use Rattle.krates_resolve.specs.Admission.{IsRootId, NoneDoubled}
 use Rattle.krates_resolve.specs.Derivation.{Derivable, follows, Among}
-use Rattle.krates_resolve.specs.Facts.{Id, Fact, LostPackage, LostNode, Crate, Lost}
-use Rattle.krates_resolve.specs.Found.{HasFound, IsRooted, HasRoots}
+use Rattle.krates_resolve.specs.Facts.{Id, Fact, LostPackage, LostNode, Crate, Feature, Lost}
+use Rattle.krates_resolve.specs.Features.{ListsFeature}
+use Rattle.krates_resolve.specs.Found.{HasFound, IsRooted, HasRoots, MayName}
+use Rattle.krates_resolve.specs.Lookup.{NodeAt, IsLookup, resolved_view}
 use Rattle.krates_resolve.specs.Questions.{Stands, LacksNode, questions}
-use Rattle.krates_resolve.specs.Resolved.{Resolved, id_of, ReadsAs, IsMember, HasPackage, NoPackage}
+use Rattle.krates_resolve.specs.Resolved.{Resolved, id_of, IsMember, HasPackage, HasNode, NoPackage}
 use Rattle.krates_resolve.specs.RootChoice.{AsksFor, AsksForManifests, HasOneOf}
-use Rattle.krates_resolve.specs.Roots.{IsRoot, of_graph, of_workspace, of_manifests, AsksForWorkspace, by_setting, without_root, by_manifest, HasManifest}
-use Rattle.krates_resolve.specs.Rules.{Questions, root_crate, lost_root_package, lost_root_node}
+use Rattle.krates_resolve.specs.Roots.{IsRoot, of_graph, of_workspace, of_manifests, by_setting, without_root, by_manifest, HasManifest}
+use Rattle.krates_resolve.specs.Rules.{Questions, root_crate, root_feature, lost_root_package, lost_root_node}
 use Rattle.krates_resolve.specs.Setting.{SettingModel}
 use Rattle.krates_resolve.specs.Standing.{IsLeftOut}
 use Rattle.krates_resolve.specs.declared.found.Found.{Found}
+use Rattle.krates_resolve.specs.declared.lookup.Lookup.{Lookup}
 use Rattle.krates_resolve.proofs.AdmissionLemmas.{ReadsOnce, left_of, right_of}
-use Rattle.krates_resolve.proofs.OnlyOne.{place_in, one_package}
+use Rattle.krates_resolve.proofs.OnlyOne.{place_in, one_package, one_node}
 use Rattle.krates_resolve.proofs.Standings.{contains_at, not_included}
 
 -- ---- which crates are roots
@@ -112,10 +117,15 @@ pub root_node_lost : (r : Resolved) (s : SettingModel) (i : Id) → IsRoot r s i
 unfolding questions
 root_node_lost r s i root none = follows (lost_root_node {p = i} root none) (nothing (questions r s))
 
+pub root_enables : (r : Resolved) (s : SettingModel) (i : Id) → IsRoot r s i → Stands r s i → (f : Text) → ListsFeature r i f → Derivable (questions r s) (Feature i f)
+unfolding questions
+root_enables r s i root stands f lists = follows (root_feature {p = i} {f = f} root stands lists) (nothing (questions r s))
+
 -- all that a root that stands gives
-pub rooted_here : (r : Resolved) (s : SettingModel) (x : Found) (i : Id) → Stands r s i → HasFound r x (Crate i) → IsRooted r s x i
-rooted_here r s x i stands found = record {
+pub rooted_here : (r : Resolved) (s : SettingModel) (x : Found) (i : Id) → Stands r s i → HasFound r x (Crate i) → ((f : Text) → ListsFeature r i f → HasFound r x (Feature i f)) → IsRooted r s x i
+rooted_here r s x i stands found enabled = record {
   kept = λ there. found;
+  enabled = λ there f lists. enabled f lists;
   has_package = λ none. none stands.included.pkg stands.included.has_package;
   has_node = λ none. none.no_node stands.node stands.has_node;
 }
@@ -124,6 +134,30 @@ rooted_here r s x i stands found = record {
 pub left_out_rooted : (r : Resolved) (s : SettingModel) (x : Found) (i : Id) → NoneDoubled r.metadata r.graph → IsLeftOut r s i → IsRooted r s x i
 left_out_rooted r s x i none out = record {
   kept = λ there. absurd (not_included r s i none out there.included);
+  enabled = λ there f lists. absurd (not_included r s i none out there.included);
   has_package = λ lost. lost out.pkg out.has_package;
   has_node = λ lost. not_included r s i none out lost.included;
+}
+
+-- ---- the features that a node lists, as the code finds them
+
+-- each is a feature of the node at its place
+pub listed_names : (d : Lookup) (i : Id) (place : ℕ) (n : Node) → IsLookup d → NodeAt (resolved_view d) i place → n ≡ get_or d.resolve.now.nodes.items place n
+    → (f : Text) → ListsFeature (resolved_view d) i f ↔ Contains (map text_view n.features.items) f
+listed_names d i place n h at is f =
+    let r = resolved_view d in
+    let ns = d.resolve.now.nodes.items in
+    let lt = subst (λ (m : ℕ). place < m) (length-map ns node_view) (slice_get_within r.graph.nodes place at.node at.at) in
+    let here : slice_get r.graph.nodes place ≡ Some (node_view n) = slice_get-map node_view ns place ∙ ap (option_map node_view) (slice_get_read ns (length ns) place n refl lt is) in
+    let same : at.node ≡ node_view n = same_Some at.node (node_view n) (sym at.at ∙ here) in
+    let has : HasNode r i at.node = record { among = contains_at r.graph.nodes place at.node at.at; id = at.id } in (
+      λ lists. subst (λ (m : NodeModel). Contains m.features f) (one_node r i lists.node at.node h.distinct lists.has_node has ∙ same) lists.among,
+      λ among. record { node = at.node; has_node = has; among = subst (λ (m : NodeModel). Contains m.features f) (sym same) among },
+    )
+
+-- a listed feature may be enabled, and isn't lost
+pub listed_may : (r : Resolved) (s : SettingModel) (i : Id) (f : Text) → NoneDoubled r.metadata r.graph → ListsFeature r i f → (ListsFeature r i f → Derivable (questions r s) (Feature i f)) → MayName r s i f
+listed_may r s i f none lists enabled = record {
+  enabled = enabled;
+  listed = λ lacks. absurd (lacks.not_among (subst (λ (m : NodeModel). Contains m.features f) (one_node r i lists.node lacks.node none lists.has_node lacks.has_node) lists.among));
 }

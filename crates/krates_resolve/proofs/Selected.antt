@@ -1,24 +1,25 @@
--- A selection that is made of the places and edges that were found.
-use Rattle.std.proofs.Common.{◌≡◌, ◌⊎◌, ◌↔◌, ℕ, ◌+◌, ◌<◌, List, [], ◌∷◌, ◌++◌, length, get_or, map, take, Bool, true, false, ◌&&◌, ◌==◌, All, Contains, Some, option_map, inl, inr, refl, sym, ap, ◌∙◌, subst, arith, eqb-true}
+-- A selection that is made of the crates, edges and features that were found.
+use Rattle.std.proofs.Common.{◌≡◌, ◌↔◌, ℕ, ◌+◌, ◌<◌, List, [], ◌∷◌, ◌++◌, length, get_or, map, take, Bool, true, false, ◌&&◌, ◌==◌, All, Contains, Some, String, option_map, inl, inr, refl, sym, ap, ◌∙◌, subst, arith, eqb-true}
 use Rattle.std.proofs.lemmas.Bool.{cases_lt, eqb-false}
 use Rattle.std.proofs.lemmas.List.{get_or_default, map-append, take_more}
 use Rattle.std.proofs.lemmas.List.Elements.{All-contains, Contains-append_left, Contains-append_right, Contains-append_cases}
 use Rattle.std.proofs.lemmas.Option.{slice_get-map, slice_get_read, same_Some}
-use Rattle.std.specs.Global.{Vec}
-use Rattle.std.specs.Vec.{vec_len}
+use Rattle.std.specs.Cmp.Lexicographic.{same_text as equal_texts}
 use Rattle.std.specs.List.{AllZip, slice_get}
 use Rattle.std.specs.List.Sorted.{IsStrictlySortedBy}
-use Rattle.krates_cm.specs.Document.{NodeDepModel, DepKindInfoModel}
+use Rattle.std.specs.declared.alloc.Global.{Global}
+use Rattle.krates_cm.specs.Document.{Text, NodeDepModel, DepKindInfoModel, text_view}
 use Rattle.krates_ids.specs.Identity.{Identity, Reads, IsSameId, same_id, id_cmp}
 use Rattle.krates_resolve.specs.Admission.{NoneDoubled, node_texts}
 use Rattle.krates_resolve.specs.Derivation.{Derivable}
 use Rattle.krates_resolve.specs.Facts.{Id, Edge, Fact, Crate, Feature, Kept, Toggled, Lost}
-use Rattle.krates_resolve.specs.Found.{IsFoundIn}
+use Rattle.krates_resolve.specs.Found.{HasFound, IsEnabled}
 use Rattle.krates_resolve.specs.NodeEntry.{edge_between}
 use Rattle.krates_resolve.specs.Questions.{kind_info_of, questions}
 use Rattle.krates_resolve.specs.Resolved.{Resolved, id_of, HasNode, HasDep}
 use Rattle.krates_resolve.specs.Selection.{edge_view, crate_fact, edge_fact, feature_fact, toggled_fact, facts_of, IsPlaced, IsSelection}
-use Rattle.krates_resolve.specs.SelectionOrder.{same_place, place_cmp}
+use Rattle.krates_resolve.specs.SelectionOrder.{same_place, place_cmp, same_text, same_feature, feature_cmp, same_toggled, toggled_cmp}
+use Rattle.krates_resolve.specs.declared.found.Found.{Found}
 use Rattle.krates_resolve.specs.declared.selection.EnabledFeature.{EnabledFeature}
 use Rattle.krates_resolve.specs.declared.selection.KeptEdge.{KeptEdge}
 use Rattle.krates_resolve.specs.declared.selection.Selection.{Selection}
@@ -100,32 +101,55 @@ one_edge tells r s a b none x y same =
     ap (λ (i : Id). edge_between i (id_of b.child) (kind_info_of (edge_view b))) (sym parent) ∙ ap (λ (i : Id). edge_between (id_of a.parent) i (kind_info_of (edge_view b))) (sym child)
     ∙ ap (λ (k : DepKindInfoModel). edge_between (id_of a.parent) (id_of a.child) k) (sym kind)
 
--- ---- the facts of a selection without features
+-- ---- features that compare as equal are one
 
-facts_cases : (x : Selection) (f : Fact) → x.features.items ≡ [] → x.toggled.items ≡ [] → Contains (facts_of x) f → Contains (map crate_fact x.krates.items) f ⊎ Contains (map edge_fact x.edges.items) f
-facts_cases x f no_features no_toggled c = elim (Contains-append_cases (map crate_fact x.krates.items) _ f c) [
-  | inl k ↦ inl k
-  | inr rest ↦ elim (Contains-append_cases (map edge_fact x.edges.items) _ f rest) [
-    | inl e ↦ inr e
-    | inr more ↦ elim (Contains-append_cases (map feature_fact x.features.items) _ f more) [
-      | inl g ↦ absurd (nothing (subst (λ (gs : List EnabledFeature). Contains (map feature_fact gs) f) no_features g))
-      | inr t ↦ absurd (nothing (subst (λ (ts : List ToggledFeature). Contains (map toggled_fact ts) f) no_toggled t))
-    ]
-  ]
-]
-  where
-    nothing : Contains {X = Fact} [] f → ⊥
-    nothing (k, lt, is) = omega (arith, lt)
+same_name : (a b : String Global) → same_text a b ≡ true → text_view a ≡ text_view b
+same_name a b same = equal_texts (text_view a) (text_view b) (sym same)
+
+one_feature : EqualityTellsSame → (a b : EnabledFeature) → same_feature a b ≡ true → feature_fact b ≡ feature_fact a
+one_feature tells a b same =
+    let parts = both (same_id a.krate b.krate) _ same in
+    let krate : id_of a.krate ≡ id_of b.krate = id_of_same a.krate b.krate ((tells a.krate b.krate).0 parts.0) in
+    let name = same_name a.name b.name parts.1 in
+    ap (λ (i : Id). Feature i (text_view b.name)) (sym krate) ∙ ap (λ (t : Text). Feature (id_of a.krate) t) (sym name)
+
+one_toggled : EqualityTellsSame → (a b : ToggledFeature) → same_toggled a b ≡ true → toggled_fact b ≡ toggled_fact a
+one_toggled tells a b same =
+    let outer = both (same_id a.by b.by) _ same in
+    let inner = both (same_id a.krate b.krate) _ outer.1 in
+    let by : id_of a.by ≡ id_of b.by = id_of_same a.by b.by ((tells a.by b.by).0 outer.0) in
+    let krate : id_of a.krate ≡ id_of b.krate = id_of_same a.krate b.krate ((tells a.krate b.krate).0 inner.0) in
+    let name = same_name a.name b.name inner.1 in
+    ap (λ (i : Id). Toggled i (id_of b.krate) (text_view b.name)) (sym by) ∙ ap (λ (i : Id). Toggled (id_of a.by) i (text_view b.name)) (sym krate)
+    ∙ ap (λ (t : Text). Toggled (id_of a.by) (id_of a.krate) t) (sym name)
+
+-- ---- the facts of a selection
+
+crate_there : (x : Selection) (k : Identity) → Contains x.krates.items k → Contains (facts_of x) (crate_fact k)
+crate_there x k c = Contains-append_left (map crate_fact x.krates.items) _ (crate_fact k) (contains_image crate_fact x.krates.items k c)
+
+edge_there : (x : Selection) (e : KeptEdge) → Contains x.edges.items e → Contains (facts_of x) (edge_fact e)
+edge_there x e c = Contains-append_right (map crate_fact x.krates.items) _ (edge_fact e) (Contains-append_left (map edge_fact x.edges.items) _ (edge_fact e) (contains_image edge_fact x.edges.items e c))
+
+feature_there : (x : Selection) (f : EnabledFeature) → Contains x.features.items f → Contains (facts_of x) (feature_fact f)
+feature_there x f c =
+    Contains-append_right (map crate_fact x.krates.items) _ (feature_fact f) (Contains-append_right (map edge_fact x.edges.items) _ (feature_fact f)
+    (Contains-append_left (map feature_fact x.features.items) _ (feature_fact f) (contains_image feature_fact x.features.items f c)))
+
+toggled_there : (x : Selection) (t : ToggledFeature) → Contains x.toggled.items t → Contains (facts_of x) (toggled_fact t)
+toggled_there x t c =
+    Contains-append_right (map crate_fact x.krates.items) _ (toggled_fact t) (Contains-append_right (map edge_fact x.edges.items) _ (toggled_fact t)
+    (Contains-append_right (map feature_fact x.features.items) _ (toggled_fact t) (contains_image toggled_fact x.toggled.items t c)))
 
 -- ---- the whole
 
--- a vector that isn't empty has an element
-pub has_element : {A : Type 0} (v : Vec A) → false ≡ (vec_len v == 0) → 0 < length v.items
-has_element v h = elim (cases_lt 0 (length v.items)) [
+-- a list that isn't empty has an element
+pub has_element : {A : Type 0} (xs : List A) → false ≡ (length xs == 0) → 0 < length xs
+has_element xs h = elim (cases_lt 0 (length xs)) [
   | inl lt ↦ lt
   | inr le ↦ (
-      let none : length v.items ≡ 0 = omega arith in
-      absurd (eqb-false (vec_len v) 0 (sym h) (v.ok.0 ∙ none)))
+      let none : length xs ≡ 0 = omega arith in
+      absurd (eqb-false (length xs) 0 (sym h) none))
 ]
 
 -- the list is another in order: what stands in it is from that, and each element of that has an equal one in it
@@ -133,48 +157,103 @@ pub record IsOrdered {A : Type 0} (eq : A → A → Bool) (old new : List A) : T
   pub from : (x : A) → Contains new x → Contains old x
   pub kept : (x : A) → Contains old x → (y : A) × Contains new y × (eq x y ≡ true)
 
-pub selected : ReadsOnce → EqualityTellsSame → (r : Resolved) (s : SettingModel) (ids : List Identity) (places : List ℕ) (edges : List KeptEdge) (kids : List Identity) (x : Selection) → NoneDoubled r.metadata r.graph
-    → AllZip Reads (node_texts r.graph) ids → ((f : Fact) → Derivable (questions r s) f ↔ IsFoundIn r places edges f) → All (IsPlaced r s) edges → AreAt ids places kids
-    → IsStrictlySortedBy id_cmp x.krates.items → IsOrdered same_id kids x.krates.items → IsStrictlySortedBy place_cmp x.edges.items → IsOrdered same_place edges x.edges.items
-    → x.features.items ≡ [] → x.toggled.items ≡ [] → 0 < length places → IsSelection r s x
-selected once tells r s ids places edges kids x none z exact placed same up krates rise kept no_features no_toggled some =
-    record { facts = λ f. (forth f, back f); some = root; krates = up; edges = rise; placed = λ k d lt. here (get_or x.edges.items k d) (contains_or x.edges.items k d lt) }
+-- what has been found of a document is exactly what is derivable, and these are the ids of its crates and its features
+pub record IsWhole (r : Resolved) (s : SettingModel) (ids : List Identity) (found : Found) (kids : List Identity) (enabled : List EnabledFeature) : Type 0 where
+  pub none_doubled : NoneDoubled r.metadata r.graph
+  pub reads : AllZip Reads (node_texts r.graph) ids
+  pub exact : (f : Fact) → Derivable (questions r s) f ↔ HasFound r found f
+  pub placed : All (IsPlaced r s) found.edges.items
+  pub krates : AreAt ids found.krates.put kids
+  pub features : (i : Id) (f : Text) → IsEnabled r found.features.put i f ↔ Contains (map feature_fact enabled) (Feature i f)
+  pub some : 0 < length found.krates.put
+
+-- the selection has all of that in order
+pub record IsInOrder (found : Found) (kids : List Identity) (enabled : List EnabledFeature) (x : Selection) : Type 0 where
+  pub krates : IsOrdered same_id kids x.krates.items
+  pub krates_rise : IsStrictlySortedBy id_cmp x.krates.items
+  pub edges : IsOrdered same_place found.edges.items x.edges.items
+  pub edges_rise : IsStrictlySortedBy place_cmp x.edges.items
+  pub features : IsOrdered same_feature enabled x.features.items
+  pub features_rise : IsStrictlySortedBy feature_cmp x.features.items
+  pub toggled : IsOrdered same_toggled found.toggled.items x.toggled.items
+  pub toggled_rise : IsStrictlySortedBy toggled_cmp x.toggled.items
+
+pub selected : ReadsOnce → EqualityTellsSame → (r : Resolved) (s : SettingModel) (ids : List Identity) (found : Found) (kids : List Identity) (enabled : List EnabledFeature) (x : Selection)
+    → IsWhole r s ids found kids enabled → IsInOrder found kids enabled x → IsSelection r s x
+selected once tells r s ids found kids enabled x whole order = record {
+  facts = λ f. (forth f, back f);
+  some = root;
+  krates = order.krates_rise;
+  edges = order.edges_rise;
+  placed = λ k d lt. here (get_or x.edges.items k d) (contains_or x.edges.items k d lt);
+  features = order.features_rise;
+  toggled = order.toggled_rise;
+}
   where
     -- the crate at the first place
     root : (i : Id) × Derivable (questions r s) (Crate i)
     root =
-        let among = contains_or places 0 0 some in
-        let k = kid_at ids places kids (get_or places 0 0) same among in
-        (id_of k.0, (exact (Crate (id_of k.0))).1 (record { place = get_or places 0 0; among = among; node = node_here r ids (get_or places 0 0) k.0 z k.2 }))
+        let places = found.krates.put in
+        let among = contains_or places 0 0 whole.some in
+        let k = kid_at ids places kids (get_or places 0 0) whole.krates among in
+        (id_of k.0, (whole.exact (Crate (id_of k.0))).1 (record { place = get_or places 0 0; among = among; node = node_here r ids (get_or places 0 0) k.0 whole.reads k.2 }))
 
     -- each edge is placed
     here : (e : KeptEdge) → Contains x.edges.items e → IsPlaced r s e
-    here e c = All-contains (IsPlaced r s) edges e placed (kept.from e c)
+    here e c = All-contains (IsPlaced r s) found.edges.items e whole.placed (order.edges.from e c)
 
     forth : (f : Fact) → Derivable (questions r s) f → Contains (facts_of x) f
     forth (Crate i) d =
-        let put = (exact (Crate i)).0 d in
-        let k = kid_at ids places kids put.place same put.among in
-        let y = krates.kept k.0 k.1 in
-        let id : id_of y.0 ≡ i = sym (id_of_same k.0 y.0 ((tells k.0 y.0).0 y.2)) ∙ one_id once r (id_of k.0) i put.place (node_here r ids put.place k.0 z k.2) put.node in
-        subst (λ (j : Id). Contains (facts_of x) (Crate j)) id (Contains-append_left (map crate_fact x.krates.items) _ (crate_fact y.0) (contains_image crate_fact x.krates.items y.0 y.1))
+        let put = (whole.exact (Crate i)).0 d in
+        let k = kid_at ids found.krates.put kids put.place whole.krates put.among in
+        let y = order.krates.kept k.0 k.1 in
+        let id : id_of y.0 ≡ i = sym (id_of_same k.0 y.0 ((tells k.0 y.0).0 y.2)) ∙ one_id once r (id_of k.0) i put.place (node_here r ids put.place k.0 whole.reads k.2) put.node in
+        subst (λ (j : Id). Contains (facts_of x) (Crate j)) id (crate_there x y.0 y.1)
     forth (Kept e) d =
-        let a = contains_source edge_view edges e ((exact (Kept e)).0 d) in
-        let y = kept.kept a.0 a.1 in
-        let edge : edge_view y.0 ≡ e = one_edge tells r s a.0 y.0 none (All-contains (IsPlaced r s) edges a.0 placed a.1) (here y.0 y.1) y.2 ∙ a.2 in
-        subst (λ (g : Edge). Contains (facts_of x) (Kept g)) edge
-        (Contains-append_right (map crate_fact x.krates.items) _ (edge_fact y.0) (Contains-append_left (map edge_fact x.edges.items) _ (edge_fact y.0) (contains_image edge_fact x.edges.items y.0 y.1)))
-    forth (Feature i g) d = absurd ((exact (Feature i g)).0 d)
-    forth (Toggled i j g) d = absurd ((exact (Toggled i j g)).0 d)
-    forth (Lost c) d = absurd ((exact (Lost c)).0 d)
+        let a = contains_source edge_view found.edges.items e ((whole.exact (Kept e)).0 d) in
+        let y = order.edges.kept a.0 a.1 in
+        let edge : edge_view y.0 ≡ e = one_edge tells r s a.0 y.0 whole.none_doubled (All-contains (IsPlaced r s) found.edges.items a.0 whole.placed a.1) (here y.0 y.1) y.2 ∙ a.2 in
+        subst (λ (g : Edge). Contains (facts_of x) (Kept g)) edge (edge_there x y.0 y.1)
+    forth (Feature i g) d =
+        let a = contains_source feature_fact enabled (Feature i g) ((whole.features i g).0 ((whole.exact (Feature i g)).0 d)) in
+        let y = order.features.kept a.0 a.1 in
+        subst (Contains (facts_of x)) (one_feature tells a.0 y.0 y.2 ∙ a.2) (feature_there x y.0 y.1)
+    forth (Toggled p c g) d =
+        let a = contains_source toggled_fact found.toggled.items (Toggled p c g) ((whole.exact (Toggled p c g)).0 d) in
+        let y = order.toggled.kept a.0 a.1 in
+        subst (Contains (facts_of x)) (one_toggled tells a.0 y.0 y.2 ∙ a.2) (toggled_there x y.0 y.1)
+    forth (Lost c) d = absurd ((whole.exact (Lost c)).0 d)
+
+    crate_back : (f : Fact) → Contains (map crate_fact x.krates.items) f → Derivable (questions r s) f
+    crate_back f h =
+        let a = contains_source crate_fact x.krates.items f h in
+        let p = place_of_kid ids found.krates.put kids a.0 whole.krates (order.krates.from a.0 a.1) in
+        subst (Derivable (questions r s)) a.2 ((whole.exact (crate_fact a.0)).1 (record { place = p.0; among = p.1; node = node_here r ids p.0 a.0 whole.reads p.2 }))
+
+    edge_back : (f : Fact) → Contains (map edge_fact x.edges.items) f → Derivable (questions r s) f
+    edge_back f h =
+        let a = contains_source edge_fact x.edges.items f h in
+        subst (Derivable (questions r s)) a.2 ((whole.exact (edge_fact a.0)).1 (contains_image edge_view found.edges.items a.0 (order.edges.from a.0 a.1)))
+
+    feature_back : (f : Fact) → Contains (map feature_fact x.features.items) f → Derivable (questions r s) f
+    feature_back f h =
+        let a = contains_source feature_fact x.features.items f h in
+        let among = contains_image feature_fact enabled a.0 (order.features.from a.0 a.1) in
+        subst (Derivable (questions r s)) a.2 ((whole.exact (feature_fact a.0)).1 ((whole.features (id_of a.0.krate) (text_view a.0.name)).1 among))
+
+    toggled_back : (f : Fact) → Contains (map toggled_fact x.toggled.items) f → Derivable (questions r s) f
+    toggled_back f h =
+        let a = contains_source toggled_fact x.toggled.items f h in
+        subst (Derivable (questions r s)) a.2 ((whole.exact (toggled_fact a.0)).1 (contains_image toggled_fact found.toggled.items a.0 (order.toggled.from a.0 a.1)))
 
     back : (f : Fact) → Contains (facts_of x) f → Derivable (questions r s) f
-    back f c = elim (facts_cases x f no_features no_toggled c) [
-      | inl h ↦ (
-          let a = contains_source crate_fact x.krates.items f h in
-          let p = place_of_kid ids places kids a.0 same (krates.from a.0 a.1) in
-          subst (Derivable (questions r s)) a.2 ((exact (crate_fact a.0)).1 (record { place = p.0; among = p.1; node = node_here r ids p.0 a.0 z p.2 })))
-      | inr h ↦ (
-          let a = contains_source edge_fact x.edges.items f h in
-          subst (Derivable (questions r s)) a.2 ((exact (edge_fact a.0)).1 (contains_image edge_view edges a.0 (kept.from a.0 a.1))))
+    back f c = elim (Contains-append_cases (map crate_fact x.krates.items) _ f c) [
+      | inl k ↦ crate_back f k
+      | inr rest ↦ elim (Contains-append_cases (map edge_fact x.edges.items) _ f rest) [
+        | inl e ↦ edge_back f e
+        | inr more ↦ elim (Contains-append_cases (map feature_fact x.features.items) _ f more) [
+          | inl g ↦ feature_back f g
+          | inr t ↦ toggled_back f t
+        ]
+      ]
     ]

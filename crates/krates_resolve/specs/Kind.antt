@@ -1,5 +1,5 @@
 -- Purposes of dependencies, and which of them are ignored.
-use Rattle.std.specs.Prelude.{◌≡◌, ◌↔◌, ◌⊎◌, Bool, true, false, List, codes, ⊤}
+use Rattle.std.specs.Prelude.{◌≡◌, ◌↔◌, ◌⊎◌, Bool, true, false, codes, ⊤}
 use Rattle.krates_cm.specs.declared.dependency.DependencyKind.{DependencyKind}
 use Rattle.krates_cm.specs.declared.dependency.DependencyKind.TheVariants as written
 use Rattle.krates_cm.specs.Document.{Text}

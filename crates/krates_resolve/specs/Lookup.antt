@@ -1,9 +1,11 @@
 -- What look-ups in a document answer.
-use Rattle.std.specs.Prelude.{◌≡◌, ℕ, Bool, Option, Some, MatchOption, MatchBool, slice_get}
-use Rattle.krates_cm.specs.Document.{PackageModel, NodeModel, metadata_view, resolve_view}
+use Rattle.std.specs.Prelude.{◌≡◌, ℕ, Bool, Option, Some, MatchOption, MatchBool, map, slice_get}
+use Rattle.krates_cm.specs.Document.{PackageModel, NodeModel, metadata_view, node_view, resolve_view}
 use Rattle.krates_resolve.specs.Admission.{AreIdsOf, NoneDoubled}
 use Rattle.krates_resolve.specs.Facts.{Id}
+use Rattle.krates_resolve.specs.FeatureTable.{AreNumbered, listed_in}
 use Rattle.krates_resolve.specs.Ids.{ids_view}
+use Rattle.krates_resolve.specs.ListedFeatures.{features_from}
 use Rattle.krates_resolve.specs.Resolved.{Resolved, ReadsAs, HasPackage, NoPackage, NoNode, IsMember}
 use Rattle.krates_resolve.specs.Table.{ArePlacesOf}
 use Rattle.krates_resolve.specs.declared.lookup.Lookup.{Lookup}
@@ -18,6 +20,8 @@ pub record IsLookup (d : Lookup) : Type 0 where
   pub packages : ArePlacesOf d.ids.now.packages.items d.packages
   pub nodes : ArePlacesOf d.ids.now.nodes.items d.nodes
   pub members : ArePlacesOf d.ids.now.members.items d.members
+  pub features : listed_in d.features ≡ features_from 0 (map node_view d.resolve.now.nodes.items)
+  pub numbered : AreNumbered d.features
 
 -- whether the crate is a member of the workspace
 abbrev pub TellsMember : Resolved → Id → Bool → Type 0

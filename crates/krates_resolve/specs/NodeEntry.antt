@@ -3,6 +3,7 @@ use Rattle.std.specs.Prelude.{◌≡◌, ℕ, List, Some, map, slice_get}
 use Rattle.krates_cm.specs.Document.{DependencyModel, DepKindInfoModel, NodeModel, PackageModel, node_dep_view, dependency_view}
 use Rattle.krates_resolve.specs.Admission.{AreDepIds}
 use Rattle.krates_resolve.specs.Facts.{Id, Edge}
+use Rattle.krates_resolve.specs.Links.{DepAt}
 use Rattle.krates_resolve.specs.Lookup.{NodeAt, TellsMember}
 use Rattle.krates_resolve.specs.Resolved.{Resolved, id_of, HasPackage, HasNode, HasDep}
 use Rattle.krates_resolve.specs.DeclaredDependency.{DependencyEntry, dependency_entry}
@@ -22,6 +23,7 @@ pub record AreParts (r : Resolved) (place : ℕ) (x : NodeParts) : Type 0 where
   pub children : AreDepIds at.node x.children.now
   pub declares : AreDeclaredBy r (id_of x.parent.now) (map dependency_view x.declared.now)
   pub tells : TellsMember r (id_of x.parent.now) x.is_member
+  pub place_is : x.place ≡ place
 
 abbrev pub parent_of : NodeEntry → Id
 parent_of x = id_of x.parent.now
@@ -42,6 +44,17 @@ pub record IsEntry (r : Resolved) (x : NodeEntry) : Type 0 where
   pub has_dep : HasDep node (child_of x) (node_dep_view x.dep.now)
   pub declares : AreDeclaredBy r (parent_of x) (declared_in x)
   pub tells : TellsMember r (parent_of x) x.is_member
+  pub at : DepAt r (parent_of x) (child_of x) x.place x.index
+
+-- the entry is that at this place of the node
+pub record IsEntryOf (parts : NodeParts) (at : ℕ) (x : NodeEntry) : Type 0 where
+  pub parent : x.parent.now ≡ parts.parent.now
+  pub declared : x.declared.now ≡ parts.declared.now
+  pub dep : slice_get parts.deps.now at ≡ Some x.dep.now
+  pub child : slice_get parts.children.now at ≡ Some x.child.now
+  pub place : x.place ≡ parts.place
+  pub index : x.index ≡ at
+  pub is_member : x.is_member ≡ parts.is_member
 
 -- the edge between two crates for one purpose and target
 abbrev pub edge_between : Id → Id → DepKindInfoModel → Edge

@@ -1,8 +1,9 @@
 -- What a document and a setting answer to the rules.
 use Rattle.std.specs.Prelude.{ℕ, Contains}
-use Rattle.krates_cm.specs.Document.{Text, DependencyModel, DepKindInfoModel, PackageModel, NodeDepModel, NodeModel}
+use Rattle.krates_cm.specs.Document.{DependencyModel, DepKindInfoModel, PackageModel, NodeDepModel, NodeModel}
 use Rattle.krates_resolve.specs.Facts.{Id, Edge}
-use Rattle.krates_text.specs.FeatureReference.{Reference}
+use Rattle.krates_resolve.specs.Features.{ListsFeature, LacksFeature, HasReference}
+use Rattle.krates_resolve.specs.Referent.{IsReferent}
 use Rattle.krates_resolve.specs.Rules.{Questions}
 use Rattle.krates_resolve.specs.Resolved.{Resolved, HasPackage, NoPackage, HasNode, NoNode, HasDep}
 use Rattle.krates_resolve.specs.DeclaredDependency.{dependency_entry, IsDeclared, IsUndeclared}
@@ -66,20 +67,6 @@ pub record IsLoose (r : Resolved) (s : SettingModel) (e : Edge) : Type 0 where
   pub listed : IsListed r s e dep
   pub undeclared : (p : PackageModel) → HasPackage r e.parent p → IsUndeclared p.dependencies (dependency_entry e.child dep) (kind_info_of e)
 
--- ---- features, which aren't looked at yet
-
-abbrev pub ListsFeature : Resolved → Id → Text → Type 0
-ListsFeature r i f = ⊥
-
-abbrev pub LacksFeature : Resolved → Id → Text → Type 0
-LacksFeature r i f = ⊥
-
-abbrev pub HasReference : Resolved → Id → Text → Reference → Type 0
-HasReference r i f reference = ⊥
-
-abbrev pub IsReferent : Resolved → SettingModel → Id → Text → Id → Type 0
-IsReferent r s i dep child = ⊥
-
 -- ---- all that the rules ask
 
 unfoldable pub questions : Resolved → SettingModel → Questions
@@ -91,7 +78,7 @@ questions r s = record {
   Lists = ListsFeature r;
   Lacks = LacksFeature r;
   Refers = HasReference r;
-  Referent = IsReferent r s;
+  Referent = IsReferent r;
   Wanted = IsWanted r s;
   Loose = IsLoose r s;
 }

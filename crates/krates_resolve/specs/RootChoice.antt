@@ -1,5 +1,5 @@
 -- Which roots are chosen, and how a manifest is compared.
-use Rattle.std.specs.Prelude.{◌≡◌, List, [], ◌∷◌, Bool, true, false, Contains, MatchBool}
+use Rattle.std.specs.Prelude.{◌≡◌, List, [], ◌∷◌, Bool, Contains, MatchBool}
 use Rattle.krates_cm.specs.Document.{Text}
 use Rattle.krates_text.specs.Path.{components, IsParent}
 use Rattle.krates_resolve.specs.Facts.{Id}

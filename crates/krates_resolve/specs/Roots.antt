@@ -1,5 +1,5 @@
 -- Which crates are the roots.
-use Rattle.std.specs.Prelude.{◌≡◌, List, [], ◌∷◌, true, false, Some, None, Contains}
+use Rattle.std.specs.Prelude.{◌≡◌, [], ◌∷◌, true, false, Some, None, Contains}
 use Rattle.krates_cm.specs.Document.{Text, PackageModel}
 use Rattle.krates_text.specs.Path.{components, IsParent}
 use Rattle.krates_resolve.specs.Facts.{Id}

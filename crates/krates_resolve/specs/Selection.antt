@@ -8,7 +8,7 @@ use Rattle.krates_resolve.specs.Derivation.{Derivable}
 use Rattle.krates_resolve.specs.Facts.{Id, Edge, Fact, Crate, Kept, Feature, Toggled}
 use Rattle.krates_resolve.specs.Questions.{IsDeclaredAt, kind_info_of, questions}
 use Rattle.krates_resolve.specs.Resolved.{Resolved, id_of}
-use Rattle.krates_resolve.specs.SelectionOrder.{place_cmp}
+use Rattle.krates_resolve.specs.SelectionOrder.{place_cmp, feature_cmp, toggled_cmp}
 use Rattle.krates_resolve.specs.declared.selection.EnabledFeature.{EnabledFeature}
 use Rattle.krates_resolve.specs.declared.selection.KeptEdge.{KeptEdge}
 use Rattle.krates_resolve.specs.declared.selection.Selection.{Selection}
@@ -50,3 +50,5 @@ pub record IsSelection (r : Resolved) (s : SettingModel) (x : Selection) : Type 
   pub krates : IsStrictlySortedBy id_cmp x.krates.items
   pub edges : IsStrictlySortedBy place_cmp x.edges.items
   pub placed : All (IsPlaced r s) x.edges.items
+  pub features : IsStrictlySortedBy feature_cmp x.features.items
+  pub toggled : IsStrictlySortedBy toggled_cmp x.toggled.items

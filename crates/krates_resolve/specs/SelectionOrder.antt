@@ -1,9 +1,16 @@
--- How kept edges compare: by parent, then child, then place.
-use Rattle.std.specs.Prelude.{Bool, ◌==◌}
+-- How kept edges, enabled features and toggled features compare.
+use Rattle.std.specs.Prelude.{Bool, String, ◌==◌}
+use Rattle.std.specs.declared.alloc.Global.{Global}
 use Rattle.std.specs.declared.cmp.Ordering.{Ordering}
+use Rattle.std.specs.Cmp.Lexicographic.{slice_cmp, pointwise}
 use Rattle.std.specs.Ordering.{nat_cmp, on, then_cmp, eq_of_both}
+use Rattle.krates_cm.specs.Document.{text_view}
 use Rattle.krates_ids.specs.Identity.{same_id, id_cmp}
+use Rattle.krates_resolve.specs.declared.selection.EnabledFeature.{EnabledFeature}
 use Rattle.krates_resolve.specs.declared.selection.KeptEdge.{KeptEdge}
+use Rattle.krates_resolve.specs.declared.selection.ToggledFeature.{ToggledFeature}
+
+-- ---- kept edges, by parent, child and place
 
 -- whether the edges have the same parent, child and place
 abbrev pub same_place : KeptEdge → KeptEdge → Bool
@@ -11,3 +18,27 @@ same_place = eq_of_both (on (λ e. e.parent) same_id) (eq_of_both (on (λ e. e.c
 
 abbrev pub place_cmp : KeptEdge → KeptEdge → Ordering
 place_cmp = then_cmp (on (λ e. e.parent) id_cmp) (then_cmp (on (λ e. e.child) id_cmp) (on (λ e. e.place) nat_cmp))
+
+-- ---- texts, as bytes
+
+abbrev pub same_text : String Global → String Global → Bool
+same_text = on text_view (pointwise ◌==◌)
+
+abbrev pub text_cmp : String Global → String Global → Ordering
+text_cmp = on text_view (slice_cmp nat_cmp)
+
+-- ---- features, by crate and name
+
+abbrev pub same_feature : EnabledFeature → EnabledFeature → Bool
+same_feature = eq_of_both (on (λ f. f.krate) same_id) (on (λ f. f.name) same_text)
+
+abbrev pub feature_cmp : EnabledFeature → EnabledFeature → Ordering
+feature_cmp = then_cmp (on (λ f. f.krate) id_cmp) (on (λ f. f.name) text_cmp)
+
+-- ---- toggled features, by the crate that toggles them, their own and their name
+
+abbrev pub same_toggled : ToggledFeature → ToggledFeature → Bool
+same_toggled = eq_of_both (on (λ t. t.by) same_id) (eq_of_both (on (λ t. t.krate) same_id) (on (λ t. t.name) same_text))
+
+abbrev pub toggled_cmp : ToggledFeature → ToggledFeature → Ordering
+toggled_cmp = then_cmp (on (λ t. t.by) id_cmp) (then_cmp (on (λ t. t.krate) id_cmp) (on (λ t. t.name) text_cmp))

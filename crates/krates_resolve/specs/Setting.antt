@@ -1,12 +1,12 @@
 -- What the caller's setting is, and what it says of packages, edges and targets.
-use Rattle.std.specs.Prelude.{◌≡◌, ◌++◌, List, [], Bool, true, false, Option, MatchOption, Contains, ⊤, codes, map}
+use Rattle.std.specs.Prelude.{◌≡◌, ◌++◌, List, Bool, true, false, Option, MatchOption, Contains, ⊤, codes, map}
 use Rattle.std.specs.List.{AllZip}
 use Rattle.std.specs.Borrow.{Bor}
 use Rattle.krates_cm.specs.Document.{Text, PackageModel}
 use Rattle.krates_ids.specs.PackageSpecification.{Specification, SpecFits}
 use Rattle.krates_text.specs.Passing.{Asked, TellsPassing}
 use Rattle.krates_text.specs.Path.{EndsWithPath, joined}
-use Rattle.krates_resolve.specs.Facts.{Id, Edge}
+use Rattle.krates_resolve.specs.Facts.{Edge}
 use Rattle.krates_resolve.specs.Kind.{kind_of, ignores}
 use Rattle.krates_resolve.specs.Resolved.{Resolved, IsMember}
 use Rattle.krates_resolve.specs.declared.kind.IgnoredKinds.{IgnoredKinds}

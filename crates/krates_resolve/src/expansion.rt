@@ -2,21 +2,21 @@
 
 ghost use Rattle.std.specs.Prelude.{◌≡◌, ◌<◌, IfErr, OnOk, Some, Contains, map};
 ghost use Rattle.semver.specs.Identifiers.{parts_of};
-ghost use Rattle.krates_cm.specs.Document.{dep_kind_info_view, node_dep_view};
+ghost use Rattle.krates_cm.specs.Document.{DepKindInfoModel, dep_kind_info_view, node_dep_view};
 ghost use Rattle.krates_cm.specs.Names.{version_named};
-ghost use Rattle.krates_resolve.specs.Derivation.{Derivable};
 ghost use Rattle.krates_resolve.specs.Admission.{HasVersion};
-ghost use Rattle.krates_resolve.specs.Facts.{Id, Crate};
-ghost use Rattle.krates_resolve.specs.Found.{IsSound, Advances, IsTried, AreTried, IsExpanded};
+ghost use Rattle.krates_resolve.specs.Facts.{Id};
+ghost use Rattle.krates_resolve.specs.Found.{IsSound, Advances, IsTried, AreTried, IsExpanded, MayTry, TakenWhen};
 ghost use Rattle.krates_resolve.specs.Lookup.{IsLookup, NodeAt, resolved_view};
 ghost use Rattle.krates_resolve.specs.NodeEntry.{IsEntry, parent_of, child_of, edge_for};
 ghost use Rattle.krates_resolve.specs.Questions.{questions};
 ghost use Rattle.krates_resolve.specs.SelectionRefusals.{IsUnselected};
 
 use crate::declared_dependency::{declared_of, version_of};
-use crate::found::{Found, keep};
+use crate::enabling::keep;
+use crate::found::Found;
 use crate::lookup::Lookup;
-use crate::node_entry::{NodeEntry, kept_edge, parts_of};
+use crate::node_entry::{NodeEntry, entry_at, parts_of};
 use crate::setting::Setting;
 use crate::standing::{Standing, standing_of};
 use krates_cm::DepKindInfo;
@@ -33,58 +33,54 @@ pub(crate) fn expand<'a>(
     lookup: &Lookup<'a>,
     setting: &Setting,
     taken: Taken,
-    found: &mut Found,
+    found: &mut Found<'a>,
 ) -> Result<(), Error>
     requires lookup { IsLookup lookup.now }
     requires sound { IsSound (resolved_view lookup.now) setting.now found.old }
-    requires put { Contains found.old.agenda.put taken }
-    requires within { taken < found.old.agenda.size }
+    requires put { Contains found.old.krates.put taken }
+    requires within { taken < found.old.krates.size }
     ensures advanced { OnOk result (Advances (resolved_view lookup.now) setting.now found.old found.new) }
     ensures expanded { OnOk result ((krate : Id) → NodeAt (resolved_view lookup.now) krate taken → IsExpanded (resolved_view lookup.now) setting.now found.new krate) }
     ensures refused { IfErr result (IsUnselected (questions (resolved_view lookup.now) setting.now)) }
 {
     laws::one_reading();
     let parts = parts_of(lookup, taken.number());
-    for (index, child) in parts.children.iter().enumerate() {
-        let entry = NodeEntry {
-            parent: parts.parent,
-            is_member: parts.is_member,
-            declared: parts.declared,
-            dep: &parts.deps[index],
-            child,
-        };
-        expand_entry(alloc, lookup, setting, &entry, found)?;
+    for index in 0..parts.children.len() {
+        let entry = entry_at(&parts, index);
+        expand_entry(alloc, lookup, setting, &entry, false, found)?;
     }
     Ok(())
 }
 
-/// Tries each edge of an entry.
-fn expand_entry<'a>(
+/// Tries each edge of an entry; an optional one only where it is asked for.
+pub(crate) fn expand_entry<'a>(
     alloc: Global,
     lookup: &Lookup<'a>,
     setting: &Setting,
     entry: &NodeEntry<'a>,
-    found: &mut Found,
+    asked: bool,
+    found: &mut Found<'a>,
 ) -> Result<(), Error>
     requires lookup { IsLookup lookup.now }
     requires entry { IsEntry (resolved_view lookup.now) entry.now }
     requires version { HasVersion entry.now.child.now }
     requires sound { IsSound (resolved_view lookup.now) setting.now found.old }
-    requires kept { Derivable (questions (resolved_view lookup.now) setting.now) (Crate (parent_of entry.now)) }
+    requires may { (k : DepKindInfoModel) → MayTry (resolved_view lookup.now) setting.now (edge_for entry.now k) (TakenWhen asked) }
     ensures advanced { OnOk result (Advances (resolved_view lookup.now) setting.now found.old found.new) }
-    ensures tried { OnOk result (AreTried (resolved_view lookup.now) setting.now found.new (parent_of entry.now) (child_of entry.now) (node_dep_view entry.now.dep.now)) }
+    ensures tried { OnOk result (AreTried (resolved_view lookup.now) setting.now found.new (parent_of entry.now) (child_of entry.now) (node_dep_view entry.now.dep.now) (TakenWhen asked)) }
     ensures refused { IfErr result (IsUnselected (questions (resolved_view lookup.now) setting.now)) }
 {
     let Some(version) = version_of(alloc, entry.child)? else {
         unreachable!()
     };
     for info in entry.dep.dep_kinds.as_slice() {
-        expand_edge(alloc, lookup, setting, entry, &version, info, found)?;
+        expand_edge(alloc, lookup, setting, entry, &version, info, asked, found)?;
     }
     Ok(())
 }
 
-/// Keeps an edge of an entry, for one purpose and target, unless it is ignored or optional, or its target doesn't pass.
+/// Keeps an edge of an entry, for one purpose and target, unless it is ignored, or optional and not asked for, or its target
+/// doesn't pass.
 fn expand_edge<'a>(
     alloc: Global,
     lookup: &Lookup<'a>,
@@ -92,19 +88,19 @@ fn expand_edge<'a>(
     entry: &NodeEntry<'a>,
     version: &Version,
     info: &DepKindInfo,
-    found: &mut Found,
+    asked: bool,
+    found: &mut Found<'a>,
 ) -> Result<(), Error>
     requires lookup { IsLookup lookup.now }
     requires entry { IsEntry (resolved_view lookup.now) entry.now }
     requires version { version_named entry.now.child.now.version ≡ Some (parts_of version.now) }
     requires listed { Contains (map dep_kind_info_view entry.now.dep.now.dep_kinds.items) (dep_kind_info_view info.now) }
     requires sound { IsSound (resolved_view lookup.now) setting.now found.old }
-    requires kept { Derivable (questions (resolved_view lookup.now) setting.now) (Crate (parent_of entry.now)) }
+    requires may { MayTry (resolved_view lookup.now) setting.now (edge_for entry.now (dep_kind_info_view info.now)) (TakenWhen asked) }
     ensures advanced { OnOk result (Advances (resolved_view lookup.now) setting.now found.old found.new) }
-    ensures tried { OnOk result (IsTried (resolved_view lookup.now) setting.now found.new (edge_for entry.now (dep_kind_info_view info.now))) }
+    ensures tried { OnOk result (IsTried (resolved_view lookup.now) setting.now found.new (edge_for entry.now (dep_kind_info_view info.now)) (TakenWhen asked)) }
     ensures refused { IfErr result (IsUnselected (questions (resolved_view lookup.now) setting.now)) }
 {
-    laws::one_reading();
     if setting.ignores(info.kind, entry.is_member) {
         return Ok(());
     }
@@ -114,7 +110,7 @@ fn expand_edge<'a>(
             dep: entry.child.clone()?,
         }));
     };
-    if entry.declared[declared].optional {
+    if !asked && entry.declared[declared].optional {
         return Ok(());
     }
     let passes = setting.passes(alloc, &info.target)?;
@@ -125,6 +121,8 @@ fn expand_edge<'a>(
         Standing::NoPackage => Err(Error::Lost(Lost::Package(entry.child.clone()?))),
         Standing::NoNode => Err(Error::Lost(Lost::Node(entry.child.clone()?))),
         Standing::Excluded => Ok(()),
-        Standing::Stands(node) => keep(found, kept_edge(entry, info, declared)?, node),
+        Standing::Stands(node) => {
+            keep(alloc, lookup, setting, entry, info, declared, node, found)
+        }
     }
 }

@@ -7,6 +7,7 @@ ghost use Rattle.krates_resolve.specs.Ids.{ids_view};
 ghost use Rattle.krates_resolve.specs.Lookup.{IsLookup, IsPackagePlace, IsPackageOf, IsNodePlace, TellsMember, resolved_view};
 ghost use Rattle.krates_resolve.specs.Resolved.{id_of};
 
+use crate::features::{FeatureTable, feature_table};
 use crate::ids::Ids;
 use crate::table::{place_of, places_by_id};
 use krates_cm::{Metadata, Package, Resolve};
@@ -23,6 +24,7 @@ pub(crate) struct Lookup<'a> {
     pub packages: BTreeMap<&'a Kid, usize>,
     pub nodes: BTreeMap<&'a Kid, usize>,
     pub members: BTreeMap<&'a Kid, usize>,
+    pub features: FeatureTable<'a>,
 }
 
 /// The document, ready to be looked up.
@@ -40,6 +42,7 @@ pub(crate) fn lookup_of<'a>(
     let packages = places_by_id(alloc, &ids.packages)?;
     let nodes = places_by_id(alloc, &ids.nodes)?;
     let members = places_by_id(alloc, &ids.members)?;
+    let features = feature_table(alloc, &resolve.nodes)?;
     Ok(Lookup {
         metadata,
         resolve,
@@ -47,6 +50,7 @@ pub(crate) fn lookup_of<'a>(
         packages,
         nodes,
         members,
+        features,
     })
 }
 

@@ -4,7 +4,7 @@ ghost use Rattle.std.specs.Prelude.{◌≡◌, ◌<◌, ◌↔◌, Contains, IfO
 ghost use Rattle.krates_cm.specs.Document.{dependency_view, dep_kind_info_view};
 ghost use Rattle.krates_resolve.specs.Lookup.{IsLookup, resolved_view};
 ghost use Rattle.krates_resolve.specs.DeclaredDependency.{FirstAt};
-ghost use Rattle.krates_resolve.specs.NodeEntry.{AreDeclaredBy, AreParts, edge_for};
+ghost use Rattle.krates_resolve.specs.NodeEntry.{AreDeclaredBy, AreParts, IsEntryOf, edge_for};
 ghost use Rattle.krates_resolve.specs.Resolved.{id_of};
 ghost use Rattle.krates_resolve.specs.Selection.{edge_view};
 
@@ -25,6 +25,10 @@ pub(crate) struct NodeEntry<'a> {
     pub dep: &'a NodeDep,
     /// The crate that is depended on.
     pub child: &'a Kid,
+    /// The place of the node.
+    pub place: usize,
+    /// The place of the dependency among those of the node.
+    pub index: usize,
     /// Whether the kept crate is a member of the workspace.
     pub is_member: bool,
 }
@@ -40,6 +44,8 @@ pub(crate) struct NodeParts<'a> {
     pub deps: &'a [NodeDep],
     /// Their ids.
     pub children: &'a [Kid],
+    /// The place of the node.
+    pub place: usize,
     /// Whether the kept crate is a member of the workspace.
     pub is_member: bool,
 }
@@ -56,7 +62,25 @@ pub(crate) fn parts_of<'a>(lookup: &Lookup<'a>, place: usize) -> NodeParts<'a>
         declared: declared_by(lookup, parent),
         deps: &lookup.resolve.nodes[place].deps,
         children: &lookup.ids.deps[place],
+        place,
         is_member: is_member(lookup, parent),
+    }
+}
+
+/// The dependency of a node at a place.
+pub(crate) fn entry_at<'a>(parts: &NodeParts<'a>, index: usize) -> NodeEntry<'a>
+    requires lengths { length parts.now.deps.now ≡ length parts.now.children.now }
+    requires within { index < length parts.now.children.now }
+    ensures { IsEntryOf parts.now index result }
+{
+    NodeEntry {
+        parent: parts.parent,
+        declared: parts.declared,
+        dep: &parts.deps[index],
+        child: &parts.children[index],
+        place: parts.place,
+        index,
+        is_member: parts.is_member,
     }
 }
 
@@ -104,7 +128,7 @@ fn first_place(infos: &[DepKindInfo], info: &DepKindInfo) -> usize
 }
 
 /// Whether the two are for the same purpose and target.
-fn is_same_info(one: &DepKindInfo, other: &DepKindInfo) -> bool
+pub(crate) fn is_same_info(one: &DepKindInfo, other: &DepKindInfo) -> bool
     ensures { IsTrue result ↔ (dep_kind_info_view one.now ≡ dep_kind_info_view other.now) }
 {
     one.kind == other.kind && one.target == other.target

@@ -3,23 +3,28 @@
 ghost use Rattle.std.specs.Prelude.{◌≡◌, ◌↔◌, All, Bool, IfErr, IsTrue, MatchBool, OnOk, map, string_bytes};
 ghost use Rattle.krates_cm.specs.Document.{Text, text_view};
 ghost use Rattle.krates_text.specs.Path.{components};
-ghost use Rattle.krates_resolve.specs.Found.{IsSound, Advances, IsRooted, HasRoots};
-ghost use Rattle.krates_resolve.specs.Lookup.{IsLookup, resolved_view};
+ghost use Rattle.krates_resolve.specs.Derivation.{Derivable};
+ghost use Rattle.krates_resolve.specs.Facts.{Crate, Feature};
+ghost use Rattle.krates_resolve.specs.Features.{ListsFeature};
+ghost use Rattle.krates_resolve.specs.Found.{IsSound, Advances, HasFound, IsRooted, HasRoots};
+ghost use Rattle.krates_resolve.specs.Lookup.{IsLookup, NodeAt, resolved_view};
 ghost use Rattle.krates_resolve.specs.Questions.{questions};
 ghost use Rattle.krates_resolve.specs.Resolved.{id_of, IsMember};
 ghost use Rattle.krates_resolve.specs.RootChoice.{IsChoice, IsWorkspaceManifest, AsksFor, HasOneOf};
 ghost use Rattle.krates_resolve.specs.Roots.{IsRoot, HasManifest};
 ghost use Rattle.krates_resolve.specs.SelectionRefusals.{IsUnselected};
 
+use crate::enabling::{KeptNode, enable};
 use crate::found::Found;
 use crate::lookup::{Lookup, package_of};
 use crate::setting::Setting;
 use crate::standing::{Standing, standing_of};
 use krates_ids::{Error, Kid, Lost, laws};
 use krates_text::path::{parent, same};
+use std::alloc::Global;
 
 /// Which crates are the roots.
-enum RootChoice<'a> {
+pub(crate) enum RootChoice<'a> {
     /// The graph's root.
     Root(&'a Kid),
     /// Every member of the workspace.
@@ -30,9 +35,10 @@ enum RootChoice<'a> {
 
 /// Puts the roots: the graph's root, every member, or the members with one of the manifests that are asked for.
 pub(crate) fn put_roots<'a>(
+    alloc: Global,
     lookup: &Lookup<'a>,
     setting: &Setting,
-    found: &mut Found,
+    found: &mut Found<'a>,
 ) -> Result<(), Error>
     requires lookup { IsLookup lookup.now }
     requires sound { IsSound (resolved_view lookup.now) setting.now found.old }
@@ -42,14 +48,28 @@ pub(crate) fn put_roots<'a>(
 {
     laws::one_reading();
     match choice_of(lookup, setting) {
-        RootChoice::Root(root) => put_root(lookup, setting, root, found),
-        RootChoice::Members => put_members(lookup, setting, true, &lookup.ids.members, found),
-        RootChoice::Manifests => put_members(lookup, setting, false, &lookup.ids.members, found),
+        RootChoice::Root(root) => put_root(alloc, lookup, setting, root, found),
+        RootChoice::Members => put_members(
+            alloc,
+            lookup,
+            setting,
+            true,
+            &lookup.ids.members,
+            found,
+        ),
+        RootChoice::Manifests => put_members(
+            alloc,
+            lookup,
+            setting,
+            false,
+            &lookup.ids.members,
+            found,
+        ),
     }
 }
 
 /// Which crates the setting asks for.
-fn choice_of<'a>(lookup: &Lookup<'a>, setting: &Setting) -> RootChoice<'a>
+pub(crate) fn choice_of<'a>(lookup: &Lookup<'a>, setting: &Setting) -> RootChoice<'a>
     requires { IsLookup lookup.now }
     ensures { IsChoice (resolved_view lookup.now) setting.now result }
 {
@@ -82,11 +102,12 @@ fn asks_for_workspace(manifests: &[String], workspace_root: &str) -> bool
 
 /// Puts each of these members that is a root: all of them, or those with one of the manifests.
 fn put_members<'a>(
+    alloc: Global,
     lookup: &Lookup<'a>,
     setting: &Setting,
     all: bool,
     members: &'a [Kid],
-    found: &mut Found,
+    found: &mut Found<'a>,
 ) -> Result<(), Error>
     requires lookup { IsLookup lookup.now }
     requires sound { IsSound (resolved_view lookup.now) setting.now found.old }
@@ -97,18 +118,19 @@ fn put_members<'a>(
     ensures refused { IfErr result (IsUnselected (questions (resolved_view lookup.now) setting.now)) }
 {
     for member in members {
-        put_member(lookup, setting, all, member, found)?;
+        put_member(alloc, lookup, setting, all, member, found)?;
     }
     Ok(())
 }
 
 /// Puts a member that is a root.
 fn put_member<'a>(
+    alloc: Global,
     lookup: &Lookup<'a>,
     setting: &Setting,
     all: bool,
     member: &'a Kid,
-    found: &mut Found,
+    found: &mut Found<'a>,
 ) -> Result<(), Error>
     requires lookup { IsLookup lookup.now }
     requires sound { IsSound (resolved_view lookup.now) setting.now found.old }
@@ -119,13 +141,18 @@ fn put_member<'a>(
     ensures refused { IfErr result (IsUnselected (questions (resolved_view lookup.now) setting.now)) }
 {
     if is_root(lookup, setting, all, member) {
-        return put_root(lookup, setting, member, found);
+        return put_root(alloc, lookup, setting, member, found);
     }
     Ok(())
 }
 
 /// Whether a member is a root, where all are, or those with one of the manifests.
-fn is_root<'a>(lookup: &Lookup<'a>, setting: &Setting, all: bool, member: &'a Kid) -> bool
+pub(crate) fn is_root<'a>(
+    lookup: &Lookup<'a>,
+    setting: &Setting,
+    all: bool,
+    member: &'a Kid,
+) -> bool
     requires lookup { IsLookup lookup.now }
     requires asks { AsksFor (resolved_view lookup.now) setting.now all }
     requires member { IsMember (resolved_view lookup.now) (id_of member.now) }
@@ -159,10 +186,11 @@ fn is_one_of(paths: &[String], path: &str) -> bool
 
 /// Puts a root, unless it is excluded.
 fn put_root<'a>(
+    alloc: Global,
     lookup: &Lookup<'a>,
     setting: &Setting,
     root: &'a Kid,
-    found: &mut Found,
+    found: &mut Found<'a>,
 ) -> Result<(), Error>
     requires lookup { IsLookup lookup.now }
     requires sound { IsSound (resolved_view lookup.now) setting.now found.old }
@@ -177,8 +205,32 @@ fn put_root<'a>(
         Standing::NoNode => Err(Error::Lost(Lost::Node(root.clone()?))),
         Standing::Excluded => Ok(()),
         Standing::Stands(place) => {
-            let _ = found.agenda.put(place);
-            Ok(())
+            let node = KeptNode { id: root, place };
+            let _ = found.krates.put(place);
+            enable_listed(alloc, lookup, setting, node, found)
         }
     }
+}
+
+/// Enables each feature that the node of a root lists.
+fn enable_listed<'a>(
+    alloc: Global,
+    lookup: &Lookup<'a>,
+    setting: &Setting,
+    node: KeptNode<'a>,
+    found: &mut Found<'a>,
+) -> Result<(), Error>
+    requires lookup { IsLookup lookup.now }
+    requires node { NodeAt (resolved_view lookup.now) (id_of node.id.now) node.place }
+    requires sound { IsSound (resolved_view lookup.now) setting.now found.old }
+    requires kept { HasFound (resolved_view lookup.now) found.old (Crate (id_of node.id.now)) }
+    requires may { (f : Text) → ListsFeature (resolved_view lookup.now) (id_of node.id.now) f → Derivable (questions (resolved_view lookup.now) setting.now) (Feature (id_of node.id.now) f) }
+    ensures advanced { OnOk result (Advances (resolved_view lookup.now) setting.now found.old found.new) }
+    ensures enabled { OnOk result ((f : Text) → ListsFeature (resolved_view lookup.now) (id_of node.entry.id.now) f → HasFound (resolved_view lookup.now) found.new (Feature (id_of node.entry.id.now) f)) }
+    ensures refused { IfErr result (IsUnselected (questions (resolved_view lookup.now) setting.now)) }
+{
+    for name in &lookup.resolve.nodes[node.place].features {
+        enable(alloc, lookup, setting, node, name.as_str(), found)?;
+    }
+    Ok(())
 }

@@ -1,49 +1,71 @@
 //! All that is kept of a document.
 
-ghost use Rattle.std.specs.Prelude.{◌<◌, ◌↔◌, All, IfOk, IfErr, length};
+ghost use Rattle.std.specs.Prelude.{◌↔◌, IfErr, IfOk};
 ghost use Rattle.krates_resolve.specs.Derivation.{Derivable};
 ghost use Rattle.krates_resolve.specs.Facts.{Fact};
-ghost use Rattle.krates_resolve.specs.Found.{IsFoundIn};
+ghost use Rattle.krates_resolve.specs.Found.{HasFound, IsSound};
 ghost use Rattle.krates_resolve.specs.Lookup.{IsLookup, resolved_view};
 ghost use Rattle.krates_resolve.specs.Questions.{questions};
-ghost use Rattle.krates_resolve.specs.Selection.{IsPlaced};
+ghost use Rattle.krates_resolve.specs.Saturation.{AreDone, TakesNext};
 ghost use Rattle.krates_resolve.specs.SelectionRefusals.{IsUnselected};
 
 use crate::expansion::expand;
 use crate::found::Found;
+use crate::heeding::heed;
+use crate::links::links_of;
 use crate::lookup::Lookup;
 use crate::roots::put_roots;
-use crate::selection::KeptEdge;
 use crate::setting::Setting;
 use krates_graph::agenda::Agenda;
 use krates_ids::Error;
 use std::alloc::Global;
 
-/// The places of the nodes of all kept crates, and all kept edges, each in the order in which they were found.
+/// All that is kept of a document: exactly what has a derivation from the roots by the rules.
 ///
-/// The roots are put into the agenda. Each crate that is taken from it is expanded once, which keeps edges and puts the
-/// crates that they lead to, until none is left. Crates are numbered by the places of their nodes.
+/// The roots and their features are put into the agendas. Each crate that is taken is expanded once, and each feature is heeded
+/// once, which keeps edges and puts crates and features, until none is left. Crates are numbered by the places of their nodes,
+/// features by their places in the list of all.
 pub(crate) fn saturate<'a>(
     alloc: Global,
     lookup: &Lookup<'a>,
     setting: &Setting,
-) -> Result<(Vec<usize>, Vec<KeptEdge>), Error>
+) -> Result<Found<'a>, Error>
     requires { IsLookup lookup.now }
-    ensures exact { IfOk result (λ found. (f : Fact) → Derivable (questions (resolved_view lookup.now) setting.now) f ↔ IsFoundIn (resolved_view lookup.now) found.0.items found.1.items f) }
-    ensures within { IfOk result (λ found. All (λ place. place < length (resolved_view lookup.now).graph.nodes) found.0.items) }
-    ensures placed { IfOk result (λ found. All (IsPlaced (resolved_view lookup.now) setting.now) found.1.items) }
+    ensures exact { IfOk result (λ found. (f : Fact) → Derivable (questions (resolved_view lookup.now) setting.now) f ↔ HasFound (resolved_view lookup.now) found f) }
+    ensures sound { IfOk result (λ found. IsSound (resolved_view lookup.now) setting.now found) }
     ensures refused { IfErr result (IsUnselected (questions (resolved_view lookup.now) setting.now)) }
 {
     let mut found = Found {
-        agenda: Agenda::new(alloc, lookup.resolve.nodes.len())?,
+        krates: Agenda::new(alloc, lookup.resolve.nodes.len())?,
+        features: Agenda::new(alloc, lookup.features.listed.len())?,
         edges: Vec::new(alloc),
+        toggled: Vec::new(alloc),
+        links: links_of(alloc, lookup)?,
     };
-    put_roots(lookup, setting, &mut found)?;
-    let mut places = Vec::new(alloc);
-    while let Some(taken) = found.agenda.take() {
-        places.push(taken.number())?;
-        expand(alloc, lookup, setting, taken, &mut found)?;
+    put_roots(alloc, lookup, setting, &mut found)?;
+    while take_next(alloc, lookup, setting, &mut found)? {}
+    Ok(found)
+}
+
+/// Takes the next crate and expands it, or else the next feature and heeds it; whether there was one.
+fn take_next<'a>(
+    alloc: Global,
+    lookup: &Lookup<'a>,
+    setting: &Setting,
+    found: &mut Found<'a>,
+) -> Result<bool, Error>
+    requires lookup { IsLookup lookup.now }
+    requires done { AreDone (resolved_view lookup.now) setting.now found.old }
+    ensures taken { IfOk result (λ more. TakesNext (resolved_view lookup.now) setting.now found.old found.new more) }
+    ensures refused { IfErr result (IsUnselected (questions (resolved_view lookup.now) setting.now)) }
+{
+    if let Some(taken) = found.krates.take() {
+        expand(alloc, lookup, setting, taken, found)?;
+        return Ok(true);
     }
-    let Found { agenda: _, edges } = found;
-    Ok((places, edges))
+    let Some(taken) = found.features.take() else {
+        return Ok(false);
+    };
+    heed(alloc, lookup, setting, taken, found)?;
+    Ok(true)
 }

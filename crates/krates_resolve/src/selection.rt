@@ -1,21 +1,26 @@
 //! The selection of a document under a setting.
 
 ghost use Rattle.std.proofs.Common.{rules};
-ghost use Rattle.std.specs.Prelude.{◌≡◌, ◌<◌, All, IfOk, IfErr, Some, length, map, slice_get};
+ghost use Rattle.std.specs.Prelude.{◌≡◌, ◌↔◌, ◌<◌, All, Contains, IfOk, IfErr, Some, length, map, slice_get};
 ghost use Rattle.std.specs.Cmp.{partial_order_from_own_ties};
 ghost use Rattle.std.specs.Cmp.Rules.{comparing};
 ghost use Rattle.std.specs.Ordering.{as_partial_cmp};
-ghost use Rattle.krates_cm.specs.Document.{metadata_view};
+ghost use Rattle.krates_cm.specs.Document.{Text, metadata_view};
 ghost use Rattle.krates_resolve.specs.Admission.{IsAdmitted};
+ghost use Rattle.krates_resolve.specs.Facts.{Id, Feature};
+ghost use Rattle.krates_resolve.specs.Found.{IsEnabled};
 ghost use Rattle.krates_resolve.specs.Ids.{ids_view};
+ghost use Rattle.krates_resolve.specs.ListedFeatures.{listed_features};
+ghost use Rattle.krates_resolve.specs.Lookup.{IsLookup, resolved_view};
 ghost use Rattle.krates_resolve.specs.Questions.{questions};
 ghost use Rattle.krates_resolve.specs.Resolved.{HasGraphWith, resolved};
-ghost use Rattle.krates_resolve.specs.Selection.{IsSelection};
-ghost use Rattle.krates_resolve.specs.SelectionOrder.{same_place, place_cmp};
+ghost use Rattle.krates_resolve.specs.Selection.{IsSelection, feature_fact};
+ghost use Rattle.krates_resolve.specs.SelectionOrder.{same_place, place_cmp, same_feature, feature_cmp, same_toggled, toggled_cmp};
 ghost use Rattle.krates_resolve.specs.SelectionRefusals.{IsUnselected};
 
+use crate::found::Found;
 use crate::ids::Ids;
-use crate::lookup::lookup_of;
+use crate::lookup::{Lookup, lookup_of};
 use crate::saturation::saturate;
 use crate::setting::Setting;
 use crate::sorted::in_order;
@@ -31,9 +36,9 @@ pub struct Selection {
     pub krates: Vec<Kid>,
     /// The kept edges, in their order, each once.
     pub edges: Vec<KeptEdge>,
-    /// The enabled features, by crate and name. So far no feature is looked at, and there are none.
+    /// The enabled features, by crate and name.
     pub features: Vec<EnabledFeature>,
-    /// The features that another crate's features enable. So far there are none.
+    /// The features that another crate's features enable, by that crate, the crate and the name.
     pub toggled: Vec<ToggledFeature>,
 }
 
@@ -96,17 +101,41 @@ pub fn select(
         unreachable!()
     };
     let lookup = lookup_of(alloc, metadata, resolve, ids)?;
-    let (places, edges) = saturate(alloc, &lookup, setting)?;
-    if places.is_empty() {
+    let found = saturate(alloc, &lookup, setting)?;
+    if found.krates.numbers().is_empty() {
         return Err(Error::NoRootKrates);
     }
-    let krates = in_order(kids_at(alloc, &ids.nodes, &places)?)?;
+    let krates = in_order(kids_at(alloc, &ids.nodes, found.krates.numbers())?)?;
+    let features = in_order(features_at(alloc, &lookup, found.features.numbers())?)?;
+    let Found { edges, toggled, .. } = found;
     Ok(Selection {
         krates,
         edges: in_order(edges)?,
-        features: Vec::new(alloc),
-        toggled: Vec::new(alloc),
+        features,
+        toggled: in_order(toggled)?,
     })
+}
+
+/// The listed features of these numbers.
+fn features_at<'a>(
+    alloc: Global,
+    lookup: &Lookup<'a>,
+    numbers: &[usize],
+) -> Result<Vec<EnabledFeature>, AllocError>
+    requires lookup { IsLookup lookup.now }
+    requires within { All (λ number. number < length (listed_features (resolved_view lookup.now))) numbers.now }
+    ensures { IfOk result (λ list. (i : Id) (f : Text) → IsEnabled (resolved_view lookup.now) numbers.now i f ↔ Contains (map feature_fact list.items) (Feature i f)) }
+{
+    laws::one_reading();
+    let mut list = Vec::new(alloc);
+    for number in numbers {
+        let feature = lookup.features.listed[*number];
+        list.push(EnabledFeature {
+            krate: lookup.ids.nodes[feature.place].clone()?,
+            name: String::from_str(alloc, feature.name)?,
+        })?;
+    }
+    Ok(list)
 }
 
 /// The ids at these places of a list.
@@ -158,6 +187,87 @@ impl PartialOrd for KeptEdge {
     ghost laws = { partial_order_from_own_ties (Prim.search (comparing, rules) depth 9) (Prim.search (comparing, rules) depth 9) };
 
     fn partial_cmp(&self, other: &KeptEdge) -> Option<Ordering> {
+        Some(self.cmp(other))
+    }
+}
+
+impl PartialEq for EnabledFeature {
+    ghost eq = { same_feature };
+
+    ghost laws = { Prim.search (comparing, rules) depth 9 };
+
+    fn eq(&self, other: &EnabledFeature) -> bool {
+        self.krate == other.krate && self.name == other.name
+    }
+}
+
+impl Eq for EnabledFeature {
+    ghost laws = { Prim.search (comparing, rules) depth 9 };
+}
+
+impl Ord for EnabledFeature {
+    ghost cmp = { feature_cmp };
+
+    ghost total = { Prim.search (comparing, rules) depth 9 };
+
+    ghost matches_partial_cmp = { Prim.search (comparing, rules) depth 9 };
+
+    ghost matches_eq = { Prim.search (comparing, rules) depth 9 };
+
+    fn cmp(&self, other: &EnabledFeature) -> Ordering {
+        self.krate
+            .cmp(&other.krate)
+            .then(self.name.cmp(&other.name))
+    }
+}
+
+impl PartialOrd for EnabledFeature {
+    ghost partial_cmp = { as_partial_cmp feature_cmp };
+
+    ghost laws = { partial_order_from_own_ties (Prim.search (comparing, rules) depth 9) (Prim.search (comparing, rules) depth 9) };
+
+    fn partial_cmp(&self, other: &EnabledFeature) -> Option<Ordering> {
+        Some(self.cmp(other))
+    }
+}
+
+impl PartialEq for ToggledFeature {
+    ghost eq = { same_toggled };
+
+    ghost laws = { Prim.search (comparing, rules) depth 9 };
+
+    fn eq(&self, other: &ToggledFeature) -> bool {
+        self.by == other.by && self.krate == other.krate && self.name == other.name
+    }
+}
+
+impl Eq for ToggledFeature {
+    ghost laws = { Prim.search (comparing, rules) depth 9 };
+}
+
+impl Ord for ToggledFeature {
+    ghost cmp = { toggled_cmp };
+
+    ghost total = { Prim.search (comparing, rules) depth 9 };
+
+    ghost matches_partial_cmp = { Prim.search (comparing, rules) depth 9 };
+
+    ghost matches_eq = { Prim.search (comparing, rules) depth 9 };
+
+    fn cmp(&self, other: &ToggledFeature) -> Ordering {
+        self.by
+            .cmp(&other.by)
+            .then(self.krate.cmp(&other.krate))
+            .then(self.name.cmp(&other.name))
+    }
+}
+
+impl PartialOrd for ToggledFeature {
+    ghost partial_cmp = { as_partial_cmp toggled_cmp };
+
+    ghost laws = { partial_order_from_own_ties (Prim.search (comparing, rules) depth 9) (Prim.search (comparing, rules) depth 9) };
+
+    fn partial_cmp(&self, other: &ToggledFeature) -> Option<Ordering> {
         Some(self.cmp(other))
     }
 }

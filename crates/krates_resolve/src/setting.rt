@@ -107,8 +107,8 @@ impl Setting {
         self.manifests.append(&mut manifests)
     }
 
-    /// Whether a specification fits the package.
-    pub(crate) fn excludes(&self, pkg: &Package) -> bool
+    /// Whether the package is left out: one of the specifications fits it (Cargo Book, "Package ID Specifications").
+    pub fn excludes(&self, pkg: &Package) -> bool
         ensures { IsTrue result ↔ IsExcluded self.now (package_view pkg.now) }
     {
         for spec in &self.exclusions {
@@ -120,14 +120,21 @@ impl Setting {
     }
 
     /// Whether dependencies for this purpose are ignored, where a member of the workspace has them, or another crate.
-    pub(crate) fn ignores(&self, kind: DependencyKind, is_member: bool) -> bool
+    pub fn ignores(&self, kind: DependencyKind, is_member: bool) -> bool
         ensures { result ≡ ignores self.now.ignored (kind_of kind) is_member }
     {
         self.ignored.has(DepKind::from(kind), is_member)
     }
 
-    /// Whether a target text passes.
-    pub(crate) fn passes(&self, alloc: Global, cfg: &Option<String>) -> Result<bool, AllocError>
+    /// Whether a dependency with this target text passes: the text that stands behind `target` in a manifest
+    /// (Cargo Book, "Platform specific dependencies").
+    ///
+    /// A dependency without a text always passes. A text that is a cfg expression passes where one single target that is
+    /// set, with its features, makes the whole of it true, and any other text where it is the triple of one of them. Where
+    /// no target is set, every text passes but an expression that asks nothing and is false, as `cfg(any())`.
+    ///
+    /// The only error is want of memory.
+    pub fn passes(&self, alloc: Global, cfg: &Option<String>) -> Result<bool, AllocError>
         ensures { IfOk result (λ b. IsTrue b ↔ Passes self.now (option_map text_view cfg.now)) }
     {
         match cfg {

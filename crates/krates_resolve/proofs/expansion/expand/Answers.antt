@@ -1,61 +1,62 @@
-use Rattle.std.proofs.Common.{◌≡◌, ℕ, ◌<◌, List, get_or, map, sym, ap, ◌∙◌, subst, arith}
-use Rattle.std.specs.List.{slice_get}
-use Rattle.krates_cm.specs.Document.{NodeDepModel, node_dep_view}
-use Rattle.krates_resolve.specs.Found.{IsExpanded}
+use Rattle.std.proofs.Common.{◌≡◌, ℕ, map, option_map, Contains, sym, ap, ◌∙◌, subst, arith}
+use Rattle.std.proofs.lemmas.Option.{slice_get-map}
+use Rattle.krates_cm.specs.Document.{node_dep_view}
+use Rattle.krates_ids.specs.Identity.{Identity}
+use Rattle.krates_resolve.specs.Derivation.{Derivable}
+use Rattle.krates_resolve.specs.Facts.{Crate}
+use Rattle.krates_resolve.specs.Found.{AreTried, HasFound, IsExpanded, IsRequired}
 use Rattle.krates_resolve.specs.Lookup.{NodeAt, resolved_view}
+use Rattle.krates_resolve.specs.NodeEntry.{child_of, edge_for}
+use Rattle.krates_resolve.specs.Questions.{questions}
 use Rattle.krates_resolve.specs.Resolved.{id_of}
-use Rattle.krates_resolve.proofs.Growth.{advances_refl, advances_trans, one_id}
-use Rattle.krates_resolve.proofs.NodeParts.{deps_long, dep_seen, id_seen, has_dep_here, tried_more, tried_whole, expanded_here}
+use Rattle.krates_resolve.proofs.Entries.{crate_may_try}
+use Rattle.krates_resolve.proofs.Growing.{advances_trans}
+use Rattle.krates_resolve.proofs.Growth.{one_id}
+use Rattle.krates_resolve.proofs.NodeParts.{deps_long, entry_here, tried_more, tried_whole, expanded_here}
 use Rattle.krates_resolve.proofs.expansion.expand.Goals as goal
 
-pub loop-index-init : goal.loop-index-init
-loop-index-init c = (advances_refl (resolved_view c.args.lookup.now) c.args.setting.now c.args.found.now c.requires.sound, λ k d i lt. absurd (omega (arith, lt)))
-
-pub bounds-parts-index : goal.bounds-parts-index
-bounds-parts-index c =
-    let parts = c.parts_of-parts.result in
-    subst (λ (n : ℕ). c.loop-index.index < n) (deps_long (resolved_view c.args.lookup.now) c.number.result parts c.parts_of-parts.ensures) c.loop-index-test.true
+pub entry_at-entry-requires-clause-lengths : goal.entry_at-entry-requires-clause-lengths
+entry_at-entry-requires-clause-lengths c = sym (deps_long (resolved_view c.args.lookup.now) c.number.result c.parts_of-parts.result c.parts_of-parts.ensures)
 
 pub expand_entry-requires-clause-entry : goal.expand_entry-requires-clause-entry
 expand_entry-requires-clause-entry c =
-    let p = c.parts_of-parts.ensures in
-    let parts = c.parts_of-parts.result in
-    let k = c.loop-index.index in
-    let d = get_or parts.deps.now k c.index-parts-index.result in
-    let below = subst (λ (n : ℕ). k < n) (deps_long (resolved_view c.args.lookup.now) c.number.result parts p) c.loop-index-test.true in
-    let dep = ap (λ (ds : List NodeDepModel). slice_get ds k) p.deps ∙ dep_seen parts.deps.now k c.index-parts-index.result below in
-    let child = id_seen parts.children.now k c.child-item.result c.loop-index-test.true c.child-item.is in
-    record {
-      node = p.at.node;
-      has_node = p.has_node;
-      has_dep = has_dep_here p.at.node parts.children.now k (node_dep_view d) c.child-item.result p.children dep child;
-      declares = p.declares;
-      tells = p.tells;
-    }
+    (entry_here (resolved_view c.args.lookup.now) c.number.result c.parts_of-parts.result c.loop-index.index c.entry_at-entry.result c.parts_of-parts.ensures c.entry_at-entry.ensures).0
 
-pub expand_entry-requires-clause-sound : goal.expand_entry-requires-clause-sound
-expand_entry-requires-clause-sound c = c.loop-index.invariant.0.sound
+pub expand_entry-requires-clause-version : goal.expand_entry-requires-clause-version
+expand_entry-requires-clause-version c =
+    (entry_here (resolved_view c.args.lookup.now) c.number.result c.parts_of-parts.result c.loop-index.index c.entry_at-entry.result c.parts_of-parts.ensures c.entry_at-entry.ensures).1
+
+pub expand_entry-requires-clause-may : goal.expand_entry-requires-clause-may
+expand_entry-requires-clause-may c k =
+    let r = resolved_view c.args.lookup.now in
+    let s = c.args.setting.now in
+    let parent = c.parts_of-parts.result.parent.now in
+    let put = c.args.found.now.krates.put in
+    let kept : HasFound r c.args.found.now (Crate (id_of parent)) = record {
+      place = c.number.result;
+      among = subst (λ (n : ℕ). Contains put n) (sym c.number.ensures) c.requires.put;
+      node = c.parts_of-parts.ensures.at;
+    } in
+    crate_may_try r s (edge_for c.entry_at-entry.result k)
+    (subst (λ (i : Identity). Derivable (questions r s) (Crate (id_of i))) (sym c.entry_at-entry.ensures.parent) (c.requires.sound.derivable (Crate (id_of parent)) kept))
 
 pub loop-index-preserved : goal.loop-index-preserved
 loop-index-preserved c =
     let r = resolved_view c.args.lookup.now in
     let s = c.args.setting.now in
-    let p = c.parts_of-parts.ensures in
     let parts = c.parts_of-parts.result in
+    let entry = c.entry_at-entry.result in
     let x = c.loop-index.found in
     let y = c.expand_entry.new.found in
     let k = c.loop-index.index in
-    let d = get_or parts.deps.now k c.index-parts-index.result in
-    let below = subst (λ (n : ℕ). k < n) (deps_long r c.number.result parts p) c.loop-index-test.true in
-    let dep = dep_seen parts.deps.now k c.index-parts-index.result below in
-    let child = id_seen parts.children.now k c.child-item.result c.loop-index-test.true c.child-item.is in
-    let step = c.in_ok-expand_entry.ensures in (
+    let d = node_dep_view entry.dep.now in
+    let e = c.entry_at-entry.ensures in
+    let dep = slice_get-map node_dep_view parts.deps.now k ∙ ap (option_map node_dep_view) e.dep in
+    let step = c.in_ok-expand_entry.ensures in
+    let tried = subst (λ (i : Identity). AreTried r s y (id_of i) (child_of entry) d IsRequired) e.parent step.tried in (
       advances_trans r s c.args.found.now x y c.loop-index.invariant.0 step.advanced,
-      tried_more r s x y (id_of parts.parent.now) (map node_dep_view parts.deps.now) parts.children.now k (node_dep_view d) c.child-item.result step.advanced.grows dep child c.loop-index.invariant.1 step.tried,
+      tried_more r s x y (id_of parts.parent.now) (map node_dep_view parts.deps.now) parts.children.now k d entry.child.now step.advanced.grows dep e.child c.loop-index.invariant.1 tried,
     )
-
-pub returns-clause-advanced : goal.returns-clause-advanced
-returns-clause-advanced c = c.loop-index.invariant.0
 
 pub returns-clause-expanded : goal.returns-clause-expanded
 returns-clause-expanded c krate at =

@@ -10,4 +10,4 @@ use Rattle.krates_resolve.proofs.expansion.expand.Given as goal
 abbrev pub invariant-loop-index : goal.invariant-loop-index
 invariant-loop-index l =
     Advances (resolved_view l.lookup) l.setting l.fn.found l.found
-    × TriedBelow (resolved_view l.lookup) l.setting l.found (id_of l.parts.parent.now) (map node_dep_view l.parts.deps.now) l.child-items l.index
+    × TriedBelow (resolved_view l.lookup) l.setting l.found (id_of l.parts.parent.now) (map node_dep_view l.parts.deps.now) l.parts.children.now l.index

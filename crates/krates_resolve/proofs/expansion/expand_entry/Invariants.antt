@@ -1,6 +1,6 @@
 use Rattle.krates_cm.specs.Document.{dep_kind_info_view}
 use Rattle.krates_cm.specs.declared.resolve.DepKindInfo.{DepKindInfo}
-use Rattle.krates_resolve.specs.Found.{Advances, IsTried}
+use Rattle.krates_resolve.specs.Found.{Advances, IsTried, TakenWhen}
 use Rattle.krates_resolve.specs.Lookup.{resolved_view}
 use Rattle.krates_resolve.specs.NodeEntry.{edge_for}
 use Rattle.krates_resolve.proofs.Seen.{SeenBelow}
@@ -10,4 +10,4 @@ use Rattle.krates_resolve.proofs.expansion.expand_entry.Given as goal
 abbrev pub invariant-loop-info : goal.invariant-loop-info
 invariant-loop-info l =
     Advances (resolved_view l.lookup) l.setting l.fn.found l.found
-    × SeenBelow (λ (info : DepKindInfo). IsTried (resolved_view l.lookup) l.setting l.found (edge_for l.entry (dep_kind_info_view info))) l.info-items l.info-index
+    × SeenBelow (λ (info : DepKindInfo). IsTried (resolved_view l.lookup) l.setting l.found (edge_for l.entry (dep_kind_info_view info)) (TakenWhen l.asked)) l.info-items l.info-index

@@ -1,8 +1,6 @@
-use Rattle.std.proofs.Common.{List, subst}
-use Rattle.krates_cm.specs.Document.{Text, package_view}
+use Rattle.krates_cm.specs.Document.{package_view}
 use Rattle.krates_resolve.specs.Lookup.{resolved_view}
 use Rattle.krates_resolve.specs.Resolved.{id_of}
-use Rattle.krates_resolve.specs.RootChoice.{HasOneOf}
 use Rattle.krates_resolve.proofs.RootLemmas.{manifest_here}
 use Rattle.krates_resolve.proofs.roots.has_manifest.Goals as goal
 

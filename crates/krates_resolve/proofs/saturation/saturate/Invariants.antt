@@ -1,14 +1,10 @@
-use Rattle.std.proofs.Common.{◌-◌}
-use Rattle.krates_resolve.specs.Found.{IsSound, HasRoots, AreExpanded}
 use Rattle.krates_resolve.specs.Lookup.{resolved_view}
-use Rattle.krates_resolve.proofs.Saturated.{AreTaken}
+use Rattle.krates_resolve.specs.Saturation.{AreDone, left_in}
 use Rattle.krates_resolve.proofs.saturation.saturate.Given as goal
 
--- what was found is right and has the roots, and each crate that was taken has been expanded
-abbrev pub invariant-loop-taken : goal.invariant-loop-taken
-invariant-loop-taken l =
-    IsSound (resolved_view l.lookup) l.setting l.found × HasRoots (resolved_view l.lookup) l.setting l.found × AreExpanded (resolved_view l.lookup) l.setting l.found l.found.agenda.taken
-    × AreTaken l.places.items l.found.agenda
+-- what was found is right and has the roots, and what was taken has been expanded and heeded
+abbrev pub invariant-loop-found : goal.invariant-loop-found
+invariant-loop-found l = AreDone (resolved_view l.lookup) l.setting l.found
 
-abbrev pub decreases-loop-taken : goal.decreases-loop-taken
-decreases-loop-taken l = l.found.agenda.size - l.found.agenda.taken
+abbrev pub decreases-loop-found : goal.decreases-loop-found
+decreases-loop-found l = left_in l.found

@@ -1,4 +1,4 @@
-use Rattle.std.proofs.Common.{sym, subst, arith, ap}
+use Rattle.std.proofs.Common.{sym, subst, arith}
 use Rattle.krates_cm.specs.Document.{package_view}
 use Rattle.krates_ids.specs.PackageSpecification.{SpecFits}
 use Rattle.krates_ids.specs.SpecificationAnswers.{spec_view}

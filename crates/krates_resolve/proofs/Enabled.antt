@@ -1,0 +1,22 @@
+-- What stands in what has been found, once a listed feature is enabled or toggled there.
+use Rattle.std.proofs.Common.{Contains, subst}
+use Rattle.krates_cm.specs.Document.{Text, NodeModel}
+use Rattle.krates_resolve.specs.Admission.{NoneDoubled}
+use Rattle.krates_resolve.specs.Facts.{Id, Feature, Toggled}
+use Rattle.krates_resolve.specs.Features.{ListsFeature, LacksFeature}
+use Rattle.krates_resolve.specs.Found.{HasFound, IsNamedIn, IsToggledIn}
+use Rattle.krates_resolve.specs.Resolved.{Resolved}
+use Rattle.krates_resolve.specs.declared.found.Found.{Found}
+use Rattle.krates_resolve.proofs.OnlyOne.{one_node}
+
+-- what is listed isn't lacking
+pub not_lacking : (r : Resolved) (i : Id) (f : Text) → NoneDoubled r.metadata r.graph → ListsFeature r i f → LacksFeature r i f → ⊥
+not_lacking r i f none lists lacks = lacks.not_among (subst (λ (n : NodeModel). Contains n.features f) (one_node r i lists.node lacks.node none lists.has_node lacks.has_node) lists.among)
+
+-- it is named in what has been found, where it is found
+pub named_here : (r : Resolved) (x : Found) (i : Id) (f : Text) → NoneDoubled r.metadata r.graph → ListsFeature r i f → HasFound r x (Feature i f) → IsNamedIn r x i f
+named_here r x i f none lists found = record { enabled = λ h. found; listed = λ h. not_lacking r i f none lists h }
+
+-- it is toggled in what has been found, where it is found
+pub toggled_here : (r : Resolved) (x : Found) (p c : Id) (f : Text) → NoneDoubled r.metadata r.graph → ListsFeature r c f → HasFound r x (Toggled p c f) → IsToggledIn r x p c f
+toggled_here r x p c f none lists found = record { toggled = λ h. found; listed = λ h. not_lacking r c f none lists h }

@@ -1,0 +1,305 @@
+-- What an enabled feature gives by its references, and what it may give.
+use Rattle.std.proofs.Common.{◌≡◌, ◌≢◌, ℕ, suc, ◌+◌, ◌<◌, List, [], ◌∷◌, length, get_or, map, option_map, Some, Contains, Result, Ok, Err, OnOk, String, Global, string_bytes, Ordering, Less, Equal, Greater, inl, inr, refl, sym, ap, ◌∙◌, subst, arith}
+use Rattle.std.proofs.lemmas.Bool.{cases_order}
+use Rattle.std.proofs.lemmas.Cmp.{nat_list_cmp_total, on_total, then_total}
+use Rattle.std.proofs.lemmas.List.{length-map}
+use Rattle.std.proofs.lemmas.List.Elements.{Contains-append_cases}
+use Rattle.std.proofs.lemmas.Map.Lookups.{exact_bytes}
+use Rattle.std.proofs.lemmas.Option.{slice_get-map, slice_get-get_or, slice_get_read, same_Some}
+use Rattle.std.specs.Cmp.{IsTotalOrder}
+use Rattle.std.specs.List.{slice_get}
+use Rattle.std.specs.Ordering.{ordering_then, ordering_reverse}
+use Rattle.krates_cm.specs.Document.{Text, NodeDepModel, NodeModel, node_dep_view, text_view}
+use Rattle.krates_text.specs.FeatureReference.{Reference, weak, strong, simple, IsReference, HasOneReading}
+use Rattle.krates_ids.specs.Identity.{Identity}
+use Rattle.krates_resolve.specs.Admission.{NoneDoubled, dep_texts, doubled_dep}
+use Rattle.krates_resolve.specs.Derivation.{Derivable, follows, Among}
+use Rattle.krates_resolve.specs.Facts.{Id, Edge, Fact, Crate, Feature, Kept}
+use Rattle.krates_resolve.specs.FeatureTable.{listed_view}
+use Rattle.krates_resolve.specs.FeatureValues.{AreValuesOf}
+use Rattle.krates_resolve.specs.Found.{HasFound, IsToggledIn, IsAsked, IsAskedWeakly, IsToggledStrongly, IsWaiting, IsFollowed, IsHeeded, IsValueOfEnabled, IsSound, Advances, AreTried, IsAny, MayTry, MayName, MayToggle}
+use Rattle.krates_resolve.specs.Heeding.{MayAsk, MayWait}
+use Rattle.krates_resolve.specs.Links.{DepAt, IsMarked, Waits, HasWaiter}
+use Rattle.krates_resolve.specs.ListedFeatures.{features_from, listed_features}
+use Rattle.krates_resolve.specs.Lookup.{NodeAt, IsLookup, resolved_view}
+use Rattle.krates_resolve.specs.NodeEntry.{AreParts, IsEntry, parent_of, child_of}
+use Rattle.krates_resolve.specs.Numbering.{FeatureAt}
+use Rattle.krates_resolve.specs.Questions.{questions}
+use Rattle.krates_resolve.specs.Referent.{IsReferent, id_order}
+use Rattle.krates_resolve.specs.Resolved.{Resolved, ReadsAs, NoNode, HasNode, HasDep, id_of}
+use Rattle.krates_resolve.specs.Rules.{Questions, IsAskedFor, feature_crate, named, lost_named, asked, toggled_strongly, lost_asked_package, lost_asked_node, lost_toggled_strongly, toggled_weakly, lost_toggled_weakly}
+use Rattle.krates_resolve.specs.Setting.{SettingModel}
+use Rattle.krates_resolve.specs.declared.features.ListedFeature.{ListedFeature}
+use Rattle.krates_resolve.specs.declared.found.Found.{Found}
+use Rattle.krates_resolve.specs.declared.links.Links.{Links}
+use Rattle.krates_resolve.specs.declared.lookup.Lookup.{Lookup}
+use Rattle.krates_resolve.specs.declared.node_entry.NodeEntry.{NodeEntry}
+use Rattle.krates_resolve.specs.declared.node_entry.NodeParts.{NodeParts}
+use Rattle.krates_resolve.proofs.AdmissionLemmas.{ReadsOnce}
+use Rattle.krates_resolve.proofs.Entries.{one, undeclared_lost}
+use Rattle.krates_resolve.proofs.FirstPlaces.{seen_at}
+use Rattle.krates_resolve.proofs.Growth.{waiter_advances}
+use Rattle.krates_resolve.proofs.Growth.{one_id}
+use Rattle.krates_resolve.proofs.NodeParts.{between_tried, dep_of_child}
+use Rattle.krates_resolve.proofs.OnlyOne.{place_in, one_node_place}
+use Rattle.krates_resolve.proofs.Standings.{contains_at}
+
+-- ---- derivations
+
+-- two premises
+two : (q : Questions) (g h : Fact) → Derivable q g → Derivable q h → (f : Fact) → Among f (g ∷ h ∷ []) → Derivable q f
+two q g h d e f (inl is) = subst (Derivable q) (sym is) d
+two q g h d e f (inr (inl is)) = subst (Derivable q) (sym is) e
+two q g h d e f (inr (inr is)) = absurd is
+
+feature_keeps : (r : Resolved) (s : SettingModel) (i : Id) (f : Text) → Derivable (questions r s) (Feature i f) → Derivable (questions r s) (Crate i)
+feature_keeps r s i f enabled = follows (feature_crate {p = i} {f = f}) (one (questions r s) (Feature i f) enabled)
+
+-- a text is the value of an enabled feature, so its reference is one
+pub value_may : (r : Resolved) (s : SettingModel) (i : Id) (text : Text) (reference : Reference) → IsValueOfEnabled r s i text → IsReference text reference → MayWait r s i reference
+value_may r s i text reference v is = record { feature = v.feature; enabled = v.enabled; refers = v.refers reference is }
+
+pub may_name : (r : Resolved) (s : SettingModel) (i : Id) (g : Text) → MayWait r s i (simple g) → MayName r s i g
+unfolding questions
+may_name r s i g m = record {
+  enabled = λ lists. follows (named {p = i} {f = m.feature} {g = g} m.refers lists) (one (questions r s) (Feature i m.feature) m.enabled);
+  listed = λ lacks. follows (lost_named {p = i} {f = m.feature} {g = g} m.refers lacks) (one (questions r s) (Feature i m.feature) m.enabled);
+}
+
+-- what a reference may give that asks for the edge
+pub asked_may_try : (r : Resolved) (s : SettingModel) (e : Edge) (name : Text) → MayAsk r s e.parent name → IsReferent r e.parent name e.child → MayTry r s e IsAny
+unfolding questions
+asked_may_try r s e name m referent =
+    let f = m.has.feature in
+    let for_it : IsAskedFor (questions r s) f e = record { reference = m.reference; dep = name; refers = m.has.refers; asks = m.asks; referent = referent } in
+    let premise = one (questions r s) (Feature e.parent f) m.has.enabled in
+    record {
+      kept = λ d w any stands. follows (asked {e = e} {f = f} {d = d} for_it (record { wanted = w; stands = stands })) premise;
+      has_package = λ d w any none. follows (lost_asked_package {e = e} {f = f} {d = d} for_it w none) premise;
+      has_node = λ d w any none. follows (lost_asked_node {e = e} {f = f} {d = d} for_it w none) premise;
+      declared = undeclared_lost r s e (feature_keeps r s e.parent f m.has.enabled);
+    }
+
+pub may_toggle_strongly : (r : Resolved) (s : SettingModel) (e : Edge) (name g : Text) → MayWait r s e.parent (strong name g) → IsReferent r e.parent name e.child → Derivable (questions r s) (Kept e) → MayToggle r s e.parent e.child g
+unfolding questions
+may_toggle_strongly r s e name g m referent kept =
+    let premises = two (questions r s) (Feature e.parent m.feature) (Kept e) m.enabled kept in
+    record {
+      toggled = λ lists. follows (toggled_strongly {e = e} {f = m.feature} {g = g} {c = name} m.refers referent lists) premises;
+      listed = λ lacks. follows (lost_toggled_strongly {e = e} {f = m.feature} {g = g} {c = name} m.refers referent lacks) premises;
+    }
+
+pub may_toggle_weakly : (r : Resolved) (s : SettingModel) (e : Edge) (name g : Text) → MayWait r s e.parent (weak name g) → IsReferent r e.parent name e.child → Derivable (questions r s) (Kept e) → MayToggle r s e.parent e.child g
+unfolding questions
+may_toggle_weakly r s e name g m referent kept =
+    let premises = two (questions r s) (Feature e.parent m.feature) (Kept e) m.enabled kept in
+    record {
+      toggled = λ lists. follows (toggled_weakly {e = e} {f = m.feature} {g = g} {c = name} m.refers referent lists) premises;
+      listed = λ lacks. follows (lost_toggled_weakly {e = e} {f = m.feature} {g = g} {c = name} m.refers referent lacks) premises;
+    }
+
+-- ---- a name means one dependency
+
+id_order_total : IsTotalOrder id_order
+id_order_total = then_total (on_total (λ (i : Id). i.name) nat_list_cmp_total) (then_total (on_total (λ (i : Id). i.version) nat_list_cmp_total) (on_total (λ (i : Id). i.source) nat_list_cmp_total))
+
+both_equal : (a b : Ordering) → ordering_then a b ≡ Equal → (a ≡ Equal) × (b ≡ Equal)
+both_equal Less b h = absurd cc
+both_equal Equal b h = (refl, h)
+both_equal Greater b h = absurd cc
+
+neither_greater : (a b : Ordering) → a ≡ ordering_reverse b → a ≢ Greater → b ≢ Greater → a ≡ Equal
+neither_greater a Less is not_a not_b = absurd (not_a is)
+neither_greater a Equal is not_a not_b = is
+neither_greater a Greater is not_a not_b = absurd (not_b refl)
+
+equal_id : (a b : Id) → id_order a b ≡ Equal → a ≡ b
+equal_id a b h =
+    let w = both_equal _ _ h in
+    let v = both_equal _ _ w.1 in
+    rw (exact_bytes a.name b.name w.0, exact_bytes a.version b.version v.0, exact_bytes a.source b.source v.1) refl
+
+pub one_referent : (r : Resolved) (i : Id) (name : Text) (a b : Id) → IsReferent r i name a → IsReferent r i name b → a ≡ b
+one_referent r i name a b x y = equal_id a b (neither_greater (id_order a b) (id_order b a) (id_order_total.antisymm a b) (x.least b y.is_named) (y.least a x.is_named))
+
+-- ---- a dependency stands at one place, and one stands there
+
+one_read : ReadsOnce → (t : Text) (i j : Id) → ReadsAs t i → ReadsAs t j → i ≡ j
+one_read once t i j a b = sym a.same ∙ ap id_of (once t a.read b.read a.reads b.reads) ∙ b.same
+
+same_node : (r : Resolved) (i j : Id) (k l : ℕ) (a : NodeAt r i k) (b : NodeAt r j l) → k ≡ l → a.node ≡ b.node
+same_node r i j k l a b e = same_Some a.node b.node (sym a.at ∙ ap (λ n. slice_get r.graph.nodes n) e ∙ b.at)
+
+-- the two crates of the dependency at a place
+pub one_link : ReadsOnce → (r : Resolved) (p q c d : Id) (place index : ℕ) → DepAt r p c place index → DepAt r q d place index → (p ≡ q) × (c ≡ d)
+one_link once r p q c d place index a b =
+    let node = same_node r p q place place a.node b.node refl in
+    let dep : a.dep ≡ b.dep = same_Some a.dep b.dep (sym a.at ∙ ap (λ (n : NodeModel). slice_get n.deps index) node ∙ b.at) in
+    (one_id once r p q place a.node b.node, one_read once b.dep.pkg c d (subst (λ (m : NodeDepModel). ReadsAs m.pkg c) dep a.id) b.id)
+
+text_at : (n : NodeModel) (k : ℕ) (d : NodeDepModel) → slice_get n.deps k ≡ Some d → slice_get (dep_texts n) k ≡ Some d.pkg
+text_at n k d at = slice_get-map (λ (d : NodeDepModel). d.pkg) n.deps k ∙ ap (λ o. option_map (λ (d : NodeDepModel). d.pkg) o) at
+
+-- and its place
+pub one_dep_place : (r : Resolved) (p c : Id) (i j k l : ℕ) → NoneDoubled r.metadata r.graph → DepAt r p c i k → DepAt r p c j l → (i ≡ j) × (k ≡ l)
+one_dep_place r p c i j k l none a b =
+    let place = one_node_place r p i j none a.node b.node in
+    let n = a.node.node in
+    let same = same_node r p p i j a.node b.node place in
+    let there : slice_get n.deps l ≡ Some b.dep = ap (λ (m : NodeModel). slice_get m.deps l) same ∙ b.at in
+    let among = contains_at r.graph.nodes i n a.node.at in (
+      place,
+      elim (cases_order k l) [
+        | inl e ↦ e
+        | inr o ↦ elim o [
+          | inl lt ↦ absurd (none c (doubled_dep n among (record { first = k; second = l; apart = lt; one = a.dep.pkg; other = b.dep.pkg; at_first = text_at n k a.dep a.at; at_second = text_at n l b.dep there; one_reads = a.id; other_reads = b.id })))
+          | inr lt ↦ absurd (none c (doubled_dep n among (record { first = l; second = k; apart = lt; one = b.dep.pkg; other = a.dep.pkg; at_first = text_at n l b.dep there; at_second = text_at n k a.dep a.at; one_reads = b.id; other_reads = a.id })))
+        ]
+      ],
+    )
+
+-- the dependency at the place of a child
+pub child_dep : (r : Resolved) (x : NodeParts) (k : ℕ) (d : Identity) → AreParts r x.place x → k < length x.children.now → DepAt r (id_of x.parent.now) (id_of (get_or x.children.now k d)) x.place k
+child_dep r x k d p lt = dep_of_child r x.place x k (get_or x.children.now k d) p (slice_get-get_or x.children.now k d lt)
+
+-- a crate that was found has a node
+pub found_node : (r : Resolved) (x : Found) (i : Id) → HasFound r x (Crate i) → NoNode r i → ⊥
+found_node r x i found none = none found.node.node (record { among = contains_at r.graph.nodes found.place found.node.node found.node.at; id = found.node.id })
+
+-- ---- a dependency that is asked for
+
+-- nothing has that name
+pub none_asked : (r : Resolved) (s : SettingModel) (x : Found) (p : Id) (name : Text) → ((child : Id) → IsReferent r p name child → ⊥) → IsAsked r s x p name
+none_asked r s x p name none e same referent = absurd (none e.child referent)
+
+-- each edge of the entry that the name means has been tried
+pub entry_asked : (r : Resolved) (s : SettingModel) (x : Found) (y : NodeEntry) (p : Id) (name : Text) → NoneDoubled r.metadata r.graph → IsEntry r y → parent_of y ≡ p → IsReferent r p name (child_of y)
+    → AreTried r s x (parent_of y) (child_of y) (node_dep_view y.dep.now) IsAny → IsAsked r s x p name
+entry_asked r s x y p name none at is_parent is tried e same referent =
+    let parent : parent_of y ≡ e.parent = is_parent ∙ sym same in
+    let child : child_of y ≡ e.child = one_referent r p name (child_of y) e.child is referent in
+    let dep = node_dep_view y.dep.now in
+    let has_node = subst (λ (i : Id). HasNode r i at.node) parent at.has_node in
+    let has_dep = subst (λ (i : Id). HasDep at.node i dep) child at.has_dep in
+    let each = subst (λ (i : Id). AreTried r s x e.parent i dep IsAny) child (subst (λ (i : Id). AreTried r s x i (child_of y) dep IsAny) parent tried) in
+    between_tried r s x e at.node dep IsAny none has_node has_dep each
+
+-- ---- a feature that is toggled strongly
+
+pub none_strongly : (r : Resolved) (s : SettingModel) (x : Found) (p : Id) (name g : Text) → ((child : Id) → IsReferent r p name child → ⊥) → IsToggledStrongly r s x p name g
+none_strongly r s x p name g none e d same referent w stands = absurd (none e.child referent)
+
+pub strongly_here : (r : Resolved) (s : SettingModel) (x : Found) (p child : Id) (name g : Text) → IsReferent r p name child → IsToggledIn r x p child g → IsToggledStrongly r s x p name g
+strongly_here r s x p child name g is toggled e d same referent w stands = subst (λ (i : Id). IsToggledIn r x p i g) (one_referent r p name child e.child is referent) toggled
+
+-- where no edge is kept that was asked for, none may be
+pub unmarked_strongly : (r : Resolved) (s : SettingModel) (x : Found) (p child : Id) (name g : Text) (place index : ℕ) → IsSound r s x → IsAsked r s x p name → IsReferent r p name child → DepAt r p child place index
+    → (IsMarked x.links place index → ⊥) → IsToggledStrongly r s x p name g
+unmarked_strongly r s x p child name g place index sound is_asked is dep unmarked e d same referent w stands =
+    let kept = (is_asked e same referent).kept d w tt stands in
+    let of_parent = subst (λ (i : Id). DepAt r i child place index) (sym same) dep in
+    let there = subst (λ (i : Id). DepAt r e.parent i place index) (one_referent r p name child e.child is referent) of_parent in
+    absurd (unmarked (sound.marked e place index kept there))
+
+-- ---- a feature that waits
+
+pub none_waiting : (r : Resolved) (x : Found) (p : Id) (name g : Text) → ((child : Id) → IsReferent r p name child → ⊥) → IsWaiting r x p name g
+none_waiting r x p name g none child place index referent dep = absurd (none child referent)
+
+pub waiting_here : (r : Resolved) (x : Found) (p child : Id) (name g : Text) (place index : ℕ) → NoneDoubled r.metadata r.graph → IsReferent r p name child → DepAt r p child place index → Waits x.links place index g → IsWaiting r x p name g
+waiting_here r x p child name g place index none is dep waits other i k referent there =
+    let same = one_referent r p name other child referent is in
+    let at = one_dep_place r p child place i index k none dep (subst (λ (c : Id). DepAt r p c i k) same there) in
+    subst (λ (n : ℕ). Waits x.links n k g) at.0 (subst (λ (n : ℕ). Waits x.links place n g) at.1 waits)
+
+-- what was found, with other links
+abbrev pub with_links : Found → Links → Found
+with_links x links = record { krates = x.krates; features = x.features; edges = x.edges; toggled = x.toggled; links = links }
+
+moved : (P : Id → Id → Text → Type 0) (p q c d : Id) (g : Text) → p ≡ q → c ≡ d → P p c g → P q d g
+moved P p q c d g parent child x = subst (λ (i : Id). P i d g) parent (subst (λ (i : Id). P p i g) child x)
+
+-- one more feature waits, which is toggled where an edge is kept already
+pub wait_advances : ReadsOnce → (r : Resolved) (s : SettingModel) (x : Found) (links : Links) (p child : Id) (place index : ℕ) (g : Text) → IsSound r s x → HasWaiter x.links links place index g → DepAt r p child place index
+    → IsAskedWeakly r s p child g → (IsMarked x.links place index → IsToggledIn r x p child g) → Advances r s x (with_links x links)
+wait_advances once r s x links p child place index g sound w dep weakly toggled =
+    waiter_advances r s x links place index g sound w
+    (λ q c there. let same = one_link once r p q child c place index dep there in moved (IsAskedWeakly r s) p q child c g same.0 same.1 weakly)
+    (λ q c there marked. let same = one_link once r p q child c place index dep there in moved (IsToggledIn r x) p q child c g same.0 same.1 (toggled marked))
+
+-- what stands before a feature waits: it is toggled where an edge is kept already
+pub record IsReady (r : Resolved) (s : SettingModel) (x y : Found) (p child : Id) (place index : ℕ) (g : Text) : Type 0 where
+  pub advances : Advances r s x y
+  pub toggled : IsMarked y.links place index → IsToggledIn r y p child g
+
+pub asked_weakly : (r : Resolved) (s : SettingModel) (p child : Id) (name g : Text) → MayWait r s p (weak name g) → IsReferent r p name child → IsAskedWeakly r s p child g
+asked_weakly r s p child name g m is = record { feature = m.feature; enabled = m.enabled; name = name; refers = m.refers; referent = is }
+
+-- ---- a text is one reference
+
+-- what follows from two clauses of a call that went well
+pub on_ok_both : {T E P Q R : Type 0} (result : Result T E) → (P → Q → R) → OnOk result P → OnOk result Q → OnOk result R
+on_ok_both (Ok x) f p q = f p q
+on_ok_both (Err e) f p q = tt
+
+pub followed_by : (r : Resolved) (s : SettingModel) (x : Found) (p : Id) (text : Text) (reference : Reference) → HasOneReading text → IsReference text reference → IsFollowed r s x p reference
+    → (other : Reference) → IsReference text other → IsFollowed r s x p other
+followed_by r s x p text reference reading is followed other there = subst (IsFollowed r s x p) (reading.only reference is ∙ sym (reading.only other there)) followed
+
+-- each value of a feature has been followed, so it has been heeded
+pub heeded_here : (r : Resolved) (s : SettingModel) (x : Found) (p : Id) (f : Text) (values : List Text) → AreValuesOf r p f values
+    → ((text : Text) → Contains values text → (reference : Reference) → IsReference text reference → IsFollowed r s x p reference) → IsHeeded r s x p f
+heeded_here r s x p f values are each reference has = let v = (are reference).0 has in each v.text v.among reference v.is
+
+-- the value at a place is one of the values
+pub value_at : (texts : List (String Global)) (k : ℕ) (text : String Global) → k < length texts → text ≡ get_or texts k text → Contains (map text_view texts) (string_bytes text)
+value_at texts k text lt is = contains_at (map text_view texts) k (string_bytes text) (slice_get-map text_view texts k ∙ ap (option_map text_view) (slice_get_read texts (length texts) k text refl lt is))
+
+-- and so a value of an enabled feature
+pub value_of_enabled : (r : Resolved) (s : SettingModel) (p : Id) (f : Text) (values : List Text) (text : Text) → Derivable (questions r s) (Feature p f) → AreValuesOf r p f values → Contains values text → IsValueOfEnabled r s p text
+value_of_enabled r s p f values text enabled are among = record { feature = f; enabled = enabled; refers = λ reference is. (are reference).1 (record { text = text; among = among; is = is }) }
+
+-- ---- listed features
+
+-- each is beside the place of a node
+pub listed_within : (start : ℕ) (ns : List NodeModel) (place : ℕ) (f : Text) → Contains {X = ℕ × Text} (features_from start ns) (place, f) → place < start + length ns
+listed_within start [] place f (k, lt, is) = absurd (omega (arith, lt))
+listed_within start (n ∷ ns) place f among = elim (Contains-append_cases (map (λ g. (start, g)) n.features) (features_from (suc start) ns) (place, f) among) [
+  | inl here ↦ (let same : start ≡ place = beside start n.features place f here in omega arith)
+  | inr there ↦ (let lt : place < suc start + length ns = listed_within (suc start) ns place f there in omega arith)
+]
+  where
+    beside : (start : ℕ) (fs : List Text) (place : ℕ) (f : Text) → Contains {X = ℕ × Text} (map (λ g. (start, g)) fs) (place, f) → start ≡ place
+    beside start fs place f c =
+        let pair : Text → ℕ × Text = λ g. (start, g) in
+        let at = place_in (map pair fs) (place, f) c in
+        let there = seen_at pair fs at.0 (place, f) at.1 in
+        ap (λ (w : ℕ × Text). w.0) there.2
+
+-- the listed feature of a number, as the code finds it
+pub listed_at : (d : Lookup) (number : ℕ) (x : ListedFeature) → IsLookup d → number < length (listed_features (resolved_view d)) → x ≡ get_or d.features.listed.items number x
+    → slice_get (listed_features (resolved_view d)) number ≡ Some (x.place, x.name.now)
+listed_at d number x h lt is =
+    let ls = d.features.listed.items in
+    let long = ap length (sym h.features) ∙ length-map ls listed_view in
+    sym (ap (λ (all : List (ℕ × Text)). slice_get all number) h.features) ∙ slice_get-map listed_view ls number ∙ ap (option_map listed_view) (slice_get_read ls (length ls) number x refl (subst (λ (n : ℕ). number < n) long lt) is)
+
+-- it stands beside the place of a node
+pub listed_place : (r : Resolved) (number place : ℕ) (f : Text) → slice_get (listed_features r) number ≡ Some (place, f) → place < length r.graph.nodes
+listed_place r number place f at = let lt = listed_within 0 r.graph.nodes place f (contains_at (listed_features r) number (place, f) at) in omega (arith, lt)
+
+-- that of a number that is taken
+pub listed_here : (d : Lookup) (s : SettingModel) (x : Found) (taken number : ℕ) (feature : ListedFeature) → IsLookup d → IsSound (resolved_view d) s x → taken < x.features.size → number ≡ taken
+    → feature ≡ get_or d.features.listed.items number feature → slice_get (listed_features (resolved_view d)) number ≡ Some (feature.place, feature.name.now)
+listed_here d s x taken number feature h sound lt same is = listed_at d number feature h (omega (arith, lt, same, sound.features_size)) is
+
+-- and it was found
+pub listed_found : (r : Resolved) (x : Found) (taken number : ℕ) (i : Id) (place : ℕ) (f : Text) → Contains x.features.put taken → number ≡ taken → slice_get (listed_features r) number ≡ Some (place, f) → NodeAt r i place
+    → HasFound r x (Feature i f)
+listed_found r x taken number i place f put same at node = record { number = number; among = subst (λ (n : ℕ). Contains x.features.put n) (sym same) put; at = record { place = place; at = at; node = node } }
+
+-- the feature of a number is one of one crate
+pub one_feature : ReadsOnce → (r : Resolved) (i j : Id) (place number : ℕ) (f g : Text) → NodeAt r i place → slice_get (listed_features r) number ≡ Some (place, f) → FeatureAt r j g number → (i ≡ j) × (f ≡ g)
+one_feature once r i j place number f g node at there =
+    let same = same_Some (place, f) (there.place, g) (sym at ∙ there.at) in
+    (one_id once r i j place node (subst (λ (n : ℕ). NodeAt r j n) (sym (ap (λ (w : ℕ × Text). w.0) same)) there.node), ap (λ (w : ℕ × Text). w.1) same)

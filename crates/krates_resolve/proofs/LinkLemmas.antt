@@ -1,0 +1,246 @@
+-- One link of all is changed, and what that does to marks and to features that wait.
+use Rattle.std.proofs.Common.{◌≡◌, ◌↔◌, ◌⊎◌, ℕ, zero, suc, ◌<◌, List, [], ◌∷◌, ◌++◌, length, map, get_or, set, true, Some, Vec, Global, Bor, Contains, refl, sym, ap, ◌∙◌, subst, inl, inr, arith}
+use Rattle.std.proofs.lemmas.Bool.{cases_order}
+use Rattle.std.proofs.lemmas.List.{length-map, map-append}
+use Rattle.std.proofs.lemmas.List.Elements.{Contains-push, Contains-push_cases, Contains-append_left, All-contains}
+use Rattle.std.proofs.lemmas.Option.{same_Some, slice_get-map, slice_get-get_or, slice_get_within}
+use Rattle.std.specs.List.{slice_get, AllZip}
+use Rattle.std.specs.Option.{option_map}
+use Rattle.std.specs.Vec.{with_item}
+use Rattle.krates_cm.specs.Document.{Text, NodeModel}
+use Rattle.krates_resolve.specs.Links.{LinkAt, Waits, HasLink, HasLinks, IsNewLink, AreNewLinks, AreNew, HasMarked, HasWaiter}
+use Rattle.krates_resolve.specs.Resolved.{Resolved}
+use Rattle.krates_resolve.specs.declared.links.Link.{Link}
+use Rattle.krates_resolve.specs.declared.links.Links.{Links}
+use Rattle.krates_resolve.proofs.AdmissionLemmas.{left_of, right_of}
+use Rattle.krates_resolve.proofs.Standings.{contains_at}
+
+-- ---- lists with one element changed
+
+set_there : {A : Type 0} (xs : List A) (i : ℕ) (x y : A) → slice_get xs i ≡ Some x → slice_get (set xs i y) i ≡ Some y
+set_there [] i x y h = absurd cc
+set_there (z ∷ xs) zero x y h = refl
+set_there (z ∷ xs) (suc i) x y h = set_there xs i x y h
+
+set_other : {A : Type 0} (xs : List A) (i j : ℕ) (y : A) → (j ≡ i → ⊥) → slice_get (set xs i y) j ≡ slice_get xs j
+set_other [] i j y ne = refl
+set_other (z ∷ xs) zero zero y ne = absurd (ne refl)
+set_other (z ∷ xs) zero (suc j) y ne = refl
+set_other (z ∷ xs) (suc i) zero y ne = refl
+set_other (z ∷ xs) (suc i) (suc j) y ne = set_other xs i j y (λ e. ne (ap suc e))
+
+map_set : {A B : Type 0} (f : A → B) (xs : List A) (i : ℕ) (y : A) → map f (set xs i y) ≡ set (map f xs) i (f y)
+map_set f [] i y = refl
+map_set f (z ∷ xs) zero y = refl
+map_set f (z ∷ xs) (suc i) y = ap (λ ys. f z ∷ ys) (map_set f xs i y)
+
+same_or_not : (j k : ℕ) → (j ≡ k) ⊎ (j ≡ k → ⊥)
+same_or_not j k = elim (cases_order j k) [
+  | inl e ↦ inl e
+  | inr r ↦ elim r [ inl lt ↦ inr (λ e. omega (arith, e, lt)) | inr lt ↦ inr (λ e. omega (arith, e, lt)) ]
+]
+
+-- ---- one link is changed
+
+-- this link stands now where that one stood, and nothing else is changed
+pub record IsReplaced (old new : Links) (place index : ℕ) (was is : Link) : Type 0 where
+  pub before : LinkAt old place index was
+  pub after : LinkAt new place index is
+  pub forth : (p i : ℕ) (l : Link) → LinkAt old p i l → LinkAt new p i l ⊎ ((p ≡ place) × (i ≡ index) × (l ≡ was))
+  pub back : (p i : ℕ) (l : Link) → LinkAt new p i l → LinkAt old p i l ⊎ ((p ≡ place) × (i ≡ index) × (l ≡ is))
+
+abbrev rows_of : Links → List (List Link)
+rows_of x = map (λ v. v.items) x.of_nodes.items
+
+-- a link of the rows
+abbrev Row : List (List Link) → ℕ → List Link → Type 0
+Row rows p row = slice_get rows p ≡ Some row
+
+-- the links of other places of the changed rows are those of the old, and so are those of the changed place but one
+from_set : (rows : List (List Link)) (place index : ℕ) (row : List Link) (is : Link) (p i : ℕ) (l : Link) (there : List Link) → Row rows place row → Row (set rows place (set row index is)) p there → slice_get there i ≡ Some l
+    → ((old : List Link) × Row rows p old × (slice_get old i ≡ Some l)) ⊎ ((p ≡ place) × (i ≡ index))
+from_set rows place index row is p i l there at h here = elim (same_or_not p place) [
+  | inl e ↦ elim (same_or_not i index) [
+    | inl f ↦ inr (e, f)
+    | inr ne ↦ (
+        let now : there ≡ set row index is = same_Some there (set row index is) (sym h ∙ ap (slice_get (set rows place (set row index is))) e ∙ set_there rows place row (set row index is) at) in
+        inl (row, ap (slice_get rows) e ∙ at, sym (set_other row index i is ne) ∙ ap (λ ls. slice_get ls i) (sym now) ∙ here))
+  ]
+  | inr ne ↦ inl (there, sym (set_other rows place p (set row index is) ne) ∙ h, here)
+]
+
+to_set : (rows : List (List Link)) (place index : ℕ) (row : List Link) (is : Link) (p i : ℕ) (l : Link) (there : List Link) → Row rows place row → Row rows p there → slice_get there i ≡ Some l
+    → ((new : List Link) × Row (set rows place (set row index is)) p new × (slice_get new i ≡ Some l)) ⊎ ((p ≡ place) × (i ≡ index))
+to_set rows place index row is p i l there at h here = elim (same_or_not p place) [
+  | inl e ↦ elim (same_or_not i index) [
+    | inl f ↦ inr (e, f)
+    | inr ne ↦ (
+        let now : there ≡ row = same_Some there row (sym h ∙ ap (slice_get rows) e ∙ at) in
+        inl (set row index is, ap (slice_get (set rows place (set row index is))) e ∙ set_there rows place row (set row index is) at, set_other row index i is ne ∙ ap (λ ls. slice_get ls i) (sym now) ∙ here))
+  ]
+  | inr ne ↦ inl (there, set_other rows place p (set row index is) ne ∙ h, here)
+]
+
+-- a place has one link
+pub one_link : (x : Links) (p i : ℕ) (a b : Link) → LinkAt x p i a → LinkAt x p i b → a ≡ b
+one_link x p i a b s t =
+    let row = same_Some s.of_node t.of_node (sym s.at ∙ t.at) in
+    same_Some a b (sym s.here ∙ ap (λ ls. slice_get ls i) row ∙ t.here)
+
+-- what two reads by index give
+pub link_read : (x : Links) (place index : ℕ) (row : Vec Link Global) (was : Link) → HasLink x place index → row ≡ get_or x.of_nodes.items place row → was ≡ get_or row.items index was → LinkAt x place index was
+link_read x place index row was has read there =
+    let h = has.1 in
+    let long = length-map x.of_nodes.items (λ v. v.items) in
+    let lt : place < length x.of_nodes.items = omega (arith, slice_get_within (rows_of x) place h.of_node h.at, long) in
+    let at : slice_get (rows_of x) place ≡ Some row.items =
+    slice_get-map (λ (v : Vec Link Global). v.items) x.of_nodes.items place ∙ ap (option_map (λ (v : Vec Link Global). v.items)) (slice_get-get_or x.of_nodes.items place row lt ∙ ap (λ v. Some v) (sym read)) in
+    let same : h.of_node ≡ row.items = same_Some h.of_node row.items (sym h.at ∙ at) in
+    let within : index < length row.items = subst (λ (ls : List Link). index < length ls) same (slice_get_within h.of_node index has.0 h.here) in
+    record { of_node = row.items; at = at; here = slice_get-get_or row.items index was within ∙ ap (λ l. Some l) (sym there) }
+
+-- the row of a link that was read
+row_read : (x : Links) (place index : ℕ) (row : Vec Link Global) → HasLink x place index → row ≡ get_or x.of_nodes.items place row → Row (rows_of x) place row.items
+row_read x place index row has read =
+    let h = has.1 in
+    let long = length-map x.of_nodes.items (λ v. v.items) in
+    let lt : place < length x.of_nodes.items = omega (arith, slice_get_within (rows_of x) place h.of_node h.at, long) in
+    slice_get-map (λ (v : Vec Link Global). v.items) x.of_nodes.items place ∙ ap (option_map (λ (v : Vec Link Global). v.items)) (slice_get-get_or x.of_nodes.items place row lt ∙ ap (λ v. Some v) (sym read))
+
+-- what a write by two indices does
+pub replaced : (x : Links) (place index : ℕ) (row : Vec Link Global) (was is : Link) → HasLink x place index → row ≡ get_or x.of_nodes.items place row → was ≡ get_or row.items index was
+    → IsReplaced x (record { of_nodes = with_item x.of_nodes place (with_item row index is) }) place index was is
+replaced x place index row was is has read there =
+    let new : Links = record { of_nodes = with_item x.of_nodes place (with_item row index is) } in
+    let before = link_read x place index row was has read there in
+    let at = row_read x place index row has read in
+    let rows : rows_of new ≡ set (rows_of x) place (set row.items index is) = map_set (λ (v : Vec Link Global). v.items) x.of_nodes.items place (with_item row index is) in
+    let mine : slice_get row.items index ≡ Some was = subst (λ (ls : List Link). slice_get ls index ≡ Some was) (same_Some before.of_node row.items (sym before.at ∙ at)) before.here in
+    let after : LinkAt new place index is = record {
+      of_node = set row.items index is;
+      at = ap (λ rs. slice_get rs place) rows ∙ set_there (rows_of x) place row.items (set row.items index is) at;
+      here = set_there row.items index was is mine;
+    } in
+    record {
+      before = before;
+      after = after;
+      forth = λ p i l h. elim (to_set (rows_of x) place index row.items is p i l h.of_node at h.at h.here) [
+        | inl o ↦ inl (record { of_node = o.0; at = ap (λ rs. slice_get rs p) rows ∙ o.1; here = o.2 })
+        | inr e ↦ inr (e.0, e.1, one_link x place index l was (moved x p i l e.0 e.1 h) before)
+      ];
+      back = λ p i l h. elim (from_set (rows_of x) place index row.items is p i l h.of_node at (ap (λ rs. slice_get rs p) (sym rows) ∙ h.at) h.here) [
+        | inl o ↦ inl (record { of_node = o.0; at = o.1; here = o.2 })
+        | inr e ↦ inr (e.0, e.1, one_link new place index l is (moved new p i l e.0 e.1 h) after)
+      ];
+    }
+  where
+    moved : (y : Links) (p i : ℕ) (l : Link) → p ≡ place → i ≡ index → LinkAt y p i l → LinkAt y place index l
+    moved y p i l a b h = subst (λ (n : ℕ). LinkAt y n index l) a (subst (λ (n : ℕ). LinkAt y p n l) b h)
+
+moved_at : (y : Links) (p i place index : ℕ) (l : Link) → p ≡ place → i ≡ index → LinkAt y place index l → LinkAt y p i l
+moved_at y p i place index l a b h = subst (λ (n : ℕ). LinkAt y n i l) (sym a) (subst (λ (n : ℕ). LinkAt y place n l) (sym b) h)
+
+-- ---- it is marked, or one more feature waits
+
+pub marked_now : (x y : Links) (place index : ℕ) (was is : Link) → IsReplaced x y place index was is → is.is_kept ≡ true → is.waiting ≡ was.waiting → HasMarked x y place index
+marked_now x y place index was is h kept same = record {
+  marked = record { link = is; at = h.after; is_kept = kept };
+  stays = λ p i m. elim (h.forth p i m.link m.at) [
+    | inl o ↦ record { link = m.link; at = o; is_kept = m.is_kept }
+    | inr e ↦ record { link = is; at = moved_at y p i place index is e.0 e.1 h.after; is_kept = kept }
+  ];
+  from = λ p i m. elim (h.back p i m.link m.at) [
+    | inl o ↦ inl (record { link = m.link; at = o; is_kept = m.is_kept })
+    | inr e ↦ inr (e.0, e.1)
+  ];
+  waits = λ p i g. (
+    λ w. elim (h.forth p i w.link w.at) [
+      | inl o ↦ record { link = w.link; at = o; among = w.among }
+      | inr e ↦ record { link = is; at = moved_at y p i place index is e.0 e.1 h.after; among = subst (λ (v : Vec (Bor Text) Global). Contains (map (λ t. t.now) v.items) g) (ap (λ (l : Link). l.waiting) e.2 ∙ sym same) w.among }
+    ],
+    λ w. elim (h.back p i w.link w.at) [
+      | inl o ↦ record { link = w.link; at = o; among = w.among }
+      | inr e ↦ record { link = was; at = moved_at x p i place index was e.0 e.1 h.before; among = subst (λ (v : Vec (Bor Text) Global). Contains (map (λ t. t.now) v.items) g) (ap (λ (l : Link). l.waiting) e.2 ∙ same) w.among }
+    ],
+  );
+  links = λ p i l. elim (h.forth p i l.0 l.1) [
+    | inl o ↦ (l.0, o)
+    | inr e ↦ (is, moved_at y p i place index is e.0 e.1 h.after)
+  ];
+}
+
+pub waits_now : (x y : Links) (place index : ℕ) (was is : Link) (name : Bor Text) → IsReplaced x y place index was is → is.is_kept ≡ was.is_kept → is.waiting.items ≡ was.waiting.items ++ name ∷ [] → HasWaiter x y place index name.now
+waits_now x y place index was is name h same more =
+    let names : map (λ (t : Bor Text). t.now) is.waiting.items ≡ map (λ (t : Bor Text). t.now) was.waiting.items ++ name.now ∷ [] =
+    ap (map (λ (t : Bor Text). t.now)) more ∙ map-append (λ (t : Bor Text). t.now) was.waiting.items (name ∷ []) in
+    record {
+      waits = record { link = is; at = h.after; among = subst (λ (ts : List Text). Contains ts name.now) (sym names) (Contains-push (map (λ (t : Bor Text). t.now) was.waiting.items) name.now) };
+      stays = λ p i g w. elim (h.forth p i w.link w.at) [
+        | inl o ↦ record { link = w.link; at = o; among = w.among }
+        | inr e ↦ (
+            let among = subst (λ (l : Link). Contains (map (λ t. t.now) l.waiting.items) g) e.2 w.among in
+            record { link = is; at = moved_at y p i place index is e.0 e.1 h.after; among = subst (λ (ts : List Text). Contains ts g) (sym names) (Contains-append_left (map (λ (t : Bor Text). t.now) was.waiting.items) (name.now ∷ []) g among) })
+      ];
+      from = λ p i g w. elim (h.back p i w.link w.at) [
+        | inl o ↦ inl (record { link = w.link; at = o; among = w.among })
+        | inr e ↦ (
+            let among = subst (λ (ts : List Text). Contains ts g) names (subst (λ (l : Link). Contains (map (λ t. t.now) l.waiting.items) g) e.2 w.among) in
+            elim (Contains-push_cases (map (λ (t : Bor Text). t.now) was.waiting.items) name.now g among) [
+              | inl o ↦ inl (record { link = was; at = moved_at x p i place index was e.0 e.1 h.before; among = o })
+              | inr is ↦ inr (e.0, e.1, sym is)
+            ])
+      ];
+      marks = λ p i. (
+        λ m. elim (h.forth p i m.link m.at) [
+          | inl o ↦ record { link = m.link; at = o; is_kept = m.is_kept }
+          | inr e ↦ record { link = is; at = moved_at y p i place index is e.0 e.1 h.after; is_kept = same ∙ ap (λ (l : Link). l.is_kept) (sym e.2) ∙ m.is_kept }
+        ],
+        λ m. elim (h.back p i m.link m.at) [
+          | inl o ↦ record { link = m.link; at = o; is_kept = m.is_kept }
+          | inr e ↦ record { link = was; at = moved_at x p i place index was e.0 e.1 h.before; is_kept = sym same ∙ ap (λ (l : Link). l.is_kept) (sym e.2) ∙ m.is_kept }
+        ],
+      );
+      links = λ p i l. elim (h.forth p i l.0 l.1) [
+        | inl o ↦ (l.0, o)
+        | inr e ↦ (is, moved_at y p i place index is e.0 e.1 h.after)
+      ];
+    }
+
+-- ---- what reads answer
+
+-- the names of a link that was read are those that wait
+pub names_wait : (x : Links) (place index : ℕ) (link : Link) (names : List (Bor Text)) → LinkAt x place index link → names ≡ link.waiting.items → (g : Text) → Waits x place index g ↔ Contains (map (λ t. t.now) names) g
+names_wait x place index link names at same g = (
+  λ w. subst (λ (ns : List (Bor Text)). Contains (map (λ t. t.now) ns) g) (ap (λ (l : Link). l.waiting.items) (one_link x place index w.link link w.at at) ∙ sym same) w.among,
+  λ h. record { link = link; at = at; among = subst (λ (ns : List (Bor Text)). Contains (map (λ t. t.now) ns) g) same h },
+)
+
+-- ---- all are new
+
+there_is : {A : Type 0} (xs : List A) (i : ℕ) → i < length xs → (x : A) × (slice_get xs i ≡ Some x)
+there_is [] i lt = absurd (omega (arith, lt))
+there_is (x ∷ xs) i lt = (get_or (x ∷ xs) i x, slice_get-get_or (x ∷ xs) i x lt)
+
+nowhere : {A : Type 0} (x : A) → Contains [] x → ⊥
+nowhere x (k, lt, is) = omega (arith, lt)
+
+pub links_for_all : (r : Resolved) (x : Links) → AllZip AreNewLinks r.graph.nodes (map (λ v. v.items) x.of_nodes.items) → HasLinks r x
+links_for_all r x z p c place index dep =
+    let row = right_of AreNewLinks r.graph.nodes (rows_of x) place dep.node.node z dep.node.at in
+    let within = slice_get_within dep.node.node.deps index dep.dep dep.at in
+    let long = row.2.each in
+    let link = there_is row.0 index (omega (arith, within, long)) in
+    (link.0, record { of_node = row.0; at = row.1; here = link.1 })
+
+new_link : (nodes : List NodeModel) (x : Links) (place index : ℕ) (link : Link) → AllZip AreNewLinks nodes (rows_of x) → LinkAt x place index link → IsNewLink link
+new_link nodes x place index link z at =
+    let n = left_of AreNewLinks nodes (rows_of x) place at.of_node z at.at in
+    All-contains IsNewLink at.of_node link n.2.new (contains_at at.of_node index link at.here)
+
+pub all_new : (nodes : List NodeModel) (x : Links) → AllZip AreNewLinks nodes (map (λ v. v.items) x.of_nodes.items) → AreNew x
+all_new nodes x z = record {
+  unmarked = λ place index m. let new = new_link nodes x place index m.link z m.at in absurd (cc (new.unmarked, m.is_kept));
+  none_waits = λ place index g w.
+      let new = new_link nodes x place index w.link z w.at in
+      nowhere g (subst (λ (ns : List (Bor Text)). Contains (map (λ t. t.now) ns) g) new.none_waits w.among);
+}

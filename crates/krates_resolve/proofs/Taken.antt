@@ -1,0 +1,206 @@
+-- A crate or a feature is taken, and what it gives is found.
+use Rattle.std.proofs.Common.{◌≡◌, ℕ, ◌+◌, ◌<◌, ◌≤◌, List, Contains, length, get_or, Some, None, inl, inr, sym, ap, ◌∙◌, subst, arith}
+use Rattle.std.proofs.lemmas.Bool.{cases_lt}
+use Rattle.std.proofs.lemmas.List.Elements.{All-contains}
+use Rattle.std.proofs.lemmas.Option.{slice_get-get_or, slice_get_within, none-some, same_Some}
+use Rattle.std.specs.List.{slice_get}
+use Rattle.krates_graph.specs.Agenda.{PutNumbers, IsOrderly}
+use Rattle.krates_cm.specs.Document.{Text, DependencyModel}
+use Rattle.krates_text.specs.FeatureReference.{Reference, krate, weak, strong, simple}
+use Rattle.krates_resolve.specs.Facts.{Id, Edge}
+use Rattle.krates_resolve.specs.Found.{IsNamedIn, IsToggledIn, HasUsed, IsTried, IsFollowed, IsHeeded, IsExpanded, HasRoots, IsSound, Advances}
+use Rattle.krates_resolve.specs.Lookup.{NodeAt}
+use Rattle.krates_resolve.specs.Numbering.{FeatureAt}
+use Rattle.krates_resolve.specs.Resolved.{Resolved}
+use Rattle.krates_resolve.specs.Saturation.{AreDone, left_in}
+use Rattle.krates_resolve.specs.Setting.{SettingModel}
+use Rattle.krates_resolve.specs.declared.found.Found.{Found}
+use Rattle.krates_resolve.proofs.Growing.{expanded_grows, heeded_grows, roots_grow}
+use Rattle.krates_resolve.proofs.Standings.{contains_at}
+
+-- ---- what has been found doesn't hang on how many were taken
+
+-- the same has been found, and so many crates and features were taken
+abbrev pub taken_to : Found → ℕ → ℕ → Found
+taken_to x n m = record { krates = record x.krates { taken = n }; features = record x.features { taken = m }; edges = x.edges; toggled = x.toggled; links = x.links }
+
+named_taken : (r : Resolved) (x : Found) (n m : ℕ) (i : Id) (f : Text) → IsNamedIn r x i f → IsNamedIn r (taken_to x n m) i f
+named_taken r x n m i f h = record { enabled = h.enabled; listed = h.listed }
+
+toggled_taken : (r : Resolved) (x : Found) (n m : ℕ) (p c : Id) (f : Text) → IsToggledIn r x p c f → IsToggledIn r (taken_to x n m) p c f
+toggled_taken r x n m p c f h = record { toggled = h.toggled; listed = h.listed }
+
+used_taken : (r : Resolved) (x : Found) (n m : ℕ) (d : DependencyModel) (c : Id) → HasUsed r x d c → HasUsed r (taken_to x n m) d c
+used_taken r x n m d c h = record { declared = λ g among. named_taken r x n m c g (h.declared g among); by_default = h.by_default }
+
+tried_taken : (r : Resolved) (s : SettingModel) (x : Found) (n m : ℕ) (e : Edge) (taken : DependencyModel → Type 0) → IsTried r s x e taken → IsTried r s (taken_to x n m) e taken
+tried_taken r s x n m e taken h = record { kept = h.kept; has_package = h.has_package; has_node = h.has_node; declared = h.declared }
+
+expanded_taken : (r : Resolved) (s : SettingModel) (x : Found) (n m : ℕ) (i : Id) → IsExpanded r s x i → IsExpanded r s (taken_to x n m) i
+expanded_taken r s x n m i h e same = tried_taken r s x n m e _ (h e same)
+
+followed_taken : (r : Resolved) (s : SettingModel) (x : Found) (n m : ℕ) (p : Id) (reference : Reference) → IsFollowed r s x p reference → IsFollowed r s (taken_to x n m) p reference
+followed_taken r s x n m p (simple f) h = named_taken r x n m p f h
+followed_taken r s x n m p (krate name) h = λ e same referent. tried_taken r s x n m e _ (h e same referent)
+followed_taken r s x n m p (strong name f) h = (
+  λ e same referent. tried_taken r s x n m e _ (h.0 e same referent),
+  λ e d same referent w stands. toggled_taken r x n m p e.child f (h.1 e d same referent w stands),
+)
+followed_taken r s x n m p (weak name f) h = h
+
+heeded_taken : (r : Resolved) (s : SettingModel) (x : Found) (n m : ℕ) (i : Id) (f : Text) → IsHeeded r s x i f → IsHeeded r s (taken_to x n m) i f
+heeded_taken r s x n m i f h reference has = followed_taken r s x n m i reference (h reference has)
+
+roots_taken : (r : Resolved) (s : SettingModel) (x : Found) (n m : ℕ) → HasRoots r s x → HasRoots r s (taken_to x n m)
+roots_taken r s x n m h i root = let y = h i root in record { kept = y.kept; enabled = y.enabled; has_package = y.has_package; has_node = y.has_node }
+
+pub sound_taken : (r : Resolved) (s : SettingModel) (x : Found) (n m : ℕ) → IsSound r s x → IsSound r s (taken_to x n m)
+sound_taken r s x n m h = record {
+  krates_size = h.krates_size;
+  features_size = h.features_size;
+  has_links = h.has_links;
+  derivable = h.derivable;
+  placed = h.placed;
+  reached = h.reached;
+  used = λ e found d w. used_taken r x n m d e.child (h.used e found d w);
+  marked = h.marked;
+  asked = h.asked;
+  woken = λ p c place index g dep marked waits. toggled_taken r x n m p c g (h.woken p c place index g dep marked waits);
+  arrived = h.arrived;
+  kept = h.kept;
+  toggled = h.toggled;
+  enabled = h.enabled;
+}
+
+-- ---- what an agenda says when it is asked for the next
+
+-- the number that was taken is one that was put
+pub taken_put : (a b : PutNumbers) (n k t : ℕ) → b ≡ record a { taken = n } → slice_get a.put k ≡ Some t → Contains b.put t
+taken_put a b n k t e at = subst (λ (c : PutNumbers). Contains c.put t) (sym e) (contains_at a.put k t at)
+
+-- and lies below the size
+pub taken_below : (a b : PutNumbers) (n k t : ℕ) → b ≡ record a { taken = n } → IsOrderly b → slice_get a.put k ≡ Some t → t < b.size
+taken_below a b n k t e o at = All-contains (λ p. p < b.size) b.put t o.below (taken_put a b n k t e at)
+
+-- there are no more than the size
+pub has_room : (a b : PutNumbers) (n : ℕ) → b ≡ record a { taken = n } → IsOrderly b → length a.put ≤ a.size
+has_room a b n e o = subst (λ (c : PutNumbers). length c.put ≤ c.size) e o.within
+
+-- where none is taken, nothing is changed
+pub unchanged : (a b : PutNumbers) (n : ℕ) → b ≡ record a { taken = n } → n ≡ a.taken → b ≡ a
+unchanged a b n e same = e ∙ ap (λ (k : ℕ). record a { taken = k }) same
+
+-- what has been found, with other agendas
+abbrev pub with_agendas : Found → PutNumbers → PutNumbers → Found
+with_agendas x a b = record { krates = a; features = b; edges = x.edges; toggled = x.toggled; links = x.links }
+
+pub same_agendas : (x : Found) (a b c d : PutNumbers) → a ≡ c → b ≡ d → with_agendas x a b ≡ with_agendas x c d
+same_agendas x a b c d e h = ap (λ (n : PutNumbers). with_agendas x n b) e ∙ ap (λ (n : PutNumbers). with_agendas x c n) h
+
+-- ---- lists of numbers that grow
+
+-- what stands at a place stays there
+abbrev Stays : List ℕ → List ℕ → Type 0
+Stays xs ys = (k p : ℕ) → slice_get xs k ≡ Some p → slice_get ys k ≡ Some p
+
+-- what held of the first numbers holds of them
+below_same : (xs ys : List ℕ) (n : ℕ) (P Q : ℕ → Type 0) → Stays xs ys → n ≤ length xs → ((k p : ℕ) → k < n → slice_get xs k ≡ Some p → P p) → ((p : ℕ) → P p → Q p) → (k p : ℕ) → k < n → slice_get ys k ≡ Some p → Q p
+below_same xs ys n P Q stays within h weaker k p lt there =
+    let old = slice_get-get_or xs k 0 (omega (arith, lt, within)) in
+    let same : get_or xs k 0 ≡ p = same_Some (get_or xs k 0) p (sym (stays k (get_or xs k 0) old) ∙ there) in
+    subst Q same (weaker (get_or xs k 0) (h k (get_or xs k 0) lt old))
+
+-- and of one more
+below_more : (xs ys : List ℕ) (n t : ℕ) (P Q : ℕ → Type 0) → Stays xs ys → slice_get xs n ≡ Some t → ((k p : ℕ) → k < n → slice_get xs k ≡ Some p → P p) → ((p : ℕ) → P p → Q p) → Q t
+    → (k p : ℕ) → k < n + 1 → slice_get ys k ≡ Some p → Q p
+below_more xs ys n t P Q stays at h weaker here k p lt there = elim (cases_lt k n) [
+  | inl lower ↦ below_same xs ys n P Q stays (omega (arith, slice_get_within xs n t at)) h weaker k p lower there
+  | inr le ↦ (
+      let e : n ≡ k = omega arith in
+      let same : t ≡ p = same_Some t p (sym (stays n t at) ∙ ap (λ m. slice_get ys m) e ∙ there) in
+      subst Q same here)
+]
+
+-- the list isn't shorter
+grown_long : (xs ys : List ℕ) (n : ℕ) → Stays xs ys → n ≤ length xs → n ≤ length ys
+grown_long xs ys n stays within = elim (cases_lt (length ys) n) [
+  | inl lt ↦ (
+      let old = slice_get-get_or xs (length ys) 0 (omega (arith, lt, within)) in
+      let below = slice_get_within ys (length ys) (get_or xs (length ys) 0) (stays (length ys) (get_or xs (length ys) 0) old) in
+      absurd (omega (arith, below)))
+  | inr le ↦ le
+]
+
+-- where nothing stands at a place, the list ends before it
+none_left : (xs : List ℕ) (n : ℕ) → slice_get xs n ≡ None → length xs ≤ n
+none_left xs n none = elim (cases_lt n (length xs)) [
+  | inl lt ↦ absurd (none-some (get_or xs n 0) (sym none ∙ slice_get-get_or xs n 0 lt))
+  | inr le ↦ le
+]
+
+-- ---- one is taken
+
+-- the crate that was taken has been expanded, and those before it
+pub crate_done : (r : Resolved) (s : SettingModel) (x z : Found) (t : ℕ) → AreDone r s x → Advances r s (taken_to x (x.krates.taken + 1) x.features.taken) z → length x.krates.put ≤ x.krates.size
+    → slice_get x.krates.put x.krates.taken ≡ Some t → ((i : Id) → NodeAt r i t → IsExpanded r s z i) → AreDone r s z × (left_in z < left_in x)
+crate_done r s x z t done a room at now =
+    let n = x.krates.taken + 1 in
+    let m = x.features.taken in
+    let y = taken_to x n m in
+    let g = a.grows in
+    let count : z.krates.taken ≡ x.krates.taken + 1 = g.krates_taken in
+    let same : z.features.taken ≡ x.features.taken = g.features_taken in
+    let within = slice_get_within x.krates.put x.krates.taken t at in
+    let long = grown_long x.krates.put z.krates.put n g.krates (omega (arith, within)) in
+    let features_long = grown_long x.features.put z.features.put m g.features done.features_within in
+    let krates_size : z.krates.size ≡ x.krates.size = a.sound.krates_size ∙ sym done.sound.krates_size in
+    let features_size : z.features.size ≡ x.features.size = a.sound.features_size ∙ sym done.sound.features_size in (
+      record {
+        sound = a.sound;
+        roots = roots_grow r s y z g (roots_taken r s x n m done.roots);
+        expanded = λ k place i lt there node.
+            below_more x.krates.put z.krates.put x.krates.taken t (λ p. (j : Id) → NodeAt r j p → IsExpanded r s x j) (λ p. (j : Id) → NodeAt r j p → IsExpanded r s z j) g.krates at
+            (λ k p lt o j n. done.expanded k p j lt o n) (λ p o j node. expanded_grows r s y z j g (expanded_taken r s x n m j (o j node))) now k place (omega (arith, lt, count)) there i node;
+        heeded = λ k number i f lt there is.
+            below_same x.features.put z.features.put m (λ p. (j : Id) (h : Text) → FeatureAt r j h p → IsHeeded r s x j h) (λ p. (j : Id) (h : Text) → FeatureAt r j h p → IsHeeded r s z j h) g.features done.features_within
+            (λ k p lt o j h is. done.heeded k p j h lt o is) (λ p o j h is. heeded_grows r s y z j h g (heeded_taken r s x n m j h (o j h is))) k number (omega (arith, lt, same)) there i f is;
+        krates_within = omega (arith, long, count);
+        features_within = omega (arith, features_long, same);
+      },
+      omega (arith, count, same, within, room, krates_size, features_size),
+    )
+
+-- the feature that was taken has been heeded, and those before it
+pub feature_done : (r : Resolved) (s : SettingModel) (x z : Found) (t : ℕ) → AreDone r s x → Advances r s (taken_to x x.krates.taken (x.features.taken + 1)) z → length x.features.put ≤ x.features.size
+    → slice_get x.features.put x.features.taken ≡ Some t → ((i : Id) (f : Text) → FeatureAt r i f t → IsHeeded r s z i f) → AreDone r s z × (left_in z < left_in x)
+feature_done r s x z t done a room at now =
+    let n = x.krates.taken in
+    let m = x.features.taken + 1 in
+    let y = taken_to x n m in
+    let g = a.grows in
+    let same : z.krates.taken ≡ x.krates.taken = g.krates_taken in
+    let count : z.features.taken ≡ x.features.taken + 1 = g.features_taken in
+    let within = slice_get_within x.features.put x.features.taken t at in
+    let long = grown_long x.features.put z.features.put m g.features (omega (arith, within)) in
+    let krates_long = grown_long x.krates.put z.krates.put n g.krates done.krates_within in
+    let krates_size : z.krates.size ≡ x.krates.size = a.sound.krates_size ∙ sym done.sound.krates_size in
+    let features_size : z.features.size ≡ x.features.size = a.sound.features_size ∙ sym done.sound.features_size in (
+      record {
+        sound = a.sound;
+        roots = roots_grow r s y z g (roots_taken r s x n m done.roots);
+        expanded = λ k place i lt there node.
+            below_same x.krates.put z.krates.put n (λ p. (j : Id) → NodeAt r j p → IsExpanded r s x j) (λ p. (j : Id) → NodeAt r j p → IsExpanded r s z j) g.krates done.krates_within
+            (λ k p lt o j n. done.expanded k p j lt o n) (λ p o j node. expanded_grows r s y z j g (expanded_taken r s x n m j (o j node))) k place (omega (arith, lt, same)) there i node;
+        heeded = λ k number i f lt there is.
+            below_more x.features.put z.features.put x.features.taken t (λ p. (j : Id) (h : Text) → FeatureAt r j h p → IsHeeded r s x j h) (λ p. (j : Id) (h : Text) → FeatureAt r j h p → IsHeeded r s z j h) g.features at
+            (λ k p lt o j h is. done.heeded k p j h lt o is) (λ p o j h is. heeded_grows r s y z j h g (heeded_taken r s x n m j h (o j h is))) now k number (omega (arith, lt, count)) there i f is;
+        krates_within = omega (arith, krates_long, same);
+        features_within = omega (arith, long, count);
+      },
+      omega (arith, count, same, within, room, krates_size, features_size),
+    )
+
+-- none is left to be taken
+pub none_done : (r : Resolved) (s : SettingModel) (x : Found) → AreDone r s x → slice_get x.krates.put x.krates.taken ≡ None → slice_get x.features.put x.features.taken ≡ None
+    → (length x.krates.put ≤ x.krates.taken) × (length x.features.put ≤ x.features.taken)
+none_done r s x done krates features = (none_left x.krates.put x.krates.taken krates, none_left x.features.put x.features.taken features)

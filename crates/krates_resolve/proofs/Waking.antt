@@ -1,0 +1,116 @@
+-- What a kept edge may wake, the features of its dependency that wait, and what its declared dependency may ask for.
+use Rattle.std.proofs.Common.{◌≡◌, ℕ, List, [], ◌∷◌, Some, Contains, sym, ap, ◌∙◌, subst, inl, inr}
+use Rattle.std.proofs.lemmas.Bool.{cases_order}
+use Rattle.std.proofs.lemmas.Option.{same_Some, slice_get-map}
+use Rattle.std.specs.List.{slice_get}
+use Rattle.std.specs.Option.{option_map}
+use Rattle.krates_cm.specs.Document.{Text, DependencyModel, DepKindInfoModel, NodeModel, NodeDepModel, PackageModel}
+use Rattle.krates_resolve.specs.Admission.{NoneDoubled, doubled_dep, dep_texts}
+use Rattle.krates_resolve.specs.DeclaredDependency.{dependency_entry, IsDeclared}
+use Rattle.krates_resolve.specs.Derivation.{Derivable, Among, follows}
+use Rattle.krates_resolve.specs.Facts.{Id, Edge, Fact, Feature, Kept, Toggled}
+use Rattle.krates_resolve.specs.Found.{IsAskedWeakly, MayName, MayToggle, MayUse}
+use Rattle.krates_resolve.specs.Links.{DepAt}
+use Rattle.krates_resolve.specs.NodeEntry.{edge_between}
+use Rattle.krates_resolve.specs.Questions.{IsWanted, kind_info_of, questions}
+use Rattle.krates_resolve.specs.Resolved.{Resolved, ReadsAs, id_of}
+use Rattle.krates_resolve.specs.Rules.{Questions, declared, by_default, lost_declared, toggled_weakly, toggled_feature, lost_toggled_weakly}
+use Rattle.krates_resolve.specs.Setting.{SettingModel}
+use Rattle.krates_resolve.proofs.AdmissionLemmas.{ReadsOnce}
+use Rattle.krates_resolve.proofs.DeclaredOnce.{declared_once}
+use Rattle.krates_resolve.proofs.Growth.{one_id}
+use Rattle.krates_resolve.proofs.OnlyOne.{one_package, one_dep, one_node_place}
+use Rattle.krates_resolve.proofs.Standings.{contains_at}
+
+-- ---- what is derivable
+
+one : (q : Questions) (g : Fact) → Derivable q g → (f : Fact) → Among f (g ∷ []) → Derivable q f
+one q g d f (inl e) = subst (Derivable q) (sym e) d
+one q g d f (inr e) = absurd e
+
+two : (q : Questions) (g h : Fact) → Derivable q g → Derivable q h → (f : Fact) → Among f (g ∷ h ∷ []) → Derivable q f
+two q g h d e f (inl is) = subst (Derivable q) (sym is) d
+two q g h d e f (inr other) = one q h e f other
+
+-- a feature that may be toggled may be enabled
+pub may_name : (r : Resolved) (s : SettingModel) (p c : Id) (f : Text) → MayToggle r s p c f → MayName r s c f
+may_name r s p c f may = record {
+  enabled = λ lists. follows (toggled_feature {p = p} {c = c} {g = f}) (one (questions r s) (Toggled p c f) (may.toggled lists));
+  listed = may.listed;
+}
+
+-- a feature that is asked for weakly, over an edge that may be kept
+pub may_wake : (r : Resolved) (s : SettingModel) (p c : Id) (g : Text) (k : DepKindInfoModel) → IsAskedWeakly r s p c g → Derivable (questions r s) (Kept (edge_between p c k)) → MayToggle r s p c g
+unfolding questions
+may_wake r s p c g k a kept =
+    let e = edge_between p c k in
+    let premises = two (questions r s) (Feature p a.feature) (Kept e) a.enabled kept in
+    record {
+      toggled = λ lists. follows (toggled_weakly {e = e} {f = a.feature} {g = g} {c = a.name} a.refers a.referent lists) premises;
+      listed = λ lacks. follows (lost_toggled_weakly {e = e} {f = a.feature} {g = g} {c = a.name} a.refers a.referent lacks) premises;
+    }
+
+-- what a declared dependency asks for, of an edge that may be kept
+pub may_use : (r : Resolved) (s : SettingModel) (e : Edge) (d : DependencyModel) → IsWanted r s e d → Derivable (questions r s) (Kept e) → MayUse r s d e.child
+unfolding questions
+may_use r s e d wanted kept =
+    let premise = one (questions r s) (Kept e) kept in
+    record {
+      declared = λ g among. record {
+        enabled = λ lists. follows (declared {e = e} {d = d} {g = g} wanted among lists) premise;
+        listed = λ lacks. follows (lost_declared {e = e} {d = d} {g = g} wanted among lacks) premise;
+      };
+      by_default = λ uses lists. follows (by_default {e = e} {d = d} wanted uses lists) premise;
+    }
+
+-- ---- there is one of each
+
+-- the dependency at a place of a node leads from one crate to one
+pub one_way : ReadsOnce → (r : Resolved) (p c q d : Id) (place index : ℕ) → DepAt r p c place index → DepAt r q d place index → (p ≡ q) × (c ≡ d)
+one_way once r p c q d place index a b =
+    let node = same_Some a.node.node b.node.node (sym a.node.at ∙ b.node.at) in
+    let dep = same_Some a.dep b.dep (sym a.at ∙ ap (λ (n : NodeModel). slice_get n.deps index) node ∙ b.at) in
+    let there = subst (λ (n : NodeDepModel). ReadsAs n.pkg d) (sym dep) b.id in
+    (one_id once r p q place a.node b.node, sym a.id.same ∙ ap id_of (once a.dep.pkg a.id.read there.read a.id.reads there.reads) ∙ there.same)
+
+-- and two crates have one dependency between them
+pub one_dep_place : (r : Resolved) (p c : Id) (m i n j : ℕ) → NoneDoubled r.metadata r.graph → DepAt r p c m i → DepAt r p c n j → (m ≡ n) × (i ≡ j)
+one_dep_place r p c m i n j none a b = (place, index)
+  where
+    place : m ≡ n
+    place = one_node_place r p m n none a.node b.node
+
+    same : a.node.node ≡ b.node.node
+    same = same_Some a.node.node b.node.node (sym a.node.at ∙ ap (slice_get r.graph.nodes) place ∙ b.node.at)
+
+    among : Contains r.graph.nodes a.node.node
+    among = contains_at r.graph.nodes m a.node.node a.node.at
+
+    text_at : (k : ℕ) (d : NodeDepModel) → slice_get a.node.node.deps k ≡ Some d → slice_get (dep_texts a.node.node) k ≡ Some d.pkg
+    text_at k d at = slice_get-map (λ (x : NodeDepModel). x.pkg) a.node.node.deps k ∙ ap (option_map (λ (x : NodeDepModel). x.pkg)) at
+
+    at_i : slice_get (dep_texts a.node.node) i ≡ Some a.dep.pkg
+    at_i = text_at i a.dep a.at
+
+    at_j : slice_get (dep_texts a.node.node) j ≡ Some b.dep.pkg
+    at_j = text_at j b.dep (ap (λ (x : NodeModel). slice_get x.deps j) same ∙ b.at)
+
+    index : i ≡ j
+    index = elim (cases_order i j) [
+      | inl e ↦ e
+      | inr r ↦ elim r [
+        | inl lt ↦ absurd (none c (doubled_dep a.node.node among (record { first = i; second = j; apart = lt; one = a.dep.pkg; other = b.dep.pkg; at_first = at_i; at_second = at_j; one_reads = a.id; other_reads = b.id })))
+        | inr lt ↦ absurd (none c (doubled_dep a.node.node among (record { first = j; second = i; apart = lt; one = b.dep.pkg; other = a.dep.pkg; at_first = at_j; at_second = at_i; one_reads = b.id; other_reads = a.id })))
+      ]
+    ]
+
+-- an edge is wanted as one declared dependency alone
+pub wanted_once : (r : Resolved) (s : SettingModel) (e : Edge) (d f : DependencyModel) → NoneDoubled r.metadata r.graph → IsWanted r s e d → IsWanted r s e f → d ≡ f
+wanted_once r s e d f none v w =
+    let a = v.declared in
+    let b = w.declared in
+    let dep = one_dep r e.parent e.child b.listed.lists.node a.listed.lists.node b.dep a.dep none b.listed.lists.has_node a.listed.lists.has_node b.listed.lists.has_dep a.listed.lists.has_dep in
+    let ds = ap (λ (p : PackageModel). p.dependencies) (one_package r e.parent b.pkg a.pkg none b.has_package a.has_package) in
+    let here = subst (λ (xs : List DependencyModel). IsDeclared xs (dependency_entry e.child b.dep) (kind_info_of e) w.place f) ds b.declared in
+    let there = subst (λ (x : NodeDepModel). IsDeclared a.pkg.dependencies (dependency_entry e.child x) (kind_info_of e) w.place f) dep here in
+    (declared_once a.pkg.dependencies (dependency_entry e.child a.dep) (kind_info_of e) v.place w.place d f a.declared there).1

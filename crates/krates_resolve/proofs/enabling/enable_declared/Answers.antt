@@ -1,0 +1,77 @@
+use Rattle.std.proofs.Common.{String, Global, Contains, refl, sym, ◌∙◌, subst, arith}
+use Rattle.krates_cm.specs.Document.{Text, text_view, dependency_view}
+use Rattle.krates_resolve.specs.Facts.{Crate}
+use Rattle.krates_resolve.specs.Found.{Advances, HasUsed, IsNamedIn}
+use Rattle.krates_resolve.specs.Lookup.{resolved_view}
+use Rattle.krates_resolve.specs.Resolved.{id_of}
+use Rattle.krates_resolve.specs.declared.found.Found.{Found}
+use Rattle.krates_resolve.proofs.Growing.{advances_refl, advances_trans, named_grows}
+use Rattle.krates_resolve.proofs.Seen.{seen_more, each_seen}
+use Rattle.krates_resolve.proofs.enabling.enable_declared.Goals as goal
+use Rattle.krates_resolve.proofs.enabling.enable_declared.Goals.{then-dependency, else-dependency}
+
+pub loop-name-init : goal.loop-name-init
+loop-name-init c = (advances_refl (resolved_view c.args.lookup.now) c.args.setting.now c.args.found.now c.requires.sound, λ k d lt. absurd (omega (arith, lt)), refl)
+
+pub enable-requires-clause-sound : goal.enable-requires-clause-sound
+enable-requires-clause-sound c = c.loop-name.invariant.0.sound
+
+pub enable-requires-clause-kept : goal.enable-requires-clause-kept
+enable-requires-clause-kept c = c.loop-name.invariant.0.grows.found (Crate (id_of c.args.node.id.now)) c.requires.kept
+
+pub loop-name-preserved : goal.loop-name-preserved
+loop-name-preserved c =
+    let r = resolved_view c.args.lookup.now in
+    let s = c.args.setting.now in
+    let i = id_of c.args.node.id.now in
+    let x = c.loop-name.found in
+    let y = c.enable.new.found in
+    let inv = c.loop-name.invariant in
+    let step = c.in_ok-enable.ensures in (
+      advances_trans r s c.args.found.now x y inv.0 step.advanced,
+      seen_more (λ (name : String Global). IsNamedIn r y i (text_view name)) c.deref-name-items.result.now c.loop-name.name-index c.name-item.result c.loop-name-test.true c.name-item.is
+          (λ k d lt. named_grows r x y i _ step.advanced.grows (inv.1 k d lt)) (subst (IsNamedIn r y i) c.as_str.ensures.value step.named),
+      step.same_links ∙ inv.2,
+    )
+
+pub enable_default-requires-clause-sound : goal.enable_default-requires-clause-sound
+enable_default-requires-clause-sound c = c.loop-name.invariant.0.sound
+
+pub enable_default-requires-clause-kept : goal.enable_default-requires-clause-kept
+enable_default-requires-clause-kept c = c.loop-name.invariant.0.grows.found (Crate (id_of c.args.node.id.now)) c.requires.kept
+
+pub returns-clause-advanced : goal.returns-clause-advanced
+returns-clause-advanced c =
+    let r = resolved_view c.args.lookup.now in
+    let s = c.args.setting.now in
+    let x = c.loop-name.found in
+    let inv = c.loop-name.invariant in
+    elim c.if-dependency.branch [
+      | then-dependency w ↦ subst (Advances r s c.args.found.now) (sym w.found-is) (advances_trans r s c.args.found.now x w.enable_default.new.found inv.0 w.enable_default.ensures.advanced)
+      | else-dependency w ↦ subst (Advances r s c.args.found.now) (sym w.found-is) inv.0
+    ]
+
+pub returns-clause-used : goal.returns-clause-used
+returns-clause-used c =
+    let r = resolved_view c.args.lookup.now in
+    let i = id_of c.args.node.id.now in
+    let d = dependency_view c.args.dependency.now in
+    let x = c.loop-name.found in
+    let inv = c.loop-name.invariant in
+    let named : (g : Text) → Contains d.features g → IsNamedIn r x i g =
+    each_seen text_view (IsNamedIn r x i) c.deref-name-items.result.now c.args.dependency.now.features.items c.loop-name.name-index c.deref-name-items.ensures.value (omega arith) inv.1 in
+    elim c.if-dependency.branch [
+      | then-dependency w ↦ (
+          let y = w.enable_default.new.found in
+          let step = w.enable_default.ensures in
+          subst (λ (z : Found). HasUsed r z d i) (sym w.found-is) (record { declared = λ g among. named_grows r x y i g step.advanced.grows (named g among); by_default = λ uses lists. step.enabled lists }))
+      | else-dependency w ↦ subst (λ (z : Found). HasUsed r z d i) (sym w.found-is) (record { declared = named; by_default = λ uses lists. absurd (cc (uses, w.if-dependency.false)) })
+    ]
+
+pub returns-clause-same_links : goal.returns-clause-same_links
+returns-clause-same_links c =
+    let links = c.loop-name.invariant.2 in
+    elim c.if-dependency.branch [
+      | then-dependency w ↦ rw w.found-is (w.enable_default.ensures.same_links ∙ links)
+      | else-dependency w ↦ rw w.found-is links
+    ]

@@ -1,0 +1,14 @@
+use Rattle.std.proofs.Common.{◌≡◌, String, Global}
+use Rattle.krates_cm.specs.Document.{text_view}
+use Rattle.krates_resolve.specs.Found.{Advances, IsNamedIn}
+use Rattle.krates_resolve.specs.Lookup.{resolved_view}
+use Rattle.krates_resolve.specs.Resolved.{id_of}
+use Rattle.krates_resolve.proofs.Seen.{SeenBelow}
+use Rattle.krates_resolve.proofs.enabling.enable_declared.Given as goal
+
+-- the features so far are enabled
+abbrev pub invariant-loop-name : goal.invariant-loop-name
+invariant-loop-name l =
+    Advances (resolved_view l.lookup) l.setting l.fn.found l.found
+    × SeenBelow (λ (name : String Global). IsNamedIn (resolved_view l.lookup) l.found (id_of l.node.id.now) (text_view name)) l.name-items l.name-index
+    × (l.found.links ≡ l.fn.found.links)

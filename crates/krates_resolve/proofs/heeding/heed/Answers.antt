@@ -1,0 +1,84 @@
+use Rattle.std.proofs.Common.{ℕ, String, Global, map, refl, sym, subst, arith, string_bytes}
+use Rattle.krates_cm.specs.Document.{Text, text_view}
+use Rattle.krates_text.specs.FeatureReference.{Reference, IsReference}
+use Rattle.krates_resolve.specs.Facts.{Id, Crate, Feature}
+use Rattle.krates_resolve.specs.Found.{IsFollowed, IsHeeded, IsValueOfEnabled}
+use Rattle.krates_resolve.specs.Lookup.{resolved_view}
+use Rattle.krates_resolve.specs.Numbering.{FeatureAt}
+use Rattle.krates_resolve.specs.Resolved.{id_of}
+use Rattle.krates_resolve.proofs.Growing.{advances_refl, advances_trans, followed_grows}
+use Rattle.krates_resolve.proofs.Heedings.{listed_here, listed_found, listed_place, one_feature, value_at, value_of_enabled, heeded_here}
+use Rattle.krates_resolve.proofs.Seen.{seen_more, each_seen}
+use Rattle.krates_resolve.proofs.heeding.heed.Goals as goal
+
+pub parts_of-parts-requires-clause-within : goal.parts_of-parts-requires-clause-within
+parts_of-parts-requires-clause-within c =
+    let r = resolved_view c.args.lookup.now in
+    let feature = c.index-feature.result.now in
+    let at = listed_here c.args.lookup.now c.args.setting.now c.args.found.now c.args.taken c.number.result feature c.requires.lookup c.requires.sound c.requires.within c.number.ensures c.index-feature.ensures in
+    listed_place r c.number.result feature.place feature.name.now at
+
+pub loop-text-init : goal.loop-text-init
+loop-text-init c = (advances_refl (resolved_view c.args.lookup.now) c.args.setting.now c.args.found.now c.requires.sound, λ k d lt. absurd (omega (arith, lt)))
+
+pub follow-requires-clause-sound : goal.follow-requires-clause-sound
+follow-requires-clause-sound c = c.loop-text.invariant.0.sound
+
+pub follow-requires-clause-kept : goal.follow-requires-clause-kept
+follow-requires-clause-kept c =
+    let r = resolved_view c.args.lookup.now in
+    let x = c.args.found.now in
+    let feature = c.index-feature.result.now in
+    let f = feature.name.now in
+    let i = id_of c.parts_of-parts.result.parent.now in
+    let at = listed_here c.args.lookup.now c.args.setting.now x c.args.taken c.number.result feature c.requires.lookup c.requires.sound c.requires.within c.number.ensures c.index-feature.ensures in
+    let enabled = listed_found r x c.args.taken c.number.result i feature.place f c.requires.put c.number.ensures at c.parts_of-parts.ensures.at in
+    c.loop-text.invariant.0.grows.found (Crate i) (c.requires.sound.enabled i f enabled)
+
+pub follow-requires-clause-value : goal.follow-requires-clause-value
+follow-requires-clause-value c =
+    let r = resolved_view c.args.lookup.now in
+    let s = c.args.setting.now in
+    let x = c.args.found.now in
+    let feature = c.index-feature.result.now in
+    let f = feature.name.now in
+    let i = id_of c.parts_of-parts.result.parent.now in
+    let at = listed_here c.args.lookup.now s x c.args.taken c.number.result feature c.requires.lookup c.requires.sound c.requires.within c.number.ensures c.index-feature.ensures in
+    let enabled = listed_found r x c.args.taken c.number.result i feature.place f c.requires.put c.number.ensures at c.parts_of-parts.ensures.at in
+    let texts = c.feature_values-text-items.result.now in
+    let among = value_at texts c.loop-text.text-index c.text-item.result c.loop-text-test.true c.text-item.is in
+    subst (λ (t : Text). IsValueOfEnabled r s i t) (sym c.as_str.ensures.value)
+    (value_of_enabled r s i f (map text_view texts) (string_bytes c.text-item.result) (c.requires.sound.derivable (Feature i f) enabled) c.feature_values-text-items.ensures among)
+
+pub loop-text-preserved : goal.loop-text-preserved
+loop-text-preserved c =
+    let r = resolved_view c.args.lookup.now in
+    let s = c.args.setting.now in
+    let i = id_of c.parts_of-parts.result.parent.now in
+    let x = c.loop-text.found in
+    let y = c.follow.new.found in
+    let inv = c.loop-text.invariant in
+    let step = c.in_ok-follow.ensures in
+    let followed = subst (λ (t : Text). (reference : Reference) → IsReference t reference → IsFollowed r s y i reference) c.as_str.ensures.value step.followed in (
+      advances_trans r s c.args.found.now x y inv.0 step.advanced,
+      seen_more (λ (text : String Global). (reference : Reference) → IsReference (string_bytes text) reference → IsFollowed r s y i reference) c.feature_values-text-items.result.now c.loop-text.text-index c.text-item.result c.loop-text-test.true
+          c.text-item.is (λ k d lt reference is. followed_grows r s x y i reference step.advanced.grows (inv.1 k d lt reference is)) followed,
+    )
+
+pub returns-clause-advanced : goal.returns-clause-advanced
+returns-clause-advanced c = c.loop-text.invariant.0
+
+pub returns-clause-heeded : goal.returns-clause-heeded
+returns-clause-heeded c krate f there =
+    let r = resolved_view c.args.lookup.now in
+    let s = c.args.setting.now in
+    let x = c.loop-text.found in
+    let number = c.number.result in
+    let feature = c.index-feature.result.now in
+    let i = id_of c.parts_of-parts.result.parent.now in
+    let at = listed_here c.args.lookup.now s c.args.found.now c.args.taken number feature c.requires.lookup c.requires.sound c.requires.within c.number.ensures c.index-feature.ensures in
+    let same = one_feature c.one_reading.ensures.once r i krate feature.place number feature.name.now f c.parts_of-parts.ensures.at at (subst (λ (n : ℕ). FeatureAt r krate f n) (sym c.number.ensures) there) in
+    let texts = c.feature_values-text-items.result.now in
+    let each = each_seen text_view (λ (t : Text). (reference : Reference) → IsReference t reference → IsFollowed r s x i reference) texts texts c.loop-text.text-index refl (omega arith) c.loop-text.invariant.1 in
+    let heeded : IsHeeded r s x i feature.name.now = heeded_here r s x i feature.name.now (map text_view texts) c.feature_values-text-items.ensures each in
+    subst (λ (j : Id). IsHeeded r s x j f) same.0 (subst (λ (g : Text). IsHeeded r s x i g) same.1 heeded)

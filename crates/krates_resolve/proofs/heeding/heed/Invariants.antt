@@ -1,0 +1,13 @@
+use Rattle.std.proofs.Common.{String, Global, string_bytes}
+use Rattle.krates_text.specs.FeatureReference.{Reference, IsReference}
+use Rattle.krates_resolve.specs.Found.{Advances, IsFollowed}
+use Rattle.krates_resolve.specs.Lookup.{resolved_view}
+use Rattle.krates_resolve.specs.Resolved.{id_of}
+use Rattle.krates_resolve.proofs.Seen.{SeenBelow}
+use Rattle.krates_resolve.proofs.heeding.heed.Given as goal
+
+-- each reference so far has been followed
+abbrev pub invariant-loop-text : goal.invariant-loop-text
+invariant-loop-text l =
+    Advances (resolved_view l.lookup) l.setting l.fn.found l.found
+    × SeenBelow (λ (text : String Global). (reference : Reference) → IsReference (string_bytes text) reference → IsFollowed (resolved_view l.lookup) l.setting l.found (id_of l.parts.parent.now) reference) l.text-items l.text-index

@@ -1,0 +1,48 @@
+use Rattle.std.proofs.Common.{subst}
+use Rattle.std.proofs.lemmas.Option.{slice_get_within}
+use Rattle.std.proofs.lemmas.Result.{on_ok_weaker}
+use Rattle.krates_resolve.specs.Lookup.{resolved_view}
+use Rattle.krates_resolve.specs.NodeEntry.{edge_between}
+use Rattle.krates_resolve.specs.Referent.{IsReferent}
+use Rattle.krates_resolve.specs.Resolved.{id_of}
+use Rattle.krates_resolve.proofs.Heedings.{none_strongly, strongly_here, unmarked_strongly, may_toggle_strongly, one_link}
+use Rattle.krates_resolve.proofs.heeding.toggle_strongly.Goals as goal
+
+pub returns-in_default-clause-toggled : goal.returns-in_default-clause-toggled
+returns-in_default-clause-toggled c =
+    none_strongly (resolved_view c.args.lookup.now) c.args.setting.now c.args.found.now (id_of c.args.parts.now.parent.now) c.args.name.now c.args.feature.now c.in_default.ensures
+
+pub is_kept-requires : goal.is_kept-requires
+is_kept-requires c =
+    let at = c.in-Some.ensures in
+    c.requires.sound.has_links (id_of c.args.parts.now.parent.now) (id_of at.child) c.args.parts.now.place c.in-Some.index at.dep
+
+pub returns-then-not-is_kept-clause-toggled : goal.returns-then-not-is_kept-clause-toggled
+returns-then-not-is_kept-clause-toggled c =
+    let at = c.in-Some.ensures in
+    unmarked_strongly (resolved_view c.args.lookup.now) c.args.setting.now c.args.found.now (id_of c.args.parts.now.parent.now) (id_of at.child) c.args.name.now c.args.feature.now c.args.parts.now.place c.in-Some.index
+    c.requires.sound c.requires.asked at.is at.dep (λ m. absurd (cc (c.is_kept.ensures.1 m, c.if-not-is_kept.true)))
+
+pub toggle_child-requires-clause-within : goal.toggle_child-requires-clause-within
+toggle_child-requires-clause-within c =
+    let at = c.in-Some.ensures in
+    slice_get_within c.args.parts.now.children.now c.in-Some.index at.child at.at
+
+pub toggle_child-requires-clause-marked : goal.toggle_child-requires-clause-marked
+toggle_child-requires-clause-marked c = c.is_kept.ensures.0 c.if-not-is_kept.false
+
+pub toggle_child-requires-clause-may : goal.toggle_child-requires-clause-may
+toggle_child-requires-clause-may c child there =
+    let r = resolved_view c.args.lookup.now in
+    let parent = id_of c.args.parts.now.parent.now in
+    let at = c.in-Some.ensures in
+    let same = (one_link c.one_reading.ensures.once r parent parent (id_of at.child) child c.args.parts.now.place c.in-Some.index at.dep there).1 in
+    let kept = c.requires.sound.kept parent child c.args.parts.now.place c.in-Some.index there (c.is_kept.ensures.0 c.if-not-is_kept.false) in
+    may_toggle_strongly r c.args.setting.now (edge_between parent child kept.0) c.args.name.now c.args.feature.now c.requires.may (subst (IsReferent r parent c.args.name.now) same at.is) kept.1
+
+pub returns-clause-toggled : goal.returns-clause-toggled
+returns-clause-toggled c =
+    let at = c.in-Some.ensures in
+    on_ok_weaker c.toggle_child.result (λ toggled.
+    strongly_here (resolved_view c.args.lookup.now) c.args.setting.now c.toggle_child.new.found (id_of c.args.parts.now.parent.now) (id_of at.child) c.args.name.now c.args.feature.now at.is (toggled (id_of at.child) at.dep))
+    c.toggle_child.ensures.toggled

@@ -1,0 +1,61 @@
+use Rattle.std.proofs.Common.{Contains, String, Global, map, sym, subst, arith, string_bytes}
+use Rattle.krates_cm.specs.Document.{Text, text_view}
+use Rattle.krates_resolve.specs.Facts.{Crate, Feature}
+use Rattle.krates_resolve.specs.Found.{HasFound, IsNamedIn, MayName}
+use Rattle.krates_resolve.specs.Lookup.{resolved_view}
+use Rattle.krates_resolve.specs.Resolved.{id_of}
+use Rattle.krates_resolve.proofs.Growing.{advances_refl, advances_trans}
+use Rattle.krates_resolve.proofs.Heedings.{value_at}
+use Rattle.krates_resolve.proofs.RootLemmas.{listed_names, listed_may}
+use Rattle.krates_resolve.proofs.Seen.{seen_more, each_seen}
+use Rattle.krates_resolve.proofs.roots.enable_listed.Goals as goal
+
+pub loop-name-init : goal.loop-name-init
+loop-name-init c = (advances_refl (resolved_view c.args.lookup.now) c.args.setting.now c.args.found.now c.requires.sound, λ k d lt. absurd (omega (arith, lt)))
+
+pub enable-requires-clause-sound : goal.enable-requires-clause-sound
+enable-requires-clause-sound c = c.loop-name.invariant.0.sound
+
+pub enable-requires-clause-kept : goal.enable-requires-clause-kept
+enable-requires-clause-kept c = c.loop-name.invariant.0.grows.found (Crate (id_of c.args.node.id.now)) c.requires.kept
+
+pub enable-requires-clause-may : goal.enable-requires-clause-may
+enable-requires-clause-may c =
+    let r = resolved_view c.args.lookup.now in
+    let s = c.args.setting.now in
+    let i = id_of c.args.node.id.now in
+    let f = string_bytes c.name-item.result in
+    let texts = c.deref-name-items.result.now in
+    let names = listed_names c.args.lookup.now i c.args.node.place c.index.result.now c.requires.lookup c.requires.node c.index.ensures f in
+    let among = subst (λ ts. Contains (map text_view ts) f) c.deref-name-items.ensures.value (value_at texts c.loop-name.name-index c.name-item.result c.loop-name-test.true c.name-item.is) in
+    subst (λ (t : Text). MayName r s i t) (sym c.as_str.ensures.value) (listed_may r s i f c.requires.lookup.distinct (names.1 among) (c.requires.may f))
+
+pub loop-name-preserved : goal.loop-name-preserved
+loop-name-preserved c =
+    let r = resolved_view c.args.lookup.now in
+    let s = c.args.setting.now in
+    let i = id_of c.args.node.id.now in
+    let f = string_bytes c.name-item.result in
+    let x = c.loop-name.found in
+    let y = c.enable.new.found in
+    let inv = c.loop-name.invariant in
+    let step = c.in_ok-enable.ensures in
+    let texts = c.deref-name-items.result.now in
+    let names = listed_names c.args.lookup.now i c.args.node.place c.index.result.now c.requires.lookup c.requires.node c.index.ensures f in
+    let among = subst (λ ts. Contains (map text_view ts) f) c.deref-name-items.ensures.value (value_at texts c.loop-name.name-index c.name-item.result c.loop-name-test.true c.name-item.is) in
+    let named = subst (λ (t : Text). IsNamedIn r y i t) c.as_str.ensures.value step.named in (
+      advances_trans r s c.args.found.now x y inv.0 step.advanced,
+      seen_more (λ (name : String Global). HasFound r y (Feature i (string_bytes name))) texts c.loop-name.name-index c.name-item.result c.loop-name-test.true c.name-item.is
+          (λ k d lt. step.advanced.grows.found (Feature i _) (inv.1 k d lt)) (named.enabled (names.1 among)),
+    )
+
+pub returns-clause-advanced : goal.returns-clause-advanced
+returns-clause-advanced c = c.loop-name.invariant.0
+
+pub returns-clause-enabled : goal.returns-clause-enabled
+returns-clause-enabled c f lists =
+    let r = resolved_view c.args.lookup.now in
+    let i = id_of c.args.node.id.now in
+    let texts = c.deref-name-items.result.now in
+    let names = listed_names c.args.lookup.now i c.args.node.place c.index.result.now c.requires.lookup c.requires.node c.index.ensures f in
+    each_seen text_view (λ (t : Text). HasFound r c.loop-name.found (Feature i t)) texts c.index.result.now.features.items c.loop-name.name-index c.deref-name-items.ensures.value (omega arith) c.loop-name.invariant.1 f (names.0 lists)

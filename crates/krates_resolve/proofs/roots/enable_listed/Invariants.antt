@@ -1,0 +1,13 @@
+use Rattle.std.proofs.Common.{String, Global, string_bytes}
+use Rattle.krates_resolve.specs.Facts.{Feature}
+use Rattle.krates_resolve.specs.Found.{Advances, HasFound}
+use Rattle.krates_resolve.specs.Lookup.{resolved_view}
+use Rattle.krates_resolve.specs.Resolved.{id_of}
+use Rattle.krates_resolve.proofs.Seen.{SeenBelow}
+use Rattle.krates_resolve.proofs.roots.enable_listed.Given as goal
+
+-- each feature so far is enabled
+abbrev pub invariant-loop-name : goal.invariant-loop-name
+invariant-loop-name l =
+    Advances (resolved_view l.lookup) l.setting l.fn.found l.found
+    × SeenBelow (λ (name : String Global). HasFound (resolved_view l.lookup) l.found (Feature (id_of l.node.id.now) (string_bytes name))) l.name-items l.name-index

@@ -1,0 +1,80 @@
+use Rattle.std.proofs.Common.{◌+◌, ◌≤◌, length, refl, sym, ◌∙◌, subst, arith}
+use Rattle.krates_resolve.specs.Found.{IsSound, Advances}
+use Rattle.krates_resolve.specs.Lookup.{resolved_view}
+use Rattle.krates_resolve.specs.Saturation.{AreDone}
+use Rattle.krates_resolve.specs.declared.found.Found.{Found}
+use Rattle.krates_resolve.proofs.Taken.{sound_taken, taken_put, taken_below, has_room, unchanged, same_agendas, crate_done, feature_done, none_done}
+use Rattle.krates_resolve.proofs.saturation.take_next.Goals as goal
+
+pub expand-requires-clause-sound : goal.expand-requires-clause-sound
+expand-requires-clause-sound c =
+    let x = c.args.found.now in
+    let n = x.krates.taken + 1 in
+    let same = same_agendas x c.take.new.self x.features (record x.krates { taken = n }) x.features c.in-Some.ensures.counted refl in
+    subst (IsSound (resolved_view c.args.lookup.now) c.args.setting.now) (sym same) (sound_taken (resolved_view c.args.lookup.now) c.args.setting.now x n x.features.taken c.requires.done.sound)
+
+pub expand-requires-clause-put : goal.expand-requires-clause-put
+expand-requires-clause-put c =
+    let a = c.args.found.now.krates in
+    taken_put a c.take.new.self (a.taken + 1) a.taken c.in-Some.taken c.in-Some.ensures.counted (sym c.take.ensures.first ∙ c.in-Some.is)
+
+pub expand-requires-clause-within : goal.expand-requires-clause-within
+expand-requires-clause-within c =
+    let a = c.args.found.now.krates in
+    taken_below a c.take.new.self (a.taken + 1) a.taken c.in-Some.taken c.in-Some.ensures.counted c.take.ensures.orderly (sym c.take.ensures.first ∙ c.in-Some.is)
+
+pub returns-in-Some-clause-taken : goal.returns-in-Some-clause-taken
+returns-in-Some-clause-taken c =
+    let r = resolved_view c.args.lookup.now in
+    let s = c.args.setting.now in
+    let x = c.args.found.now in
+    let z = c.expand.new.found in
+    let n = x.krates.taken + 1 in
+    let e = c.in-Some.ensures.counted in
+    let same = same_agendas x c.take.new.self x.features (record x.krates { taken = n }) x.features e refl in
+    let step = subst (λ (y : Found). Advances r s y z) same c.in_ok-expand.ensures.advanced in
+    crate_done r s x z c.in-Some.taken c.requires.done step (has_room x.krates c.take.new.self n e c.take.ensures.orderly) (sym c.take.ensures.first ∙ c.in-Some.is) c.in_ok-expand.ensures.expanded
+
+pub returns-in_default-take-clause-taken : goal.returns-in_default-take-clause-taken
+returns-in_default-take-clause-taken c =
+    let r = resolved_view c.args.lookup.now in
+    let s = c.args.setting.now in
+    let x = c.args.found.now in
+    let still = unchanged x.krates c.take.new.self (x.krates.taken + 0) c.in_default.ensures.counted (omega arith) in
+    let also = unchanged x.features c.take-2.new.self (x.features.taken + 0) c.in_default-take.ensures.counted (omega arith) in
+    let same = same_agendas x c.take.new.self c.take-2.new.self x.krates x.features still also in
+    let none = none_done r s x c.requires.done (sym c.take.ensures.first ∙ c.in_default.is) (sym c.take-2.ensures.first ∙ c.in_default-take.is) in
+    subst (λ (y : Found). AreDone r s y × ((length y.krates.put ≤ y.krates.taken) × (length y.features.put ≤ y.features.taken))) (sym same) (c.requires.done, none)
+
+pub heed-requires-clause-sound : goal.heed-requires-clause-sound
+heed-requires-clause-sound c =
+    let r = resolved_view c.args.lookup.now in
+    let s = c.args.setting.now in
+    let x = c.args.found.now in
+    let m = x.features.taken + 1 in
+    let still = unchanged x.krates c.take.new.self (x.krates.taken + 0) c.in_default.ensures.counted (omega arith) in
+    let same = same_agendas x c.take.new.self c.take-2.new.self x.krates (record x.features { taken = m }) still c.in-Some-take.ensures.counted in
+    subst (IsSound r s) (sym same) (sound_taken r s x x.krates.taken m c.requires.done.sound)
+
+pub heed-requires-clause-put : goal.heed-requires-clause-put
+heed-requires-clause-put c =
+    let a = c.args.found.now.features in
+    taken_put a c.take-2.new.self (a.taken + 1) a.taken c.in-Some-take.taken c.in-Some-take.ensures.counted (sym c.take-2.ensures.first ∙ c.in-Some-take.is)
+
+pub heed-requires-clause-within : goal.heed-requires-clause-within
+heed-requires-clause-within c =
+    let a = c.args.found.now.features in
+    taken_below a c.take-2.new.self (a.taken + 1) a.taken c.in-Some-take.taken c.in-Some-take.ensures.counted c.take-2.ensures.orderly (sym c.take-2.ensures.first ∙ c.in-Some-take.is)
+
+pub returns-clause-taken : goal.returns-clause-taken
+returns-clause-taken c =
+    let r = resolved_view c.args.lookup.now in
+    let s = c.args.setting.now in
+    let x = c.args.found.now in
+    let z = c.heed.new.found in
+    let m = x.features.taken + 1 in
+    let e = c.in-Some-take.ensures.counted in
+    let still = unchanged x.krates c.take.new.self (x.krates.taken + 0) c.in_default.ensures.counted (omega arith) in
+    let same = same_agendas x c.take.new.self c.take-2.new.self x.krates (record x.features { taken = m }) still e in
+    let step = subst (λ (y : Found). Advances r s y z) same c.in_ok-heed.ensures.advanced in
+    feature_done r s x z c.in-Some-take.taken c.requires.done step (has_room x.features c.take-2.new.self m e c.take-2.ensures.orderly) (sym c.take-2.ensures.first ∙ c.in-Some-take.is) c.in_ok-heed.ensures.heeded

@@ -1,0 +1,18 @@
+-- What a document that is ready to be asked is: the document with its resolved graph.
+use Rattle.krates_cm.specs.Document.{metadata_view, resolve_view}
+use Rattle.krates_cm.specs.declared.metadata.Metadata.{Metadata}
+use Rattle.krates_cm.specs.declared.resolve.Resolve.{Resolve}
+use Rattle.krates_resolve.specs.Resolved.{Resolved}
+use Rattle.krates_resolve.specs.declared.lookup.Lookup.{Lookup}
+
+pub record DocumentModel : Type 0 where
+  pub metadata : Metadata
+  pub resolve : Resolve
+
+-- that of a look-up
+abbrev pub looked_up : Lookup → DocumentModel
+looked_up d = record { metadata = d.metadata.now; resolve = d.resolve.now }
+
+-- as the rules see it
+abbrev pub as_resolved : DocumentModel → Resolved
+as_resolved d = record { metadata = metadata_view d.metadata; graph = resolve_view d.resolve }

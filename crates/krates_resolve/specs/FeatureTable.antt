@@ -1,0 +1,21 @@
+-- The listed features by their numbers, and the numbers by the features.
+use Rattle.std.specs.BTreeMap.{get}
+use Rattle.std.specs.Prelude.{◌≡◌, ℕ, List, Option, Some, MatchOption, map, slice_get}
+use Rattle.krates_cm.specs.Document.{Text}
+use Rattle.krates_resolve.specs.FeatureOrder.{listed_cmp}
+use Rattle.krates_resolve.specs.declared.features.FeatureTable.{FeatureTable}
+use Rattle.krates_resolve.specs.declared.features.ListedFeature.{ListedFeature}
+
+abbrev pub listed_view : ListedFeature → ℕ × Text
+listed_view x = (x.place, x.name.now)
+
+abbrev pub listed_in : FeatureTable → List (ℕ × Text)
+listed_in t = map listed_view t.listed.items
+
+-- a number of the feature, or none where it isn't listed
+abbrev pub IsNumberOf : List (ℕ × Text) → ℕ × Text → Option ℕ → Type 0
+IsNumberOf all x answer = MatchOption answer ((n : ℕ) → slice_get all n ≡ Some x → ⊥) (λ n. slice_get all n ≡ Some x)
+
+-- the table has a number of each feature that it lists, and of no other
+abbrev pub AreNumbered : FeatureTable → Type 0
+AreNumbered t = (x : ListedFeature) → IsNumberOf (listed_in t) (listed_view x) (get listed_cmp t.numbers x)

@@ -1,0 +1,17 @@
+-- The references that a feature of a crate has.
+use Rattle.std.specs.Prelude.{◌↔◌, List, Contains}
+use Rattle.krates_cm.specs.Document.{Text}
+use Rattle.krates_text.specs.FeatureReference.{Reference, IsReference}
+use Rattle.krates_resolve.specs.Facts.{Id}
+use Rattle.krates_resolve.specs.Features.{HasReference}
+use Rattle.krates_resolve.specs.Resolved.{Resolved}
+
+-- one of the texts is this reference
+pub record IsAmongValues (values : List Text) (reference : Reference) : Type 0 where
+  pub text : Text
+  pub among : Contains values text
+  pub is : IsReference text reference
+
+-- the references of the feature are those that these texts are
+abbrev pub AreValuesOf : Resolved → Id → Text → List Text → Type 0
+AreValuesOf r i f values = (reference : Reference) → HasReference r i f reference ↔ IsAmongValues values reference

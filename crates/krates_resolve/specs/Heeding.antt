@@ -1,0 +1,22 @@
+-- What a reference of an enabled feature may give.
+use Rattle.krates_cm.specs.Document.{Text}
+use Rattle.krates_text.specs.FeatureReference.{Reference}
+use Rattle.krates_resolve.specs.Derivation.{Derivable}
+use Rattle.krates_resolve.specs.Facts.{Id, Feature}
+use Rattle.krates_resolve.specs.Features.{HasReference}
+use Rattle.krates_resolve.specs.Questions.{questions}
+use Rattle.krates_resolve.specs.References.{AsksFor}
+use Rattle.krates_resolve.specs.Resolved.{Resolved}
+use Rattle.krates_resolve.specs.Setting.{SettingModel}
+
+-- an enabled feature of the crate has the reference
+pub record MayWait (r : Resolved) (s : SettingModel) (p : Id) (reference : Reference) : Type 0 where
+  pub feature : Text
+  pub enabled : Derivable (questions r s) (Feature p feature)
+  pub refers : HasReference r p feature reference
+
+-- an enabled feature of the crate has a reference that asks for the dependency of this name
+pub record MayAsk (r : Resolved) (s : SettingModel) (p : Id) (name : Text) : Type 0 where
+  pub reference : Reference
+  pub has : MayWait r s p reference
+  pub asks : AsksFor reference name

@@ -1,0 +1,72 @@
+-- What is kept for each dependency of each node: whether an edge to it is kept, and which of its features wait for one.
+use Rattle.std.specs.Prelude.{◌≡◌, ◌↔◌, ◌⊎◌, ℕ, List, [], Some, false, true, All, Contains, length, map, slice_get}
+use Rattle.krates_cm.specs.Document.{Text, NodeModel, NodeDepModel}
+use Rattle.krates_resolve.specs.Facts.{Id}
+use Rattle.krates_resolve.specs.Lookup.{NodeAt}
+use Rattle.krates_resolve.specs.Resolved.{Resolved, ReadsAs}
+use Rattle.krates_resolve.specs.declared.links.Link.{Link}
+use Rattle.krates_resolve.specs.declared.links.Links.{Links}
+
+-- the dependency of the node at these places leads from the parent to the child
+pub record DepAt (r : Resolved) (parent child : Id) (place index : ℕ) : Type 0 where
+  pub node : NodeAt r parent place
+  pub dep : NodeDepModel
+  pub at : slice_get node.node.deps index ≡ Some dep
+  pub id : ReadsAs dep.pkg child
+
+-- the link of a node's dependency
+pub record LinkAt (links : Links) (place index : ℕ) (link : Link) : Type 0 where
+  pub of_node : List Link
+  pub at : slice_get (map (λ v. v.items) links.of_nodes.items) place ≡ Some of_node
+  pub here : slice_get of_node index ≡ Some link
+
+-- an edge by this dependency is kept
+pub record IsMarked (links : Links) (place index : ℕ) : Type 0 where
+  pub link : Link
+  pub at : LinkAt links place index link
+  pub is_kept : link.is_kept ≡ true
+
+-- the feature of this name waits for a kept edge by this dependency
+pub record Waits (links : Links) (place index : ℕ) (name : Text) : Type 0 where
+  pub link : Link
+  pub at : LinkAt links place index link
+  pub among : Contains (map (λ t. t.now) link.waiting.items) name
+
+-- there is a link for the dependency of the node at these places
+abbrev pub HasLink : Links → ℕ → ℕ → Type 0
+HasLink links place index = (link : Link) × LinkAt links place index link
+
+-- there is one for each dependency of each node
+abbrev pub HasLinks : Resolved → Links → Type 0
+HasLinks r links = (parent child : Id) (place index : ℕ) → DepAt r parent child place index → HasLink links place index
+
+-- no edge by the dependency is kept, and none of its features waits
+pub record IsNewLink (link : Link) : Type 0 where
+  pub unmarked : link.is_kept ≡ false
+  pub none_waits : link.waiting.items ≡ []
+
+-- there is a link for each dependency of the node, and nothing is kept or waits yet
+pub record AreNewLinks (n : NodeModel) (links : List Link) : Type 0 where
+  pub each : length links ≡ length n.deps
+  pub new : All IsNewLink links
+
+-- nothing is kept or waits yet
+pub record AreNew (links : Links) : Type 0 where
+  pub unmarked : (place index : ℕ) → IsMarked links place index → ⊥
+  pub none_waits : (place index : ℕ) (g : Text) → Waits links place index g → ⊥
+
+-- the dependency is marked now, and nothing else is changed
+pub record HasMarked (old new : Links) (place index : ℕ) : Type 0 where
+  pub marked : IsMarked new place index
+  pub stays : (p i : ℕ) → IsMarked old p i → IsMarked new p i
+  pub from : (p i : ℕ) → IsMarked new p i → IsMarked old p i ⊎ ((p ≡ place) × (i ≡ index))
+  pub waits : (p i : ℕ) (g : Text) → Waits old p i g ↔ Waits new p i g
+  pub links : (p i : ℕ) → HasLink old p i → HasLink new p i
+
+-- one more feature waits, and nothing else is changed
+pub record HasWaiter (old new : Links) (place index : ℕ) (name : Text) : Type 0 where
+  pub waits : Waits new place index name
+  pub stays : (p i : ℕ) (g : Text) → Waits old p i g → Waits new p i g
+  pub from : (p i : ℕ) (g : Text) → Waits new p i g → Waits old p i g ⊎ ((p ≡ place) × (i ≡ index) × (g ≡ name))
+  pub marks : (p i : ℕ) → IsMarked old p i ↔ IsMarked new p i
+  pub links : (p i : ℕ) → HasLink old p i → HasLink new p i

@@ -1,0 +1,27 @@
+-- The place of a referent among the dependencies of a node.
+use Rattle.std.specs.Prelude.{◌≡◌, ℕ, List, Option, Some, MatchOption, Contains, slice_get, ⊤}
+use Rattle.std.specs.declared.cmp.Ordering.TheVariants.{Less}
+use Rattle.krates_cm.specs.Document.{Text, TargetModel, PackageModel}
+use Rattle.krates_cm.specs.declared.target.TargetKind.TheVariants.{Lib}
+use Rattle.krates_ids.specs.Identity.{Identity, id_cmp}
+use Rattle.krates_resolve.specs.DeclaredDependency.{FirstAt}
+use Rattle.krates_resolve.specs.Links.{DepAt}
+use Rattle.krates_resolve.specs.Referent.{IsReferent}
+use Rattle.krates_resolve.specs.Resolved.{Resolved, id_of}
+use Rattle.krates_resolve.specs.declared.node_entry.NodeParts.{NodeParts}
+
+-- the dependency at this place is the one that the name means
+pub record IsReferentAt (r : Resolved) (parts : NodeParts) (name : Text) (index : ℕ) : Type 0 where
+  pub child : Identity
+  pub at : slice_get parts.children.now index ≡ Some child
+  pub dep : DepAt r (id_of parts.parent.now) (id_of child) parts.place index
+  pub is : IsReferent r (id_of parts.parent.now) name (id_of child)
+
+-- the id comes before the one at the place of the list, or there is no place
+abbrev pub IsBefore : List Identity → Identity → Option ℕ → Type 0
+IsBefore ids id place = MatchOption place ⊤ (λ at. (there : Identity) × (slice_get ids at ≡ Some there) × (id_cmp id there ≡ Less))
+
+-- the library of the package, its first target of kind `lib`, or none where it has none
+abbrev pub IsLibraryOf : PackageModel → Option TargetModel → Type 0
+IsLibraryOf p answer =
+    MatchOption answer ((place : ℕ) (t : TargetModel) → slice_get p.targets place ≡ Some t → Contains t.kind Lib → ⊥) (λ t. (place : ℕ) × FirstAt (λ t. Contains t.kind Lib) p.targets place t)

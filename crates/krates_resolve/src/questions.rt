@@ -1,0 +1,360 @@
+//! What the rules of resolution ask of a document, asked one by one.
+
+ghost use Rattle.std.specs.Prelude.{◌≡◌, ℕ, ◌↔◌, ◌∷◌, [], All, Contains, IfOk, IsTrue, MatchOption, map};
+ghost use Rattle.krates_cm.specs.Document.{DependencyModel, dep_kind_info_view, metadata_view, node_dep_view};
+ghost use Rattle.krates_resolve.specs.Admission.{HasVersion, IsAdmitted};
+ghost use Rattle.krates_resolve.specs.Declares.{Declares};
+ghost use Rattle.krates_resolve.specs.DocumentModel.{as_resolved};
+ghost use Rattle.krates_resolve.specs.Facts.{Id};
+ghost use Rattle.krates_resolve.specs.Ids.{ids_view};
+ghost use Rattle.krates_resolve.specs.LookedUp.{TellsDeclared, TellsEntry, TellsParts};
+ghost use Rattle.krates_resolve.specs.Lookup.{IsLookup, resolved_view};
+ghost use Rattle.krates_resolve.specs.NodeEntry.{IsEntry, edge_between, edge_for};
+ghost use Rattle.krates_resolve.specs.Questions.{Stands, questions};
+ghost use Rattle.krates_resolve.specs.Referent.{IsReferent};
+ghost use Rattle.krates_resolve.specs.Resolved.{HasGraphWith, IsMember, id_of, resolved};
+ghost use Rattle.krates_resolve.specs.RootChoice.{AsksFor};
+ghost use Rattle.krates_resolve.specs.RootOrder.{AreInOrder, ArePicked};
+ghost use Rattle.krates_resolve.specs.Roots.{IsRoot};
+ghost use Rattle.krates_resolve.specs.Rules.{Open};
+ghost use Rattle.krates_resolve.specs.Table.{IsPlaceOf};
+
+use crate::declared_dependency::{declared_of, version_of};
+use crate::ids::Ids;
+use crate::lookup::{Lookup, lookup_of};
+use crate::node_entry::{NodeEntry, NodeParts, entry_at, is_same_info, parts_of};
+use crate::referent::referent_of;
+use crate::roots::{RootChoice, choice_of, is_root};
+use crate::setting::Setting;
+use crate::standing::{Standing, standing_of};
+use krates_cm::{DepKindInfo, Metadata, NodeDep};
+use krates_ids::{Kid, laws};
+use std::alloc::{AllocError, Global};
+use std::marker::Model;
+
+/// A document that was admitted, ready to be asked what the rules of resolution ask of it.
+///
+/// A crate is named by its id. One that isn't of the document has no dependency, and is no root. Each question goes over the
+/// ids of the document's nodes, or of its members, once.
+#[derive(Drop)]
+pub struct Document<'a> {
+    lookup: Lookup<'a>,
+}
+
+impl<'a> Model for Document<'a> {
+    ghost use Rattle.krates_resolve.specs.DocumentModel.{DocumentModel, looked_up};
+    ghost use Rattle.krates_resolve.specs.Lookup.{IsLookup};
+
+    ghost Value = { DocumentModel };
+
+    ghost use Rattle.std.specs.Coded.{codes};
+    ghost use Rattle.krates_cm.specs.contracts.metadata.Metadata as documents;
+    ghost use Rattle.krates_cm.specs.contracts.resolve.Resolve as graphs;
+
+    ghost coded = { Prim.hlevel (codes, documents.the_row.coded, graphs.the_row.coded) };
+
+    ghost view = { λ d. looked_up d.lookup };
+
+    ghost invariant = { λ d. IsLookup d.lookup };
+}
+
+impl<'a> Document<'a> {
+    /// The document that was admitted with these ids.
+    ///
+    /// The only error is want of memory.
+    pub fn new(
+        alloc: Global,
+        metadata: &'a Metadata,
+        ids: &'a Ids,
+    ) -> Result<Document<'a>, AllocError>
+        requires { IsAdmitted (metadata_view metadata.now) (ids_view ids.now) }
+        ensures { IfOk result (λ document. HasGraphWith (metadata_view metadata.now) (λ g. as_resolved document ≡ resolved (metadata_view metadata.now) g)) }
+    {
+        let Some(resolve) = &metadata.resolve else {
+            unreachable!()
+        };
+        let lookup = lookup_of(alloc, metadata, resolve, ids)?;
+        Ok(Document { lookup })
+    }
+
+    /// What a name means in a feature reference of a crate, as `dep:NAME` or `NAME/FEATURE`: the least, by id, of the
+    /// dependencies of its node that answer to the name (Cargo Book, "Features" and "cargo metadata", `resolve`).
+    ///
+    /// A dependency answers to its own name, and to that of its package where its own is the package's library. In its
+    /// own name `_` may stand for `-`. None where no dependency answers.
+    pub fn referent(&self, krate: &Kid, name: &str) -> Option<&'a Kid>
+        ensures { MatchOption result ((child : Id) → IsReferent (as_resolved self.now) (id_of krate.now) name.now child → ⊥) (λ child. IsReferent (as_resolved self.now) (id_of krate.now) name.now (id_of child.now)) }
+    {
+        referent_in(&self.lookup, krate, name)
+    }
+
+    /// The crates that are kept for themselves under a setting, also those that the setting excludes.
+    ///
+    /// Where it asks for no manifest, that is the graph's root alone, or every member of the workspace where the graph
+    /// has no root or the setting says so. Where it asks for the one manifest of the workspace itself, that is every
+    /// member too, and else the members with one of the manifests (Cargo Book, "cargo metadata", `workspace_members`
+    /// and `resolve`). Members come in the order of the document.
+    ///
+    /// The only error is want of memory.
+    pub fn roots(&self, alloc: Global, setting: &Setting) -> Result<Vec<&'a Kid>, AllocError>
+        ensures each { IfOk result (λ roots. (i : Id) → IsRoot (as_resolved self.now) setting.now i ↔ Contains (map (λ root. id_of root.now) roots.items) i) }
+        ensures order { IfOk result (λ roots. AreInOrder (as_resolved self.now) setting.now (map (λ root. id_of root.now) roots.items)) }
+    {
+        roots_in(alloc, &self.lookup, setting)
+    }
+
+    /// As what a crate declares its dependency on another, for one purpose and target: the place in the list of its
+    /// package (Cargo Book, "cargo metadata", `dependencies` and `resolve`).
+    ///
+    /// A declared dependency fits where purpose, target, name and version do. Where several fit, it is the first of them
+    /// whose source is that of the other crate. None where the crate's node doesn't list the dependency for this purpose
+    /// and target, where none fits, and where several fit and none of them has the source.
+    ///
+    /// The only error is want of memory.
+    pub fn declared(
+        &self,
+        alloc: Global,
+        parent: &Kid,
+        child: &Kid,
+        info: &DepKindInfo,
+    ) -> Result<Option<usize>, AllocError>
+        ensures { let edge = edge_between (id_of parent.now) (id_of child.now) (dep_kind_info_view info.now) in
+            IfOk result (λ answer. MatchOption answer ((place : ℕ) (d : DependencyModel) → Declares (as_resolved self.now) edge place d → ⊥) (λ place. (d : DependencyModel) × Declares (as_resolved self.now) edge place d)) }
+    {
+        declared_in(alloc, &self.lookup, parent, child, info)
+    }
+
+    /// Whether a crate's dependency on another, for one purpose and target, may be kept under a setting: the crate's node
+    /// lists it, its package declares it, the setting doesn't ignore its purpose, its target passes, and the other crate
+    /// has a node and a package that isn't excluded.
+    ///
+    /// Whether it is optional, and whether the crate itself is kept, isn't asked. The only error is want of memory.
+    pub fn is_open(
+        &self,
+        alloc: Global,
+        setting: &Setting,
+        parent: &Kid,
+        child: &Kid,
+        info: &DepKindInfo,
+    ) -> Result<bool, AllocError>
+        ensures { let edge = edge_between (id_of parent.now) (id_of child.now) (dep_kind_info_view info.now) in
+            IfOk result (λ b. IsTrue b ↔ ((d : DependencyModel) × Open (questions (as_resolved self.now) setting.now) edge d)) }
+    {
+        is_open_in(alloc, &self.lookup, setting, parent, child, info)
+    }
+}
+
+/// What a name means in a reference of a crate.
+fn referent_in<'a>(lookup: &Lookup<'a>, krate: &Kid, name: &str) -> Option<&'a Kid>
+    requires { IsLookup lookup.now }
+    ensures { MatchOption result ((child : Id) → IsReferent (resolved_view lookup.now) (id_of krate.now) name.now child → ⊥) (λ child. IsReferent (resolved_view lookup.now) (id_of krate.now) name.now (id_of child.now)) }
+{
+    let Some(parts) = parts_for(lookup, krate) else {
+        return None;
+    };
+    let Some(index) = referent_of(lookup, &parts, name) else {
+        return None;
+    };
+    Some(entry_at(&parts, index).child)
+}
+
+/// The node of a crate, taken apart; none where it has no node.
+///
+/// It is looked for in the list of ids, since the table takes only ids that live as long as the document.
+fn parts_for<'a>(lookup: &Lookup<'a>, krate: &Kid) -> Option<NodeParts<'a>>
+    requires { IsLookup lookup.now }
+    ensures { TellsParts (resolved_view lookup.now) (id_of krate.now) result }
+{
+    laws::one_reading();
+    let Some(place) = place_among(&lookup.ids.nodes, krate) else {
+        return None;
+    };
+    Some(parts_of(lookup, place))
+}
+
+/// The first place of an id in a list.
+fn place_among(ids: &[Kid], id: &Kid) -> Option<usize>
+    ensures { IsPlaceOf ids.now (id_of id.now) result }
+{
+    ids.iter().position(|other| is_same(other, id))
+}
+
+/// Whether two ids are the same.
+fn is_same(one: &Kid, other: &Kid) -> bool
+    ensures { IsTrue result ↔ (id_of one.now ≡ id_of other.now) }
+{
+    laws::comparison();
+    one == other
+}
+
+/// The roots.
+fn roots_in<'a>(
+    alloc: Global,
+    lookup: &Lookup<'a>,
+    setting: &Setting,
+) -> Result<Vec<&'a Kid>, AllocError>
+    requires { IsLookup lookup.now }
+    ensures each { IfOk result (λ roots. (i : Id) → IsRoot (resolved_view lookup.now) setting.now i ↔ Contains (map (λ root. id_of root.now) roots.items) i) }
+    ensures order { IfOk result (λ roots. AreInOrder (resolved_view lookup.now) setting.now (map (λ root. id_of root.now) roots.items)) }
+{
+    laws::one_reading();
+    match choice_of(lookup, setting) {
+        RootChoice::Root(root) => alone(alloc, root),
+        RootChoice::Members => root_members(alloc, lookup, setting, true, &lookup.ids.members),
+        RootChoice::Manifests => root_members(alloc, lookup, setting, false, &lookup.ids.members),
+    }
+}
+
+/// The list of one id.
+fn alone<'a>(alloc: Global, id: &'a Kid) -> Result<Vec<&'a Kid>, AllocError>
+    ensures { IfOk result (λ ids. map (λ id. id_of id.now) ids.items ≡ id_of id.now ∷ []) }
+{
+    let mut ids = Vec::new(alloc);
+    ids.push(id)?;
+    Ok(ids)
+}
+
+/// Those of these members that are roots: all of them, or those with one of the manifests.
+fn root_members<'a>(
+    alloc: Global,
+    lookup: &Lookup<'a>,
+    setting: &Setting,
+    all: bool,
+    members: &'a [Kid],
+) -> Result<Vec<&'a Kid>, AllocError>
+    requires lookup { IsLookup lookup.now }
+    requires asks { AsksFor (resolved_view lookup.now) setting.now all }
+    requires members { All (λ member. IsMember (resolved_view lookup.now) (id_of member)) members.now }
+    ensures { IfOk result (λ roots. ArePicked (IsRoot (resolved_view lookup.now) setting.now) (map id_of members.now) (map (λ root. id_of root.now) roots.items)) }
+{
+    let mut roots = Vec::new(alloc);
+    for member in members {
+        if is_root(lookup, setting, all, member) {
+            roots.push(member)?;
+        }
+    }
+    Ok(roots)
+}
+
+/// The place of the declared dependency of an edge between two crates.
+fn declared_in<'a>(
+    alloc: Global,
+    lookup: &Lookup<'a>,
+    parent: &Kid,
+    child: &Kid,
+    info: &DepKindInfo,
+) -> Result<Option<usize>, AllocError>
+    requires { IsLookup lookup.now }
+    ensures { let edge = edge_between (id_of parent.now) (id_of child.now) (dep_kind_info_view info.now) in
+        IfOk result (λ answer. MatchOption answer ((place : ℕ) (d : DependencyModel) → Declares (resolved_view lookup.now) edge place d → ⊥) (λ place. (d : DependencyModel) × Declares (resolved_view lookup.now) edge place d)) }
+{
+    match entry_between(lookup, parent, child) {
+        Some(entry) => declared_for(alloc, &entry, info),
+        None => Ok(None),
+    }
+}
+
+/// The dependency of a crate's node on another crate; none where there is none.
+fn entry_between<'a>(lookup: &Lookup<'a>, parent: &Kid, child: &Kid) -> Option<NodeEntry<'a>>
+    requires { IsLookup lookup.now }
+    ensures { TellsEntry (resolved_view lookup.now) (id_of parent.now) (id_of child.now) result }
+{
+    laws::one_reading();
+    let Some(parts) = parts_for(lookup, parent) else {
+        return None;
+    };
+    let Some(index) = place_among(parts.children, child) else {
+        return None;
+    };
+    Some(entry_at(&parts, index))
+}
+
+/// The place of the declared dependency of an entry, for a purpose and target that it lists.
+fn declared_for<'a>(
+    alloc: Global,
+    entry: &NodeEntry<'a>,
+    info: &DepKindInfo,
+) -> Result<Option<usize>, AllocError>
+    requires { HasVersion entry.now.child.now }
+    ensures { IfOk result (TellsDeclared entry.now (dep_kind_info_view info.now)) }
+{
+    if !lists(entry.dep, info) {
+        return Ok(None);
+    }
+    let Some(version) = version_of(alloc, entry.child)? else {
+        unreachable!()
+    };
+    Ok(declared_of(entry.declared, entry.dep, entry.child, &version, info))
+}
+
+/// Whether the dependency of a node lists this purpose and target.
+fn lists(dep: &NodeDep, info: &DepKindInfo) -> bool
+    ensures { IsTrue result ↔ Contains (node_dep_view dep.now).dep_kinds (dep_kind_info_view info.now) }
+{
+    for other in dep.dep_kinds.as_slice() {
+        if is_same_info(other, info) {
+            return true;
+        }
+    }
+    false
+}
+
+/// Whether an edge between two crates may be kept.
+fn is_open_in<'a>(
+    alloc: Global,
+    lookup: &Lookup<'a>,
+    setting: &Setting,
+    parent: &Kid,
+    child: &Kid,
+    info: &DepKindInfo,
+) -> Result<bool, AllocError>
+    requires { IsLookup lookup.now }
+    ensures { let edge = edge_between (id_of parent.now) (id_of child.now) (dep_kind_info_view info.now) in
+        IfOk result (λ b. IsTrue b ↔ ((d : DependencyModel) × Open (questions (resolved_view lookup.now) setting.now) edge d)) }
+{
+    match entry_between(lookup, parent, child) {
+        Some(entry) => is_entry_open(alloc, lookup, setting, &entry, info),
+        None => Ok(false),
+    }
+}
+
+/// Whether the edge of an entry may be kept, for one purpose and target.
+fn is_entry_open<'a>(
+    alloc: Global,
+    lookup: &Lookup<'a>,
+    setting: &Setting,
+    entry: &NodeEntry<'a>,
+    info: &DepKindInfo,
+) -> Result<bool, AllocError>
+    requires lookup { IsLookup lookup.now }
+    requires entry { IsEntry (resolved_view lookup.now) entry.now }
+    requires version { HasVersion entry.now.child.now }
+    ensures { let edge = edge_for entry.now (dep_kind_info_view info.now) in
+        IfOk result (λ b. IsTrue b ↔ ((d : DependencyModel) × Open (questions (resolved_view lookup.now) setting.now) edge d)) }
+{
+    if setting.ignores(info.kind, entry.is_member) {
+        return Ok(false);
+    }
+    let declared = declared_for(alloc, entry, info)?;
+    let Some(_) = declared else {
+        return Ok(false);
+    };
+    let passes = setting.passes(alloc, &info.target)?;
+    if !passes {
+        return Ok(false);
+    }
+    Ok(stands(lookup, setting, entry.child))
+}
+
+/// Whether a crate has a node and a package that isn't excluded.
+fn stands<'a>(lookup: &Lookup<'a>, setting: &Setting, id: &'a Kid) -> bool
+    requires { IsLookup lookup.now }
+    ensures { IsTrue result ↔ Stands (resolved_view lookup.now) setting.now (id_of id.now) }
+{
+    match standing_of(lookup, setting, id) {
+        Standing::Stands(_) => true,
+        Standing::NoPackage => false,
+        Standing::NoNode => false,
+        Standing::Excluded => false,
+    }
+}
