@@ -2,8 +2,11 @@
 use Rattle.std.proofs.Common.{◌≡◌, ◌≢◌, ◌↔◌, ℕ, zero, suc, ◌<◌, ◌≤◌, ◌^◌, List, [], ◌∷◌, length, get_or, map, AllPairs, Some, slice_get, Contains, refl, sym, ap, ◌∙◌, subst, inl, inr, arith}
 use Rattle.std.proofs.lemmas.List.{get_or-map, length-map}
 use Rattle.std.proofs.lemmas.List.Elements.{Contains-get_or}
+use Rattle.std.specs.BTreeSet.{BTreeSet}
 use Rattle.std.specs.List.{AllZip}
 use Rattle.std.specs.List.Sorted.{IsStrictlySortedBy}
+use Rattle.std.specs.Prelude.{String}
+use Rattle.std.specs.declared.alloc.Global.{Global}
 use Rattle.krates_cm.specs.Document.{Text, MetadataModel, ResolveModel, PackageModel, id_view, package_view, metadata_view}
 use Rattle.krates_cm.specs.declared.metadata.Metadata.{Metadata}
 use Rattle.krates_cm.specs.declared.package.Package.{Package}
@@ -12,20 +15,22 @@ use Rattle.krates_ids.specs.declared.error.Error.{Error}
 use Rattle.krates_ids.specs.declared.error.Error.TheVariants as errors
 use Rattle.krates_resolve.specs.Admission.{IsAdmitted, package_texts, doubled_package}
 use Rattle.krates_resolve.specs.AdmissionRefusals.{AreDistinct}
-use Rattle.krates_resolve.specs.Facts.{Id, Cause, Crate, Lost}
+use Rattle.krates_resolve.specs.Facts.{Id, Cause, Crate, Feature, Lost}
 use Rattle.krates_resolve.specs.Ids.{IdsModel}
 use Rattle.krates_resolve.specs.Questions.{Stands, questions}
 use Rattle.krates_resolve.specs.Resolved.{ReadsAs, resolved, id_of}
 use Rattle.krates_resolve.specs.declared.selection.Selection.{Selection}
 use Rattle.krates_resolve.specs.Setting.{SettingModel}
-use Rattle.krates.specs.Build.{IsResolvable, IsKept, IsNotKept, IsLost, AreThosePackages, HasTooMany, IsUnbuilt, IsMiscount}
+use Rattle.krates.specs.Build.{IsResolvable, IsDerived, IsKept, IsNotKept, IsLost, AreThosePackages, HasTooMany, IsUnbuilt, IsMiscount}
 use Rattle.krates.specs.Division.{IsAmong, IsDivision}
+use Rattle.krates.specs.Enabled.{AreEnabledSets}
+use Rattle.krates.specs.Kept.{IsEnabledIn, names_in_each}
 use Rattle.krates.specs.Krate.{krate_ids, krate_packages}
 use Rattle.krates.specs.declared.division.Division.{Division}
 use Rattle.krates.proofs.DivisionLemmas.{ReadsOnce}
 use Rattle.krates.proofs.Membership.{Member, member_of, contains_of, mapped_of, member_map}
 use Rattle.krates.proofs.OrderedIds.{Compares, not_earlier}
-use Rattle.krates.proofs.SelectionFacts.{Selects, derived_at, derived_of, kept_among, none_lost}
+use Rattle.krates.proofs.SelectionFacts.{Selects, derived_at, derived_of, kept_among, enabled_among, none_lost}
 use Rattle.krates.proofs.StandingLaws.{derivable_stands}
 
 -- ---- an admitted document
@@ -161,6 +166,15 @@ builds once m s x d sel div =
 pub built : ReadsOnce → (m : Metadata) (s t : SettingModel) (x : Selection) (selected : List Identity) (d : Division) → t ≡ s → selected ≡ x.krates.items → Selects (metadata_view m) t x → IsDivision m.packages.items selected d → Builds m s d
 built once m s t x selected d same those sel div =
     builds once m s x d (subst (λ z. Selects (metadata_view m) z x) same sel) (subst (λ ids. IsDivision m.packages.items ids d) those div)
+
+-- the features of the selection, sorted into sets, are the enabled ones
+pub enabled : (m : Metadata) (s : SettingModel) (x : Selection) (d : Division) (sets : List (BTreeSet (String Global))) → Selects (metadata_view m) s x → Builds m s d
+    → AreEnabledSets (krate_ids d.kept.items) x.features.items sets → (i : Id) (f : Text) → IsDerived (metadata_view m) s (Feature i f) ↔ IsEnabledIn (krate_ids d.kept.items) (names_in_each sets) i f
+enabled m s x d sets sel b so i f =
+    let told = enabled_among (metadata_view m) s x sel i f in (
+      λ h. (let both = told.0 h in (so i f).1 ((b.kept i).0 both.0, both.1)),
+      λ h. (let both = (so i f).0 h in told.1 ((b.kept i).1 both.0, both.1)),
+    )
 
 -- ---- too many
 

@@ -1,8 +1,10 @@
 pub mod BuildLemmas
 pub mod CorrectedSoFar
 pub mod DivisionLemmas
+pub mod EnabledLemmas
 pub mod HandedBack
 pub mod Membership
+pub mod NamesIn
 pub mod OrderedIds
 pub mod ResultValues
 pub mod SeenLemmas

@@ -32,6 +32,10 @@ member_left [] ys z m = absurd m
 member_left (x ∷ xs) ys z (inl e) = inl e
 member_left (x ∷ xs) ys z (inr m) = inr (member_left xs ys z m)
 
+pub member_right : {X : Type 0} (xs ys : List X) (z : X) → Member ys z → Member (xs ++ ys) z
+member_right [] ys z m = m
+member_right (x ∷ xs) ys z m = inr (member_right xs ys z m)
+
 -- ---- under a map
 
 -- an element that the function takes to this one

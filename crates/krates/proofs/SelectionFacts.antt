@@ -1,10 +1,11 @@
 -- Which crates and causes are among the facts of a selection, and of the document and the setting.
-use Rattle.std.proofs.Common.{◌≡◌, ◌↔◌, List, ◌++◌, map, Some, Contains, subst, inl, inr}
-use Rattle.krates_cm.specs.Document.{MetadataModel, ResolveModel}
-use Rattle.krates_resolve.specs.Derivation.{Derivable}
-use Rattle.krates_resolve.specs.Facts.{Id, Cause, Fact, Crate, Lost}
+use Rattle.std.proofs.Common.{◌≡◌, ◌↔◌, List, ◌++◌, map, Some, Contains, sym, subst, inl, inr}
+use Rattle.krates_cm.specs.Document.{MetadataModel, ResolveModel, Text}
+use Rattle.krates_resolve.specs.Derivation.{Derivable, follows}
+use Rattle.krates_resolve.specs.Facts.{Id, Cause, Fact, Crate, Feature, Lost}
 use Rattle.krates_resolve.specs.Questions.{questions}
 use Rattle.krates_resolve.specs.Resolved.{HasGraphWith, resolved, id_of}
+use Rattle.krates_resolve.specs.Rules.{feature_crate}
 use Rattle.krates_resolve.specs.Selection.{IsSelection, crate_fact, edge_fact, feature_fact, toggled_fact, facts_of}
 use Rattle.krates_resolve.specs.declared.selection.EnabledFeature.{EnabledFeature}
 use Rattle.krates_resolve.specs.declared.selection.KeptEdge.{KeptEdge}
@@ -13,7 +14,7 @@ use Rattle.krates_resolve.specs.declared.selection.ToggledFeature.{ToggledFeatur
 use Rattle.krates_resolve.specs.Setting.{SettingModel}
 use Rattle.krates.specs.Build.{IsDerived, IsKept, IsLost}
 use Rattle.krates.specs.Division.{IsAmong}
-use Rattle.krates.proofs.Membership.{Member, member_of, contains_of, mapped_of, member_map, member_append, member_left}
+use Rattle.krates.proofs.Membership.{Member, member_of, contains_of, mapped_of, member_map, member_append, member_left, member_right}
 
 -- ---- the facts of a selection
 
@@ -38,6 +39,26 @@ crate_only x f apart m = elim (member_append (map crate_fact x.krates.items) _ f
     ]
   ]
 ]
+
+-- a feature is one of the features
+feature_only : (x : Selection) (i : Id) (f : Text) → Member (facts_of x) (Feature i f) → Member (map feature_fact x.features.items) (Feature i f)
+feature_only x i f m = elim (member_append (map crate_fact x.krates.items) _ (Feature i f) m) [
+  | inl krate ↦ absurd (not_mapped crate_fact (Feature i f) (λ k h. cc h) x.krates.items krate)
+  | inr more ↦ elim (member_append (map edge_fact x.edges.items) _ (Feature i f) more) [
+    | inl edge ↦ absurd (not_mapped edge_fact (Feature i f) (λ e h. cc h) x.edges.items edge)
+    | inr rest ↦ elim (member_append (map feature_fact x.features.items) _ (Feature i f) rest) [
+      | inl feature ↦ feature
+      | inr toggled ↦ absurd (not_mapped toggled_fact (Feature i f) (λ t h. cc h) x.toggled.items toggled)
+    ]
+  ]
+]
+
+among_features : (x : Selection) (i : Id) (f : Text) → Contains (map feature_fact x.features.items) (Feature i f) → Contains (facts_of x) (Feature i f)
+among_features x i f c =
+    let fact : Fact = Feature i f in
+    let rest : List Fact = map feature_fact x.features.items ++ map toggled_fact x.toggled.items in
+    let here = member_left (map feature_fact x.features.items) (map toggled_fact x.toggled.items) fact (member_of (map feature_fact x.features.items) fact c) in
+    contains_of (facts_of x) fact (member_right (map crate_fact x.krates.items) (map edge_fact x.edges.items ++ rest) fact (member_right (map edge_fact x.edges.items) rest fact here))
 
 crate_apart : (i : Id) → IsApart (Crate i)
 crate_apart i = record { edge = λ e h. cc h; feature = λ e h. cc h; toggled = λ e h. cc h }
@@ -80,6 +101,22 @@ pub kept_among : (m : MetadataModel) (s : SettingModel) (x : Selection) → Sele
 kept_among m s x h i = (
   λ k. crate_among x i ((h.holds.facts (Crate i)).0 (derived_at m s h.graph (Crate i) h.has_graph k)),
   λ a. derived_of m s h.graph (Crate i) h.has_graph ((h.holds.facts (Crate i)).1 (among_crate x i a)),
+)
+
+-- a feature that is derived is one of the features of the selection, and its crate is kept
+pub enabled_among : (m : MetadataModel) (s : SettingModel) (x : Selection) → Selects m s x → (i : Id) (f : Text) → IsDerived m s (Feature i f) ↔ (IsKept m s i × Contains (map feature_fact x.features.items) (Feature i f))
+enabled_among m s x h i f = (
+  λ d.
+      (let at = derived_at m s h.graph (Feature i f) h.has_graph d in
+      let krate : Derivable (questions (resolved m h.graph) s) (Crate i) = follows feature_crate (λ g a. elim a [
+        | inl same ↦ subst (λ z. Derivable (questions (resolved m h.graph) s) z) (sym same) at
+        | inr none ↦ absurd none
+      ]) in
+      let fact : Fact = Feature i f in (
+        derived_of m s h.graph (Crate i) h.has_graph krate,
+        contains_of (map feature_fact x.features.items) fact (feature_only x i f (member_of (facts_of x) fact ((h.holds.facts fact).0 at))),
+      )),
+  λ both. derived_of m s h.graph (Feature i f) h.has_graph ((h.holds.facts (Feature i f)).1 (among_features x i f both.1)),
 )
 
 pub none_lost : (m : MetadataModel) (s : SettingModel) (x : Selection) → Selects m s x → (c : Cause) → IsLost m s c → ⊥

@@ -4,7 +4,7 @@
 use Rattle.std.specs.Prelude.{ℕ, ◌≢◌, ◌≡◌, ◌↔◌, ◌≤◌, ◌^◌, List, Option, map, All, AllPairs, Contains, length, ⊤}
 use Rattle.std.specs.List.{AllZip, FoldsTo}
 use Rattle.std.specs.List.Sorted.{IsStrictlySortedBy}
-use Rattle.krates_cm.specs.Document.{MetadataModel, id_view, metadata_view, text_view}
+use Rattle.krates_cm.specs.Document.{MetadataModel, Text, id_view, metadata_view, text_view}
 use Rattle.krates_cm.specs.declared.metadata.Metadata.{Metadata}
 use Rattle.krates_cm.specs.declared.package.Package.{Package}
 use Rattle.krates_ids.specs.Identity.{Identity, Reads, id_cmp}
@@ -13,7 +13,7 @@ use Rattle.krates_ids.specs.declared.error.Error.TheVariants as errors
 use Rattle.krates_resolve.specs.Admission.{IsAdmitted}
 use Rattle.krates_resolve.specs.AdmissionRefusals.{IsRefused}
 use Rattle.krates_resolve.specs.Derivation.{Derivable}
-use Rattle.krates_resolve.specs.Facts.{Id, Cause, Fact, Crate, Lost}
+use Rattle.krates_resolve.specs.Facts.{Id, Cause, Fact, Crate, Feature, Lost}
 use Rattle.krates_resolve.specs.Ids.{IdsModel}
 use Rattle.krates_resolve.specs.Questions.{questions}
 use Rattle.krates_resolve.specs.Resolved.{HasGraphWith, ReadsAs, id_of, resolved}
@@ -21,7 +21,7 @@ use Rattle.krates_resolve.specs.Rules.{Questions}
 use Rattle.krates_resolve.specs.SelectionRefusals.{IsUnselected}
 use Rattle.krates_resolve.specs.Setting.{SettingModel}
 use Rattle.krates.specs.Indexed.{Answering, Sees}
-use Rattle.krates.specs.Kept.{KeptCrates}
+use Rattle.krates.specs.Kept.{KeptCrates, HasEnabled}
 
 -- ---- the document
 
@@ -79,6 +79,8 @@ pub record IsBuilt {F : Type 0} (filters : F → Package → F → Type 0) (m : 
   pub some : (i : Id) × IsKept (metadata_view m) s i
   pub none_lost : (c : Cause) → IsLost (metadata_view m) s c → ⊥
   pub packages : AreThosePackages m.packages.items (IsKept (metadata_view m) s) k.ids k.packages
+  -- of the kept crates the features with a derivation are enabled, and no others
+  pub enabled : (i : Id) (f : Text) → IsDerived (metadata_view m) s (Feature i f) ↔ HasEnabled k i f
   pub root : k.workspace_root ≡ text_view m.workspace_root
   pub reported : IsReported filters m s before after
 

@@ -17,6 +17,7 @@ ghost use Rattle.krates.specs.BuilderModel.{with_setting};
 ghost use Rattle.krates.specs.Indexed.{Sees};
 
 use crate::division::divide;
+use crate::enabled::enabled_of;
 use crate::filter::{OnFilter, report};
 use crate::index::{IndexSource, seen_through};
 use crate::kept::Krates;
@@ -220,8 +221,9 @@ fn build_admitted<F: OnFilter>(
     let selection = select(alloc, &metadata, &ids, setting)?;
     let division = divide(alloc, metadata.packages, ids.packages, &selection.krates)?;
     expect_numbered(&division.kept)?;
+    let features = enabled_of(alloc, &division.kept, selection.features)?;
     report(division.others, filter);
-    Ok(Krates::new(division.kept, metadata.workspace_root))
+    Ok(Krates::new(division.kept, features, metadata.workspace_root))
 }
 
 /// Refuses more crates than can be numbered.

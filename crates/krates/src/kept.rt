@@ -1,31 +1,32 @@
 //! The crates that a build keeps.
 
-ghost use Rattle.std.specs.Prelude.{◌≡◌, ◌↔◌, ℕ, ◌<◌, ◌^◌, List, Some, length, string_bytes};
+ghost use Rattle.std.specs.Prelude.{◌≡◌, ◌↔◌, ℕ, ◌<◌, ◌^◌, List, MatchOption, Some, length, string_bytes};
 ghost use Rattle.std.specs.Iterator.{YieldsFirstRef, item_count};
 ghost use Rattle.krates_resolve.specs.Resolved.{id_of};
 ghost use Rattle.krates_resolve.specs.Table.{StandsAt};
-ghost use Rattle.krates.specs.Kept.{AreOrdered, kept_crates};
-ghost use Rattle.krates.specs.Krate.{krate_ids};
+ghost use Rattle.krates.specs.Kept.{AreOrdered, AreKept, HasFeatures, kept_crates, names_in};
 
-use crate::krate::Krate;
+use crate::enabled::EnabledFeatures;
+use crate::krate::{Krate, place_of};
 use krates_cm::Package;
 use krates_graph::graph::NodeId;
-use krates_ids::{Kid, laws};
+use krates_ids::Kid;
 use std::marker::Model;
 
-/// The crates that a build keeps: their ids and their packages in the order of the ids, and the path of the workspace.
+/// The crates that a build keeps: their ids, their packages and their enabled features in the order of the ids, and the path of
+/// the workspace.
 ///
 /// The crates are numbered from 0 in this order.
 #[derive(Debug, Drop)]
 pub struct Krates {
     kept: Vec<Krate>,
+    features: Vec<EnabledFeatures>,
     workspace_root: String,
 }
 
 impl Model for Krates {
     ghost use Rattle.std.specs.Prelude.{string_bytes};
-    ghost use Rattle.krates.specs.Kept.{KeptCrates, AreOrdered, kept_crates};
-    ghost use Rattle.krates.specs.Krate.{krate_ids};
+    ghost use Rattle.krates.specs.Kept.{KeptCrates, AreKept, kept_crates};
 
     ghost Value = { KeptCrates };
 
@@ -34,19 +35,24 @@ impl Model for Krates {
 
     ghost coded = { Prim.hlevel (codes, packages.the_row.coded) };
 
-    ghost view = { λ k. kept_crates k.kept.items (string_bytes k.workspace_root) };
+    ghost view = { λ k. kept_crates k.kept.items k.features.items (string_bytes k.workspace_root) };
 
-    ghost invariant = { λ k. AreOrdered (krate_ids k.kept.items) };
+    ghost invariant = { λ k. AreKept k.kept.items k.features.items };
 }
 
 impl Krates {
-    /// These crates, of a workspace at this path.
-    pub(crate) fn new(kept: Vec<Krate>, workspace_root: String) -> Krates
-        requires { AreOrdered (krate_ids kept.items) }
-        ensures { result ≡ kept_crates kept.items (string_bytes workspace_root) }
+    /// These crates, with these enabled features, of a workspace at this path.
+    pub(crate) fn new(
+        kept: Vec<Krate>,
+        features: Vec<EnabledFeatures>,
+        workspace_root: String,
+    ) -> Krates
+        requires { AreKept kept.items features.items }
+        ensures { result ≡ kept_crates kept.items features.items (string_bytes workspace_root) }
     {
         Krates {
             kept,
+            features,
             workspace_root,
         }
     }
@@ -74,11 +80,17 @@ impl Krates {
     pub fn nid_for_kid(&self, kid: &Kid) -> Option<NodeId>
         ensures { (n : ℕ) → (result ≡ Some n) ↔ StandsAt self.now.ids (id_of kid.now) n }
     {
-        laws::comparison();
-        match self.kept.binary_search_by(|krate| krate.id.cmp(kid)) {
-            Ok(place) => Some(NodeId::new(place as u32)),
-            Err(_) => None,
-        }
+        let place = place_of(&self.kept, kid)?;
+        Some(NodeId::new(place as u32))
+    }
+
+    /// The enabled features of a crate, in the order of their names as bytes: `Some` exactly for a kept crate. A kept crate may have
+    /// none, and then the set is empty.
+    pub fn get_enabled_features(&self, kid: &Kid) -> Option<&EnabledFeatures>
+        ensures { MatchOption result ((n : ℕ) → StandsAt self.now.ids (id_of kid.now) n → ⊥) (λ features. HasFeatures self.now.ids self.now.features (id_of kid.now) (names_in features.now)) }
+    {
+        let place = self.nid_for_kid(kid)?.index();
+        Some(&self.features[place])
     }
 
     /// The path of the workspace, as the document writes it.

@@ -5,12 +5,14 @@
 
 pub mod builder;
 mod division;
+pub mod enabled;
 pub mod filter;
 pub mod index;
 pub mod kept;
 mod krate;
 
 pub use builder::Builder;
+pub use enabled::EnabledFeatures;
 pub use filter::{NoneFilter, OnFilter};
 pub use index::IndexSource;
 pub use kept::{Krates, KratesIter};
@@ -22,13 +24,13 @@ pub use krates_ids::{
     BuildIndexCache, Error, FeaturesMap, IdError, IndexAnswer, IndexKrate, IndexKrateVersion, Kid,
     Lost, PackageNames, PkgSpec,
 };
-pub use krates_resolve::{DepKind, Scope};
+pub use krates_resolve::{DepKind, Scope, laws};
 pub use krates_text::target::Target;
 pub use krates_text::{cfg, features, path, target};
 
-/// Which documents can be resolved, and what is kept of them.
+/// Which documents can be resolved, what is kept of them, and what they answer to the questions of the rules.
 pub mod resolve {
     pub use krates_resolve::{
-        EnabledFeature, Ids, KeptEdge, Selection, Setting, ToggledFeature, admit, select,
+        Document, EnabledFeature, Ids, KeptEdge, Selection, Setting, ToggledFeature, admit, select,
     };
 }

@@ -3,9 +3,10 @@ use Rattle.std.proofs.lemmas.Result.{err_from_is_err_and}
 use Rattle.krates_cm.specs.Document.{metadata_view}
 use Rattle.krates_resolve.specs.Ids.{ids_view}
 use Rattle.krates.specs.Build.{IsMiscount}
+use Rattle.krates.specs.Enabled.{AreEnabledSets}
 use Rattle.krates.specs.Krate.{krate_ids, krate_packages}
 use Rattle.krates.specs.declared.krate.Krate.{Krate}
-use Rattle.krates.proofs.BuildLemmas.{package_ids, ids_distinct, built, miscount_refused}
+use Rattle.krates.proofs.BuildLemmas.{package_ids, ids_distinct, built, enabled, miscount_refused}
 use Rattle.krates.proofs.builder.build_admitted.Goals as goal
 
 pub divide-requires-clause-read : goal.divide-requires-clause-read
@@ -25,11 +26,14 @@ returns-in_err-expect_numbered-clause-refused g c =
 pub returns-clause-built : goal.returns-clause-built
 returns-clause-built g c =
     let b = built c.one_reading.ensures.once c.args.metadata c.args.setting.now c.args.setting.now c.in_ok-selection.selection c.deref.result.now c.in_ok-division.division refl c.deref.ensures.value c.in_ok-selection.ensures.selected c.in_ok-division.ensures in
+    let sets = c.in_ok-features.features.items in
+    let so = subst (λ (ks : List Krate). AreEnabledSets (krate_ids ks) c.in_ok-selection.selection.features.items sets) c.deref-3.ensures.value c.in_ok-features.ensures.enabled in
     rw c.new.ensures (record {
       kept = b.kept;
       some = b.some;
       none_lost = b.none_lost;
       packages = b.packages;
+      enabled = enabled c.args.metadata c.args.setting.now c.in_ok-selection.selection c.in_ok-division.division sets c.in_ok-selection.ensures.selected b so;
       root = refl;
       reported = record { ids = krate_ids c.in_ok-division.division.others.items; others = krate_packages c.in_ok-division.division.others.items; not_kept = b.others; run = c.report.ensures.run };
     })
