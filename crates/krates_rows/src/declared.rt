@@ -93,6 +93,16 @@ fn declared_twice(rt: HostRuntime) -> Result<(), Fail> {
             "\"path\":\"/w/e\"",
             "undeclared dependency: path+file:///w/d#0.1.0 of path+file:///w/a#0.1.0",
         ),
+    ] {
+        let json = document(rt.alloc(), name, id, first, second)?;
+        assert_eq!(rt; outcome(rt.alloc(), json.as_str())?.as_str(), expected);
+    }
+    Ok(())
+}
+
+#[test]
+fn declared_twice_with_git_sources(rt: HostRuntime) -> Result<(), Fail> {
+    for (name, id, first, second, expected) in [
         // an opaque id has no commit in its source, and is compared with one that is cut
         (
             "y",

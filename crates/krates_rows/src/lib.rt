@@ -1,4 +1,4 @@
-//! Worked examples: what the crates answer on documents and texts whose answers are known.
+//! Worked examples of documents: what resolution, builds and the program answer where the answer is known.
 //!
 //! They stand apart from the crates that they test, since a crate with tests is proved twice.
 #![tactic(auto)]
@@ -6,21 +6,15 @@
 #[cfg(test)]
 mod admission;
 #[cfg(test)]
-mod agenda;
+mod asked;
 #[cfg(test)]
 mod building;
 #[cfg(test)]
-mod correction;
-#[cfg(test)]
 mod declared;
 #[cfg(test)]
-mod documents;
+mod enabled;
 #[cfg(test)]
-mod expressions;
-#[cfg(test)]
-mod graph;
-#[cfg(test)]
-mod ids;
+mod features;
 #[cfg(test)]
 mod indexed;
 #[cfg(test)]
@@ -28,18 +22,8 @@ mod listing;
 #[cfg(test)]
 mod options;
 #[cfg(test)]
-mod passing;
-#[cfg(test)]
-mod paths;
-#[cfg(test)]
-mod reading;
-#[cfg(test)]
-mod references;
+mod referents;
 #[cfg(test)]
 mod selection;
 #[cfg(test)]
 mod settings;
-#[cfg(test)]
-mod specifications;
-#[cfg(test)]
-mod targets;

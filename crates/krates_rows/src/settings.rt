@@ -164,7 +164,11 @@ fn at(alloc: Global, text: &str, document: &str) -> Result<String, Fail> {
 fn targets_of_dependencies(rt: HostRuntime) -> Result<(), Fail> {
     let windows_musl = r#""cfg(all(windows, target_env = \"musl\"))""#;
     let atomics = r#""cfg(target_feature = \"atomics\")""#;
+    let unix = "\"cfg(unix)\"";
+    let windows = "x86_64-pc-windows-msvc";
+    let linux = "x86_64-unknown-linux-gnu";
     let windows_and_linux = "x86_64-pc-windows-msvc x86_64-unknown-linux-gnu";
+    let windows_or_musl = "x86_64-pc-windows-msvc x86_64-unknown-linux-musl";
     for (packages, target, asked, expected) in [
         ("a b|b", "\"cfg(any())\"", "", " +a -b"),
         // an edge that isn't declared is lost, whether its target passes or not
@@ -176,21 +180,11 @@ fn targets_of_dependencies(rt: HostRuntime) -> Result<(), Fail> {
         ),
         // no one of the targets makes both parts true
         ("a b|b", windows_musl, "", " +a +b"),
-        (
-            "a b|b",
-            windows_musl,
-            "x86_64-pc-windows-msvc x86_64-unknown-linux-musl",
-            " +a -b",
-        ),
-        ("a b|b", "\"cfg(unix)\"", "", " +a +b"),
-        (
-            "a b|b",
-            "\"cfg(unix)\"",
-            "x86_64-unknown-linux-gnu",
-            " +a +b",
-        ),
-        ("a b|b", "\"cfg(unix)\"", "x86_64-pc-windows-msvc", " +a -b"),
-        ("a b|b", "\"cfg(unix)\"", windows_and_linux, " +a +b"),
+        ("a b|b", windows_musl, windows_or_musl, " +a -b"),
+        ("a b|b", unix, "", " +a +b"),
+        ("a b|b", unix, linux, " +a +b"),
+        ("a b|b", unix, windows, " +a -b"),
+        ("a b|b", unix, windows_and_linux, " +a +b"),
         // a feature is asked of those that stand beside the target, of which nothing else need be known
         ("a b|b", atomics, "x+atomics", " +a +b"),
         ("a b|b", atomics, "x", " +a -b"),

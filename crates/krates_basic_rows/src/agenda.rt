@@ -20,5 +20,6 @@ fn numbers_are_taken_once_in_the_order_of_their_puts(rt: HostRuntime) -> Result<
     assert_eq!(rt; third.number(), 0);
     assert!(rt; agenda.take().is_none());
     assert_eq!(rt; agenda.taken(), 3);
+    assert_eq!(rt; agenda.numbers(), [3, 1, 0].as_slice());
     Ok(())
 }

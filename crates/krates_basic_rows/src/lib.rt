@@ -1,0 +1,29 @@
+//! Worked examples of texts, ids, metadata and the graph: what the lower crates answer where the answer is known.
+//!
+//! They stand apart from the crates that they test, since a crate with tests is proved twice.
+#![tactic(auto)]
+
+#[cfg(test)]
+mod agenda;
+#[cfg(test)]
+mod correction;
+#[cfg(test)]
+mod documents;
+#[cfg(test)]
+mod expressions;
+#[cfg(test)]
+mod graph;
+#[cfg(test)]
+mod ids;
+#[cfg(test)]
+mod passing;
+#[cfg(test)]
+mod paths;
+#[cfg(test)]
+mod reading;
+#[cfg(test)]
+mod references;
+#[cfg(test)]
+mod specifications;
+#[cfg(test)]
+mod targets;
