@@ -1,18 +1,16 @@
 -- What an enabled feature gives by its references, and what it may give.
-use Rattle.std.proofs.Common.{◌≡◌, ◌≢◌, ℕ, suc, ◌+◌, ◌<◌, List, [], ◌∷◌, length, get_or, map, option_map, Some, Contains, Result, Ok, Err, OnOk, String, Global, string_bytes, Ordering, Less, Equal, Greater, inl, inr, refl, sym, ap, ◌∙◌, subst, arith}
-use Rattle.std.proofs.lemmas.Bool.{cases_order}
+use Rattle.std.proofs.Common.{◌≡◌, ◌≢◌, ℕ, ◌<◌, List, [], ◌∷◌, length, get_or, map, option_map, Some, Contains, Result, Ok, Err, OnOk, String, Global, string_bytes, Ordering, Less, Equal, Greater, inl, inr, refl, sym, ap, ◌∙◌, subst, arith}
 use Rattle.std.proofs.lemmas.Cmp.{nat_list_cmp_total, on_total, then_total}
 use Rattle.std.proofs.lemmas.List.{length-map}
-use Rattle.std.proofs.lemmas.List.Elements.{Contains-append_cases}
 use Rattle.std.proofs.lemmas.Map.Lookups.{exact_bytes}
 use Rattle.std.proofs.lemmas.Option.{slice_get-map, slice_get-get_or, slice_get_read, same_Some}
 use Rattle.std.specs.Cmp.{IsTotalOrder}
 use Rattle.std.specs.List.{slice_get}
 use Rattle.std.specs.Ordering.{ordering_then, ordering_reverse}
-use Rattle.krates_cm.specs.Document.{Text, NodeDepModel, NodeModel, node_dep_view, text_view}
+use Rattle.krates_cm.specs.Document.{Text, node_dep_view, text_view}
 use Rattle.krates_text.specs.FeatureReference.{Reference, weak, strong, simple, IsReference, HasOneReading}
 use Rattle.krates_ids.specs.Identity.{Identity}
-use Rattle.krates_resolve.specs.Admission.{NoneDoubled, dep_texts, doubled_dep}
+use Rattle.krates_resolve.specs.Admission.{NoneDoubled}
 use Rattle.krates_resolve.specs.Derivation.{Derivable, follows, Among}
 use Rattle.krates_resolve.specs.Facts.{Id, Edge, Fact, Crate, Feature, Kept}
 use Rattle.krates_resolve.specs.FeatureTable.{listed_view}
@@ -20,13 +18,13 @@ use Rattle.krates_resolve.specs.FeatureValues.{AreValuesOf}
 use Rattle.krates_resolve.specs.Found.{HasFound, IsToggledIn, IsAsked, IsAskedWeakly, IsToggledStrongly, IsWaiting, IsFollowed, IsHeeded, IsValueOfEnabled, IsSound, Advances, AreTried, IsAny, MayTry, MayName, MayToggle}
 use Rattle.krates_resolve.specs.Heeding.{MayAsk, MayWait}
 use Rattle.krates_resolve.specs.Links.{DepAt, IsMarked, Waits, HasWaiter}
-use Rattle.krates_resolve.specs.ListedFeatures.{features_from, listed_features}
+use Rattle.krates_resolve.specs.ListedFeatures.{listed_features}
 use Rattle.krates_resolve.specs.Lookup.{NodeAt, IsLookup, resolved_view}
 use Rattle.krates_resolve.specs.NodeEntry.{AreParts, IsEntry, parent_of, child_of}
 use Rattle.krates_resolve.specs.Numbering.{FeatureAt}
 use Rattle.krates_resolve.specs.Questions.{questions}
 use Rattle.krates_resolve.specs.Referent.{IsReferent, id_order}
-use Rattle.krates_resolve.specs.Resolved.{Resolved, ReadsAs, NoNode, HasNode, HasDep, id_of}
+use Rattle.krates_resolve.specs.Resolved.{Resolved, NoNode, HasNode, HasDep, id_of}
 use Rattle.krates_resolve.specs.Rules.{Questions, IsAskedFor, feature_crate, named, lost_named, asked, toggled_strongly, lost_asked_package, lost_asked_node, lost_toggled_strongly, toggled_weakly, lost_toggled_weakly}
 use Rattle.krates_resolve.specs.Setting.{SettingModel}
 use Rattle.krates_resolve.specs.declared.features.ListedFeature.{ListedFeature}
@@ -37,12 +35,11 @@ use Rattle.krates_resolve.specs.declared.node_entry.NodeEntry.{NodeEntry}
 use Rattle.krates_resolve.specs.declared.node_entry.NodeParts.{NodeParts}
 use Rattle.krates_resolve.proofs.AdmissionLemmas.{ReadsOnce}
 use Rattle.krates_resolve.proofs.Entries.{one, undeclared_lost}
-use Rattle.krates_resolve.proofs.FirstPlaces.{seen_at}
 use Rattle.krates_resolve.proofs.Growth.{waiter_advances}
 use Rattle.krates_resolve.proofs.Growth.{one_id}
 use Rattle.krates_resolve.proofs.NodeParts.{between_tried, dep_of_child}
-use Rattle.krates_resolve.proofs.OnlyOne.{place_in, one_node_place}
 use Rattle.krates_resolve.proofs.Standings.{contains_at}
+use Rattle.krates_resolve.proofs.Waking.{one_dep_place, one_way}
 
 -- ---- derivations
 
@@ -122,41 +119,7 @@ equal_id a b h =
 pub one_referent : (r : Resolved) (i : Id) (name : Text) (a b : Id) → IsReferent r i name a → IsReferent r i name b → a ≡ b
 one_referent r i name a b x y = equal_id a b (neither_greater (id_order a b) (id_order b a) (id_order_total.antisymm a b) (x.least b y.is_named) (y.least a x.is_named))
 
--- ---- a dependency stands at one place, and one stands there
-
-one_read : ReadsOnce → (t : Text) (i j : Id) → ReadsAs t i → ReadsAs t j → i ≡ j
-one_read once t i j a b = sym a.same ∙ ap id_of (once t a.read b.read a.reads b.reads) ∙ b.same
-
-same_node : (r : Resolved) (i j : Id) (k l : ℕ) (a : NodeAt r i k) (b : NodeAt r j l) → k ≡ l → a.node ≡ b.node
-same_node r i j k l a b e = same_Some a.node b.node (sym a.at ∙ ap (λ n. slice_get r.graph.nodes n) e ∙ b.at)
-
--- the two crates of the dependency at a place
-pub one_link : ReadsOnce → (r : Resolved) (p q c d : Id) (place index : ℕ) → DepAt r p c place index → DepAt r q d place index → (p ≡ q) × (c ≡ d)
-one_link once r p q c d place index a b =
-    let node = same_node r p q place place a.node b.node refl in
-    let dep : a.dep ≡ b.dep = same_Some a.dep b.dep (sym a.at ∙ ap (λ (n : NodeModel). slice_get n.deps index) node ∙ b.at) in
-    (one_id once r p q place a.node b.node, one_read once b.dep.pkg c d (subst (λ (m : NodeDepModel). ReadsAs m.pkg c) dep a.id) b.id)
-
-text_at : (n : NodeModel) (k : ℕ) (d : NodeDepModel) → slice_get n.deps k ≡ Some d → slice_get (dep_texts n) k ≡ Some d.pkg
-text_at n k d at = slice_get-map (λ (d : NodeDepModel). d.pkg) n.deps k ∙ ap (λ o. option_map (λ (d : NodeDepModel). d.pkg) o) at
-
--- and its place
-pub one_dep_place : (r : Resolved) (p c : Id) (i j k l : ℕ) → NoneDoubled r.metadata r.graph → DepAt r p c i k → DepAt r p c j l → (i ≡ j) × (k ≡ l)
-one_dep_place r p c i j k l none a b =
-    let place = one_node_place r p i j none a.node b.node in
-    let n = a.node.node in
-    let same = same_node r p p i j a.node b.node place in
-    let there : slice_get n.deps l ≡ Some b.dep = ap (λ (m : NodeModel). slice_get m.deps l) same ∙ b.at in
-    let among = contains_at r.graph.nodes i n a.node.at in (
-      place,
-      elim (cases_order k l) [
-        | inl e ↦ e
-        | inr o ↦ elim o [
-          | inl lt ↦ absurd (none c (doubled_dep n among (record { first = k; second = l; apart = lt; one = a.dep.pkg; other = b.dep.pkg; at_first = text_at n k a.dep a.at; at_second = text_at n l b.dep there; one_reads = a.id; other_reads = b.id })))
-          | inr lt ↦ absurd (none c (doubled_dep n among (record { first = l; second = k; apart = lt; one = b.dep.pkg; other = a.dep.pkg; at_first = text_at n l b.dep there; at_second = text_at n k a.dep a.at; one_reads = b.id; other_reads = a.id })))
-        ]
-      ],
-    )
+-- ---- the dependency of a child
 
 -- the dependency at the place of a child
 pub child_dep : (r : Resolved) (x : NodeParts) (k : ℕ) (d : Identity) → AreParts r x.place x → k < length x.children.now → DepAt r (id_of x.parent.now) (id_of (get_or x.children.now k d)) x.place k
@@ -209,7 +172,7 @@ none_waiting r x p name g none child place index referent dep = absurd (none chi
 pub waiting_here : (r : Resolved) (x : Found) (p child : Id) (name g : Text) (place index : ℕ) → NoneDoubled r.metadata r.graph → IsReferent r p name child → DepAt r p child place index → Waits x.links place index g → IsWaiting r x p name g
 waiting_here r x p child name g place index none is dep waits other i k referent there =
     let same = one_referent r p name other child referent is in
-    let at = one_dep_place r p child place i index k none dep (subst (λ (c : Id). DepAt r p c i k) same there) in
+    let at = one_dep_place r p child place index i k none dep (subst (λ (c : Id). DepAt r p c i k) same there) in
     subst (λ (n : ℕ). Waits x.links n k g) at.0 (subst (λ (n : ℕ). Waits x.links place n g) at.1 waits)
 
 -- what was found, with other links
@@ -224,8 +187,8 @@ pub wait_advances : ReadsOnce → (r : Resolved) (s : SettingModel) (x : Found) 
     → IsAskedWeakly r s p child g → (IsMarked x.links place index → IsToggledIn r x p child g) → Advances r s x (with_links x links)
 wait_advances once r s x links p child place index g sound w dep weakly toggled =
     waiter_advances r s x links place index g sound w
-    (λ q c there. let same = one_link once r p q child c place index dep there in moved (IsAskedWeakly r s) p q child c g same.0 same.1 weakly)
-    (λ q c there marked. let same = one_link once r p q child c place index dep there in moved (IsToggledIn r x) p q child c g same.0 same.1 (toggled marked))
+    (λ q c there. let same = one_way once r p child q c place index dep there in moved (IsAskedWeakly r s) p q child c g same.0 same.1 weakly)
+    (λ q c there marked. let same = one_way once r p child q c place index dep there in moved (IsToggledIn r x) p q child c g same.0 same.1 (toggled marked))
 
 -- what stands before a feature waits: it is toggled where an edge is kept already
 pub record IsReady (r : Resolved) (s : SettingModel) (x y : Found) (p child : Id) (place index : ℕ) (g : Text) : Type 0 where
@@ -261,21 +224,6 @@ value_of_enabled r s p f values text enabled are among = record { feature = f; e
 
 -- ---- listed features
 
--- each is beside the place of a node
-pub listed_within : (start : ℕ) (ns : List NodeModel) (place : ℕ) (f : Text) → Contains {X = ℕ × Text} (features_from start ns) (place, f) → place < start + length ns
-listed_within start [] place f (k, lt, is) = absurd (omega (arith, lt))
-listed_within start (n ∷ ns) place f among = elim (Contains-append_cases (map (λ g. (start, g)) n.features) (features_from (suc start) ns) (place, f) among) [
-  | inl here ↦ (let same : start ≡ place = beside start n.features place f here in omega arith)
-  | inr there ↦ (let lt : place < suc start + length ns = listed_within (suc start) ns place f there in omega arith)
-]
-  where
-    beside : (start : ℕ) (fs : List Text) (place : ℕ) (f : Text) → Contains {X = ℕ × Text} (map (λ g. (start, g)) fs) (place, f) → start ≡ place
-    beside start fs place f c =
-        let pair : Text → ℕ × Text = λ g. (start, g) in
-        let at = place_in (map pair fs) (place, f) c in
-        let there = seen_at pair fs at.0 (place, f) at.1 in
-        ap (λ (w : ℕ × Text). w.0) there.2
-
 -- the listed feature of a number, as the code finds it
 pub listed_at : (d : Lookup) (number : ℕ) (x : ListedFeature) → IsLookup d → number < length (listed_features (resolved_view d)) → x ≡ get_or d.features.listed.items number x
     → slice_get (listed_features (resolved_view d)) number ≡ Some (x.place, x.name.now)
@@ -283,10 +231,6 @@ listed_at d number x h lt is =
     let ls = d.features.listed.items in
     let long = ap length (sym h.features) ∙ length-map ls listed_view in
     sym (ap (λ (all : List (ℕ × Text)). slice_get all number) h.features) ∙ slice_get-map listed_view ls number ∙ ap (option_map listed_view) (slice_get_read ls (length ls) number x refl (subst (λ (n : ℕ). number < n) long lt) is)
-
--- it stands beside the place of a node
-pub listed_place : (r : Resolved) (number place : ℕ) (f : Text) → slice_get (listed_features r) number ≡ Some (place, f) → place < length r.graph.nodes
-listed_place r number place f at = let lt = listed_within 0 r.graph.nodes place f (contains_at (listed_features r) number (place, f) at) in omega (arith, lt)
 
 -- that of a number that is taken
 pub listed_here : (d : Lookup) (s : SettingModel) (x : Found) (taken number : ℕ) (feature : ListedFeature) → IsLookup d → IsSound (resolved_view d) s x → taken < x.features.size → number ≡ taken

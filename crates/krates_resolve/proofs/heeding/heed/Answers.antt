@@ -7,7 +7,8 @@ use Rattle.krates_resolve.specs.Lookup.{resolved_view}
 use Rattle.krates_resolve.specs.Numbering.{FeatureAt}
 use Rattle.krates_resolve.specs.Resolved.{id_of}
 use Rattle.krates_resolve.proofs.Growing.{advances_refl, advances_trans, followed_grows}
-use Rattle.krates_resolve.proofs.Heedings.{listed_here, listed_found, listed_place, one_feature, value_at, value_of_enabled, heeded_here}
+use Rattle.krates_resolve.proofs.FeatureNumbers.{listed_place}
+use Rattle.krates_resolve.proofs.Heedings.{listed_here, listed_found, one_feature, value_at, value_of_enabled, heeded_here}
 use Rattle.krates_resolve.proofs.Seen.{seen_more, each_seen}
 use Rattle.krates_resolve.proofs.heeding.heed.Goals as goal
 

@@ -4,7 +4,8 @@ use Rattle.krates_resolve.specs.Facts.{Id}
 use Rattle.krates_resolve.specs.Found.{IsToggledIn}
 use Rattle.krates_resolve.specs.Lookup.{resolved_view}
 use Rattle.krates_resolve.specs.Resolved.{id_of}
-use Rattle.krates_resolve.proofs.Heedings.{child_dep, found_node, one_link}
+use Rattle.krates_resolve.proofs.Heedings.{child_dep, found_node}
+use Rattle.krates_resolve.proofs.Waking.{one_way}
 use Rattle.krates_resolve.proofs.heeding.toggle_child.Goals as goal
 
 pub unreachable-requires : goal.unreachable-requires
@@ -38,5 +39,5 @@ returns-clause-toggled c =
     let child = id_of (get_or parts.children.now c.args.index c.index-parts-index.result) in
     let dep = child_dep r parts c.args.index c.index-parts-index.result c.requires.parts c.requires.within in
     on_ok_weaker c.toggle.result (λ toggled other there.
-    subst (λ (i : Id). IsToggledIn r c.toggle.new.found parent i c.args.feature.now) (one_link c.one_reading.ensures.once r parent parent child other parts.place c.args.index dep there).1 toggled)
+    subst (λ (i : Id). IsToggledIn r c.toggle.new.found parent i c.args.feature.now) (one_way c.one_reading.ensures.once r parent child parent other parts.place c.args.index dep there).1 toggled)
     c.toggle.ensures.toggled

@@ -5,7 +5,8 @@ use Rattle.krates_resolve.specs.Lookup.{resolved_view}
 use Rattle.krates_resolve.specs.NodeEntry.{edge_between}
 use Rattle.krates_resolve.specs.Referent.{IsReferent}
 use Rattle.krates_resolve.specs.Resolved.{id_of}
-use Rattle.krates_resolve.proofs.Heedings.{none_strongly, strongly_here, unmarked_strongly, may_toggle_strongly, one_link}
+use Rattle.krates_resolve.proofs.Heedings.{none_strongly, strongly_here, unmarked_strongly, may_toggle_strongly}
+use Rattle.krates_resolve.proofs.Waking.{one_way}
 use Rattle.krates_resolve.proofs.heeding.toggle_strongly.Goals as goal
 
 pub returns-in_default-clause-toggled : goal.returns-in_default-clause-toggled
@@ -36,7 +37,7 @@ toggle_child-requires-clause-may c child there =
     let r = resolved_view c.args.lookup.now in
     let parent = id_of c.args.parts.now.parent.now in
     let at = c.in-Some.ensures in
-    let same = (one_link c.one_reading.ensures.once r parent parent (id_of at.child) child c.args.parts.now.place c.in-Some.index at.dep there).1 in
+    let same = (one_way c.one_reading.ensures.once r parent (id_of at.child) parent child c.args.parts.now.place c.in-Some.index at.dep there).1 in
     let kept = c.requires.sound.kept parent child c.args.parts.now.place c.in-Some.index there (c.is_kept.ensures.0 c.if-not-is_kept.false) in
     may_toggle_strongly r c.args.setting.now (edge_between parent child kept.0) c.args.name.now c.args.feature.now c.requires.may (subst (IsReferent r parent c.args.name.now) same at.is) kept.1
 

@@ -8,8 +8,9 @@ use Rattle.krates_resolve.specs.Resolved.{id_of}
 use Rattle.krates_resolve.specs.declared.found.Found.{Found}
 use Rattle.krates_resolve.specs.declared.links.Links.{Links}
 use Rattle.krates_resolve.proofs.Growing.{advances_refl, advances_trans}
-use Rattle.krates_resolve.proofs.Heedings.{IsReady, none_waiting, waiting_here, wait_advances, with_links, asked_weakly, may_toggle_weakly, one_link}
+use Rattle.krates_resolve.proofs.Heedings.{IsReady, none_waiting, waiting_here, wait_advances, with_links, asked_weakly, may_toggle_weakly}
 use Rattle.krates_resolve.proofs.heeding.wait.Goals.{then-is_kept+in_ok-toggle_child, else-is_kept}
+use Rattle.krates_resolve.proofs.Waking.{one_way}
 use Rattle.krates_resolve.proofs.heeding.wait.Goals as goal
 
 pub returns-in_default-clause-waiting : goal.returns-in_default-clause-waiting
@@ -33,7 +34,7 @@ toggle_child-requires-clause-may c child there =
     let r = resolved_view c.args.lookup.now in
     let parent = id_of c.args.parts.now.parent.now in
     let at = c.in-Some.ensures in
-    let same = (one_link c.one_reading.ensures.once r parent parent (id_of at.child) child c.args.parts.now.place c.in-Some.index at.dep there).1 in
+    let same = (one_way c.one_reading.ensures.once r parent (id_of at.child) parent child c.args.parts.now.place c.in-Some.index at.dep there).1 in
     let kept = c.requires.sound.kept parent child c.args.parts.now.place c.in-Some.index there (c.is_kept.ensures.0 c.if-is_kept.true) in
     may_toggle_weakly r c.args.setting.now (edge_between parent child kept.0) c.args.name.now c.args.feature.now c.requires.may (subst (IsReferent r parent c.args.name.now) same at.is) kept.1
 
