@@ -1,25 +1,33 @@
 //! The agenda: each number is taken once, in the order of the puts.
 
-use krates_graph::agenda::Agenda;
+use krates_graph::agenda::{Agenda, Taken};
 use std::test::Fail;
+
+/// The number that was taken, where one was.
+fn number(taken: Option<Taken>) -> Option<usize> {
+    taken.map(|taken| taken.number())
+}
 
 #[test]
 fn numbers_are_taken_once_in_the_order_of_their_puts(rt: HostRuntime) -> Result<(), Fail> {
     let mut agenda = Agenda::new(rt.alloc(), 4)?;
-    assert!(rt; agenda.put(3));
-    assert!(rt; agenda.put(1));
-    assert!(rt; !agenda.put(3));
-    assert_eq!(rt; agenda.taken(), 0);
-    let first = agenda.take().ok_or("nothing to take")?;
-    assert_eq!(rt; first.number(), 3);
-    assert!(rt; !agenda.put(3));
-    assert!(rt; agenda.put(0));
-    let second = agenda.take().ok_or("nothing to take")?;
-    assert_eq!(rt; second.number(), 1);
-    let third = agenda.take().ok_or("nothing to take")?;
-    assert_eq!(rt; third.number(), 0);
-    assert!(rt; agenda.take().is_none());
-    assert_eq!(rt; agenda.taken(), 3);
-    assert_eq!(rt; agenda.numbers(), [3, 1, 0].as_slice());
+    let first_puts = [agenda.put(3), agenda.put(1), agenda.put(3)];
+    let taken_at_first = agenda.taken();
+    let first = number(agenda.take());
+    let later_puts = [agenda.put(3), agenda.put(0)];
+    let later = [
+        number(agenda.take()),
+        number(agenda.take()),
+        number(agenda.take()),
+    ];
+    let told = format!(in rt.alloc();
+        "{first_puts:?}, {taken_at_first} taken, {first:?}, {later_puts:?}, {later:?}, {} taken: {:?}",
+        agenda.taken(),
+        agenda.numbers()
+    )?;
+    assert_eq!(rt;
+        told.as_str(),
+        "[true, true, false], 0 taken, Some(3), [false, true], [Some(1), Some(0), None], 3 taken: [3, 1, 0]"
+    );
     Ok(())
 }

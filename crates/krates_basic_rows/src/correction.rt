@@ -1,48 +1,50 @@
 //! Features of packages, corrected by what an index answers.
 
-use krates_cm::{FromValue, Package};
+use crate::packages::package;
 use krates_ids::{
-    BuildIndexCache, CachingIndex, FeaturesMap, IndexAnswer, IndexKrate, IndexKrateVersion,
-    PackageNames,
+    BuildIndexCache, CachingIndex, IndexAnswer, IndexKrate, IndexKrateVersion, PackageNames,
 };
-use semver::Version;
-use serde_json::Value;
-use std::alloc::{AllocError, Global};
+use std::alloc::Global;
 use std::collections::{BTreeMap, BTreeSet};
 use std::test::Fail;
 
-/// The package `p` 1.0.0, with this source as JSON.
-fn package(alloc: Global, source: &str) -> Result<Package, Fail> {
-    let text = format!(in alloc;
-        "{{\"name\":\"p\",\"version\":\"1.0.0\",\"source\":{source},\"id\":\"p\",\"dependencies\":[],\"targets\":[],\"features\":{{\"default\":[\"std\",\"foo\"]}},\"manifest_path\":\"/p/Cargo.toml\"}}"
-    )?;
-    let value = Value::from_str(alloc, text.as_str())?;
-    Ok(Package::from_value(alloc, &value)?)
+const CRATES_IO: &str = r#""registry+https://github.com/rust-lang/crates.io-index""#;
+
+/// What the package has of itself, after one correction and after two.
+const PLAIN: &str = r#"{"default": ["std", "foo"]}, then {"default": ["std", "foo"]}"#;
+
+/// The same with what the index has, and with the feature that an optional dependency is.
+const WHOLE: &str =
+    r#"{"default": ["std", "foo"], "foo": ["dep:foo"], "std": []}, then {"default": ["std", "foo"], "foo": ["dep:foo"], "std": []}"#;
+
+/// The source of a package of version 1.0.0, the version that the index has, and what the features are then.
+const CORRECTED: &[(&str, Option<&str>, &str)] = &[
+    (CRATES_IO, Some("1.0.0"), WHOLE),
+    (CRATES_IO, Some("1.0.0+b"), PLAIN),
+    (CRATES_IO, None, PLAIN),
+    ("null", Some("1.0.0"), PLAIN),
+];
+
+/// What an index knows of a crate of this one version.
+fn known(alloc: Global, version: &str) -> Result<IndexKrate, Fail> {
+    let published = package(alloc, version, "null", r#"{"default":["x"],"std":[]}"#)?;
+    let indexed = IndexKrateVersion {
+        version: published.version,
+        features: published.features,
+    };
+    Ok(IndexKrate {
+        versions: vec![in alloc; indexed]?,
+    })
 }
 
-/// The features `default`, which enables `x`, and `std`, which enables nothing.
-fn index_features(alloc: Global) -> Result<FeaturesMap, AllocError> {
-    let mut features = BTreeMap::new(alloc);
-    let x = vec![in alloc; String::from_str(alloc, "x")?]?;
-    drop(features.insert(String::from_str(alloc, "default")?, x)?);
-    drop(features.insert(String::from_str(alloc, "std")?, Vec::new(alloc))?);
-    Ok(features)
-}
-
-/// The answer that has `p` in this version, or lacks it where there is none.
+/// The index that has the package in this version, or lacks it where there is none.
 fn index(alloc: Global, version: Option<&str>) -> Result<CachingIndex, Fail> {
+    let known = match version {
+        Some(version) => Some(known(alloc, version)?),
+        None => None,
+    };
     let mut krates = BTreeMap::new(alloc);
-    let mut known = None;
-    if let Some(version) = version {
-        let indexed = IndexKrateVersion {
-            version: Version::parse(alloc, version)?,
-            features: index_features(alloc)?,
-        };
-        known = Some(IndexKrate {
-            versions: vec![in alloc; indexed]?,
-        });
-    }
-    drop(krates.insert(String::from_str(alloc, "p")?, known)?);
+    drop(krates.insert(String::from_str(alloc, "cargo")?, known)?);
     let answer = IndexAnswer { krates };
     let build: BuildIndexCache = Box::new(alloc, move |names: PackageNames| {
         drop(names);
@@ -54,33 +56,21 @@ fn index(alloc: Global, version: Option<&str>) -> Result<CachingIndex, Fail> {
     Ok(CachingIndex::new(build, names))
 }
 
-/// The features of `p` after one correction and after two.
-fn corrected(alloc: Global, source: &str, version: Option<&str>) -> Result<String, Fail> {
+/// The features of the package after one correction and after two.
+fn told(alloc: Global, source: &str, version: Option<&str>) -> Result<String, Fail> {
     let index = index(alloc, version)?;
-    let mut pkg = package(alloc, source)?;
-    index.correct(alloc, &mut pkg)?;
-    let once = format!(in alloc; "{:?}", pkg.features)?;
-    index.correct(alloc, &mut pkg)?;
-    Ok(format!(in alloc; "{once} {:?}", pkg.features)?)
+    let mut package = package(alloc, "1.0.0", source, r#"{"default":["std","foo"]}"#)?;
+    index.correct(alloc, &mut package)?;
+    let once = format!(in alloc; "{:?}", package.features)?;
+    index.correct(alloc, &mut package)?;
+    Ok(format!(in alloc; "{once}, then {:?}", package.features)?)
 }
 
 #[test]
 fn features_by_an_index(rt: HostRuntime) -> Result<(), Fail> {
-    let crates_io = r#""registry+https://github.com/rust-lang/crates.io-index""#;
-    let plain = r#"{"default": ["std", "foo"]}"#;
-    let whole = r#"{"default": ["std", "foo"], "foo": ["dep:foo"], "std": []}"#;
-    for (source, version, features) in [
-        (crates_io, Some("1.0.0"), whole),
-        (crates_io, Some("1.0.0+b"), plain),
-        (crates_io, None, plain),
-        ("null", Some("1.0.0"), plain),
-    ] {
-        let twice = format!(in rt.alloc(); "{features} {features}")?;
-        assert_eq!(rt;
-            corrected(rt.alloc(), source, version)?.as_str(),
-            twice.as_str(),
-            "{source}"
-        );
+    for &(source, version, expected) in CORRECTED {
+        let told = told(rt.alloc(), source, version)?;
+        assert_eq!(rt; told.as_str(), expected, "{source} and {version:?}");
     }
     Ok(())
 }

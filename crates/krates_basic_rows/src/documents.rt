@@ -1,7 +1,7 @@
 //! Whole documents, read from their text.
 
-use krates_cm::{DependencyKind, Error, MetadataCommand};
-use std::alloc::Global;
+use krates_cm::{Error, Metadata, MetadataCommand};
+use std::alloc::{AllocError, Global};
 use std::test::Fail;
 
 /// Two packages, of which the first needs the second for its tests.
@@ -19,58 +19,76 @@ const DOCUMENT: &str = r#"{"packages":[{"name":"a","version":"0.1.0","id":"path+
     {"id":"path+file:///w/b#0.1.0","deps":[],"dependencies":[],"features":[]}],
     "root":null}}"#;
 
-#[test]
-fn two_packages(rt: HostRuntime) -> Result<(), Fail> {
-    let metadata = MetadataCommand::parse(rt.alloc(), DOCUMENT)?;
-    assert_eq!(rt; metadata.packages.len(), 2);
-    let needs = &metadata.packages[0].dependencies;
-    assert!(rt; needs.len() == 1 && needs[0].kind == DependencyKind::Development);
-    assert_eq!(rt;
-        metadata.packages[1].id.repr.as_str(),
-        "path+file:///w/b#0.1.0"
-    );
-    let resolve = metadata.resolve.as_ref().ok_or("no graph")?;
-    assert!(rt; resolve.nodes.len() == 2 && resolve.root.is_none());
+/// Texts of documents, and what is read of them.
+const READ: &[(&str, &str)] = &[(
+    DOCUMENT,
+    r#"a needs [Dependency { name: "b", source: None, req: VersionReq { comparators: [] }, kind: Development, optional: false, uses_default_features: false, features: [], target: None, rename: None, registry: None, path: None }]; the other is path+file:///w/b#0.1.0; 2 nodes, root None"#,
+)];
+
+/// Texts that are no document, and why.
+const REFUSED: &[(&str, &str)] = &[
+    ("", "no JSON"),
+    ("hello", "no JSON"),
+    ("{\"packages\":", "no JSON"),
+    ("{\"packages\":[]} x", "no JSON"),
+    (
+        "[]",
+        "no metadata: failed to interpret `cargo metadata`'s json: wrong type at key: ",
+    ),
+    (
+        "{\"packages\":[],\"workspace_members\":[],\"workspace_root\":\"/w\"}",
+        "no metadata: failed to interpret `cargo metadata`'s json: missing key: target_directory",
+    ),
+];
+
+/// What stands in a document of two packages and a graph.
+fn summary(alloc: Global, metadata: &Metadata) -> Result<String, AllocError> {
+    let ([one, other], Some(graph)) = (metadata.packages.as_slice(), &metadata.resolve) else {
+        return String::from_str(alloc, "not two packages and a graph");
+    };
+    format!(in alloc;
+        "{} needs {:?}; the other is {}; {} nodes, root {:?}",
+        one.name,
+        one.dependencies,
+        other.id.repr,
+        graph.nodes.len(),
+        graph.root
+    )
+}
+
+/// What is read of a text, or why nothing is: the kind of the error, and what it prints. Of a text that is no JSON the
+/// library says why, in words of its own, so only the words before them are looked at.
+fn told(alloc: Global, text: &str) -> Result<String, Fail> {
+    let error = match MetadataCommand::parse(alloc, text) {
+        Ok(metadata) => return Ok(summary(alloc, &metadata)?),
+        Err(error) => error,
+    };
+    let printed = format!(in alloc; "{error}")?;
+    let is_begun = printed.starts_with("failed to interpret `cargo metadata`'s json: ");
+    match error {
+        Error::Json(_) if is_begun => Ok(String::from_str(alloc, "no JSON")?),
+        Error::Value(_) => Ok(format!(in alloc; "no metadata: {printed}")?),
+        _ => Ok(printed),
+    }
+}
+
+/// Compares what is told of each text with what is expected.
+fn hold(alloc: Global, rows: &[(&str, &str)]) -> Result<(), Fail> {
+    for &(text, expected) in rows {
+        let told = told(alloc, text)?;
+        if told.as_str() != expected {
+            return Err(Fail::new(format_args!("{text}: {told} in place of {expected}")));
+        }
+    }
     Ok(())
 }
 
-/// The text of the refusal, or `read`.
-fn outcome(alloc: Global, text: &str) -> Result<String, Fail> {
-    match MetadataCommand::parse(alloc, text) {
-        Ok(_) => Ok(String::from_str(alloc, "read")?),
-        Err(error) => Ok(format!(in alloc; "{error}")?),
-    }
+#[test]
+fn two_packages(rt: HostRuntime) -> Result<(), Fail> {
+    hold(rt.alloc(), READ)
 }
 
 #[test]
 fn texts_that_are_no_document(rt: HostRuntime) -> Result<(), Fail> {
-    let alloc = rt.alloc();
-    assert_eq!(rt; outcome(alloc, DOCUMENT)?.as_str(), "read");
-    for text in ["", "hello", "{\"packages\":", "{\"packages\":[]} x"] {
-        assert!(rt;
-            matches!(MetadataCommand::parse(alloc, text), Err(Error::Json(_))),
-            "{text}"
-        );
-        assert!(rt;
-            outcome(alloc, text)?.starts_with("failed to interpret `cargo metadata`'s json: "),
-            "{text}"
-        );
-    }
-    for (text, refusal) in [
-        (
-            "[]",
-            "failed to interpret `cargo metadata`'s json: wrong type at key: ",
-        ),
-        (
-            "{\"packages\":[],\"workspace_members\":[],\"workspace_root\":\"/w\"}",
-            "failed to interpret `cargo metadata`'s json: missing key: target_directory",
-        ),
-    ] {
-        assert!(rt;
-            matches!(MetadataCommand::parse(alloc, text), Err(Error::Value(_))),
-            "{text}"
-        );
-        assert_eq!(rt; outcome(alloc, text)?.as_str(), refusal, "{text}");
-    }
-    Ok(())
+    hold(rt.alloc(), REFUSED)
 }

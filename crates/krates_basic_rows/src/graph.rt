@@ -1,95 +1,196 @@
 //! The graph: its limits, its edges by number, and what is read of it.
 
 use krates_graph::graph::{Direction, EdgeId, Graph, GraphError, NodeId};
-use std::alloc::{AllocError, Global};
+use std::alloc::Global;
 use std::test::Fail;
+
+/// Two edges that join the same nodes, one back, one from a node to itself and one from a third node; of each the ends
+/// and the weight.
+const JOINED: &[(u32, u32, u8)] = &[(0, 1, 10), (1, 0, 11), (0, 1, 12), (1, 1, 13), (2, 1, 14)];
+
+/// Of a node and a direction the numbers of the edges, and each edge with its ends and its weight.
+const EDGES: &[(u32, Direction, &str)] = &[
+    (
+        0,
+        Direction::Outgoing,
+        "[EdgeId(0), EdgeId(2)] 0: 0 to 1 by 10, 2: 0 to 1 by 12,",
+    ),
+    (0, Direction::Incoming, "[EdgeId(1)] 1: 1 to 0 by 11,"),
+    (
+        1,
+        Direction::Outgoing,
+        "[EdgeId(1), EdgeId(3)] 1: 1 to 0 by 11, 3: 1 to 1 by 13,",
+    ),
+    (2, Direction::Outgoing, "[EdgeId(4)] 4: 2 to 1 by 14,"),
+    (2, Direction::Incoming, "[]"),
+    // no such node
+    (3, Direction::Outgoing, "[]"),
+    (9, Direction::Incoming, "[]"),
+];
+
+/// The same of the node that all but one edge enter.
+const ENTERING: &[(u32, Direction, &str)] = &[(
+    1,
+    Direction::Incoming,
+    "[EdgeId(0), EdgeId(2), EdgeId(3), EdgeId(4)] 0: 0 to 1 by 10, 2: 0 to 1 by 12, 3: 1 to 1 by 13, 4: 2 to 1 by 14,",
+)];
+
+/// Crates 0 and 1, the feature 4 of 1 that 0 turns on, and two features in between; the weight is 1 where a feature is an end.
+const BETWEEN_FEATURES: &[(u32, u32, u8)] = &[
+    (0, 1, 0),
+    (0, 4, 1),
+    (2, 0, 1),
+    (2, 1, 1),
+    (3, 0, 1),
+    (3, 4, 1),
+    (4, 1, 1),
+];
+
+/// What `EDGES` says, of the edges that leave the one crate and of those that enter the other.
+const EDGES_BETWEEN_FEATURES: &[(u32, Direction, &str)] = &[
+    (
+        0,
+        Direction::Outgoing,
+        "[EdgeId(0), EdgeId(1)] 0: 0 to 1 by 0, 1: 0 to 4 by 1,",
+    ),
+    (
+        1,
+        Direction::Incoming,
+        "[EdgeId(0), EdgeId(3), EdgeId(6)] 0: 0 to 1 by 0, 3: 2 to 1 by 1, 6: 4 to 1 by 1,",
+    ),
+];
+
+/// A graph of these nodes, with room for so many edges.
+fn nodes_of(alloc: Global, nodes: &[char], edges: usize) -> Result<Graph<char, u8>, Fail> {
+    let nodes_at_most = u32::try_from(nodes.len())?;
+    let edges_at_most = u32::try_from(edges)?;
+    let mut graph = Graph::with_limits(alloc, nodes_at_most, edges_at_most);
+    for &node in nodes {
+        graph.add_node(node)?;
+    }
+    Ok(graph)
+}
+
+/// A graph of these nodes and edges, with room for no more.
+fn graph_of(
+    alloc: Global,
+    nodes: &[char],
+    edges: &[(u32, u32, u8)],
+) -> Result<Graph<char, u8>, Fail> {
+    let mut graph = nodes_of(alloc, nodes, edges.len())?;
+    for &(source, target, weight) in edges {
+        let stands = graph.node_count();
+        if source as usize >= stands || target as usize >= stands {
+            return Err(Fail::from("no such node"));
+        }
+        graph.add_edge(NodeId::new(source), NodeId::new(target), weight)?;
+    }
+    Ok(graph)
+}
+
+/// Of a node and a direction the numbers of the edges, and each edge with its ends and its weight.
+fn told(
+    alloc: Global,
+    graph: &Graph<char, u8>,
+    node: NodeId,
+    direction: Direction,
+) -> Result<String, Fail> {
+    let mut text = format!(in alloc; "{:?}", graph.edge_numbers(node, direction))?;
+    for edge in graph.edges_directed(node, direction) {
+        let (source, target) = (edge.source.index(), edge.target.index());
+        write!(
+            text,
+            " {}: {source} to {target} by {},",
+            edge.id.index(),
+            edge.weight
+        )?;
+    }
+    Ok(text)
+}
+
+/// Compares what is told of each node and direction with what is expected.
+fn hold(
+    alloc: Global,
+    graph: &Graph<char, u8>,
+    rows: &[(u32, Direction, &str)],
+) -> Result<(), Fail> {
+    for &(node, direction, expected) in rows {
+        let told = told(alloc, graph, NodeId::new(node), direction)?;
+        if told.as_str() != expected {
+            return Err(Fail::new(format_args!(
+                "{node}, {direction:?}: {told} in place of {expected}"
+            )));
+        }
+    }
+    Ok(())
+}
 
 #[test]
 fn limits_refuse_one_more(rt: HostRuntime) -> Result<(), Fail> {
     let mut graph = Graph::with_limits(rt.alloc(), 1, 1);
     let node = graph.add_node('x')?;
-    assert_eq!(rt; node.index(), 0);
-    assert_eq!(rt; graph.add_node('y'), Err(GraphError::Full('y')));
+    let no_node = graph.add_node('y');
     let edge = graph.add_edge(node, node, 'e')?;
-    assert_eq!(rt; edge.index(), 0);
-    assert_eq!(rt; graph.add_edge(node, node, 'f'), Err(GraphError::Full('f')));
-    assert_eq!(rt; graph.node_count(), 1);
-    assert_eq!(rt; graph.edge_count(), 1);
+    let no_edge = graph.add_edge(node, node, 'f');
+    let told = format!(in rt.alloc();
+        "{}, {no_node:?}, {}, {no_edge:?}; {} node, {} edge",
+        node.index(),
+        edge.index(),
+        graph.node_count(),
+        graph.edge_count()
+    )?;
+    assert_eq!(rt;
+        told.as_str(),
+        "0, Err(Full('y')), 0, Err(Full('f')); 1 node, 1 edge"
+    );
     Ok(())
 }
 
 #[test]
-fn no_limit_takes_nothing(rt: HostRuntime) -> Result<(), Fail> {
+fn no_limit_takes_nothing(rt: HostRuntime) {
     let mut graph = Graph::<char, char>::with_limits(rt.alloc(), 0, 0);
-    assert_eq!(rt; graph.add_node('x'), Err(GraphError::Full('x')));
-    assert_eq!(rt; graph.node_count(), 0);
-    Ok(())
-}
-
-/// Two edges that join the same nodes, one back, one from a node to itself and one from a third node.
-fn joined(alloc: Global) -> Result<Graph<char, u8>, Fail> {
-    let mut graph = Graph::with_limits(alloc, 3, 5);
-    let a = graph.add_node('a')?;
-    let b = graph.add_node('b')?;
-    let c = graph.add_node('c')?;
-    graph.add_edge(a, b, 10)?;
-    graph.add_edge(b, a, 11)?;
-    graph.add_edge(a, b, 12)?;
-    graph.add_edge(b, b, 13)?;
-    graph.add_edge(c, b, 14)?;
-    Ok(graph)
-}
-
-fn numbers(alloc: Global, ids: &[EdgeId]) -> Result<Vec<usize>, AllocError> {
-    ids.iter().map(|id| id.index()).collect(alloc)
+    let refused = graph.add_node('x');
+    assert_eq!(rt;
+        (refused, graph.node_count()),
+        (Err(GraphError::Full('x')), 0)
+    );
 }
 
 #[test]
 fn edges_of_a_node_come_by_number(rt: HostRuntime) -> Result<(), Fail> {
-    let graph = joined(rt.alloc())?;
-    let expected = [
-        (0, Direction::Outgoing, [0, 2].as_slice()),
-        (0, Direction::Incoming, [1].as_slice()),
-        (1, Direction::Outgoing, [1, 3].as_slice()),
-        (1, Direction::Incoming, [0, 2, 3, 4].as_slice()),
-        (2, Direction::Outgoing, [4].as_slice()),
-        (2, Direction::Incoming, [].as_slice()),
-        (3, Direction::Outgoing, [].as_slice()),
-        (9, Direction::Incoming, [].as_slice()),
-    ];
-    for (node, direction, ids) in expected {
-        let lent = numbers(rt.alloc(), graph.edge_numbers(NodeId::new(node), direction))?;
-        assert_eq!(rt; lent.as_slice(), ids);
-        let mut walked = Vec::new(rt.alloc());
-        for edge in graph.edges_directed(NodeId::new(node), direction) {
-            walked.push(edge.id.index())?;
-        }
-        assert_eq!(rt; walked.as_slice(), ids);
-    }
-    Ok(())
+    let graph = graph_of(rt.alloc(), &['a', 'b', 'c'], JOINED)?;
+    hold(rt.alloc(), &graph, EDGES)
 }
 
-/// Crates 0 and 1, the feature of 1 that 0 turns on, and two features in between.
+#[test]
+fn an_edge_shows_its_ends_and_weight(rt: HostRuntime) -> Result<(), Fail> {
+    let graph = graph_of(rt.alloc(), &['a', 'b', 'c'], JOINED)?;
+    hold(rt.alloc(), &graph, ENTERING)
+}
+
 #[test]
 fn edge_numbers_of_features_between_crates(rt: HostRuntime) -> Result<(), Fail> {
-    let mut graph = Graph::<char, char>::with_limits(rt.alloc(), 5, 7);
-    let a = graph.add_node('a')?;
-    let b = graph.add_node('b')?;
-    let a_b = graph.add_node('b')?;
-    let a_w = graph.add_node('w')?;
-    let b_j = graph.add_node('j')?;
-    graph.add_edge(a, b, 'd')?;
-    graph.add_edge(a, b_j, 'f')?;
-    graph.add_edge(a_b, a, 'f')?;
-    graph.add_edge(a_b, b, 'f')?;
-    graph.add_edge(a_w, a, 'f')?;
-    graph.add_edge(a_w, b_j, 'f')?;
-    graph.add_edge(b_j, b, 'f')?;
-    let from_a = numbers(rt.alloc(), graph.edge_numbers(a, Direction::Outgoing))?;
-    assert_eq!(rt; from_a.as_slice(), [0, 1].as_slice());
-    let to_b = numbers(rt.alloc(), graph.edge_numbers(b, Direction::Incoming))?;
-    assert_eq!(rt; to_b.as_slice(), [0, 3, 6].as_slice());
-    Ok(())
+    let graph = graph_of(rt.alloc(), &['a', 'b', 'b', 'w', 'j'], BETWEEN_FEATURES)?;
+    hold(rt.alloc(), &graph, EDGES_BETWEEN_FEATURES)
+}
+
+/// Whether a node and an edge of it are added under the next numbers, or the one that isn't is handed back and changes
+/// nothing.
+fn grows_or_stays(graph: &mut Graph<u32, u32>, value: u32) -> bool {
+    let nodes = graph.node_count();
+    let edges = graph.edge_count();
+    match graph.add_node(value) {
+        Ok(node) => {
+            node.index() == nodes
+                && match graph.add_edge(node, node, value) {
+                    Ok(edge) => edge.index() == edges,
+                    Err(error) => {
+                        error == GraphError::Memory(value) && graph.edge_count() == edges
+                    }
+                }
+        }
+        Err(error) => error == GraphError::Memory(value) && graph.node_count() == nodes,
+    }
 }
 
 /// Holds whichever growth is refused; each is, in turn, where the test is run with a failing allocation.
@@ -97,51 +198,24 @@ fn edge_numbers_of_features_between_crates(rt: HostRuntime) -> Result<(), Fail> 
 fn a_refused_growth_changes_nothing(rt: HostRuntime) {
     let mut graph = Graph::with_limits(rt.alloc(), 9, 9);
     for value in 0..9u32 {
-        let nodes = graph.node_count();
-        let edges = graph.edge_count();
-        match graph.add_node(value) {
-            Ok(id) => {
-                assert_eq!(rt; id.index(), nodes);
-                match graph.add_edge(id, id, value) {
-                    Ok(id) => assert_eq!(rt; id.index(), edges),
-                    Err(error) => {
-                        assert_eq!(rt; error, GraphError::Memory(value));
-                        assert_eq!(rt; graph.edge_count(), edges);
-                    }
-                }
-            }
-            Err(error) => {
-                assert_eq!(rt; error, GraphError::Memory(value));
-                assert_eq!(rt; graph.node_count(), nodes);
-            }
-        }
+        assert!(rt; grows_or_stays(&mut graph, value), "{value}");
     }
-}
-
-#[test]
-fn an_edge_shows_its_ends_and_weight(rt: HostRuntime) -> Result<(), Fail> {
-    let graph = joined(rt.alloc())?;
-    let mut seen = Vec::new(rt.alloc());
-    for edge in graph.edges_directed(NodeId::new(1), Direction::Incoming) {
-        seen.push((edge.source.index(), edge.target.index(), *edge.weight))?;
-    }
-    assert_eq!(rt;
-        seen.as_slice(),
-        [(0, 1, 10), (0, 1, 12), (1, 1, 13), (2, 1, 14)].as_slice()
-    );
-    Ok(())
 }
 
 #[test]
 fn lists_and_ends_are_read(rt: HostRuntime) -> Result<(), Fail> {
-    let graph = joined(rt.alloc())?;
-    assert_eq!(rt; graph.raw_nodes(), ['a', 'b', 'c'].as_slice());
-    assert_eq!(rt; graph.raw_edges().len(), 5);
-    assert_eq!(rt;
+    let graph = graph_of(rt.alloc(), &['a', 'b', 'c'], JOINED)?;
+    let told = format!(in rt.alloc();
+        "{:?}, {} edges, {:?}, {:?}",
+        graph.raw_nodes(),
+        graph.raw_edges().len(),
         graph.edge_endpoints(EdgeId::new(4)),
-        Some((NodeId::new(2), NodeId::new(1)))
+        graph.edge_endpoints(EdgeId::new(5))
+    )?;
+    assert_eq!(rt;
+        told.as_str(),
+        "['a', 'b', 'c'], 5 edges, Some((NodeId(2), NodeId(1))), None"
     );
-    assert_eq!(rt; graph.edge_endpoints(EdgeId::new(5)), None);
     Ok(())
 }
 
@@ -156,8 +230,11 @@ fn a_node_is_indexed(rt: HostRuntime) -> Result<(), Fail> {
 
 #[test]
 fn ids_go_by_number(rt: HostRuntime) {
-    assert!(rt; NodeId::new(1) < NodeId::new(2));
-    assert!(rt; EdgeId::new(2) > EdgeId::new(1));
-    assert_eq!(rt; NodeId::new(7), NodeId::new(7));
-    assert_ne!(rt; EdgeId::new(7), EdgeId::new(8));
+    let by_number = [
+        NodeId::new(1) < NodeId::new(2),
+        EdgeId::new(2) > EdgeId::new(1),
+        NodeId::new(7) == NodeId::new(7),
+        EdgeId::new(7) != EdgeId::new(8),
+    ];
+    assert_eq!(rt; by_number, [true; 4]);
 }

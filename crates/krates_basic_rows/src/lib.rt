@@ -1,6 +1,7 @@
 //! Worked examples of texts, ids, metadata and the graph: what the lower crates answer where the answer is known.
 //!
-//! They stand apart from the crates that they test, since a crate with tests is proved twice.
+//! They stand apart from the crates that they test, since a crate with tests is proved twice. What is expected stands in
+//! constants, which cost no proof: a row in the body of a test costs as much as a small function.
 #![tactic(auto)]
 
 #[cfg(test)]
@@ -15,6 +16,8 @@ mod expressions;
 mod graph;
 #[cfg(test)]
 mod ids;
+#[cfg(test)]
+mod packages;
 #[cfg(test)]
 mod passing;
 #[cfg(test)]

@@ -9,8 +9,241 @@ use std::alloc::Global;
 use std::fmt::Debug;
 use std::test::Fail;
 
+/// JSON that is read as an id, or why it isn't.
+const IDS: &[(&str, &str)] = &[
+    (r#""a 0.1.0""#, r#"PackageId { repr: "a 0.1.0" }"#),
+    ("null", "wrong type at key: "),
+    ("1", "wrong type at key: "),
+    ("[]", "wrong type at key: "),
+];
+
+/// The same of a source.
+const SOURCES: &[(&str, &str)] = &[
+    (r#""a 0.1.0""#, r#"Source { repr: "a 0.1.0" }"#),
+    ("null", "wrong type at key: "),
+    ("1", "wrong type at key: "),
+    ("[]", "wrong type at key: "),
+];
+
+/// The same of what a resolved dependency is needed for.
+const KINDS: &[(&str, &str)] = &[
+    ("{}", "DepKindInfo { kind: Normal, target: None }"),
+    (
+        r#"{"kind":null,"target":null}"#,
+        "DepKindInfo { kind: Normal, target: None }",
+    ),
+    (
+        r#"{"kind":"normal","other":[1]}"#,
+        "DepKindInfo { kind: Normal, target: None }",
+    ),
+    (
+        r#"{"kind":"dev","target":"cfg(unix)"}"#,
+        r#"DepKindInfo { kind: Development, target: Some("cfg(unix)") }"#,
+    ),
+    (
+        r#"{"kind":"dev","kind":"build"}"#,
+        "DepKindInfo { kind: Build, target: None }",
+    ),
+    ("[]", "wrong type at key: "),
+    (r#"{"kind":1}"#, "wrong type at key: kind"),
+    (r#"{"kind":"Dev"}"#, "bad dependency kind"),
+    (r#"{"target":[]}"#, "wrong type at key: target"),
+];
+
+/// The same of a dependency of a node.
+const NODE_DEPENDENCIES: &[(&str, &str)] = &[
+    (
+        r#"{"name":"b","pkg":"c","dep_kinds":[{"kind":"dev"}]}"#,
+        r#"NodeDep { name: "b", pkg: PackageId { repr: "c" }, dep_kinds: [DepKindInfo { kind: Development, target: None }] }"#,
+    ),
+    (
+        r#"{"name":"b","pkg":"c"}"#,
+        r#"NodeDep { name: "b", pkg: PackageId { repr: "c" }, dep_kinds: [] }"#,
+    ),
+    (r#"{"pkg":"c"}"#, "missing key: name"),
+    (r#"{"name":"b"}"#, "missing key: pkg"),
+    (
+        r#"{"name":"b","pkg":"c","dep_kinds":null}"#,
+        "wrong type at key: dep_kinds",
+    ),
+];
+
+/// The same of a node.
+const NODES: &[(&str, &str)] = &[
+    (
+        r#"{"id":"a","deps":[],"dependencies":["c"],"features":["f","g"]}"#,
+        r#"Node { id: PackageId { repr: "a" }, deps: [], dependencies: [PackageId { repr: "c" }], features: ["f", "g"] }"#,
+    ),
+    (
+        r#"{"id":"a","dependencies":[]}"#,
+        r#"Node { id: PackageId { repr: "a" }, deps: [], dependencies: [], features: [] }"#,
+    ),
+    (r#"{"dependencies":[]}"#, "missing key: id"),
+    (r#"{"id":"a"}"#, "missing key: dependencies"),
+    (
+        r#"{"id":"a","dependencies":[],"deps":null}"#,
+        "wrong type at key: deps",
+    ),
+    (
+        r#"{"id":"a","dependencies":[],"features":["f",2]}"#,
+        "wrong type at key: features",
+    ),
+];
+
+/// The same of a resolved graph.
+const GRAPHS: &[(&str, &str)] = &[
+    (
+        r#"{"nodes":[],"root":null}"#,
+        "Resolve { nodes: [], root: None }",
+    ),
+    (
+        r#"{"nodes":[],"root":"a"}"#,
+        r#"Resolve { nodes: [], root: Some(PackageId { repr: "a" }) }"#,
+    ),
+    (r#"{"nodes":[]}"#, "missing key: root"),
+    (r#"{"root":null}"#, "missing key: nodes"),
+    (r#"{"nodes":null,"root":null}"#, "wrong type at key: nodes"),
+    (r#"{"nodes":[7],"root":null}"#, "wrong type at key: nodes"),
+];
+
+/// The same of a declared dependency.
+const DECLARED: &[(&str, &str)] = &[
+    (
+        r#"{"name":"b","source":"s","req":"*","kind":"build","rename":"c","optional":true,"uses_default_features":false,"features":["f"],"target":"t","registry":"r","path":"p"}"#,
+        r#"Dependency { name: "b", source: Some("s"), req: VersionReq { comparators: [] }, kind: Build, optional: true, uses_default_features: false, features: ["f"], target: Some("t"), rename: Some("c"), registry: Some("r"), path: Some("p") }"#,
+    ),
+    (
+        r#"{"name":"b","req":"*","optional":false,"uses_default_features":true,"features":[]}"#,
+        r#"Dependency { name: "b", source: None, req: VersionReq { comparators: [] }, kind: Normal, optional: false, uses_default_features: true, features: [], target: None, rename: None, registry: None, path: None }"#,
+    ),
+    (
+        r#"{"name":"b","req":"one","optional":false,"uses_default_features":true,"features":[]}"#,
+        "bad version requirement",
+    ),
+    (
+        r#"{"name":"b","req":"*","optional":"no","uses_default_features":true,"features":[]}"#,
+        "wrong type at key: optional",
+    ),
+    (
+        r#"{"name":"b","req":"*","optional":false,"uses_default_features":true,"features":null}"#,
+        "wrong type at key: features",
+    ),
+    (
+        r#"{"name":"b","req":"*","optional":false,"features":[]}"#,
+        "missing key: uses_default_features",
+    ),
+];
+
+/// JSON that is read as a target.
+const TARGETS: &[(&str, &str)] = &[
+    (
+        r#"{"name":"t","kind":["lib","proc-macro"],"crate_types":["rlib"],"required-features":["f"],"src_path":"s","edition":"2021","doctest":false,"test":true,"doc":false}"#,
+        r#"Target { name: "t", kind: [Lib, ProcMacro], crate_types: [RLib], required_features: ["f"], src_path: "s", edition: E2021, doctest: false, test: true, doc: false }"#,
+    ),
+    (
+        r#"{"name":"t","kind":[],"src_path":"s"}"#,
+        r#"Target { name: "t", kind: [], crate_types: [], required_features: [], src_path: "s", edition: E2015, doctest: true, test: true, doc: true }"#,
+    ),
+];
+
+/// JSON that is no target, and why.
+const TARGETS_REFUSED: &[(&str, &str)] = &[
+    (
+        r#"{"name":"t","kind":["library"],"src_path":"s"}"#,
+        "bad target kind",
+    ),
+    (
+        r#"{"name":"t","kind":[],"crate_types":["test"],"src_path":"s"}"#,
+        "bad crate type",
+    ),
+    (
+        r#"{"name":"t","kind":[],"src_path":"s","edition":"2020"}"#,
+        "bad edition",
+    ),
+    (
+        r#"{"name":"t","kind":[],"src_path":"s","edition":null}"#,
+        "wrong type at key: edition",
+    ),
+    (
+        r#"{"name":"t","kind":"lib","src_path":"s"}"#,
+        "wrong type at key: kind",
+    ),
+    (
+        r#"{"name":"t","kind":[],"src_path":"s","required-features":null}"#,
+        "wrong type at key: required-features",
+    ),
+];
+
+/// A package that has every key, and what it is read as.
+const EVERY_KEY: &[(&str, &str)] = &[(
+    r#"{"name":"a","version":"1.2.3-rc.1+b","id":"i","license":"MIT","license_file":"L",
+        "description":"d","source":"s","dependencies":[],"targets":[],"features":{"y":[],"x":["dep:b","y"]},
+        "manifest_path":"/w/a/Cargo.toml","metadata":{"k":[1]},"publish":["r"],"authors":["A"],
+        "categories":["c"],"keywords":["k"],"readme":"R","repository":"p","homepage":"h",
+        "documentation":"o","edition":"2024","links":"n","default_run":"u","rust_version":"1.70"}"#,
+    r#"Package { name: "a", version: Version { major: 1, minor: 2, patch: 3, pre: Prerelease("rc.1"), build: BuildMetadata("b") }, authors: ["A"], id: PackageId { repr: "i" }, source: Some(Source { repr: "s" }), description: Some("d"), dependencies: [], license: Some("MIT"), license_file: Some("L"), targets: [], features: {"x": ["dep:b", "y"], "y": []}, manifest_path: "/w/a/Cargo.toml", categories: ["c"], keywords: ["k"], readme: Some("R"), repository: Some("p"), homepage: Some("h"), documentation: Some("o"), edition: E2024, metadata: Object {"k": Array [Number(1)]}, links: Some("n"), publish: Some(["r"]), default_run: Some("u"), rust_version: Some(Version { major: 1, minor: 70, patch: 0 }) }"#,
+)];
+
+/// Nothing around the rows: each is a whole value.
+const WHOLE: (&str, &str) = ("", "");
+
+/// The keys that a package has to have, around a further one, which may stand there twice: the last counts.
+const PACKAGE: (&str, &str) = (
+    r#"{"name":"a","version":"1.0.0","id":"i","dependencies":[],"targets":[],"features":{},"manifest_path":"m","#,
+    "}",
+);
+
+/// What is wrong with a package of one more key.
+const PACKAGES_REFUSED: &[(&str, &str)] = &[
+    (r#""version":"1.0""#, "bad version"),
+    (r#""authors":null"#, "wrong type at key: authors"),
+    (
+        r#""features":{"x":[],"y":[0]}"#,
+        "wrong type at key: features",
+    ),
+    (r#""edition":null"#, "wrong type at key: edition"),
+    (r#""rust_version":"1""#, "bad rust version"),
+    (r#""rust_version":"1.70.0-beta""#, "bad rust version"),
+    (r#""rust_version":"1.70.0+b""#, "bad rust version"),
+    (
+        r#""dependencies":[null]"#,
+        "wrong type at key: dependencies",
+    ),
+];
+
+/// The keys that a document has to have, around further ones.
+const DOCUMENT: (&str, &str) = (
+    r#"{"packages":[],"workspace_members":["a"],"workspace_root":"/w","target_directory":"/t","#,
+    "}",
+);
+
+/// What is read of a document of further keys, or why it isn't.
+const DOCUMENTS: &[(&str, &str)] = &[
+    (
+        r#""resolve":null,"build_directory":null"#,
+        r#"Metadata { packages: [], workspace_members: [PackageId { repr: "a" }], workspace_default_members: WorkspaceDefaultMembers(None), resolve: None, workspace_root: "/w", target_directory: "/t", build_directory: None, workspace_metadata: Null, version: 0 }"#,
+    ),
+    (
+        r#""version":18446744073709551615,"build_directory":"/b","workspace_default_members":[],"metadata":true"#,
+        r#"Metadata { packages: [], workspace_members: [PackageId { repr: "a" }], workspace_default_members: WorkspaceDefaultMembers(Some([])), resolve: None, workspace_root: "/w", target_directory: "/t", build_directory: Some("/b"), workspace_metadata: Bool(true), version: 18446744073709551615 }"#,
+    ),
+    (
+        r#""version":18446744073709551616"#,
+        "wrong type at key: version",
+    ),
+    (r#""version":-1"#, "wrong type at key: version"),
+    (r#""version":1.5"#, "wrong type at key: version"),
+    (r#""version":null"#, "wrong type at key: version"),
+    (
+        r#""workspace_default_members":null"#,
+        "wrong type at key: workspace_default_members",
+    ),
+    (r#""resolve":{"nodes":[]}"#, "missing key: root"),
+    (r#""packages":[null]"#, "wrong type at key: packages"),
+];
+
 /// What is read, or the text of the refusal.
-fn outcome<T: FromValue + Debug>(alloc: Global, json: &str) -> Result<String, Fail> {
+fn told<T: FromValue + Debug>(alloc: Global, json: &str) -> Result<String, Fail> {
     let value = Value::from_str(alloc, json)?;
     match T::from_value(alloc, &value) {
         Ok(read) => Ok(format!(in alloc; "{read:?}")?),
@@ -18,329 +251,75 @@ fn outcome<T: FromValue + Debug>(alloc: Global, json: &str) -> Result<String, Fa
     }
 }
 
-#[test]
-fn texts(rt: HostRuntime) -> Result<(), Fail> {
-    for (json, outcome_of_an_id, outcome_of_a_source) in [
-        (
-            r#""a 0.1.0""#,
-            r#"PackageId { repr: "a 0.1.0" }"#,
-            r#"Source { repr: "a 0.1.0" }"#,
-        ),
-        ("null", "wrong type at key: ", "wrong type at key: "),
-        ("1", "wrong type at key: ", "wrong type at key: "),
-        ("[]", "wrong type at key: ", "wrong type at key: "),
-    ] {
-        assert_eq!(rt;
-            outcome::<PackageId>(rt.alloc(), json)?.as_str(),
-            outcome_of_an_id,
-            "{json}"
-        );
-        assert_eq!(rt;
-            outcome::<Source>(rt.alloc(), json)?.as_str(),
-            outcome_of_a_source,
-            "{json}"
-        );
+/// Compares what is told of each row, with what stands around it, with what is expected.
+fn hold<T: FromValue + Debug>(
+    alloc: Global,
+    around: (&str, &str),
+    rows: &[(&str, &str)],
+) -> Result<(), Fail> {
+    let (before, behind) = around;
+    for &(row, expected) in rows {
+        let json = format!(in alloc; "{before}{row}{behind}")?;
+        let told = told::<T>(alloc, json.as_str())?;
+        if told.as_str() != expected {
+            return Err(Fail::new(format_args!("{row}: {told} in place of {expected}")));
+        }
     }
     Ok(())
+}
+
+#[test]
+fn texts(rt: HostRuntime) -> Result<(), Fail> {
+    hold::<PackageId>(rt.alloc(), WHOLE, IDS)?;
+    hold::<Source>(rt.alloc(), WHOLE, SOURCES)
 }
 
 #[test]
 fn kinds_of_resolved_dependencies(rt: HostRuntime) -> Result<(), Fail> {
-    for (json, wanted) in [
-        ("{}", "DepKindInfo { kind: Normal, target: None }"),
-        (
-            r#"{"kind":null,"target":null}"#,
-            "DepKindInfo { kind: Normal, target: None }",
-        ),
-        (
-            r#"{"kind":"normal","other":[1]}"#,
-            "DepKindInfo { kind: Normal, target: None }",
-        ),
-        (
-            r#"{"kind":"dev","target":"cfg(unix)"}"#,
-            r#"DepKindInfo { kind: Development, target: Some("cfg(unix)") }"#,
-        ),
-        (
-            r#"{"kind":"dev","kind":"build"}"#,
-            "DepKindInfo { kind: Build, target: None }",
-        ),
-        ("[]", "wrong type at key: "),
-        (r#"{"kind":1}"#, "wrong type at key: kind"),
-        (r#"{"kind":"Dev"}"#, "bad dependency kind"),
-        (r#"{"target":[]}"#, "wrong type at key: target"),
-    ] {
-        assert_eq!(rt;
-            outcome::<DepKindInfo>(rt.alloc(), json)?.as_str(),
-            wanted,
-            "{json}"
-        );
-    }
-    Ok(())
+    hold::<DepKindInfo>(rt.alloc(), WHOLE, KINDS)
 }
 
 #[test]
 fn dependencies_of_nodes(rt: HostRuntime) -> Result<(), Fail> {
-    for (json, wanted) in [
-        (
-            r#"{"name":"b","pkg":"c","dep_kinds":[{"kind":"dev"}]}"#,
-            r#"NodeDep { name: "b", pkg: PackageId { repr: "c" }, dep_kinds: [DepKindInfo { kind: Development, target: None }] }"#,
-        ),
-        (
-            r#"{"name":"b","pkg":"c"}"#,
-            r#"NodeDep { name: "b", pkg: PackageId { repr: "c" }, dep_kinds: [] }"#,
-        ),
-        (r#"{"pkg":"c"}"#, "missing key: name"),
-        (r#"{"name":"b"}"#, "missing key: pkg"),
-        (
-            r#"{"name":"b","pkg":"c","dep_kinds":null}"#,
-            "wrong type at key: dep_kinds",
-        ),
-    ] {
-        assert_eq!(rt;
-            outcome::<NodeDep>(rt.alloc(), json)?.as_str(),
-            wanted,
-            "{json}"
-        );
-    }
-    Ok(())
+    hold::<NodeDep>(rt.alloc(), WHOLE, NODE_DEPENDENCIES)
 }
 
 #[test]
 fn nodes(rt: HostRuntime) -> Result<(), Fail> {
-    for (json, wanted) in [
-        (
-            r#"{"id":"a","deps":[],"dependencies":["c"],"features":["f","g"]}"#,
-            r#"Node { id: PackageId { repr: "a" }, deps: [], dependencies: [PackageId { repr: "c" }], features: ["f", "g"] }"#,
-        ),
-        (
-            r#"{"id":"a","dependencies":[]}"#,
-            r#"Node { id: PackageId { repr: "a" }, deps: [], dependencies: [], features: [] }"#,
-        ),
-        (r#"{"dependencies":[]}"#, "missing key: id"),
-        (r#"{"id":"a"}"#, "missing key: dependencies"),
-        (
-            r#"{"id":"a","dependencies":[],"deps":null}"#,
-            "wrong type at key: deps",
-        ),
-        (
-            r#"{"id":"a","dependencies":[],"features":["f",2]}"#,
-            "wrong type at key: features",
-        ),
-    ] {
-        assert_eq!(rt;
-            outcome::<Node>(rt.alloc(), json)?.as_str(),
-            wanted,
-            "{json}"
-        );
-    }
-    Ok(())
+    hold::<Node>(rt.alloc(), WHOLE, NODES)
 }
 
 #[test]
 fn resolved_graphs(rt: HostRuntime) -> Result<(), Fail> {
-    for (json, wanted) in [
-        (
-            r#"{"nodes":[],"root":null}"#,
-            "Resolve { nodes: [], root: None }",
-        ),
-        (
-            r#"{"nodes":[],"root":"a"}"#,
-            r#"Resolve { nodes: [], root: Some(PackageId { repr: "a" }) }"#,
-        ),
-        (r#"{"nodes":[]}"#, "missing key: root"),
-        (r#"{"root":null}"#, "missing key: nodes"),
-        (r#"{"nodes":null,"root":null}"#, "wrong type at key: nodes"),
-        (r#"{"nodes":[7],"root":null}"#, "wrong type at key: nodes"),
-    ] {
-        assert_eq!(rt;
-            outcome::<Resolve>(rt.alloc(), json)?.as_str(),
-            wanted,
-            "{json}"
-        );
-    }
-    Ok(())
+    hold::<Resolve>(rt.alloc(), WHOLE, GRAPHS)
 }
 
 #[test]
 fn declared_dependencies(rt: HostRuntime) -> Result<(), Fail> {
-    for (json, wanted) in [
-        (
-            r#"{"name":"b","source":"s","req":"*","kind":"build","rename":"c","optional":true,"uses_default_features":false,"features":["f"],"target":"t","registry":"r","path":"p"}"#,
-            r#"Dependency { name: "b", source: Some("s"), req: VersionReq { comparators: [] }, kind: Build, optional: true, uses_default_features: false, features: ["f"], target: Some("t"), rename: Some("c"), registry: Some("r"), path: Some("p") }"#,
-        ),
-        (
-            r#"{"name":"b","req":"*","optional":false,"uses_default_features":true,"features":[]}"#,
-            r#"Dependency { name: "b", source: None, req: VersionReq { comparators: [] }, kind: Normal, optional: false, uses_default_features: true, features: [], target: None, rename: None, registry: None, path: None }"#,
-        ),
-        (
-            r#"{"name":"b","req":"one","optional":false,"uses_default_features":true,"features":[]}"#,
-            "bad version requirement",
-        ),
-        (
-            r#"{"name":"b","req":"*","optional":"no","uses_default_features":true,"features":[]}"#,
-            "wrong type at key: optional",
-        ),
-        (
-            r#"{"name":"b","req":"*","optional":false,"uses_default_features":true,"features":null}"#,
-            "wrong type at key: features",
-        ),
-        (
-            r#"{"name":"b","req":"*","optional":false,"features":[]}"#,
-            "missing key: uses_default_features",
-        ),
-    ] {
-        assert_eq!(rt;
-            outcome::<Dependency>(rt.alloc(), json)?.as_str(),
-            wanted,
-            "{json}"
-        );
-    }
-    Ok(())
+    hold::<Dependency>(rt.alloc(), WHOLE, DECLARED)
 }
 
 #[test]
 fn targets(rt: HostRuntime) -> Result<(), Fail> {
-    for (json, wanted) in [
-        (
-            r#"{"name":"t","kind":["lib","proc-macro"],"crate_types":["rlib"],"required-features":["f"],"src_path":"s","edition":"2021","doctest":false,"test":true,"doc":false}"#,
-            r#"Target { name: "t", kind: [Lib, ProcMacro], crate_types: [RLib], required_features: ["f"], src_path: "s", edition: E2021, doctest: false, test: true, doc: false }"#,
-        ),
-        (
-            r#"{"name":"t","kind":[],"src_path":"s"}"#,
-            r#"Target { name: "t", kind: [], crate_types: [], required_features: [], src_path: "s", edition: E2015, doctest: true, test: true, doc: true }"#,
-        ),
-    ] {
-        assert_eq!(rt;
-            outcome::<Target>(rt.alloc(), json)?.as_str(),
-            wanted,
-            "{json}"
-        );
-    }
-    Ok(())
+    hold::<Target>(rt.alloc(), WHOLE, TARGETS)
 }
 
 #[test]
 fn targets_that_are_refused(rt: HostRuntime) -> Result<(), Fail> {
-    for (json, wanted) in [
-        (
-            r#"{"name":"t","kind":["library"],"src_path":"s"}"#,
-            "bad target kind",
-        ),
-        (
-            r#"{"name":"t","kind":[],"crate_types":["test"],"src_path":"s"}"#,
-            "bad crate type",
-        ),
-        (
-            r#"{"name":"t","kind":[],"src_path":"s","edition":"2020"}"#,
-            "bad edition",
-        ),
-        (
-            r#"{"name":"t","kind":[],"src_path":"s","edition":null}"#,
-            "wrong type at key: edition",
-        ),
-        (
-            r#"{"name":"t","kind":"lib","src_path":"s"}"#,
-            "wrong type at key: kind",
-        ),
-        (
-            r#"{"name":"t","kind":[],"src_path":"s","required-features":null}"#,
-            "wrong type at key: required-features",
-        ),
-    ] {
-        assert_eq!(rt;
-            outcome::<Target>(rt.alloc(), json)?.as_str(),
-            wanted,
-            "{json}"
-        );
-    }
-    Ok(())
+    hold::<Target>(rt.alloc(), WHOLE, TARGETS_REFUSED)
 }
 
 #[test]
 fn a_package_of_every_key(rt: HostRuntime) -> Result<(), Fail> {
-    let json = r#"{"name":"a","version":"1.2.3-rc.1+b","id":"i","license":"MIT","license_file":"L",
-        "description":"d","source":"s","dependencies":[],"targets":[],"features":{"y":[],"x":["dep:b","y"]},
-        "manifest_path":"/w/a/Cargo.toml","metadata":{"k":[1]},"publish":["r"],"authors":["A"],
-        "categories":["c"],"keywords":["k"],"readme":"R","repository":"p","homepage":"h",
-        "documentation":"o","edition":"2024","links":"n","default_run":"u","rust_version":"1.70"}"#;
-    assert_eq!(rt;
-        outcome::<Package>(rt.alloc(), json)?.as_str(),
-        r#"Package { name: "a", version: Version { major: 1, minor: 2, patch: 3, pre: Prerelease("rc.1"), build: BuildMetadata("b") }, authors: ["A"], id: PackageId { repr: "i" }, source: Some(Source { repr: "s" }), description: Some("d"), dependencies: [], license: Some("MIT"), license_file: Some("L"), targets: [], features: {"x": ["dep:b", "y"], "y": []}, manifest_path: "/w/a/Cargo.toml", categories: ["c"], keywords: ["k"], readme: Some("R"), repository: Some("p"), homepage: Some("h"), documentation: Some("o"), edition: E2024, metadata: Object {"k": Array [Number(1)]}, links: Some("n"), publish: Some(["r"]), default_run: Some("u"), rust_version: Some(Version { major: 1, minor: 70, patch: 0 }) }"#
-    );
-    Ok(())
-}
-
-/// What is read of an object of these fields and of one more, which may stand there twice: the last counts.
-fn outcome_with<T: FromValue + Debug>(
-    alloc: Global,
-    fields: &str,
-    field: &str,
-) -> Result<String, Fail> {
-    let json = format!(in alloc; "{{{fields},{field}}}")?;
-    outcome::<T>(alloc, json.as_str())
+    hold::<Package>(rt.alloc(), WHOLE, EVERY_KEY)
 }
 
 #[test]
 fn packages_that_are_refused(rt: HostRuntime) -> Result<(), Fail> {
-    let fields =
-        r#""name":"a","version":"1.0.0","id":"i","dependencies":[],"targets":[],"features":{},"manifest_path":"m""#;
-    for (field, wanted) in [
-        (r#""version":"1.0""#, "bad version"),
-        (r#""authors":null"#, "wrong type at key: authors"),
-        (
-            r#""features":{"x":[],"y":[0]}"#,
-            "wrong type at key: features",
-        ),
-        (r#""edition":null"#, "wrong type at key: edition"),
-        (r#""rust_version":"1""#, "bad rust version"),
-        (r#""rust_version":"1.70.0-beta""#, "bad rust version"),
-        (r#""rust_version":"1.70.0+b""#, "bad rust version"),
-        (
-            r#""dependencies":[null]"#,
-            "wrong type at key: dependencies",
-        ),
-    ] {
-        assert_eq!(rt;
-            outcome_with::<Package>(rt.alloc(), fields, field)?.as_str(),
-            wanted,
-            "{field}"
-        );
-    }
-    Ok(())
+    hold::<Package>(rt.alloc(), PACKAGE, PACKAGES_REFUSED)
 }
 
 #[test]
 fn whole_documents(rt: HostRuntime) -> Result<(), Fail> {
-    let fields =
-        r#""packages":[],"workspace_members":["a"],"workspace_root":"/w","target_directory":"/t""#;
-    for (field, wanted) in [
-        (
-            r#""resolve":null,"build_directory":null"#,
-            r#"Metadata { packages: [], workspace_members: [PackageId { repr: "a" }], workspace_default_members: WorkspaceDefaultMembers(None), resolve: None, workspace_root: "/w", target_directory: "/t", build_directory: None, workspace_metadata: Null, version: 0 }"#,
-        ),
-        (
-            r#""version":18446744073709551615,"build_directory":"/b","workspace_default_members":[],"metadata":true"#,
-            r#"Metadata { packages: [], workspace_members: [PackageId { repr: "a" }], workspace_default_members: WorkspaceDefaultMembers(Some([])), resolve: None, workspace_root: "/w", target_directory: "/t", build_directory: Some("/b"), workspace_metadata: Bool(true), version: 18446744073709551615 }"#,
-        ),
-        (
-            r#""version":18446744073709551616"#,
-            "wrong type at key: version",
-        ),
-        (r#""version":-1"#, "wrong type at key: version"),
-        (r#""version":1.5"#, "wrong type at key: version"),
-        (r#""version":null"#, "wrong type at key: version"),
-        (
-            r#""workspace_default_members":null"#,
-            "wrong type at key: workspace_default_members",
-        ),
-        (r#""resolve":{"nodes":[]}"#, "missing key: root"),
-        (r#""packages":[null]"#, "wrong type at key: packages"),
-    ] {
-        assert_eq!(rt;
-            outcome_with::<Metadata>(rt.alloc(), fields, field)?.as_str(),
-            wanted,
-            "{field}"
-        );
-    }
-    Ok(())
+    hold::<Metadata>(rt.alloc(), DOCUMENT, DOCUMENTS)
 }

@@ -1,51 +1,25 @@
-//! What a document answers to the questions of the rules, asked one by one.
+//! What a document and a setting answer to the questions of the rules, asked one by one.
 
-use krates::{DepKind, PkgSpec, Scope, Target};
-use krates_cm::{DepKindInfo, DependencyKind, Metadata, MetadataCommand, PackageId};
+use crate::documents::{kid_of, metadata};
+use crate::setters::set_as;
+use crate::table::{Question, Row, hold};
+use krates_cm::{DepKindInfo, DependencyKind};
 use krates_ids::Kid;
 use krates_resolve::{Document, Setting, admit};
 use std::alloc::Global;
 use std::test::Fail;
 
-/// Two members. The first declares a crate three times, last for its build, and its node lists that for the build and for
-/// tests; and it declares another for one target. The text ends before the id of the graph's root.
-const PACKAGES: &str = r#"{"packages":[
-    {"name":"m","version":"0.1.0","id":"path+file:///w/m#0.1.0","targets":[],"features":{},"manifest_path":"/w/m/Cargo.toml",
-    "dependencies":[
-    {"name":"z","req":"*","kind":"dev","optional":false,"uses_default_features":false,"features":[]},
-    {"name":"z","req":"*","kind":null,"optional":true,"uses_default_features":false,"features":[]},
-    {"name":"z","req":"*","kind":"build","optional":false,"uses_default_features":false,"features":[]},
-    {"name":"b-c","req":"*","kind":null,"target":"cfg(windows)","optional":false,"uses_default_features":false,"features":[]}]},
-    {"name":"n","version":"0.1.0","id":"path+file:///w/n#0.1.0","targets":[],"features":{},"manifest_path":"/w/n/Cargo.toml",
-    "dependencies":[]},
-    {"name":"z","version":"0.1.0","id":"path+file:///w/z#0.1.0","targets":[],"features":{},"manifest_path":"/w/z/Cargo.toml",
-    "dependencies":[]},
-    {"name":"b-c","version":"0.1.0","id":"path+file:///w/b-c#0.1.0","targets":[],"features":{},"manifest_path":"/w/b/Cargo.toml",
-    "dependencies":[]}],
-    "workspace_members":["path+file:///w/n#0.1.0","path+file:///w/m#0.1.0"],"workspace_root":"/w","target_directory":"/t",
-    "resolve":{"root":"#;
+/// Two members. The second declares a crate three times, last for its build, and its node lists that for the build and for
+/// tests; and it declares another for one target, which cargo writes `b_c` where the manifest has `b-c`.
+const MEMBERS: &str =
+    "m z&dev z? z&build b-c&on=cfg(windows)|n|z|b-c / nodes m z&build&dev b-c&as=b_c&on=cfg(windows)|n|z|b-c / members n m";
 
-/// What follows it.
-const NODES: &str = r#","nodes":[
-    {"id":"path+file:///w/m#0.1.0","dependencies":[],"features":[],"deps":[
-    {"name":"z","pkg":"path+file:///w/z#0.1.0","dep_kinds":[{"kind":"build","target":null},{"kind":"dev","target":null}]},
-    {"name":"b_c","pkg":"path+file:///w/b-c#0.1.0","dep_kinds":[{"kind":null,"target":"cfg(windows)"}]}]},
-    {"id":"path+file:///w/n#0.1.0","dependencies":[],"features":[],"deps":[]},
-    {"id":"path+file:///w/z#0.1.0","dependencies":[],"features":[],"deps":[]},
-    {"id":"path+file:///w/b-c#0.1.0","dependencies":[],"features":[],"deps":[]}]}}"#;
-
-/// The document whose graph has this root.
-fn document(alloc: Global, root: &str) -> Result<Metadata, Fail> {
-    let text = format!(in alloc; "{}{}{}", PACKAGES, root, NODES)?;
-    Ok(MetadataCommand::parse(alloc, text.as_str())?)
-}
-
-/// The id of the crate of this name.
-fn id_of(alloc: Global, name: &str) -> Result<Kid, Fail> {
-    let repr = format!(in alloc; "path+file:///w/{name}#0.1.0")?;
-    match Kid::try_from(PackageId { repr }) {
-        Ok(kid) => Ok(kid),
-        Err(_) => Err(Fail::from("no id")),
+/// The kind of this name.
+fn kind_of(name: &str) -> DependencyKind {
+    match name {
+        "dev" => DependencyKind::Development,
+        "build" => DependencyKind::Build,
+        _ => DependencyKind::Normal,
     }
 }
 
@@ -57,55 +31,41 @@ fn target_text(alloc: Global, text: &str) -> Result<Option<String>, Fail> {
     Ok(Some(String::from_str(alloc, text)?))
 }
 
-/// A setting that asks for the crates with these paths, without those that the specification fits, for one target; without
-/// any of them where the text is empty.
-fn setting(alloc: Global, path: &str, spec: &str, triple: &str) -> Result<Setting, Fail> {
-    let mut setting = Setting::new(alloc);
-    if !path.is_empty() {
-        setting.include_workspace_crates(alloc, &[path])?;
-    }
-    if !spec.is_empty() {
-        setting.exclude(vec![in alloc; PkgSpec::from_str(alloc, spec)?]?)?;
-    }
-    if !triple.is_empty() {
-        let target = Target::new(alloc, triple)?;
-        setting.include_targets(vec![in alloc; (target, Vec::new(alloc))]?)?;
-    }
-    Ok(setting)
+/// An edge that is asked for.
+#[derive(Drop)]
+struct Edge {
+    parent: Kid,
+    child: Kid,
+    info: DepKindInfo,
 }
 
-#[test]
-fn what_a_name_means(rt: HostRuntime) -> Result<(), Fail> {
-    let alloc = rt.alloc();
-    let metadata = document(alloc, "null")?;
-    let ids = admit(alloc, &metadata)?;
-    let asked = Document::new(alloc, &metadata, &ids)?;
-    let mut told = String::new(alloc);
-    for (krate, name) in [
-        ("m", "z"),
-        // cargo writes `b_c` where the manifest has `b-c`
-        ("m", "b-c"),
-        ("m", "q"),
-        // a crate without dependencies, and one that isn't of the document
-        ("n", "z"),
-        ("q", "z"),
-    ] {
-        let krate = id_of(alloc, krate)?;
-        match asked.referent(&krate, name) {
-            Some(child) => told.push_str(child.name())?,
-            None => told.push_str("-")?,
-        }
-        told.push_str(" ")?;
-    }
-    assert_eq!(rt; told.as_str(), "z b-c - - - ");
-    Ok(())
+/// The edge of these words: parent, child, kind and target text.
+fn edge_of(alloc: Global, words: &str) -> Result<Edge, Fail> {
+    let mut words = words.split_whitespace();
+    let parent = kid_of(alloc, words.next().unwrap_or(""))?;
+    let child = kid_of(alloc, words.next().unwrap_or(""))?;
+    let kind = kind_of(words.next().unwrap_or(""));
+    let target = target_text(alloc, words.next().unwrap_or(""))?;
+    Ok(Edge {
+        parent,
+        child,
+        info: DepKindInfo { kind, target },
+    })
+}
+
+/// The name of the crate that a name means to a crate.
+fn referent(alloc: Global, asked: &Document<'_>, words: &str) -> Result<String, Fail> {
+    let (krate, name) = words.split_once(' ').unwrap_or((words, ""));
+    let krate = kid_of(alloc, krate)?;
+    let told = match asked.referent(&krate, name) {
+        Some(child) => child.name(),
+        None => "none",
+    };
+    Ok(String::from_str(alloc, told)?)
 }
 
 /// The names of the roots.
-fn roots(alloc: Global, root: &str, setting: &Setting) -> Result<String, Fail> {
-    let metadata = document(alloc, root)?;
-    let ids = admit(alloc, &metadata)?;
-    let asked = Document::new(alloc, &metadata, &ids)?;
+fn roots(alloc: Global, asked: &Document<'_>, setting: &Setting) -> Result<String, Fail> {
     let mut told = String::new(alloc);
     for kid in asked.roots(alloc, setting)? {
         told.push_str(kid.name())?;
@@ -113,150 +73,196 @@ fn roots(alloc: Global, root: &str, setting: &Setting) -> Result<String, Fail> {
     Ok(told)
 }
 
+/// The place of the declared dependency of an edge.
+fn declared(alloc: Global, asked: &Document<'_>, words: &str) -> Result<String, Fail> {
+    let edge = edge_of(alloc, words)?;
+    let place = asked.declared(alloc, &edge.parent, &edge.child, &edge.info)?;
+    Ok(format!(in alloc; "{place:?}")?)
+}
+
+/// Whether an edge is open.
+fn is_open(
+    alloc: Global,
+    asked: &Document<'_>,
+    setting: &Setting,
+    words: &str,
+) -> Result<String, Fail> {
+    let edge = edge_of(alloc, words)?;
+    let is_open = asked.is_open(alloc, setting, &edge.parent, &edge.child, &edge.info)?;
+    Ok(format!(in alloc; "{is_open}")?)
+}
+
+/// What the document of the two members answers to the question that a line begins with, under the setting of the line.
+struct Asked;
+
+impl Question for Asked {
+    fn told(alloc: Global, line: &str) -> Result<String, Fail> {
+        let (question, _) = line.split_once(" / ").unwrap_or((line, ""));
+        let whole = format!(in alloc; "{MEMBERS} / {line}")?;
+        let metadata = metadata(alloc, whole.as_str())?;
+        let ids = admit(alloc, &metadata)?;
+        let asked = Document::new(alloc, &metadata, &ids)?;
+        let mut setting = Setting::new(alloc);
+        set_as(alloc, &mut setting, line)?;
+        let (name, words) = question.split_once(' ').unwrap_or((question, ""));
+        match name {
+            "referent" => referent(alloc, &asked, words),
+            "declared" => declared(alloc, &asked, words),
+            "open" => is_open(alloc, &asked, &setting, words),
+            _ => roots(alloc, &asked, &setting),
+        }
+    }
+}
+
+const REFERENTS: &[Row] = &[
+    ("referent m z", "z"),
+    ("referent m b-c", "b-c"),
+    ("referent m q", "none"),
+    // a crate without dependencies, and one that isn't of the document
+    ("referent n z", "none"),
+    ("referent q z", "none"),
+];
+
+#[test]
+fn what_a_name_means(rt: HostRuntime) -> Result<(), Fail> {
+    hold::<Asked>(rt.alloc(), REFERENTS)
+}
+
+const ROOTS_OF_MEMBERS: &[Row] = &[
+    // members in the order of the document
+    ("roots", "nm"),
+    ("roots / root m", "m"),
+    ("roots / root m / workspace on", "nm"),
+    // by manifest; that of the workspace means every member
+    ("roots / include /w/m", "m"),
+    ("roots / root m / include /w/n/Cargo.toml", "n"),
+    ("roots / root m / include /w", "nm"),
+    ("roots / include /w/q", ""),
+    // an excluded crate is still a root
+    ("roots / without n", "nm"),
+];
+
 #[test]
 fn which_crates_are_roots(rt: HostRuntime) -> Result<(), Fail> {
-    let alloc = rt.alloc();
-    for (root, path, spec, workspace, expected) in [
-        // members in the order of the document
-        ("null", "", "", false, "nm"),
-        ("\"path+file:///w/m#0.1.0\"", "", "", false, "m"),
-        ("\"path+file:///w/m#0.1.0\"", "", "", true, "nm"),
-        // by manifest, that of the workspace means every member
-        ("null", "/w/m", "", false, "m"),
-        (
-            "\"path+file:///w/m#0.1.0\"",
-            "/w/n/Cargo.toml",
-            "",
-            false,
-            "n",
-        ),
-        ("\"path+file:///w/m#0.1.0\"", "/w", "", false, "nm"),
-        ("null", "/w/q", "", false, ""),
-        // an excluded crate is still a root
-        ("null", "", "n", false, "nm"),
-    ] {
-        let mut setting = setting(alloc, path, spec, "")?;
-        setting.workspace(workspace);
-        assert_eq!(rt;
-            roots(alloc, root, &setting)?.as_str(),
-            expected,
-            "{root} {path}"
-        );
-    }
-    Ok(())
+    hold::<Asked>(rt.alloc(), ROOTS_OF_MEMBERS)
 }
+
+const DECLARED_EDGES: &[Row] = &[
+    ("declared m z dev", "Some(0)"),
+    ("declared m z build", "Some(2)"),
+    ("declared m b-c normal cfg(windows)", "Some(3)"),
+    // declared for this kind, but not listed
+    ("declared m z normal", "None"),
+    // for another target, the other way round, and of a crate that isn't of the document
+    ("declared m b-c normal", "None"),
+    ("declared z m build", "None"),
+    ("declared q m build", "None"),
+];
 
 #[test]
 fn as_what_a_dependency_is_declared(rt: HostRuntime) -> Result<(), Fail> {
-    let alloc = rt.alloc();
-    let metadata = document(alloc, "null")?;
-    let ids = admit(alloc, &metadata)?;
-    let asked = Document::new(alloc, &metadata, &ids)?;
-    let mut told = String::new(alloc);
-    for (parent, child, kind, target) in [
-        ("m", "z", DependencyKind::Development, ""),
-        ("m", "z", DependencyKind::Build, ""),
-        ("m", "b-c", DependencyKind::Normal, "cfg(windows)"),
-        // declared for this purpose, but not listed
-        ("m", "z", DependencyKind::Normal, ""),
-        // for another target, the other way round, and of a crate that isn't of the document
-        ("m", "b-c", DependencyKind::Normal, ""),
-        ("z", "m", DependencyKind::Build, ""),
-        ("q", "m", DependencyKind::Build, ""),
-    ] {
-        let (parent, child) = (id_of(alloc, parent)?, id_of(alloc, child)?);
-        let target = target_text(alloc, target)?;
-        let place = asked.declared(alloc, &parent, &child, &DepKindInfo { kind, target })?;
-        told.push_str(format!(in alloc; "{place:?} ")?.as_str())?;
-    }
-    assert_eq!(rt;
-        told.as_str(),
-        "Some(0) Some(2) Some(3) None None None None "
-    );
-    Ok(())
+    hold::<Asked>(rt.alloc(), DECLARED_EDGES)
 }
+
+const OPEN_EDGES: &[Row] = &[
+    ("open m z dev / ignore build workspace", "true"),
+    ("open m z build / ignore build workspace", "false"),
+    ("open m z normal / ignore build workspace", "false"),
+    ("open m z dev / ignore build workspace / without z", "false"),
+    (
+        "open m z dev / ignore build workspace / without m / for x86_64-unknown-linux-gnu",
+        "true",
+    ),
+    (
+        "open m b-c normal cfg(windows) / ignore build workspace",
+        "true",
+    ),
+    (
+        "open m b-c normal cfg(windows) / ignore build workspace / for x86_64-unknown-linux-gnu",
+        "false",
+    ),
+];
 
 #[test]
 fn which_edges_are_open(rt: HostRuntime) -> Result<(), Fail> {
-    let alloc = rt.alloc();
-    let metadata = document(alloc, "null")?;
-    let ids = admit(alloc, &metadata)?;
-    let asked = Document::new(alloc, &metadata, &ids)?;
-    let parent = id_of(alloc, "m")?;
-    let linux = "x86_64-unknown-linux-gnu";
-    let windows = "cfg(windows)";
-    for (child, kind, target, spec, triple, expected) in [
-        ("z", DependencyKind::Development, "", "", "", true),
-        ("z", DependencyKind::Build, "", "", "", false),
-        ("z", DependencyKind::Normal, "", "", "", false),
-        ("z", DependencyKind::Development, "", "z", "", false),
-        ("z", DependencyKind::Development, "", "m", linux, true),
-        ("b-c", DependencyKind::Normal, windows, "", "", true),
-        ("b-c", DependencyKind::Normal, windows, "", linux, false),
-    ] {
-        let mut setting = setting(alloc, "", spec, triple)?;
-        setting.ignore_kind(DepKind::Build, Scope::Workspace);
-        let target = target_text(alloc, target)?;
-        let child = id_of(alloc, child)?;
-        let is_open = asked.is_open(
-            alloc,
-            &setting,
-            &parent,
-            &child,
-            &DepKindInfo { kind, target },
-        )?;
-        assert_eq!(rt;
-            is_open,
-            expected,
-            "{} {:?} {spec} {triple}",
-            child.name(),
-            kind
-        );
-    }
-    Ok(())
+    hold::<Asked>(rt.alloc(), OPEN_EDGES)
 }
 
-#[test]
-fn which_target_texts_pass(rt: HostRuntime) -> Result<(), Fail> {
-    let alloc = rt.alloc();
-    let linux = "x86_64-unknown-linux-gnu";
-    for (triple, text, expected) in [
-        ("", "", true),
-        ("", "cfg(windows)", true),
-        ("", "x86_64-pc-windows-msvc", true),
-        ("", "cfg(any())", false),
-        (linux, "", true),
-        (linux, "cfg(windows)", false),
-        (linux, "cfg(unix)", true),
-        (linux, linux, true),
-        (linux, "x86_64-pc-windows-msvc", false),
-    ] {
-        let setting = setting(alloc, "", "", triple)?;
-        let text = target_text(alloc, text)?;
-        assert_eq!(rt;
-            setting.passes(alloc, &text)?,
-            expected,
-            "{triple} {text:?}"
-        );
-    }
-    Ok(())
-}
-
-#[test]
-fn what_a_setting_leaves_out(rt: HostRuntime) -> Result<(), Fail> {
-    let alloc = rt.alloc();
-    let metadata = document(alloc, "null")?;
-    let mut setting = setting(alloc, "", "n", "")?;
-    setting.ignore_kind(DepKind::Dev, Scope::NonWorkspace);
+/// Which packages of the two members' document are excluded, each behind a minus sign.
+fn excluded(alloc: Global, setting: &Setting) -> Result<String, Fail> {
+    let metadata = metadata(alloc, MEMBERS)?;
     let mut told = String::new(alloc);
     for pkg in metadata.packages.as_slice() {
         told.push_str(if setting.excludes(pkg) { "-" } else { "+" })?;
         told.push_str(pkg.name.as_str())?;
     }
-    for is_member in [true, false] {
-        let is_ignored = setting.ignores(DependencyKind::Development, is_member);
-        told.push_str(if is_ignored { " ignored" } else { " kept" })?;
+    Ok(told)
+}
+
+/// Whether a dependency with a target text passes.
+fn passes(alloc: Global, setting: &Setting, text: &str) -> Result<String, Fail> {
+    let text = target_text(alloc, text)?;
+    let is_passing = setting.passes(alloc, &text)?;
+    Ok(format!(in alloc; "{is_passing}")?)
+}
+
+/// Whether a kind of dependency is ignored, of a member or of another crate.
+fn ignores(alloc: Global, setting: &Setting, words: &str) -> Result<String, Fail> {
+    let (kind, krate) = words.split_once(' ').unwrap_or((words, ""));
+    let is_ignored = setting.ignores(kind_of(kind), krate == "member");
+    Ok(format!(in alloc; "{is_ignored}")?)
+}
+
+/// What the setting of a line answers to the question that the line begins with.
+struct Set;
+
+impl Question for Set {
+    fn told(alloc: Global, line: &str) -> Result<String, Fail> {
+        let (question, _) = line.split_once(" / ").unwrap_or((line, ""));
+        let mut setting = Setting::new(alloc);
+        set_as(alloc, &mut setting, line)?;
+        let (name, words) = question.split_once(' ').unwrap_or((question, ""));
+        match name {
+            "passes" => passes(alloc, &setting, words),
+            "ignores" => ignores(alloc, &setting, words),
+            _ => excluded(alloc, &setting),
+        }
     }
-    assert_eq!(rt; told.as_str(), "+m-n+z+b-c kept ignored");
-    Ok(())
+}
+
+const PASSING: &[Row] = &[
+    ("passes", "true"),
+    ("passes cfg(windows)", "true"),
+    ("passes x86_64-pc-windows-msvc", "true"),
+    ("passes cfg(any())", "false"),
+    ("passes / for x86_64-unknown-linux-gnu", "true"),
+    (
+        "passes cfg(windows) / for x86_64-unknown-linux-gnu",
+        "false",
+    ),
+    ("passes cfg(unix) / for x86_64-unknown-linux-gnu", "true"),
+    (
+        "passes x86_64-unknown-linux-gnu / for x86_64-unknown-linux-gnu",
+        "true",
+    ),
+    (
+        "passes x86_64-pc-windows-msvc / for x86_64-unknown-linux-gnu",
+        "false",
+    ),
+];
+
+#[test]
+fn which_target_texts_pass(rt: HostRuntime) -> Result<(), Fail> {
+    hold::<Set>(rt.alloc(), PASSING)
+}
+
+const LEFT_OUT: &[Row] = &[
+    ("excluded / without n", "+m-n+z+b-c"),
+    ("ignores dev member / ignore dev non-workspace", "false"),
+    ("ignores dev other / ignore dev non-workspace", "true"),
+];
+
+#[test]
+fn what_a_setting_leaves_out(rt: HostRuntime) -> Result<(), Fail> {
+    hold::<Set>(rt.alloc(), LEFT_OUT)
 }

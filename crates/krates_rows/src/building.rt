@@ -2,244 +2,171 @@
 
 ghost use Rattle.std.specs.Prelude.{⊤};
 
-use krates::cm::MetadataCommand;
-use krates::{Builder, Kid, NoneFilter, OnFilter, Package, PackageId};
-use std::alloc::Global;
+use crate::documents::{kid_of, metadata, word_of};
+use crate::setters::build_as;
+use crate::table::{Question, Row, hold};
+use krates::cm::Metadata;
+use krates::{Builder, Krates, NoneFilter, OnFilter, Package};
+use std::alloc::{AllocError, Global};
 use std::test::Fail;
 
-/// A document in short texts.
-#[derive(Clone, Copy)]
-pub(crate) struct Short<'a> {
-    /// The packages, with bars between them: the name of each, and behind it the names that it declares; a question mark behind
-    /// a name makes one optional.
-    pub(crate) packages: &'a str,
-    /// The nodes, with bars between them: the name of each, and behind it the names that it needs.
-    pub(crate) nodes: &'a str,
-    /// The names of the members.
-    pub(crate) members: &'a str,
-    /// The id of the root, as JSON.
-    pub(crate) root: &'a str,
-    /// For what each dependency is needed, as JSON.
-    pub(crate) kind: &'a str,
-    /// The target text of each dependency, as JSON.
-    pub(crate) target: &'a str,
-}
-
-/// One member, which needs nothing; and in other documents what they don't say.
-pub(crate) const ALONE: Short<'static> = Short {
-    packages: "a",
-    nodes: "a",
-    members: "a",
-    root: "null",
-    kind: "null",
-    target: "null",
-};
-
-/// Adds an item to a JSON list.
-fn push_item(json: &mut String, item: &str) -> Result<(), Fail> {
-    if !json.is_empty() {
-        json.push_str(",")?;
+/// Adds a package behind a mark: its name, and its word or id where that is another.
+fn push_package(text: &mut String, mark: &str, pkg: &Package) -> Result<(), AllocError> {
+    text.push_str(mark)?;
+    text.push_str(pkg.name.as_str())?;
+    let word = word_of(pkg.id.repr.as_str());
+    if word != pkg.name.as_str() {
+        text.push_str("=")?;
+        text.push_str(word)?;
     }
-    json.push_str(item)?;
     Ok(())
 }
 
-/// The declared dependencies of these names; a question mark behind a name makes one optional.
-fn declared(alloc: Global, short: &Short<'_>, names: &str) -> Result<String, Fail> {
-    let mut json = String::new(alloc);
-    for word in names.split_whitespace() {
-        let optional = word.ends_with('?');
-        let name = word.trim_end_matches('?');
-        let item = format!(in alloc;
-            "{{\"name\":\"{name}\",\"req\":\"*\",\"kind\":{},\"target\":{},\"optional\":{optional},\"uses_default_features\":false,\"features\":[]}}",
-            short.kind, short.target
-        )?;
-        push_item(&mut json, item.as_str())?;
-    }
-    Ok(json)
-}
-
-/// The dependencies of a node, of these names.
-fn deps(alloc: Global, short: &Short<'_>, names: &str) -> Result<String, Fail> {
-    let mut json = String::new(alloc);
-    for name in names.split_whitespace() {
-        let item = format!(in alloc;
-            "{{\"name\":\"{name}\",\"pkg\":\"path+file:///w/{name}#0.1.0\",\"dep_kinds\":[{{\"kind\":{},\"target\":{}}}]}}",
-            short.kind, short.target
-        )?;
-        push_item(&mut json, item.as_str())?;
-    }
-    Ok(json)
-}
-
-/// The packages of a document.
-fn packages(alloc: Global, short: &Short<'_>) -> Result<String, Fail> {
-    let mut json = String::new(alloc);
-    for line in short.packages.split('|') {
-        let (name, names) = line.split_once(' ').unwrap_or((line, ""));
-        let needs = declared(alloc, short, names)?;
-        let item = format!(in alloc;
-            "{{\"name\":\"{name}\",\"version\":\"0.1.0\",\"id\":\"path+file:///w/{name}#0.1.0\",\"dependencies\":[{needs}],\"targets\":[],\"features\":{{}},\"manifest_path\":\"/w/{name}/Cargo.toml\"}}"
-        )?;
-        push_item(&mut json, item.as_str())?;
-    }
-    Ok(json)
-}
-
-/// The nodes of a document.
-fn nodes(alloc: Global, short: &Short<'_>) -> Result<String, Fail> {
-    let mut json = String::new(alloc);
-    for line in short.nodes.split('|') {
-        let (name, names) = line.split_once(' ').unwrap_or((line, ""));
-        let needs = deps(alloc, short, names)?;
-        let item = format!(in alloc;
-            "{{\"id\":\"path+file:///w/{name}#0.1.0\",\"deps\":[{needs}],\"dependencies\":[],\"features\":[]}}"
-        )?;
-        push_item(&mut json, item.as_str())?;
-    }
-    Ok(json)
-}
-
-/// The ids of these names, as a JSON list has them.
-fn ids(alloc: Global, names: &str) -> Result<String, Fail> {
-    let mut json = String::new(alloc);
-    for name in names.split_whitespace() {
-        let item = format!(in alloc; "\"path+file:///w/{name}#0.1.0\"")?;
-        push_item(&mut json, item.as_str())?;
-    }
-    Ok(json)
-}
-
-/// The names of the packages that aren't kept.
+/// The packages that aren't kept, each behind a minus sign.
 #[derive(Drop)]
-struct Names {
+struct Reported {
     text: String,
     is_whole: bool,
 }
 
-impl OnFilter for Names {
+impl OnFilter for Reported {
     ghost filters = { λ _ _ _. ⊤ };
 
     fn filtered(&mut self, pkg: Package) {
-        let told = self.text.push_str(" -").is_ok()
-            && self.text.push_str(pkg.name.as_str()).is_ok();
-        self.is_whole = self.is_whole && told;
+        self.is_whole = push_package(&mut self.text, "-", &pkg).is_ok() && self.is_whole;
     }
 }
 
-/// What the builder keeps and what is reported, in order, or the text of the refusal.
-pub(crate) fn outcome(alloc: Global, builder: Builder, document: &str) -> Result<String, Fail> {
-    let metadata = MetadataCommand::parse(alloc, document)?;
-    let mut names = Names {
+/// Adds the kept crates in order, each behind a plus sign.
+fn push_krates(text: &mut String, krates: &Krates) -> Result<(), AllocError> {
+    for krate in krates.krates() {
+        push_package(text, "+", krate)?;
+    }
+    Ok(())
+}
+
+/// What the builder keeps and then what it reports, each in order, or the text of the refusal.
+pub(crate) fn outcome(alloc: Global, builder: Builder, metadata: Metadata) -> Result<String, Fail> {
+    let mut reported = Reported {
         text: String::new(alloc),
         is_whole: true,
     };
-    let krates = match builder.build_with_metadata(metadata, &mut names) {
+    let krates = match builder.build_with_metadata(metadata, &mut reported) {
         Ok(krates) => krates,
         Err(error) => return Ok(format!(in alloc; "{error}")?),
     };
     let mut text = String::new(alloc);
-    for krate in krates.krates() {
-        text.push_str(" +")?;
-        text.push_str(krate.name.as_str())?;
+    push_krates(&mut text, &krates)?;
+    text.push_str(reported.text.as_str())?;
+    if !reported.is_whole {
+        text.push_str(" and more")?;
     }
-    text.push_str(names.text.as_str())?;
     Ok(text)
 }
 
-/// The document that stands in short texts.
-pub(crate) fn document(alloc: Global, short: &Short<'_>) -> Result<String, Fail> {
-    let pkgs = packages(alloc, short)?;
-    let graph = nodes(alloc, short)?;
-    let members = ids(alloc, short.members)?;
-    Ok(format!(in alloc;
-        "{{\"packages\":[{pkgs}],\"workspace_members\":[{members}],\"workspace_root\":\"/w\",\"target_directory\":\"/t\",\"resolve\":{{\"root\":{},\"nodes\":[{graph}]}}}}",
-        short.root
-    )?)
+/// What is kept and reported of a document under the setting of its line.
+pub(crate) struct Built;
+
+impl Question for Built {
+    fn told(alloc: Global, line: &str) -> Result<String, Fail> {
+        let metadata = metadata(alloc, line)?;
+        let mut builder = Builder::new(alloc);
+        build_as(alloc, &mut builder, line)?;
+        outcome(alloc, builder, metadata)
+    }
 }
+
+const KEPT_AND_REPORTED: &[Row] = &[
+    // what is needed is kept, and what isn't is reported
+    ("a b|b", "+a+b"),
+    ("a b|b|c", "+a+b-c"),
+    // in the order of the ids, whatever the order of the document
+    ("d|c|b|a b / nodes c|b|a b|d", "+a+b-c-d"),
+    // a cycle, a member that stands twice, and a node that no crate needs and that has no package
+    ("a b|b a", "+a+b"),
+    ("a b|b / members a a", "+a+b"),
+    ("a b|b / nodes a b|b|c", "+a+b"),
+    // an optional edge isn't kept
+    ("a b?|b", "+a-b"),
+    // the root, where there is one, and not the members
+    ("a|b / members a b / root b", "+b-a"),
+];
 
 #[test]
 fn kept_and_reported(rt: HostRuntime) -> Result<(), Fail> {
-    for (packages, nodes, members, root, expected) in [
-        // what is needed is kept, and what isn't is reported
-        ("a b|b", "a b|b", "a", "null", " +a +b"),
-        ("a b|b|c", "a b|b|c", "a", "null", " +a +b -c"),
-        // in the order of the ids, whatever the order of the document
-        ("d|c|b|a b", "c|b|a b|d", "a", "null", " +a +b -c -d"),
-        // a cycle, a member that stands twice, and a node that no crate needs and that has no package
-        ("a b|b a", "a b|b a", "a", "null", " +a +b"),
-        ("a b|b", "a b|b", "a a", "null", " +a +b"),
-        ("a b|b", "a b|b|c", "a", "null", " +a +b"),
-        // an optional edge isn't kept
-        ("a b?|b", "a b|b", "a", "null", " +a -b"),
-        // the root, where there is one, and not the members
-        ("a|b", "a|b", "a b", "\"path+file:///w/b#0.1.0\"", " +b -a"),
-    ] {
-        let short = Short {
-            packages,
-            nodes,
-            members,
-            root,
-            ..ALONE
-        };
-        let json = document(rt.alloc(), &short)?;
-        let told = outcome(rt.alloc(), Builder::new(rt.alloc()), json.as_str())?;
-        assert_eq!(rt; told.as_str(), expected);
-    }
-    Ok(())
+    hold::<Built>(rt.alloc(), KEPT_AND_REPORTED)
 }
+
+const REFUSED: &[Row] = &[
+    ("a|b / nodes b", "lost node: path+file:///w/a#0.1.0"),
+    ("b / nodes a|b", "lost package: path+file:///w/a#0.1.0"),
+    ("a b|b / nodes a b", "lost node: path+file:///w/b#0.1.0"),
+    ("a b / nodes a b|b", "lost package: path+file:///w/b#0.1.0"),
+    (
+        "a|b / nodes a b|b",
+        "undeclared dependency: path+file:///w/b#0.1.0 of path+file:///w/a#0.1.0",
+    ),
+    ("a|b / members", "no root crates available"),
+    ("a|a / nodes a", "doubled id: path+file:///w/a#0.1.0"),
+];
 
 #[test]
 fn refused(rt: HostRuntime) -> Result<(), Fail> {
-    for (packages, nodes, members, expected) in [
-        ("a|b", "b", "a", "lost node: path+file:///w/a#0.1.0"),
-        ("b", "a|b", "a", "lost package: path+file:///w/a#0.1.0"),
-        ("a b|b", "a b", "a", "lost node: path+file:///w/b#0.1.0"),
-        ("a b", "a b|b", "a", "lost package: path+file:///w/b#0.1.0"),
-        (
-            "a|b",
-            "a b|b",
-            "a",
-            "undeclared dependency: path+file:///w/b#0.1.0 of path+file:///w/a#0.1.0",
-        ),
-        ("a|b", "a|b", "", "no root crates available"),
-        ("a|a", "a", "a", "doubled id: path+file:///w/a#0.1.0"),
-    ] {
-        let short = Short {
-            packages,
-            nodes,
-            members,
-            ..ALONE
-        };
-        let json = document(rt.alloc(), &short)?;
-        let told = outcome(rt.alloc(), Builder::new(rt.alloc()), json.as_str())?;
-        assert_eq!(rt; told.as_str(), expected);
+    hold::<Built>(rt.alloc(), REFUSED)
+}
+
+/// Adds the number of a crate and its enabled features, or that there is none.
+fn push_answers(text: &mut String, alloc: Global, krates: &Krates, name: &str) -> Result<(), Fail> {
+    let kid = kid_of(alloc, name)?;
+    match krates.nid_for_kid(&kid) {
+        Some(id) => write!(text, ", {name} is {}", id.index())?,
+        None => write!(text, ", {name} is none")?,
+    }
+    let Some(features) = krates.get_enabled_features(&kid) else {
+        text.push_str(" without features")?;
+        return Ok(());
+    };
+    for feature in features {
+        text.push_str("+")?;
+        text.push_str(feature.as_str())?;
     }
     Ok(())
 }
 
+/// How many crates are kept in which workspace, and the number and the enabled features of `a`, `b` and `c`.
+struct Queried;
+
+impl Question for Queried {
+    fn told(alloc: Global, line: &str) -> Result<String, Fail> {
+        let metadata = metadata(alloc, line)?;
+        let krates = Builder::new(alloc).build_with_metadata(metadata, &mut NoneFilter)?;
+        let mut text = format!(in alloc; "{} of {}", krates.len(), krates.workspace_root())?;
+        for name in ["a", "b", "c"] {
+            push_answers(&mut text, alloc, &krates, name)?;
+        }
+        Ok(text)
+    }
+}
+
+const QUERIES: &[Row] = &[(
+    "c|b|a b / nodes a b|b|c",
+    "2 of /w, a is 0, b is 1, c is none without features",
+)];
+
 #[test]
 fn queries_of_kept_crates(rt: HostRuntime) -> Result<(), Fail> {
-    let alloc = rt.alloc();
-    let short = Short {
-        packages: "c|b|a b",
-        nodes: "a b|b|c",
-        ..ALONE
-    };
-    let json = document(alloc, &short)?;
-    let metadata = MetadataCommand::parse(alloc, json.as_str())?;
-    let krates = Builder::new(alloc).build_with_metadata(metadata, &mut NoneFilter)?;
-    let mut text = format!(in alloc; "{} of {}", krates.len(), krates.workspace_root())?;
-    for name in ["a", "b", "c"] {
-        let repr = format!(in alloc; "path+file:///w/{name}#0.1.0")?;
-        let Ok(kid) = Kid::try_from(PackageId { repr }) else {
-            return Err(Fail::from("no id"));
-        };
-        match krates.nid_for_kid(&kid) {
-            Some(id) => text.push_str(format!(in alloc; " {name}={}", id.index())?.as_str())?,
-            None => text.push_str(" none")?,
-        }
-    }
-    assert_eq!(rt; text.as_str(), "2 of /w a=0 b=1 none");
-    Ok(())
+    hold::<Queried>(rt.alloc(), QUERIES)
+}
+
+const ENABLED_FEATURES: &[Row] = &[
+    // `b` brings the optional dependency of that name, and `w` enables its feature `j`; `c` isn't needed
+    (
+        "a b?;w=b?/j b=dep:b|b;j= k=|c;x= / nodes a b;w b|b;j|c;x",
+        "2 of /w, a is 0+b+w, b is 1+j, c is none without features",
+    ),
+];
+
+#[test]
+fn enabled_features_of_kept_crates(rt: HostRuntime) -> Result<(), Fail> {
+    hold::<Queried>(rt.alloc(), ENABLED_FEATURES)
 }

@@ -1,6 +1,7 @@
 //! Worked examples of documents: what resolution, builds and the program answer where the answer is known.
 //!
-//! They stand apart from the crates that they test, since a crate with tests is proved twice.
+//! They stand apart from the crates that they test, since a crate with tests is proved twice. An example is a row of a table: a
+//! line in a small language of documents, and the line that answers it.
 #![tactic(auto)]
 
 #[cfg(test)]
@@ -12,9 +13,9 @@ mod building;
 #[cfg(test)]
 mod declared;
 #[cfg(test)]
-mod enabled;
+mod documents;
 #[cfg(test)]
-mod features;
+mod enabled;
 #[cfg(test)]
 mod indexed;
 #[cfg(test)]
@@ -26,4 +27,8 @@ mod referents;
 #[cfg(test)]
 mod selection;
 #[cfg(test)]
+mod setters;
+#[cfg(test)]
 mod settings;
+#[cfg(test)]
+mod table;

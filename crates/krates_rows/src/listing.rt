@@ -1,44 +1,20 @@
 //! Whole runs of the command line: from a document, or what is none, to the lines, the refusal and the status.
 
+use crate::documents::document;
+use crate::table::{Question, Row, hold};
 use krates_cli::{Counted, Options, RunError, program, refuse_words, run};
 use std::alloc::Global;
 use std::io::{ErrorKind, Read, Write};
 use std::test::Fail;
 use std::{io, str};
 
-pub(crate) const A: &str = "path+file:///w/a#0.1.0";
-
-pub(crate) const B: &str = "path+file:///w/b#0.1.0";
-
-/// What the first package declares: that it needs the second for its tests.
-pub(crate) const NEEDS_B: &str =
-    r#"{"name":"b","req":"*","kind":"dev","optional":false,"uses_default_features":false,"features":[]}"#;
-
-/// The nodes of the two packages, of which the first needs the second for its tests.
-pub(crate) const NODES: &str =
-    r#"{"id":"path+file:///w/a#0.1.0","deps":[{"name":"b","pkg":"path+file:///w/b#0.1.0","dep_kinds":[{"kind":"dev","target":null}]}],"dependencies":["path+file:///w/b#0.1.0"],"features":[]},{"id":"path+file:///w/b#0.1.0","deps":[],"dependencies":[],"features":[]}"#;
-
-/// A third package, which no crate needs, and its node.
-const PACKAGE_C: &str =
-    r#",{"name":"c","version":"0.1.0","id":"path+file:///w/c#0.1.0","dependencies":[],"targets":[],"features":{},"manifest_path":"/w/c/Cargo.toml"}"#;
-
-const NODE_C: &str =
-    r#",{"id":"path+file:///w/c#0.1.0","deps":[],"dependencies":[],"features":[]}"#;
-
-const NO_GRAPH: &str =
-    r#"{"packages":[],"workspace_members":[],"workspace_root":"/w","target_directory":"/t"}"#;
-
-/// Two packages, with what the first declares, more packages, and the nodes.
-pub(crate) fn document(
-    alloc: Global,
-    declared: &str,
-    more_packages: &str,
-    nodes: &str,
-    more_nodes: &str,
-) -> Result<String, Fail> {
-    Ok(format!(in alloc;
-        "{{\"packages\":[{{\"name\":\"a\",\"version\":\"0.1.0\",\"id\":\"{A}\",\"dependencies\":[{declared}],\"targets\":[],\"features\":{{}},\"manifest_path\":\"/w/a/Cargo.toml\"}},{{\"name\":\"b\",\"version\":\"0.1.0\",\"id\":\"{B}\",\"dependencies\":[],\"targets\":[],\"features\":{{}},\"manifest_path\":\"/w/b/Cargo.toml\"}}{more_packages}],\"workspace_members\":[\"{A}\"],\"workspace_root\":\"/w\",\"target_directory\":\"/w/target\",\"resolve\":{{\"nodes\":[{nodes}{more_nodes}],\"root\":null}}}}"
-    )?)
+/// The words between blanks.
+pub(crate) fn words_of(alloc: Global, texts: &str) -> Result<Vec<String>, Fail> {
+    let mut words = Vec::new(alloc);
+    for text in texts.split_whitespace() {
+        words.push(String::from_str(alloc, text)?)?;
+    }
+    Ok(words)
 }
 
 /// The status, and what goes to standard error.
@@ -55,16 +31,81 @@ pub(crate) fn told<R: Read, W: Write>(
 }
 
 /// The status and what goes to standard error, a bar, and what goes to standard output.
-pub(crate) fn outcome<R: Read + Drop>(
-    alloc: Global,
-    words: &[String],
-    reader: R,
-) -> Result<String, Fail> {
+fn outcome<R: Read + Drop>(alloc: Global, words: &[String], reader: R) -> Result<String, Fail> {
     let mut input = Counted::new(reader);
     let mut output = Counted::new(Vec::new(alloc));
     let told = told(alloc, words, &mut input, &mut output)?;
     let lines = str::from_utf8(output.get_ref().as_slice())?;
     Ok(format!(in alloc; "{told}|{lines}")?)
+}
+
+/// What a run tells and writes; a line has its words, and behind `<` the document that it reads.
+pub(crate) struct Listed;
+
+impl Question for Listed {
+    fn told(alloc: Global, line: &str) -> Result<String, Fail> {
+        let (words, line) = line.split_once('<').unwrap_or((line, ""));
+        let json = document(alloc, line)?;
+        let words = words_of(alloc, words)?;
+        outcome(alloc, words.as_slice(), json.as_bytes())
+    }
+}
+
+const KEPT: &[Row] = &[(
+    "< a b&dev|b",
+    "0 |+ path+file:///w/a#0.1.0\n+ path+file:///w/b#0.1.0\n",
+)];
+
+#[test]
+fn keeps_what_is_needed_for_tests(rt: HostRuntime) -> Result<(), Fail> {
+    hold::<Listed>(rt.alloc(), KEPT)
+}
+
+const REPORTED: &[Row] = &[(
+    "< a b&dev|b|c",
+    "0 |+ path+file:///w/a#0.1.0\n+ path+file:///w/b#0.1.0\n- path+file:///w/c#0.1.0\n",
+)];
+
+#[test]
+fn reports_what_no_crate_needs(rt: HostRuntime) -> Result<(), Fail> {
+    hold::<Listed>(rt.alloc(), REPORTED)
+}
+
+const REFUSED: &[Row] = &[
+    (
+        "< a b&dev|b / nodes",
+        "1 refused: lost node: path+file:///w/a#0.1.0\n|",
+    ),
+    (
+        "< a|b / nodes a b&dev|b",
+        "1 refused: undeclared dependency: path+file:///w/b#0.1.0 of path+file:///w/a#0.1.0\n|",
+    ),
+    (
+        "< / members / no graph",
+        "1 refused: no resolution graph was provided\n|",
+    ),
+];
+
+#[test]
+fn refuses_what_cannot_be_built(rt: HostRuntime) -> Result<(), Fail> {
+    hold::<Listed>(rt.alloc(), REFUSED)
+}
+
+#[test]
+fn refuses_what_is_no_document(rt: HostRuntime) -> Result<(), Fail> {
+    let mut input = Counted::new(b"{\"packages\":".as_slice());
+    let mut output = Counted::new(Vec::new(rt.alloc()));
+    let options = Options::new(rt.alloc());
+    let result = run(rt.alloc(), &options, &mut input, &mut output);
+    assert!(rt; matches!(result, Err(RunError::Parse(krates::cm::Error::Json(_)))));
+    Ok(())
+}
+
+#[test]
+fn refuses_what_is_not_utf_8(rt: HostRuntime) -> Result<(), Fail> {
+    let told = outcome(rt.alloc(), &[], [0xffu8].as_slice())?;
+    assert_eq!(rt; told.as_str(), "1 refused: input is not UTF-8\n|");
+    Ok(())
 }
 
 /// A reader whose first read gives one byte, and whose every further read fails.
@@ -104,63 +145,6 @@ impl Write for TakesNothing {
 }
 
 #[test]
-fn keeps_what_is_needed_for_tests(rt: HostRuntime) -> Result<(), Fail> {
-    let alloc = rt.alloc();
-    let json = document(alloc, NEEDS_B, "", NODES, "")?;
-    assert_eq!(rt;
-        outcome(alloc, &[], json.as_bytes())?.as_str(),
-        "0 |+ path+file:///w/a#0.1.0\n+ path+file:///w/b#0.1.0\n"
-    );
-    Ok(())
-}
-
-#[test]
-fn reports_what_no_crate_needs(rt: HostRuntime) -> Result<(), Fail> {
-    let alloc = rt.alloc();
-    let json = document(alloc, NEEDS_B, PACKAGE_C, NODES, NODE_C)?;
-    assert_eq!(rt;
-        outcome(alloc, &[], json.as_bytes())?.as_str(),
-        "0 |+ path+file:///w/a#0.1.0\n+ path+file:///w/b#0.1.0\n- path+file:///w/c#0.1.0\n"
-    );
-    Ok(())
-}
-
-#[test]
-fn refuses_what_cannot_be_built(rt: HostRuntime) -> Result<(), Fail> {
-    let alloc = rt.alloc();
-    let without_nodes = document(alloc, NEEDS_B, "", "", "")?;
-    let undeclared = document(alloc, "", "", NODES, "")?;
-    for (json, told) in [
-        (
-            without_nodes.as_str(),
-            "1 refused: lost node: path+file:///w/a#0.1.0\n|",
-        ),
-        (
-            undeclared.as_str(),
-            "1 refused: undeclared dependency: path+file:///w/b#0.1.0 of path+file:///w/a#0.1.0\n|",
-        ),
-        (NO_GRAPH, "1 refused: no resolution graph was provided\n|"),
-    ] {
-        assert_eq!(rt; outcome(alloc, &[], json.as_bytes())?.as_str(), told);
-    }
-    Ok(())
-}
-
-#[test]
-fn refuses_what_is_no_document(rt: HostRuntime) -> Result<(), Fail> {
-    let mut input = Counted::new(b"{\"packages\":".as_slice());
-    let mut output = Counted::new(Vec::new(rt.alloc()));
-    let options = Options::new(rt.alloc());
-    let result = run(rt.alloc(), &options, &mut input, &mut output);
-    assert!(rt; matches!(result, Err(RunError::Parse(krates::cm::Error::Json(_)))));
-    assert_eq!(rt;
-        outcome(rt.alloc(), &[], [0xffu8].as_slice())?.as_str(),
-        "1 refused: input is not UTF-8\n|"
-    );
-    Ok(())
-}
-
-#[test]
 fn refuses_where_the_second_read_fails(rt: HostRuntime) -> Result<(), Fail> {
     let mut input = Counted::new(FailsSecond { has_read: false });
     let mut output = Counted::new(Vec::new(rt.alloc()));
@@ -170,44 +154,57 @@ fn refuses_where_the_second_read_fails(rt: HostRuntime) -> Result<(), Fail> {
     Ok(())
 }
 
+/// The status and what goes to standard error where each write fails, or takes nothing, and how many did.
+fn unwritten(alloc: Global, fails: bool) -> Result<String, Fail> {
+    let json = document(alloc, "a b&dev|b")?;
+    let mut input = Counted::new(json.as_bytes());
+    let mut output = Counted::new(TakesNothing { fails });
+    let told = told(alloc, &[], &mut input, &mut output)?;
+    Ok(format!(in alloc; "{told}{}", output.failures())?)
+}
+
 #[test]
 fn refuses_where_the_first_write_fails(rt: HostRuntime) -> Result<(), Fail> {
-    let alloc = rt.alloc();
-    let json = document(alloc, NEEDS_B, "", NODES, "")?;
     for fails in [true, false] {
-        let mut input = Counted::new(json.as_bytes());
-        let mut output = Counted::new(TakesNothing { fails });
-        let told = told(alloc, &[], &mut input, &mut output)?;
-        assert_eq!(rt; told.as_str(), "1 refused: write failed\n");
-        assert_eq!(rt; output.failures(), 1);
+        let told = unwritten(rt.alloc(), fails)?;
+        assert_eq!(rt; told.as_str(), "1 refused: write failed\n1", "{fails}");
     }
     Ok(())
 }
 
+/// What is told of words that are no options.
+pub(crate) const USAGE: &str =
+    "usage: krates-list [--workspace] [--ignore-kind KIND] [--target TRIPLE] [--exclude SPEC] [--cargo PROGRAM]\n";
+
 #[test]
 fn answers_the_usage_line_to_an_unknown_word(rt: HostRuntime) -> Result<(), Fail> {
-    let alloc = rt.alloc();
-    let words = vec![in alloc; String::from_str(alloc, "--nope")?]?;
-    assert_eq!(rt;
-        outcome(alloc, words.as_slice(), FailsSecond { has_read: false })?.as_str(),
-        "2 usage: krates-list [--workspace] [--ignore-kind KIND] [--target TRIPLE] [--exclude SPEC] [--cargo PROGRAM]\n|"
-    );
+    let words = words_of(rt.alloc(), "--nope")?;
+    let told = outcome(
+        rt.alloc(),
+        words.as_slice(),
+        FailsSecond { has_read: false },
+    )?;
+    let expected = format!(in rt.alloc(); "2 {USAGE}|")?;
+    assert_eq!(rt; told.as_str(), expected.as_str());
     Ok(())
 }
 
+/// Why words couldn't be read, the status, and what goes to standard error.
+const UNREAD_WORDS: &[(ErrorKind, u8, &str)] = &[
+    (ErrorKind::OutOfMemory, 1, "refused: out of memory\n"),
+    (ErrorKind::InvalidData, 2, USAGE),
+];
+
 #[test]
 fn refuses_words_that_cannot_be_had(rt: HostRuntime) -> Result<(), Fail> {
-    for (kind, status, told) in [
-        (ErrorKind::OutOfMemory, 1, "refused: out of memory\n"),
-        (
-            ErrorKind::InvalidData,
-            2,
-            "usage: krates-list [--workspace] [--ignore-kind KIND] [--target TRIPLE] [--exclude SPEC] [--cargo PROGRAM]\n",
-        ),
-    ] {
+    for &(kind, status, told) in UNREAD_WORDS {
         let mut errors = Counted::new(Vec::new(rt.alloc()));
-        assert_eq!(rt; refuse_words(&io::Error::from(kind), &mut errors), status);
-        assert_eq!(rt; errors.get_ref().as_slice(), told.as_bytes());
+        assert_eq!(rt;
+            refuse_words(&io::Error::from(kind), &mut errors),
+            status,
+            "{told}"
+        );
+        assert_eq!(rt; errors.get_ref().as_slice(), told.as_bytes(), "{told}");
     }
     Ok(())
 }

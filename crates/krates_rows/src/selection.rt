@@ -1,59 +1,83 @@
-//! What is selected of a document: crates and edges, in order, with their places.
+//! What is selected of a document: crates, edges with their places, and features, each in order.
 
-use krates_cm::MetadataCommand;
-use krates_resolve::{Setting, admit, select};
+use crate::documents::{metadata, word_of};
+use crate::setters::set_as;
+use crate::table::{Question, Row, hold};
+use krates_cm::DependencyKind;
+use krates_resolve::{Selection, Setting, admit, select};
 use std::alloc::Global;
 use std::test::Fail;
 
-/// A crate that declares another three times, last for its build, and whose node lists that for the build, for tests and for
-/// the build again, beside another crate that it needs and that comes first by its id.
-const DOCUMENT: &str = r#"{"packages":[
-    {"name":"m","version":"0.1.0","id":"path+file:///w/m#0.1.0","targets":[],"features":{},"manifest_path":"/w/m/Cargo.toml",
-    "dependencies":[
-    {"name":"z","req":"*","kind":"dev","optional":false,"uses_default_features":false,"features":[]},
-    {"name":"z","req":"*","kind":null,"optional":true,"uses_default_features":false,"features":[]},
-    {"name":"z","req":"*","kind":"build","optional":false,"uses_default_features":false,"features":[]},
-    {"name":"b","req":"*","kind":null,"optional":false,"uses_default_features":false,"features":[]}]},
-    {"name":"z","version":"0.1.0","id":"path+file:///w/z#0.1.0","targets":[],"features":{},"manifest_path":"/w/z/Cargo.toml",
-    "dependencies":[]},
-    {"name":"b","version":"0.1.0","id":"path+file:///w/b#0.1.0","targets":[],"features":{},"manifest_path":"/w/b/Cargo.toml",
-    "dependencies":[]}],
-    "workspace_members":["path+file:///w/m#0.1.0"],"workspace_root":"/w","target_directory":"/t","resolve":{"root":null,"nodes":[
-    {"id":"path+file:///w/m#0.1.0","dependencies":[],"features":[],"deps":[
-    {"name":"z","pkg":"path+file:///w/z#0.1.0","dep_kinds":[
-    {"kind":"build","target":null},{"kind":"dev","target":null},{"kind":"build","target":null},{"kind":null,"target":null}]},
-    {"name":"b","pkg":"path+file:///w/b#0.1.0","dep_kinds":[{"kind":null,"target":null}]}]},
-    {"id":"path+file:///w/z#0.1.0","dependencies":[],"features":[],"deps":[]},
-    {"id":"path+file:///w/b#0.1.0","dependencies":[],"features":[],"deps":[]}]}}"#;
-
-/// The kept crates, then each kept edge with its first place and that of its declared dependency.
-fn selected(alloc: Global, text: &str) -> Result<String, Fail> {
-    let metadata = MetadataCommand::parse(alloc, text)?;
-    let ids = admit(alloc, &metadata)?;
-    let selection = select(alloc, &metadata, &ids, &Setting::new(alloc))?;
-    let mut told = String::new(alloc);
-    for kid in selection.krates.as_slice() {
-        told.push_str(kid.name())?;
+/// The name of a kind.
+fn name_of(kind: DependencyKind) -> &'static str {
+    match kind {
+        DependencyKind::Normal => "normal",
+        DependencyKind::Development => "dev",
+        DependencyKind::Build => "build",
     }
-    for edge in selection.edges.as_slice() {
-        let line = format!(in alloc;
-            " {}{} {:?} at {} as {}",
-            edge.parent.name(),
-            edge.child.name(),
-            edge.kind,
-            edge.place,
-            edge.declared
-        )?;
-        told.push_str(line.as_str())?;
-    }
-    Ok(told)
 }
+
+/// Adds the kept crates, each behind a plus sign.
+fn push_krates(text: &mut String, selection: &Selection) -> Result<(), Fail> {
+    for krate in selection.krates.as_slice() {
+        write!(text, "+{}", word_of(krate.repr()))?;
+    }
+    Ok(())
+}
+
+/// Adds the kept edges, each with its first place and that of its declared dependency.
+fn push_edges(text: &mut String, selection: &Selection) -> Result<(), Fail> {
+    for edge in selection.edges.as_slice() {
+        let (parent, child) = (word_of(edge.parent.repr()), word_of(edge.child.repr()));
+        let kind = name_of(edge.kind);
+        write!(
+            text,
+            ", {parent}>{child} {kind} {} as {}",
+            edge.place, edge.declared
+        )?;
+    }
+    Ok(())
+}
+
+/// Adds the enabled features, each behind its crate.
+fn push_features(text: &mut String, selection: &Selection) -> Result<(), Fail> {
+    for feature in selection.features.as_slice() {
+        write!(text, ", {}/{}", word_of(feature.krate.repr()), feature.name)?;
+    }
+    Ok(())
+}
+
+/// What is selected of a document under the setting of its line, or the text of the refusal.
+pub(crate) struct Selected;
+
+impl Question for Selected {
+    fn told(alloc: Global, line: &str) -> Result<String, Fail> {
+        let metadata = metadata(alloc, line)?;
+        let ids = admit(alloc, &metadata)?;
+        let mut setting = Setting::new(alloc);
+        set_as(alloc, &mut setting, line)?;
+        let selection = match select(alloc, &metadata, &ids, &setting) {
+            Ok(selection) => selection,
+            Err(error) => return Ok(format!(in alloc; "{error}")?),
+        };
+        let mut text = String::new(alloc);
+        push_krates(&mut text, &selection)?;
+        push_edges(&mut text, &selection)?;
+        push_features(&mut text, &selection)?;
+        Ok(text)
+    }
+}
+
+const PLACES: &[Row] = &[
+    // a crate that declares another three times, last for its build, and whose node lists that for the build, for tests and for
+    // the build again, beside another crate that it needs and that comes first by its id
+    (
+        "m z&dev z? z&build b|z|b / nodes m z&build&dev&build&normal b|z|b / members m",
+        "+b+m+z, m>b normal 0 as 3, m>z build 0 as 2, m>z dev 1 as 0",
+    ),
+];
 
 #[test]
 fn edges_with_their_places(rt: HostRuntime) -> Result<(), Fail> {
-    assert_eq!(rt;
-        selected(rt.alloc(), DOCUMENT)?.as_str(),
-        "bmz mb Normal at 0 as 3 mz Build at 0 as 2 mz Development at 1 as 0"
-    );
-    Ok(())
+    hold::<Selected>(rt.alloc(), PLACES)
 }

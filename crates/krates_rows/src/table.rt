@@ -1,0 +1,24 @@
+//! Tables of worked examples, which one function walks.
+
+use std::alloc::Global;
+use std::test::Fail;
+
+/// A row: a line that asks, and the line that is known to answer it.
+pub(crate) type Row = (&'static str, &'static str);
+
+/// What the lines of a table ask.
+pub(crate) trait Question {
+    /// What a line is answered.
+    fn told(alloc: Global, line: &str) -> Result<String, Fail>;
+}
+
+/// Holds each row to its answer; fails at the first that is answered otherwise, and names it.
+pub(crate) fn hold<Q: Question>(alloc: Global, rows: &[Row]) -> Result<(), Fail> {
+    for &(line, answer) in rows {
+        let told = Q::told(alloc, line)?;
+        if told.as_str() != answer {
+            return Err(Fail::new(format_args!("{line}: {told} in place of {answer}")));
+        }
+    }
+    Ok(())
+}

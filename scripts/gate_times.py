@@ -1,0 +1,109 @@
+#!/usr/bin/env python3
+"""Runs the gate and prints the processor time that it took, by crate and phase.
+
+    scripts/gate_times.py [FILE]
+
+Run it at the top of a clean clone, with nothing beside it on the machine. What the gate itself prints goes to FILE, or to
+gate.log. The table is in processor seconds, user and system, and its rows are the crates:
+
+    proof   the crate is proved, and the statements are written that the crates above it use
+    edits   its must-fail edits are tried
+    tests   its tests are proved, compiled and run
+
+The time of a process is that of its last reading, so it misses at most half a second of each. The last line has the time of
+all processes as the system counts it, and the time that passed.
+"""
+import os
+import re
+import resource
+import subprocess
+import sys
+import time
+
+TICKS = os.sysconf("SC_CLK_TCK")
+PHASES = ("proof", "edits", "tests", "other")
+
+
+def text_of(path):
+    try:
+        with open(path, encoding="utf-8", errors="replace") as it:
+            return it.read()
+    except OSError:
+        return ""
+
+
+def processes():
+    """Each process: the one that started it, its processor seconds, and when it began."""
+    found = {}
+    for name in os.listdir("/proc"):
+        stat = text_of(f"/proc/{name}/stat") if name.isdigit() else ""
+        if stat:
+            fields = stat[stat.rindex(")") + 2 :].split()
+            found[int(name)] = int(fields[1]), (int(fields[11]) + int(fields[12])) / TICKS, fields[19]
+    return found
+
+
+def place_of(pid):
+    """The crate and the phase that a process works for, as its words or its folder tell."""
+    words = text_of(f"/proc/{pid}/cmdline").split("\0")
+    try:
+        folder = os.readlink(f"/proc/{pid}/cwd")
+    except OSError:
+        folder = ""
+    crate = words[words.index("--crate-name") + 1] if "--crate-name" in words else ""
+    if crate and "/rt-edit-" in folder:
+        return crate, "edits"
+    if crate:
+        return crate, "tests" if "--test" in words else "proof"
+    tests = re.search(r"/bin/(\w+)_tests\b", " ".join(words))
+    if tests:
+        return tests[1], "tests"
+    return "", "other"
+
+
+def read(gate, seen):
+    """Notes the time of each process below the gate, and what it works for: a process of no known place works for its parent."""
+    now = processes()
+    for pid, (parent, seconds, began) in now.items():
+        line = [pid]
+        while parent in now and parent != gate and line[-1] != gate:
+            line.append(parent)
+            parent = now[parent][0]
+        if parent != gate:
+            continue
+        key = pid, began
+        if key not in seen or seen[key][0][1] == "other":
+            places = [place_of(it) for it in line]
+            place = next((it for it in places if it[1] != "other"), ("", "other"))
+            seen[key] = place, seconds
+        seen[key] = seen[key][0], seconds
+
+
+def table(seen):
+    sums = {}
+    for (crate, phase), seconds in seen.values():
+        sums.setdefault(crate or "(rt itself)", dict.fromkeys(PHASES, 0.0))[phase] += seconds
+    lines = ["| Crate | Proof | Edits | Tests | Other |", "|---|---|---|---|---|"]
+    for crate in sorted(sums, key=lambda it: (it.startswith("("), it)):
+        lines.append("| " + " | ".join([crate, *(f"{sums[crate][it]:.0f}" for it in PHASES)]) + " |")
+    whole = [sum(it[phase] for it in sums.values()) for phase in PHASES]
+    lines.append("| " + " | ".join(["all", *(f"{it:.0f}" for it in whole)]) + " |")
+    return "\n".join(lines)
+
+
+def main():
+    began, seen = time.time(), {}
+    with open(sys.argv[1] if len(sys.argv) > 1 else "gate.log", "w", encoding="utf-8") as log:
+        gate = subprocess.Popen(["rt", "ci"], stdin=subprocess.DEVNULL, stdout=log, stderr=subprocess.STDOUT)
+        while gate.poll() is None:
+            read(gate.pid, seen)
+            time.sleep(0.5)
+    used = resource.getrusage(resource.RUSAGE_CHILDREN)
+    print(table(seen))
+    whole = used.ru_utime + used.ru_stime
+    print(f"{whole / 60:.1f} processor minutes, {(time.time() - began) / 60:.1f} minutes, status {gate.returncode}")
+    return gate.returncode
+
+
+if __name__ == "__main__":
+    sys.exit(main())
