@@ -1,16 +1,17 @@
 #!/usr/bin/env python3
 """Runs the gate and prints the processor time that it took, by crate and phase.
 
-    scripts/gate_times.py [FILE]
+    scripts/gate_times.py
 
-Run it at the top of a clean clone, with nothing beside it on the machine. What the gate itself prints goes to FILE, or to
-gate.log. The table is in processor seconds, user and system, and its rows are the crates:
+Run it at the top of a clean clone, with nothing beside it on the machine. First comes what the gate itself prints, then the
+table, and at the end once more the gate's last line, which says how many passed; the status is the gate's. The table is in
+processor seconds, user and system, and its rows are the crates:
 
     proof   the crate is proved, and the statements are written that the crates above it use
     edits   its must-fail edits are tried
     tests   its tests are proved, compiled and run
 
-The time of a process is that of its last reading, so it misses at most half a second of each. The last line has the time of
+The time of a process is that of its last reading, so it misses at most half a second of each. Below the table stands the time of
 all processes as the system counts it, and the time that passed.
 """
 import os
@@ -18,6 +19,7 @@ import re
 import resource
 import subprocess
 import sys
+import threading
 import time
 
 TICKS = os.sysconf("SC_CLK_TCK")
@@ -91,18 +93,33 @@ def table(seen):
     return "\n".join(lines)
 
 
-def main():
-    began, seen = time.time(), {}
-    with open(sys.argv[1] if len(sys.argv) > 1 else "gate.log", "w", encoding="utf-8") as log:
-        gate = subprocess.Popen(["rt", "ci"], stdin=subprocess.DEVNULL, stdout=log, stderr=subprocess.STDOUT)
-        while gate.poll() is None:
+def watch(gate, seen):
+    """Reads the times until the gate has ended. A reading that fails is left out: the gate's verdict doesn't depend on it."""
+    while gate.poll() is None:
+        try:
             read(gate.pid, seen)
-            time.sleep(0.5)
+        except (OSError, ValueError):
+            pass
+        time.sleep(0.5)
+
+
+def main():
+    began, seen, last = time.time(), {}, ""
+    how = {"stdin": subprocess.DEVNULL, "stdout": subprocess.PIPE, "stderr": subprocess.STDOUT}
+    gate = subprocess.Popen(["rt", "ci"], text=True, errors="replace", **how)
+    watcher = threading.Thread(target=watch, args=(gate, seen), daemon=True)
+    watcher.start()
+    for line in gate.stdout:
+        print(line, end="", flush=True)
+        last = line
+    status = gate.wait()
+    watcher.join()
     used = resource.getrusage(resource.RUSAGE_CHILDREN)
     print(table(seen))
     whole = used.ru_utime + used.ru_stime
-    print(f"{whole / 60:.1f} processor minutes, {(time.time() - began) / 60:.1f} minutes, status {gate.returncode}")
-    return gate.returncode
+    print(f"{whole / 60:.1f} processor minutes, {(time.time() - began) / 60:.1f} minutes")
+    print(last, end="")
+    return status
 
 
 if __name__ == "__main__":

@@ -1,9 +1,9 @@
 //! What a document and a setting answer to the questions of the rules, asked one by one.
 
-use crate::documents::{kid_of, metadata};
+use crate::documents::{kid_of, kind_named, metadata};
 use crate::setters::set_as;
 use crate::table::{Question, Row, hold};
-use krates_cm::{DepKindInfo, DependencyKind};
+use krates_cm::DepKindInfo;
 use krates_ids::Kid;
 use krates_resolve::{Document, Setting, admit};
 use std::alloc::Global;
@@ -13,15 +13,6 @@ use std::test::Fail;
 /// tests; and it declares another for one target, which cargo writes `b_c` where the manifest has `b-c`.
 const MEMBERS: &str =
     "m z&dev z? z&build b-c&on=cfg(windows)|n|z|b-c / nodes m z&build&dev b-c&as=b_c&on=cfg(windows)|n|z|b-c / members n m";
-
-/// The kind of this name.
-fn kind_of(name: &str) -> DependencyKind {
-    match name {
-        "dev" => DependencyKind::Development,
-        "build" => DependencyKind::Build,
-        _ => DependencyKind::Normal,
-    }
-}
 
 /// A target text; none where it is empty.
 fn target_text(alloc: Global, text: &str) -> Result<Option<String>, Fail> {
@@ -44,7 +35,7 @@ fn edge_of(alloc: Global, words: &str) -> Result<Edge, Fail> {
     let mut words = words.split_whitespace();
     let parent = kid_of(alloc, words.next().unwrap_or(""))?;
     let child = kid_of(alloc, words.next().unwrap_or(""))?;
-    let kind = kind_of(words.next().unwrap_or(""));
+    let kind = kind_named(words.next().unwrap_or(""));
     let target = target_text(alloc, words.next().unwrap_or(""))?;
     Ok(Edge {
         parent,
@@ -209,7 +200,7 @@ fn passes(alloc: Global, setting: &Setting, text: &str) -> Result<String, Fail> 
 /// Whether a kind of dependency is ignored, of a member or of another crate.
 fn ignores(alloc: Global, setting: &Setting, words: &str) -> Result<String, Fail> {
     let (kind, krate) = words.split_once(' ').unwrap_or((words, ""));
-    let is_ignored = setting.ignores(kind_of(kind), krate == "member");
+    let is_ignored = setting.ignores(kind_named(kind), krate == "member");
     Ok(format!(in alloc; "{is_ignored}")?)
 }
 

@@ -25,7 +25,7 @@
 //!
 //! Any other section is passed over here: it says how the document is used. A tilde anywhere stands for a blank.
 
-use krates_cm::{Metadata, MetadataCommand, PackageId};
+use krates_cm::{DependencyKind, Metadata, MetadataCommand, PackageId};
 use krates_ids::Kid;
 use std::alloc::Global;
 use std::test::Fail;
@@ -87,14 +87,12 @@ pub(crate) fn word_of(id: &str) -> &str {
     let Some(place) = id.strip_prefix("path+file:///w/") else {
         return id;
     };
-    let Some((name, version)) = place.split_once('#') else {
-        return id;
-    };
-    match version.split_once('@') {
-        None if version == "0.1.0" => name,
-        Some((own, _)) if own == name => version,
-        _ => id,
+    let (name, version) = place.split_once('#').unwrap_or((place, ""));
+    if version == "0.1.0" {
+        return name;
     }
+    let (own, _) = version.split_once('@').unwrap_or(("", ""));
+    if own == name { version } else { id }
 }
 
 /// Divides an item of a JSON list or object from the one before it.
@@ -128,21 +126,36 @@ fn push_member(json: &mut String, key: &str, text: Option<&str>) -> Result<(), F
     Ok(())
 }
 
-/// The kind that an option names, as JSON.
-fn kind_of(option: &str) -> Option<&'static str> {
-    match option {
-        "normal" => Some("null"),
-        "dev" => Some("\"dev\""),
-        "build" => Some("\"build\""),
-        _ => None,
+/// The kind of dependency of this name: `dev`, `build`, and any other for a normal one.
+pub(crate) fn kind_named(name: &str) -> DependencyKind {
+    if name == "dev" {
+        return DependencyKind::Development;
     }
+    if name == "build" {
+        return DependencyKind::Build;
+    }
+    DependencyKind::Normal
+}
+
+/// A kind, as JSON.
+fn json_of(kind: DependencyKind) -> &'static str {
+    match kind {
+        DependencyKind::Normal => "null",
+        DependencyKind::Development => "\"dev\"",
+        DependencyKind::Build => "\"build\"",
+    }
+}
+
+/// Whether an option names a kind.
+fn is_kind(option: &str) -> bool {
+    option == "normal" || kind_named(option) != DependencyKind::Normal
 }
 
 /// The first kind that a word lists, as JSON.
 fn first_kind(word: &str) -> &'static str {
     for option in word.split('&') {
-        if let Some(kind) = kind_of(option) {
-            return kind;
+        if is_kind(option) {
+            return json_of(kind_named(option));
         }
     }
     "null"
@@ -168,9 +181,10 @@ fn push_declaration(json: &mut String, word: &str) -> Result<(), Fail> {
 }
 
 /// Writes one of the `dep_kinds` of a dependency of a node.
-fn push_kind(json: &mut String, word: &str, kind: &str) -> Result<(), Fail> {
+fn push_kind(json: &mut String, word: &str, kind: DependencyKind) -> Result<(), Fail> {
     divide(json)?;
-    write!(json, "{{\"kind\":{kind}")?;
+    json.push_str("{\"kind\":")?;
+    json.push_str(json_of(kind))?;
     push_member(json, "target", option_of(word, "on="))?;
     json.push('}')?;
     Ok(())
@@ -180,12 +194,12 @@ fn push_kind(json: &mut String, word: &str, kind: &str) -> Result<(), Fail> {
 fn push_kinds(json: &mut String, word: &str) -> Result<(), Fail> {
     json.push('[')?;
     for option in word.split('&') {
-        if let Some(kind) = kind_of(option) {
-            push_kind(json, word, kind)?;
+        if is_kind(option) {
+            push_kind(json, word, kind_named(option))?;
         }
     }
     if json.as_str().ends_with('[') {
-        push_kind(json, word, "null")?;
+        push_kind(json, word, DependencyKind::Normal)?;
     }
     json.push(']')?;
     Ok(())
@@ -243,7 +257,7 @@ fn push_dependencies(json: &mut String, alloc: Global, words: &str) -> Result<()
 /// The word of a package or a node, those of what it needs, and its features.
 fn parts_of(item: &str) -> (&str, &str, &str) {
     let (words, features) = item.split_once(';').unwrap_or((item, ""));
-    let words = words.trim();
+    let words = words.trim_start_matches(' ');
     let (word, needs) = words.split_once(' ').unwrap_or((words, ""));
     (word, needs, features)
 }

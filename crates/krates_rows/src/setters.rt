@@ -8,6 +8,7 @@
 //!
 //! Any other section sets nothing.
 
+use crate::documents::kind_named;
 use krates::{Builder, DepKind, PkgSpec, Scope, Target};
 use krates_resolve::Setting;
 use std::alloc::Global;
@@ -15,16 +16,11 @@ use std::test::Fail;
 
 /// The texts between blanks.
 fn words_of(alloc: Global, text: &str) -> Result<Vec<&str>, Fail> {
-    Ok(text.split_whitespace().collect(alloc)?)
-}
-
-/// The kind of this name.
-fn kind_of(name: &str) -> DepKind {
-    match name {
-        "dev" => DepKind::Dev,
-        "build" => DepKind::Build,
-        _ => DepKind::Normal,
+    let mut words = Vec::new(alloc);
+    for word in text.split_whitespace() {
+        words.push(word)?;
     }
+    Ok(words)
 }
 
 /// The scope of this name.
@@ -76,7 +72,7 @@ fn build_with(alloc: Global, builder: &mut Builder, section: &str) -> Result<(),
             builder.include_workspace_crates(words_of(alloc, text)?.as_slice())?;
         }
         "ignore" => {
-            builder.ignore_kind(kind_of(first), scope_of(second));
+            builder.ignore_kind(DepKind::from(kind_named(first)), scope_of(second));
         }
         "without" => {
             builder.exclude(package_specs(alloc, text)?)?;
@@ -104,7 +100,7 @@ fn set_with(alloc: Global, setting: &mut Setting, section: &str) -> Result<(), F
     match setter {
         "workspace" => setting.workspace(first == "on"),
         "include" => setting.include_workspace_crates(alloc, words_of(alloc, text)?.as_slice())?,
-        "ignore" => setting.ignore_kind(kind_of(first), scope_of(second)),
+        "ignore" => setting.ignore_kind(DepKind::from(kind_named(first)), scope_of(second)),
         "without" => setting.exclude(package_specs(alloc, text)?)?,
         "for" => setting.include_targets(targets_of(alloc, text)?)?,
         _ => {}
