@@ -21,7 +21,7 @@ pub use krates_cm::{Metadata, Package, PackageId};
 pub use krates_graph::graph::NodeId;
 pub use krates_graph::{agenda, graph};
 pub use krates_ids::{
-    BuildIndexCache, Error, FeaturesMap, IdError, IndexAnswer, IndexKrate, IndexKrateVersion, Kid,
+    BuildIndexCache, CachingIndex, Error, FeaturesMap, IdError, IndexAnswer, IndexKrate, IndexKrateVersion, Kid,
     Lost, PackageNames, PkgSpec,
 };
 pub use krates_resolve::{DepKind, Scope, laws};

@@ -79,7 +79,7 @@ impl<R: Read> Counted<R> {
         ensures grows { failures_of self.old ≤ failures_of self.new }
     {
         let mut bytes = Vec::new(alloc);
-        let mut buffer = [0u8; 4096];
+        let mut buffer = [0u8; 65536];
         loop {
             let Some(count) = self.read(&mut buffer) else {
                 return Err(RunError::Read);

@@ -1,3 +1,4 @@
 pub mod ExactFaults
 pub mod ListReading
 pub mod MapReading
+pub mod TakenMembers

@@ -6,7 +6,7 @@ ghost use Rattle.krates_cm.specs.Parsing.{IsDocument, IsRefusal};
 
 use crate::error::Error;
 use crate::metadata::Metadata;
-use crate::read::FromValue;
+use crate::read::taken::take_metadata;
 use serde_json::Value;
 use std::alloc::Global;
 
@@ -22,6 +22,6 @@ impl MetadataCommand {
         ensures refused { IfErr result (IsRefusal text.now) }
     {
         let value = Value::from_str(alloc, text)?;
-        Ok(Metadata::from_value(alloc, &value)?)
+        Ok(take_metadata(alloc, value)?)
     }
 }

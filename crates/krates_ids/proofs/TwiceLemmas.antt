@@ -1,12 +1,14 @@
 -- To correct twice is to correct once.
 use Rattle.std.proofs.Common.{◌≡◌, ◌⊎◌, inl, inr, ℕ, List, [], ◌∷◌, Option, Some, None, refl, sym, ap, ◌∙◌, subst, arith, Contains, slice_get}
-use Rattle.std.proofs.lemmas.Bool.{cases_order}
+use Rattle.std.proofs.lemmas.Bool.{cases_order, true_from_ne_false, false≢true}
+use Rattle.std.specs.Str.{bytes_eq}
 use Rattle.std.proofs.lemmas.List.Elements.{Contains-push_cases}
 use Rattle.std.proofs.lemmas.Option.{same_Some}
 use Rattle.krates_cm.specs.Document.{Text, VersionModel, FeaturesModel, PackageModel}
 use Rattle.krates_text.specs.FeatureReference.{IsReference, simple}
 use Rattle.krates_ids.specs.Correction.{named, or_else, joined, Refers, dependency_reference, IsCorrection, IndexModel, IndexVersionModel, IsFirstEqual, IsIndexed, IsCorrected, unknown, known, with_features}
 use Rattle.krates_ids.proofs.CorrectedLemmas.{some_is_not_none}
+use Rattle.krates_ids.proofs.CorrectionLemmas.{eq_from_true, true_from_eq}
 
 -- what is there or not
 seen : {A : Type 0} (found : Option A) → ((x : A) × (found ≡ Some x)) ⊎ (found ≡ None)
@@ -97,3 +99,50 @@ corrected_twice index before once again (known features indexed done is) (known 
     let there = indexed_before index before once.features later (subst (λ p. IsIndexed index p later) is indexed_again) in
     let one : later ≡ features = one_indexed index before later features there indexed in
     twice before.features features once.features again.features done (subst (λ f. IsCorrection once.features f again.features) one done_again) name
+
+-- ---- there is one correction
+
+-- values that can't but be one reference are it
+only_reference : (values : List Text) (reference : Text) → ((values ≡ reference ∷ [] → ⊥) → ⊥) → values ≡ reference ∷ []
+only_reference [] reference n = absurd (n (λ e. cc))
+only_reference (v ∷ []) reference n =
+    ap (λ t. t ∷ [])
+    (eq_from_true v reference (true_from_ne_false (bytes_eq v reference) (λ f. n (λ e. let same : v ≡ reference = cc in false≢true (sym f ∙ true_from_eq v reference same)))))
+only_reference (v ∷ w ∷ rest) reference n = absurd (n (λ e. cc))
+
+-- what is there though it wasn't joined is the reference that is added
+added_values : (manifest index corrected : FeaturesModel) → IsCorrection manifest index corrected → (name : Text) → joined manifest index name ≡ None → (values : List Text) → named corrected name ≡ Some values
+    → values ≡ dependency_reference name ∷ []
+added_values manifest index corrected is name none values there =
+    only_reference values (dependency_reference name) (λ differs. some_is_not_none (named corrected name) values there (is.no_other name none (λ r. differs (same_Some values (dependency_reference name ∷ []) (sym there ∙ is.referred name none r)))))
+
+-- what one correction lacks the other does
+absent_alike : (manifest index a b : FeaturesModel) → IsCorrection manifest index a → IsCorrection manifest index b → (name : Text) → joined manifest index name ≡ None → named a name ≡ None → named b name ≡ None
+absent_alike manifest index a b p q name none absent = q.no_other name none (λ r. some_is_not_none (named a name) (dependency_reference name ∷ []) (p.referred name none r) absent)
+
+one_correction : (manifest index a b : FeaturesModel) → IsCorrection manifest index a → IsCorrection manifest index b → (name : Text) → named a name ≡ named b name
+one_correction manifest index a b p q name =
+    elim (seen (joined manifest index name)) [
+      | inl there ↦ joined_stays manifest index a p name there.0 there.1 ∙ sym (joined_stays manifest index b q name there.0 there.1)
+      | inr none ↦
+          elim (seen (named a name)) [
+            | inr absent ↦ absent ∙ sym (absent_alike manifest index a b p q name none absent)
+            | inl x ↦
+                elim (seen (named b name)) [
+                  | inr absent ↦ absent_alike manifest index b a q p name none absent ∙ sym absent
+                  | inl y ↦
+                      x.1 ∙ ap (λ v. Some v) (added_values manifest index a p name none x.0 x.1 ∙ sym (added_values manifest index b q name none y.0 y.1)) ∙ sym y.1
+                ]
+          ]
+    ]
+
+pub corrected_once : (index : IndexModel) (before a b : PackageModel) → IsCorrected index before a → IsCorrected index before b
+    → (b ≡ with_features a b.features) × ((name : Text) → named a.features name ≡ named b.features name)
+corrected_once index before a b (unknown n is) (unknown m same) =
+    let e : a ≡ b = is ∙ sym same in
+    (subst (λ (x : PackageModel). b ≡ with_features x b.features) (sym e) refl, λ name. ap (λ (x : PackageModel). named x.features name) e)
+corrected_once index before a b (unknown n is) (known f i done same) = absurd (n f i)
+corrected_once index before a b (known f i done is) (unknown n same) = absurd (n f i)
+corrected_once index before a b (known f i p is) (known g j q same) =
+    let one : g ≡ f = one_indexed index before g f j i in
+    (same ∙ sym (ap (λ (x : PackageModel). with_features x b.features) is), λ name. one_correction before.features f a.features b.features p (subst (λ (x : FeaturesModel). IsCorrection before.features x b.features) one q) name)

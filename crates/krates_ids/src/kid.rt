@@ -197,10 +197,13 @@ impl Ord for Kid {
     ghost matches_eq = { Prim.search (comparing, rules) depth 9 };
 
     fn cmp(&self, other: &Kid) -> Ordering {
-        self.name()
-            .cmp(&other.name())
-            .then(self.version().cmp(&other.version()))
-            .then(self.source().cmp(&other.source()))
+        match self.name().cmp(&other.name()) {
+            Ordering::Equal => match self.version().cmp(&other.version()) {
+                Ordering::Equal => self.source().cmp(&other.source()),
+                order => order,
+            },
+            order => order,
+        }
     }
 }
 

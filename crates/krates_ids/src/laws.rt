@@ -4,7 +4,7 @@ ghost use Rattle.std.specs.Prelude.{◌≡◌, ◌↔◌, ◌⊎◌, true};
 ghost use Rattle.std.specs.Cmp.{IsTotalOrder};
 ghost use Rattle.std.specs.declared.cmp.Ordering.TheVariants.{Equal};
 ghost use Rattle.krates_cm.specs.Document.{Text, PackageModel};
-ghost use Rattle.krates_ids.specs.Correction.{named, IndexModel, IsCorrected};
+ghost use Rattle.krates_ids.specs.Correction.{named, IndexModel, IsCorrected, with_features};
 ghost use Rattle.krates_ids.specs.Identity.{Identity, Reads, NeedsDecoding, Fault, IsFault, IsSameId, same_id, id_cmp, id_hash_input};
 ghost use Rattle.krates_ids.specs.PackageSpecification.{Specification, IsSpec, IsSpecFault};
 
@@ -44,4 +44,11 @@ pub fn one_specification()
 pub fn correcting_twice()
     ensures { (index : IndexModel) (before once again : PackageModel) → IsCorrected index before once → IsCorrected index once again
         → (name : Text) → named again.features name ≡ named once.features name }
+{}
+
+/// A package has one correction by an answer, but for the order in which features are listed: two have the same values under each
+/// name, and are equal in all else.
+pub fn one_correction()
+    ensures { (index : IndexModel) (before a b : PackageModel) → IsCorrected index before a → IsCorrected index before b
+        → (b ≡ with_features a b.features) × ((name : Text) → named a.features name ≡ named b.features name) }
 {}

@@ -7,12 +7,11 @@ use Rattle.krates_cm.specs.Document.{Text, DependencyModel, DepKindInfoModel, No
 use Rattle.krates_ids.specs.Identity.{Identity, Reads}
 use Rattle.krates_resolve.specs.Admission.{NoneDoubled, dep_texts}
 use Rattle.krates_resolve.specs.DeclaredDependency.{dependency_entry, IsDeclared, IsFirstPlace}
-use Rattle.krates_resolve.specs.Declares.{Declares}
 use Rattle.krates_resolve.specs.Facts.{Id, Edge}
 use Rattle.krates_resolve.specs.LookedUp.{ArePartsOf, NoDep, IsEntryBetween, IsDeclaredFor, TellsDeclared}
 use Rattle.krates_resolve.specs.Lookup.{IsLookup, resolved_view}
 use Rattle.krates_resolve.specs.NodeEntry.{AreParts, IsEntry, IsEntryOf, parent_of, child_of, declared_in, entry_of, edge_between, edge_for}
-use Rattle.krates_resolve.specs.Questions.{Stands, IsWanted, questions}
+use Rattle.krates_resolve.specs.Questions.{Declares, Stands, IsWanted, questions}
 use Rattle.krates_resolve.specs.Resolved.{Resolved, id_of, ReadsAs, HasNode, HasDep}
 use Rattle.krates_resolve.specs.RootChoice.{AsksFor}
 use Rattle.krates_resolve.specs.RootOrder.{ArePicked, nothing, picked, passed, AreInOrder, of_members}

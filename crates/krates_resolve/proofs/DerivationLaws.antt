@@ -16,6 +16,7 @@ pub record Within (a b : Questions) : Type 0 where
   pub lacks : (p : Id) (f : Text) → a.Lacks p f → b.Lacks p f
   pub refers : (p : Id) (f : Text) (r : Reference) → a.Refers p f r → b.Refers p f r
   pub referent : (p : Id) (dep : Text) (c : Id) → a.Referent p dep c → b.Referent p dep c
+  pub declared : (e : Edge) (d : DependencyModel) → a.Declared e d → b.Declared e d
   pub wanted : (e : Edge) (d : DependencyModel) → a.Wanted e d → b.Wanted e d
   pub loose : (e : Edge) → a.Loose e → b.Loose e
 
@@ -43,9 +44,9 @@ rule_within w (target {e}) = target {e = e}
 rule_within w (lost_undeclared {e} l) = lost_undeclared {e = e} (w.loose _ l)
 rule_within w (lost_required_package {e} {d} x h s) = lost_required_package {e = e} {d = d} (w.wanted _ _ x) h (w.no_package _ s)
 rule_within w (lost_required_node {e} {d} x h s) = lost_required_node {e = e} {d = d} (w.wanted _ _ x) h (w.no_node _ s)
-rule_within w (declared {e} {d} {g} x c n) = declared {e = e} {d = d} {g = g} (w.wanted _ _ x) c (w.lists _ _ n)
-rule_within w (by_default {e} {d} x u n) = by_default {e = e} {d = d} (w.wanted _ _ x) u (w.lists _ _ n)
-rule_within w (lost_declared {e} {d} {g} x c n) = lost_declared {e = e} {d = d} {g = g} (w.wanted _ _ x) c (w.lacks _ _ n)
+rule_within w (declared {e} {d} {g} x c n) = declared {e = e} {d = d} {g = g} (w.declared _ _ x) c (w.lists _ _ n)
+rule_within w (by_default {e} {d} x u n) = by_default {e = e} {d = d} (w.declared _ _ x) u (w.lists _ _ n)
+rule_within w (lost_declared {e} {d} {g} x c n) = lost_declared {e = e} {d = d} {g = g} (w.declared _ _ x) c (w.lacks _ _ n)
 rule_within w (toggled_weakly {e} {f} {g} {c} r q n) = toggled_weakly {e = e} {f = f} {g = g} {c = c} (w.refers _ _ _ r) (w.referent _ _ _ q) (w.lists _ _ n)
 rule_within w toggled_feature = toggled_feature
 rule_within w (lost_toggled_weakly {e} {f} {g} {c} r q n) = lost_toggled_weakly {e = e} {f = f} {g = g} {c = c} (w.refers _ _ _ r) (w.referent _ _ _ q) (w.lacks _ _ n)

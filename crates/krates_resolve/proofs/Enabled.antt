@@ -7,11 +7,10 @@ use Rattle.krates_resolve.specs.Features.{ListsFeature, LacksFeature}
 use Rattle.krates_resolve.specs.Found.{HasFound, IsNamedIn, IsToggledIn}
 use Rattle.krates_resolve.specs.Resolved.{Resolved}
 use Rattle.krates_resolve.specs.declared.found.Found.{Found}
-use Rattle.krates_resolve.proofs.OnlyOne.{one_node}
 
 -- what is listed isn't lacking
 pub not_lacking : (r : Resolved) (i : Id) (f : Text) → NoneDoubled r.metadata r.graph → ListsFeature r i f → LacksFeature r i f → ⊥
-not_lacking r i f none lists lacks = lacks.not_among (subst (λ (n : NodeModel). Contains n.features f) (one_node r i lists.node lacks.node none lists.has_node lacks.has_node) lists.among)
+not_lacking r i f none lists lacks = lacks lists
 
 -- it is named in what has been found, where it is found
 pub named_here : (r : Resolved) (x : Found) (i : Id) (f : Text) → NoneDoubled r.metadata r.graph → ListsFeature r i f → HasFound r x (Feature i f) → IsNamedIn r x i f

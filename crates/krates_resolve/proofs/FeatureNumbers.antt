@@ -10,6 +10,7 @@ use Rattle.std.specs.Cmp.Rules.{comparing}
 use Rattle.std.specs.List.{slice_get}
 use Rattle.std.specs.Ordering.{is_eq, eq_by_cmp}
 use Rattle.krates_cm.specs.Document.{Text, NodeModel}
+use Rattle.krates_resolve.specs.Admission.{NoneDoubled}
 use Rattle.krates_resolve.specs.Facts.{Id}
 use Rattle.krates_resolve.specs.FeatureOrder.{listed_cmp, same_listed}
 use Rattle.krates_resolve.specs.FeatureTable.{IsNumberOf, listed_view}
@@ -19,7 +20,7 @@ use Rattle.krates_resolve.specs.Lookup.{NodeAt}
 use Rattle.krates_resolve.specs.Numbering.{FeatureAt}
 use Rattle.krates_resolve.specs.Resolved.{Resolved, HasNode}
 use Rattle.krates_resolve.specs.declared.features.ListedFeature.{ListedFeature}
-use Rattle.krates_resolve.proofs.OnlyOne.{place_in}
+use Rattle.krates_resolve.proofs.OnlyOne.{place_in, one_node}
 use Rattle.krates_resolve.proofs.Standings.{contains_at}
 
 -- ---- the order of listed features
@@ -176,13 +177,11 @@ one_feature r i j f g number a b =
     (ap (λ (p : ℕ × Text). p.0) e, ap (λ (p : ℕ × Text). p.1) e)
 
 -- what a table answers of a feature of the node at a place
-pub number_answer : (r : Resolved) (i : Id) (f : Text) (place : ℕ) (o : Option ℕ) → NodeAt r i place → IsNumberOf (listed_features r) (place, f) o → MatchOption o (LacksFeature r i f) (FeatureAt r i f)
-number_answer r i f place None a none = record {
-  node = a.node;
-  has_node = has_node_at r i place a;
-  not_among = λ c.
-      let sum : 0 + place ≡ place = omega arith in
-      let w = place_in (listed_features r) (0 + place, f) (to_listed 0 r.graph.nodes place a.node f a.at c) in
-      none w.0 (w.1 ∙ ap (λ (k : ℕ). Some (k, f)) sum);
-}
-number_answer r i f place (Some n) a at = record { place = place; at = at; node = a }
+pub number_answer : (r : Resolved) (i : Id) (f : Text) (place : ℕ) (o : Option ℕ) → NoneDoubled r.metadata r.graph → NodeAt r i place → IsNumberOf (listed_features r) (place, f) o → MatchOption o (LacksFeature r i f) (FeatureAt r i f)
+number_answer r i f place None distinct a none = λ lists.
+    let same = one_node r i lists.node a.node distinct lists.has_node (has_node_at r i place a) in
+    let sum : 0 + place ≡ place = omega arith in
+    let c = subst (λ (n : NodeModel). Contains n.features f) same lists.among in
+    let w = place_in (listed_features r) (0 + place, f) (to_listed 0 r.graph.nodes place a.node f a.at c) in
+    none w.0 (w.1 ∙ ap (λ (k : ℕ). Some (k, f)) sum)
+number_answer r i f place (Some n) distinct a at = record { place = place; at = at; node = a }

@@ -1,6 +1,5 @@
 -- What a setting that leaves out more answers to the rules.
 use Rattle.std.proofs.Common.{◌≡◌, ◌⊎◌, inl, inr, [], Option, Some, None, true, false, Contains, refl, sym, ◌∙◌, subst}
-use Rattle.std.proofs.lemmas.List.Elements.{Contains-append_left}
 use Rattle.krates_cm.specs.Document.{Text, PackageModel}
 use Rattle.krates_ids.specs.declared.error.Error.{Error}
 use Rattle.krates_ids.specs.declared.error.Error.TheVariants as errors
@@ -79,6 +78,7 @@ narrow_within r wide narrow w = record {
   lacks = λ i f x. x;
   refers = λ i f reference x. x;
   referent = λ i name c x. x;
+  declared = λ e d x. x;
   wanted = λ e d x. record {
     place = x.place;
     declared = record {
@@ -111,10 +111,10 @@ passes_wider narrow wide none (Some text) h =
     subst (λ targets. TellsPassing text targets true) (sym none) (passes_anywhere text narrow.targets h)
 
 leaves_out : (r : Resolved) (wide narrow : SettingModel) → IsNarrower wide narrow → LeavesOut r wide narrow
-leaves_out r wide _ (excludes_more specs) = record {
+leaves_out r wide _ (excludes_more exclusions more) = record {
   manifests = refl;
   workspace = refl;
-  excluded = λ p x. record { spec = x.spec; among = Contains-append_left wide.exclusions specs x.spec x.among; fits = x.fits };
+  excluded = λ p x. record { spec = x.spec; among = more x.spec x.among; fits = x.fits };
   ignored = λ e x. ignored_alike r _ _ e refl x;
   passes = λ cfg x. x;
 }

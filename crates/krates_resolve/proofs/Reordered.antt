@@ -4,21 +4,24 @@ use Rattle.std.proofs.lemmas.List.Sorted.{Contains-permutation, IsPermutation-sy
 use Rattle.std.proofs.lemmas.Option.{same_Some}
 use Rattle.std.specs.List.{AllZip}
 use Rattle.krates_cm.specs.Document.{Text, PackageModel, NodeDepModel, NodeModel, ResolveModel, MetadataModel}
+use Rattle.krates_ids.specs.Correction.{named, with_features}
+use Rattle.krates_ids.specs.PackageSpecification.{SpecFits}
 use Rattle.krates_ids.specs.declared.error.Error.{Error}
 use Rattle.krates_ids.specs.declared.error.Error.TheVariants as errors
 use Rattle.krates_text.specs.Path.{components}
 use Rattle.krates_resolve.specs.Admission.{package_texts, node_texts, dep_texts, StandsForId, of_package, of_member, of_root, of_node, of_dep, IsInvalidId, unread, bad_version, IsDoubled, doubled_package, doubled_node, doubled_dep}
 use Rattle.krates_resolve.specs.AdmissionRefusals.{IsRefused}
+use Rattle.krates_resolve.specs.DeclaredDependency.{dependency_entry, IsDeclared, IsUndeclared}
 use Rattle.krates_resolve.specs.Derivation.{Derivable}
 use Rattle.krates_resolve.specs.Facts.{Id, Edge}
-use Rattle.krates_resolve.specs.Questions.{IsIncluded, ListsEdge, IsListed, questions}
-use Rattle.krates_resolve.specs.Referent.{AnswersTo, by_name, by_library, IsNamed}
-use Rattle.krates_resolve.specs.Reordering.{ReordersNode, ReordersGraph, ReordersResolve, Reorders, HasInvalidId, HasDoubledId, IsOrderFree}
+use Rattle.krates_resolve.specs.Questions.{IsIncluded, ListsEdge, IsListed, kind_info_of, questions}
+use Rattle.krates_resolve.specs.Referent.{IsLibraryRename, AnswersTo, by_name, by_library, IsNamed}
+use Rattle.krates_resolve.specs.Reordering.{ReordersPackage, ReordersPackages, ReordersNode, ReordersGraph, ReordersResolve, Reorders, HasInvalidId, HasDoubledId, IsOrderFree}
 use Rattle.krates_resolve.specs.Resolved.{Resolved, resolved, id_of, ReadsAs, HasGraphWith, HasPackage, HasNode, HasDep, IsMember}
 use Rattle.krates_resolve.specs.Roots.{AsksForWorkspace, AsksForMembers, by_setting, without_root, by_manifest, HasManifest, IsRoot, of_graph, of_workspace, of_manifests}
 use Rattle.krates_resolve.specs.SelectionRefusals.{IsUnselected}
 use Rattle.krates_resolve.specs.Setting as settings
-use Rattle.krates_resolve.specs.Setting.{SettingModel, IsIgnored}
+use Rattle.krates_resolve.specs.Setting.{SettingModel, IsExcluded, IsIgnored}
 use Rattle.krates_resolve.proofs.AdmissionLemmas.{left_of, right_of}
 use Rattle.krates_resolve.proofs.DerivationLaws.{Within, derivable_within}
 use Rattle.krates_resolve.proofs.Moved.{twice_moved}
@@ -26,6 +29,10 @@ use Rattle.krates_resolve.proofs.OnlyOne.{place_in}
 use Rattle.krates_resolve.proofs.Standings.{contains_at}
 
 -- ---- documents that say the same
+
+-- for each package of the first there is the same of the second
+abbrev HasSamePackages : List PackageModel → List PackageModel → Type 0
+HasSamePackages xs ys = (a : PackageModel) → Contains xs a → (b : PackageModel) × Contains ys b × ReordersPackage a b
 
 record SameNode (a b : NodeModel) : Type 0 where
   id : a.id ≡ b.id
@@ -38,7 +45,9 @@ HasSameNodes xs ys = (a : NodeModel) → Contains xs a → (b : NodeModel) × Co
 
 -- the documents say the same, in any order
 record SaySame (r t : Resolved) : Type 0 where
-  packages : IsPermutation r.metadata.packages t.metadata.packages
+  package_ids : IsPermutation (package_texts r.metadata) (package_texts t.metadata)
+  packages : HasSamePackages r.metadata.packages t.metadata.packages
+  packages_back : HasSamePackages t.metadata.packages r.metadata.packages
   members : IsPermutation r.metadata.workspace_members t.metadata.workspace_members
   workspace_root : r.metadata.workspace_root ≡ t.metadata.workspace_root
   root : r.graph.root ≡ t.graph.root
@@ -48,7 +57,9 @@ record SaySame (r t : Resolved) : Type 0 where
 
 swapped : (r t : Resolved) → SaySame r t → SaySame t r
 swapped r t w = record {
-  packages = IsPermutation-sym r.metadata.packages t.metadata.packages w.packages;
+  package_ids = IsPermutation-sym (package_texts r.metadata) (package_texts t.metadata) w.package_ids;
+  packages = w.packages_back;
+  packages_back = w.packages;
   members = IsPermutation-sym r.metadata.workspace_members t.metadata.workspace_members w.members;
   workspace_root = sym w.workspace_root;
   root = sym w.root;
@@ -59,11 +70,30 @@ swapped r t w = record {
 
 -- ---- look-ups
 
-package_same : (r t : Resolved) (i : Id) (p : PackageModel) → SaySame r t → HasPackage r i p → HasPackage t i p
-package_same r t i p w h = record {
-  among = Contains-permutation r.metadata.packages t.metadata.packages p w.packages h.among;
-  id = h.id;
-}
+-- the package of the id that says the same
+record TwinPackage (t : Resolved) (i : Id) (p : PackageModel) : Type 0 where
+  pkg : PackageModel
+  has_package : HasPackage t i pkg
+  same : ReordersPackage p pkg
+
+package_same : (r t : Resolved) (i : Id) (p : PackageModel) → SaySame r t → HasPackage r i p → TwinPackage t i p
+package_same r t i p w h =
+    let q = w.packages p h.among in
+    let id : p.id ≡ q.0.id = sym (ap (λ (x : PackageModel). x.id) q.2.rest) in
+    record { pkg = q.0; has_package = record { among = q.1; id = subst (λ text. ReadsAs text i) id h.id }; same = q.2 }
+
+dependencies_same : (p q : PackageModel) → ReordersPackage p q → p.dependencies ≡ q.dependencies
+dependencies_same p q w = sym (ap (λ (x : PackageModel). x.dependencies) w.rest)
+
+library_same : (p q : PackageModel) (name : Text) → ReordersPackage p q → IsLibraryRename p name → IsLibraryRename q name
+library_same p q name w x =
+    let y : IsLibraryRename (with_features p q.features) name = record { place = x.place; target = x.target; first = x.first; is = x.is; other = x.other } in
+    subst (λ (z : PackageModel). IsLibraryRename z name) (sym w.rest) y
+
+excluded_same : (s : SettingModel) (p q : PackageModel) → ReordersPackage p q → IsExcluded s q → IsExcluded s p
+excluded_same s p q w x =
+    let y : SpecFits x.spec (with_features p q.features) = subst (SpecFits x.spec) w.rest x.fits in
+    record { spec = x.spec; among = x.among; fits = record { name = y.name; version = y.version; url = y.url } }
 
 member_same : (r t : Resolved) (i : Id) → SaySame r t → IsMember r i → IsMember t i
 member_same r t i w h = record {
@@ -109,13 +139,15 @@ members_same r t s w (without_root none no_root) = without_root none (sym w.root
 members_same r t s w (by_manifest x) = by_manifest (workspace_same r t s w x)
 
 manifest_same : (r t : Resolved) (s : SettingModel) (i : Id) → SaySame r t → HasManifest r s i → HasManifest t s i
-manifest_same r t s i w h = record {
-  pkg = h.pkg;
-  has_package = package_same r t i h.pkg w h.has_package;
-  manifest = h.manifest;
-  among = h.among;
-  same = h.same;
-}
+manifest_same r t s i w h =
+    let q = package_same r t i h.pkg w h.has_package in
+    record {
+      pkg = q.pkg;
+      has_package = q.has_package;
+      manifest = h.manifest;
+      among = h.among;
+      same = h.same ∙ ap (λ (x : PackageModel). components x.manifest_path) (sym q.same.rest);
+    }
 
 root_same : (r t : Resolved) (s : SettingModel) (i : Id) → SaySame r t → IsRoot r s i → IsRoot t s i
 root_same r t s i w (of_graph {t = text} none off is reads) = of_graph {t = text} none off (sym w.root ∙ is) reads
@@ -128,7 +160,9 @@ root_same r t s i w (of_manifests not member h) =
 answers_same : (r t : Resolved) (c : Id) (d : NodeDepModel) (name : Text) → SaySame r t
     → AnswersTo r c d name → AnswersTo t c d name
 answers_same r t c d name w (by_name h) = by_name h
-answers_same r t c d name w (by_library {p} e h renamed) = by_library {p = p} e (package_same r t c p w h) renamed
+answers_same r t c d name w (by_library {p} e h renamed) =
+    let q = package_same r t c p w h in
+    by_library {p = q.pkg} e q.has_package (library_same p q.pkg d.name q.same renamed)
 
 named_same : (r t : Resolved) (i : Id) (name : Text) (c : Id) → SaySame r t → IsNamed r i name c → IsNamed t i name c
 named_same r t i name c w x =
@@ -168,11 +202,9 @@ listed_same r t s e d w x = record {
 -- ---- all that the rules ask
 
 included_same : (r t : Resolved) (s : SettingModel) (i : Id) → SaySame r t → IsIncluded r s i → IsIncluded t s i
-included_same r t s i w x = record {
-  pkg = x.pkg;
-  has_package = package_same r t i x.pkg w x.has_package;
-  not_excluded = x.not_excluded;
-}
+included_same r t s i w x =
+    let q = package_same r t i x.pkg w x.has_package in
+    record { pkg = q.pkg; has_package = q.has_package; not_excluded = λ y. x.not_excluded (excluded_same s x.pkg q.pkg q.same y) }
 
 same_within : (r t : Resolved) (s : SettingModel) → SaySame r t → Within (questions r s) (questions t s)
 unfolding questions
@@ -181,7 +213,9 @@ same_within r t s w = record {
   stands = λ i x.
       let m = twin r t i x.node w x.has_node in
       record { included = included_same r t s i w x.included; node = m.node; has_node = m.has_node };
-  no_package = λ i x p h. x p (package_same t r i p (swapped r t w) h);
+  no_package = λ i x p h.
+      let q = package_same t r i p (swapped r t w) h in
+      x q.pkg q.has_package;
   no_node = λ i x. record {
     included = included_same r t s i w x.included;
     no_node = λ n h.
@@ -191,37 +225,46 @@ same_within r t s w = record {
   lists = λ i f x.
       let m = twin r t i x.node w x.has_node in
       record { node = m.node; has_node = m.has_node; among = feature_same x.node m.node f m.same x.among };
-  lacks = λ i f x.
-      let m = twin r t i x.node w x.has_node in
-      record { node = m.node; has_node = m.has_node; not_among = λ y. x.not_among (feature_back x.node m.node f m.same y) };
-  refers = λ i f reference x. record {
-    pkg = x.pkg;
-    has_package = package_same r t i x.pkg w x.has_package;
-    values = x.values;
-    feature = x.feature;
-    text = x.text;
-    among = x.among;
-    is = x.is;
-  };
+  lacks = λ i f x y.
+      let m = twin t r i y.node (swapped r t w) y.has_node in
+      x (record { node = m.node; has_node = m.has_node; among = feature_same y.node m.node f m.same y.among });
+  refers = λ i f reference x.
+      let q = package_same r t i x.pkg w x.has_package in
+      record { pkg = q.pkg; has_package = q.has_package; values = x.values; feature = sym (q.same.features f) ∙ x.feature; text = x.text; among = x.among; is = x.is };
   referent = λ i name c x. record {
     is_named = named_same r t i name c w x.is_named;
     least = λ other y. x.least other (named_same t r i name other (swapped r t w) y);
   };
-  wanted = λ e d x. record {
-    place = x.place;
-    declared = record {
-      dep = x.declared.dep;
-      listed = listed_same r t s e x.declared.dep w x.declared.listed;
-      pkg = x.declared.pkg;
-      has_package = package_same r t e.parent x.declared.pkg w x.declared.has_package;
-      declared = x.declared.declared;
-    };
-    passes = x.passes;
-  };
+  declared = λ e d x.
+      let y = x.1 in
+      let q = package_same r t e.parent y.pkg w y.has_package in
+      (x.0, record {
+        dep = y.dep;
+        lists = edge_same r t e y.dep w y.lists;
+        pkg = q.pkg;
+        has_package = q.has_package;
+        declared = subst (λ ds. IsDeclared ds (dependency_entry e.child y.dep) (kind_info_of e) x.0 d) (dependencies_same y.pkg q.pkg q.same) y.declared;
+      });
+  wanted = λ e d x.
+      let y = x.declared in
+      let q = package_same r t e.parent y.pkg w y.has_package in
+      record {
+        place = x.place;
+        declared = record {
+          dep = y.dep;
+          listed = listed_same r t s e y.dep w y.listed;
+          pkg = q.pkg;
+          has_package = q.has_package;
+          declared = subst (λ ds. IsDeclared ds (dependency_entry e.child y.dep) (kind_info_of e) x.place d) (dependencies_same y.pkg q.pkg q.same) y.declared;
+        };
+        passes = x.passes;
+      };
   loose = λ e x. record {
     dep = x.dep;
     listed = listed_same r t s e x.dep w x.listed;
-    undeclared = λ p h. x.undeclared p (package_same t r e.parent p (swapped r t w) h);
+    undeclared = λ p h.
+        let q = package_same t r e.parent p (swapped r t w) h in
+        subst (λ ds. IsUndeclared ds (dependency_entry e.child x.dep) (kind_info_of e)) (sym (dependencies_same p q.pkg q.same)) (x.undeclared q.pkg q.has_package);
   };
 }
 
@@ -230,13 +273,10 @@ same_within r t s w = record {
 dep_texts_same : (n m : NodeModel) → SameNode n m → IsPermutation (dep_texts n) (dep_texts m)
 dep_texts_same n m w = IsPermutation-map (λ (d : NodeDepModel). d.pkg) n.deps m.deps w.deps
 
-package_texts_same : (r t : Resolved) → SaySame r t → IsPermutation (package_texts r.metadata) (package_texts t.metadata)
-package_texts_same r t w = IsPermutation-map (λ (p : PackageModel). p.id) r.metadata.packages t.metadata.packages w.packages
-
 text_same : (r t : Resolved) (text : Text) → SaySame r t
     → StandsForId r.metadata r.graph text → StandsForId t.metadata t.graph text
 text_same r t text w (of_package h) =
-    of_package (Contains-permutation (package_texts r.metadata) (package_texts t.metadata) text (package_texts_same r t w) h)
+    of_package (Contains-permutation (package_texts r.metadata) (package_texts t.metadata) text w.package_ids h)
 text_same r t text w (of_member h) =
     of_member (Contains-permutation r.metadata.workspace_members t.metadata.workspace_members text w.members h)
 text_same r t text w (of_root h) = of_root (sym w.root ∙ h)
@@ -254,7 +294,7 @@ invalid_same r t text w (bad_version n among h i reads bad) =
 
 doubled_same : (r t : Resolved) (id : Id) → SaySame r t → IsDoubled r.metadata r.graph id → IsDoubled t.metadata t.graph id
 doubled_same r t id w (doubled_package h) =
-    doubled_package (twice_moved (package_texts r.metadata) (package_texts t.metadata) id (package_texts_same r t w) h)
+    doubled_package (twice_moved (package_texts r.metadata) (package_texts t.metadata) id w.package_ids h)
 doubled_same r t id w (doubled_node h) = doubled_node (twice_moved (node_texts r.graph) (node_texts t.graph) id w.node_ids h)
 doubled_same r t id w (doubled_dep n among h) =
     let m = w.there n among in
@@ -311,9 +351,41 @@ ids_moved g h w =
     let moved = IsPermutation-map (λ (a : NodeModel). a.id) w.nodes h.nodes w.moved in
     subst (λ ids. IsPermutation ids (node_texts h)) (sym (ids_same g.nodes w.nodes w.each)) moved
 
+package_back : (a b : PackageModel) → ReordersPackage a b → ReordersPackage b a
+package_back a b w = record {
+  features = λ name. sym (w.features name);
+  rest = ap (λ (x : PackageModel). with_features x a.features) (sym w.rest);
+}
+
+packages_there : (all other : List PackageModel) → ReordersPackages all other → HasSamePackages all other
+packages_there all other w a among =
+    let at = place_in all a among in
+    let b = right_of ReordersPackage all w.packages at.0 a w.each at.1 in
+    (b.0, Contains-permutation w.packages other b.0 w.moved (contains_at w.packages at.0 b.0 b.1), b.2)
+
+packages_from : (all other : List PackageModel) → ReordersPackages all other → HasSamePackages other all
+packages_from all other w b among =
+    let at = place_in w.packages b (Contains-permutation other w.packages b (IsPermutation-sym w.packages other w.moved) among) in
+    let a = left_of ReordersPackage all w.packages at.0 b w.each at.1 in
+    (a.0, contains_at all at.0 a.0 a.1, package_back a.0 b a.2)
+
+package_ids_same : (xs ys : List PackageModel) → AllZip ReordersPackage xs ys → map (λ (p : PackageModel). p.id) xs ≡ map (λ (p : PackageModel). p.id) ys
+package_ids_same [] [] h = refl
+package_ids_same [] (y ∷ ys) h = absurd h
+package_ids_same (x ∷ xs) [] h = absurd h
+package_ids_same (x ∷ xs) (y ∷ ys) h =
+    ap (λ id. id ∷ map (λ (p : PackageModel). p.id) xs) (sym (ap (λ (p : PackageModel). p.id) h.0.rest)) ∙ ap (λ ids. y.id ∷ ids) (package_ids_same xs ys h.1)
+
+package_ids_moved : (m n : MetadataModel) → ReordersPackages m.packages n.packages → IsPermutation (package_texts m) (package_texts n)
+package_ids_moved m n w =
+    let moved = IsPermutation-map (λ (p : PackageModel). p.id) w.packages n.packages w.moved in
+    subst (λ ids. IsPermutation ids (package_texts n)) (sym (package_ids_same m.packages w.packages w.each)) moved
+
 say_same : (m n : MetadataModel) (g h : ResolveModel) → Reorders m n → ReordersGraph g h → SaySame (resolved m g) (resolved n h)
 say_same m n g h w x = record {
-  packages = w.packages;
+  package_ids = package_ids_moved m n w.packages;
+  packages = packages_there m.packages n.packages w.packages;
+  packages_back = packages_from m.packages n.packages w.packages;
   members = w.members;
   workspace_root = sym (ap (λ (k : MetadataModel). k.workspace_root) w.rest);
   root = sym x.root;

@@ -159,5 +159,5 @@ listed_names d i place n h at is f =
 pub listed_may : (r : Resolved) (s : SettingModel) (i : Id) (f : Text) → NoneDoubled r.metadata r.graph → ListsFeature r i f → (ListsFeature r i f → Derivable (questions r s) (Feature i f)) → MayName r s i f
 listed_may r s i f none lists enabled = record {
   enabled = enabled;
-  listed = λ lacks. absurd (lacks.not_among (subst (λ (m : NodeModel). Contains m.features f) (one_node r i lists.node lacks.node none lists.has_node lacks.has_node) lists.among));
+  listed = λ lacks. absurd (lacks lists);
 }

@@ -4,13 +4,14 @@ use Rattle.std.proofs.lemmas.Option.{slice_get_within}
 use Rattle.std.specs.Prelude.{⊤}
 use Rattle.krates_cm.specs.Document.{Text, DependencyModel}
 use Rattle.krates_text.specs.FeatureReference.{Reference, krate, weak, strong, simple}
+use Rattle.krates_resolve.specs.Admission.{NoneDoubled}
 use Rattle.krates_resolve.specs.Derivation.{Among, Derivable, follows}
 use Rattle.krates_resolve.specs.Facts.{Id, Edge, Fact, Crate, Feature, Kept, Toggled, Lost}
 use Rattle.krates_resolve.specs.Features.{HasReference}
 use Rattle.krates_resolve.specs.Found.{HasFound, IsSound, Advances, HasRoots, IsExpanded, IsHeeded, IsFollowed, IsAsked, IsTried, IsAny, IsToggledIn}
 use Rattle.krates_resolve.specs.Links.{DepAt, AreNew, HasLinks}
 use Rattle.krates_resolve.specs.ListedFeatures.{listed_features}
-use Rattle.krates_resolve.specs.Questions.{Stands, IsWanted, questions}
+use Rattle.krates_resolve.specs.Questions.{IsDeclaredAs, Stands, IsWanted, questions}
 use Rattle.krates_resolve.specs.References.{AsksFor}
 use Rattle.krates_resolve.specs.Referent.{IsReferent}
 use Rattle.krates_resolve.specs.Resolved.{Resolved}
@@ -23,6 +24,7 @@ use Rattle.krates_resolve.specs.declared.selection.KeptEdge.{KeptEdge}
 use Rattle.krates_resolve.specs.declared.selection.ToggledFeature.{ToggledFeature}
 use Rattle.krates_resolve.proofs.DerivationLaws.{closed_under}
 use Rattle.krates_resolve.proofs.OnlyOne.{place_in}
+use Rattle.krates_resolve.proofs.Waking.{as_declared, declared_as_once}
 
 -- ---- a kept edge is open
 
@@ -135,42 +137,48 @@ weakly_there r s x e f g c done refers referent found kept =
     let waits = done.heeded e.parent f found (weak c g) refers e.child at.place at.index referent at.dep in
     done.sound.woken e.parent e.child at.place at.index g at.dep (done.sound.marked e at.place at.index kept at.dep) waits
 
+-- a kept edge is wanted as what it is declared
+wanted_as : (r : Resolved) (s : SettingModel) (x : Found) (e : Edge) (d : DependencyModel) → NoneDoubled r.metadata r.graph → IsDone r s x → HasFound r x (Kept e) → IsDeclaredAs r e d → IsWanted r s e d
+wanted_as r s x e d distinct done kept said =
+    let o = kept_open r s e (done.sound.derivable (Kept e) kept) in
+    subst (IsWanted r s e) (declared_as_once r e o.dependency d distinct (as_declared r s e o.dependency o.wanted) said) o.wanted
+
 -- what has been found is closed under all rules
-rule_closed : (r : Resolved) (s : SettingModel) (x : Found) → IsDone r s x → {n : ℕ} {ps : List Fact} {f : Fact} → Rule (questions r s) n ps f → ((g : Fact) → Among g ps → HasFound r x g) → HasFound r x f
+rule_closed : (r : Resolved) (s : SettingModel) (x : Found) → NoneDoubled r.metadata r.graph → IsDone r s x → {n : ℕ} {ps : List Fact} {f : Fact} → Rule (questions r s) n ps f → ((g : Fact) → Among g ps → HasFound r x g) → HasFound r x f
 unfolding questions
-rule_closed r s x done (root_crate {p} root stands) h = (done.roots p root).kept stands
-rule_closed r s x done (root_feature {p} {f} root stands lists) h = (done.roots p root).enabled stands f lists
-rule_closed r s x done (lost_root_package {p} root none) h = (done.roots p root).has_package none
-rule_closed r s x done (lost_root_node {p} root none) h = (done.roots p root).has_node none
-rule_closed r s x done (feature_crate {p} {f}) h = done.sound.enabled p f (h (Feature p f) (inl refl))
-rule_closed r s x done (named {p} {f} {g} refers lists) h = (done.heeded p f (h (Feature p f) (inl refl)) (simple g) refers).enabled lists
-rule_closed r s x done (lost_named {p} {f} {g} refers lacks) h = (done.heeded p f (h (Feature p f) (inl refl)) (simple g) refers).listed lacks
-rule_closed r s x done (asked {e} {f} {d} a o) h = (tried_there r s x e f done a (h (Feature e.parent f) (inl refl))).kept d o.wanted tt o.stands
-rule_closed r s x done (toggled_strongly {e} {f} {g} {c} refers referent lists) h =
+rule_closed r s x distinct done (root_crate {p} root stands) h = (done.roots p root).kept stands
+rule_closed r s x distinct done (root_feature {p} {f} root stands lists) h = (done.roots p root).enabled stands f lists
+rule_closed r s x distinct done (lost_root_package {p} root none) h = (done.roots p root).has_package none
+rule_closed r s x distinct done (lost_root_node {p} root none) h = (done.roots p root).has_node none
+rule_closed r s x distinct done (feature_crate {p} {f}) h = done.sound.enabled p f (h (Feature p f) (inl refl))
+rule_closed r s x distinct done (named {p} {f} {g} refers lists) h = (done.heeded p f (h (Feature p f) (inl refl)) (simple g) refers).enabled lists
+rule_closed r s x distinct done (lost_named {p} {f} {g} refers lacks) h = (done.heeded p f (h (Feature p f) (inl refl)) (simple g) refers).listed lacks
+rule_closed r s x distinct done (asked {e} {f} {d} a o) h = (tried_there r s x e f done a (h (Feature e.parent f) (inl refl))).kept d o.wanted tt o.stands
+rule_closed r s x distinct done (toggled_strongly {e} {f} {g} {c} refers referent lists) h =
     (strongly_there r s x e f g c done refers referent (h (Feature e.parent f) (inl refl)) (h (Kept e) (inr (inl refl)))).toggled lists
-rule_closed r s x done (lost_asked_package {e} {f} {d} a w none) h = (tried_there r s x e f done a (h (Feature e.parent f) (inl refl))).has_package d w tt none
-rule_closed r s x done (lost_asked_node {e} {f} {d} a w none) h = (tried_there r s x e f done a (h (Feature e.parent f) (inl refl))).has_node d w tt none
-rule_closed r s x done (lost_toggled_strongly {e} {f} {g} {c} refers referent lacks) h =
+rule_closed r s x distinct done (lost_asked_package {e} {f} {d} a w none) h = (tried_there r s x e f done a (h (Feature e.parent f) (inl refl))).has_package d w tt none
+rule_closed r s x distinct done (lost_asked_node {e} {f} {d} a w none) h = (tried_there r s x e f done a (h (Feature e.parent f) (inl refl))).has_node d w tt none
+rule_closed r s x distinct done (lost_toggled_strongly {e} {f} {g} {c} refers referent lacks) h =
     (strongly_there r s x e f g c done refers referent (h (Feature e.parent f) (inl refl)) (h (Kept e) (inr (inl refl)))).listed lacks
-rule_closed r s x done (required {e} {d} o is_required) h = (done.expanded e.parent (h (Crate e.parent) (inl refl)) e refl).kept d o.wanted is_required o.stands
-rule_closed r s x done (target {e}) h = done.sound.reached e (h (Kept e) (inl refl))
-rule_closed r s x done (lost_undeclared {e} loose) h = (done.expanded e.parent (h (Crate e.parent) (inl refl)) e refl).declared loose
-rule_closed r s x done (lost_required_package {e} {d} w is_required none) h = (done.expanded e.parent (h (Crate e.parent) (inl refl)) e refl).has_package d w is_required none
-rule_closed r s x done (lost_required_node {e} {d} w is_required none) h = (done.expanded e.parent (h (Crate e.parent) (inl refl)) e refl).has_node d w is_required none
-rule_closed r s x done (declared {e} {d} {g} w c lists) h = ((done.sound.used e (h (Kept e) (inl refl)) d w).declared g c).enabled lists
-rule_closed r s x done (by_default {e} {d} w u lists) h = (done.sound.used e (h (Kept e) (inl refl)) d w).by_default u lists
-rule_closed r s x done (lost_declared {e} {d} {g} w c lacks) h = ((done.sound.used e (h (Kept e) (inl refl)) d w).declared g c).listed lacks
-rule_closed r s x done (toggled_weakly {e} {f} {g} {c} refers referent lists) h =
+rule_closed r s x distinct done (required {e} {d} o is_required) h = (done.expanded e.parent (h (Crate e.parent) (inl refl)) e refl).kept d o.wanted is_required o.stands
+rule_closed r s x distinct done (target {e}) h = done.sound.reached e (h (Kept e) (inl refl))
+rule_closed r s x distinct done (lost_undeclared {e} loose) h = (done.expanded e.parent (h (Crate e.parent) (inl refl)) e refl).declared loose
+rule_closed r s x distinct done (lost_required_package {e} {d} w is_required none) h = (done.expanded e.parent (h (Crate e.parent) (inl refl)) e refl).has_package d w is_required none
+rule_closed r s x distinct done (lost_required_node {e} {d} w is_required none) h = (done.expanded e.parent (h (Crate e.parent) (inl refl)) e refl).has_node d w is_required none
+rule_closed r s x distinct done (declared {e} {d} {g} w c lists) h = ((done.sound.used e (h (Kept e) (inl refl)) d (wanted_as r s x e d distinct done (h (Kept e) (inl refl)) w)).declared g c).enabled lists
+rule_closed r s x distinct done (by_default {e} {d} w u lists) h = (done.sound.used e (h (Kept e) (inl refl)) d (wanted_as r s x e d distinct done (h (Kept e) (inl refl)) w)).by_default u lists
+rule_closed r s x distinct done (lost_declared {e} {d} {g} w c lacks) h = ((done.sound.used e (h (Kept e) (inl refl)) d (wanted_as r s x e d distinct done (h (Kept e) (inl refl)) w)).declared g c).listed lacks
+rule_closed r s x distinct done (toggled_weakly {e} {f} {g} {c} refers referent lists) h =
     (weakly_there r s x e f g c done refers referent (h (Feature e.parent f) (inl refl)) (h (Kept e) (inr (inl refl)))).toggled lists
-rule_closed r s x done (toggled_feature {p} {c} {g}) h = done.sound.toggled p c g (h (Toggled p c g) (inl refl))
-rule_closed r s x done (lost_toggled_weakly {e} {f} {g} {c} refers referent lacks) h =
+rule_closed r s x distinct done (toggled_feature {p} {c} {g}) h = done.sound.toggled p c g (h (Toggled p c g) (inl refl))
+rule_closed r s x distinct done (lost_toggled_weakly {e} {f} {g} {c} refers referent lacks) h =
     (weakly_there r s x e f g c done refers referent (h (Feature e.parent f) (inl refl)) (h (Kept e) (inr (inl refl)))).listed lacks
 
 -- what has been found is exactly what is derivable
-pub saturated : (r : Resolved) (s : SettingModel) (x : Found) → AreDone r s x → length x.krates.put ≤ x.krates.taken → length x.features.put ≤ x.features.taken → (f : Fact) → Derivable (questions r s) f ↔ HasFound r x f
-saturated r s x all krates features f =
+pub saturated : (r : Resolved) (s : SettingModel) (x : Found) → NoneDoubled r.metadata r.graph → AreDone r s x → length x.krates.put ≤ x.krates.taken → length x.features.put ≤ x.features.taken → (f : Fact) → Derivable (questions r s) f ↔ HasFound r x f
+saturated r s x distinct all krates features f =
     let done = is_done r s x all krates features in
-    (λ d. closed_under (questions r s) (HasFound r x) (λ n ps g rule h. rule_closed r s x done rule h) d, λ h. done.sound.derivable f h)
+    (λ d. closed_under (questions r s) (HasFound r x) (λ n ps g rule h. rule_closed r s x distinct done rule h) d, λ h. done.sound.derivable f h)
 
 -- ---- at the start
 

@@ -12,7 +12,7 @@ use Rattle.krates_resolve.specs.Facts.{Id, Edge, Fact, Feature, Kept, Toggled}
 use Rattle.krates_resolve.specs.Found.{IsAskedWeakly, MayName, MayToggle, MayUse}
 use Rattle.krates_resolve.specs.Links.{DepAt}
 use Rattle.krates_resolve.specs.NodeEntry.{edge_between}
-use Rattle.krates_resolve.specs.Questions.{IsWanted, kind_info_of, questions}
+use Rattle.krates_resolve.specs.Questions.{IsDeclaredAs, IsWanted, kind_info_of, questions}
 use Rattle.krates_resolve.specs.Resolved.{Resolved, ReadsAs, id_of}
 use Rattle.krates_resolve.specs.Rules.{Questions, declared, by_default, lost_declared, toggled_weakly, toggled_feature, lost_toggled_weakly}
 use Rattle.krates_resolve.specs.Setting.{SettingModel}
@@ -50,17 +50,24 @@ may_wake r s p c g k a kept =
       listed = λ lacks. follows (lost_toggled_weakly {e = e} {f = a.feature} {g = g} {c = a.name} a.refers a.referent lacks) premises;
     }
 
+-- a wanted edge is declared, whatever the setting
+pub as_declared : (r : Resolved) (s : SettingModel) (e : Edge) (d : DependencyModel) → IsWanted r s e d → IsDeclaredAs r e d
+as_declared r s e d w =
+    let a = w.declared in
+    (w.place, record { dep = a.dep; lists = a.listed.lists; pkg = a.pkg; has_package = a.has_package; declared = a.declared })
+
 -- what a declared dependency asks for, of an edge that may be kept
 pub may_use : (r : Resolved) (s : SettingModel) (e : Edge) (d : DependencyModel) → IsWanted r s e d → Derivable (questions r s) (Kept e) → MayUse r s d e.child
 unfolding questions
 may_use r s e d wanted kept =
     let premise = one (questions r s) (Kept e) kept in
+    let said = as_declared r s e d wanted in
     record {
       declared = λ g among. record {
-        enabled = λ lists. follows (declared {e = e} {d = d} {g = g} wanted among lists) premise;
-        listed = λ lacks. follows (lost_declared {e = e} {d = d} {g = g} wanted among lacks) premise;
+        enabled = λ lists. follows (declared {e = e} {d = d} {g = g} said among lists) premise;
+        listed = λ lacks. follows (lost_declared {e = e} {d = d} {g = g} said among lacks) premise;
       };
-      by_default = λ uses lists. follows (by_default {e = e} {d = d} wanted uses lists) premise;
+      by_default = λ uses lists. follows (by_default {e = e} {d = d} said uses lists) premise;
     }
 
 -- ---- there is one of each
@@ -105,12 +112,13 @@ one_dep_place r p c m i n j none a b = (place, index)
     ]
 
 -- an edge is wanted as one declared dependency alone
-pub wanted_once : (r : Resolved) (s : SettingModel) (e : Edge) (d f : DependencyModel) → NoneDoubled r.metadata r.graph → IsWanted r s e d → IsWanted r s e f → d ≡ f
-wanted_once r s e d f none v w =
-    let a = v.declared in
-    let b = w.declared in
-    let dep = one_dep r e.parent e.child b.listed.lists.node a.listed.lists.node b.dep a.dep none b.listed.lists.has_node a.listed.lists.has_node b.listed.lists.has_dep a.listed.lists.has_dep in
+pub declared_as_once : (r : Resolved) (e : Edge) (d f : DependencyModel) → NoneDoubled r.metadata r.graph → IsDeclaredAs r e d → IsDeclaredAs r e f → d ≡ f
+declared_as_once r e d f none (p, a) (q, b) =
+    let dep = one_dep r e.parent e.child b.lists.node a.lists.node b.dep a.dep none b.lists.has_node a.lists.has_node b.lists.has_dep a.lists.has_dep in
     let ds = ap (λ (p : PackageModel). p.dependencies) (one_package r e.parent b.pkg a.pkg none b.has_package a.has_package) in
-    let here = subst (λ (xs : List DependencyModel). IsDeclared xs (dependency_entry e.child b.dep) (kind_info_of e) w.place f) ds b.declared in
-    let there = subst (λ (x : NodeDepModel). IsDeclared a.pkg.dependencies (dependency_entry e.child x) (kind_info_of e) w.place f) dep here in
-    (declared_once a.pkg.dependencies (dependency_entry e.child a.dep) (kind_info_of e) v.place w.place d f a.declared there).1
+    let here = subst (λ (xs : List DependencyModel). IsDeclared xs (dependency_entry e.child b.dep) (kind_info_of e) q f) ds b.declared in
+    let there = subst (λ (x : NodeDepModel). IsDeclared a.pkg.dependencies (dependency_entry e.child x) (kind_info_of e) q f) dep here in
+    (declared_once a.pkg.dependencies (dependency_entry e.child a.dep) (kind_info_of e) p q d f a.declared there).1
+
+pub wanted_once : (r : Resolved) (s : SettingModel) (e : Edge) (d f : DependencyModel) → NoneDoubled r.metadata r.graph → IsWanted r s e d → IsWanted r s e f → d ≡ f
+wanted_once r s e d f none v w = declared_as_once r e d f none (as_declared r s e d v) (as_declared r s e f w)

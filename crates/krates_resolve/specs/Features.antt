@@ -12,11 +12,9 @@ pub record ListsFeature (r : Resolved) (i : Id) (f : Text) : Type 0 where
   pub has_node : HasNode r i node
   pub among : Contains node.features f
 
--- the crate has a node, which doesn't list the feature
-pub record LacksFeature (r : Resolved) (i : Id) (f : Text) : Type 0 where
-  pub node : NodeModel
-  pub has_node : HasNode r i node
-  pub not_among : Contains node.features f → ⊥
+-- the crate has no node that lists the feature
+abbrev pub LacksFeature : Resolved → Id → Text → Type 0
+LacksFeature r i f = ListsFeature r i f → ⊥
 
 -- the crate's package has the feature, and among its values is the reference
 pub record HasReference (r : Resolved) (i : Id) (f : Text) (reference : Reference) : Type 0 where

@@ -2,7 +2,6 @@ pub mod Admission
 pub mod AdmissionRefusals
 pub mod DeclaredDependency
 pub mod DeclaredSource
-pub mod Declares
 pub mod DependencyName
 pub mod Derivation
 pub mod DocumentModel

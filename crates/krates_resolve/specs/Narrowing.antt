@@ -1,5 +1,5 @@
 -- Settings that leave out more, and that nothing new is selected under them.
-use Rattle.std.specs.Prelude.{◌≡◌, ◌⊎◌, List, [], ◌++◌}
+use Rattle.std.specs.Prelude.{◌≡◌, ◌⊎◌, List, [], Contains}
 use Rattle.krates_ids.specs.PackageSpecification.{Specification}
 use Rattle.krates_ids.specs.declared.error.Error.{Error}
 use Rattle.krates_ids.specs.declared.error.Error.TheVariants.{NoRootKrates, Memory}
@@ -19,7 +19,8 @@ use Rattle.krates_resolve.specs.declared.kind.Scope.{Scope}
 -- the second setting is the first, but for one step by which it leaves out more
 pub data IsNarrower (wide : SettingModel) : SettingModel → Type 0 where
   -- more packages are excluded
-  excludes_more : (specs : List Specification) → IsNarrower wide (record wide { exclusions = wide.exclusions ++ specs })
+  excludes_more : (exclusions : List Specification) → ((spec : Specification) → Contains wide.exclusions spec → Contains exclusions spec)
+      → IsNarrower wide (record wide { exclusions = exclusions })
   -- one more purpose is ignored, of members, of other crates, or of both
   ignores_more : (ignored : IgnoredKinds) (kind : DepKind) (scope : Scope) → IgnoresMore wide.ignored ignored kind scope
       → IsNarrower wide (record wide { ignored = ignored })

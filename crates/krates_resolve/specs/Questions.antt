@@ -42,6 +42,18 @@ pub record ListsEdge (r : Resolved) (e : Edge) (d : NodeDepModel) : Type 0 where
   pub has_dep : HasDep node e.child d
   pub has_kind : Contains d.dep_kinds (kind_info_of e)
 
+-- the edge is listed, and declared as this dependency, which stands at this place of its package's list
+pub record Declares (r : Resolved) (e : Edge) (place : ℕ) (d : DependencyModel) : Type 0 where
+  pub dep : NodeDepModel
+  pub lists : ListsEdge r e dep
+  pub pkg : PackageModel
+  pub has_package : HasPackage r e.parent pkg
+  pub declared : IsDeclared pkg.dependencies (dependency_entry e.child dep) (kind_info_of e) place d
+
+-- as this dependency, at some place
+abbrev pub IsDeclaredAs : Resolved → Edge → DependencyModel → Type 0
+IsDeclaredAs r e d = (place : ℕ) × Declares r e place d
+
 -- the edge is listed, and not ignored
 pub record IsListed (r : Resolved) (s : SettingModel) (e : Edge) (d : NodeDepModel) : Type 0 where
   pub lists : ListsEdge r e d
@@ -79,6 +91,7 @@ questions r s = record {
   Lacks = LacksFeature r;
   Refers = HasReference r;
   Referent = IsReferent r;
+  Declared = IsDeclaredAs r;
   Wanted = IsWanted r s;
   Loose = IsLoose r s;
 }

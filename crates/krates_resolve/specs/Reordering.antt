@@ -1,7 +1,8 @@
 -- Documents that differ in the order of their lists alone, and what doesn't depend on it.
 use Rattle.std.specs.Prelude.{◌≡◌, ◌↔◌, List, Option, None, MatchOption, IsSomeAnd, IsPermutation}
 use Rattle.std.specs.List.{AllZip}
-use Rattle.krates_cm.specs.Document.{Text, NodeModel, ResolveModel, MetadataModel}
+use Rattle.krates_cm.specs.Document.{Text, PackageModel, NodeModel, ResolveModel, MetadataModel}
+use Rattle.krates_ids.specs.Correction.{named, with_features}
 use Rattle.krates_ids.specs.declared.error.Error.{Error}
 use Rattle.krates_resolve.specs.Admission.{IsInvalidId, IsDoubled}
 use Rattle.krates_resolve.specs.AdmissionRefusals.{IsRefused}
@@ -13,6 +14,18 @@ use Rattle.krates_resolve.specs.SelectionRefusals.{IsUnselected}
 use Rattle.krates_resolve.specs.Setting.{SettingModel}
 
 -- ---- documents in another order
+
+-- the packages are equal, but for the order in which their features are listed
+pub record ReordersPackage (a b : PackageModel) : Type 0 where
+  pub features : (name : Text) → named a.features name ≡ named b.features name
+  pub rest : b ≡ with_features a b.features
+
+-- the packages of the second are those of the first, in any order
+pub record ReordersPackages (all other : List PackageModel) : Type 0 where
+  -- those of the first at their places, each as the second has it
+  pub packages : List PackageModel
+  pub each : AllZip ReordersPackage all packages
+  pub moved : IsPermutation packages other
 
 -- the nodes are equal, but for the order of their dependencies and of their features
 pub record ReordersNode (a b : NodeModel) : Type 0 where
@@ -36,7 +49,7 @@ ReordersResolve a b = MatchOption a (b ≡ None) (λ g. IsSomeAnd b (ReordersGra
 
 -- the documents are equal, but for the order of their packages and members, and of what their graphs list
 pub record Reorders (m n : MetadataModel) : Type 0 where
-  pub packages : IsPermutation m.packages n.packages
+  pub packages : ReordersPackages m.packages n.packages
   pub members : IsPermutation m.workspace_members n.workspace_members
   pub resolve : ReordersResolve m.resolve n.resolve
   pub rest : n ≡ record m { packages = n.packages; workspace_members = n.workspace_members; resolve = n.resolve }

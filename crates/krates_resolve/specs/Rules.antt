@@ -20,12 +20,14 @@ pub record Questions : Type 1 where
   pub NoNode : Id → Type 0
   -- the crate's node lists the feature
   pub Lists : Id → Text → Type 0
-  -- the crate's node doesn't list the feature
+  -- the crate has no node that lists the feature
   pub Lacks : Id → Text → Type 0
   -- the feature's list in the crate's corrected features has the reference
   pub Refers : Id → Text → Reference → Type 0
   -- a dependency's name, in a reference of the crate, means this crate
   pub Referent : Id → Text → Id → Type 0
+  -- the edge is listed, and declared as this dependency, whatever the setting
+  pub Declared : Edge → DependencyModel → Type 0
   -- the edge is listed, not ignored, declared as this dependency, and passes the targets
   pub Wanted : Edge → DependencyModel → Type 0
   -- the edge is listed, not ignored, and not declared
@@ -71,9 +73,9 @@ pub data Rule (q : Questions) : ℕ → List Fact → Fact → Type 0 where
   lost_required_package : {e : Edge} {d : DependencyModel} → q.Wanted e d → d.optional ≡ false → q.NoPackage e.child → Rule q 5 (Crate e.parent ∷ []) (Lost (LostPackage e.child))
   lost_required_node : {e : Edge} {d : DependencyModel} → q.Wanted e d → d.optional ≡ false → q.NoNode e.child → Rule q 5 (Crate e.parent ∷ []) (Lost (LostNode e.child))
   -- 6. a kept edge enables the features that its declared dependency lists, and `default` where it uses defaults and the child lists it
-  declared : {e : Edge} {d : DependencyModel} {g : Text} → q.Wanted e d → Contains d.features g → q.Lists e.child g → Rule q 6 (Kept e ∷ []) (Feature e.child g)
-  by_default : {e : Edge} {d : DependencyModel} → q.Wanted e d → d.uses_default_features ≡ true → q.Lists e.child default_name → Rule q 6 (Kept e ∷ []) (Feature e.child default_name)
-  lost_declared : {e : Edge} {d : DependencyModel} {g : Text} → q.Wanted e d → Contains d.features g → q.Lacks e.child g → Rule q 6 (Kept e ∷ []) (Lost (LostFeature e.child g))
+  declared : {e : Edge} {d : DependencyModel} {g : Text} → q.Declared e d → Contains d.features g → q.Lists e.child g → Rule q 6 (Kept e ∷ []) (Feature e.child g)
+  by_default : {e : Edge} {d : DependencyModel} → q.Declared e d → d.uses_default_features ≡ true → q.Lists e.child default_name → Rule q 6 (Kept e ∷ []) (Feature e.child default_name)
+  lost_declared : {e : Edge} {d : DependencyModel} {g : Text} → q.Declared e d → Contains d.features g → q.Lacks e.child g → Rule q 6 (Kept e ∷ []) (Lost (LostFeature e.child g))
   -- 7. a weak reference of an enabled feature toggles only over a kept edge; a toggled feature is enabled
   toggled_weakly : {e : Edge} {f g c : Text} → q.Refers e.parent f (weak c g) → q.Referent e.parent c e.child → q.Lists e.child g → Rule q 7 (Feature e.parent f ∷ Kept e ∷ []) (Toggled e.parent e.child g)
   toggled_feature : {p c : Id} {g : Text} → Rule q 7 (Toggled p c g ∷ []) (Feature c g)

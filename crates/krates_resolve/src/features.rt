@@ -139,7 +139,10 @@ impl Ord for ListedFeature<'_> {
     ghost matches_eq = { Prim.search (comparing, rules) depth 9 };
 
     fn cmp(&self, other: &Self) -> Ordering {
-        self.place.cmp(&other.place).then(self.name.cmp(other.name))
+        match self.place.cmp(&other.place) {
+            Ordering::Equal => self.name.cmp(other.name),
+            order => order,
+        }
     }
 }
 

@@ -3,14 +3,13 @@
 ghost use Rattle.std.specs.Prelude.{◌≡◌, ℕ, ◌↔◌, ◌∷◌, [], All, Contains, IfOk, IsTrue, MatchOption, map};
 ghost use Rattle.krates_cm.specs.Document.{DependencyModel, dep_kind_info_view, metadata_view, node_dep_view};
 ghost use Rattle.krates_resolve.specs.Admission.{HasVersion, IsAdmitted};
-ghost use Rattle.krates_resolve.specs.Declares.{Declares};
 ghost use Rattle.krates_resolve.specs.DocumentModel.{as_resolved};
 ghost use Rattle.krates_resolve.specs.Facts.{Id};
 ghost use Rattle.krates_resolve.specs.Ids.{ids_view};
 ghost use Rattle.krates_resolve.specs.LookedUp.{TellsDeclared, TellsEntry, TellsParts};
 ghost use Rattle.krates_resolve.specs.Lookup.{IsLookup, resolved_view};
 ghost use Rattle.krates_resolve.specs.NodeEntry.{IsEntry, edge_between, edge_for};
-ghost use Rattle.krates_resolve.specs.Questions.{Stands, questions};
+ghost use Rattle.krates_resolve.specs.Questions.{Declares, Stands, questions};
 ghost use Rattle.krates_resolve.specs.Referent.{IsReferent};
 ghost use Rattle.krates_resolve.specs.Resolved.{HasGraphWith, IsMember, id_of, resolved};
 ghost use Rattle.krates_resolve.specs.RootChoice.{AsksFor};

@@ -174,10 +174,13 @@ impl Ord for KeptEdge {
     ghost matches_eq = { Prim.search (comparing, rules) depth 9 };
 
     fn cmp(&self, other: &KeptEdge) -> Ordering {
-        self.parent
-            .cmp(&other.parent)
-            .then(self.child.cmp(&other.child))
-            .then(self.place.cmp(&other.place))
+        match self.parent.cmp(&other.parent) {
+            Ordering::Equal => match self.child.cmp(&other.child) {
+                Ordering::Equal => self.place.cmp(&other.place),
+                order => order,
+            },
+            order => order,
+        }
     }
 }
 
@@ -215,9 +218,10 @@ impl Ord for EnabledFeature {
     ghost matches_eq = { Prim.search (comparing, rules) depth 9 };
 
     fn cmp(&self, other: &EnabledFeature) -> Ordering {
-        self.krate
-            .cmp(&other.krate)
-            .then(self.name.cmp(&other.name))
+        match self.krate.cmp(&other.krate) {
+            Ordering::Equal => self.name.cmp(&other.name),
+            order => order,
+        }
     }
 }
 
@@ -255,10 +259,13 @@ impl Ord for ToggledFeature {
     ghost matches_eq = { Prim.search (comparing, rules) depth 9 };
 
     fn cmp(&self, other: &ToggledFeature) -> Ordering {
-        self.by
-            .cmp(&other.by)
-            .then(self.krate.cmp(&other.krate))
-            .then(self.name.cmp(&other.name))
+        match self.by.cmp(&other.by) {
+            Ordering::Equal => match self.krate.cmp(&other.krate) {
+                Ordering::Equal => self.name.cmp(&other.name),
+                order => order,
+            },
+            order => order,
+        }
     }
 }
 

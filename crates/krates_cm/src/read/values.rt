@@ -113,7 +113,7 @@ impl<T: FromValue> FromValue for Vec<T> {
 
     fn from_value_at(alloc: Global, value: &Value, key: &'static str) -> Result<Vec<T>, ReadError> {
         let values = value.as_array().ok_or(ReadError::WrongType(key))?;
-        let mut items = Vec::new(alloc);
+        let mut items = Vec::with_capacity(alloc, values.len())?;
         for item in values {
             items.push(T::from_value_at(alloc, item, key)?)?;
         }

@@ -1,9 +1,16 @@
+use Rattle.std.proofs.Common.{◌<◌, sym, subst}
 use Rattle.krates_resolve.specs.Lookup.{resolved_view}
 use Rattle.krates_resolve.specs.Resolved.{id_of}
 use Rattle.krates_resolve.proofs.Enabled.{named_here}
-use Rattle.krates_resolve.proofs.FeatureNumbers.{listed_at}
+use Rattle.krates_resolve.proofs.FeatureNumbers.{listed_at, number_within}
 use Rattle.krates_resolve.proofs.Growth.{has_put, feature_advances}
 use Rattle.krates_resolve.proofs.enabling.enable.Goals as goal
+
+pub put-requires : goal.put-requires
+put-requires c =
+    let i = id_of c.args.node.id.now in
+    let within = number_within (resolved_view c.args.lookup.now) i c.args.name.now c.in-Some.number (c.in-Some.ensures i c.requires.node) in
+    subst (λ n. c.in-Some.number < n) (sym c.requires.sound.features_size) within
 
 pub returns-in-Some-clause-advanced : goal.returns-in-Some-clause-advanced
 returns-in-Some-clause-advanced c =

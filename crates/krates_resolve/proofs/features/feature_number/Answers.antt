@@ -14,4 +14,4 @@ returns c i at =
     let q : ListedFeature = record { place = c.args.place; name = c.args.name } in
     let answer : c.copied.result ≡ get listed_cmp d.features.numbers q = search rules in
     let numbered = subst (λ (all : List (ℕ × Text)). IsNumberOf all (c.args.place, c.args.name.now) (get listed_cmp d.features.numbers q)) c.requires.features (c.requires.numbered q) in
-    number_answer (resolved_view d) i c.args.name.now c.args.place c.copied.result at (subst (IsNumberOf _ _) (sym answer) numbered)
+    number_answer (resolved_view d) i c.args.name.now c.args.place c.copied.result c.requires.distinct at (subst (IsNumberOf _ _) (sym answer) numbered)

@@ -1,7 +1,7 @@
 use Rattle.std.proofs.Common.{ℕ, MatchOption}
 use Rattle.std.proofs.lemmas.Result.{IfOk-weaker}
 use Rattle.krates_cm.specs.Document.{DependencyModel, dep_kind_info_view}
-use Rattle.krates_resolve.specs.Declares.{Declares}
+use Rattle.krates_resolve.specs.Questions.{Declares}
 use Rattle.krates_resolve.specs.Facts.{Edge}
 use Rattle.krates_resolve.specs.Lookup.{resolved_view}
 use Rattle.krates_resolve.specs.Resolved.{id_of}

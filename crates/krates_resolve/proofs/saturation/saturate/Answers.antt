@@ -28,4 +28,4 @@ pub returns-clause-exact : goal.returns-clause-exact
 returns-clause-exact c =
     let taken = c.in_ok-take_next.ensures.taken in
     let none = rw c.if-branch.false at taken.1 in
-    saturated (resolved_view c.args.lookup.now) c.args.setting.now c.take_next.new.found taken.0 none.0 none.1
+    saturated (resolved_view c.args.lookup.now) c.args.setting.now c.take_next.new.found c.requires.distinct taken.0 none.0 none.1
