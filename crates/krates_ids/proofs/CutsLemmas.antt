@@ -1,9 +1,10 @@
 -- Laws of texts that are cut at a byte.
-use Rattle.std.proofs.Common.{◌≡◌, ◌≢◌, ℕ, ◌+◌, ◌<◌, ◌≤◌, suc, [], ◌∷◌, ◌++◌, length, get_or, take, drop, refl, sym, ap, ◌∙◌, arith, eqb, append_assoc, take-append-drop}
-use Rattle.std.specs.Prelude.{MatchOption, Option, Some, None, is_some}
+use Rattle.std.proofs.Common.{◌≡◌, ◌≢◌, ℕ, ◌+◌, ◌<◌, ◌≤◌, suc, [], ◌∷◌, ◌++◌, length, get_or, take, drop, refl, sym, ap, ◌∙◌, inl, inr, arith, eqb, append_assoc, take-append-drop}
+use Rattle.std.specs.Prelude.{◌⊎◌, MatchOption, Option, Some, None, is_some}
 use Rattle.std.specs.Str.{NoCharPasses}
 use Rattle.std.specs.Str.Pattern.{RFindsChar, HasCharAt}
 use Rattle.std.specs.Borrow.{Bor}
+use Rattle.std.proofs.lemmas.Bool.{cases_eq}
 use Rattle.std.proofs.lemmas.Str.Pattern.{split_parts, IsSplitOnceResult, NoCharPasses-char, drop_at_char}
 use Rattle.krates_cm.specs.Document.{Text}
 use Rattle.krates_ids.specs.Cuts.{Lacks, FirstAt, LastAt, EndsWith, CutsFirst, CutsLast, TellsHas}
@@ -87,3 +88,23 @@ LastAt-once {c} {t} {x} {y} {x'} {y'} f g = last_cut_once c x x' y y' f.lacks g.
 -- the last c of a text's end is the text's last c
 pub LastAt-end : {c : ℕ} {t body x y : Text} (w : EndsWith t body) → LastAt c body x y → LastAt c t (w.front ++ x) y
 LastAt-end {c} {t} {body} {x} {y} w f = record { is = w.is ∙ (ap (λ z. w.front ++ z) f.is ∙ sym (append_assoc w.front x (c ∷ y))); lacks = f.lacks }
+
+-- ---- a text is cut, or lacks the byte
+
+first_cut : (c b : ℕ) (t : Text) → (b ≡ c) ⊎ (b ≡ c → ⊥) → Lacks c t ⊎ ((x y : Text) × FirstAt c t x y) → Lacks c (b ∷ t) ⊎ ((x y : Text) × FirstAt c (b ∷ t) x y)
+first_cut c b t (inl same) rest = inr ([], t, record { is = ap (λ z. z ∷ t) same; lacks = tt })
+first_cut c b t (inr other) (inl none) = inl (other, none)
+first_cut c b t (inr other) (inr h) = inr (b ∷ h.0, h.1, record { is = ap (λ z. b ∷ z) h.2.is; lacks = (other, h.2.lacks) })
+
+pub FirstAt-or : (c : ℕ) (t : Text) → Lacks c t ⊎ ((x y : Text) × FirstAt c t x y)
+FirstAt-or c [] = inl tt
+FirstAt-or c (b ∷ t) = first_cut c b t (cases_eq b c) (FirstAt-or c t)
+
+last_cut : (c b : ℕ) (t : Text) → (b ≡ c) ⊎ (b ≡ c → ⊥) → Lacks c t ⊎ ((x y : Text) × LastAt c t x y) → Lacks c (b ∷ t) ⊎ ((x y : Text) × LastAt c (b ∷ t) x y)
+last_cut c b t (inl same) (inl none) = inr ([], t, record { is = ap (λ z. z ∷ t) same; lacks = none })
+last_cut c b t (inr other) (inl none) = inl (other, none)
+last_cut c b t decided (inr h) = inr (b ∷ h.0, h.1, record { is = ap (λ z. b ∷ z) h.2.is; lacks = h.2.lacks })
+
+pub LastAt-or : (c : ℕ) (t : Text) → Lacks c t ⊎ ((x y : Text) × LastAt c t x y)
+LastAt-or c [] = inl tt
+LastAt-or c (b ∷ t) = last_cut c b t (cases_eq b c) (LastAt-or c t)

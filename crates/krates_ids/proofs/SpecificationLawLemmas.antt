@@ -12,7 +12,7 @@ use Rattle.krates_ids.specs.SpecificationAnswers.{spec_view, IsRefusedBy, Answer
 use Rattle.krates_ids.specs.declared.error.Error.{Error}
 use Rattle.krates_ids.specs.declared.error.Error.TheVariants as errors
 use Rattle.krates_ids.specs.declared.pkgspec.PkgSpec.{PkgSpec}
-use Rattle.krates_ids.proofs.CutsLemmas.{Lacks-middle, FirstAt-lacks, FirstAt-once, LastAt-once}
+use Rattle.krates_ids.proofs.CutsLemmas.{Lacks-middle, FirstAt-lacks, FirstAt-once, FirstAt-or, LastAt-once, LastAt-or}
 use Rattle.krates_ids.proofs.SpecificationLemmas.{HasScheme-slash}
 
 -- ---- equal lists and outcomes
@@ -129,24 +129,6 @@ Gives-once t a b (inr h) (inr k) = LocatedGives-once t a b h.1 k.1
 
 -- ---- at least one
 
-first_at : (c b : ℕ) (t : Text) → (b ≡ c) ⊎ (b ≡ c → ⊥) → Lacks c t ⊎ ((x y : Text) × FirstAt c t x y) → Lacks c (b ∷ t) ⊎ ((x y : Text) × FirstAt c (b ∷ t) x y)
-first_at c b t (inl same) rest = inr ([], t, record { is = ap (λ z. z ∷ t) same; lacks = tt })
-first_at c b t (inr other) (inl none) = inl (other, none)
-first_at c b t (inr other) (inr h) = inr (b ∷ h.0, h.1, record { is = ap (λ z. b ∷ z) h.2.is; lacks = (other, h.2.lacks) })
-
-first_or : (c : ℕ) (t : Text) → Lacks c t ⊎ ((x y : Text) × FirstAt c t x y)
-first_or c [] = inl tt
-first_or c (b ∷ t) = first_at c b t (cases_eq b c) (first_or c t)
-
-last_at : (c b : ℕ) (t : Text) → (b ≡ c) ⊎ (b ≡ c → ⊥) → Lacks c t ⊎ ((x y : Text) × LastAt c t x y) → Lacks c (b ∷ t) ⊎ ((x y : Text) × LastAt c (b ∷ t) x y)
-last_at c b t (inl same) (inl none) = inr ([], t, record { is = ap (λ z. z ∷ t) same; lacks = none })
-last_at c b t (inr other) (inl none) = inl (other, none)
-last_at c b t decided (inr h) = inr (b ∷ h.0, h.1, record { is = ap (λ z. b ∷ z) h.2.is; lacks = h.2.lacks })
-
-last_or : (c : ℕ) (t : Text) → Lacks c t ⊎ ((x y : Text) × LastAt c t x y)
-last_or c [] = inl tt
-last_or c (b ∷ t) = last_at c b t (cases_eq b c) (last_or c t)
-
 split_at : (b : ℕ) (t : Text) → (b ≡ colon) ⊎ (b ≡ colon → ⊥) → (b ≡ at_sign) ⊎ (b ≡ at_sign → ⊥) → IsUnsplit t ⊎ ((x y : Text) × SplitAt t x y) → IsUnsplit (b ∷ t) ⊎ ((x y : Text) × SplitAt (b ∷ t) x y)
 split_at b t (inl same) d rest = inr ([], t, record { separator = b; is_separator = inl same; is = refl; no_colon = tt; no_at = tt })
 split_at b t (inr other) (inl same) rest = inr ([], t, record { separator = b; is_separator = inr same; is = refl; no_colon = tt; no_at = tt })
@@ -212,7 +194,7 @@ url_of_end : (end : Bool) (url : Text) → HasScheme url ⊎ (HasScheme url → 
 url_of_end true url scheme = (Err ends_with_slash, refl)
 url_of_end false url (inr none) = (Err missing_scheme, inl (none, refl))
 url_of_end false url (inl scheme) =
-    let path = path_of url scheme (last_or slash url) in
+    let path = path_of url scheme (LastAt-or slash url) in
     (path.0, inr (scheme, path.1))
 
 UrlGives-some : (url : Text) → (r : Result Text Text) × UrlGives url r
@@ -243,7 +225,7 @@ url_text_of t (inr h) =
     (o.0, inr (h.0, h.1, h.2, o.1))
 
 UrlTextGives-some : (t : Text) → (o : Outcome) × UrlTextGives t o
-UrlTextGives-some t = url_text_of t (first_or hash_sign t)
+UrlTextGives-some t = url_text_of t (FirstAt-or hash_sign t)
 
 located_of : (t : Text) → HasScheme t ⊎ (HasScheme t → ⊥) → (o : Outcome) × LocatedGives t o
 located_of t (inl scheme) =
@@ -262,7 +244,7 @@ gives_of t (inr h) =
     (o.0, inr (λ none. FirstAt-lacks none h.2, o.1))
 
 pub Gives-some : (t : Text) → (o : Outcome) × Gives t o
-Gives-some t = gives_of t (first_or slash t)
+Gives-some t = gives_of t (FirstAt-or slash t)
 
 -- ---- specifications and refusals
 

@@ -8,9 +8,10 @@ ghost use Rattle.krates_ids.specs.Correction.{named, IndexModel, IsCorrected, wi
 ghost use Rattle.krates_ids.specs.Identity.{Identity, Reads, NeedsDecoding, Fault, IsFault, IsSameId, same_id, id_cmp, id_hash_input};
 ghost use Rattle.krates_ids.specs.PackageSpecification.{Specification, IsSpec, IsSpecFault};
 
-/// A text is read as at most one id, and a text with a fault as none; it has at most one fault. A text that has an escape to
-/// be decoded is read, so that want of memory never stands in place of a fault.
+/// Each text is an id or has a fault, never both; it is at most one id, and has at most one fault. A text that has an escape to
+/// be decoded is an id, so that running out of memory never stands in place of a fault.
 pub fn one_reading()
+    ensures either { (t : Text) → ((id : Identity) × Reads t id) ⊎ ((fault : Fault) × IsFault t fault) }
     ensures once { (t : Text) (a b : Identity) → Reads t a → Reads t b → a ≡ b }
     ensures no_fault_beside { (t : Text) (id : Identity) (fault : Fault)
         → Reads t id → IsFault t fault → ⊥ }
