@@ -2,6 +2,7 @@ pub mod Text
 pub mod FeatureReference
 pub mod PathLemmas
 pub mod TargetTable
+pub mod Copies
 pub mod CfgReading
 pub mod CfgFrames
 pub mod CfgSteps

@@ -9,7 +9,7 @@ use std::alloc::{AllocError, Global};
 use std::fmt;
 
 /// What a target is, by the texts that a cfg expression compares. A caller may describe a target of its own.
-#[derive(Clone, Debug, Drop)]
+#[derive(Debug, Drop)]
 pub struct TargetInfo {
     pub triple: String,
     pub arch: String,
@@ -25,12 +25,46 @@ pub struct TargetInfo {
 }
 
 /// A target to build for.
-#[derive(Clone, Debug, Drop)]
+#[derive(Debug, Drop)]
 pub enum Target {
     /// A target that is described.
     Builtin(TargetInfo),
     /// A text of which nothing is known.
     Unknown(String),
+}
+
+impl Clone for TargetInfo {
+    ghost is_clone = { λ info copy. description_of copy ≡ description_of info };
+
+    /// A copy that describes the same. The only error is being out of memory.
+    #[tactic(auto, using(crate::proofs::Copies::texts_copied))]
+    fn clone(&self) -> Result<TargetInfo, AllocError> {
+        Ok(TargetInfo {
+            triple: self.triple.clone()?,
+            arch: self.arch.clone()?,
+            os: self.os.clone()?,
+            env: self.env.clone()?,
+            abi: self.abi.clone()?,
+            vendor: self.vendor.clone()?,
+            pointer_width: self.pointer_width.clone()?,
+            endian: self.endian.clone()?,
+            panic: self.panic.clone()?,
+            families: self.families.clone()?,
+            atomics: self.atomics.clone()?,
+        })
+    }
+}
+
+impl Clone for Target {
+    ghost is_clone = { λ target copy. target_of copy ≡ target_of target };
+
+    /// A copy that is the same target. The only error is being out of memory.
+    fn clone(&self) -> Result<Target, AllocError> {
+        match self {
+            Target::Builtin(info) => Ok(Target::Builtin(info.clone()?)),
+            Target::Unknown(text) => Ok(Target::Unknown(text.clone()?)),
+        }
+    }
 }
 
 /// What differs between the targets of the table.
