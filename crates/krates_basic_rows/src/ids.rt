@@ -92,6 +92,46 @@ const GIT_OF_A_DOCUMENT: &[(&str, &str)] = &[
     ),
 ];
 
+/// Ids of packages that exist: each way in which cargo names a source, in both forms.
+const OF_PACKAGES_THAT_EXIST: &[(&str, &str)] = &[
+    (
+        "git+https://github.com/EmbarkStudios/egui-stylist?rev=3900e8aedc5801e42c1bb747cfd025615bf3b832#0.2.0",
+        "stable, as written: egui-stylist | 0.2.0 | git+https://github.com/EmbarkStudios/egui-stylist?rev=3900e8aedc5801e42c1bb747cfd025615bf3b832",
+    ),
+    (
+        "path+file:///home/jake/code/ark/components/allocator#ark-allocator@0.1.0",
+        "stable, as written: ark-allocator | 0.1.0 | path+file:///home/jake/code/ark/components/allocator",
+    ),
+    (
+        "git+https://github.com/EmbarkStudios/ash?branch=nv-low-latency2#0.38.0+1.3.269",
+        "stable, as written: ash | 0.38.0+1.3.269 | git+https://github.com/EmbarkStudios/ash?branch=nv-low-latency2",
+    ),
+    (
+        "git+https://github.com/EmbarkStudios/fsr-rs?branch=nv-low-latency2#fsr@0.1.7",
+        "stable, as written: fsr | 0.1.7 | git+https://github.com/EmbarkStudios/fsr-rs?branch=nv-low-latency2",
+    ),
+    (
+        "git+https://github.com/ComunidadAylas/glsl-lang#0.5.2",
+        "stable, as written: glsl-lang | 0.5.2 | git+https://github.com/ComunidadAylas/glsl-lang",
+    ),
+    (
+        "git+https://github.com/vtavernier/glsl-lang?tag=v0.5.2#0.5.2",
+        "stable, as written: glsl-lang | 0.5.2 | git+https://github.com/vtavernier/glsl-lang?tag=v0.5.2",
+    ),
+    (
+        "fuser 0.4.1 (git+https://github.com/cberner/fuser?rev=b2e7622#b2e7622942e52a28ffa85cdaf48e28e982bb6923)",
+        "opaque, as written: fuser | 0.4.1 | git+https://github.com/cberner/fuser?rev=b2e7622",
+    ),
+    (
+        "a 0.1.0 (path+file:///home/jake/code/krates/tests/ws/a)",
+        "opaque, as written: a | 0.1.0 | path+file:///home/jake/code/krates/tests/ws/a",
+    ),
+    (
+        "bindgen 0.59.2 (registry+https://github.com/rust-lang/crates.io-index)",
+        "opaque, as written: bindgen | 0.59.2 | registry+https://github.com/rust-lang/crates.io-index",
+    ),
+];
+
 /// Ids of the opaque form, whose texts are kept.
 const OPAQUE: &[(&str, &str)] = &[
     (
@@ -195,7 +235,8 @@ fn package_id(alloc: Global, text: &str) -> Result<PackageId, AllocError> {
     })
 }
 
-fn kid(alloc: Global, text: &str) -> Result<Kid, Fail> {
+/// The id that a text is.
+pub(crate) fn kid(alloc: Global, text: &str) -> Result<Kid, Fail> {
     Ok(Kid::try_from(package_id(alloc, text)?)?)
 }
 
@@ -244,6 +285,11 @@ fn reads_git_ids_of_a_document(rt: HostRuntime) -> Result<(), Fail> {
 #[test]
 fn reads_opaque_ids(rt: HostRuntime) -> Result<(), Fail> {
     hold(rt.alloc(), OPAQUE)
+}
+
+#[test]
+fn reads_ids_of_packages_that_exist(rt: HostRuntime) -> Result<(), Fail> {
+    hold(rt.alloc(), OF_PACKAGES_THAT_EXIST)
 }
 
 #[test]

@@ -27,6 +27,8 @@ mod reading;
 #[cfg(test)]
 mod references;
 #[cfg(test)]
+mod refusals;
+#[cfg(test)]
 mod specifications;
 #[cfg(test)]
 mod targets;

@@ -2,14 +2,20 @@
 
 use krates_text::passing::passes;
 use krates_text::target::Target;
-use std::alloc::Global;
+use std::alloc::{AllocError, Global};
 use std::test::Fail;
 
 /// What no single target is.
 const WINDOWS_WITH_MUSL: &str = "cfg(all(windows, target_env = \"musl\"))";
 
+/// A target by its triple, and the features that are enabled there.
+type Place = (&'static str, &'static [&'static str]);
+
 /// Target texts, and whether each passes where there are no targets.
 const WITHOUT_TARGETS: &[(Option<&str>, bool)] = &[
+    (Some("cfg(unix)"), true),
+    (Some("x86_64-unknown-linux-gnu"), true),
+    (None, true),
     (Some("cfg(any(false, false))"), false),
     (Some("cfg(not(any()))"), true),
     (Some("cfg(foo)"), true),
@@ -18,7 +24,10 @@ const WITHOUT_TARGETS: &[(Option<&str>, bool)] = &[
 ];
 
 /// Two targets, one for each half of that.
-const TRIPLES: &[&str] = &["x86_64-pc-windows-msvc", "x86_64-unknown-linux-musl"];
+const TWO_TARGETS: &[Place] = &[
+    ("x86_64-pc-windows-msvc", &[]),
+    ("x86_64-unknown-linux-musl", &[]),
+];
 
 /// Target texts, and whether each passes at these two.
 const AT_TWO_TARGETS: &[(Option<&str>, bool)] = &[
@@ -27,24 +36,61 @@ const AT_TWO_TARGETS: &[(Option<&str>, bool)] = &[
     (Some("cfg(unix"), false),
     (Some("x86_64-unknown-linux-musl"), true),
     (Some("x86_64-unknown-linux-gnu"), false),
+    (Some("cfg(target_has_atomic = \"ptr\")"), true),
+    (Some("cfg(target_has_atomic = \"128\")"), false),
+    (Some("cfg(target_has_atomic)"), false),
     (None, true),
 ];
 
-/// The targets of these triples, without features.
-fn targets(alloc: Global, triples: &[&str]) -> Result<Vec<(Target, Vec<String>)>, Fail> {
+/// Target texts, and whether each passes at a target of which nothing is known.
+const AT_AN_UNKNOWN_TARGET: &[(Option<&str>, bool)] = &[
+    (Some("x"), true),
+    (Some("y"), false),
+    (Some("cfg(unix)"), false),
+    (Some("cfg(not(unix))"), true),
+    (Some("cfg(target_feature = \"atomics\")"), false),
+    (Some("cfg(target_has_atomic = \"8\")"), false),
+    (None, true),
+];
+
+/// The same where it has a feature.
+const WITH_A_FEATURE: &[(Option<&str>, bool)] = &[
+    (Some("x"), true),
+    (Some("cfg(target_feature = \"atomics\")"), true),
+    (Some("cfg(target_feature = \"simd128\")"), false),
+    (Some("cfg(all(unix, target_feature = \"atomics\"))"), false),
+];
+
+/// The same where its text begins like an expression and is none.
+const AT_A_BAD_EXPRESSION: &[(Option<&str>, bool)] = &[
+    (Some("cfg(unix"), true),
+    (Some("cfg(unix)"), false),
+    (Some("cfg(windows"), false),
+];
+
+/// These targets, with their features.
+fn targets(alloc: Global, places: &[Place]) -> Result<Vec<(Target, Vec<String>)>, Fail> {
     let mut targets = Vec::new(alloc);
-    for &triple in triples {
-        targets.push((Target::new(alloc, triple)?, Vec::new(alloc)))?;
+    for &(triple, features) in places {
+        targets.push((Target::new(alloc, triple)?, texts(alloc, features)?))?;
     }
     Ok(targets)
 }
 
+fn texts(alloc: Global, rows: &[&str]) -> Result<Vec<String>, AllocError> {
+    let mut texts = Vec::new(alloc);
+    for &row in rows {
+        texts.push(String::from_str(alloc, row)?)?;
+    }
+    Ok(texts)
+}
+
 /// Compares whether each text passes at these targets with what is expected.
-fn hold(alloc: Global, triples: &[&str], rows: &[(Option<&str>, bool)]) -> Result<(), Fail> {
-    let targets = targets(alloc, triples)?;
+fn hold(alloc: Global, places: &[Place], rows: &[(Option<&str>, bool)]) -> Result<(), Fail> {
+    let targets = targets(alloc, places)?;
     for &(text, expected) in rows {
         if passes(alloc, text, targets.as_slice())? != expected {
-            return Err(Fail::new(format_args!("{text:?} at {triples:?}: not {expected}")));
+            return Err(Fail::new(format_args!("{text:?} at {places:?}: not {expected}")));
         }
     }
     Ok(())
@@ -53,5 +99,12 @@ fn hold(alloc: Global, triples: &[&str], rows: &[(Option<&str>, bool)]) -> Resul
 #[test]
 fn passes_by_one_single_target(rt: HostRuntime) -> Result<(), Fail> {
     hold(rt.alloc(), &[], WITHOUT_TARGETS)?;
-    hold(rt.alloc(), TRIPLES, AT_TWO_TARGETS)
+    hold(rt.alloc(), TWO_TARGETS, AT_TWO_TARGETS)
+}
+
+#[test]
+fn passes_at_targets_of_which_nothing_is_known(rt: HostRuntime) -> Result<(), Fail> {
+    hold(rt.alloc(), &[("x", &[])], AT_AN_UNKNOWN_TARGET)?;
+    hold(rt.alloc(), &[("x", &["atomics"])], WITH_A_FEATURE)?;
+    hold(rt.alloc(), &[("cfg(unix", &[])], AT_A_BAD_EXPRESSION)
 }

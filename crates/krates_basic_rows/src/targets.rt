@@ -1,6 +1,6 @@
 //! Targets: the table row by row, and how a target is printed.
 
-use krates_text::target::{Target, builtin};
+use krates_text::target::{Target, TargetInfo, builtin};
 use std::alloc::{AllocError, Global};
 use std::test::Fail;
 
@@ -40,11 +40,8 @@ const DESCRIBED: &[(&str, &str)] = &[
 /// Texts that are printed as they are: a triple, and two of which nothing is known.
 const PRINTED: &[&str] = &["wasm32-unknown-unknown", "x", ""];
 
-/// The description of a target, in the order of its fields.
-fn told(alloc: Global, triple: &str) -> Result<String, AllocError> {
-    let Some(info) = builtin(alloc, triple)? else {
-        return String::from_str(alloc, "no row");
-    };
+/// A description, in the order of its fields.
+fn described(alloc: Global, info: &TargetInfo) -> Result<String, AllocError> {
     format!(in alloc;
         "{}: {},{},{},{},{},{},{},{} {:?} {:?}",
         info.triple,
@@ -61,10 +58,27 @@ fn told(alloc: Global, triple: &str) -> Result<String, AllocError> {
     )
 }
 
+/// The description of a target, or of a copy of it.
+fn told(alloc: Global, triple: &str, is_copied: bool) -> Result<String, AllocError> {
+    match builtin(alloc, triple)? {
+        Some(info) if is_copied => described(alloc, &info.clone()?),
+        Some(info) => described(alloc, &info),
+        None => String::from_str(alloc, "no row"),
+    }
+}
+
 #[test]
 fn gives_each_row(rt: HostRuntime) -> Result<(), Fail> {
     for &(triple, want) in DESCRIBED {
-        assert_eq!(rt; told(rt.alloc(), triple)?.as_str(), want, "{triple}");
+        assert_eq!(rt; told(rt.alloc(), triple, false)?.as_str(), want, "{triple}");
+    }
+    Ok(())
+}
+
+#[test]
+fn copies_each_row(rt: HostRuntime) -> Result<(), Fail> {
+    for &(triple, want) in DESCRIBED {
+        assert_eq!(rt; told(rt.alloc(), triple, true)?.as_str(), want, "{triple}");
     }
     Ok(())
 }

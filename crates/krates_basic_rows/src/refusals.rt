@@ -1,0 +1,151 @@
+//! What each refusal prints. Those of cfg expressions, ids, specifications and JSON values stand beside the texts that are
+//! refused so.
+
+use crate::ids::kid;
+use krates_cm::{Error as MetadataError, ReadError, UnknownName};
+use krates_ids::{Error, Lost};
+use std::alloc::{AllocError, Global};
+use std::test::Fail;
+use std::{io, str};
+
+/// Refusals of a build by their names, and what each prints.
+const OF_BUILDS: &[(&str, &str)] = &[
+    ("NoResolveGraph", "no resolution graph was provided"),
+    ("Metadata", "features given twice"),
+    ("NoRootKrates", "no root crates available"),
+    ("InvalidId", "invalid package id: a b"),
+    ("Doubled", "doubled id: path+file:///w/a#0.1.0"),
+    ("Package", "lost package: path+file:///w/a#0.1.0"),
+    ("Node", "lost node: path+file:///w/a#0.1.0"),
+    ("Feature", "lost feature: f of path+file:///w/a#0.1.0"),
+    (
+        "Undeclared",
+        "undeclared dependency: path+file:///w/b#0.1.0 of path+file:///w/a#0.1.0",
+    ),
+    ("TooMany", "too many nodes or edges"),
+    ("Memory", "out of memory"),
+];
+
+/// Refusals of metadata by their names, and what each prints.
+const OF_METADATA: &[(&str, &str)] = &[
+    (
+        "CargoMetadata",
+        "`cargo metadata` exited with an error: no manifest",
+    ),
+    (
+        "NoJson",
+        "could not find any json in the output of `cargo metadata`",
+    ),
+    ("FeaturesTwice", "features given twice"),
+    ("NoManifestParent", "manifest path without parent"),
+    ("Memory", "out of memory"),
+];
+
+/// Those whose cause comes from the library, and how what each prints begins.
+const OF_CAUSES: &[(&str, &str)] = &[
+    ("Io", "failed to start `cargo metadata`: "),
+    ("Utf8", "cannot convert the stdout of `cargo metadata`: "),
+    ("ErrUtf8", "cannot convert the stderr of `cargo metadata`: "),
+];
+
+/// What a package lacks, or an error of a name that is none.
+fn lost(alloc: Global, name: &str) -> Result<Lost, Fail> {
+    let krate = kid(alloc, "path+file:///w/a#0.1.0")?;
+    match name {
+        "Package" => Ok(Lost::Package(krate)),
+        "Node" => Ok(Lost::Node(krate)),
+        "Feature" => Ok(Lost::Feature {
+            krate,
+            name: String::from_str(alloc, "f")?,
+        }),
+        "Undeclared" => Ok(Lost::Undeclared {
+            krate,
+            dep: kid(alloc, "path+file:///w/b#0.1.0")?,
+        }),
+        _ => Err(Fail::new(format_args!("no refusal {name}"))),
+    }
+}
+
+/// The refusal of a build with this name.
+fn of_build(alloc: Global, name: &str) -> Result<Error, Fail> {
+    match name {
+        "NoResolveGraph" => Ok(Error::NoResolveGraph),
+        "Metadata" => Ok(Error::Metadata(MetadataError::FeaturesTwice)),
+        "NoRootKrates" => Ok(Error::NoRootKrates),
+        "InvalidId" => Ok(Error::InvalidId(String::from_str(alloc, "a b")?)),
+        "Doubled" => Ok(Error::Doubled(kid(alloc, "path+file:///w/a#0.1.0")?)),
+        "TooMany" => Ok(Error::TooMany),
+        "Memory" => Ok(Error::Memory),
+        _ => Ok(Error::Lost(lost(alloc, name)?)),
+    }
+}
+
+/// The refusal of bytes that are no text.
+fn not_utf8(is_of_errors: bool) -> MetadataError {
+    match str::from_utf8(b"\xff") {
+        Err(error) if is_of_errors => MetadataError::ErrUtf8(error),
+        Err(error) => MetadataError::Utf8(error),
+        Ok(_) => MetadataError::NoJson,
+    }
+}
+
+/// The refusal of metadata with this name.
+fn of_metadata(alloc: Global, name: &str) -> Result<MetadataError, Fail> {
+    match name {
+        "CargoMetadata" => Ok(MetadataError::CargoMetadata {
+            stderr: String::from_str(alloc, "no manifest")?,
+        }),
+        "Io" => Ok(MetadataError::Io(io::Error::other("no cargo"))),
+        "Utf8" => Ok(not_utf8(false)),
+        "ErrUtf8" => Ok(not_utf8(true)),
+        "NoJson" => Ok(MetadataError::NoJson),
+        "FeaturesTwice" => Ok(MetadataError::FeaturesTwice),
+        "NoManifestParent" => Ok(MetadataError::NoManifestParent),
+        "Memory" => Ok(MetadataError::Memory),
+        _ => Err(Fail::new(format_args!("no refusal {name}"))),
+    }
+}
+
+#[test]
+fn refusals_of_builds(rt: HostRuntime) -> Result<(), Fail> {
+    for &(name, want) in OF_BUILDS {
+        let printed = of_build(rt.alloc(), name)?.to_string(rt.alloc())?;
+        assert_eq!(rt; printed.as_str(), want, "{name}");
+    }
+    Ok(())
+}
+
+#[test]
+fn refusals_of_metadata(rt: HostRuntime) -> Result<(), Fail> {
+    for &(name, want) in OF_METADATA {
+        let printed = of_metadata(rt.alloc(), name)?.to_string(rt.alloc())?;
+        assert_eq!(rt; printed.as_str(), want, "{name}");
+    }
+    Ok(())
+}
+
+#[test]
+fn refusals_with_causes(rt: HostRuntime) -> Result<(), Fail> {
+    for &(name, want) in OF_CAUSES {
+        let printed = of_metadata(rt.alloc(), name)?.to_string(rt.alloc())?;
+        assert!(rt; printed.starts_with(want), "{name}: {printed}");
+    }
+    Ok(())
+}
+
+/// What the refusals of names print, and that of a value without memory.
+fn of_names(alloc: Global) -> Result<String, AllocError> {
+    let kind = UnknownName::TargetKind;
+    let crate_type = UnknownName::CrateType;
+    let edition = UnknownName::Edition;
+    format!(in alloc; "{kind} | {crate_type} | {edition} | {}", ReadError::Memory)
+}
+
+#[test]
+fn refusals_of_names(rt: HostRuntime) -> Result<(), Fail> {
+    assert_eq!(rt;
+        of_names(rt.alloc())?.as_str(),
+        "unknown target kind | unknown crate type | unknown edition | out of memory"
+    );
+    Ok(())
+}
