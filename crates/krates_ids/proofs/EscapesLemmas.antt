@@ -7,10 +7,10 @@ use Rattle.std.proofs.lemmas.Str.{IsUtf8-nil, IsUtf8-append, IsUtf8-encode, enco
 use Rattle.percent_encoding.specs.Percent.{percent_decode}
 use Rattle.percent_encoding.proofs.PercentLemmas.{percent_decode-nil, percent_decode_escape, percent_decode_not_percent}
 use Rattle.krates_cm.specs.Document.{Text}
-use Rattle.krates_ids.specs.Cuts.{Lacks}
+use Rattle.krates_text.specs.Cuts.{Lacks}
 use Rattle.krates_ids.specs.Escapes.{IsEscapable, IsEscape, AreEscapes}
 use Rattle.krates_ids.specs.Separators.{percent_sign}
-use Rattle.krates_ids.proofs.CutsLemmas.{Lacks-from_reads}
+use Rattle.krates_text.proofs.CutsLemmas.{Lacks-from_reads}
 use Rattle.krates_ids.proofs.SpansLemmas.{IsUtf8-after_cut, IsUtf8-ascii_first}
 
 -- bytes before which no '%' stands are kept

@@ -3,13 +3,13 @@ use Rattle.std.proofs.Common.{◌≡◌, ◌∷◌, ◌++◌, Bool, true, false,
 use Rattle.std.specs.Prelude.{◌⊎◌}
 use Rattle.percent_encoding.specs.Percent.{percent_decode}
 use Rattle.krates_cm.specs.Document.{Text}
-use Rattle.krates_ids.specs.Cuts.{FirstAt, LastAt}
+use Rattle.krates_text.specs.Cuts.{FirstCut, LastCut}
 use Rattle.krates_ids.specs.Identity.{Identity, IsNameOfPiece, NameInLeft, IsVersionAlone, IsStableForm, IsSource, as_written, decoded, HasGitQuery, ReadsOpaque, ReadsStable, Reads, NeedsDecoding, Fault, IsFault, no_opaque_form, no_stable_form, bad_escape, is_git}
 use Rattle.krates_ids.specs.Escapes.{AreEscapes}
 use Rattle.krates_ids.specs.Separators.{hash_sign, at_sign, question_mark}
 use Rattle.krates_ids.specs.Spans.{MarksParts, identity_of}
 use Rattle.krates_ids.specs.declared.span.Parts.{Parts}
-use Rattle.krates_ids.proofs.CutsLemmas.{FirstAt-once, FirstAt-lacks, LastAt-once, LastAt-lacks}
+use Rattle.krates_text.proofs.CutsLemmas.{FirstCut-once, FirstCut-lacks, LastCut-once, LastCut-lacks}
 use Rattle.krates_ids.proofs.OpaqueLemmas.{IsOpaqueForm-no_blank, IsOpaqueForm-once}
 
 -- ---- one reading
@@ -22,25 +22,25 @@ Identity-same a b text name version source opaque =
 piece_name_once : (git : Bool) (piece n n' : Text) → IsNameOfPiece git piece n → IsNameOfPiece git piece n' → n ≡ n'
 piece_name_once false piece n n' h k = h ∙ sym k
 piece_name_once true piece n n' (inl h) (inl k) = h.1 ∙ sym k.1
-piece_name_once true piece n n' (inl h) (inr k) = absurd (LastAt-lacks h.0 k.1)
-piece_name_once true piece n n' (inr h) (inl k) = absurd (LastAt-lacks k.0 h.1)
-piece_name_once true piece n n' (inr h) (inr k) = (LastAt-once h.1 k.1).0
+piece_name_once true piece n n' (inl h) (inr k) = absurd (LastCut-lacks h.0 k.1)
+piece_name_once true piece n n' (inr h) (inl k) = absurd (LastCut-lacks k.0 h.1)
+piece_name_once true piece n n' (inr h) (inr k) = (LastCut-once h.1 k.1).0
 
 NameInLeft-once : (left n n' : Text) → NameInLeft left n → NameInLeft left n' → n ≡ n'
 NameInLeft-once left n n' h k =
-    let same = LastAt-once h.cut k.cut in
+    let same = LastCut-once h.cut k.cut in
     piece_name_once (is_git left) k.piece n n' (rw same.1 at h.name_is) k.name_is
 
-parts_once : (left f n v n' v' : Text) → FirstAt at_sign f n v ⊎ IsVersionAlone left f n v → FirstAt at_sign f n' v' ⊎ IsVersionAlone left f n' v' → (n ≡ n') × (v ≡ v')
-parts_once left f n v n' v' (inl h) (inl k) = FirstAt-once h k
-parts_once left f n v n' v' (inl h) (inr k) = absurd (FirstAt-lacks k.no_at h)
-parts_once left f n v n' v' (inr h) (inl k) = absurd (FirstAt-lacks h.no_at k)
+parts_once : (left f n v n' v' : Text) → FirstCut at_sign f n v ⊎ IsVersionAlone left f n v → FirstCut at_sign f n' v' ⊎ IsVersionAlone left f n' v' → (n ≡ n') × (v ≡ v')
+parts_once left f n v n' v' (inl h) (inl k) = FirstCut-once h k
+parts_once left f n v n' v' (inl h) (inr k) = absurd (FirstCut-lacks k.no_at h)
+parts_once left f n v n' v' (inr h) (inl k) = absurd (FirstCut-lacks h.no_at k)
 parts_once left f n v n' v' (inr h) (inr k) = (NameInLeft-once left n n' h.name_in_left k.name_in_left, h.version_is ∙ sym k.version_is)
 
 IsStableForm-once : (t l f n v l' f' n' v' : Text) → IsStableForm t l f n v → IsStableForm t l' f' n' v' → (l ≡ l') × (f ≡ f') × (n ≡ n') × (v ≡ v')
 IsStableForm-once t l f n v l' f' n' v' h k =
-    let same = LastAt-once h.cut k.cut in
-    let moved : FirstAt at_sign f' n v ⊎ IsVersionAlone l' f' n v = rw (← same.0, ← same.1) h.parts in
+    let same = LastCut-once h.cut k.cut in
+    let moved : FirstCut at_sign f' n v ⊎ IsVersionAlone l' f' n v = rw (← same.0, ← same.1) h.parts in
     let both = parts_once l' f' n v n' v' moved k.parts in
     (same.0, same.1, both.0, both.1)
 
@@ -49,7 +49,7 @@ IsSource-once left s s' (as_written none is) (as_written none' is') = is ∙ sym
 IsSource-once left s s' (as_written none is) (decoded front query q good is') = absurd (none front query q)
 IsSource-once left s s' (decoded front query q good is) (as_written none is') = absurd (none front query q)
 IsSource-once left s s' (decoded front query q good is) (decoded front' query' q' good' is') =
-    let same = LastAt-once q.cut q'.cut in
+    let same = LastCut-once q.cut q'.cut in
     rw (is, is', same.0, same.1) refl
 
 ReadsOpaque-once : (t : Text) (a b : Identity) → ReadsOpaque t a → ReadsOpaque t b → a ≡ b
@@ -75,12 +75,12 @@ Reads-once t a b (inr h) (inr k) = ReadsStable-once t a b h k
 -- where the source reads, the query of the text is good
 source_good : (t left fragment name version source query : Text) → IsStableForm t left fragment name version → IsSource left source → HasGitQuery t query → AreEscapes query
 source_good t left fragment name version source query form (as_written none is) h =
-    let same = LastAt-once h.form.cut form.cut in
+    let same = LastCut-once h.form.cut form.cut in
     absurd (none h.front query (rw same.0 at h.git_query))
 source_good t left fragment name version source query form (decoded front query' q good is) h =
-    let same = LastAt-once h.form.cut form.cut in
-    let cut : LastAt question_mark left h.front query = rw same.0 at h.git_query.cut in
-    rw (LastAt-once cut q.cut).1 good
+    let same = LastCut-once h.form.cut form.cut in
+    let cut : LastCut question_mark left h.front query = rw same.0 at h.git_query.cut in
+    rw (LastCut-once cut q.cut).1 good
 
 pub Reads-no_fault : (t : Text) (a : Identity) (fault : Fault) → Reads t a → IsFault t fault → ⊥
 Reads-no_fault t a no_opaque_form (inl h) f = f.1 a.name a.version a.source h.form

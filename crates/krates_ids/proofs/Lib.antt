@@ -1,7 +1,6 @@
 pub mod ComparisonLemmas
 pub mod CorrectedLemmas
 pub mod CorrectionLemmas
-pub mod CutsLemmas
 pub mod EitherReading
 pub mod EscapesLemmas
 pub mod IdentityLemmas

@@ -5,14 +5,14 @@ use Rattle.std.specs.List.{ends_with}
 use Rattle.std.specs.Str.Iter.{HasSubslice}
 use Rattle.std.proofs.lemmas.Bool.{cases_eq}
 use Rattle.krates_cm.specs.Document.{Text}
-use Rattle.krates_ids.specs.Cuts.{Lacks, FirstAt, LastAt}
+use Rattle.krates_text.specs.Cuts.{Lacks, FirstCut, LastCut}
 use Rattle.krates_ids.specs.PackageSpecification.{Specification, Outcome, SplitAt, IsUnsplit, FragmentGives, HasScheme, PathGives, UrlGives, UrlAloneGives, WithFragment, AroundHashGives, UrlTextGives, LocatedGives, Gives, IsSpec, IsSpecFault, both_sides, checked_name, url_alone, whole_fragment, ends_with_slash, ends_with_hash, missing_scheme, missing_path, default_scheme}
 use Rattle.krates_ids.specs.Separators.{hash_sign, slash, colon, at_sign}
 use Rattle.krates_ids.specs.SpecificationAnswers.{spec_view, IsRefusedBy, Answers}
 use Rattle.krates_ids.specs.declared.error.Error.{Error}
 use Rattle.krates_ids.specs.declared.error.Error.TheVariants as errors
 use Rattle.krates_ids.specs.declared.pkgspec.PkgSpec.{PkgSpec}
-use Rattle.krates_ids.proofs.CutsLemmas.{Lacks-middle, FirstAt-lacks, FirstAt-once, FirstAt-or, LastAt-once, LastAt-or}
+use Rattle.krates_text.proofs.CutsLemmas.{Lacks-middle, FirstCut-lacks, FirstCut-once, FirstCut-or, LastCut-once, LastCut-or}
 use Rattle.krates_ids.proofs.SpecificationLemmas.{HasScheme-slash}
 
 -- ---- equal lists and outcomes
@@ -80,7 +80,7 @@ FragmentGives-once url whole f a b (inr h) (inr k) =
 
 PathGives-once : (url : Text) (a b : Result Text Text) → PathGives url a → PathGives url b → a ≡ b
 PathGives-once url a b h k =
-    let same = LastAt-once h.2 k.2 in
+    let same = LastCut-once h.2 k.2 in
     h.3 ∙ (rw (same.0, same.1) refl ∙ sym k.3)
 
 url_once : (end : Bool) (url : Text) (a b : Result Text Text) → MatchBool end (a ≡ Err ends_with_slash) (((HasScheme url → ⊥) × (a ≡ Err missing_scheme)) ⊎ (HasScheme url × PathGives url a)) → MatchBool end (b ≡ Err ends_with_slash) (((HasScheme url → ⊥) × (b ≡ Err missing_scheme)) ⊎ (HasScheme url × PathGives url b)) → a ≡ b
@@ -108,10 +108,10 @@ AroundHashGives-once url (c ∷ rest) a b h k =
 
 UrlTextGives-once : (t : Text) (a b : Outcome) → UrlTextGives t a → UrlTextGives t b → a ≡ b
 UrlTextGives-once t a b (inl h) (inl k) = UrlAloneGives-once t a b h.1 k.1
-UrlTextGives-once t a b (inl h) (inr k) = absurd (FirstAt-lacks h.0 k.2)
-UrlTextGives-once t a b (inr h) (inl k) = absurd (FirstAt-lacks k.0 h.2)
+UrlTextGives-once t a b (inl h) (inr k) = absurd (FirstCut-lacks h.0 k.2)
+UrlTextGives-once t a b (inr h) (inl k) = absurd (FirstCut-lacks k.0 h.2)
 UrlTextGives-once t a b (inr h) (inr k) =
-    let same = FirstAt-once h.2 k.2 in
+    let same = FirstCut-once h.2 k.2 in
     AroundHashGives-once k.0 k.1 a b (rw (same.0, same.1) at h.3) k.3
 
 LocatedGives-once : (t : Text) (a b : Outcome) → LocatedGives t a → LocatedGives t b → a ≡ b
@@ -180,7 +180,7 @@ fragment_of url whole f (inr h) = (both_sides url h.0 h.1, inr (h.0, h.1, h.2, r
 FragmentGives-some : (url : Option Text) (whole : Outcome) (f : Text) → (o : Outcome) × FragmentGives url whole f o
 FragmentGives-some url whole f = fragment_of url whole f (split_or f)
 
-path_of : (url : Text) → HasScheme url → Lacks slash url ⊎ ((x y : Text) × LastAt slash url x y) → (r : Result Text Text) × PathGives url r
+path_of : (url : Text) → HasScheme url → Lacks slash url ⊎ ((x y : Text) × LastCut slash url x y) → (r : Result Text Text) × PathGives url r
 path_of url scheme (inl none) = absurd (HasScheme-slash url none scheme)
 path_of url scheme (inr h) = (
   if ends_with ◌==◌ h.0 (codes ":/") then Err missing_path else Ok h.1,
@@ -194,7 +194,7 @@ url_of_end : (end : Bool) (url : Text) → HasScheme url ⊎ (HasScheme url → 
 url_of_end true url scheme = (Err ends_with_slash, refl)
 url_of_end false url (inr none) = (Err missing_scheme, inl (none, refl))
 url_of_end false url (inl scheme) =
-    let path = path_of url scheme (LastAt-or slash url) in
+    let path = path_of url scheme (LastCut-or slash url) in
     (path.0, inr (scheme, path.1))
 
 UrlGives-some : (url : Text) → (r : Result Text Text) × UrlGives url r
@@ -216,7 +216,7 @@ AroundHashGives-some url (c ∷ rest) =
     let o = WithFragment-some url (c ∷ rest) r.0 in
     (o.0, (r.0, r.1, o.1))
 
-url_text_of : (t : Text) → Lacks hash_sign t ⊎ ((x y : Text) × FirstAt hash_sign t x y) → (o : Outcome) × UrlTextGives t o
+url_text_of : (t : Text) → Lacks hash_sign t ⊎ ((x y : Text) × FirstCut hash_sign t x y) → (o : Outcome) × UrlTextGives t o
 url_text_of t (inl none) =
     let o = UrlAloneGives-some t in
     (o.0, inl (none, o.1))
@@ -225,7 +225,7 @@ url_text_of t (inr h) =
     (o.0, inr (h.0, h.1, h.2, o.1))
 
 UrlTextGives-some : (t : Text) → (o : Outcome) × UrlTextGives t o
-UrlTextGives-some t = url_text_of t (FirstAt-or hash_sign t)
+UrlTextGives-some t = url_text_of t (FirstCut-or hash_sign t)
 
 located_of : (t : Text) → HasScheme t ⊎ (HasScheme t → ⊥) → (o : Outcome) × LocatedGives t o
 located_of t (inl scheme) =
@@ -235,16 +235,16 @@ located_of t (inr none) =
     let o = UrlTextGives-some (default_scheme ++ t) in
     (o.0, inr (none, o.1))
 
-gives_of : (t : Text) → Lacks slash t ⊎ ((x y : Text) × FirstAt slash t x y) → (o : Outcome) × Gives t o
+gives_of : (t : Text) → Lacks slash t ⊎ ((x y : Text) × FirstCut slash t x y) → (o : Outcome) × Gives t o
 gives_of t (inl none) =
     let o = FragmentGives-some None (checked_name None None t) t in
     (o.0, inl (none, o.1))
 gives_of t (inr h) =
     let o = located_of t (scheme_or t) in
-    (o.0, inr (λ none. FirstAt-lacks none h.2, o.1))
+    (o.0, inr (λ none. FirstCut-lacks none h.2, o.1))
 
 pub Gives-some : (t : Text) → (o : Outcome) × Gives t o
-Gives-some t = gives_of t (FirstAt-or slash t)
+Gives-some t = gives_of t (FirstCut-or slash t)
 
 -- ---- specifications and refusals
 

@@ -7,14 +7,14 @@ use Rattle.std.proofs.lemmas.Bool.{false≢true}
 use Rattle.std.specs.Cmp.Lexicographic.{pointwise, bytes_decides}
 use Rattle.krates_cm.specs.Document.{Text, VersionModel}
 use Rattle.krates_cm.specs.Names.{version_named}
-use Rattle.krates_ids.specs.Cuts.{Lacks, Has, FirstAt, LastAt, CutsFirst}
+use Rattle.krates_text.specs.Cuts.{Lacks, Has, FirstCut, LastCut, CutsFirst}
 use Rattle.krates_ids.specs.Escapes.{Tells}
 use Rattle.krates_ids.specs.PackageSpecification.{Outcome, checked_name, begins_with_letter, IsUnsplit, AfterUrlGives, HasScheme, UrlGives, UrlTextGives, Gives, missing_scheme, missing_path, default_scheme, IsBeforeQuery, IsUrlOf}
 use Rattle.krates_ids.specs.Separators.{hash_sign, plus_sign, slash, colon, question_mark, at_sign}
 use Rattle.krates_ids.specs.SpecificationAnswers.{IsRefusedBy, Answers, Splits, version_outcome}
 use Rattle.krates_ids.specs.declared.error.Error.{Error}
 use Rattle.krates_ids.specs.declared.error.Error.TheVariants as errors
-use Rattle.krates_ids.proofs.CutsLemmas.{Lacks-middle, FirstAt-lacks, FirstAt-once}
+use Rattle.krates_text.proofs.CutsLemmas.{Lacks-middle, FirstCut-lacks, FirstCut-once}
 
 -- ---- answers
 
@@ -64,7 +64,7 @@ before_both c d (b ∷ x) y (b' ∷ x') y' none has none' e =
     (rw heads none.0, before_both c d x y x' y' none.1 (λ rest. has (rw (← heads) none'.0, rest)) none'.1 (cc))
 
 -- where an '@' stands before the first ':', the text is split at its first '@'
-pub Splits-at : (t x y : Text) (r : Option (Bor Text × Bor Text)) → FirstAt colon t x y → Has at_sign x → CutsFirst at_sign t r → Splits t r
+pub Splits-at : (t x y : Text) (r : Option (Bor Text × Bor Text)) → FirstCut colon t x y → Has at_sign x → CutsFirst at_sign t r → Splits t r
 Splits-at t x y None cut has none = absurd (has (Lacks-before at_sign colon x y (rw cut.is at none)))
 Splits-at t x y (Some p) cut has at_cut = record {
   separator = at_sign;
@@ -87,7 +87,7 @@ AfterUrl-version url piece fragment v unsplit letter read outcome is =
 -- ---- urls
 
 -- a fragment that is not empty stands after the url
-pub UrlText-fragment : (t url fragment piece : Text) → FirstAt hash_sign t url fragment → (length fragment == 0) ≡ false → UrlGives url (Ok piece) → (outcome : Outcome) → AfterUrlGives url piece fragment outcome → UrlTextGives t outcome
+pub UrlText-fragment : (t url fragment piece : Text) → FirstCut hash_sign t url fragment → (length fragment == 0) ≡ false → UrlGives url (Ok piece) → (outcome : Outcome) → AfterUrlGives url piece fragment outcome → UrlTextGives t outcome
 UrlText-fragment t url [] piece cut full path outcome h = absurd (false≢true (sym full))
 UrlText-fragment t url (b ∷ rest) piece cut full path outcome h = inr (url, b ∷ rest, cut, (Ok piece, path, h))
 
@@ -99,10 +99,10 @@ HasScheme-slash t none h =
 pub UrlGives-no_scheme : (url : Text) → ends_with ◌==◌ url (codes "/") ≡ false → (HasScheme url → ⊥) → UrlGives url (Err missing_scheme)
 UrlGives-no_scheme url end none = rw end (inl (none, refl))
 
-pub UrlGives-no_path : (url before piece : Text) → ends_with ◌==◌ url (codes "/") ≡ false → HasScheme url → LastAt slash url before piece → ends_with ◌==◌ before (codes ":/") ≡ true → UrlGives url (Err missing_path)
+pub UrlGives-no_path : (url before piece : Text) → ends_with ◌==◌ url (codes "/") ≡ false → HasScheme url → LastCut slash url before piece → ends_with ◌==◌ before (codes ":/") ≡ true → UrlGives url (Err missing_path)
 UrlGives-no_path url before piece end scheme cut bad = rw end (inr (scheme, (before, piece, cut, rw bad refl)))
 
-pub UrlGives-path : (url before piece : Text) → ends_with ◌==◌ url (codes "/") ≡ false → HasScheme url → LastAt slash url before piece → ends_with ◌==◌ before (codes ":/") ≡ false → UrlGives url (Ok piece)
+pub UrlGives-path : (url before piece : Text) → ends_with ◌==◌ url (codes "/") ≡ false → HasScheme url → LastCut slash url before piece → ends_with ◌==◌ before (codes ":/") ≡ false → UrlGives url (Ok piece)
 UrlGives-path url before piece end scheme cut good = rw end (inr (scheme, (before, piece, cut, rw good refl)))
 
 -- ---- whole texts
@@ -113,12 +113,12 @@ Gives-cargo t whole is has none outcome h = inr (has, inr (none, rw is at h))
 -- ---- the url of a source
 
 IsBeforeQuery-once : (s f f' : Text) → IsBeforeQuery s f → IsBeforeQuery s f' → f ≡ f'
-IsBeforeQuery-once s f f' (inl h) (inl k) = (FirstAt-once h.1 k.1).0
-IsBeforeQuery-once s f f' (inl h) (inr k) = absurd (FirstAt-lacks k.0 h.1)
-IsBeforeQuery-once s f f' (inr h) (inl k) = absurd (FirstAt-lacks h.0 k.1)
-IsBeforeQuery-once s f f' (inr (none, inl h)) (inr (none', inl k)) = (FirstAt-once h.1 k.1).0
-IsBeforeQuery-once s f f' (inr (none, inl h)) (inr (none', inr k)) = absurd (FirstAt-lacks k.0 h.1)
-IsBeforeQuery-once s f f' (inr (none, inr h)) (inr (none', inl k)) = absurd (FirstAt-lacks h.0 k.1)
+IsBeforeQuery-once s f f' (inl h) (inl k) = (FirstCut-once h.1 k.1).0
+IsBeforeQuery-once s f f' (inl h) (inr k) = absurd (FirstCut-lacks k.0 h.1)
+IsBeforeQuery-once s f f' (inr h) (inl k) = absurd (FirstCut-lacks h.0 k.1)
+IsBeforeQuery-once s f f' (inr (none, inl h)) (inr (none', inl k)) = (FirstCut-once h.1 k.1).0
+IsBeforeQuery-once s f f' (inr (none, inl h)) (inr (none', inr k)) = absurd (FirstCut-lacks k.0 h.1)
+IsBeforeQuery-once s f f' (inr (none, inr h)) (inr (none', inl k)) = absurd (FirstCut-lacks h.0 k.1)
 IsBeforeQuery-once s f f' (inr (none, inr h)) (inr (none', inr k)) = h.1 ∙ sym k.1
 
 -- a part of a text lacks what the text lacks
@@ -127,20 +127,20 @@ IsBeforeQuery-lacks c s f (inl h) none = Lacks-before c question_mark f h.0 (rw 
 IsBeforeQuery-lacks c s f (inr (unasked, inl h)) none = Lacks-before c hash_sign f h.0 (rw h.1.is at none)
 IsBeforeQuery-lacks c s f (inr (unasked, inr h)) none = rw h.1 none
 
-url_once : (s f u u' : Text) → IsBeforeQuery s f → (Lacks plus_sign s × (u ≡ f)) ⊎ ((kind : Text) × FirstAt plus_sign f kind u) → (Lacks plus_sign s × (u' ≡ f)) ⊎ ((kind : Text) × FirstAt plus_sign f kind u') → u ≡ u'
+url_once : (s f u u' : Text) → IsBeforeQuery s f → (Lacks plus_sign s × (u ≡ f)) ⊎ ((kind : Text) × FirstCut plus_sign f kind u) → (Lacks plus_sign s × (u' ≡ f)) ⊎ ((kind : Text) × FirstCut plus_sign f kind u') → u ≡ u'
 url_once s f u u' b (inl h) (inl k) = h.1 ∙ sym k.1
-url_once s f u u' b (inl h) (inr k) = absurd (FirstAt-lacks (IsBeforeQuery-lacks plus_sign s f b h.0) k.1)
-url_once s f u u' b (inr h) (inl k) = absurd (FirstAt-lacks (IsBeforeQuery-lacks plus_sign s f b k.0) h.1)
-url_once s f u u' b (inr h) (inr k) = (FirstAt-once h.1 k.1).1
+url_once s f u u' b (inl h) (inr k) = absurd (FirstCut-lacks (IsBeforeQuery-lacks plus_sign s f b h.0) k.1)
+url_once s f u u' b (inr h) (inl k) = absurd (FirstCut-lacks (IsBeforeQuery-lacks plus_sign s f b k.0) h.1)
+url_once s f u u' b (inr h) (inr k) = (FirstCut-once h.1 k.1).1
 
 pub IsUrlOf-once : (s u u' : Text) → IsUrlOf s u → IsUrlOf s u' → u ≡ u'
 IsUrlOf-once s u u' h k =
     let same = IsBeforeQuery-once s h.front k.front h.before_query k.before_query in
     url_once s k.front u u' k.before_query (rw same at h.is) k.is
 
-no_url : (s f u : Text) → Lacks plus_sign f → Has plus_sign s → (Lacks plus_sign s × (u ≡ f)) ⊎ ((kind : Text) × FirstAt plus_sign f kind u) → ⊥
+no_url : (s f u : Text) → Lacks plus_sign f → Has plus_sign s → (Lacks plus_sign s × (u ≡ f)) ⊎ ((kind : Text) × FirstCut plus_sign f kind u) → ⊥
 no_url s f u none has (inl h) = has h.0
-no_url s f u none has (inr h) = FirstAt-lacks none h.1
+no_url s f u none has (inr h) = FirstCut-lacks none h.1
 
 -- the comparison of a url with that of the source
 pub IsUrlOf-tells : (s found url : Text) (b : Bool) → b ≡ pointwise ◌==◌ found url → IsUrlOf s found → (IsTrue b) ↔ IsUrlOf s url

@@ -5,54 +5,54 @@ use Rattle.std.specs.Str.{IsUtf8}
 use Rattle.std.proofs.lemmas.Bool.{false≢true}
 use Rattle.percent_encoding.specs.Percent.{percent_decode}
 use Rattle.krates_cm.specs.Document.{Text}
-use Rattle.krates_ids.specs.Cuts.{Lacks, Has, FirstAt, LastAt}
+use Rattle.krates_text.specs.Cuts.{Lacks, Has, FirstCut, LastCut}
 use Rattle.krates_ids.specs.Escapes.{AreEscapes}
 use Rattle.krates_ids.specs.Identity.{IsNameOfPiece, NameInLeft, IsVersionAlone, IsStableForm, IsGitQuery, IsSource, as_written, decoded, is_git}
 use Rattle.krates_ids.specs.Separators.{hash_sign, percent_sign, slash, question_mark, at_sign}
 use Rattle.krates_ids.specs.Spans.{StandsAt, Marks}
 use Rattle.krates_ids.specs.StableParts.{StandsInLeft, TellsName, IsWithSource}
-use Rattle.krates_ids.proofs.CutsLemmas.{Lacks-middle, FirstAt-lacks, LastAt-once, LastAt-lacks}
+use Rattle.krates_text.proofs.CutsLemmas.{Lacks-middle, FirstCut-lacks, LastCut-once, LastCut-lacks}
 use Rattle.krates_ids.proofs.EscapesLemmas.{percent_decode-lacks, AreEscapes-lacks, IsUtf8-percent_decode}
 use Rattle.krates_ids.proofs.SpansLemmas.{IsUtf8-after_cut, IsUtf8-before_cut, IsUtf8-ascii_first, Marks-stands, StandsAt-whole, StandsAt-before, StandsAt-after, StandsAt-within}
 
 -- ---- the name in a left part
 
 pub NameInLeft-no_slash : (left : Text) → Lacks slash left → (n : Text) → NameInLeft left n → ⊥
-NameInLeft-no_slash left none n h = LastAt-lacks none h.cut
+NameInLeft-no_slash left none n h = LastCut-lacks none h.cut
 
-pub StandsInLeft-git : (left x piece n q : Text) (start : ℕ) → LastAt slash left x piece → is_git left ≡ true → LastAt question_mark piece n q → start ≡ length x + 1 → StandsInLeft left n start
+pub StandsInLeft-git : (left x piece n q : Text) (start : ℕ) → LastCut slash left x piece → is_git left ≡ true → LastCut question_mark piece n q → start ≡ length x + 1 → StandsInLeft left n start
 StandsInLeft-git left x piece n q start cut git inner at =
     record { found = record { before = x; piece = piece; cut = cut; name_is = rw git (inr (q, inner)) }; start_is = at }
 
-pub StandsInLeft-git_plain : (left x piece : Text) (start : ℕ) → LastAt slash left x piece → is_git left ≡ true → Lacks question_mark piece → start ≡ length x + 1 → StandsInLeft left piece start
+pub StandsInLeft-git_plain : (left x piece : Text) (start : ℕ) → LastCut slash left x piece → is_git left ≡ true → Lacks question_mark piece → start ≡ length x + 1 → StandsInLeft left piece start
 StandsInLeft-git_plain left x piece start cut git none at =
     record { found = record { before = x; piece = piece; cut = cut; name_is = rw git (inl (none, refl)) }; start_is = at }
 
-pub StandsInLeft-plain : (left x piece : Text) (start : ℕ) → LastAt slash left x piece → is_git left ≡ false → start ≡ length x + 1 → StandsInLeft left piece start
+pub StandsInLeft-plain : (left x piece : Text) (start : ℕ) → LastCut slash left x piece → is_git left ≡ false → start ≡ length x + 1 → StandsInLeft left piece start
 StandsInLeft-plain left x piece start cut git at =
     record { found = record { before = x; piece = piece; cut = cut; name_is = rw git refl }; start_is = at }
 
 -- ---- texts that are not of the form
 
 pub IsStableForm-no_hash : (t : Text) → Lacks hash_sign t → (l f n v : Text) → IsStableForm t l f n v → ⊥
-IsStableForm-no_hash t none l f n v s = LastAt-lacks none s.cut
+IsStableForm-no_hash t none l f n v s = LastCut-lacks none s.cut
 
-at_same : {c : ℕ} {f g x y : Text} → f ≡ g → FirstAt c g x y → FirstAt c f x y
+at_same : {c : ℕ} {f g x y : Text} → f ≡ g → FirstCut c g x y → FirstCut c f x y
 at_same e h = rw e h
 
 -- a fragment without '@' is the version alone
-version_alone : (t x fragment l f n v : Text) → LastAt hash_sign t x fragment → Lacks at_sign fragment → IsStableForm t l f n v → IsVersionAlone x fragment n v
+version_alone : (t x fragment l f n v : Text) → LastCut hash_sign t x fragment → Lacks at_sign fragment → IsStableForm t l f n v → IsVersionAlone x fragment n v
 version_alone t x fragment l f n v cut none s =
-    let same = LastAt-once cut s.cut in
-    ⊎_elim (λ e. absurd (FirstAt-lacks none (at_same same.1 e))) (λ e. rw (same.0, same.1) e) s.parts
+    let same = LastCut-once cut s.cut in
+    ⊎_elim (λ e. absurd (FirstCut-lacks none (at_same same.1 e))) (λ e. rw (same.0, same.1) e) s.parts
 
-pub IsStableForm-slash : (t x fragment : Text) → LastAt hash_sign t x fragment → Lacks at_sign fragment → Has slash fragment → (l f n v : Text) → IsStableForm t l f n v → ⊥
+pub IsStableForm-slash : (t x fragment : Text) → LastCut hash_sign t x fragment → Lacks at_sign fragment → Has slash fragment → (l f n v : Text) → IsStableForm t l f n v → ⊥
 IsStableForm-slash t x fragment cut none bad l f n v s = bad (version_alone t x fragment l f n v cut none s).no_slash
 
-pub IsStableForm-question_mark : (t x fragment : Text) → LastAt hash_sign t x fragment → Lacks at_sign fragment → Has question_mark fragment → (l f n v : Text) → IsStableForm t l f n v → ⊥
+pub IsStableForm-question_mark : (t x fragment : Text) → LastCut hash_sign t x fragment → Lacks at_sign fragment → Has question_mark fragment → (l f n v : Text) → IsStableForm t l f n v → ⊥
 IsStableForm-question_mark t x fragment cut none bad l f n v s = bad (version_alone t x fragment l f n v cut none s).no_query
 
-pub IsStableForm-no_name : (t x fragment : Text) → LastAt hash_sign t x fragment → Lacks at_sign fragment → ((n : Text) → NameInLeft x n → ⊥) → (l f n v : Text) → IsStableForm t l f n v → ⊥
+pub IsStableForm-no_name : (t x fragment : Text) → LastCut hash_sign t x fragment → Lacks at_sign fragment → ((n : Text) → NameInLeft x n → ⊥) → (l f n v : Text) → IsStableForm t l f n v → ⊥
 IsStableForm-no_name t x fragment cut none bad l f n v s = bad n (version_alone t x fragment l f n v cut none s).name_in_left
 
 -- ---- the source of a left part
@@ -61,12 +61,12 @@ pub IsSource-not_git : (left : Text) → is_git left ≡ false → IsSource left
 IsSource-not_git left other = as_written (λ front query q. false≢true (sym other ∙ q.git)) refl
 
 pub IsSource-no_query : (left : Text) → Lacks question_mark left → IsSource left left
-IsSource-no_query left none = as_written (λ front query q. LastAt-lacks none q.cut) refl
+IsSource-no_query left none = as_written (λ front query q. LastCut-lacks none q.cut) refl
 
 -- the last '?' stands before the last piece
-pub IsSource-slash : (left front query : Text) → LastAt question_mark left front query → Has slash query → IsSource left left
+pub IsSource-slash : (left front query : Text) → LastCut question_mark left front query → Has slash query → IsSource left left
 IsSource-slash left front query cut has =
-    as_written (λ front' query' q. has (rw (LastAt-once cut q.cut).1 q.in_last_piece)) refl
+    as_written (λ front' query' q. has (rw (LastCut-once cut q.cut).1 q.in_last_piece)) refl
 
 pub IsSource-no_percent : (left front query : Text) → IsGitQuery left front query → Lacks percent_sign query → IsSource left left
 IsSource-no_percent left front query q none =
@@ -90,8 +90,8 @@ name_before_query : (left name front query : Text) (h : NameInLeft left name) �
 name_before_query left name front query h q =
     let of_git : IsNameOfPiece true h.piece name = rw q.git at h.name_is in
     let inner = cut_inside slash question_mark (omega arith) h.before h.piece front query q.in_last_piece (sym h.cut.is ∙ q.cut.is) in
-    let whole : LastAt question_mark h.piece inner.0 query = record { is = inner.1; lacks = q.cut.lacks } in
-    ⊎_elim (λ e. absurd (LastAt-lacks e.0 whole)) (λ e. inner.2 ∙ ap (λ z. h.before ++ slash ∷ z) (LastAt-once whole e.1).0) of_git
+    let whole : LastCut question_mark h.piece inner.0 query = record { is = inner.1; lacks = q.cut.lacks } in
+    ⊎_elim (λ e. absurd (LastCut-lacks e.0 whole)) (λ e. inner.2 ∙ ap (λ z. h.before ++ slash ∷ z) (LastCut-once whole e.1).0) of_git
 
 in_piece : (git : Bool) (piece name : Text) → IsUtf8 piece → IsNameOfPiece git piece name → StandsAt piece name 0
 in_piece false piece name text is = rw is (StandsAt-whole piece)
@@ -116,7 +116,7 @@ StandsAt-decoded left name front query rest start q text h = record {
 
 -- ---- the parts in a text that is a source, '#' and the fragment
 
-name_in_source : (left source fragment name version : Text) (place : Option ℕ) → ((start : ℕ) → StandsInLeft left name start → StandsAt source name start) → TellsName left fragment name version place → MatchOption place (FirstAt at_sign fragment name version) (λ start. (version ≡ fragment) × StandsAt source name start)
+name_in_source : (left source fragment name version : Text) (place : Option ℕ) → ((start : ℕ) → StandsInLeft left name start → StandsAt source name start) → TellsName left fragment name version place → MatchOption place (FirstCut at_sign fragment name version) (λ start. (version ≡ fragment) × StandsAt source name start)
 name_in_source left source fragment name version None stands told = told
 name_in_source left source fragment name version (Some start) stands told = (told.0.version_is, stands start told.1)
 

@@ -7,7 +7,7 @@ use Rattle.std.specs.Ordering.{nat_cmp, on, then_cmp, eq_of_both}
 use Rattle.std.specs.Cmp.Lexicographic.{slice_cmp, pointwise}
 use Rattle.percent_encoding.specs.Percent.{percent_decode}
 use Rattle.krates_cm.specs.Document.{Text}
-use Rattle.krates_ids.specs.Cuts.{Lacks, Has, FirstAt, LastAt}
+use Rattle.krates_text.specs.Cuts.{Lacks, Has, FirstCut, LastCut}
 use Rattle.krates_ids.specs.Escapes.{AreEscapes}
 use Rattle.krates_ids.specs.Separators.{blank, hash_sign, percent_sign, opening, closing, slash, question_mark, at_sign}
 
@@ -30,7 +30,7 @@ empty_identity = record { text = []; name = []; version = []; source = []; is_op
 pub record EndsFromHash (t end : Text) : Type 0 where
   pub before : Text
   pub commit : Text
-  pub cut : LastAt hash_sign t before (commit ++ closing ∷ [])
+  pub cut : LastCut hash_sign t before (commit ++ closing ∷ [])
   pub is : end ≡ hash_sign ∷ (commit ++ closing ∷ [])
 
 -- what follows the source: ")" where the text has no '#', else all from its last '#' on
@@ -57,13 +57,13 @@ is_git left = starts_with ◌==◌ left git
 -- the name in the last piece of a left part: the piece, and for git what stands before its last '?', where it has one
 abbrev pub IsNameOfPiece : Bool → Text → Text → Type 0
 IsNameOfPiece false piece name = name ≡ piece
-IsNameOfPiece true piece name = (Lacks question_mark piece × (name ≡ piece)) ⊎ ((query : Text) × LastAt question_mark piece name query)
+IsNameOfPiece true piece name = (Lacks question_mark piece × (name ≡ piece)) ⊎ ((query : Text) × LastCut question_mark piece name query)
 
 -- the name stands in the left part, after its last '/'
 pub record NameInLeft (left name : Text) : Type 0 where
   pub before : Text
   pub piece : Text
-  pub cut : LastAt slash left before piece
+  pub cut : LastCut slash left before piece
   pub name_is : IsNameOfPiece (is_git left) piece name
 
 -- a fragment that is the version alone, beside a left part that has the name
@@ -77,13 +77,13 @@ pub record IsVersionAlone (left fragment name version : Text) : Type 0 where
 -- a text without a blank, cut at its last '#': the fragment is NAME "@" VERSION, or the version alone
 pub record IsStableForm (t left fragment name version : Text) : Type 0 where
   pub no_blank : Lacks blank t
-  pub cut : LastAt hash_sign t left fragment
-  pub parts : FirstAt at_sign fragment name version ⊎ IsVersionAlone left fragment name version
+  pub cut : LastCut hash_sign t left fragment
+  pub parts : FirstCut at_sign fragment name version ⊎ IsVersionAlone left fragment name version
 
 -- the query of a git source: what follows the last '?' of the left part's last piece
 pub record IsGitQuery (left front query : Text) : Type 0 where
   pub git : is_git left ≡ true
-  pub cut : LastAt question_mark left front query
+  pub cut : LastCut question_mark left front query
   pub in_last_piece : Lacks slash query
 
 -- the source that a left part gives: the left part as it is written, but for git with its query decoded, in one pass
@@ -154,9 +154,13 @@ pub record IsSameId (a b : Identity) : Type 0 where
 abbrev pub same_id : Identity → Identity → Bool
 same_id = eq_of_both (on (λ id. id.name) (pointwise ◌==◌)) (eq_of_both (on (λ id. id.version) (pointwise ◌==◌)) (on (λ id. id.source) (pointwise ◌==◌)))
 
+-- the order by three texts of each: by the first, then the second, then the third
+abbrev pub by_texts : {A : Type 0} → (first second third : A → Text) → A → A → Ordering
+by_texts first second third = then_cmp (on first (slice_cmp nat_cmp)) (then_cmp (on second (slice_cmp nat_cmp)) (on third (slice_cmp nat_cmp)))
+
 -- the order of ids
 abbrev pub id_cmp : Identity → Identity → Ordering
-id_cmp = then_cmp (on (λ id. id.name) (slice_cmp nat_cmp)) (then_cmp (on (λ id. id.version) (slice_cmp nat_cmp)) (on (λ id. id.source) (slice_cmp nat_cmp)))
+id_cmp = by_texts (λ id. id.name) (λ id. id.version) (λ id. id.source)
 
 -- what an id feeds a hasher
 abbrev pub id_hash_input : Identity → HashWrites

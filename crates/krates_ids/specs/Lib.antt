@@ -1,5 +1,4 @@
 pub mod Correction
-pub mod Cuts
 pub mod Escapes
 pub mod Identity
 pub mod MetadataError

@@ -6,7 +6,7 @@ use Rattle.std.specs.List.{list_all, ends_with}
 use Rattle.std.specs.Str.Iter.{HasSubslice}
 use Rattle.krates_cm.specs.Document.{Text, VersionModel, PackageModel}
 use Rattle.krates_cm.specs.Names.{version_named}
-use Rattle.krates_ids.specs.Cuts.{Lacks, FirstAt, LastAt}
+use Rattle.krates_text.specs.Cuts.{Lacks, FirstCut, LastCut}
 use Rattle.krates_ids.specs.Separators.{hash_sign, plus_sign, minus_sign, slash, colon, question_mark, at_sign, underscore}
 
 -- a package specification: a name, perhaps a version, and perhaps the url of a source
@@ -133,7 +133,7 @@ HasScheme t = HasSubslice t scheme_end
 
 -- the last piece of a url, after its last '/', or the text of its refusal; a '/' that ends the last "://" ends no path
 abbrev pub PathGives : Text → Result Text Text → Type 0
-PathGives url r = (before : Text) × (piece : Text) × LastAt slash url before piece
+PathGives url r = (before : Text) × (piece : Text) × LastCut slash url before piece
     × (r ≡ (if ends_with ◌==◌ before (codes ":/") then Err missing_path else Ok piece))
 
 -- the last piece of a url, or the text of the first refusal that is true of the url
@@ -162,7 +162,7 @@ AroundHashGives url (b ∷ rest) outcome = (r : Result Text Text) × UrlGives ur
 -- a text with a url is cut at its first '#'
 abbrev pub UrlTextGives : Text → Outcome → Type 0
 UrlTextGives t outcome = (Lacks hash_sign t × UrlAloneGives t outcome)
-    ⊎ ((url fragment : Text) × FirstAt hash_sign t url fragment × AroundHashGives url fragment outcome)
+    ⊎ ((url fragment : Text) × FirstCut hash_sign t url fragment × AroundHashGives url fragment outcome)
 
 -- ---- whole texts
 
@@ -189,15 +189,15 @@ IsSpecFault t refusal = Gives t (Err refusal)
 
 -- what stands before the query of a source, or else before its fragment
 abbrev pub IsBeforeQuery : Text → Text → Type 0
-IsBeforeQuery source front = ((query : Text) × FirstAt question_mark source front query)
-    ⊎ (Lacks question_mark source × (((fragment : Text) × FirstAt hash_sign source front fragment) ⊎ (Lacks hash_sign source × (front ≡ source))))
+IsBeforeQuery source front = ((query : Text) × FirstCut question_mark source front query)
+    ⊎ (Lacks question_mark source × (((fragment : Text) × FirstCut hash_sign source front fragment) ⊎ (Lacks hash_sign source × (front ≡ source))))
 
 -- the url of a source: from after the source's first '+', or from its start where it has none, to the query or the fragment.
 -- There is none where that end stands before the first '+'
 pub record IsUrlOf (source url : Text) : Type 0 where
   pub front : Text
   pub before_query : IsBeforeQuery source front
-  pub is : (Lacks plus_sign source × (url ≡ front)) ⊎ ((kind : Text) × FirstAt plus_sign front kind url)
+  pub is : (Lacks plus_sign source × (url ≡ front)) ⊎ ((kind : Text) × FirstCut plus_sign front kind url)
 
 -- the specification fits the package: the names are equal, the versions where one is given are equal in all five parts, and
 -- a url that is given is that of the package's source, where it has one

@@ -2,7 +2,7 @@
 use Rattle.std.specs.Prelude.{◌≡◌, ℕ, ◌+◌, ◌∷◌, ◌++◌, length, Option, MatchOption}
 use Rattle.std.specs.Borrow.{Bor}
 use Rattle.krates_cm.specs.Document.{Text}
-use Rattle.krates_ids.specs.Cuts.{FirstAt, Has}
+use Rattle.krates_text.specs.Cuts.{FirstCut, Has}
 use Rattle.krates_ids.specs.Identity.{NameInLeft, IsVersionAlone, IsGitQuery, IsSource}
 use Rattle.krates_ids.specs.Separators.{hash_sign, percent_sign, at_sign}
 use Rattle.krates_ids.specs.Spans.{StandsAt}
@@ -19,12 +19,12 @@ FindsName left r = MatchOption r ((name : Text) → NameInLeft left name → ⊥
 -- the parts of the fragment, and the place of a name that stands in the left part
 abbrev pub TellsName : Text → Text → Text → Text → Option ℕ → Type 0
 TellsName left fragment name version place =
-    MatchOption place (FirstAt at_sign fragment name version) (λ start. IsVersionAlone left fragment name version × StandsInLeft left name start)
+    MatchOption place (FirstCut at_sign fragment name version) (λ start. IsVersionAlone left fragment name version × StandsInLeft left name start)
 
 -- the text is a source, '#' and the fragment, and a name that stands in the left part stands at the same place in the source
 pub record IsWithSource (t source fragment name version : Text) (place : Option ℕ) : Type 0 where
   pub is : t ≡ source ++ hash_sign ∷ fragment
-  pub named : MatchOption place (FirstAt at_sign fragment name version) (λ start. (version ≡ fragment) × StandsAt source name start)
+  pub named : MatchOption place (FirstCut at_sign fragment name version) (λ start. (version ≡ fragment) × StandsAt source name start)
 
 -- the query that has to be decoded, and what stands before its '?'; else the source is the left part as it is written
 abbrev pub FindsEscapedQuery : Text → Option (Bor Text × Bor Text) → Type 0

@@ -1,7 +1,7 @@
 //! Texts that are cut at an ASCII character.
 
 ghost use Rattle.std.specs.Prelude.{◌<◌};
-ghost use Rattle.krates_ids.specs.Cuts.{CutsFirst, CutsLast, FollowsFront, ComesBeforeEnd, TellsHas};
+ghost use Rattle.krates_text.specs.Cuts.{CutsFirst, CutsLast, FollowsFront, ComesBeforeEnd, TellsHas};
 
 /// What stands before and after the first such character.
 pub(crate) fn cut_first(text: &str, c: char) -> Option<(&str, &str)>

@@ -6,7 +6,7 @@ ghost use Rattle.std.specs.Cmp.{partial_order_from_own_ties};
 ghost use Rattle.std.specs.Cmp.Rules.{comparing, hashing};
 ghost use Rattle.std.specs.Ordering.{as_partial_cmp};
 ghost use Rattle.krates_cm.specs.Document.{id_view};
-ghost use Rattle.krates_ids.specs.Cuts.{Lacks};
+ghost use Rattle.krates_text.specs.Cuts.{Lacks};
 ghost use Rattle.krates_ids.specs.Identity.{empty_identity, same_id, id_cmp, id_hash_input};
 ghost use Rattle.krates_ids.specs.Refusals.{Converts};
 ghost use Rattle.krates_ids.specs.Separators.{blank};

@@ -1,6 +1,6 @@
 //! Ids of the opaque form: `NAME VERSION (SOURCE)`, where a commit may follow the source after `#`.
 
-ghost use Rattle.krates_ids.specs.Cuts.{EndsWith};
+ghost use Rattle.krates_text.specs.Cuts.{EndsWith};
 ghost use Rattle.krates_ids.specs.OpaqueParts.{FindsSource, GivesOpaqueParts};
 
 use crate::cuts::{after_front, before_end, cut_first, cut_last};

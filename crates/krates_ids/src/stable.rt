@@ -2,7 +2,7 @@
 
 ghost use Rattle.std.specs.Prelude.{◌≡◌, IfSome, IfNone};
 ghost use Rattle.krates_cm.specs.Document.{Text};
-ghost use Rattle.krates_ids.specs.Cuts.{Lacks};
+ghost use Rattle.krates_text.specs.Cuts.{Lacks};
 ghost use Rattle.krates_ids.specs.Identity as identity;
 ghost use Rattle.krates_ids.specs.Identity.{IsStableForm};
 ghost use Rattle.krates_ids.specs.Separators.{blank};

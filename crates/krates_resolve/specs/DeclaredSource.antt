@@ -3,7 +3,7 @@ use Rattle.std.specs.Prelude.{◌≡◌, ◌⊎◌, ◌<◌, ◌==◌, ℕ, List
 use Rattle.std.specs.List.{slice_split}
 use Rattle.std.specs.Path.{IsAbsolute, IsRelative}
 use Rattle.krates_cm.specs.Document.{Text, DependencyModel}
-use Rattle.krates_ids.specs.Cuts.{Lacks, Has, LastAt}
+use Rattle.krates_text.specs.Cuts.{Lacks, Has, LastCut}
 use Rattle.krates_ids.specs.Separators.{blank, hash_sign}
 use Rattle.krates_text.specs.Path.{components}
 use Rattle.krates_text.specs.Text.{BeginsWith}
@@ -53,7 +53,7 @@ IsOpaque text = Has blank text
 
 -- what stands before the last '#', or the whole text where it has none
 abbrev pub IsWithoutCommit : Text → Text → Type 0
-IsWithoutCommit text front = ((commit : Text) × LastAt hash_sign text front commit) ⊎ (Lacks hash_sign text × (front ≡ text))
+IsWithoutCommit text front = ((commit : Text) × LastCut hash_sign text front commit) ⊎ (Lacks hash_sign text × (front ≡ text))
 
 -- what is compared of a declared git source: an opaque id has no commit in its source
 abbrev pub IsCompared : Text → Text → Text → Type 0

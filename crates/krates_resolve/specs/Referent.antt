@@ -1,11 +1,10 @@
 -- Which dependency a name in a feature reference means.
 use Rattle.std.specs.Prelude.{◌≡◌, ◌≢◌, ℕ, Contains}
-use Rattle.std.specs.Ordering.{nat_cmp, on, then_cmp}
-use Rattle.std.specs.Cmp.Lexicographic.{slice_cmp}
 use Rattle.std.specs.declared.cmp.Ordering.{Ordering}
 use Rattle.std.specs.declared.cmp.Ordering.TheVariants.{Greater}
 use Rattle.krates_cm.specs.Document.{Text, TargetModel, PackageModel, NodeDepModel, NodeModel}
 use Rattle.krates_cm.specs.declared.target.TargetKind.TheVariants.{Lib}
+use Rattle.krates_ids.specs.Identity.{by_texts}
 use Rattle.krates_resolve.specs.DeclaredDependency.{FirstAt}
 use Rattle.krates_resolve.specs.DependencyName.{IsNameOf}
 use Rattle.krates_resolve.specs.Facts.{Id}
@@ -26,7 +25,7 @@ pub data AnswersTo (r : Resolved) (child : Id) (d : NodeDepModel) (name : Text) 
 
 -- the order of ids: by name, version text and source, as bytes
 abbrev pub id_order : Id → Id → Ordering
-id_order = then_cmp (on (λ i. i.name) (slice_cmp nat_cmp)) (then_cmp (on (λ i. i.version) (slice_cmp nat_cmp)) (on (λ i. i.source) (slice_cmp nat_cmp)))
+id_order = by_texts (λ i. i.name) (λ i. i.version) (λ i. i.source)
 
 -- the node of the crate has this dependency, and it answers to the name
 pub record IsNamed (r : Resolved) (i : Id) (name : Text) (child : Id) : Type 0 where

@@ -1,7 +1,7 @@
 -- Which roots are chosen, and how a manifest is compared.
-use Rattle.std.specs.Prelude.{◌≡◌, List, [], ◌∷◌, Bool, Contains, MatchBool}
+use Rattle.std.specs.Prelude.{◌≡◌, List, [], Bool, Contains, MatchBool}
 use Rattle.krates_cm.specs.Document.{Text}
-use Rattle.krates_text.specs.Path.{components, IsParent}
+use Rattle.krates_text.specs.Path.{components}
 use Rattle.krates_resolve.specs.Facts.{Id}
 use Rattle.krates_resolve.specs.Resolved.{Resolved, id_of}
 use Rattle.krates_resolve.specs.Roots.{AsksForWorkspace, AsksForMembers, IsRoot}
@@ -14,14 +14,6 @@ pub record HasOneOf (paths : List Text) (path : Text) : Type 0 where
   pub other : Text
   pub among : Contains paths other
   pub same : components other ≡ components path
-
--- there is one manifest, and its directory is the workspace's
-pub record IsWorkspaceManifest (manifests : List Text) (workspace_root : Text) : Type 0 where
-  pub manifest : Text
-  pub alone : manifests ≡ manifest ∷ []
-  pub parent : Text
-  pub is_parent : IsParent manifest parent
-  pub is_root : components parent ≡ components workspace_root
 
 -- roots are chosen by manifests alone
 pub record AsksForManifests (r : Resolved) (s : SettingModel) : Type 0 where

@@ -1,18 +1,22 @@
 -- Which crates are the roots.
-use Rattle.std.specs.Prelude.{◌≡◌, [], ◌∷◌, true, false, Some, None, Contains}
+use Rattle.std.specs.Prelude.{◌≡◌, List, [], ◌∷◌, true, false, Some, None, Contains}
 use Rattle.krates_cm.specs.Document.{Text, PackageModel}
 use Rattle.krates_text.specs.Path.{components, IsParent}
 use Rattle.krates_resolve.specs.Facts.{Id}
 use Rattle.krates_resolve.specs.Resolved.{Resolved, ReadsAs, IsMember, HasPackage}
 use Rattle.krates_resolve.specs.Setting.{SettingModel}
 
--- one manifest is asked for, and it is that of the workspace itself
-pub record AsksForWorkspace (r : Resolved) (s : SettingModel) : Type 0 where
+-- there is one manifest, and its directory is the workspace's
+pub record IsWorkspaceManifest (manifests : List Text) (workspace_root : Text) : Type 0 where
   pub manifest : Text
-  pub alone : s.manifests ≡ manifest ∷ []
+  pub alone : manifests ≡ manifest ∷ []
   pub parent : Text
   pub is_parent : IsParent manifest parent
-  pub is_root : components parent ≡ components r.metadata.workspace_root
+  pub is_root : components parent ≡ components workspace_root
+
+-- one manifest is asked for, and it is that of the workspace itself
+abbrev pub AsksForWorkspace : Resolved → SettingModel → Type 0
+AsksForWorkspace r s = IsWorkspaceManifest s.manifests r.metadata.workspace_root
 
 -- every member is asked for: by the setting, or since the graph has no root, or by the manifest of the workspace
 pub data AsksForMembers (r : Resolved) (s : SettingModel) : Type 0 where

@@ -2,10 +2,11 @@
 use Rattle.std.specs.Prelude.{◌≡◌, ◌++◌, List, Bool, true, false, Option, MatchOption, Contains, ⊤, codes, map}
 use Rattle.std.specs.List.{AllZip}
 use Rattle.std.specs.Borrow.{Bor}
+use Rattle.std.specs.Path.{path_join}
 use Rattle.krates_cm.specs.Document.{Text, PackageModel}
 use Rattle.krates_ids.specs.PackageSpecification.{Specification, SpecFits}
 use Rattle.krates_text.specs.Passing.{Asked, TellsPassing}
-use Rattle.krates_text.specs.Path.{EndsWithPath, joined}
+use Rattle.krates_text.specs.Path.{EndsWithPath}
 use Rattle.krates_resolve.specs.Facts.{Edge}
 use Rattle.krates_resolve.specs.Kind.{kind_of, ignores}
 use Rattle.krates_resolve.specs.Resolved.{Resolved, IsMember}
@@ -33,7 +34,7 @@ cargo_toml = codes "Cargo.toml"
 -- the manifest that a path means: itself where it ends in the component `Cargo.toml`, else the path with that joined
 pub record IsManifestOf (path manifest : Text) : Type 0 where
   pub itself : EndsWithPath path cargo_toml → manifest ≡ path
-  pub within : (EndsWithPath path cargo_toml → ⊥) → manifest ≡ joined path cargo_toml
+  pub within : (EndsWithPath path cargo_toml → ⊥) → manifest ≡ path_join path cargo_toml
 
 -- the manifests of these paths are asked for too, and nothing else is changed
 pub record AsksForPaths (old new : SettingModel) (paths : List (Bor Text)) : Type 0 where

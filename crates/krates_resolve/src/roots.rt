@@ -10,8 +10,8 @@ ghost use Rattle.krates_resolve.specs.Found.{IsSound, Advances, HasFound, IsRoot
 ghost use Rattle.krates_resolve.specs.Lookup.{IsLookup, NodeAt, resolved_view};
 ghost use Rattle.krates_resolve.specs.Questions.{questions};
 ghost use Rattle.krates_resolve.specs.Resolved.{id_of, IsMember};
-ghost use Rattle.krates_resolve.specs.RootChoice.{IsChoice, IsWorkspaceManifest, AsksFor, HasOneOf};
-ghost use Rattle.krates_resolve.specs.Roots.{IsRoot, HasManifest};
+ghost use Rattle.krates_resolve.specs.RootChoice.{IsChoice, AsksFor, HasOneOf};
+ghost use Rattle.krates_resolve.specs.Roots.{IsRoot, HasManifest, IsWorkspaceManifest};
 ghost use Rattle.krates_resolve.specs.SelectionRefusals.{IsUnselected};
 
 use crate::enabling::{KeptNode, enable};

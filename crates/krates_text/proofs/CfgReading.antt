@@ -5,7 +5,7 @@ use Rattle.std.specs.List.{AllByRecursion}
 use Rattle.std.specs.Str.{bytes_eq}
 use Rattle.std.proofs.lemmas.Bool.{cases_Bool, ne_eqb, both_ways, or_from, or_parts, or_cases, lt-ltb, le-ltb}
 use Rattle.std.proofs.lemmas.Slice.Eq.{bytes_eq-Decides}
-use Rattle.krates_text.specs.Text.{Lacks}
+use Rattle.krates_text.specs.Cuts.{Lacks}
 use Rattle.krates_text.specs.CfgGrammar.{Tree, all_of, any_of, not_of, word, pair, Trees, no_trees, tree, added, is_blank, AreBlanks, IsPredicate, is_true, is_false, is_word, is_pair, is_not, is_all, is_any, IsRow, no_more, one_more, IsList, closed, with_last, max_nesting, Frame, in_not, in_all, in_any, is_word_start, is_word_part, IsWord, IsFreeWord, is_reserved, nesting, nesting_among, HasOpened, OpensTooMany, is_form}
 use Rattle.krates_text.specs.CfgReader.{Fault, too_deep, Place, at_predicate, in_word, after_word, at_string, in_string, after_predicate, at_end, State, at, step, step_word, step_after, run, and_then, leaf, read, result_of}
 

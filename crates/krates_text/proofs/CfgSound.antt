@@ -5,7 +5,7 @@ use Rattle.std.specs.List.{AllByRecursion}
 use Rattle.std.specs.Str.{bytes_eq}
 use Rattle.std.proofs.lemmas.Bool.{both_ways, cond_both, or_from, or_cases, eqb-true, eqb-false, ltb-true, ltb-false}
 use Rattle.std.proofs.lemmas.Slice.Eq.{bytes_eq-Decides}
-use Rattle.krates_text.specs.Text.{Lacks}
+use Rattle.krates_text.specs.Cuts.{Lacks}
 use Rattle.krates_text.specs.CfgGrammar.{Tree, constant, Trees, added, is_blank, AreBlanks, IsPredicate, is_true, is_false, is_word, is_pair, is_not, is_all, is_any, IsRow, no_more, one_more, closed, with_last, max_nesting, Frame, in_not, in_all, in_any, is_word_start, is_word_part, IsWord, IsFreeWord, is_reserved, is_form, nesting, HasOpened, OpensTooMany}
 use Rattle.krates_text.specs.CfgReader.{Fault, syntax', too_deep, Place, at_predicate, in_word, after_word, at_string, in_string, after_predicate, at_end, State, at, step, step_word, step_after, run, and_then, leaf, frame_for, opened, divided, closed_after, closed_before, read, result_of, finished}
 use Rattle.krates_text.proofs.CfgReading.{nesting-added}

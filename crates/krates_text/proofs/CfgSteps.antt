@@ -1,16 +1,16 @@
 -- A character is read as its bytes are, one after another.
-use Rattle.std.proofs.Common.{◌≡◌, ◌≢◌, ℕ, suc, ◌<◌, ◌≤◌, false, List, [], ◌∷◌, ◌++◌, length, get_or, refl, sym, ap, subst, ◌∙◌, arith, inl, inr, append-nil, eqb}
+use Rattle.std.proofs.Common.{◌≡◌, ◌≢◌, ℕ, ◌<◌, ◌≤◌, false, List, [], ◌∷◌, ◌++◌, length, get_or, refl, sym, ap, subst, ◌∙◌, arith, inl, inr, append-nil, eqb}
 use Rattle.std.specs.Prelude.{Result, Ok, Err, IsErrAnd, encode_utf8}
 use Rattle.std.proofs.lemmas.Bool.{cases_Bool, cases_lt, ne_eqb, or_from, and_right, lt-leb, eqb-true, eqb-false}
 use Rattle.std.proofs.lemmas.Str.{encode_ascii, length-le-encodes}
 use Rattle.std.proofs.lemmas.Str.Pattern.{NoCharPasses-char}
-use Rattle.krates_text.specs.Text.{Lacks}
 use Rattle.krates_text.specs.declared.cfg.CfgError.{CfgError}
 use Rattle.krates_text.specs.declared.cfg.CfgError.TheVariants as error
 use Rattle.krates_text.specs.CfgGrammar.{Tree, is_blank, is_word_start, is_word_part, is_form, Frame}
 use Rattle.krates_text.specs.CfgReader.{Fault, syntax', too_deep, Place, at_predicate, in_word, after_word, at_string, in_string, after_predicate, at_end, State, at, step, step_word, step_after, step_at, run, and_then, result_of}
 use Rattle.krates_text.specs.CfgPlaces.{Fails, GivesTree}
 use Rattle.krates_text.specs.declared.cfg.predicate.Predicate.{Predicate}
+use Rattle.krates_text.proofs.CutsLemmas.{Lacks-from_reads}
 use Rattle.krates_text.proofs.CfgReading.{run-append, read_string}
 
 then_ok : (r : Result State Fault) → and_then r (λ t. Ok t) ≡ r
@@ -23,11 +23,6 @@ len_some c = omega (arith, length-le-encodes (c ∷ []), ap length (append-nil (
 -- the bytes of a character are none of another's
 other_bytes : (c k : ℕ) → k < 128 → c ≢ k → (i : ℕ) → i < length (encode_utf8 c) → get_or (encode_utf8 c) i 0 ≢ k
 other_bytes c k small differs i within = NoCharPasses-char k (encode_utf8 c) i (c ∷ [], append-nil (encode_utf8 c), (ne_eqb c k differs, tt)) small within
-
--- no byte of another character is the quote
-lacks_from_places : (byte : ℕ) (text : List ℕ) → ((i : ℕ) → i < length text → get_or text i 0 ≢ byte) → Lacks byte text
-lacks_from_places byte [] h = tt
-lacks_from_places byte (b ∷ text) h = (h 0 (omega arith), lacks_from_places byte text (λ i within. h (suc i) (omega arith)))
 
 -- past ASCII there are no blanks, words or signs
 big_blank : (c : ℕ) → 128 ≤ c → is_blank c ≡ false
@@ -83,7 +78,7 @@ unfolding step
 in_a_string fs key string c = elim (cases_Bool (eqb c 34)) [
   | inl e ↦ rw e (sym (ap (run (at fs (in_string key string))) (ap encode_utf8 (eqb-true c 34 e) ∙ encode_ascii 34 (omega arith))))
   | inr e ↦ rw e (sym (ap (run (at fs (in_string key string))) (sym (append-nil (encode_utf8 c)))
-      ∙ read_string fs key string (encode_utf8 c) [] (lacks_from_places 34 (encode_utf8 c) (other_bytes c 34 (omega arith) (eqb-false c 34 e)))))
+      ∙ read_string fs key string (encode_utf8 c) [] (Lacks-from_reads 34 (encode_utf8 c) (other_bytes c 34 (omega arith) (eqb-false c 34 e)))))
 ]
 
 -- a character is read as its bytes

@@ -1,4 +1,5 @@
 pub mod Text
+pub mod CutsLemmas
 pub mod FeatureReference
 pub mod PathLemmas
 pub mod TargetTable

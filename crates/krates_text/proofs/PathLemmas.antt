@@ -6,7 +6,8 @@ use Rattle.std.specs.Path.{slash, root_dir, cur_dir, first_piece, later_pieces, 
 use Rattle.std.proofs.lemmas.Bool.{cases_Bool, ne_eqb, eqb-true, both_ways}
 use Rattle.std.proofs.lemmas.Slice.Eq.{bytes_eq-Decides}
 use Rattle.std.proofs.lemmas.List.Elements.{filter-append}
-use Rattle.krates_text.specs.Text.{BeginsWith, Lacks, IsCutAtLast}
+use Rattle.krates_text.specs.Cuts.{Lacks, LastCut}
+use Rattle.krates_text.specs.Text.{BeginsWith}
 use Rattle.krates_text.specs.Path.{pieces, names, start, components, HasNoParent, IsParent, SplitsLast, or_root}
 
 by_cases : {X : Type 0} (b : Bool) → (b ≡ true → X) → (b ≡ false → X) → X
@@ -112,20 +113,20 @@ pub record IsTrimming (path rest : List ℕ) : Type 0 where
 pub not_trimmed : (path : List ℕ) → IsTrimming path path
 not_trimmed path = record { begins = record { rest = []; is = sym (append-nil path) }; same = refl }
 
-trimming_begins : (path rest before piece : List ℕ) → IsTrimming path rest → IsCutAtLast slash rest before piece → BeginsWith (or_root before) path
+trimming_begins : (path rest before piece : List ℕ) → IsTrimming path rest → LastCut slash rest before piece → BeginsWith (or_root before) path
 trimming_begins path rest before piece t cut = begins_before before piece path (subst (λ r. BeginsWith r path) cut.is t.begins)
 
 -- a piece that is no name is taken off
-pub trim_more : (path rest before piece : List ℕ) → IsTrimming path rest → IsCutAtLast slash rest before piece → is_name piece ≡ false → IsTrimming path (or_root before)
+pub trim_more : (path rest before piece : List ℕ) → IsTrimming path rest → LastCut slash rest before piece → is_name piece ≡ false → IsTrimming path (or_root before)
 trim_more path rest before piece t cut other = record {
   begins = trimming_begins path rest before piece t cut;
-  same = t.same ∙ ap components cut.is ∙ components-trailing before piece cut.last other;
+  same = t.same ∙ ap components cut.is ∙ components-trailing before piece cut.lacks other;
 }
 
 -- the last piece is a name
-pub splits_at_name : (path rest before piece : List ℕ) → IsTrimming path rest → IsCutAtLast slash rest before piece → is_name piece ≡ true → SplitsLast path (or_root before) rest
+pub splits_at_name : (path rest before piece : List ℕ) → IsTrimming path rest → LastCut slash rest before piece → is_name piece ≡ true → SplitsLast path (or_root before) rest
 splits_at_name path rest before piece t cut e =
-    let parts : components rest ≡ components (or_root before) ++ piece ∷ [] = ap components cut.is ∙ components-name before piece cut.last e in
+    let parts : components rest ≡ components (or_root before) ++ piece ∷ [] = ap components cut.is ∙ components-name before piece cut.lacks e in
     let none : components (before ++ slash ∷ []) ≡ components (or_root before) = components-slash before [] ∙ append-nil (components (or_root before)) in
     record {
       begins = t.begins;
@@ -137,7 +138,7 @@ splits_at_name path rest before piece t cut e =
         is = cut.is ∙ sym (append_assoc before (slash ∷ []) piece);
         parts = parts ∙ ap (λ l. l ++ piece ∷ []) (sym none);
       });
-      named = λ some other. (piece, parts, lacks_not_root piece cut.last);
+      named = λ some other. (piece, parts, lacks_not_root piece cut.lacks);
     }
 
 pub or_root-empty : (before : List ℕ) → eqb (length before) 0 ≡ true → or_root before ≡ root_dir

@@ -1,14 +1,13 @@
 -- Laws of texts that are cut at a separator.
-use Rattle.std.proofs.Common.{◌≡◌, ◌≢◌, ℕ, ◌+◌, ◌<◌, ◌≤◌, suc, List, [], ◌∷◌, ◌++◌, length, get_or, take, drop, refl, sym, arith, ◌⊎◌, inl, inr, eqb, take-append-drop}
+use Rattle.std.proofs.Common.{◌≡◌, ℕ, ◌+◌, ◌<◌, ◌≤◌, suc, List, [], ◌∷◌, ◌++◌, length, take, drop, refl, arith, ◌⊎◌, inl, inr}
 use Rattle.std.specs.Prelude.{MatchOption, Option, Some, None}
-use Rattle.std.specs.Str.{NoCharPasses}
-use Rattle.std.specs.Str.Pattern.{FindsText, RFindsChar, HasCharAt}
+use Rattle.std.specs.Str.Pattern.{FindsText}
 use Rattle.std.specs.Borrow.{Bor}
-use Rattle.std.proofs.lemmas.Str.Pattern.{split_text_parts, NoCharPasses-char, drop_at_char}
+use Rattle.std.proofs.lemmas.Str.Pattern.{split_text_parts}
 use Rattle.std.proofs.lemmas.List.{append_cancel_left}
 use Rattle.std.proofs.lemmas.Bool.Decides.{eqb_tells}
 use Rattle.std.proofs.Math.Seq.{drop-append_seam}
-use Rattle.krates_text.specs.Text.{BeginsWith, LacksText, IsCutAtFirst, Lacks, IsCutAtLast, CutsAtLast}
+use Rattle.krates_text.specs.Text.{BeginsWith, LacksText, IsCutAtFirst}
 
 -- the clause of `split_once` at a text
 abbrev pub IsSplitOnceResult : List ℕ → List ℕ → Option (Bor (List ℕ) × Bor (List ℕ)) → Type 0
@@ -93,25 +92,3 @@ cut_once separator text a b x y h k =
     let both : a ++ (separator ++ b) ≡ x ++ (separator ++ y) = let e = h.is in let f = k.is in cc in
     let parts = same_front a x (separator ++ b) (separator ++ y) (omega arith) both in
     (parts.0, append_cancel_left separator b y parts.1)
-
--- a byte that stands at no place
-lacks_at_places : (byte : ℕ) (text : List ℕ) → ((i : ℕ) → i < length text → get_or text i 0 ≢ byte) → Lacks byte text
-lacks_at_places byte [] h = tt
-lacks_at_places byte (b ∷ text) h = (h 0 (omega arith), lacks_at_places byte text (λ i within. h (suc i) (omega arith)))
-
--- the clause of `rsplit_once` at an ASCII character
-abbrev pub IsRSplitOnceResult : ℕ → List ℕ → Option (Bor (List ℕ) × Bor (List ℕ)) → Type 0
-IsRSplitOnceResult c bs r = MatchOption r (RFindsChar c bs None) (λ x. (i : ℕ) × (j : ℕ) × RFindsChar c bs (Some (i, j)) × (x.0.now ≡ take i bs) × (x.1.now ≡ drop j bs) × (i ≤ j) × (length x.0.now ≡ i) × (length x.1.now + j ≡ length bs))
-
-last_place : (c : ℕ) (t x y : List ℕ) (i j : ℕ) → NoCharPasses (λ d. eqb d c) (drop j t) → HasCharAt c t i j → x ≡ take i t → y ≡ drop j t → c < 128 → IsCutAtLast c t x y
-last_place c t x y i j none has front back small =
-    let there : drop i t ≡ c ∷ drop j t = drop_at_char c t i j has small in
-    record {
-      is = rw (front, back, ← there) (sym (take-append-drop i t));
-      last = rw back (lacks_at_places c (drop j t) (λ k within. NoCharPasses-char c (drop j t) k none small within));
-    }
-
--- `rsplit_once` at a character cuts at its last place
-pub cuts_at_last : (c : ℕ) (t : List ℕ) (r : Option (Bor (List ℕ) × Bor (List ℕ))) → IsRSplitOnceResult c t r → c < 128 → CutsAtLast c t r
-cuts_at_last c t None h small = lacks_at_places c t (λ i within. NoCharPasses-char c t i h small within)
-cuts_at_last c t (Some p) h small = last_place c t p.0.now p.1.now h.0 h.1 h.2.0 h.2.1 h.3 h.4 small

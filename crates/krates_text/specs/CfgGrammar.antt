@@ -2,7 +2,7 @@
 use Rattle.std.specs.Prelude.{◌≡◌, ℕ, suc, ◌+◌, ◌≤◌, ◌==◌, ◌&&◌, ◌||◌, Bool, true, false, nat_le, max, List, [], ◌∷◌, ◌++◌, length, codes, IsTrue}
 use Rattle.std.specs.List.{AllByRecursion}
 use Rattle.std.specs.Str.{bytes_eq}
-use Rattle.krates_text.specs.Text.{Lacks}
+use Rattle.krates_text.specs.Cuts.{Lacks}
 
 -- a predicate, which may hold other predicates
 mutual

@@ -1,7 +1,7 @@
 -- What a path is made of: texts with `/` as the separator, compared as they are written.
 use Rattle.std.specs.Prelude.{◌≡◌, ◌≢◌, ◌⊎◌, ℕ, ◌==◌, if◌then◌else◌, List, [], ◌∷◌, ◌++◌, filter, slice_index}
 use Rattle.std.specs.Str.{bytes_eq}
-use Rattle.std.specs.Path.{slash, root_dir, cur_dir, first_piece, later_pieces, is_name, with_separator}
+use Rattle.std.specs.Path.{slash, root_dir, cur_dir, first_piece, later_pieces, is_name}
 use Rattle.krates_text.specs.Text.{BeginsWith}
 
 -- the pieces between the slashes, the first of them before all slashes
@@ -39,11 +39,6 @@ pub record IsParent (text parent : List ℕ) : Type 0 where
   pub not_root : last ≢ root_dir
   pub others : components text ≡ components parent ++ last ∷ []
   pub ends : (parent ≡ []) ⊎ EndsWithComponent parent
-
--- a path that begins with `/` stands for itself; any other follows the base, with a slash between where the base
--- has none at its end and isn't empty
-abbrev pub joined : List ℕ → List ℕ → List ℕ
-joined base path = if slice_index path 0 == slash then path else with_separator base ++ path
 
 -- the components of the end are the last ones of the path
 abbrev pub EndsWithPath : List ℕ → List ℕ → Type 0

@@ -1,9 +1,9 @@
 //! Paths as texts, with `/` as the separator. They are compared by their components as they are written: nothing is
 //! looked up, and `..` is a name like others.
 ghost use Rattle.std.specs.Prelude.{◌≡◌, ◌↔◌, ◌<◌, MatchOption, IfOk, IsTrue, string_bytes};
-ghost use Rattle.std.specs.Path.{components_remaining, is_name, slash};
-ghost use Rattle.krates_text.specs.Text.{CutsAtLast};
-ghost use Rattle.krates_text.specs.Path.{components, HasNoParent, IsParent, EndsWithPath, joined, SplitsLast, or_root};
+ghost use Rattle.std.specs.Path.{components_remaining, is_name, path_join, slash};
+ghost use Rattle.krates_text.specs.Cuts.{CutsLast};
+ghost use Rattle.krates_text.specs.Path.{components, HasNoParent, IsParent, EndsWithPath, SplitsLast, or_root};
 
 use std::alloc::{AllocError, Global};
 use std::path::{Components, Path};
@@ -32,7 +32,7 @@ pub fn parent(path: &str) -> Option<&str>
 /// The path `path` as it is meant at `base`: itself where it begins with `/`, and else the two with a `/` between
 /// unless the base is empty or ends with one. The only error is want of memory.
 pub fn join(alloc: Global, base: &str, path: &str) -> Result<String, AllocError>
-    ensures { IfOk result (λ s. string_bytes s ≡ joined base.now path.now) }
+    ensures { IfOk result (λ s. string_bytes s ≡ path_join base.now path.now) }
 {
     Ok(Path::new(base).join(alloc, path)?.into_string())
 }
@@ -70,7 +70,7 @@ fn split_last(path: &str) -> (&str, &str)
 
 /// The two sides of the last `/`.
 fn cut_at_last_slash(text: &str) -> Option<(&str, &str)>
-    ensures { CutsAtLast slash text.now result }
+    ensures { CutsLast slash text.now result }
 {
     text.rsplit_once('/')
 }

@@ -1,4 +1,4 @@
-use Rattle.krates_ids.proofs.CutsLemmas.{CutsFirst-split_once}
+use Rattle.krates_text.proofs.CutsLemmas.{CutsFirst-split_once}
 use Rattle.krates_ids.proofs.cuts.cut_first.Goals as goal
 
 pub returns : goal.returns

@@ -1,4 +1,4 @@
-use Rattle.krates_ids.proofs.CutsLemmas.{CutsLast-rsplit_once}
+use Rattle.krates_text.proofs.CutsLemmas.{CutsLast-rsplit_once}
 use Rattle.krates_ids.proofs.cuts.cut_last.Goals as goal
 
 pub returns : goal.returns

@@ -1,4 +1,4 @@
-use Rattle.krates_ids.proofs.CutsLemmas.{TellsHas-cut}
+use Rattle.krates_text.proofs.CutsLemmas.{TellsHas-cut}
 use Rattle.krates_ids.proofs.cuts.has.Goals as goal
 
 pub returns : goal.returns

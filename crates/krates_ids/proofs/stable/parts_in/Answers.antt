@@ -1,5 +1,5 @@
 use Rattle.std.proofs.Common.{◌+◌, arith, refl, length}
-use Rattle.krates_ids.specs.Cuts.{FirstAt}
+use Rattle.krates_text.specs.Cuts.{FirstCut}
 use Rattle.krates_ids.specs.Separators.{at_sign}
 use Rattle.krates_ids.proofs.SpansLemmas.{IsUtf8-after_cut, StandsAt-before, StandsAt-after, StandsAt-within}
 use Rattle.krates_ids.proofs.StableLemmas.{StandsAt-fragment, Marks-source}
@@ -21,13 +21,13 @@ returns-in-Some c = λ source whole.
 
 pub span_of-requires-in-None : goal.span_of-requires-in-None
 span_of-requires-in-None c =
-    let named : FirstAt at_sign c.args.stable.fragment.now c.args.stable.name.now c.args.stable.version.now = rw c.in-None.is at c.requires.1.named in
+    let named : FirstCut at_sign c.args.stable.fragment.now c.args.stable.name.now c.args.stable.version.now = rw c.in-None.is at c.requires.1.named in
     let text = IsUtf8-after_cut _ _ _ _ (omega arith) c.utf8.text c.requires.1.is in
     StandsAt-within _ _ _ _ 0 _ (StandsAt-fragment _ _ _ _ c.requires.1.is refl) (StandsAt-before _ _ _ _ (omega arith) text named.is) (omega arith)
 
 pub span_of-requires-in-None-2 : goal.span_of-requires-in-None-2
 span_of-requires-in-None-2 c =
-    let named : FirstAt at_sign c.args.stable.fragment.now c.args.stable.name.now c.args.stable.version.now = rw c.in-None.is at c.requires.1.named in
+    let named : FirstCut at_sign c.args.stable.fragment.now c.args.stable.name.now c.args.stable.version.now = rw c.in-None.is at c.requires.1.named in
     StandsAt-within _ _ _ _ (length c.args.stable.name.now + 1) _ (StandsAt-fragment _ _ _ _ c.requires.1.is refl) (StandsAt-after _ _ _ _ _ named.is refl) (omega arith)
 
 pub returns-in-None : goal.returns-in-None

@@ -1,29 +1,15 @@
-use Rattle.std.proofs.Common.{◌≡◌, ◌↔◌, ℕ, Bool, [], ◌∷◌, ◌++◌, IsTrue, refl, sym, ◌∙◌, subst, inl, inr}
+use Rattle.std.proofs.Common.{◌≡◌, ◌↔◌, Bool, ◌++◌, IsTrue, sym, ◌∙◌, subst, inl, inr}
 use Rattle.std.proofs.lemmas.List.{append_cancel_left}
 use Rattle.std.proofs.lemmas.Slice.Eq.{bytes_eq-Decides}
 use Rattle.krates_cm.specs.Document.{Text}
-use Rattle.krates_ids.specs.Cuts.{Lacks}
-use Rattle.krates_ids.specs.Separators.{hash_sign}
+use Rattle.krates_text.proofs.CutsLemmas.{LastCut-once, LastCut-lacks}
 use Rattle.krates_resolve.specs.DeclaredSource.{git_start, IsWithoutCommit, IsCompared, IsSameSource}
 use Rattle.krates_resolve.proofs.declared_source.is_same_source.Goals as goal
 
-lacks_middle : (c : ℕ) (x y : Text) → Lacks c (x ++ c ∷ y) → ⊥
-lacks_middle c [] y lacks = lacks.0 refl
-lacks_middle c (b ∷ x) y lacks = lacks_middle c x y lacks.1
-
--- a text is cut at its last such byte in one way
-cut_once : (c : ℕ) (x y x' y' : Text) → Lacks c y → Lacks c y' → x ++ c ∷ y ≡ x' ++ c ∷ y' → x ≡ x'
-cut_once c [] y [] y' l m e = refl
-cut_once c [] y (b ∷ x') y' l m e = absurd (lacks_middle c x' y' (subst (Lacks c) (cc) l))
-cut_once c (b ∷ x) y [] y' l m e = absurd (lacks_middle c x y (subst (Lacks c) (cc) m))
-cut_once c (b ∷ x) y (d ∷ x') y' l m e =
-    let rest = cut_once c x y x' y' l m (cc) in
-    cc
-
 one_without_commit : (text x y : Text) → IsWithoutCommit text x → IsWithoutCommit text y → x ≡ y
-one_without_commit text x y (inl a) (inl b) = cut_once hash_sign x a.0 y b.0 a.1.lacks b.1.lacks (sym a.1.is ∙ b.1.is)
-one_without_commit text x y (inl a) (inr b) = absurd (lacks_middle hash_sign x a.0 (subst (Lacks hash_sign) a.1.is b.0))
-one_without_commit text x y (inr a) (inl b) = absurd (lacks_middle hash_sign y b.0 (subst (Lacks hash_sign) b.1.is a.0))
+one_without_commit text x y (inl a) (inl b) = (LastCut-once a.1 b.1).0
+one_without_commit text x y (inl a) (inr b) = absurd (LastCut-lacks b.0 a.1)
+one_without_commit text x y (inr a) (inl b) = absurd (LastCut-lacks a.0 b.1)
 one_without_commit text x y (inr a) (inr b) = a.1 ∙ sym b.1
 
 -- one text is compared

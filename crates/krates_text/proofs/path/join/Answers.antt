@@ -3,5 +3,4 @@ use Rattle.std.specs.Path.{path_join}
 use Rattle.krates_text.proofs.path.join.Goals as goal
 
 pub returns : goal.returns
-unfolding path_join
 returns c = c.into_string.ensures ∙ c.in_ok-join.ensures ∙ ap (λ base. path_join base c.args.path.now) c.new.ensures
