@@ -1,3 +1,4 @@
+pub mod CheckedLemmas
 pub mod ComparisonLemmas
 pub mod CorrectedLemmas
 pub mod CorrectionLemmas

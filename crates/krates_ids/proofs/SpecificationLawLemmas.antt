@@ -1,17 +1,16 @@
 -- Each text gives exactly one outcome: it is one specification, or has one refusal.
-use Rattle.std.proofs.Common.{◌≡◌, ◌≢◌, ℕ, [], ◌∷◌, ◌++◌, Bool, true, false, refl, sym, ap, ◌∙◌, inl, inr}
-use Rattle.std.specs.Prelude.{◌⊎◌, ◌==◌, if◌then◌else◌, MatchBool, Option, Some, None, Result, Ok, Err, IfOk, IfErr, codes}
-use Rattle.std.specs.List.{ends_with}
-use Rattle.std.specs.Str.Iter.{HasSubslice}
-use Rattle.std.proofs.lemmas.Bool.{cases_eq}
+use Rattle.std.proofs.Common.{◌≡◌, ◌≢◌, ℕ, [], ◌∷◌, ◌++◌, true, false, refl, sym, ap, ◌∙◌, inl, inr, ⊎_elim}
+use Rattle.std.specs.Prelude.{◌⊎◌, Option, Some, None, Result, Ok, Err, IfOk, IfErr}
+use Rattle.std.proofs.lemmas.Bool.{cases_Bool, cases_eq, false≢true}
 use Rattle.krates_cm.specs.Document.{Text}
 use Rattle.krates_text.specs.Cuts.{Lacks, FirstCut, LastCut}
-use Rattle.krates_ids.specs.PackageSpecification.{Specification, Outcome, SplitAt, IsUnsplit, FragmentGives, HasScheme, PathGives, UrlGives, UrlAloneGives, WithFragment, AroundHashGives, UrlTextGives, LocatedGives, Gives, IsSpec, IsSpecFault, both_sides, checked_name, url_alone, whole_fragment, ends_with_slash, ends_with_hash, missing_scheme, missing_path, default_scheme}
+use Rattle.krates_ids.specs.PackageSpecification.{Specification, Outcome, Checks, checked, SplitAt, IsUnsplit, IsFragment, is_split, is_name_alone, is_version_alone, scheme_end, HasScheme, IsUrl, with_scheme, without_scheme, IsLocated, url_alone, with_fragment, IsText, a_fragment, a_url, a_short_url, Gives, IsSpec, IsSpecFault, begins_with_letter, default_scheme}
 use Rattle.krates_ids.specs.Separators.{hash_sign, slash, colon, at_sign}
 use Rattle.krates_ids.specs.SpecificationAnswers.{spec_view, IsRefusedBy, Answers}
 use Rattle.krates_ids.specs.declared.error.Error.{Error}
 use Rattle.krates_ids.specs.declared.error.Error.TheVariants as errors
 use Rattle.krates_ids.specs.declared.pkgspec.PkgSpec.{PkgSpec}
+use Rattle.krates_text.proofs.Text.{cut_or_lacks}
 use Rattle.krates_text.proofs.CutsLemmas.{Lacks-middle, FirstCut-lacks, FirstCut-once, FirstCut-or, LastCut-once, LastCut-or}
 use Rattle.krates_ids.proofs.SpecificationLemmas.{HasScheme-slash}
 
@@ -23,15 +22,6 @@ the_ok a = Ok a
 abbrev the_err : Text → Outcome
 the_err t = Err t
 
-heads : {a b : ℕ} {t n : Text} → a ∷ t ≡ b ∷ n → a ≡ b
-heads e = cc
-
-tails : {a b : ℕ} {t n : Text} → a ∷ t ≡ b ∷ n → t ≡ n
-tails e = cc
-
-no_cons : {b : ℕ} {n : Text} → [] ≡ b ∷ n → ⊥
-no_cons e = cc
-
 ok_same : {a b : Specification} → the_ok a ≡ the_ok b → a ≡ b
 ok_same e = cc
 
@@ -40,6 +30,15 @@ err_same e = cc
 
 ok_no_err : {a : Specification} {b : Text} → the_ok a ≡ the_err b → ⊥
 ok_no_err e = cc
+
+abbrev the_some : Text → Option Text
+the_some t = Some t
+
+some_same : {a b : Text} → the_some a ≡ the_some b → a ≡ b
+some_same e = cc
+
+none_is_some : {a : Text} → None ≡ the_some a → ⊥
+none_is_some e = cc
 
 -- ---- at most one
 
@@ -70,62 +69,67 @@ SplitAt-unsplit : (t x y : Text) → IsUnsplit t → SplitAt t x y → ⊥
 SplitAt-unsplit t x y u h =
     unsplit_lacks h.separator x y (rw h.is at u.no_colon) (rw h.is at u.no_at) h.is_separator
 
-FragmentGives-once : (url : Option Text) (whole : Outcome) (f : Text) (a b : Outcome) → FragmentGives url whole f a → FragmentGives url whole f b → a ≡ b
-FragmentGives-once url whole f a b (inl h) (inl k) = h.1 ∙ sym k.1
-FragmentGives-once url whole f a b (inl h) (inr k) = absurd (SplitAt-unsplit f k.0 k.1 h.0 k.2)
-FragmentGives-once url whole f a b (inr h) (inl k) = absurd (SplitAt-unsplit f h.0 h.1 k.0 h.2)
-FragmentGives-once url whole f a b (inr h) (inr k) =
-    let same = SplitAt-once h.2 k.2 in
-    h.3 ∙ (rw (same.0, same.1) refl ∙ sym k.3)
+-- a fragment that is a name isn't a version
+no_version : (piece : Option Text) (f name : Text) → (piece ≡ None) ⊎ (begins_with_letter f ≡ true) → piece ≡ Some name → begins_with_letter f ≡ false → ⊥
+no_version piece f name (inl none) some plain = absurd (none_is_some (sym none ∙ some))
+no_version piece f name (inr letter) some plain = false≢true (sym plain ∙ letter)
 
-PathGives-once : (url : Text) (a b : Result Text Text) → PathGives url a → PathGives url b → a ≡ b
-PathGives-once url a b h k =
-    let same = LastCut-once h.2 k.2 in
-    h.3 ∙ (rw (same.0, same.1) refl ∙ sym k.3)
+IsFragment-once : (url piece : Option Text) (f : Text) (cs ds : Checks) (a b : Specification) → IsFragment url piece f cs a → IsFragment url piece f ds b → (cs ≡ ds) × (a ≡ b)
+IsFragment-once url piece f cs ds a b (is_split n v s) (is_split n' v' s') =
+    let same = SplitAt-once s s' in
+    (rw (same.0, same.1) refl, rw (same.0, same.1) refl)
+IsFragment-once url piece f cs ds a b (is_split n v s) (is_name_alone u e) = absurd (SplitAt-unsplit f n v u s)
+IsFragment-once url piece f cs ds a b (is_split n v s) (is_version_alone m u some plain) = absurd (SplitAt-unsplit f n v u s)
+IsFragment-once url piece f cs ds a b (is_name_alone u e) (is_split n v s) = absurd (SplitAt-unsplit f n v u s)
+IsFragment-once url piece f cs ds a b (is_name_alone u e) (is_name_alone u' e') = (refl, refl)
+IsFragment-once url piece f cs ds a b (is_name_alone u e) (is_version_alone m u' some plain) = absurd (no_version piece f m e some plain)
+IsFragment-once url piece f cs ds a b (is_version_alone m u some plain) (is_split n v s) = absurd (SplitAt-unsplit f n v u s)
+IsFragment-once url piece f cs ds a b (is_version_alone m u some plain) (is_name_alone u' e) = absurd (no_version piece f m e some plain)
+IsFragment-once url piece f cs ds a b (is_version_alone m u some plain) (is_version_alone m' u' some' plain') =
+    let same : m ≡ m' = some_same (sym some ∙ some') in
+    (rw same refl, rw same refl)
 
-url_once : (end : Bool) (url : Text) (a b : Result Text Text) → MatchBool end (a ≡ Err ends_with_slash) (((HasScheme url → ⊥) × (a ≡ Err missing_scheme)) ⊎ (HasScheme url × PathGives url a)) → MatchBool end (b ≡ Err ends_with_slash) (((HasScheme url → ⊥) × (b ≡ Err missing_scheme)) ⊎ (HasScheme url × PathGives url b)) → a ≡ b
-url_once true url a b h k = h ∙ sym k
-url_once false url a b (inl h) (inl k) = h.1 ∙ sym k.1
-url_once false url a b (inl h) (inr k) = absurd (h.0 k.0)
-url_once false url a b (inr h) (inl k) = absurd (k.0 h.0)
-url_once false url a b (inr h) (inr k) = PathGives-once url a b h.1 k.1
+IsUrl-once : (url : Text) (cs ds : Checks) (p q : Text) → IsUrl url cs p → IsUrl url ds q → (cs ≡ ds) × (p ≡ q)
+IsUrl-once url cs ds p q (with_scheme x p' scheme h) (with_scheme y q' scheme' k) =
+    let same = LastCut-once h k in
+    (rw same.0 refl, same.1)
+IsUrl-once url cs ds p q (with_scheme x p' scheme h) (without_scheme none) = absurd (none scheme)
+IsUrl-once url cs ds p q (without_scheme none) (with_scheme y q' scheme k) = absurd (none scheme)
+IsUrl-once url cs ds p q (without_scheme none) (without_scheme none') = (refl, refl)
 
-UrlGives-once : (url : Text) (a b : Result Text Text) → UrlGives url a → UrlGives url b → a ≡ b
-UrlGives-once url = url_once (ends_with ◌==◌ url (codes "/")) url
+fragment_once : (u u' f f' p p' : Text) (cs cs' ds ds' : Checks) (a b : Specification) → u ≡ u' → f ≡ f' → IsUrl u cs p → IsUrl u' cs' p' → IsFragment (Some u) (Some p) f ds a → IsFragment (Some u') (Some p') f' ds' b → (cs ≡ cs') × (ds ≡ ds') × (a ≡ b)
+fragment_once u u' f f' p p' cs cs' ds ds' a b same_url same_fragment h h' k k' =
+    let urls = IsUrl-once u' cs cs' p p' (rw same_url at h) h' in
+    let moved : IsFragment (Some u') (Some p') f' ds a = rw (← same_url, ← same_fragment, ← urls.1) k in
+    let fragments = IsFragment-once (Some u') (Some p') f' ds ds' a b moved k' in
+    (urls.0, fragments.0, fragments.1)
 
-UrlAloneGives-once : (url : Text) (a b : Outcome) → UrlAloneGives url a → UrlAloneGives url b → a ≡ b
-UrlAloneGives-once url a b h k =
-    h.2 ∙ (ap (λ r. url_alone url r) (UrlGives-once url h.0 k.0 h.1 k.1) ∙ sym k.2)
+IsLocated-once : (t : Text) (cs ds : Checks) (a b : Specification) → IsLocated t cs a → IsLocated t ds b → (cs ≡ ds) × (a ≡ b)
+IsLocated-once t cs ds a b (url_alone us p none h) (url_alone us' p' none' h') =
+    let same = IsUrl-once t us us' p p' h h' in
+    (rw (same.0, same.1) refl, rw same.1 refl)
+IsLocated-once t cs ds a b (url_alone us p none h) (with_fragment u f q vs more spec cut k m) = absurd (FirstCut-lacks none cut)
+IsLocated-once t cs ds a b (with_fragment u f q vs more spec cut k m) (url_alone us p none h) = absurd (FirstCut-lacks none cut)
+IsLocated-once t cs ds a b (with_fragment u f q vs more spec cut k m) (with_fragment u' f' q' vs' more' spec' cut' k' m') =
+    let cuts = FirstCut-once cut cut' in
+    let same = fragment_once u u' f f' q q' vs vs' more more' a b cuts.0 cuts.1 k k' m m' in
+    (rw (cuts.1, same.0, same.1) refl, same.2)
 
-WithFragment-once : (url f : Text) (r : Result Text Text) (a b : Outcome) → WithFragment url f r a → WithFragment url f r b → a ≡ b
-WithFragment-once url f (Err refusal) a b h k = h ∙ sym k
-WithFragment-once url f (Ok piece) a b h k = FragmentGives-once (Some url) (whole_fragment url piece f) f a b h k
+IsText-once : (t : Text) (cs ds : Checks) (a b : Specification) → IsText t cs a → IsText t ds b → (cs ≡ ds) × (a ≡ b)
+IsText-once t cs ds a b (a_fragment none h) (a_fragment none' k) = IsFragment-once None None t cs ds a b h k
+IsText-once t cs ds a b (a_fragment none h) (a_url has scheme k) = absurd (has none)
+IsText-once t cs ds a b (a_fragment none h) (a_short_url has bare k) = absurd (has none)
+IsText-once t cs ds a b (a_url has scheme h) (a_fragment none k) = absurd (has none)
+IsText-once t cs ds a b (a_url has scheme h) (a_url has' scheme' k) = IsLocated-once t cs ds a b h k
+IsText-once t cs ds a b (a_url has scheme h) (a_short_url has' bare k) = absurd (bare scheme)
+IsText-once t cs ds a b (a_short_url has bare h) (a_fragment none k) = absurd (has none)
+IsText-once t cs ds a b (a_short_url has bare h) (a_url has' scheme k) = absurd (bare scheme)
+IsText-once t cs ds a b (a_short_url has bare h) (a_short_url has' bare' k) = IsLocated-once (default_scheme ++ t) cs ds a b h k
 
-AroundHashGives-once : (url f : Text) (a b : Outcome) → AroundHashGives url f a → AroundHashGives url f b → a ≡ b
-AroundHashGives-once url [] a b h k = h ∙ sym k
-AroundHashGives-once url (c ∷ rest) a b h k =
-    WithFragment-once url (c ∷ rest) k.0 a b (rw (UrlGives-once url h.0 k.0 h.1 k.1) at h.2) k.2
-
-UrlTextGives-once : (t : Text) (a b : Outcome) → UrlTextGives t a → UrlTextGives t b → a ≡ b
-UrlTextGives-once t a b (inl h) (inl k) = UrlAloneGives-once t a b h.1 k.1
-UrlTextGives-once t a b (inl h) (inr k) = absurd (FirstCut-lacks h.0 k.2)
-UrlTextGives-once t a b (inr h) (inl k) = absurd (FirstCut-lacks k.0 h.2)
-UrlTextGives-once t a b (inr h) (inr k) =
-    let same = FirstCut-once h.2 k.2 in
-    AroundHashGives-once k.0 k.1 a b (rw (same.0, same.1) at h.3) k.3
-
-LocatedGives-once : (t : Text) (a b : Outcome) → LocatedGives t a → LocatedGives t b → a ≡ b
-LocatedGives-once t a b (inl h) (inl k) = UrlTextGives-once t a b h.1 k.1
-LocatedGives-once t a b (inl h) (inr k) = absurd (k.0 h.0)
-LocatedGives-once t a b (inr h) (inl k) = absurd (h.0 k.0)
-LocatedGives-once t a b (inr h) (inr k) = UrlTextGives-once (default_scheme ++ t) a b h.1 k.1
-
-pub Gives-once : (t : Text) (a b : Outcome) → Gives t a → Gives t b → a ≡ b
-Gives-once t a b (inl h) (inl k) =
-    FragmentGives-once None (checked_name None None t) t a b h.1 k.1
-Gives-once t a b (inl h) (inr k) = absurd (k.0 h.0)
-Gives-once t a b (inr h) (inl k) = absurd (h.0 k.0)
-Gives-once t a b (inr h) (inr k) = LocatedGives-once t a b h.1 k.1
+Gives-once : (t : Text) (a b : Outcome) → Gives t a → Gives t b → a ≡ b
+Gives-once t a b h k =
+    let same = IsText-once t h.checks k.checks h.value k.value h.is_read k.is_read in
+    h.is ∙ (rw (same.0, same.1) refl ∙ sym k.is)
 
 -- ---- at least one
 
@@ -140,111 +144,58 @@ split_or : (t : Text) → IsUnsplit t ⊎ ((x y : Text) × SplitAt t x y)
 split_or [] = inl (record { no_colon = tt; no_at = tt })
 split_or (b ∷ t) = split_at b t (cases_eq b colon) (cases_eq b at_sign) (split_or t)
 
-abbrev Begins : Text → Text → Type 0
-Begins t n = (rest : Text) × (t ≡ n ++ rest)
-
-begins_step : (a b : ℕ) (t n : Text) → (a ≡ b) ⊎ (a ≡ b → ⊥) → Begins t n ⊎ (Begins t n → ⊥) → Begins (a ∷ t) (b ∷ n) ⊎ (Begins (a ∷ t) (b ∷ n) → ⊥)
-begins_step a b t n (inl same) (inl h) = inl (h.0, rw (same, h.1) refl)
-begins_step a b t n (inl same) (inr none) = inr (λ h. none (h.0, tails h.1))
-begins_step a b t n (inr other) decided = inr (λ h. other (heads h.1))
-
-begins_or : (t n : Text) → Begins t n ⊎ (Begins t n → ⊥)
-begins_or t [] = inl (t, refl)
-begins_or [] (b ∷ n) = inr (λ h. no_cons h.1)
-begins_or (a ∷ t) (b ∷ n) = begins_step a b t n (cases_eq a b) (begins_or t n)
-
-has_tail : (c : ℕ) (t n a b : Text) → (Begins (c ∷ t) n → ⊥) → (HasSubslice t n → ⊥) → c ∷ t ≡ a ++ (n ++ b) → ⊥
-has_tail c t n [] b none no_rest is = none (b, is)
-has_tail c t n (d ∷ a) b none no_rest is = no_rest (a, b, tails is)
-
-has_step : (c : ℕ) (t n : Text) → Begins (c ∷ t) n ⊎ (Begins (c ∷ t) n → ⊥) → HasSubslice t n ⊎ (HasSubslice t n → ⊥) → HasSubslice (c ∷ t) n ⊎ (HasSubslice (c ∷ t) n → ⊥)
-has_step c t n (inl h) rest = inl ([], h.0, h.1)
-has_step c t n (inr none) (inl h) = inl (c ∷ h.0, h.1, ap (λ z. c ∷ z) h.2)
-has_step c t n (inr none) (inr no_rest) = inr (λ h. has_tail c t n h.0 h.1 none no_rest h.2)
-
-has_none : (b : ℕ) (n x y : Text) → [] ≡ x ++ (b ∷ (n ++ y)) → ⊥
-has_none b n [] y is = no_cons is
-has_none b n (c ∷ x) y is = no_cons is
-
-has_or : (t : Text) (b : ℕ) (n : Text) → HasSubslice t (b ∷ n) ⊎ (HasSubslice t (b ∷ n) → ⊥)
-has_or [] b n = inr (λ h. has_none b n h.0 h.1 h.2)
-has_or (c ∷ t) b n = has_step c t (b ∷ n) (begins_or (c ∷ t) (b ∷ n)) (has_or t b n)
-
 scheme_or : (t : Text) → HasScheme t ⊎ (HasScheme t → ⊥)
-scheme_or t = has_or t colon (slash ∷ slash ∷ [])
+scheme_or t =
+    ⊎_elim (λ h. inl (h.0, h.1, h.2.is)) (λ lacks. inr (λ h. lacks h.0 h.1 h.2)) (cut_or_lacks scheme_end t)
 
-fragment_of : (url : Option Text) (whole : Outcome) (f : Text) → IsUnsplit f ⊎ ((x y : Text) × SplitAt f x y) → (o : Outcome) × FragmentGives url whole f o
-fragment_of url whole f (inl none) = (whole, inl (none, refl))
-fragment_of url whole f (inr h) = (both_sides url h.0 h.1, inr (h.0, h.1, h.2, refl))
+-- a text has a value with some checks
+abbrev pub Some_checked : {A : Type 0} → (Checks → A → Type 0) → Type 0
+Some_checked {A} IsRead = (cs : Checks) × (a : A) × IsRead cs a
 
-FragmentGives-some : (url : Option Text) (whole : Outcome) (f : Text) → (o : Outcome) × FragmentGives url whole f o
-FragmentGives-some url whole f = fragment_of url whole f (split_or f)
+fragment_of : (url piece : Option Text) (f : Text) → IsUnsplit f ⊎ ((x y : Text) × SplitAt f x y) → (begins_with_letter f ≡ true) ⊎ (begins_with_letter f ≡ false) → Some_checked (IsFragment url piece f)
+fragment_of url piece f (inr h) letter = (_, _, is_split h.0 h.1 h.2)
+fragment_of url None f (inl u) letter = (_, _, is_name_alone u (inl refl))
+fragment_of url (Some name) f (inl u) (inl letter) = (_, _, is_name_alone u (inr letter))
+fragment_of url (Some name) f (inl u) (inr plain) = (_, _, is_version_alone name u refl plain)
 
-path_of : (url : Text) → HasScheme url → Lacks slash url ⊎ ((x y : Text) × LastCut slash url x y) → (r : Result Text Text) × PathGives url r
-path_of url scheme (inl none) = absurd (HasScheme-slash url none scheme)
-path_of url scheme (inr h) = (
-  if ends_with ◌==◌ h.0 (codes ":/") then Err missing_path else Ok h.1,
-  (h.0, h.1, h.2, refl),
-)
+pub IsFragment-some : (url piece : Option Text) (f : Text) → Some_checked (IsFragment url piece f)
+IsFragment-some url piece f = fragment_of url piece f (split_or f) (cases_Bool (begins_with_letter f))
 
-abbrev EndGives : Bool → Text → Result Text Text → Type 0
-EndGives end url r = MatchBool end (r ≡ Err ends_with_slash) (((HasScheme url → ⊥) × (r ≡ Err missing_scheme)) ⊎ (HasScheme url × PathGives url r))
+url_of : (url : Text) → HasScheme url ⊎ (HasScheme url → ⊥) → Lacks slash url ⊎ ((x y : Text) × LastCut slash url x y) → Some_checked (IsUrl url)
+url_of url (inl scheme) (inl none) = absurd (HasScheme-slash url none scheme)
+url_of url (inl scheme) (inr h) = (_, _, with_scheme h.0 h.1 scheme h.2)
+url_of url (inr none) last = (_, _, without_scheme none)
 
-url_of_end : (end : Bool) (url : Text) → HasScheme url ⊎ (HasScheme url → ⊥) → (r : Result Text Text) × EndGives end url r
-url_of_end true url scheme = (Err ends_with_slash, refl)
-url_of_end false url (inr none) = (Err missing_scheme, inl (none, refl))
-url_of_end false url (inl scheme) =
-    let path = path_of url scheme (LastCut-or slash url) in
-    (path.0, inr (scheme, path.1))
+pub IsUrl-some : (url : Text) → Some_checked (IsUrl url)
+IsUrl-some url = url_of url (scheme_or url) (LastCut-or slash url)
 
-UrlGives-some : (url : Text) → (r : Result Text Text) × UrlGives url r
-UrlGives-some url = url_of_end (ends_with ◌==◌ url (codes "/")) url (scheme_or url)
+located_of : (t : Text) → Lacks hash_sign t ⊎ ((x y : Text) × FirstCut hash_sign t x y) → Some_checked (IsLocated t)
+located_of t (inl none) =
+    let u = IsUrl-some t in
+    (_, _, url_alone u.0 u.1 none u.2)
+located_of t (inr h) =
+    let u = IsUrl-some h.0 in
+    let f = IsFragment-some (Some h.0) (Some u.1) h.1 in
+    (_, _, with_fragment h.0 h.1 u.1 u.0 f.0 f.1 h.2 u.2 f.2)
 
-UrlAloneGives-some : (url : Text) → (o : Outcome) × UrlAloneGives url o
-UrlAloneGives-some url =
-    let r = UrlGives-some url in
-    (url_alone url r.0, (r.0, r.1, refl))
+IsLocated-some : (t : Text) → Some_checked (IsLocated t)
+IsLocated-some t = located_of t (FirstCut-or hash_sign t)
 
-WithFragment-some : (url f : Text) (r : Result Text Text) → (o : Outcome) × WithFragment url f r o
-WithFragment-some url f (Err refusal) = (Err refusal, refl)
-WithFragment-some url f (Ok piece) = FragmentGives-some (Some url) (whole_fragment url piece f) f
+text_of : (t : Text) → Lacks slash t ⊎ ((x y : Text) × FirstCut slash t x y) → HasScheme t ⊎ (HasScheme t → ⊥) → Some_checked (IsText t)
+text_of t (inl none) scheme =
+    let f = IsFragment-some None None t in
+    (f.0, f.1, a_fragment none f.2)
+text_of t (inr h) (inl scheme) =
+    let l = IsLocated-some t in
+    (l.0, l.1, a_url (λ none. FirstCut-lacks none h.2) scheme l.2)
+text_of t (inr h) (inr bare) =
+    let l = IsLocated-some (default_scheme ++ t) in
+    (l.0, l.1, a_short_url (λ none. FirstCut-lacks none h.2) bare l.2)
 
-AroundHashGives-some : (url f : Text) → (o : Outcome) × AroundHashGives url f o
-AroundHashGives-some url [] = (Err ends_with_hash, refl)
-AroundHashGives-some url (c ∷ rest) =
-    let r = UrlGives-some url in
-    let o = WithFragment-some url (c ∷ rest) r.0 in
-    (o.0, (r.0, r.1, o.1))
-
-url_text_of : (t : Text) → Lacks hash_sign t ⊎ ((x y : Text) × FirstCut hash_sign t x y) → (o : Outcome) × UrlTextGives t o
-url_text_of t (inl none) =
-    let o = UrlAloneGives-some t in
-    (o.0, inl (none, o.1))
-url_text_of t (inr h) =
-    let o = AroundHashGives-some h.0 h.1 in
-    (o.0, inr (h.0, h.1, h.2, o.1))
-
-UrlTextGives-some : (t : Text) → (o : Outcome) × UrlTextGives t o
-UrlTextGives-some t = url_text_of t (FirstCut-or hash_sign t)
-
-located_of : (t : Text) → HasScheme t ⊎ (HasScheme t → ⊥) → (o : Outcome) × LocatedGives t o
-located_of t (inl scheme) =
-    let o = UrlTextGives-some t in
-    (o.0, inl (scheme, o.1))
-located_of t (inr none) =
-    let o = UrlTextGives-some (default_scheme ++ t) in
-    (o.0, inr (none, o.1))
-
-gives_of : (t : Text) → Lacks slash t ⊎ ((x y : Text) × FirstCut slash t x y) → (o : Outcome) × Gives t o
-gives_of t (inl none) =
-    let o = FragmentGives-some None (checked_name None None t) t in
-    (o.0, inl (none, o.1))
-gives_of t (inr h) =
-    let o = located_of t (scheme_or t) in
-    (o.0, inr (λ none. FirstCut-lacks none h.2, o.1))
-
-pub Gives-some : (t : Text) → (o : Outcome) × Gives t o
-Gives-some t = gives_of t (FirstCut-or slash t)
+Gives-some : (t : Text) → (o : Outcome) × Gives t o
+Gives-some t =
+    let x = text_of t (FirstCut-or slash t) (scheme_or t) in
+    (checked x.0 x.1, record { checks = x.0; value = x.1; is_read = x.2; is = refl })
 
 -- ---- specifications and refusals
 

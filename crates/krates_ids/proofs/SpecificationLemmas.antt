@@ -1,15 +1,13 @@
 -- Laws of package specifications.
 use Rattle.std.proofs.Common.{◌≡◌, ◌↔◌, ℕ, [], ◌∷◌, ◌++◌, Bool, true, false, refl, sym, ◌∙◌, inl, inr, append_assoc}
-use Rattle.std.specs.Prelude.{IsTrue, length, ◌⊎◌, ◌==◌, Option, Some, None, Result, Ok, Err, IfOk, IfErr, codes}
+use Rattle.std.specs.Prelude.{IsTrue, ◌⊎◌, ◌==◌, Option, Some, None, Result, Ok, Err, IfOk, IfErr, IsErrAnd}
 use Rattle.std.specs.Borrow.{Bor}
-use Rattle.std.specs.List.{ends_with}
 use Rattle.std.proofs.lemmas.Bool.{false≢true}
 use Rattle.std.specs.Cmp.Lexicographic.{pointwise, bytes_decides}
 use Rattle.krates_cm.specs.Document.{Text, VersionModel}
-use Rattle.krates_cm.specs.Names.{version_named}
-use Rattle.krates_text.specs.Cuts.{Lacks, Has, FirstCut, LastCut, CutsFirst}
+use Rattle.krates_text.specs.Cuts.{Lacks, Has, FirstCut, CutsFirst}
 use Rattle.krates_ids.specs.Escapes.{Tells}
-use Rattle.krates_ids.specs.PackageSpecification.{Outcome, checked_name, begins_with_letter, IsUnsplit, AfterUrlGives, HasScheme, UrlGives, UrlTextGives, Gives, missing_scheme, missing_path, default_scheme, IsBeforeQuery, IsUrlOf}
+use Rattle.krates_ids.specs.PackageSpecification.{HasScheme, IsBeforeQuery, IsUrlOf}
 use Rattle.krates_ids.specs.Separators.{hash_sign, plus_sign, slash, colon, question_mark, at_sign}
 use Rattle.krates_ids.specs.SpecificationAnswers.{IsRefusedBy, Answers, Splits, version_outcome}
 use Rattle.krates_ids.specs.declared.error.Error.{Error}
@@ -18,7 +16,7 @@ use Rattle.krates_text.proofs.CutsLemmas.{Lacks-middle, FirstCut-lacks, FirstCut
 
 -- ---- answers
 
-Ok≢Err : {A B : Type 0} {a : A} {b : B} → Ok a ≡ Err b → ⊥
+pub Ok≢Err : {A B : Type 0} {a : A} {b : B} → Ok a ≡ Err b → ⊥
 Ok≢Err e = cc
 
 pub Tells-iff : {P : Type 0} (r : Bool) → (r ≡ true) ↔ P → Tells P r
@@ -40,6 +38,11 @@ IsRefusedBy-map P Q errors.TooMany f h = h
 pub Answers-map : {A B : Type 0} (view : A → B) (P Q : Result B Text → Type 0) (r : Result A Error) → ((outcome : Result B Text) → P outcome → Q outcome) → Answers view P r → Answers view Q r
 Answers-map view P Q (Ok a) f h = f (Ok (view a)) h
 Answers-map view P Q (Err e) f h = IsRefusedBy-map (λ refusal. P (Err refusal)) (λ refusal. Q (Err refusal)) e (λ refusal. f (Err refusal)) h
+
+-- a refusal that is handed on
+pub Answers-refused : {A B : Type 0} (view : A → B) (P : Text → Type 0) (Q : Result B Text → Type 0) (e : Error) (r : Result A Error) → IsErrAnd r (λ d. d ≡ e) → ((refusal : Text) → P refusal → Q (Err refusal)) → IsRefusedBy P e → Answers view Q r
+Answers-refused view P Q e (Ok a) is f h = absurd is
+Answers-refused view P Q e (Err d) is f h = IsRefusedBy-map P (λ refusal. Q (Err refusal)) d f (rw is h)
 
 pub Answers-ok : {A B : Type 0} (view : A → B) (P : Result B Text → Type 0) (r : Result A Error) → Answers view P r → IfOk r (λ a. P (Ok (view a)))
 Answers-ok view P (Ok a) h = h
@@ -75,40 +78,16 @@ Splits-at t x y (Some p) cut has at_cut = record {
 }
 
 -- the text that a version was read from
-version_read : (v : VersionModel) (read : Option VersionModel) → Ok v ≡ version_outcome read → read ≡ Some v
+pub version_read : (v : VersionModel) (read : Option VersionModel) → Ok v ≡ version_outcome read → read ≡ Some v
 version_read v None e = absurd (Ok≢Err e)
 version_read v (Some w) e = cc
 
--- a fragment after a url that is the version alone
-pub AfterUrl-version : (url piece fragment : Text) (v : VersionModel) → IsUnsplit fragment → begins_with_letter fragment ≡ false → Ok v ≡ version_outcome (version_named fragment) → (outcome : Outcome) → outcome ≡ checked_name (Some url) (Some v) piece → AfterUrlGives url piece fragment outcome
-AfterUrl-version url piece fragment v unsplit letter read outcome is =
-    inl (unsplit, is ∙ (rw (letter, version_read v (version_named fragment) read) refl))
-
 -- ---- urls
-
--- a fragment that is not empty stands after the url
-pub UrlText-fragment : (t url fragment piece : Text) → FirstCut hash_sign t url fragment → (length fragment == 0) ≡ false → UrlGives url (Ok piece) → (outcome : Outcome) → AfterUrlGives url piece fragment outcome → UrlTextGives t outcome
-UrlText-fragment t url [] piece cut full path outcome h = absurd (false≢true (sym full))
-UrlText-fragment t url (b ∷ rest) piece cut full path outcome h = inr (url, b ∷ rest, cut, (Ok piece, path, h))
 
 pub HasScheme-slash : (t : Text) → Lacks slash t → HasScheme t → ⊥
 HasScheme-slash t none h =
     let whole : t ≡ (h.0 ++ colon ∷ []) ++ slash ∷ (slash ∷ h.1) = h.2 ∙ sym (append_assoc h.0 (colon ∷ []) (slash ∷ slash ∷ h.1)) in
     Lacks-middle slash (h.0 ++ colon ∷ []) (slash ∷ h.1) (rw whole at none)
-
-pub UrlGives-no_scheme : (url : Text) → ends_with ◌==◌ url (codes "/") ≡ false → (HasScheme url → ⊥) → UrlGives url (Err missing_scheme)
-UrlGives-no_scheme url end none = rw end (inl (none, refl))
-
-pub UrlGives-no_path : (url before piece : Text) → ends_with ◌==◌ url (codes "/") ≡ false → HasScheme url → LastCut slash url before piece → ends_with ◌==◌ before (codes ":/") ≡ true → UrlGives url (Err missing_path)
-UrlGives-no_path url before piece end scheme cut bad = rw end (inr (scheme, (before, piece, cut, rw bad refl)))
-
-pub UrlGives-path : (url before piece : Text) → ends_with ◌==◌ url (codes "/") ≡ false → HasScheme url → LastCut slash url before piece → ends_with ◌==◌ before (codes ":/") ≡ false → UrlGives url (Ok piece)
-UrlGives-path url before piece end scheme cut good = rw end (inr (scheme, (before, piece, cut, rw good refl)))
-
--- ---- whole texts
-
-pub Gives-cargo : (t whole : Text) → whole ≡ default_scheme ++ t → Has slash t → (HasScheme t → ⊥) → (outcome : Outcome) → UrlTextGives whole outcome → Gives t outcome
-Gives-cargo t whole is has none outcome h = inr (has, inr (none, rw is at h))
 
 -- ---- the url of a source
 

@@ -1,12 +1,13 @@
 -- Package specifications (Cargo Book, "Package ID Specifications"): which text is which specification, why a text is none,
 -- and which packages a specification fits.
-use Rattle.std.specs.Prelude.{◌≡◌, ℕ, [], ◌∷◌, ◌++◌, ◌⊎◌, ◌==◌, ◌||◌, Bool, false, MatchBool, if◌then◌else◌, Option, Some, None, IfSome, Result, Ok, Err, codes}
+use Rattle.std.specs.Prelude.{◌≡◌, ℕ, List, [], ◌∷◌, ◌++◌, ◌⊎◌, ◌==◌, ◌||◌, Bool, true, false, not, if◌then◌else◌, Option, Some, None, IfSome, Result, Ok, Err, length, codes}
 use Rattle.std.specs.Char.{is_ascii_alphabetic, is_ascii_alphanumeric}
 use Rattle.std.specs.List.{list_all, ends_with}
+use Rattle.std.specs.Option.{is_none}
 use Rattle.std.specs.Str.Iter.{HasSubslice}
 use Rattle.krates_cm.specs.Document.{Text, VersionModel, PackageModel}
 use Rattle.krates_cm.specs.Names.{version_named}
-use Rattle.krates_text.specs.Cuts.{Lacks, FirstCut, LastCut}
+use Rattle.krates_text.specs.Cuts.{Lacks, Has, FirstCut, LastCut}
 use Rattle.krates_ids.specs.Separators.{hash_sign, plus_sign, minus_sign, slash, colon, question_mark, at_sign, underscore}
 
 -- a package specification: a name, perhaps a version, and perhaps the url of a source
@@ -60,28 +61,29 @@ abbrev pub begins_with_letter : Text → Bool
 begins_with_letter [] = false
 begins_with_letter (b ∷ rest) = is_ascii_alphabetic b
 
--- a name that is checked, beside a version that was read
-abbrev pub checked_name : Option Text → Option VersionModel → Text → Outcome
-checked_name url version name = if is_name name then Ok (specification name version url) else Err bad_name
+-- ---- what may be wrong
 
--- a version that was read, where the text was one, beside a name that was checked
-abbrev pub after_name : Option Text → Text → Option VersionModel → Outcome
-after_name url name None = Err bad_version
-after_name url name (Some version) = Ok (specification name (Some version) url)
+-- tests, each with the text of its refusal
+abbrev pub Checks : Type 0
+Checks = List (Bool × Text)
 
--- the name is checked before the version
-abbrev pub name_then_version : Option Text → Text → Text → Outcome
-name_then_version url name version =
-    if is_name name then after_name url name (version_named version) else Err bad_name
+-- the refusal of the first test that is true, else the value
+abbrev pub checked : {A : Type 0} → Checks → A → Result A Text
+checked [] a = Ok a
+checked ((wrong, refusal) ∷ more) a = if wrong then Err refusal else checked more a
 
--- a version that was read, where the text was one, before its name is checked
-abbrev pub before_name : Option Text → Text → Option VersionModel → Outcome
-before_name url name None = Err bad_version
-before_name url name (Some version) = checked_name url (Some version) name
+-- a text has a value with these checks, and this is what they leave of it
+pub record GivesChecked {A : Type 0} (IsRead : Checks → A → Type 0) (r : Result A Text) : Type 0 where
+  pub checks : Checks
+  pub value : A
+  pub is_read : IsRead checks value
+  pub is : r ≡ checked checks value
 
--- the version is checked before the name
-abbrev pub version_then_name : Option Text → Text → Text → Outcome
-version_then_name url version name = before_name url name (version_named version)
+abbrev pub name_check : Text → Bool × Text
+name_check name = (not (is_name name), bad_name)
+
+abbrev pub version_check : Text → Bool × Text
+version_check version = (is_none (version_named version), bad_version)
 
 -- ---- fragments
 
@@ -98,28 +100,18 @@ pub record IsUnsplit (t : Text) : Type 0 where
   pub no_colon : Lacks colon t
   pub no_at : Lacks at_sign t
 
--- what stands on both sides of the separator: something has to follow it
-abbrev pub both_sides : Option Text → Text → Text → Outcome
-both_sides url name [] = Err ends_with_separator
-both_sides url name (b ∷ rest) = name_then_version url name (b ∷ rest)
+-- a name and a version on both sides of a separator: something has to follow it, and the name is checked first
+abbrev pub sides_checks : Text → Text → Checks
+sides_checks name version = (length version == 0, ends_with_separator) ∷ name_check name ∷ version_check version ∷ []
 
--- a fragment that is split is a name and a version; one that is not gives the outcome that is said for it whole
-abbrev pub FragmentGives : Option Text → Outcome → Text → Outcome → Type 0
-FragmentGives url whole fragment outcome = (IsUnsplit fragment × (outcome ≡ whole))
-    ⊎ ((name version : Text) × SplitAt fragment name version × (outcome ≡ both_sides url name version))
-
--- a fragment without a url: whole it is the name
-abbrev pub AloneGives : Text → Outcome → Type 0
-AloneGives fragment = FragmentGives None (checked_name None None fragment) fragment
-
--- whole it is the name where it begins with a letter, else the version of the package that the url's last piece names
-abbrev pub whole_fragment : Text → Text → Text → Outcome
-whole_fragment url piece fragment =
-    if begins_with_letter fragment then checked_name (Some url) None fragment else version_then_name (Some url) fragment piece
-
--- a fragment after a url with this last piece
-abbrev pub AfterUrlGives : Text → Text → Text → Outcome → Type 0
-AfterUrlGives url piece fragment = FragmentGives (Some url) (whole_fragment url piece fragment) fragment
+-- The specification of a fragment. One that isn't split is a name where there is no url, or where it begins with a letter; else it is
+-- the version of the package that the last piece of the url names.
+pub data IsFragment (url piece : Option Text) (f : Text) : Checks → Specification → Type 0 where
+  is_split : (name version : Text) → SplitAt f name version
+      → IsFragment url piece f (sides_checks name version) (specification name (version_named version) url)
+  is_name_alone : IsUnsplit f → (piece ≡ None) ⊎ (begins_with_letter f ≡ true) → IsFragment url piece f (name_check f ∷ []) (specification f None url)
+  is_version_alone : (name : Text) → IsUnsplit f → piece ≡ Some name → begins_with_letter f ≡ false
+      → IsFragment url piece f (version_check f ∷ name_check name ∷ []) (specification name (version_named f) url)
 
 -- ---- urls
 
@@ -131,51 +123,34 @@ scheme_end = codes "://"
 abbrev pub HasScheme : Text → Type 0
 HasScheme t = HasSubslice t scheme_end
 
--- the last piece of a url, after its last '/', or the text of its refusal; a '/' that ends the last "://" ends no path
-abbrev pub PathGives : Text → Result Text Text → Type 0
-PathGives url r = (before : Text) × (piece : Text) × LastCut slash url before piece
-    × (r ≡ (if ends_with ◌==◌ before (codes ":/") then Err missing_path else Ok piece))
+-- the last piece of a url, after its last '/'; a '/' that ends the last "://" ends no path
+pub data IsUrl (url : Text) : Checks → Text → Type 0 where
+  with_scheme : (before piece : Text) → HasScheme url → LastCut slash url before piece
+      → IsUrl url ((ends_with ◌==◌ url (codes "/"), ends_with_slash) ∷ (ends_with ◌==◌ before (codes ":/"), missing_path) ∷ []) piece
+  without_scheme : (HasScheme url → ⊥) → IsUrl url ((ends_with ◌==◌ url (codes "/"), ends_with_slash) ∷ (true, missing_scheme) ∷ []) []
 
--- the last piece of a url, or the text of the first refusal that is true of the url
-abbrev pub UrlGives : Text → Result Text Text → Type 0
-UrlGives url r = MatchBool (ends_with ◌==◌ url (codes "/")) (r ≡ Err ends_with_slash)
-    (((HasScheme url → ⊥) × (r ≡ Err missing_scheme)) ⊎ (HasScheme url × PathGives url r))
-
--- a url without a fragment: its last piece is the name
-abbrev pub url_alone : Text → Result Text Text → Outcome
-url_alone url (Err refusal) = Err refusal
-url_alone url (Ok piece) = checked_name (Some url) None piece
-
-abbrev pub UrlAloneGives : Text → Outcome → Type 0
-UrlAloneGives url outcome = (r : Result Text Text) × UrlGives url r × (outcome ≡ url_alone url r)
-
--- a url and a fragment: the url is checked first
-abbrev pub WithFragment : Text → Text → Result Text Text → Outcome → Type 0
-WithFragment url fragment (Err refusal) outcome = outcome ≡ Err refusal
-WithFragment url fragment (Ok piece) outcome = AfterUrlGives url piece fragment outcome
-
--- what stands on both sides of the first '#': something has to follow it
-abbrev pub AroundHashGives : Text → Text → Outcome → Type 0
-AroundHashGives url [] outcome = outcome ≡ Err ends_with_hash
-AroundHashGives url (b ∷ rest) outcome = (r : Result Text Text) × UrlGives url r × WithFragment url (b ∷ rest) r outcome
-
--- a text with a url is cut at its first '#'
-abbrev pub UrlTextGives : Text → Outcome → Type 0
-UrlTextGives t outcome = (Lacks hash_sign t × UrlAloneGives t outcome)
-    ⊎ ((url fragment : Text) × FirstCut hash_sign t url fragment × AroundHashGives url fragment outcome)
+-- A text with a url is cut at its first '#': something has to follow it, and then the url is checked first. Without a fragment the
+-- last piece of the url is the name.
+pub data IsLocated (t : Text) : Checks → Specification → Type 0 where
+  url_alone : (checks : Checks) (piece : Text) → Lacks hash_sign t → IsUrl t checks piece
+      → IsLocated t (checks ++ name_check piece ∷ []) (specification piece None (Some t))
+  with_fragment : (url fragment piece : Text) (checks more : Checks) (spec : Specification) → FirstCut hash_sign t url fragment → IsUrl url checks piece
+      → IsFragment (Some url) (Some piece) fragment more spec → IsLocated t ((length fragment == 0, ends_with_hash) ∷ (checks ++ more)) spec
 
 -- ---- whole texts
 
 abbrev pub default_scheme : Text
 default_scheme = codes "cargo://"
 
--- a text with a '/' has a url; the scheme is cargo's where the text has none
-abbrev pub LocatedGives : Text → Outcome → Type 0
-LocatedGives t outcome = (HasScheme t × UrlTextGives t outcome) ⊎ ((HasScheme t → ⊥) × UrlTextGives (default_scheme ++ t) outcome)
+-- a text without '/' is a fragment only; any other has a url, whose scheme is cargo's where the text has none
+pub data IsText (t : Text) (checks : Checks) (spec : Specification) : Type 0 where
+  a_fragment : Lacks slash t → IsFragment None None t checks spec → IsText t checks spec
+  a_url : Has slash t → HasScheme t → IsLocated t checks spec → IsText t checks spec
+  a_short_url : Has slash t → (HasScheme t → ⊥) → IsLocated (default_scheme ++ t) checks spec → IsText t checks spec
 
--- what a text gives: without a '/' it is a fragment only
+-- what a text gives
 abbrev pub Gives : Text → Outcome → Type 0
-Gives t outcome = (Lacks slash t × AloneGives t outcome) ⊎ ((Lacks slash t → ⊥) × LocatedGives t outcome)
+Gives t = GivesChecked (IsText t)
 
 -- the text is a specification with these parts
 abbrev pub IsSpec : Text → Text → Option VersionModel → Option Text → Type 0

@@ -1,12 +1,12 @@
 //! Package specifications (Cargo Book, "Package ID Specifications").
 
-ghost use Rattle.std.specs.Prelude.{◌≡◌, ◌++◌, ◌↔◌, IsTrue, IfOk, IfErr, IfSome, MatchBool, Ok, Err, Some, None, option_map, string_bytes};
+ghost use Rattle.std.specs.Prelude.{◌≡◌, [], ◌∷◌, ◌++◌, ◌↔◌, IsTrue, IfOk, IfErr, IfSome, MatchBool, Ok, Err, Some, None, option_map, string_bytes};
 ghost use Rattle.semver.specs.Identifiers.{parts_of};
 ghost use Rattle.krates_cm.specs.Document.{Text, source_view, package_view};
 ghost use Rattle.krates_cm.specs.Names.{version_named};
 ghost use Rattle.krates_ids.specs.Escapes.{Tells};
 ghost use Rattle.krates_ids.specs.PackageSpecification as grammar;
-ghost use Rattle.krates_ids.specs.PackageSpecification.{Specification, specification, Gives, checked_name, name_then_version, version_then_name, both_sides, whole_fragment, AloneGives, AfterUrlGives, HasScheme, UrlGives, UrlTextGives, IsSpec, IsSpecFault, SpecFits};
+ghost use Rattle.krates_ids.specs.PackageSpecification.{Specification, specification, GivesChecked, checked, name_check, sides_checks, IsFragment, HasScheme, IsUrl, IsLocated, Gives, IsSpec, IsSpecFault, SpecFits};
 ghost use Rattle.krates_ids.specs.declared.error.Error.TheVariants.{Memory};
 ghost use Rattle.krates_ids.specs.SpecificationAnswers.{spec_view, given, IsRefusedBy, Answers, version_outcome, Splits, FindsUrl};
 
@@ -135,8 +135,8 @@ fn with_name(
     version: Option<Version>,
     url: Option<&str>,
 ) -> Result<PkgSpec, Error>
-    ensures { Answers spec_view (λ outcome.
-        outcome ≡ checked_name (given url.entry) (option_map parts_of version) name.now) result }
+    ensures { let whole = specification name.now (option_map parts_of version) (given url.entry) in
+        Answers spec_view (λ outcome. outcome ≡ checked (name_check name.now ∷ []) whole) result }
 {
     if is_name(name) {
         return of_parts(alloc, name, version, url);
@@ -151,8 +151,8 @@ fn of_both_sides(
     version: &str,
     url: Option<&str>,
 ) -> Result<PkgSpec, Error>
-    ensures { Answers spec_view (λ outcome.
-        outcome ≡ both_sides (given url.entry) name.now version.now) result }
+    ensures { let whole = specification name.now (version_named version.now) (given url.entry) in
+        Answers spec_view (λ outcome. outcome ≡ checked (sides_checks name.now version.now) whole) result }
 {
     if version.is_empty() {
         return Err(Error::InvalidPkgSpec("package spec cannot end with ':'"));
@@ -179,7 +179,7 @@ fn split(text: &str) -> Option<(&str, &str)>
 
 /// Reads a text that is a fragment alone.
 fn alone(alloc: Global, fragment: &str) -> Result<PkgSpec, Error>
-    ensures { Answers spec_view (AloneGives fragment.now) result }
+    ensures { Answers spec_view (GivesChecked (IsFragment None None fragment.now)) result }
 {
     match split(fragment) {
         Some((name, version)) => of_both_sides(alloc, name, version, None),
@@ -189,7 +189,7 @@ fn alone(alloc: Global, fragment: &str) -> Result<PkgSpec, Error>
 
 /// Reads the fragment after a url with this last piece.
 fn after_url(alloc: Global, url: &str, piece: &str, fragment: &str) -> Result<PkgSpec, Error>
-    ensures { Answers spec_view (AfterUrlGives url.now piece.now fragment.now) result }
+    ensures { Answers spec_view (GivesChecked (IsFragment (Some url.now) (Some piece.now) fragment.now)) result }
 {
     if let Some((name, version)) = split(fragment) {
         return of_both_sides(alloc, name, version, Some(url));
@@ -210,7 +210,7 @@ fn has_scheme(text: &str) -> bool
 
 /// The last piece of a url.
 fn last_piece(url: &str) -> Result<&str, Error>
-    ensures { Answers (λ piece. piece.now) (UrlGives url.now) result }
+    ensures { Answers (λ piece. piece.now) (GivesChecked (IsUrl url.now)) result }
 {
     if url.ends_with("/") {
         return Err(Error::InvalidPkgSpec("url ends with /"));
@@ -229,7 +229,7 @@ fn last_piece(url: &str) -> Result<&str, Error>
 
 /// Reads a text with a url.
 fn located(alloc: Global, text: &str) -> Result<PkgSpec, Error>
-    ensures { Answers spec_view (UrlTextGives text.now) result }
+    ensures { Answers spec_view (GivesChecked (IsLocated text.now)) result }
 {
     let Some((url, fragment)) = cut_first(text, '#') else {
         let piece = last_piece(text)?;

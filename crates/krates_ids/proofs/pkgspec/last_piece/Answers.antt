@@ -1,12 +1,17 @@
 use Rattle.std.specs.Prelude.{codes}
-use Rattle.std.proofs.Common.{◌∙◌, sym}
+use Rattle.std.proofs.Common.{◌∙◌, sym, true, false}
 use Rattle.std.proofs.lemmas.Str.Pattern.{ends_text}
-use Rattle.krates_ids.proofs.SpecificationLemmas.{HasScheme-slash, UrlGives-no_scheme, UrlGives-no_path, UrlGives-path}
+use Rattle.krates_ids.proofs.CheckedLemmas.{Url-slash, Url-no_scheme, Url-scheme}
+use Rattle.krates_ids.proofs.SpecificationLemmas.{HasScheme-slash}
 use Rattle.krates_ids.proofs.pkgspec.last_piece.Goals as goal
+
+pub returns-then-ends_with : goal.returns-then-ends_with
+returns-then-ends_with c =
+    Url-slash _ (sym (ends_text _ (codes "/") c.args.url.now c.ends_with.ensures.cases) ∙ c.if-ends_with.true)
 
 pub returns-then-not-has_scheme : goal.returns-then-not-has_scheme
 returns-then-not-has_scheme c =
-    UrlGives-no_scheme _ (sym (ends_text _ (codes "/") c.args.url.now c.ends_with.ensures.cases) ∙ c.if-ends_with.false) (rw c.if-not-has_scheme.true at c.has_scheme.ensures)
+    Url-no_scheme _ (sym (ends_text _ (codes "/") c.args.url.now c.ends_with.ensures.cases) ∙ c.if-ends_with.false) (rw c.if-not-has_scheme.true at c.has_scheme.ensures)
 
 pub unreachable-requires : goal.unreachable-requires
 unreachable-requires c =
@@ -14,7 +19,7 @@ unreachable-requires c =
 
 pub returns-then-ends_with-2 : goal.returns-then-ends_with-2
 returns-then-ends_with-2 c =
-    UrlGives-no_path _ _ _
+    Url-scheme _ _ _ true
     (sym (ends_text _ (codes "/") c.args.url.now c.ends_with.ensures.cases) ∙ c.if-ends_with.false)
     (rw c.if-not-has_scheme.false at c.has_scheme.ensures)
     c.in-Some.ensures
@@ -22,7 +27,7 @@ returns-then-ends_with-2 c =
 
 pub returns : goal.returns
 returns c =
-    UrlGives-path _ _ _
+    Url-scheme _ _ _ false
     (sym (ends_text _ (codes "/") c.args.url.now c.ends_with.ensures.cases) ∙ c.if-ends_with.false)
     (rw c.if-not-has_scheme.false at c.has_scheme.ensures)
     c.in-Some.ensures

@@ -1,5 +1,6 @@
 use Rattle.std.proofs.Common.{◌∙◌}
-use Rattle.krates_ids.proofs.SpecificationLemmas.{Answers-map, Gives-cargo}
+use Rattle.krates_ids.proofs.CheckedLemmas.{Gives-cargo}
+use Rattle.krates_ids.proofs.SpecificationLemmas.{Answers-map}
 use Rattle.krates_ids.proofs.pkgspec.read.Goals as goal
 
 pub returns : goal.returns
