@@ -106,11 +106,24 @@ fn of_metadata(alloc: Global, name: &str) -> Result<MetadataError, Fail> {
     }
 }
 
+/// What the refusal of a build with this name prints.
+fn printed_of_build(alloc: Global, name: &str) -> Result<String, Fail> {
+    Ok(of_build(alloc, name)?.to_string(alloc)?)
+}
+
+/// What the refusal of metadata with this name prints.
+fn printed_of_metadata(alloc: Global, name: &str) -> Result<String, Fail> {
+    Ok(of_metadata(alloc, name)?.to_string(alloc)?)
+}
+
 #[test]
 fn refusals_of_builds(rt: HostRuntime) -> Result<(), Fail> {
     for &(name, want) in OF_BUILDS {
-        let printed = of_build(rt.alloc(), name)?.to_string(rt.alloc())?;
-        assert_eq!(rt; printed.as_str(), want, "{name}");
+        assert_eq!(rt;
+            printed_of_build(rt.alloc(), name)?.as_str(),
+            want,
+            "{name}"
+        );
     }
     Ok(())
 }
@@ -118,8 +131,11 @@ fn refusals_of_builds(rt: HostRuntime) -> Result<(), Fail> {
 #[test]
 fn refusals_of_metadata(rt: HostRuntime) -> Result<(), Fail> {
     for &(name, want) in OF_METADATA {
-        let printed = of_metadata(rt.alloc(), name)?.to_string(rt.alloc())?;
-        assert_eq!(rt; printed.as_str(), want, "{name}");
+        assert_eq!(rt;
+            printed_of_metadata(rt.alloc(), name)?.as_str(),
+            want,
+            "{name}"
+        );
     }
     Ok(())
 }
@@ -127,7 +143,7 @@ fn refusals_of_metadata(rt: HostRuntime) -> Result<(), Fail> {
 #[test]
 fn refusals_with_causes(rt: HostRuntime) -> Result<(), Fail> {
     for &(name, want) in OF_CAUSES {
-        let printed = of_metadata(rt.alloc(), name)?.to_string(rt.alloc())?;
+        let printed = printed_of_metadata(rt.alloc(), name)?;
         assert!(rt; printed.starts_with(want), "{name}: {printed}");
     }
     Ok(())
