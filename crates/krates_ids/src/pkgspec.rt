@@ -189,7 +189,8 @@ fn alone(alloc: Global, fragment: &str) -> Result<PkgSpec, Error>
 
 /// Reads the fragment after a url with this last piece.
 fn after_url(alloc: Global, url: &str, piece: &str, fragment: &str) -> Result<PkgSpec, Error>
-    ensures { Answers spec_view (GivesChecked (IsFragment (Some url.now) (Some piece.now) fragment.now)) result }
+    ensures { Answers spec_view
+        (GivesChecked (IsFragment (Some url.now) (Some piece.now) fragment.now)) result }
 {
     if let Some((name, version)) = split(fragment) {
         return of_both_sides(alloc, name, version, Some(url));
