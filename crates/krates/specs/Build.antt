@@ -114,16 +114,20 @@ IsBuildRefused may_answer index m s errors.TooMany = IsResolvable (metadata_view
 IsBuildRefused may_answer index m s errors.Memory = ⊤
 IsBuildRefused may_answer index m s _ = ⊥
 
+-- the same of a build that looks at this document in place of the given one
+abbrev pub IsRefusedSeeing : Metadata → Metadata → SettingModel → Error → Type 0
+IsRefusedSeeing given seen s errors.NoResolveGraph = IsRefused (metadata_view given) errors.NoResolveGraph
+IsRefusedSeeing given seen s (errors.InvalidId t) = IsRefused (metadata_view given) (errors.InvalidId t)
+IsRefusedSeeing given seen s (errors.Doubled kid) = IsRefused (metadata_view given) (errors.Doubled kid)
+IsRefusedSeeing given seen s (errors.Lost what) = IsResolvable (metadata_view given) × IsUnbuilt (metadata_view seen) s (errors.Lost what)
+IsRefusedSeeing given seen s errors.NoRootKrates = IsResolvable (metadata_view given) × IsUnbuilt (metadata_view seen) s errors.NoRootKrates
+IsRefusedSeeing given seen s errors.TooMany = IsResolvable (metadata_view given) × IsUnbuilt (metadata_view seen) s errors.TooMany
+IsRefusedSeeing given seen s errors.Memory = ⊤
+IsRefusedSeeing given seen s _ = ⊥
+
 -- the same without an index, where the document is looked at as it is given
 abbrev pub IsRefusedAsGiven : Metadata → SettingModel → Error → Type 0
-IsRefusedAsGiven m s errors.NoResolveGraph = IsRefused (metadata_view m) errors.NoResolveGraph
-IsRefusedAsGiven m s (errors.InvalidId t) = IsRefused (metadata_view m) (errors.InvalidId t)
-IsRefusedAsGiven m s (errors.Doubled kid) = IsRefused (metadata_view m) (errors.Doubled kid)
-IsRefusedAsGiven m s (errors.Lost what) = IsResolvable (metadata_view m) × IsUnbuilt (metadata_view m) s (errors.Lost what)
-IsRefusedAsGiven m s errors.NoRootKrates = IsResolvable (metadata_view m) × IsUnbuilt (metadata_view m) s errors.NoRootKrates
-IsRefusedAsGiven m s errors.TooMany = IsResolvable (metadata_view m) × IsUnbuilt (metadata_view m) s errors.TooMany
-IsRefusedAsGiven m s errors.Memory = ⊤
-IsRefusedAsGiven m s _ = ⊥
+IsRefusedAsGiven m s e = IsRefusedSeeing m m s e
 
 -- there are more kept crates than can be numbered
 abbrev pub IsMiscount : ℕ → Error → Type 0

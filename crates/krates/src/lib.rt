@@ -10,6 +10,7 @@ mod filter;
 mod indexed;
 mod kept;
 mod krate;
+pub mod laws;
 
 pub use builder::Builder;
 pub use enabled::EnabledFeatures;
@@ -21,7 +22,7 @@ pub use krates_cm::{Metadata, Package, PackageId};
 pub use krates_graph::graph::{EdgeId, NodeId};
 pub use krates_graph::{agenda, graph};
 pub use krates_ids::{Error, IdError, Kid, Lost, PkgSpec};
-pub use krates_resolve::{DepKind, Scope, laws};
+pub use krates_resolve::{DepKind, Scope};
 pub use krates_text::features::{Feature, ParsedFeature};
 pub use krates_text::target::Target;
 pub use krates_text::{path, target};
