@@ -114,16 +114,16 @@ IsBuildRefused may_answer index m s errors.TooMany = IsResolvable (metadata_view
 IsBuildRefused may_answer index m s errors.Memory = ⊤
 IsBuildRefused may_answer index m s _ = ⊥
 
--- the same of a build that looks at this document in place of the given one
+-- the same of a build that is given m and looks at p
 abbrev pub IsRefusedSeeing : Metadata → Metadata → SettingModel → Error → Type 0
-IsRefusedSeeing given seen s errors.NoResolveGraph = IsRefused (metadata_view given) errors.NoResolveGraph
-IsRefusedSeeing given seen s (errors.InvalidId t) = IsRefused (metadata_view given) (errors.InvalidId t)
-IsRefusedSeeing given seen s (errors.Doubled kid) = IsRefused (metadata_view given) (errors.Doubled kid)
-IsRefusedSeeing given seen s (errors.Lost what) = IsResolvable (metadata_view given) × IsUnbuilt (metadata_view seen) s (errors.Lost what)
-IsRefusedSeeing given seen s errors.NoRootKrates = IsResolvable (metadata_view given) × IsUnbuilt (metadata_view seen) s errors.NoRootKrates
-IsRefusedSeeing given seen s errors.TooMany = IsResolvable (metadata_view given) × IsUnbuilt (metadata_view seen) s errors.TooMany
-IsRefusedSeeing given seen s errors.Memory = ⊤
-IsRefusedSeeing given seen s _ = ⊥
+IsRefusedSeeing m p s errors.NoResolveGraph = IsRefused (metadata_view m) errors.NoResolveGraph
+IsRefusedSeeing m p s (errors.InvalidId t) = IsRefused (metadata_view m) (errors.InvalidId t)
+IsRefusedSeeing m p s (errors.Doubled kid) = IsRefused (metadata_view m) (errors.Doubled kid)
+IsRefusedSeeing m p s (errors.Lost what) = IsResolvable (metadata_view m) × IsUnbuilt (metadata_view p) s (errors.Lost what)
+IsRefusedSeeing m p s errors.NoRootKrates = IsResolvable (metadata_view m) × IsUnbuilt (metadata_view p) s errors.NoRootKrates
+IsRefusedSeeing m p s errors.TooMany = IsResolvable (metadata_view m) × IsUnbuilt (metadata_view p) s errors.TooMany
+IsRefusedSeeing m p s errors.Memory = ⊤
+IsRefusedSeeing m p s _ = ⊥
 
 -- the same without an index, where the document is looked at as it is given
 abbrev pub IsRefusedAsGiven : Metadata → SettingModel → Error → Type 0

@@ -18,7 +18,7 @@ use Rattle.krates.specs.Build.{IsResolvable, IsDerived, IsKept, IsNotKept, IsLos
 use Rattle.krates.specs.Indexed.{HasNames, IsCorrectedDocument}
 use Rattle.krates.specs.Kept.{AreOrdered}
 
--- the document that is looked at: with an answer of an index, the one whose packages are corrected by it, and else the given one
+-- the document that is looked at: with an answer of an index that whose packages are corrected by it, and else the given one
 abbrev pub IsSeenBy : Option IndexAnswer → Metadata → Metadata → Type 0
 IsSeenBy None given seen = seen ≡ given
 IsSeenBy (Some answer) given seen = IsCorrectedDocument answer given seen
@@ -42,12 +42,12 @@ pub record BuildAlike (m n p q : Metadata) (s : SettingModel) : Type 0 where
   pub names : (names : PackageNames) → HasNames m.packages.items names ↔ HasNames n.packages.items names
   -- the same crates, features and edges have derivations
   pub facts : (f : Fact) → IsDerived (metadata_view p) s f ↔ IsDerived (metadata_view q) s f
-  -- of each list of ids in order the places are numbers, so kept crates have the same numbers
+  -- the ids are equal place by place, so kept crates have the same numbers
   pub kept : ListAlike p q (IsKept (metadata_view p) s) (IsKept (metadata_view q) s)
   pub reported : ListAlike p q (IsNotKept (metadata_view p) s) (IsNotKept (metadata_view q) s)
   pub refused : (e : Error) → IsRefusedSeeing m p s e ↔ IsRefusedSeeing n q s e
 
--- What is looked at of documents that differ in order alone differs in order alone, so that it resolves alike and builds alike.
+-- What is looked at of two documents differs in order alone, so it resolves alike and builds alike.
 pub record IsSeenAlike (m n p q : Metadata) : Type 0 where
   pub reorders : Reorders (metadata_view p) (metadata_view q)
   pub resolves : ResolveAlike (metadata_view p) (metadata_view q)
@@ -60,8 +60,8 @@ IsBuildOrderFree = (answer : Option IndexAnswer) (m n p q : Metadata) → Reorde
 
 -- ---- settings that keep less
 
--- A build of the document m, which looks at p, succeeds: m can be resolved, nothing is lost, and the crates that have to be kept can
--- be numbered, by their places among these ids. This is part of what a build promises of the crates that it keeps.
+-- A build of the document m, which looks at p, succeeds: m can be resolved, nothing is lost, and the crates that have to
+-- be kept are numbered by their places among these ids. A build promises this of the crates that it keeps.
 pub record Succeeds (m p : Metadata) (s : SettingModel) (ids : List Identity) : Type 0 where
   pub resolvable : IsResolvable (metadata_view m)
   pub none_lost : (c : Cause) → IsLost (metadata_view p) s c → ⊥
@@ -76,6 +76,6 @@ pub record KeepsPart (m p : Metadata) (wide narrow : SettingModel) : Type 0 wher
   pub refusals : (ids : List Identity) → Succeeds m p wide ids → (e : Error) → IsRefusedSeeing m p narrow e
       → (e ≡ NoRootKrates) ⊎ (e ≡ Memory)
 
--- a build under a narrower setting keeps a part, whatever document it looks at: an index only has to answer both builds the same
+-- a build under a narrower setting keeps a part, whatever document p the two builds look at
 abbrev pub IsBuildNarrowing : Type 0
 IsBuildNarrowing = (m p : Metadata) (wide narrow : SettingModel) → IsNarrower wide narrow → KeepsPart m p wide narrow

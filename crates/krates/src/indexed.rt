@@ -11,7 +11,8 @@ use std::collections::BTreeSet;
 /// What looks the names of packages up in an index.
 #[derive(Drop)]
 pub struct IndexSource {
-    pub(crate) build: BuildIndexCache,
+    /// What is asked, once.
+    pub build: BuildIndexCache,
 }
 
 /// The document that a build looks at: with an index, which is asked once for the names of all packages, each package is
