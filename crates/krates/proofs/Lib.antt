@@ -1,10 +1,16 @@
+pub mod AdmittedAlike
 pub mod BuildLemmas
+pub mod BuildsAlike
+pub mod CorrectedAlike
 pub mod CorrectedSoFar
 pub mod DivisionLemmas
 pub mod EnabledLemmas
 pub mod HandedBack
+pub mod ListedAlike
 pub mod Membership
+pub mod MovedLists
 pub mod NamesIn
+pub mod NarrowedBuilds
 pub mod OrderedIds
 pub mod ResultValues
 pub mod SeenLemmas

@@ -114,16 +114,20 @@ IsBuildRefused may_answer index m s errors.TooMany = IsResolvable (metadata_view
 IsBuildRefused may_answer index m s errors.Memory = ⊤
 IsBuildRefused may_answer index m s _ = ⊥
 
+-- the same of a build that is given m and looks at p
+abbrev pub IsRefusedSeeing : Metadata → Metadata → SettingModel → Error → Type 0
+IsRefusedSeeing m p s errors.NoResolveGraph = IsRefused (metadata_view m) errors.NoResolveGraph
+IsRefusedSeeing m p s (errors.InvalidId t) = IsRefused (metadata_view m) (errors.InvalidId t)
+IsRefusedSeeing m p s (errors.Doubled kid) = IsRefused (metadata_view m) (errors.Doubled kid)
+IsRefusedSeeing m p s (errors.Lost what) = IsResolvable (metadata_view m) × IsUnbuilt (metadata_view p) s (errors.Lost what)
+IsRefusedSeeing m p s errors.NoRootKrates = IsResolvable (metadata_view m) × IsUnbuilt (metadata_view p) s errors.NoRootKrates
+IsRefusedSeeing m p s errors.TooMany = IsResolvable (metadata_view m) × IsUnbuilt (metadata_view p) s errors.TooMany
+IsRefusedSeeing m p s errors.Memory = ⊤
+IsRefusedSeeing m p s _ = ⊥
+
 -- the same without an index, where the document is looked at as it is given
 abbrev pub IsRefusedAsGiven : Metadata → SettingModel → Error → Type 0
-IsRefusedAsGiven m s errors.NoResolveGraph = IsRefused (metadata_view m) errors.NoResolveGraph
-IsRefusedAsGiven m s (errors.InvalidId t) = IsRefused (metadata_view m) (errors.InvalidId t)
-IsRefusedAsGiven m s (errors.Doubled kid) = IsRefused (metadata_view m) (errors.Doubled kid)
-IsRefusedAsGiven m s (errors.Lost what) = IsResolvable (metadata_view m) × IsUnbuilt (metadata_view m) s (errors.Lost what)
-IsRefusedAsGiven m s errors.NoRootKrates = IsResolvable (metadata_view m) × IsUnbuilt (metadata_view m) s errors.NoRootKrates
-IsRefusedAsGiven m s errors.TooMany = IsResolvable (metadata_view m) × IsUnbuilt (metadata_view m) s errors.TooMany
-IsRefusedAsGiven m s errors.Memory = ⊤
-IsRefusedAsGiven m s _ = ⊥
+IsRefusedAsGiven m s e = IsRefusedSeeing m m s e
 
 -- there are more kept crates than can be numbered
 abbrev pub IsMiscount : ℕ → Error → Type 0

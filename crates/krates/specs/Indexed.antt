@@ -1,5 +1,5 @@
 -- The document that a build looks at: the one that it is given, or that with each package corrected by what an index answers.
-use Rattle.std.specs.Prelude.{◌≡◌, List, Option, Some, None}
+use Rattle.std.specs.Prelude.{◌≡◌, List, Option, Some, None, ⊤}
 use Rattle.std.specs.BTreeSet.{contains_text}
 use Rattle.std.specs.List.{AllZip, list_any}
 use Rattle.std.specs.Str.{bytes_eq}
@@ -23,6 +23,11 @@ pub record IsCorrectedPackage (answer : IndexAnswer) (before after : Package) : 
 pub record IsCorrectedDocument (answer : IndexAnswer) (before after : Metadata) : Type 0 where
   pub packages : AllZip (IsCorrectedPackage answer) before.packages.items after.packages.items
   pub nothing_else : after ≡ record before { packages = after.packages }
+
+-- Whether an index may be asked about a document: for a set of exactly the names of its packages. Without one nothing is asked.
+abbrev pub IsAskable : {S : Type 0} → (S → PackageNames → Type 0) → Option S → Metadata → Type 0
+IsAskable may_ask None m = ⊤
+IsAskable may_ask (Some source) m = (names : PackageNames) → HasNames m.packages.items names → may_ask source names
 
 -- which answers a source may give for which names
 abbrev pub Answering : Type 0 → Type 1

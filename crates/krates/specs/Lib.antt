@@ -1,4 +1,5 @@
 pub mod Build
+pub mod BuildLaws
 pub mod Builder
 pub mod BuilderModel
 pub mod Division

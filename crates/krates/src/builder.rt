@@ -14,12 +14,12 @@ ghost use Rattle.krates_resolve.specs.Setting.{AsksForPaths};
 ghost use Rattle.krates.specs.Build.{IsResolvable, IsBuilt, IsUnbuilt, IsBuildRefused, IsMiscount};
 ghost use Rattle.krates.specs.Builder.{RestsUnchanged};
 ghost use Rattle.krates.specs.BuilderModel.{with_setting};
-ghost use Rattle.krates.specs.Indexed.{Sees};
+ghost use Rattle.krates.specs.Indexed.{IsAskable, Sees};
 
 use crate::division::divide;
 use crate::enabled::enabled_of;
 use crate::filter::{OnFilter, report};
-use crate::index::{IndexSource, seen_through};
+use crate::indexed::{IndexSource, seen_through};
 use crate::kept::Krates;
 use crate::krate::Krate;
 use krates_cm::Metadata;
@@ -157,9 +157,9 @@ impl Builder {
     /// Looks all packages up in this index, and corrects their features by it, before anything else is looked at. A second
     /// index takes the place of the first.
     ///
-    /// It is asked once by a build, with the names of all packages, and not at all where the build is refused before.
+    /// It is asked once by a build, with the names of all packages, and not at all where the document can't be resolved. So it
+    /// only has to be callable on those names, of a document that can be; that is asked for at the build.
     pub fn with_crates_io_index(&mut self, build: BuildIndexCache) -> &mut Self
-        requires { BuildIndexCache.IsAlwaysCallable build }
         ensures index { MatchOption result.now.index ⊥ (λ source. source.build ≡ build) }
         ensures setting { result.now.setting ≡ self.old.setting }
         ensures same_reference { result.ghost_name ≡ self.entry.ghost_name }
@@ -183,6 +183,8 @@ impl Builder {
         metadata: Metadata,
         filter: &mut F,
     ) -> Result<Krates, Error>
+        requires askable { IsResolvable (metadata_view metadata)
+            → IsAskable (λ source. BuildIndexCache.pre source.build) self.index metadata }
         requires callable { F.can_filter filter.old }
         ensures admitted { OnOk result (IsResolvable (metadata_view metadata)) }
         ensures built { IfOk result (λ krates. Sees (λ source. BuildIndexCache.post source.build) self.index metadata (λ seen. IsBuilt F.filters seen self.setting filter.old filter.new krates)) }

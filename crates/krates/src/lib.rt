@@ -3,30 +3,44 @@
 //! The items of the crates below are given again under their names, so that a caller needs no other crate.
 #![tactic(auto)]
 
-pub mod builder;
+mod builder;
 mod division;
-pub mod enabled;
-pub mod filter;
-pub mod index;
-pub mod kept;
+mod enabled;
+mod filter;
+mod indexed;
+mod kept;
 mod krate;
+pub mod laws;
 
 pub use builder::Builder;
 pub use enabled::EnabledFeatures;
 pub use filter::{NoneFilter, OnFilter};
-pub use index::IndexSource;
+pub use indexed::IndexSource;
 pub use kept::{Krates, KratesIter};
 pub use krates_cm as cm;
 pub use krates_cm::{Metadata, Package, PackageId};
-pub use krates_graph::graph::NodeId;
+pub use krates_graph::graph::{EdgeId, NodeId};
 pub use krates_graph::{agenda, graph};
-pub use krates_ids::{
-    BuildIndexCache, CachingIndex, Error, FeaturesMap, IdError, IndexAnswer, IndexKrate, IndexKrateVersion, Kid,
-    Lost, PackageNames, PkgSpec,
-};
-pub use krates_resolve::{DepKind, Scope, laws};
+pub use krates_ids::{Error, IdError, Kid, Lost, PkgSpec};
+pub use krates_resolve::{DepKind, Scope};
+pub use krates_text::features::{Feature, ParsedFeature};
 pub use krates_text::target::Target;
-pub use krates_text::{cfg, features, path, target};
+pub use krates_text::{path, target};
+pub use semver;
+
+/// Expressions over targets, and the targets that are known by their triple.
+pub mod cfg {
+    pub use krates_text::cfg::{CfgError, Expression};
+    pub use krates_text::target::{TargetInfo, builtin};
+}
+
+/// What an index knows of packages, and the correction of their features by it.
+pub mod index {
+    pub use krates_ids::index::{
+        BuildIndexCache, CachingIndex, FeaturesMap, IndexAnswer, IndexKrate, IndexKrateVersion,
+        PackageNames,
+    };
+}
 
 /// Which documents can be resolved, what is kept of them, and what they answer to the questions of the rules.
 pub mod resolve {

@@ -1,12 +1,12 @@
 //! Which crates a build keeps of a document, which it reports, and why it is refused.
 
-ghost use Rattle.std.specs.Prelude.{⊤};
+ghost use Rattle.std.specs.Prelude.{◌≡◌, None, ⊤};
 
 use crate::documents::{kid_of, metadata, word_of};
 use crate::setters::build_as;
 use crate::table::{Question, Row, hold};
 use krates::cm::Metadata;
-use krates::{Builder, Krates, NoneFilter, OnFilter, Package};
+use krates::{Builder, Error, Krates, NoneFilter, OnFilter, Package};
 use std::alloc::{AllocError, Global};
 use std::test::Fail;
 
@@ -24,9 +24,19 @@ fn push_package(text: &mut String, mark: &str, pkg: &Package) -> Result<(), Allo
 
 /// The packages that aren't kept, each behind a minus sign.
 #[derive(Drop)]
-struct Reported {
+pub(crate) struct Reported {
     text: String,
     is_whole: bool,
+}
+
+impl Reported {
+    /// None so far.
+    pub(crate) fn new(alloc: Global) -> Reported {
+        Reported {
+            text: String::new(alloc),
+            is_whole: true,
+        }
+    }
 }
 
 impl OnFilter for Reported {
@@ -45,13 +55,13 @@ fn push_krates(text: &mut String, krates: &Krates) -> Result<(), AllocError> {
     Ok(())
 }
 
-/// What the builder keeps and then what it reports, each in order, or the text of the refusal.
-pub(crate) fn outcome(alloc: Global, builder: Builder, metadata: Metadata) -> Result<String, Fail> {
-    let mut reported = Reported {
-        text: String::new(alloc),
-        is_whole: true,
-    };
-    let krates = match builder.build_with_metadata(metadata, &mut reported) {
+/// What a build kept and then what it reported, each in order, or the text of the refusal.
+pub(crate) fn told_of(
+    alloc: Global,
+    built: Result<Krates, Error>,
+    reported: &Reported,
+) -> Result<String, Fail> {
+    let krates = match built {
         Ok(krates) => krates,
         Err(error) => return Ok(format!(in alloc; "{error}")?),
     };
@@ -62,6 +72,15 @@ pub(crate) fn outcome(alloc: Global, builder: Builder, metadata: Metadata) -> Re
         text.push_str(" and more")?;
     }
     Ok(text)
+}
+
+/// What a builder without an index keeps and reports.
+pub(crate) fn outcome(alloc: Global, builder: Builder, metadata: Metadata) -> Result<String, Fail>
+    requires no_index { builder.index ≡ None }
+{
+    let mut reported = Reported::new(alloc);
+    let built = builder.build_with_metadata(metadata, &mut reported);
+    told_of(alloc, built, &reported)
 }
 
 /// What is kept and reported of a document under the setting of its line.

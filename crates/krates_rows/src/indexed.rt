@@ -2,11 +2,11 @@
 
 ghost use Rattle.std.specs.Prelude.{⊤};
 
-use crate::building::outcome;
+use crate::building::{Reported, told_of};
 use crate::documents::{metadata, section};
 use crate::table::{Question, Row, hold};
+use krates::index::{BuildIndexCache, IndexAnswer, IndexKrate, IndexKrateVersion, PackageNames};
 use krates::{Builder, OnFilter, Package};
-use krates_ids::{BuildIndexCache, IndexAnswer, IndexKrate, IndexKrateVersion, PackageNames};
 use semver::Version;
 use std::alloc::Global;
 use std::cell::Cell;
@@ -14,7 +14,8 @@ use std::collections::BTreeMap;
 use std::rc::Rc;
 use std::test::Fail;
 
-/// What a build tells, and how often the index was asked for exactly `a` and `b`.
+/// What a build tells, and how often the index was asked: once for exactly the names `a` and `b` counts one, and once for any
+/// others ten.
 struct AskedFor;
 
 impl Question for AskedFor {
@@ -24,23 +25,46 @@ impl Question for AskedFor {
         let theirs = calls.clone()?;
         let build: BuildIndexCache = Box::new(alloc, move |names: PackageNames| {
             let both = names.names.contains("a") && names.names.contains("b");
-            if both && names.names.len() == 2 {
-                theirs.set(theirs.get().wrapping_add(1));
-            }
+            let count = if both && names.names.len() == 2 {
+                1
+            } else {
+                10
+            };
+            theirs.set(theirs.get().wrapping_add(count));
             IndexAnswer {
                 krates: BTreeMap::new(alloc),
             }
         })?;
         let mut builder = Builder::new(alloc);
         builder.with_crates_io_index(build);
-        let told = outcome(alloc, builder, metadata)?;
+        let mut reported = Reported::new(alloc);
+        let built = builder.build_with_metadata(metadata, &mut reported);
+        let told = told_of(alloc, built, &reported)?;
         Ok(format!(in alloc; "{told}, asked {}", calls.get())?)
     }
 }
 
 const ASKED_ONCE: &[Row] = &[
     ("a b|b", "+a+b, asked 1"),
-    // not where the document is refused as it was given
+    // also where a package is lost, or no crate is kept
+    (
+        "a b|b / nodes a b",
+        "lost node: path+file:///w/b#0.1.0, asked 1",
+    ),
+    ("a|b / members", "no root crates available, asked 1"),
+];
+
+const NOT_ASKED: &[Row] = &[
+    // where the document is refused as it was given
+    (
+        "a b|b / no graph",
+        "no resolution graph was provided, asked 0",
+    ),
+    (
+        "a b|b / null graph",
+        "no resolution graph was provided, asked 0",
+    ),
+    ("a b|b / members a &id=x", "invalid package id: x, asked 0"),
     (
         "a b|b|b / nodes a b|b",
         "doubled id: path+file:///w/b#0.1.0, asked 0",
@@ -50,6 +74,11 @@ const ASKED_ONCE: &[Row] = &[
 #[test]
 fn asked_once(rt: HostRuntime) -> Result<(), Fail> {
     hold::<AskedFor>(rt.alloc(), ASKED_ONCE)
+}
+
+#[test]
+fn not_asked_before_a_refusal(rt: HostRuntime) -> Result<(), Fail> {
+    hold::<AskedFor>(rt.alloc(), NOT_ASKED)
 }
 
 /// How many features the packages have that aren't kept.
@@ -83,19 +112,13 @@ fn indexed(alloc: Global, text: &str) -> Result<IndexKrate, Fail> {
     })
 }
 
-/// Sets an index that has one crate, as `NAME@VERSION NAME=REFERENCE` says, and none of a second name.
-fn set_index(alloc: Global, builder: &mut Builder, text: &str) -> Result<(), Fail> {
+/// The answer of an index that has one crate, as `NAME@VERSION NAME=REFERENCE` says, and none of a second name.
+fn answer_of(alloc: Global, text: &str) -> Result<IndexAnswer, Fail> {
     let (name, rest) = text.split_once('@').unwrap_or((text, ""));
     let mut krates = BTreeMap::new(alloc);
     drop(krates.insert(String::from_str(alloc, name)?, Some(indexed(alloc, rest)?))?);
     drop(krates.insert(String::from_str(alloc, "q")?, None)?);
-    let answer = IndexAnswer { krates };
-    let build: BuildIndexCache = Box::new(alloc, move |names: PackageNames| {
-        drop(names);
-        answer
-    })?;
-    builder.with_crates_io_index(build);
-    Ok(())
+    Ok(IndexAnswer { krates })
 }
 
 /// How many crates are kept, or the refusal, and how many features the reported packages have, with the index of the line.
@@ -104,8 +127,13 @@ struct Corrected;
 impl Question for Corrected {
     fn told(alloc: Global, line: &str) -> Result<String, Fail> {
         let metadata = metadata(alloc, line)?;
+        let answer = answer_of(alloc, section(line, "index ").unwrap_or(""))?;
+        let build: BuildIndexCache = Box::new(alloc, move |names: PackageNames| {
+            drop(names);
+            answer
+        })?;
         let mut builder = Builder::new(alloc);
-        set_index(alloc, &mut builder, section(line, "index ").unwrap_or(""))?;
+        builder.with_crates_io_index(build);
         let mut reported = Features { count: 0 };
         let answer = match builder.build_with_metadata(metadata, &mut reported) {
             Ok(krates) => format!(in alloc; "{} kept", krates.len())?,

@@ -23,6 +23,8 @@ mod listing;
 #[cfg(test)]
 mod options;
 #[cfg(test)]
+mod public_names;
+#[cfg(test)]
 mod referents;
 #[cfg(test)]
 mod selection;

@@ -8,6 +8,8 @@
 //!
 //! Any other section sets nothing.
 
+ghost use Rattle.std.specs.Prelude.{◌≡◌, OnOk};
+
 use crate::documents::kind_named;
 use krates::{Builder, DepKind, PkgSpec, Scope, Target};
 use krates_resolve::Setting;
@@ -61,7 +63,9 @@ fn targets_of(alloc: Global, text: &str) -> Result<Vec<(Target, Vec<String>)>, F
 }
 
 /// Sets of the builder what a section asks.
-fn build_with(alloc: Global, builder: &mut Builder, section: &str) -> Result<(), Fail> {
+fn build_with(alloc: Global, builder: &mut Builder, section: &str) -> Result<(), Fail>
+    ensures index { OnOk result (builder.new.index ≡ builder.old.index) }
+{
     let (setter, text) = section.split_once(' ').unwrap_or((section, ""));
     let (first, second) = text.split_once(' ').unwrap_or((text, ""));
     match setter {
@@ -86,7 +90,9 @@ fn build_with(alloc: Global, builder: &mut Builder, section: &str) -> Result<(),
 }
 
 /// Sets of the builder, in turn, what each section of the line asks.
-pub(crate) fn build_as(alloc: Global, builder: &mut Builder, line: &str) -> Result<(), Fail> {
+pub(crate) fn build_as(alloc: Global, builder: &mut Builder, line: &str) -> Result<(), Fail>
+    ensures index { OnOk result (builder.new.index ≡ builder.old.index) }
+{
     for section in line.split(" / ") {
         build_with(alloc, builder, section)?;
     }

@@ -1,18 +1,18 @@
 //! Looking packages up in an index, and correcting them by what it answers.
 
 ghost use Rattle.std.specs.Prelude.{IfOk};
-ghost use Rattle.krates.specs.Indexed.{HasNames, IsCorrectedDocument, IsSeen};
+ghost use Rattle.krates.specs.Indexed.{HasNames, IsAskable, IsCorrectedDocument, IsSeen};
 
 use krates_cm::{Metadata, Package};
 use krates_ids::{BuildIndexCache, CachingIndex, PackageNames};
 use std::alloc::{AllocError, Global};
 use std::collections::BTreeSet;
 
-/// What looks the names of packages up in an index, and may be called.
+/// What looks the names of packages up in an index.
 #[derive(Drop)]
 pub struct IndexSource {
-    pub(crate) build: BuildIndexCache,
-    ghost callable: { BuildIndexCache.IsAlwaysCallable build },
+    /// What is asked, once.
+    pub build: BuildIndexCache,
 }
 
 /// The document that a build looks at: with an index, which is asked once for the names of all packages, each package is
@@ -22,7 +22,8 @@ pub(crate) fn seen_through(
     index: Option<IndexSource>,
     metadata: Metadata,
 ) -> Result<Metadata, AllocError>
-    ensures { IfOk result (IsSeen (λ source. BuildIndexCache.post source.build) index metadata) }
+    requires askable { IsAskable (λ source. BuildIndexCache.pre source.build) index metadata }
+    ensures seen { IfOk result (IsSeen (λ source. BuildIndexCache.post source.build) index metadata) }
 {
     let Some(IndexSource { build }) = index else {
         return Ok(metadata);

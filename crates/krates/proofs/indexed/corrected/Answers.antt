@@ -4,7 +4,7 @@ use Rattle.std.specs.List.{AllZip}
 use Rattle.krates_cm.specs.declared.package.Package.{Package}
 use Rattle.krates.specs.Indexed.{IsCorrectedPackage}
 use Rattle.krates.proofs.CorrectedSoFar.{none_so_far, one_more_at, all_changed}
-use Rattle.krates.proofs.index.corrected.Goals as goal
+use Rattle.krates.proofs.indexed.corrected.Goals as goal
 
 pub loop-pkg-init : goal.loop-pkg-init
 loop-pkg-init c = none_so_far (IsCorrectedPackage c.args.index.now.answer) _ _ c.deref_mut-pkg-items.ensures.value

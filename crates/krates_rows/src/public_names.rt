@@ -1,0 +1,165 @@
+//! The names under which the library gives its items: each public path is called once.
+
+use crate::documents::metadata;
+use crate::table::{Question, Row, hold};
+use krates::agenda::Agenda;
+use krates::cfg::{CfgError, Expression, TargetInfo, builtin};
+use krates::cm::DependencyKind;
+use krates::graph::Graph;
+use krates::index::{
+    BuildIndexCache, CachingIndex, FeaturesMap, IndexAnswer, IndexKrate, IndexKrateVersion,
+    PackageNames,
+};
+use krates::resolve::{Setting, admit, select};
+use krates::semver::Version;
+use krates::{
+    DepKind, EdgeId, Error, Feature, IdError, Kid, NodeId, PackageId, ParsedFeature, PkgSpec,
+    Target, laws, path,
+};
+use std::alloc::Global;
+use std::collections::{BTreeMap, BTreeSet};
+use std::test::Fail;
+
+/// The form of a reference.
+fn form_of(text: &str) -> &'static str {
+    match ParsedFeature::from(text).feat() {
+        Feature::Krate(_) => "krate",
+        Feature::Weak { .. } => "weak",
+        Feature::Strong { .. } => "strong",
+        Feature::Simple(_) => "simple",
+    }
+}
+
+/// The fault of an id.
+fn fault_of(alloc: Global, text: &str) -> Result<&'static str, Fail> {
+    let repr = String::from_str(alloc, text)?;
+    let fault = match Kid::try_from(PackageId { repr }) {
+        Ok(_) => "none",
+        Err(IdError::Opaque(_)) => "opaque",
+        Err(IdError::Stable(_)) => "stable",
+        Err(_) => "another",
+    };
+    Ok(fault)
+}
+
+/// The fault of an expression.
+fn expression_fault(alloc: Global, text: &str) -> &'static str {
+    match Expression::parse(alloc, text) {
+        Ok(_) => "none",
+        Err(CfgError::Syntax) => "syntax",
+        Err(_) => "another",
+    }
+}
+
+/// The triple of a known target.
+fn triple_of(alloc: Global, text: &str) -> Result<String, Fail> {
+    let info: Option<TargetInfo> = builtin(alloc, text)?;
+    match info {
+        Some(info) => Ok(info.triple),
+        None => Ok(String::from_str(alloc, "none")?),
+    }
+}
+
+/// How many numbers a graph of two nodes and an agenda give.
+fn counted(alloc: Global) -> Result<usize, Fail> {
+    let mut graph: Graph<u8, u8> = Graph::with_limits(alloc, 2, 1);
+    drop(graph.add_node(1));
+    drop(graph.add_node(2));
+    let mut agenda = Agenda::new(alloc, 1)?;
+    agenda.put(0);
+    let taken = agenda.take().map_or(7, |taken| taken.number());
+    Ok(graph.node_count().saturating_add(taken))
+}
+
+/// An index that knows one version without features.
+fn known(alloc: Global) -> Result<IndexAnswer, Fail> {
+    let features: FeaturesMap = BTreeMap::new(alloc);
+    let version = Version::parse(alloc, "1.2.3")?;
+    let indexed = IndexKrateVersion { version, features };
+    let krate = IndexKrate {
+        versions: vec![in alloc; indexed]?,
+    };
+    let mut krates = BTreeMap::new(alloc);
+    drop(krates.insert(String::from_str(alloc, "p")?, Some(krate))?);
+    Ok(IndexAnswer { krates })
+}
+
+/// How many crates an index answers.
+fn answered(alloc: Global) -> Result<usize, Fail> {
+    let answer = known(alloc)?;
+    let build: BuildIndexCache = Box::new(alloc, move |names: PackageNames| {
+        drop(names);
+        answer
+    })?;
+    let names = PackageNames {
+        names: BTreeSet::new(alloc),
+    };
+    let index = CachingIndex::new(build, names);
+    Ok(index.answer.krates.len())
+}
+
+/// How many crates are selected of a document.
+fn selected(alloc: Global, line: &str) -> Result<usize, Fail> {
+    let metadata = metadata(alloc, line)?;
+    let ids = admit(alloc, &metadata)?;
+    match select(alloc, &metadata, &ids, &Setting::new(alloc)) {
+        Ok(selection) => Ok(selection.krates.len()),
+        Err(Error::NoRootKrates) => Ok(0),
+        Err(error) => Ok(Err(error)?),
+    }
+}
+
+/// What a call answers that the first word of the line names.
+struct Named;
+
+impl Question for Named {
+    fn told(alloc: Global, line: &str) -> Result<String, Fail> {
+        let (name, text) = line.split_once(' ').unwrap_or((line, ""));
+        let told = match name {
+            "ParsedFeature" => form_of(text),
+            "IdError" => fault_of(alloc, text)?,
+            "cfg::CfgError" => expression_fault(alloc, text),
+            "path::parent" => path::parent(text).unwrap_or("none"),
+            _ => "no such name",
+        };
+        Ok(String::from_str(alloc, told)?)
+    }
+}
+
+const TEXTS: &[Row] = &[
+    ("ParsedFeature a?/b", "weak"),
+    ("IdError a/b", "stable"),
+    ("cfg::CfgError cfg()", "syntax"),
+    ("path::parent /w/a", "/w"),
+];
+
+#[test]
+fn names_of_texts(rt: HostRuntime) -> Result<(), Fail> {
+    hold::<Named>(rt.alloc(), TEXTS)
+}
+
+#[test]
+fn names_of_values(rt: HostRuntime) -> Result<(), Fail> {
+    let alloc = rt.alloc();
+    laws::narrowing();
+    laws::narrowing_of_builds();
+    laws::reordering();
+    laws::reordering_of_builds();
+    let numbers = NodeId::new(3)
+        .index()
+        .saturating_add(EdgeId::new(4).index());
+    let is_dev = DepKind::Dev.is(DependencyKind::Development);
+    let told = format!(in alloc;
+        "{} {} {} {} {} {} {} {}",
+        triple_of(alloc, "x86_64-pc-windows-msvc")?,
+        Target::new(alloc, "x")?,
+        PkgSpec::from_str(alloc, "e@1.0.0")?.name,
+        counted(alloc)?,
+        answered(alloc)?,
+        selected(alloc, "a b|b|c")?,
+        numbers,
+        is_dev
+    )?;
+    assert_eq!(rt; told.as_str(), "x86_64-pc-windows-msvc x e 2 1 2 7 true");
+    Ok(())
+}
