@@ -1,4 +1,3 @@
-pub mod CommandLineLemmas
 pub mod CountedLemmas
 pub mod ExclusionLemmas
 pub mod IgnoredLemmas

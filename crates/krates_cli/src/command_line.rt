@@ -2,17 +2,19 @@
 
 ghost use Rattle.std.specs.Prelude.{◌≡◌, ◌≢◌, ◌≤◌, ◌⊎◌, IfOk, IfSome, map, string_bytes};
 ghost use Rattle.krates_cm.specs.Document.{Text};
-ghost use Rattle.krates_cli.specs.CommandLine.{Asking, IsRefusalLine, IsTold, RefusedRun, no_memory_line, usage_line};
-ghost use Rattle.krates_cli.specs.Counted.{HasFailed, inner_of};
+ghost use Rattle.krates_cli.specs.CommandLine.{Asking, IsCause, IsTold, LeavesEnds, TellsCause, no_memory_line, refusal_line, usage_line};
+ghost use Rattle.krates_cli.specs.Counted.{inner_of};
 ghost use Rattle.krates_cli.specs.Listing.{WritesListing};
 ghost use Rattle.krates_cli.specs.Options.{IsUnknown, setting_of};
+ghost use Rattle.krates_cli.specs.RunError.{run_error_text};
 ghost use Rattle.krates_cli.specs.declared.options.OptionsError.TheVariants as options_errors;
+ghost use Rattle.krates_cli.specs.declared.run_error.RunError.{RunError};
 
 use crate::counted::Counted;
 use crate::listing::run;
 use crate::options::{OptionsError, options_of};
-use crate::run_error::RunError;
 use std::alloc::{AllocError, Global};
+use std::fmt::Display;
 use std::io;
 use std::io::{ErrorKind, Read, Write};
 
@@ -46,8 +48,10 @@ pub fn program<R: Read, W: Write, E: Write>(
     ensures unread { result ≡ 2 → (input.new ≡ input.old) × (output.new ≡ output.old) }
     ensures listed { result ≡ 0 → Asking (map string_bytes words.now) (λ o. IfSome (R.remaining (inner_of input.old)) (λ bytes. WritesListing (setting_of o) bytes (W.contents (inner_of output.old)) (W.contents (inner_of output.new)))) }
     ensures silent { result ≡ 0 → errors.new ≡ errors.old }
-    ensures refused { result ≡ 1 → RefusedRun (map string_bytes words.now) R.remaining E.contents input.old errors.old errors.new }
-    ensures unwritten { result ≡ 1 → (output.new ≡ output.old) ⊎ HasFailed output.old output.new }
+    ensures refused { result ≡ 1 → (cause : RunError)
+        × IsCause (map string_bytes words.now) (R.remaining (inner_of input.old)) cause
+        × LeavesEnds input.old input.new output.old output.new cause
+        × TellsCause E.contents errors.old errors.new (run_error_text cause) }
 {
     let options = match options_of(alloc, words) {
         Ok(options) => options,
@@ -94,23 +98,23 @@ pub fn refuse_words<E: Write>(error: &io::Error, errors: &mut Counted<E>) -> u8
     REFUSED
 }
 
-/// Writes the cause of a refusal in a line; where there is no memory for that line, it says so in its place.
-fn refuse<E: Write>(alloc: Global, error: &RunError, errors: &mut Counted<E>)
-    ensures { (line : Text) × IsRefusalLine line × IsTold E.contents errors.old errors.new line }
+/// Writes what is printed of the cause in a line; where there is no memory for that line, it says so in its place.
+fn refuse<C: Display, E: Write>(alloc: Global, cause: &C, errors: &mut Counted<E>)
+    ensures { TellsCause E.contents errors.old errors.new (C.output cause.now) }
 {
-    match refusal_line(alloc, error) {
+    match line_of(alloc, cause) {
         Ok(line) => tell(errors, line.as_str()),
         Err(_) => tell(errors, NO_MEMORY_LINE),
     }
 }
 
-/// `refused: `, the cause's text, and a newline.
-fn refusal_line(alloc: Global, error: &RunError) -> Result<String, AllocError>
-    ensures { IfOk result (λ line. IsRefusalLine (string_bytes line)) }
+/// `refused: `, what is printed of the cause, and a newline.
+fn line_of<C: Display>(alloc: Global, cause: &C) -> Result<String, AllocError>
+    ensures { IfOk result (λ line. (text : Text) × IfSome (C.output cause.now) (λ stated. text ≡ stated) × (string_bytes line ≡ refusal_line text)) }
 {
-    let cause = error.to_string(alloc)?;
+    let text = cause.to_string(alloc)?;
     let mut line = String::from_str(alloc, "refused: ")?;
-    line.push_str(cause.as_str())?;
+    line.push_str(text.as_str())?;
     line.push_str("\n")?;
     Ok(line)
 }
