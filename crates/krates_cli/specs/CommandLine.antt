@@ -2,7 +2,7 @@
 use Rattle.std.specs.Prelude.{◌≡◌, ◌++◌, ◌⊎◌, List, Option, IfSome, codes}
 use Rattle.std.specs.Io.KnownBytes.{Appends}
 use Rattle.krates_cm.specs.Document.{Text}
-use Rattle.krates_cli.specs.Counted.{HasFailed, inner_of}
+use Rattle.krates_cli.specs.Counted.{AppendsFront, HasFailed, inner_of}
 use Rattle.krates_cli.specs.ListingRefusals.{IsRunRefused}
 use Rattle.krates_cli.specs.Options.{OptionsModel, IsCommandLine, setting_of}
 use Rattle.krates_cli.specs.declared.counted.Counted.{Counted}
@@ -16,9 +16,10 @@ usage_line = codes "usage: krates-list [--workspace] [--ignore-kind KIND] [--tar
 abbrev pub no_memory_line : Text
 no_memory_line = codes "refused: out of memory\n"
 
--- the text was written, or a call of the writer failed
+-- the text was written, or a call of the writer failed and a beginning of the text was written
 abbrev pub IsTold : {E : Type 0} → (E → Option Text) → Counted E → Counted E → Text → Type 0
-IsTold contents old new text = Appends (contents (inner_of old)) (contents (inner_of new)) text ⊎ HasFailed old new
+IsTold contents old new text = Appends (contents (inner_of old)) (contents (inner_of new)) text
+    ⊎ (HasFailed old new × AppendsFront (contents (inner_of old)) (contents (inner_of new)) text)
 
 -- the words are options, and this is true of them
 abbrev pub Asking : List Text → (OptionsModel → Type 0) → Type 0

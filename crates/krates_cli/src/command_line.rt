@@ -1,10 +1,11 @@
 //! All that the program does, over any reader and writers: words, run, refusal and status.
 
 ghost use Rattle.std.specs.Prelude.{◌≡◌, ◌≢◌, ◌≤◌, ◌⊎◌, IfOk, IfSome, map, string_bytes};
+ghost use Rattle.std.specs.IoError.{error_kind};
 ghost use Rattle.krates_cm.specs.Document.{Text};
 ghost use Rattle.krates_cli.specs.CommandLine.{Asking, IsCause, IsTold, LeavesEnds, TellsCause, no_memory_line, refusal_line, usage_line};
 ghost use Rattle.krates_cli.specs.Counted.{inner_of};
-ghost use Rattle.krates_cli.specs.Listing.{WritesListing};
+ghost use Rattle.krates_cli.specs.Listing.{WritesBeginning, WritesListing};
 ghost use Rattle.krates_cli.specs.Options.{IsUnknown, setting_of};
 ghost use Rattle.krates_cli.specs.RunError.{run_error_text};
 ghost use Rattle.krates_cli.specs.declared.options.OptionsError.TheVariants as options_errors;
@@ -52,6 +53,9 @@ pub fn program<R: Read, W: Write, E: Write>(
         × IsCause (map string_bytes words.now) (R.remaining (inner_of input.old)) cause
         × LeavesEnds input.old input.new output.old output.new cause
         × TellsCause E.contents errors.old errors.new (run_error_text cause) }
+    ensures beginning { result ≡ 1 → (output.new ≡ output.old)
+        ⊎ Asking (map string_bytes words.now) (λ o. IfSome (R.remaining (inner_of input.old))
+            (λ bytes. WritesBeginning (setting_of o) bytes (W.contents (inner_of output.old)) (W.contents (inner_of output.new)))) }
 {
     let options = match options_of(alloc, words) {
         Ok(options) => options,
@@ -86,9 +90,8 @@ fn refuse_options<E: Write>(error: &OptionsError, errors: &mut Counted<E>) -> u8
 /// Answers the exit status where the words couldn't be had: 2 and the usage line where one is no text, which is a word that
 /// isn't known; else 1 and a line that memory is wanting.
 pub fn refuse_words<E: Write>(error: &io::Error, errors: &mut Counted<E>) -> u8
-    ensures status { (result ≡ 1) ⊎ (result ≡ 2) }
-    ensures unknown_word { result ≡ 2 → IsTold E.contents errors.old errors.new usage_line }
-    ensures no_memory { result ≡ 1 → IsTold E.contents errors.old errors.new no_memory_line }
+    ensures unknown_word { error_kind error.now ≡ ErrorKind.InvalidData → (result ≡ 2) × IsTold E.contents errors.old errors.new usage_line }
+    ensures no_memory { error_kind error.now ≢ ErrorKind.InvalidData → (result ≡ 1) × IsTold E.contents errors.old errors.new no_memory_line }
 {
     if error.kind() == ErrorKind::InvalidData {
         tell(errors, USAGE_LINE);
