@@ -1,8 +1,9 @@
 -- What the program says on standard error.
-use Rattle.std.specs.Prelude.{◌≡◌, ◌++◌, ◌⊎◌, List, Option, IfSome, codes}
+use Rattle.std.specs.Prelude.{◌≡◌, ◌++◌, ◌⊎◌, List, Option, IfSome, IsSomeAnd, IsUtf8, codes}
 use Rattle.std.specs.Io.KnownBytes.{Appends}
 use Rattle.krates_cm.specs.Document.{Text}
 use Rattle.krates_cli.specs.Counted.{AppendsFront, HasFailed, inner_of}
+use Rattle.krates_cli.specs.Listing.{IsListing}
 use Rattle.krates_cli.specs.ListingRefusals.{IsRunRefused}
 use Rattle.krates_cli.specs.Options.{OptionsModel, IsCommandLine, setting_of}
 use Rattle.krates_cli.specs.declared.counted.Counted.{Counted}
@@ -29,6 +30,11 @@ Asking words P = (o : OptionsModel) × IsCommandLine words o × P o
 abbrev pub IsCause : List Text → Option Text → RunError → Type 0
 IsCause words remaining cause =
     (cause ≡ errors.Memory) ⊎ Asking words (λ o. IfSome remaining (λ bytes. IsRunRefused (setting_of o) bytes cause))
+
+-- the words ask for something, and what is to be read has a listing under it
+abbrev pub AskForListing : List Text → Option Text → Type 0
+AskForListing words remaining =
+    Asking words (λ o. IsSomeAnd remaining (λ bytes. IsUtf8 bytes × ((lines : Text) × IsListing (setting_of o) bytes lines)))
 
 -- What a cause says of the reader and the writer: a failed call is counted where the cause is one, and nothing is written unless
 -- the writer failed.
