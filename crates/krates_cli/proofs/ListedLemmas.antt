@@ -2,7 +2,6 @@
 use Rattle.std.proofs.Common.{◌≡◌, ℕ, zero, suc, ◌<◌, List, [], ◌∷◌, length, get_or, Contains, Option, Some, None, IsUtf8, refl, ap, sym, ◌∙◌, subst, inl, inr, arith, string_bytes}
 use Rattle.std.proofs.lemmas.Option.{none-some, same_Some}
 use Rattle.std.specs.List.{AllZip, AllByRecursion}
-use Rattle.std.specs.Prelude.{IsSomeAnd}
 use Rattle.krates_cm.specs.Document.{Text, MetadataModel, NodeModel, ResolveModel, metadata_view}
 use Rattle.krates_cm.specs.Names.{version_named}
 use Rattle.krates_cm.specs.Parsing.{IsDocument, IsRefusal}

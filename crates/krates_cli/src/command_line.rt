@@ -55,7 +55,7 @@ pub fn program<R: Read, W: Write, E: Write>(
         × TellsCause E.contents errors.old errors.new (run_error_text cause) }
     ensures beginning { result ≡ 1 → (output.new ≡ output.old)
         ⊎ Asking (map string_bytes words.now) (λ o. IfSome (R.remaining (inner_of input.old))
-            (λ bytes. WritesBeginning (setting_of o) bytes (W.contents (inner_of output.old)) (W.contents (inner_of output.new)))) }
+        (λ bytes. WritesBeginning (setting_of o) bytes (W.contents (inner_of output.old)) (W.contents (inner_of output.new)))) }
 {
     let options = match options_of(alloc, words) {
         Ok(options) => options,
