@@ -30,11 +30,12 @@ const REFUSED: u8 = 1;
 
 const UNKNOWN_WORD: u8 = 2;
 
-/// Does all that `main` does, with the words after the program's name, and answers the exit status: 0 where the lines were
-/// written; 1 where the run was refused, with the cause in a line on `errors`; 2 where the words aren't options, with the
-/// usage line on `errors`.
+/// Does all that `main` does, with the words after the program's name, and answers the exit status: 0 where the run succeeds and
+/// the lines were written; 1 where it is refused, with what is printed of the cause in a line on `errors`; 2 where the words
+/// aren't options, with the usage line on `errors`. Where memory runs out for the line of a cause, it says that instead.
 ///
 /// All words are read before any input; where memory runs out meanwhile, the status is 1 and nothing was read.
+/// `laws::listed_or_refused` says that a cause is the text's only where there is no listing.
 pub fn program<R: Read, W: Write, E: Write>(
     alloc: Global,
     words: &[String],
@@ -70,7 +71,7 @@ pub fn program<R: Read, W: Write, E: Write>(
     }
 }
 
-/// Answers the exit status where the words aren't read: 2 and the usage line, or 1 and a line that memory is wanting.
+/// Answers the exit status where the words aren't read: 2 and the usage line, or 1 and the line that memory ran out.
 fn refuse_options<E: Write>(error: &OptionsError, errors: &mut Counted<E>) -> u8
     ensures unknown { error.now ≡ options_errors.Unknown → (result ≡ 2) × IsTold E.contents errors.old errors.new usage_line }
     ensures no_memory { error.now ≡ options_errors.Memory → (result ≡ 1) × IsTold E.contents errors.old errors.new no_memory_line }
@@ -88,7 +89,7 @@ fn refuse_options<E: Write>(error: &OptionsError, errors: &mut Counted<E>) -> u8
 }
 
 /// Answers the exit status where the words couldn't be had: 2 and the usage line where one is no text, which is a word that
-/// isn't known; else 1 and a line that memory is wanting.
+/// isn't known; else 1 and the line that memory ran out.
 pub fn refuse_words<E: Write>(error: &io::Error, errors: &mut Counted<E>) -> u8
     ensures unknown_word { error_kind error.now ≡ ErrorKind.InvalidData → (result ≡ 2) × IsTold E.contents errors.old errors.new usage_line }
     ensures no_memory { error_kind error.now ≢ ErrorKind.InvalidData → (result ≡ 1) × IsTold E.contents errors.old errors.new no_memory_line }

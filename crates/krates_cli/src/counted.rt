@@ -93,6 +93,7 @@ impl<R: Read> Counted<R> {
 impl<W: Write> Counted<W> {
     /// One write of the front of the bytes, made again as long as it is interrupted: how many bytes were taken.
     fn write(&mut self, bytes: &[u8]) -> Result<usize, CountedCall>
+        requires { 0 < length bytes.now }
         ensures bound { IfOk result (λ n. (0 < n) × (n ≤ length bytes.now)) }
         ensures bytes { WriteAppends (W.contents (inner_of self.old)) (W.contents (inner_of self.new)) result bytes.now }
         ensures failed { OnErr result (HasFailed self.old self.new) }

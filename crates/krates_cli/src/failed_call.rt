@@ -44,8 +44,10 @@ pub(crate) fn read_once<R: Read>(inner: &mut R, buffer: &mut [u8]) -> Result<usi
     inner.read(buffer).map_err(failed)
 }
 
-/// One call of the writer, with the front of the bytes: how many were taken. A call that takes none has failed.
+/// One call of the writer, with the front of the bytes: how many were taken. A call that takes none has failed, so there have to
+/// be some.
 pub(crate) fn write_once<W: Write>(inner: &mut W, bytes: &[u8]) -> Result<usize, FailedCall>
+    requires { 0 < length bytes.now }
     ensures bound { IfOk result (λ n. (0 < n) × (n ≤ length bytes.now)) }
     ensures bytes { WriteAppends (W.contents inner.old) (W.contents inner.new) result bytes.now }
 {
