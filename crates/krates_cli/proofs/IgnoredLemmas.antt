@@ -1,5 +1,6 @@
 -- What one more ignored purpose is, as a set.
-use Rattle.std.proofs.Common.{◌≡◌, ℕ, ◌↔◌, ◌⊎◌, ◌+◌, ◌<◌, Bool, true, false, List, [], ◌∷◌, drop, length, get_or, refl, sym, ap, inl, inr, ⊎_elim, ◌∙◌}
+use Rattle.std.proofs.Common.{◌≡◌, ℕ, ◌↔◌, ◌⊎◌, ◌+◌, ◌<◌, ◌||◌, Bool, true, false, List, [], ◌∷◌, drop, length, get_or, refl, sym, ap, inl, inr, ⊎_elim, ◌∙◌}
+use Rattle.std.proofs.Math.Bool.{or-true, or-false}
 use Rattle.std.proofs.lemmas.Bool.{false≢true}
 use Rattle.std.proofs.lemmas.List.{drop_more}
 use Rattle.krates_resolve.specs.Kind.{has_kind, HasOneMore, IgnoresMore}
@@ -9,7 +10,9 @@ use Rattle.krates_resolve.specs.declared.kind.DepKind.TheVariants as kinds
 use Rattle.krates_resolve.specs.declared.kind.IgnoredKinds.{IgnoredKinds}
 use Rattle.krates_resolve.specs.declared.kind.KindSet.{KindSet}
 use Rattle.krates_resolve.specs.declared.kind.Scope.TheVariants.{All}
-use Rattle.krates_cli.specs.Options.{with_kind, with_ignored}
+use Rattle.krates_resolve.specs.PlainSetting.{no_kinds, nothing_ignored}
+use Rattle.krates_cli.specs.Options.{is_same, set_of}
+use Rattle.krates_cli.specs.OptionsReading.{with_kind, with_kinds, with_ignored}
 
 -- two answers that are yes for the same are the same
 same_answer : (a b : Bool) → ((a ≡ true) ↔ (b ≡ true)) → a ≡ b
@@ -26,12 +29,6 @@ same_set a b h =
     ap (λ x. record a { normal = x }) n ∙ ap (λ x. record b { build = x; dev = a.dev }) u ∙ ap (λ x. record b { dev = x }) d
 
 -- two purposes differ
-abbrev is_same : DepKind → DepKind → Bool
-is_same kinds.Normal kinds.Normal = true
-is_same kinds.Build kinds.Build = true
-is_same kinds.Dev kinds.Dev = true
-is_same a b = false
-
 differ : {A : Type 0} (a b : DepKind) → is_same a b ≡ false → is_same b b ≡ true → a ≡ b → A
 differ a b apart same e = absurd (false≢true (sym apart ∙ ap (λ k. is_same k b) e ∙ same))
 
@@ -70,3 +67,28 @@ next_ignored now new old start purposes i kind d same more rest lt is left =
     let here = ap {A = IgnoredKinds} {B = SettingModel} (λ g. record old { ignored = with_ignored (drop (i + 1) purposes) g }) (ignores_alone old.ignored new.ignored kind more) in
     let split : drop i purposes ≡ kind ∷ drop (i + 1) purposes = drop_more purposes i d lt ∙ ap (λ k. k ∷ drop (i + 1) purposes) (sym is) in
     after ∙ here ∙ ap {A = List DepKind} {B = SettingModel} (λ l. record old { ignored = with_ignored l old.ignored }) (sym split) ∙ left
+
+-- the sets of both lists, in one
+abbrev both : KindSet → KindSet → KindSet
+both a b = record { normal = a.normal || b.normal; build = a.build || b.build; dev = a.dev || b.dev }
+
+-- one more purpose may be in either
+one_in_both : (kind : DepKind) (asked : List DepKind) (set : KindSet) → both (set_of asked) (with_kind kind set) ≡ both (set_of (kind ∷ asked)) set
+one_in_both kinds.Normal asked set = ap (λ b. record (both (set_of asked) set) { normal = b }) (or-true (set_of asked).normal)
+one_in_both kinds.Build asked set = ap (λ b. record (both (set_of asked) set) { build = b }) (or-true (set_of asked).build)
+one_in_both kinds.Dev asked set = ap (λ b. record (both (set_of asked) set) { dev = b }) (or-true (set_of asked).dev)
+
+none_in_both : (set : KindSet) → both set no_kinds ≡ set
+none_in_both set =
+    ap (λ b. record (both set no_kinds) { normal = b }) (or-false set.normal) ∙ ap (λ b. record set { build = b; dev = set.dev || false }) (or-false set.build)
+    ∙ ap (λ b. record set { dev = b }) (or-false set.dev)
+
+-- purposes that are set one by one are the set of them, and what there was
+set_one_by_one : (asked : List DepKind) (set : KindSet) → with_kinds asked set ≡ both (set_of asked) set
+set_one_by_one [] set = refl
+set_one_by_one (kind ∷ asked) set = set_one_by_one asked (with_kind kind set) ∙ one_in_both kind asked set
+
+-- where nothing is ignored yet, they are all
+pub ignored_alone : (asked : List DepKind) → with_ignored asked nothing_ignored ≡ record { of_members = set_of asked; of_others = set_of asked }
+ignored_alone asked =
+    let alone : with_kinds asked no_kinds ≡ set_of asked = set_one_by_one asked no_kinds ∙ none_in_both (set_of asked) in ap {A = KindSet} {B = IgnoredKinds} (λ set. record { of_members = set; of_others = set }) alone

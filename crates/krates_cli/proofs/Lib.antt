@@ -1,7 +1,7 @@
-pub mod CommandLineLemmas
 pub mod CountedLemmas
 pub mod ExclusionLemmas
 pub mod IgnoredLemmas
+pub mod ListedLemmas
 pub mod ListingLemmas
 pub mod OptionsLemmas
 pub mod ReportedLemmas

@@ -1,13 +1,14 @@
 -- What the program says on standard error.
-use Rattle.std.specs.Prelude.{◌≡◌, ◌++◌, ◌⊎◌, List, Option, IfSome, codes}
+use Rattle.std.specs.Prelude.{◌≡◌, ◌++◌, ◌⊎◌, List, Option, IfSome, IsSomeAnd, IsUtf8, codes}
 use Rattle.std.specs.Io.KnownBytes.{Appends}
 use Rattle.krates_cm.specs.Document.{Text}
-use Rattle.krates_cli.specs.Counted.{HasFailed, inner_of}
+use Rattle.krates_cli.specs.Counted.{AppendsFront, HasFailed, inner_of}
+use Rattle.krates_cli.specs.Listing.{IsListing}
 use Rattle.krates_cli.specs.ListingRefusals.{IsRunRefused}
 use Rattle.krates_cli.specs.Options.{OptionsModel, IsCommandLine, setting_of}
 use Rattle.krates_cli.specs.declared.counted.Counted.{Counted}
 use Rattle.krates_cli.specs.declared.run_error.RunError.{RunError}
-use Rattle.krates_cli.specs.declared.run_error.RunError.TheVariants.{Memory}
+use Rattle.krates_cli.specs.declared.run_error.RunError.TheVariants as errors
 
 -- which words there are
 abbrev pub usage_line : Text
@@ -16,22 +17,38 @@ usage_line = codes "usage: krates-list [--workspace] [--ignore-kind KIND] [--tar
 abbrev pub no_memory_line : Text
 no_memory_line = codes "refused: out of memory\n"
 
--- a line that says a cause
-abbrev pub IsRefusalLine : Text → Type 0
-IsRefusalLine line = (cause : Text) × (line ≡ codes "refused: " ++ (cause ++ codes "\n"))
-
--- the text was written, or a call of the writer failed
+-- the text was written, or a call of the writer failed and a beginning of the text was written
 abbrev pub IsTold : {E : Type 0} → (E → Option Text) → Counted E → Counted E → Text → Type 0
-IsTold contents old new text = Appends (contents (inner_of old)) (contents (inner_of new)) text ⊎ HasFailed old new
+IsTold contents old new text = Appends (contents (inner_of old)) (contents (inner_of new)) text
+    ⊎ (HasFailed old new × AppendsFront (contents (inner_of old)) (contents (inner_of new)) text)
 
 -- the words are options, and this is true of them
 abbrev pub Asking : List Text → (OptionsModel → Type 0) → Type 0
 Asking words P = (o : OptionsModel) × IsCommandLine words o × P o
 
--- The run was refused for a cause that is true of the words and of what is to be read, and a line says a cause.
-pub record RefusedRun {R E : Type 0} (words : List Text) (remaining : R → Option Text) (contents : E → Option Text) (input : Counted R) (old new : Counted E) : Type 0 where
-  pub cause : RunError
-  pub is_true : (cause ≡ Memory) ⊎ Asking words (λ o. IfSome (remaining (inner_of input)) (λ bytes. IsRunRefused (setting_of o) bytes cause))
-  pub line : Text
-  pub says_cause : IsRefusalLine line
-  pub told : IsTold contents old new line
+-- The cause is true of the words and of the bytes that are to be read, where those are known. Memory may always run out.
+abbrev pub IsCause : List Text → Option Text → RunError → Type 0
+IsCause words remaining cause =
+    (cause ≡ errors.Memory) ⊎ Asking words (λ o. IfSome remaining (λ bytes. IsRunRefused (setting_of o) bytes cause))
+
+-- the words ask for something, and what is to be read has a listing under it
+abbrev pub AskForListing : List Text → Option Text → Type 0
+AskForListing words remaining =
+    Asking words (λ o. IsSomeAnd remaining (λ bytes. IsUtf8 bytes × ((lines : Text) × IsListing (setting_of o) bytes lines)))
+
+-- What a cause says of the reader and the writer: a failed call is counted where the cause is one, and nothing is written unless
+-- the writer failed.
+pub record LeavesEnds {R W : Type 0} (input after : Counted R) (output left : Counted W) (cause : RunError) : Type 0 where
+  pub read : cause ≡ errors.Read → HasFailed input after
+  pub write : cause ≡ errors.Write → HasFailed output left
+  pub unwritten : (cause ≡ errors.Write → ⊥) → left ≡ output
+
+-- the line that says a cause
+abbrev pub refusal_line : Text → Text
+refusal_line cause = codes "refused: " ++ (cause ++ codes "\n")
+
+-- The line was told with the text that is printed of the cause, which is this one where it is stated; or, in place of it, that
+-- memory ran out.
+abbrev pub TellsCause : {E : Type 0} → (E → Option Text) → Counted E → Counted E → Option Text → Type 0
+TellsCause contents old new printed =
+    ((text : Text) × IfSome printed (λ stated. text ≡ stated) × IsTold contents old new (refusal_line text)) ⊎ IsTold contents old new no_memory_line

@@ -1,5 +1,7 @@
 -- A reader or a writer, with the number of its failed calls.
-use Rattle.std.specs.Prelude.{◌≡◌, ℕ, ◌<◌, ◌-◌, ◌^◌, ◌⊎◌, ⊤}
+use Rattle.std.specs.Prelude.{◌≡◌, ◌++◌, ℕ, ◌<◌, ◌-◌, ◌^◌, ◌⊎◌, List, Option, ⊤}
+use Rattle.std.specs.Io.KnownBytes.{Appends}
+use Rattle.krates_cli.specs.FailedCall.{number_of}
 use Rattle.krates_cli.specs.declared.counted.Counted.{Counted}
 use Rattle.krates_cli.specs.declared.run_error.RunError.{RunError}
 use Rattle.krates_cli.specs.declared.run_error.RunError.TheVariants as errors
@@ -10,7 +12,7 @@ inner_of c = c.inner
 
 -- how many of its calls have failed
 abbrev pub failures_of : {T : Type 0} → Counted T → ℕ
-failures_of c = c.failures
+failures_of c = number_of c.failures
 
 -- a call failed: the number grew, or stands at its greatest value
 abbrev pub HasFailed : {T : Type 0} → Counted T → Counted T → Type 0
@@ -21,6 +23,10 @@ abbrev pub IsReadFailure : {R : Type 0} → Counted R → Counted R → RunError
 IsReadFailure old new errors.Read = HasFailed old new
 IsReadFailure old new errors.Memory = ⊤
 IsReadFailure old new _ = ⊥
+
+-- the known bytes grew by some of these, from the first on
+abbrev pub AppendsFront : Option (List ℕ) → Option (List ℕ) → List ℕ → Type 0
+AppendsFront old new bytes = (front rest : List ℕ) × (bytes ≡ front ++ rest) × Appends old new front
 
 -- why not all is written: a call of the writer failed
 abbrev pub IsWriteFailure : {W : Type 0} → Counted W → Counted W → RunError → Type 0

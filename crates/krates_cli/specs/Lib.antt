@@ -1,5 +1,6 @@
 pub mod CommandLine
 pub mod Counted
+pub mod FailedCall
 pub mod Lines
 pub mod Listing
 pub mod ListingRefusals

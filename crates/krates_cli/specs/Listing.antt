@@ -10,6 +10,7 @@ use Rattle.krates_resolve.specs.Facts.{Id, Cause}
 use Rattle.krates_resolve.specs.Resolved.{id_of}
 use Rattle.krates_resolve.specs.Setting.{SettingModel}
 use Rattle.krates.specs.Build.{IsResolvable, IsKept, IsNotKept, IsLost, AreThosePackages}
+use Rattle.krates_cli.specs.Counted.{AppendsFront}
 use Rattle.krates_cli.specs.Lines.{lines_of}
 
 -- The document can be resolved and lacks nothing, and these are its packages: those that have to be kept under the
@@ -39,3 +40,10 @@ pub record WritesListing (s : SettingModel) (bytes : Text) (old new : Option Tex
   pub lines : Text
   pub listing : IsListing s bytes lines
   pub appended : Appends old new lines
+
+-- The bytes are a text, and a beginning of its listing is what was added to the known bytes of a writer.
+pub record WritesBeginning (s : SettingModel) (bytes : Text) (old new : Option Text) : Type 0 where
+  pub is_text : IsUtf8 bytes
+  pub lines : Text
+  pub listing : IsListing s bytes lines
+  pub appended : AppendsFront old new lines

@@ -41,3 +41,11 @@ IsRunRefused s bytes (errors.Parse cause) = IsUtf8 bytes × IsUnparsed bytes cau
 IsRunRefused s bytes (errors.Build cause) = IsUtf8 bytes × IsUnbuilt s bytes cause
 IsRunRefused s bytes errors.Write = IsUtf8 bytes × ((lines : Text) × IsListing s bytes lines)
 IsRunRefused s bytes errors.Memory = ⊤
+
+-- The cause isn't the text's: a call failed, memory ran out, or there are more kept crates than can be numbered.
+abbrev pub IsOutside : RunError → Type 0
+IsOutside errors.Read = ⊤
+IsOutside errors.Write = ⊤
+IsOutside errors.Memory = ⊤
+IsOutside (errors.Build cause) = cause ≡ build_errors.TooMany
+IsOutside _ = ⊥

@@ -1,15 +1,14 @@
 -- What is asked of a run: which words ask for what, and the setting that is meant.
 use Rattle.std.specs.Prelude.{◌≡◌, List, [], ◌∷◌, Bool, true, false, Option, Some, None, bytes_eq, codes, if◌then◌else◌, map, string_bytes}
+use Rattle.std.specs.List.{list_any}
 use Rattle.krates_cm.specs.Document.{Text}
 use Rattle.krates_ids.specs.PackageSpecification.{Specification, IsSpec}
 use Rattle.krates_ids.specs.SpecificationAnswers.{spec_view}
 use Rattle.krates_text.specs.Passing.{Asked}
 use Rattle.krates_text.specs.TargetTable.{target_named}
-use Rattle.krates_resolve.specs.PlainSetting.{nothing_ignored}
 use Rattle.krates_resolve.specs.Setting.{SettingModel}
 use Rattle.krates_resolve.specs.declared.kind.DepKind.{DepKind}
 use Rattle.krates_resolve.specs.declared.kind.DepKind.TheVariants as kinds
-use Rattle.krates_resolve.specs.declared.kind.IgnoredKinds.{IgnoredKinds}
 use Rattle.krates_resolve.specs.declared.kind.KindSet.{KindSet}
 use Rattle.krates_cli.specs.declared.options.Options.{Options}
 
@@ -88,20 +87,20 @@ IsUnknown words = (o : OptionsModel) → IsCommandLine words o → ⊥
 abbrev pub asked_at : Text → Asked
 asked_at triple = record { target = target_named triple; features = [] }
 
--- the set with one more purpose
-abbrev pub with_kind : DepKind → KindSet → KindSet
-with_kind kinds.Normal set = record set { normal = true }
-with_kind kinds.Build set = record set { build = true }
-with_kind kinds.Dev set = record set { dev = true }
+-- whether two purposes are one
+abbrev pub is_same : DepKind → DepKind → Bool
+is_same kinds.Normal kinds.Normal = true
+is_same kinds.Build kinds.Build = true
+is_same kinds.Dev kinds.Dev = true
+is_same _ _ = false
 
--- the set with these purposes too
-abbrev pub with_kinds : List DepKind → KindSet → KindSet
-with_kinds [] set = set
-with_kinds (kind ∷ rest) set = with_kinds rest (with_kind kind set)
-
--- these purposes are ignored too, of every crate
-abbrev pub with_ignored : List DepKind → IgnoredKinds → IgnoredKinds
-with_ignored kinds ignored = record { of_members = with_kinds kinds ignored.of_members; of_others = with_kinds kinds ignored.of_others }
+-- the set of these purposes
+abbrev pub set_of : List DepKind → KindSet
+set_of asked = record {
+  normal = list_any (is_same kinds.Normal) asked;
+  build = list_any (is_same kinds.Build) asked;
+  dev = list_any (is_same kinds.Dev) asked;
+}
 
 -- the setting that is meant; no manifest is asked for
 abbrev pub setting_of : OptionsModel → SettingModel
@@ -109,7 +108,7 @@ setting_of o = record {
   targets = map asked_at o.targets;
   manifests = [];
   exclusions = o.exclusions;
-  ignored = with_ignored o.ignored nothing_ignored;
+  ignored = record { of_members = set_of o.ignored; of_others = set_of o.ignored };
   workspace = o.workspace;
 }
 

@@ -1,6 +1,10 @@
--- How options are read from the front of words. Cited by private functions alone.
+-- How options are read from the front of words, and how purposes are set one by one. Cited by private functions alone.
 use Rattle.std.specs.Prelude.{◌≡◌, ◌++◌, List, [], ◌∷◌, true, ⊤}
 use Rattle.krates_cm.specs.Document.{Text}
+use Rattle.krates_resolve.specs.declared.kind.DepKind.{DepKind}
+use Rattle.krates_resolve.specs.declared.kind.DepKind.TheVariants as kinds
+use Rattle.krates_resolve.specs.declared.kind.IgnoredKinds.{IgnoredKinds}
+use Rattle.krates_resolve.specs.declared.kind.KindSet.{KindSet}
 use Rattle.krates_cli.specs.Options.{OptionsModel, Wish, every_member, without_kind, at_target, without_package, AsksWith, AsksFirst}
 use Rattle.krates_cli.specs.declared.options.OptionsError.{OptionsError}
 use Rattle.krates_cli.specs.declared.options.OptionsError.TheVariants as errors
@@ -36,3 +40,20 @@ BeginsUnknown words = (wish : Wish) (rest : List Text) → AsksFirst words wish 
 abbrev pub IsUnread : Type 0 → OptionsError → Type 0
 IsUnread P errors.Unknown = P
 IsUnread P errors.Memory = ⊤
+
+-- ---- purposes
+
+-- the set with one more purpose
+abbrev pub with_kind : DepKind → KindSet → KindSet
+with_kind kinds.Normal set = record set { normal = true }
+with_kind kinds.Build set = record set { build = true }
+with_kind kinds.Dev set = record set { dev = true }
+
+-- the set with these purposes too
+abbrev pub with_kinds : List DepKind → KindSet → KindSet
+with_kinds [] set = set
+with_kinds (kind ∷ rest) set = with_kinds rest (with_kind kind set)
+
+-- these purposes are ignored too, of every crate
+abbrev pub with_ignored : List DepKind → IgnoredKinds → IgnoredKinds
+with_ignored asked ignored = record { of_members = with_kinds asked ignored.of_members; of_others = with_kinds asked ignored.of_others }

@@ -1,18 +1,21 @@
 //! All that the program does, over any reader and writers: words, run, refusal and status.
 
 ghost use Rattle.std.specs.Prelude.{◌≡◌, ◌≢◌, ◌≤◌, ◌⊎◌, IfOk, IfSome, map, string_bytes};
+ghost use Rattle.std.specs.IoError.{error_kind};
 ghost use Rattle.krates_cm.specs.Document.{Text};
-ghost use Rattle.krates_cli.specs.CommandLine.{Asking, IsRefusalLine, IsTold, RefusedRun, no_memory_line, usage_line};
-ghost use Rattle.krates_cli.specs.Counted.{HasFailed, inner_of};
-ghost use Rattle.krates_cli.specs.Listing.{WritesListing};
+ghost use Rattle.krates_cli.specs.CommandLine.{Asking, IsCause, IsTold, LeavesEnds, TellsCause, no_memory_line, refusal_line, usage_line};
+ghost use Rattle.krates_cli.specs.Counted.{inner_of};
+ghost use Rattle.krates_cli.specs.Listing.{WritesBeginning, WritesListing};
 ghost use Rattle.krates_cli.specs.Options.{IsUnknown, setting_of};
+ghost use Rattle.krates_cli.specs.RunError.{run_error_text};
 ghost use Rattle.krates_cli.specs.declared.options.OptionsError.TheVariants as options_errors;
+ghost use Rattle.krates_cli.specs.declared.run_error.RunError.{RunError};
 
 use crate::counted::Counted;
 use crate::listing::run;
 use crate::options::{OptionsError, options_of};
-use crate::run_error::RunError;
 use std::alloc::{AllocError, Global};
+use std::fmt::Display;
 use std::io;
 use std::io::{ErrorKind, Read, Write};
 
@@ -27,11 +30,12 @@ const REFUSED: u8 = 1;
 
 const UNKNOWN_WORD: u8 = 2;
 
-/// Does all that `main` does, with the words after the program's name, and answers the exit status: 0 where the lines were
-/// written; 1 where the run was refused, with the cause in a line on `errors`; 2 where the words aren't options, with the
-/// usage line on `errors`.
+/// Does all that `main` does, with the words after the program's name, and answers the exit status: 0 where the run succeeds and
+/// the lines were written; 1 where it is refused, with what is printed of the cause in a line on `errors`; 2 where the words
+/// aren't options, with the usage line on `errors`. Where memory runs out for the line of a cause, it says that instead.
 ///
 /// All words are read before any input; where memory runs out meanwhile, the status is 1 and nothing was read.
+/// `laws::listed_or_refused` says that a cause is the text's only where there is no listing.
 pub fn program<R: Read, W: Write, E: Write>(
     alloc: Global,
     words: &[String],
@@ -46,8 +50,13 @@ pub fn program<R: Read, W: Write, E: Write>(
     ensures unread { result ≡ 2 → (input.new ≡ input.old) × (output.new ≡ output.old) }
     ensures listed { result ≡ 0 → Asking (map string_bytes words.now) (λ o. IfSome (R.remaining (inner_of input.old)) (λ bytes. WritesListing (setting_of o) bytes (W.contents (inner_of output.old)) (W.contents (inner_of output.new)))) }
     ensures silent { result ≡ 0 → errors.new ≡ errors.old }
-    ensures refused { result ≡ 1 → RefusedRun (map string_bytes words.now) R.remaining E.contents input.old errors.old errors.new }
-    ensures unwritten { result ≡ 1 → (output.new ≡ output.old) ⊎ HasFailed output.old output.new }
+    ensures refused { result ≡ 1 → (cause : RunError)
+        × IsCause (map string_bytes words.now) (R.remaining (inner_of input.old)) cause
+        × LeavesEnds input.old input.new output.old output.new cause
+        × TellsCause E.contents errors.old errors.new (run_error_text cause) }
+    ensures beginning { result ≡ 1 → (output.new ≡ output.old)
+        ⊎ Asking (map string_bytes words.now) (λ o. IfSome (R.remaining (inner_of input.old))
+        (λ bytes. WritesBeginning (setting_of o) bytes (W.contents (inner_of output.old)) (W.contents (inner_of output.new)))) }
 {
     let options = match options_of(alloc, words) {
         Ok(options) => options,
@@ -62,7 +71,7 @@ pub fn program<R: Read, W: Write, E: Write>(
     }
 }
 
-/// Answers the exit status where the words aren't read: 2 and the usage line, or 1 and a line that memory is wanting.
+/// Answers the exit status where the words aren't read: 2 and the usage line, or 1 and the line that memory ran out.
 fn refuse_options<E: Write>(error: &OptionsError, errors: &mut Counted<E>) -> u8
     ensures unknown { error.now ≡ options_errors.Unknown → (result ≡ 2) × IsTold E.contents errors.old errors.new usage_line }
     ensures no_memory { error.now ≡ options_errors.Memory → (result ≡ 1) × IsTold E.contents errors.old errors.new no_memory_line }
@@ -80,11 +89,10 @@ fn refuse_options<E: Write>(error: &OptionsError, errors: &mut Counted<E>) -> u8
 }
 
 /// Answers the exit status where the words couldn't be had: 2 and the usage line where one is no text, which is a word that
-/// isn't known; else 1 and a line that memory is wanting.
+/// isn't known; else 1 and the line that memory ran out.
 pub fn refuse_words<E: Write>(error: &io::Error, errors: &mut Counted<E>) -> u8
-    ensures status { (result ≡ 1) ⊎ (result ≡ 2) }
-    ensures unknown_word { result ≡ 2 → IsTold E.contents errors.old errors.new usage_line }
-    ensures no_memory { result ≡ 1 → IsTold E.contents errors.old errors.new no_memory_line }
+    ensures unknown_word { error_kind error.now ≡ ErrorKind.InvalidData → (result ≡ 2) × IsTold E.contents errors.old errors.new usage_line }
+    ensures no_memory { error_kind error.now ≢ ErrorKind.InvalidData → (result ≡ 1) × IsTold E.contents errors.old errors.new no_memory_line }
 {
     if error.kind() == ErrorKind::InvalidData {
         tell(errors, USAGE_LINE);
@@ -94,23 +102,23 @@ pub fn refuse_words<E: Write>(error: &io::Error, errors: &mut Counted<E>) -> u8
     REFUSED
 }
 
-/// Writes the cause of a refusal in a line; where there is no memory for that line, it says so in its place.
-fn refuse<E: Write>(alloc: Global, error: &RunError, errors: &mut Counted<E>)
-    ensures { (line : Text) × IsRefusalLine line × IsTold E.contents errors.old errors.new line }
+/// Writes what is printed of the cause in a line; where there is no memory for that line, it says so in its place.
+fn refuse<C: Display, E: Write>(alloc: Global, cause: &C, errors: &mut Counted<E>)
+    ensures { TellsCause E.contents errors.old errors.new (C.output cause.now) }
 {
-    match refusal_line(alloc, error) {
+    match line_of(alloc, cause) {
         Ok(line) => tell(errors, line.as_str()),
         Err(_) => tell(errors, NO_MEMORY_LINE),
     }
 }
 
-/// `refused: `, the cause's text, and a newline.
-fn refusal_line(alloc: Global, error: &RunError) -> Result<String, AllocError>
-    ensures { IfOk result (λ line. IsRefusalLine (string_bytes line)) }
+/// `refused: `, what is printed of the cause, and a newline.
+fn line_of<C: Display>(alloc: Global, cause: &C) -> Result<String, AllocError>
+    ensures { IfOk result (λ line. (text : Text) × IfSome (C.output cause.now) (λ stated. text ≡ stated) × (string_bytes line ≡ refusal_line text)) }
 {
-    let cause = error.to_string(alloc)?;
+    let text = cause.to_string(alloc)?;
     let mut line = String::from_str(alloc, "refused: ")?;
-    line.push_str(cause.as_str())?;
+    line.push_str(text.as_str())?;
     line.push_str("\n")?;
     Ok(line)
 }

@@ -1,7 +1,12 @@
 //! Laws of the command line, for all words. Each is the contract of a function that does nothing.
 
-ghost use Rattle.std.specs.Prelude.{◌≡◌, List};
+ghost use Rattle.std.specs.Prelude.{◌≡◌, IsUtf8, List, Option};
 ghost use Rattle.krates_cm.specs.Document.{Text};
+ghost use Rattle.krates_resolve.specs.Setting.{SettingModel};
+ghost use Rattle.krates_cli.specs.CommandLine.{AskForListing, IsCause};
+ghost use Rattle.krates_cli.specs.Listing.{IsListing};
+ghost use Rattle.krates_cli.specs.ListingRefusals.{IsOutside, IsRunRefused};
+ghost use Rattle.krates_cli.specs.declared.run_error.RunError.{RunError};
 ghost use Rattle.krates_cli.specs.Options.{IsCommandLine, OptionsModel};
 
 use krates_ids::laws;
@@ -10,5 +15,17 @@ use krates_ids::laws;
 pub fn one_command_line()
     ensures { (words : List Text) (a b : OptionsModel) → IsCommandLine words a → IsCommandLine words b → a ≡ b }
 {
+    laws::one_specification();
+}
+
+/// Where words ask for a listing, and what is to be read has one, a run is refused only where a call fails, memory runs out, or more
+/// crates are kept than can be numbered. So it succeeds exactly where there is a listing, these aside.
+pub fn listed_or_refused()
+    ensures text { (s : SettingModel) (bytes lines : Text) (cause : RunError)
+        → IsUtf8 bytes → IsListing s bytes lines → IsRunRefused s bytes cause → IsOutside cause }
+    ensures words { (words : List Text) (remaining : Option Text) (cause : RunError)
+        → AskForListing words remaining → IsCause words remaining cause → IsOutside cause }
+{
+    laws::one_reading();
     laws::one_specification();
 }

@@ -3,6 +3,7 @@
 
 pub mod command_line;
 pub mod counted;
+mod failed_call;
 pub mod laws;
 mod lines;
 pub mod listing;

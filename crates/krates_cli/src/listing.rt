@@ -2,7 +2,7 @@
 
 ghost use Rattle.std.specs.Prelude.{◌≡◌, ◌≢◌, IfErr, IfOk, IfSome, OnOk, string_bytes};
 ghost use Rattle.krates_cli.specs.Counted.{HasFailed, inner_of};
-ghost use Rattle.krates_cli.specs.Listing.{IsListing, WritesListing};
+ghost use Rattle.krates_cli.specs.Listing.{IsListing, WritesBeginning, WritesListing};
 ghost use Rattle.krates_cli.specs.ListingRefusals.{IsUnlisted, IsRunRefused};
 ghost use Rattle.krates_cli.specs.Options.{meant_setting};
 ghost use Rattle.krates_cli.specs.declared.run_error.RunError.TheVariants as errors;
@@ -37,7 +37,7 @@ fn listing(alloc: Global, options: &Options, text: &str) -> Result<String, RunEr
 ///
 /// It is refused as `Read`, `Utf8`, `Parse`, `Build` or `Write`, in this order and only where that is true of the reader, of
 /// what was read, or of the writer; `Memory` may stand in place of any answer. The whole text is made before the first byte is
-/// written, so after each refusal but `Write` nothing was written. What was read is gone.
+/// written, so after each refusal but `Write` nothing was written, and after `Write` a beginning of it. What was read is gone.
 pub fn run<R: Read, W: Write>(
     alloc: Global,
     options: &Options,
@@ -48,6 +48,8 @@ pub fn run<R: Read, W: Write>(
     ensures refused { IfErr result (λ e. IfSome (R.remaining (inner_of input.old)) (λ bytes. IsRunRefused (meant_setting options.now) bytes e)) }
     ensures read { result ≡ Err errors.Read → HasFailed input.old input.new }
     ensures write { result ≡ Err errors.Write → HasFailed output.old output.new }
+    ensures beginning { result ≡ Err errors.Write → IfSome (R.remaining (inner_of input.old))
+        (λ bytes. WritesBeginning (meant_setting options.now) bytes (W.contents (inner_of output.old)) (W.contents (inner_of output.new))) }
     ensures unwritten { IfErr result (λ e. e ≢ errors.Write → output.new ≡ output.old) }
 {
     let bytes = input.read_to_end(alloc)?;

@@ -6,33 +6,46 @@ ghost use Rattle.krates_cli.specs.declared.run_error.RunError.TheVariants.{Memor
 use krates::Error as BuildError;
 use krates::cm::Error as ParseError;
 use std::alloc::AllocError;
-use thiserror::Error;
+use std::fmt;
 
 /// Why a run wrote no lines, or not all of them.
 ///
 /// The first that is true counts: a failed read, then bytes that are no text, a text that is no document, a document that
 /// can't be built, then a failed write. Memory may run out at each of these.
-#[derive(Debug, Drop, Error)]
+#[derive(Debug, Drop)]
 pub enum RunError {
     /// A call of the reader failed.
-    #[error("read failed")]
     Read,
     /// What was read is no UTF-8.
-    #[error("input is not UTF-8")]
     Utf8,
     /// The text is no document.
-    #[error("{0}")]
     Parse(ParseError),
     /// The document has no graph of crates.
-    #[error("{0}")]
     Build(BuildError),
     /// A call of the writer failed, or took no byte. Some bytes may have been written.
-    #[error("write failed")]
     Write,
     /// Memory ran out.
-    #[error("out of memory")]
     Memory,
 }
+
+impl fmt::Display for RunError {
+    ghost use Rattle.krates_cli.specs.RunError.{run_error_text};
+
+    ghost output = { run_error_text };
+
+    fn fmt<W: fmt::Write>(&self, f: &mut fmt::Formatter<W>) -> fmt::Result {
+        match self {
+            RunError::Read => f.write_str("read failed"),
+            RunError::Utf8 => f.write_str("input is not UTF-8"),
+            RunError::Parse(cause) => write!(f, "{cause}"),
+            RunError::Build(cause) => write!(f, "{cause}"),
+            RunError::Write => f.write_str("write failed"),
+            RunError::Memory => f.write_str("out of memory"),
+        }
+    }
+}
+
+impl std::error::Error for RunError {}
 
 impl From<ParseError> for RunError {
     ghost use Rattle.krates_cli.specs.RunError.{ParseErrorBecomes};

@@ -33,4 +33,6 @@ mod setters;
 #[cfg(test)]
 mod settings;
 #[cfg(test)]
+mod streams;
+#[cfg(test)]
 mod table;

@@ -1,4 +1,4 @@
-use Rattle.std.proofs.Common.{◌≡◌, ap, ◌∙◌, rules, refl}
+use Rattle.std.proofs.Common.{ap, rules, refl}
 use Rattle.krates_cli.proofs.IgnoredLemmas.{next_ignored}
 use Rattle.krates_cli.proofs.options.ignore_kinds.Goals as goal
 

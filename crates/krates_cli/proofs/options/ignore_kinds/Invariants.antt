@@ -1,5 +1,5 @@
 use Rattle.std.proofs.Common.{◌≡◌, drop}
-use Rattle.krates_cli.specs.Options.{with_ignored}
+use Rattle.krates_cli.specs.OptionsReading.{with_ignored}
 use Rattle.krates_cli.proofs.options.ignore_kinds.Given as goal
 
 abbrev pub invariant-loop-kind : goal.invariant-loop-kind

@@ -1,10 +1,13 @@
-use Rattle.std.proofs.Common.{◌≤◌, ◌<◌}
+use Rattle.std.proofs.Common.{◌≤◌, ◌-◌, ◌^◌}
 use Rattle.std.specs.Io.KnownBytes.{Keeps}
-use Rattle.krates_cli.specs.Counted.{inner_of, failures_of, HasFailed}
+use Rattle.krates_cli.specs.Counted.{inner_of, failures_of}
 use Rattle.krates_cli.proofs.counted.Counted.read.Given as goal
 
-abbrev pub invariant-loop-turn : goal.invariant-loop-turn
-invariant-loop-turn g l =
+abbrev pub invariant-loop-count : goal.invariant-loop-count
+invariant-loop-count g l =
     Keeps (g.R.Read.remaining (inner_of l.fn.self)) (g.R.Read.remaining (inner_of l.self))
     × (failures_of l.fn.self ≤ failures_of l.self)
-    × (0 < l.turn → HasFailed l.fn.self l.self)
+    × (l.turns ≤ failures_of l.self)
+
+abbrev pub decreases-loop-count : goal.decreases-loop-count
+decreases-loop-count g l = 2 ^ 64 - l.turns

@@ -1,0 +1,148 @@
+-- A text that has a listing is refused for nothing that is said of it.
+use Rattle.std.proofs.Common.{◌≡◌, ℕ, zero, suc, ◌<◌, List, [], ◌∷◌, length, get_or, Contains, Option, Some, None, IsUtf8, refl, ap, sym, ◌∙◌, subst, inl, inr, arith, string_bytes}
+use Rattle.std.proofs.lemmas.Option.{none-some, same_Some}
+use Rattle.std.specs.List.{AllZip, AllByRecursion}
+use Rattle.krates_cm.specs.Document.{Text, MetadataModel, NodeModel, ResolveModel, metadata_view}
+use Rattle.krates_cm.specs.Names.{version_named}
+use Rattle.krates_cm.specs.Parsing.{IsDocument, IsRefusal}
+use Rattle.krates_cm.specs.Tables.{metadata}
+use Rattle.krates_cm.specs.declared.error.Error as cm
+use Rattle.krates_cm.specs.declared.error.Error.TheVariants as cm_errors
+use Rattle.krates_cm.specs.declared.metadata.Metadata.{Metadata}
+use Rattle.krates_cm.specs.declared.package.Package.{Package}
+use Rattle.krates_ids.specs.Identity.{Identity, Reads}
+use Rattle.krates_ids.specs.declared.error.Error as build
+use Rattle.krates_ids.specs.declared.error.Error.TheVariants as build_errors
+use Rattle.krates_resolve.specs.Admission.{package_texts, node_texts, dep_texts, HasVersion, AreDepIds, AreIdsOf, IsRootId, StandsForId, of_package, of_member, of_root, of_node, of_dep, IsInvalidId, unread, bad_version, IsDoubled}
+use Rattle.krates_resolve.specs.Ids.{IdsModel}
+use Rattle.krates_resolve.specs.Questions.{questions}
+use Rattle.krates_resolve.specs.Resolved.{HasGraphWith, id_of, resolved}
+use Rattle.krates_resolve.specs.SelectionRefusals.{HasNoRoot, IsUnselected, cause_of}
+use Rattle.krates_resolve.specs.Setting.{SettingModel}
+use Rattle.krates.specs.Build.{Answers, IsRefusedAsGiven}
+use Rattle.krates_cli.specs.CommandLine.{AskForListing, IsCause}
+use Rattle.krates_cli.specs.Listing.{IsListing, IsSplit}
+use Rattle.krates_cli.specs.ListingRefusals.{IsOutside, IsRunRefused}
+use Rattle.krates_cli.specs.Options.{OptionsModel, IsCommandLine, setting_of}
+use Rattle.krates_cli.specs.declared.run_error.RunError.{RunError}
+use Rattle.krates_cli.specs.declared.run_error.RunError.TheVariants as errors
+
+-- a text is read as one id
+abbrev pub ReadsOnce : Type 0
+ReadsOnce = (t : Text) (a b : Identity) → Reads t a → Reads t b → a ≡ b
+
+-- a text is one document
+one_document : (text : Text) (a b : MetadataModel) → IsDocument text a → IsDocument text b → a ≡ b
+one_document text a b (d, reads, is) (e, also, was) =
+    same_Some a b (sym is ∙ ap (λ x. (metadata [] x).value) (same_Some d e (sym reads ∙ also)) ∙ was)
+
+-- a document is refused as none for nothing but memory
+document_refused : (text : Text) (m : MetadataModel) (cause : cm.Error) → IsDocument text m → IsRefusal text cause → cause ≡ cm_errors.Memory
+document_refused text m (cm_errors.Json e) (d, reads, is) none = absurd (none-some d (sym none ∙ reads))
+document_refused text m (cm_errors.Value e) (d, reads, is) (other, also, none, fault) =
+    absurd (none-some m (sym none ∙ ap (λ x. (metadata [] x).value) (same_Some other d (sym also ∙ reads)) ∙ is))
+document_refused text m cm_errors.Memory document refused = refl
+document_refused text m (cm_errors.CargoMetadata _) document refused = absurd refused
+document_refused text m (cm_errors.Io _) document refused = absurd refused
+document_refused text m (cm_errors.Utf8 _) document refused = absurd refused
+document_refused text m (cm_errors.ErrUtf8 _) document refused = absurd refused
+document_refused text m cm_errors.NoJson document refused = absurd refused
+document_refused text m cm_errors.FeaturesTwice document refused = absurd refused
+document_refused text m cm_errors.NoManifestParent document refused = absurd refused
+
+-- what stands beside an element of related lists
+beside : {A B : Type 0} (R : A → B → Type 0) (xs : List A) (ys : List B) (x : A) (k : ℕ) → AllZip R xs ys → k < length xs → get_or xs k x ≡ x
+    → (y : B) × Contains ys y × R x y
+beside R [] ys x k zip lt is = absurd (omega arith)
+beside R (a ∷ xs) [] x k zip lt is = absurd zip
+beside R (a ∷ xs) (b ∷ ys) x zero zip lt is = (b, (0, omega arith, refl), subst (λ v. R v b) is zip.0)
+beside R (a ∷ xs) (b ∷ ys) x (suc k) zip lt is =
+    let w = beside R xs ys x k zip.1 (omega arith) is in
+    (w.0, (suc w.1.0, omega (arith, w.1.1), w.1.2), w.2)
+
+each : {A : Type 0} (P : A → Type 0) (xs : List A) (x : A) (k : ℕ) → AllByRecursion P xs → k < length xs → get_or xs k x ≡ x → P x
+each P [] x k h lt is = absurd (omega arith)
+each P (a ∷ xs) x zero h lt is = subst P is h.0
+each P (a ∷ xs) x (suc k) h lt is = each P xs x k h.1 (omega arith) is
+
+-- an id of a dependency that stands among the nodes, with its version
+dep_id : (g : ResolveModel) (ids : List (List Identity)) (n : NodeModel) (t : Text) → AllZip AreDepIds g.nodes ids → Contains g.nodes n → Contains (dep_texts n) t
+    → (i : Identity) × Reads t i × HasVersion i
+dep_id g ids n t zip node dep =
+    let list = beside AreDepIds g.nodes ids n node.0 zip node.1 node.2 in
+    let w = beside Reads (dep_texts n) list.0 t dep.0 list.2.read dep.1 dep.2 in
+    (w.0, w.2, each HasVersion list.0 w.0 w.1.0 list.2.versions w.1.1 w.1.2)
+
+root_id : (text : Option Text) (root : Option Identity) (t : Text) → IsRootId text root → text ≡ Some t → (i : Identity) × Reads t i
+root_id None root t is e = absurd (none-some t e)
+root_id (Some u) None t is e = absurd is
+root_id (Some u) (Some i) t is e = (i, subst (λ v. Reads v i) (same_Some u t e) is)
+
+-- of an admitted document each text that has to be an id is read
+stands_read : (m : MetadataModel) (g : ResolveModel) (ids : IdsModel) (t : Text) → AreIdsOf m g ids → StandsForId m g t → (i : Identity) × Reads t i
+stands_read m g ids t are (of_package c) = let w = beside Reads (package_texts m) ids.packages t c.0 are.packages c.1 c.2 in (w.0, w.2)
+stands_read m g ids t are (of_member c) = let w = beside Reads m.workspace_members ids.members t c.0 are.members c.1 c.2 in (w.0, w.2)
+stands_read m g ids t are (of_root e) = root_id g.root ids.root t are.root e
+stands_read m g ids t are (of_node c) = let w = beside Reads (node_texts g) ids.nodes t c.0 are.nodes c.1 c.2 in (w.0, w.2)
+stands_read m g ids t are (of_dep n c d) = let w = dep_id g ids.deps n t are.deps c d in (w.0, w.1)
+
+none_invalid : ReadsOnce → (m : MetadataModel) (g : ResolveModel) (ids : IdsModel) (t : Text) → AreIdsOf m g ids → IsInvalidId m g t → ⊥
+none_invalid once m g ids t are (unread stands none) = let w = stands_read m g ids t are stands in none w.0 w.1
+none_invalid once m g ids t are (bad_version n c d i reads none) =
+    let w = dep_id g ids.deps n t are.deps c d in
+    w.2 (subst (λ (j : Identity). version_named j.version ≡ None) (once t i w.0 reads w.1) none)
+
+-- what holds of a document's graph, of the graph that it is known to have
+of_graph : (m : MetadataModel) (P : ResolveModel → Type 0) (g : ResolveModel) → m.resolve ≡ Some g → HasGraphWith m P → P g
+of_graph m P g has h = subst P (same_Some h.graph g (sym h.has_graph ∙ has)) h.holds
+
+-- a document that is divided is refused for nothing but memory, and more crates than can be numbered
+divided_refused : ReadsOnce → (s : SettingModel) (m n : Metadata) (kept others : List Package) (cause : build.Error) → metadata_view n ≡ metadata_view m
+    → IsSplit s m kept others → IsRefusedAsGiven n s cause → (cause ≡ build_errors.Memory → ⊥) → cause ≡ build_errors.TooMany
+divided_refused once s m n kept others build_errors.NoResolveGraph same split refused limited =
+    absurd (none-some _ (sym (subst (λ (d : MetadataModel). d.resolve ≡ None) same refused) ∙ split.resolvable.admitted.has_graph))
+divided_refused once s m n kept others (build_errors.InvalidId t) same split refused limited =
+    let admitted = split.resolvable.admitted in
+    let d = metadata_view m in
+    let invalid = subst (λ (d : MetadataModel). HasGraphWith d (λ g. IsInvalidId d g (string_bytes t))) same refused in
+    absurd (none_invalid once d admitted.graph split.resolvable.ids (string_bytes t) admitted.read (of_graph d (λ g. IsInvalidId d g (string_bytes t)) admitted.graph admitted.has_graph invalid))
+divided_refused once s m n kept others (build_errors.Doubled kid) same split refused limited =
+    let admitted = split.resolvable.admitted in
+    let d = metadata_view m in
+    let doubled = subst (λ (d : MetadataModel). HasGraphWith d (λ g. IsDoubled d g (id_of kid))) same refused in
+    absurd (admitted.none_doubled (id_of kid) (of_graph d (λ g. IsDoubled d g (id_of kid)) admitted.graph admitted.has_graph doubled))
+divided_refused once s m n kept others (build_errors.Lost what) same split refused limited =
+    absurd (split.none_lost (cause_of what) (subst (λ (d : MetadataModel). Answers d s (λ q. IsUnselected q (build_errors.Lost what))) same refused.1))
+divided_refused once s m n kept others build_errors.NoRootKrates same split refused limited =
+    let some = split.some.1 in
+    let d = metadata_view m in
+    let rootless = subst (λ (d : MetadataModel). Answers d s HasNoRoot) same refused.1 in
+    absurd ((of_graph d (λ g. HasNoRoot (questions (resolved d g) s)) some.graph some.has_graph rootless).no_crate split.some.0 some.holds)
+divided_refused once s m n kept others build_errors.TooMany same split refused limited = refl
+divided_refused once s m n kept others build_errors.Memory same split refused limited = absurd (limited refl)
+divided_refused once s m n kept others (build_errors.Metadata _) same split refused limited = absurd refused
+divided_refused once s m n kept others (build_errors.InvalidPkgSpec _) same split refused limited = absurd refused
+
+-- a run over a text that has a listing is refused for a cause that isn't the text's
+pub listed_refused : ReadsOnce → (s : SettingModel) (bytes lines : Text) (cause : RunError) → IsUtf8 bytes → IsListing s bytes lines → IsRunRefused s bytes cause → IsOutside cause
+listed_refused once s bytes lines errors.Read utf8 listing refused = tt
+listed_refused once s bytes lines errors.Utf8 utf8 listing refused = refused utf8
+listed_refused once s bytes lines (errors.Parse cause) utf8 listing (_, refused) =
+    absurd (refused.not_memory (document_refused bytes (metadata_view listing.metadata) cause listing.document refused.refused))
+listed_refused once s bytes lines (errors.Build cause) utf8 listing (_, refused) =
+    let same = one_document bytes (metadata_view refused.metadata) (metadata_view listing.metadata) refused.document listing.document in
+    divided_refused once s listing.metadata refused.metadata listing.kept listing.others cause same listing.split refused.refused refused.not_memory
+listed_refused once s bytes lines errors.Write utf8 listing refused = tt
+listed_refused once s bytes lines errors.Memory utf8 listing refused = tt
+
+-- words ask for one thing
+abbrev pub AskOnce : Type 0
+AskOnce = (words : List Text) (a b : OptionsModel) → IsCommandLine words a → IsCommandLine words b → a ≡ b
+
+-- the same of the words and of what is to be read
+pub asked_refused : ReadsOnce → AskOnce → (words : List Text) (remaining : Option Text) (cause : RunError) → AskForListing words remaining → IsCause words remaining cause → IsOutside cause
+asked_refused once alone words remaining cause listed (inl memory) = subst IsOutside (sym memory) tt
+asked_refused once alone words None cause listed (inr asked) = absurd listed.2
+asked_refused once alone words (Some bytes) cause listed (inr asked) =
+    let same = alone words asked.0 listed.0 asked.1 listed.1 in
+    listed_refused once (setting_of listed.0) bytes listed.2.1.0 cause listed.2.0 listed.2.1.1 (subst (λ (o : OptionsModel). IsRunRefused (setting_of o) bytes cause) same asked.2)

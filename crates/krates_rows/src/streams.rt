@@ -1,0 +1,264 @@
+//! Runs over readers and writers that give and take little at a time, that fail, and that are interrupted.
+
+use crate::documents::document;
+use crate::listing::told;
+use crate::table::{Question, Row, hold};
+use krates_cli::Counted;
+use std::alloc::Global;
+use std::io::{ErrorKind, Read, Write};
+use std::test::Fail;
+use std::io;
+
+/// What is written of the document.
+const LINES: &str = "+ path+file:///w/a#0.1.0\n+ path+file:///w/b#0.1.0\n";
+
+/// A call that goes wrong: which one, counted from 0, and with what error; without one it takes no byte.
+#[derive(Clone, Copy)]
+struct Mishap {
+    call: usize,
+    kind: Option<ErrorKind>,
+}
+
+/// How a reader or a writer goes: how many bytes it moves in a call at most, and which call goes wrong.
+#[derive(Clone, Copy)]
+struct Pace {
+    most: usize,
+    mishap: Mishap,
+    calls: usize,
+}
+
+impl Pace {
+    /// At most so many bytes in a call, of which one goes wrong.
+    fn new(most: usize, kind: Option<ErrorKind>, call: usize) -> Pace {
+        let mishap = Mishap { call, kind };
+        Pace {
+            most,
+            mishap,
+            calls: 0,
+        }
+    }
+
+    /// How many bytes of so many are moved by the next call.
+    fn next(&mut self, wanted: usize) -> io::Result<usize> {
+        let call = self.calls;
+        self.calls = call.saturating_add(1);
+        if call != self.mishap.call {
+            return Ok(wanted.min(self.most));
+        }
+        match self.mishap.kind {
+            Some(kind) => Err(io::Error::from(kind)),
+            None => Ok(0),
+        }
+    }
+}
+
+/// A reader of bytes at a pace.
+#[derive(Drop)]
+struct Paced<'a> {
+    rest: &'a [u8],
+    pace: Pace,
+}
+
+impl Read for Paced<'_> {
+    fn read(&mut self, buffer: &mut [u8]) -> io::Result<usize> {
+        let count = self.pace.next(buffer.len())?;
+        match buffer.get_mut(..count) {
+            Some(front) => self.rest.read(front),
+            None => Ok(0),
+        }
+    }
+}
+
+/// A writer at a pace.
+#[derive(Drop)]
+struct Taking {
+    taken: Vec<u8>,
+    pace: Pace,
+}
+
+impl Write for Taking {
+    fn write(&mut self, bytes: &[u8]) -> io::Result<usize> {
+        let count = self.pace.next(bytes.len())?;
+        let Some(front) = bytes.get(..count) else {
+            return Ok(0);
+        };
+        self.taken.extend_from_slice(front)?;
+        Ok(count)
+    }
+
+    fn flush(&mut self) -> io::Result<()> {
+        Ok(())
+    }
+}
+
+/// A document of so many bytes: the first package needs the second for its tests, and blanks follow the first brace.
+fn document_of(alloc: Global, size: usize) -> Result<String, Fail> {
+    let json = document(alloc, "a b&dev|b")?;
+    let mut text = String::from_str(alloc, "{")?;
+    for _ in json.len()..size {
+        text.push(' ')?;
+    }
+    text.push_str(json.as_str().strip_prefix("{").unwrap_or("no object"))?;
+    Ok(text)
+}
+
+/// How much of the lines was written.
+fn extent(taken: &[u8]) -> &'static str {
+    match LINES.as_bytes().strip_prefix(taken) {
+        Some([]) => "all",
+        Some(_) => "a beginning",
+        None => "other bytes",
+    }
+}
+
+/// What runs of one kind tell at a pace.
+trait Course {
+    /// The status and the refusal, how much was written, and how many calls have failed.
+    fn run(alloc: Global, json: &str, pace: Pace) -> Result<String, Fail>;
+}
+
+/// Runs whose reader goes at the pace.
+struct Reading;
+
+impl Course for Reading {
+    fn run(alloc: Global, json: &str, pace: Pace) -> Result<String, Fail> {
+        let rest = json.as_bytes();
+        let mut input = Counted::new(Paced { rest, pace });
+        let mut output = Counted::new(Vec::new(alloc));
+        let told = told(alloc, &[], &mut input, &mut output)?;
+        let taken = output.get_ref().as_slice();
+        let extent = if taken.is_empty() { "nothing" } else { extent(taken) };
+        let (told, failed) = (told.as_str().trim_end(), input.failures());
+        Ok(format!(in alloc; "{told}, {extent} written, {failed} failed")?)
+    }
+}
+
+/// Runs whose writer goes at the pace.
+struct Writing;
+
+impl Course for Writing {
+    fn run(alloc: Global, json: &str, pace: Pace) -> Result<String, Fail> {
+        let taken = Vec::new(alloc);
+        let mut input = Counted::new(json.as_bytes());
+        let mut output = Counted::new(Taking { taken, pace });
+        let told = told(alloc, &[], &mut input, &mut output)?;
+        let extent = extent(output.get_ref().taken.as_slice());
+        let (told, failed) = (told.as_str().trim_end(), output.failures());
+        Ok(format!(in alloc; "{told}, {extent} written, {failed} failed")?)
+    }
+}
+
+/// What runs tell of which one call goes wrong, each call in turn, and how many calls there are. A line has the size of the
+/// document, how many bytes a call moves at most, and how it goes wrong.
+struct EachCall<C> {
+    course: C,
+}
+
+impl<C: Course> Question for EachCall<C> {
+    fn told(alloc: Global, line: &str) -> Result<String, Fail> {
+        let (size, line) = line.split_once(' ').unwrap_or((line, ""));
+        let (most, mishap) = line.split_once(' ').unwrap_or((line, ""));
+        let json = document_of(alloc, size.parse()?)?;
+        each_call::<C>(alloc, json.as_str(), most.parse()?, kind_of(mishap))
+    }
+}
+
+/// With what error a call goes wrong; without one it takes no byte.
+fn kind_of(mishap: &str) -> Option<ErrorKind> {
+    match mishap {
+        "fails" => Some(ErrorKind::Other),
+        "is interrupted" => Some(ErrorKind::Interrupted),
+        _ => None,
+    }
+}
+
+/// Lets each call go wrong in turn, up to the run in which none does any more.
+fn each_call<C: Course>(
+    alloc: Global,
+    json: &str,
+    most: usize,
+    kind: Option<ErrorKind>,
+) -> Result<String, Fail> {
+    let first = C::run(alloc, json, Pace::new(most, kind, 0))?;
+    for call in 1..1000usize {
+        let told = C::run(alloc, json, Pace::new(most, kind, call))?;
+        if told.as_str() == "0, all written, 0 failed" {
+            return Ok(format!(in alloc; "{call} calls: {first}")?);
+        }
+        if told.as_str() != first.as_str() {
+            return Ok(told);
+        }
+    }
+    Ok(first)
+}
+
+// The buffer of a run has 65,536 bytes; the last call of each reader finds the end.
+const FAILED_READS: &[Row] = &[
+    ("4095 65536 fails", "2 calls: 1 refused: read failed, nothing written, 1 failed"),
+    ("4096 65536 fails", "2 calls: 1 refused: read failed, nothing written, 1 failed"),
+    ("4097 65536 fails", "2 calls: 1 refused: read failed, nothing written, 1 failed"),
+    ("4095 4096 fails", "2 calls: 1 refused: read failed, nothing written, 1 failed"),
+    ("4096 4096 fails", "2 calls: 1 refused: read failed, nothing written, 1 failed"),
+    ("4097 4096 fails", "3 calls: 1 refused: read failed, nothing written, 1 failed"),
+    ("4096 4095 fails", "3 calls: 1 refused: read failed, nothing written, 1 failed"),
+    ("40960 4096 fails", "11 calls: 1 refused: read failed, nothing written, 1 failed"),
+    ("4096 1000 fails", "6 calls: 1 refused: read failed, nothing written, 1 failed"),
+    ("65535 100000 fails", "2 calls: 1 refused: read failed, nothing written, 1 failed"),
+    ("65536 100000 fails", "2 calls: 1 refused: read failed, nothing written, 1 failed"),
+    ("65537 100000 fails", "3 calls: 1 refused: read failed, nothing written, 1 failed"),
+    ("65537 65535 fails", "3 calls: 1 refused: read failed, nothing written, 1 failed"),
+    ("131072 100000 fails", "3 calls: 1 refused: read failed, nothing written, 1 failed"),
+    ("262145 100000 fails", "6 calls: 1 refused: read failed, nothing written, 1 failed"),
+];
+
+#[test]
+fn refuses_where_any_read_fails(rt: HostRuntime) -> Result<(), Fail> {
+    hold::<EachCall<Reading>>(rt.alloc(), FAILED_READS)
+}
+
+const INTERRUPTED_READS: &[Row] = &[
+    ("4095 65536 is interrupted", "2 calls: 0, all written, 1 failed"),
+    ("4096 65536 is interrupted", "2 calls: 0, all written, 1 failed"),
+    ("4097 65536 is interrupted", "2 calls: 0, all written, 1 failed"),
+    ("4095 4096 is interrupted", "2 calls: 0, all written, 1 failed"),
+    ("4096 4096 is interrupted", "2 calls: 0, all written, 1 failed"),
+    ("4097 4096 is interrupted", "3 calls: 0, all written, 1 failed"),
+    ("4096 4095 is interrupted", "3 calls: 0, all written, 1 failed"),
+    ("40960 4096 is interrupted", "11 calls: 0, all written, 1 failed"),
+    ("4096 1000 is interrupted", "6 calls: 0, all written, 1 failed"),
+    ("65535 100000 is interrupted", "2 calls: 0, all written, 1 failed"),
+    ("65536 100000 is interrupted", "2 calls: 0, all written, 1 failed"),
+    ("65537 100000 is interrupted", "3 calls: 0, all written, 1 failed"),
+    ("65537 65535 is interrupted", "3 calls: 0, all written, 1 failed"),
+    ("131072 100000 is interrupted", "3 calls: 0, all written, 1 failed"),
+    ("262145 100000 is interrupted", "6 calls: 0, all written, 1 failed"),
+];
+
+#[test]
+fn reads_again_where_any_read_is_interrupted(rt: HostRuntime) -> Result<(), Fail> {
+    hold::<EachCall<Reading>>(rt.alloc(), INTERRUPTED_READS)
+}
+
+// Fifty bytes are written.
+const WRITES: &[Row] = &[
+    ("0 1 fails", "50 calls: 1 refused: write failed, a beginning written, 1 failed"),
+    ("0 1 takes nothing", "50 calls: 1 refused: write failed, a beginning written, 1 failed"),
+    ("0 1 is interrupted", "50 calls: 0, all written, 1 failed"),
+    ("0 7 fails", "8 calls: 1 refused: write failed, a beginning written, 1 failed"),
+    ("0 7 takes nothing", "8 calls: 1 refused: write failed, a beginning written, 1 failed"),
+    ("0 7 is interrupted", "8 calls: 0, all written, 1 failed"),
+    ("0 49 fails", "2 calls: 1 refused: write failed, a beginning written, 1 failed"),
+    ("0 49 takes nothing", "2 calls: 1 refused: write failed, a beginning written, 1 failed"),
+    ("0 49 is interrupted", "2 calls: 0, all written, 1 failed"),
+    ("0 50 fails", "1 calls: 1 refused: write failed, a beginning written, 1 failed"),
+    ("0 50 takes nothing", "1 calls: 1 refused: write failed, a beginning written, 1 failed"),
+    ("0 50 is interrupted", "1 calls: 0, all written, 1 failed"),
+    ("0 51 fails", "1 calls: 1 refused: write failed, a beginning written, 1 failed"),
+    ("0 51 takes nothing", "1 calls: 1 refused: write failed, a beginning written, 1 failed"),
+    ("0 51 is interrupted", "1 calls: 0, all written, 1 failed"),
+];
+
+#[test]
+fn writes_all_or_a_beginning(rt: HostRuntime) -> Result<(), Fail> {
+    hold::<EachCall<Writing>>(rt.alloc(), WRITES)
+}
