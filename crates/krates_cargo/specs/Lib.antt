@@ -1,3 +1,4 @@
 pub mod Command
 pub mod Options
+pub mod Output
 pub mod Setters

@@ -168,6 +168,18 @@ impl MetadataCommand {
         }
     }
 
+    /// Chooses features: names are added to those that are chosen already. All of them, and all but the default ones, can be
+    /// chosen only once: the refusal is `FeaturesTwice` exactly where they are chosen already. Only names can want memory.
+    pub fn features(&mut self, features: Features) -> Result<&mut Self, Error>
+        ensures chosen { IfOk result (λ c. c.now ≡ choosing self.old features) }
+        ensures twice { result ≡ Err errors.FeaturesTwice ↔ IsChosen self.old features }
+        ensures refused { IfErr result (IsNotChosen self.old features) }
+        ensures same_reference { IfOk result (λ c. c.ghost_name ≡ self.entry.ghost_name) }
+    {
+        self.choose(features)?;
+        Ok(self)
+    }
+
     /// Chooses features, or says whether it could.
     fn choose(&mut self, features: Features) -> Result<(), Error>
         ensures chosen { IfOk result (λ _. self.new ≡ choosing self.old features) }

@@ -3,6 +3,7 @@
 
 pub mod command;
 pub mod options;
+mod output;
 mod words;
 
 pub use command::{Features, MetadataCommand};
