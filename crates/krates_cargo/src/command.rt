@@ -36,17 +36,17 @@ pub enum Features {
 /// A chain of calls looks so: `command.no_deps().manifest_path(path).env("RUSTC", "rustc")?`.
 #[derive(Clone, Debug, Drop)]
 pub struct MetadataCommand {
-    alloc: Global,
-    cargo_path: Option<String>,
+    pub(crate) alloc: Global,
+    pub(crate) cargo_path: Option<String>,
     manifest_path: Option<String>,
-    current_dir: Option<String>,
+    pub(crate) current_dir: Option<String>,
     features: Vec<String>,
     other_options: Vec<String>,
-    variables: BTreeMap<String, String>,
+    pub(crate) variables: BTreeMap<String, String>,
     has_no_deps: bool,
     has_all_features: bool,
     has_no_default_features: bool,
-    is_verbose: bool,
+    pub(crate) is_verbose: bool,
 }
 
 impl Model for MetadataCommand {

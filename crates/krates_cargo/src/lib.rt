@@ -4,6 +4,7 @@
 pub mod command;
 pub mod options;
 mod output;
+mod running;
 mod words;
 
 pub use command::{Features, MetadataCommand};

@@ -22,7 +22,12 @@ impl MetadataCommand {
     /// Where it didn't, the answer is `CargoMetadata` with what it wrote to standard error, or `ErrUtf8` where that is no text.
     /// Where it did, the answer is `Utf8` where standard output is no text, `NoJson` where no line of it begins with `{`, and
     /// else what `parse` answers for the first such line. `Memory` may stand in place of any answer.
-    pub fn interpret(alloc: Global, success: bool, stdout: &[u8], stderr: &[u8]) -> Result<Metadata, Error>
+    pub fn interpret(
+        alloc: Global,
+        success: bool,
+        stdout: &[u8],
+        stderr: &[u8],
+    ) -> Result<Metadata, Error>
         ensures answer { IfOk result (λ m. IsAnswer success stdout.now (metadata_view m)) }
         ensures refused { IfErr result (IsNoAnswer success stdout.now stderr.now) }
     {
