@@ -48,10 +48,7 @@ const BECOMES: &[Row] = &[
         "lock other=--y other=--z no-default all feature=c",
         "cargo in none: metadata|--format-version|1|--no-default-features|--all-features|--features|c|--frozen|--locked|--offline|--y|--z",
     ),
-    (
-        "cargo=p dir=/d",
-        "p in /d: metadata|--format-version|1",
-    ),
+    ("cargo=p dir=/d", "p in /d: metadata|--format-version|1"),
 ];
 
 /// Texts, and their first line that begins with `{`.
@@ -64,7 +61,12 @@ const JSON_LINES: &[(&str, Option<&str>)] = &[
 
 /// Whether cargo ended well, what it wrote to standard output and to standard error, and what is read of it.
 const READ: &[(bool, &[u8], &[u8], &str)] = &[
-    (true, b"hello\n", b"", "could not find any json in the output of `cargo metadata`"),
+    (
+        true,
+        b"hello\n",
+        b"",
+        "could not find any json in the output of `cargo metadata`",
+    ),
     (
         false,
         b"",
@@ -83,8 +85,18 @@ const READ: &[(bool, &[u8], &[u8], &str)] = &[
         b"",
         "failed to interpret `cargo metadata`'s json: missing key: ",
     ),
-    (true, b"\xff", b"", "cannot convert the stdout of `cargo metadata`: "),
-    (false, b"", b"\xff", "cannot convert the stderr of `cargo metadata`: "),
+    (
+        true,
+        b"\xff",
+        b"",
+        "cannot convert the stdout of `cargo metadata`: ",
+    ),
+    (
+        false,
+        b"",
+        b"\xff",
+        "cannot convert the stderr of `cargo metadata`: ",
+    ),
 ];
 
 /// The parts between commas.
@@ -220,7 +232,11 @@ fn read(alloc: Global, success: bool, stdout: &[u8], stderr: &[u8]) -> Result<St
 }
 
 /// Holds each row to its answer.
-fn hold(alloc: Global, rows: &[Row], told: impl Fn(Global, &str) -> Result<String, Fail>) -> Result<(), Fail> {
+fn hold(
+    alloc: Global,
+    rows: &[Row],
+    told: impl Fn(Global, &str) -> Result<String, Fail>,
+) -> Result<(), Fail> {
     for &(line, answer) in rows {
         let told = told(alloc, line)?;
         if told.as_str() != answer {

@@ -170,6 +170,7 @@ impl MetadataCommand {
 
     /// Chooses features: names are added to those that are chosen already. All of them, and all but the default ones, can be
     /// chosen only once: the refusal is `FeaturesTwice` exactly where they are chosen already. Only names can want memory.
+    /// After a refusal the command is as it was, as `choose` promises, which does the work.
     pub fn features(&mut self, features: Features) -> Result<&mut Self, Error>
         ensures chosen { IfOk result (λ c. c.now ≡ choosing self.old features) }
         ensures twice { result ≡ Err errors.FeaturesTwice ↔ IsChosen self.old features }
@@ -180,8 +181,8 @@ impl MetadataCommand {
         Ok(self)
     }
 
-    /// Chooses features, or says whether it could.
-    fn choose(&mut self, features: Features) -> Result<(), Error>
+    /// Chooses features as `features` does, for a caller that goes on after a refusal: the command is then as it was.
+    pub fn choose(&mut self, features: Features) -> Result<(), Error>
         ensures chosen { IfOk result (λ _. self.new ≡ choosing self.old features) }
         ensures refused { IfErr result (IsNotChosen self.old features) }
         ensures once { IsChosen self.old features → result ≡ Err errors.FeaturesTwice }
