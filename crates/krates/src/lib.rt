@@ -17,7 +17,7 @@ pub use enabled::EnabledFeatures;
 pub use filter::{NoneFilter, OnFilter};
 pub use indexed::IndexSource;
 pub use kept::{Krates, KratesIter};
-pub use krates_cm as cm;
+pub use krates_cargo::{Cmd, LockOptions};
 pub use krates_cm::{Metadata, Package, PackageId};
 pub use krates_graph::graph::{EdgeId, NodeId};
 pub use krates_graph::{agenda, graph};
@@ -27,6 +27,16 @@ pub use krates_text::features::{Feature, ParsedFeature};
 pub use krates_text::target::Target;
 pub use krates_text::{path, target};
 pub use semver;
+
+/// The document of `cargo metadata`, and the command whose output it is.
+pub mod cm {
+    pub use krates_cargo::{Features, MetadataCommand};
+    pub use krates_cm::{
+        CrateType, DepKindInfo, Dependency, DependencyKind, Edition, Error, FromValue, Metadata,
+        Node, NodeDep, Package, PackageId, ReadError, Resolve, Source, Target, TargetKind,
+        UnknownName, WorkspaceDefaultMembers, laws,
+    };
+}
 
 /// Expressions over targets, and the targets that are known by their triple.
 pub mod cfg {

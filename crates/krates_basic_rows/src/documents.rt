@@ -1,6 +1,6 @@
 //! Whole documents, read from their text.
 
-use krates_cm::{Error, Metadata, MetadataCommand};
+use krates_cm::{Error, Metadata, parse};
 use std::alloc::{AllocError, Global};
 use std::test::Fail;
 
@@ -59,7 +59,7 @@ fn summary(alloc: Global, metadata: &Metadata) -> Result<String, AllocError> {
 /// What is read of a text, or why nothing is: the kind of the error, and what it prints. Of a text that is no JSON the
 /// library says why, in words of its own, so only the words before them are looked at.
 fn told(alloc: Global, text: &str) -> Result<String, Fail> {
-    let error = match MetadataCommand::parse(alloc, text) {
+    let error = match parse(alloc, text) {
         Ok(metadata) => return Ok(summary(alloc, &metadata)?),
         Err(error) => error,
     };

@@ -7,6 +7,8 @@
 #[cfg(test)]
 mod agenda;
 #[cfg(test)]
+mod cargo;
+#[cfg(test)]
 mod correction;
 #[cfg(test)]
 mod documents;

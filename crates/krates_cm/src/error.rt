@@ -4,6 +4,7 @@ ghost use Rattle.std.specs.Prelude.{◌≡◌};
 ghost use Rattle.krates_cm.specs.declared.error.Error.TheVariants as errors;
 
 use crate::read_error::ReadError;
+use std::alloc::AllocError;
 use std::io;
 use std::str::Utf8Error;
 
@@ -43,6 +44,14 @@ pub enum Error {
     /// Memory ran out.
     #[error("out of memory")]
     Memory,
+}
+
+impl From<AllocError> for Error {
+    ghost from_gives = { λ _ e. e ≡ errors.Memory };
+
+    fn from(_error: AllocError) -> Error {
+        Error::Memory
+    }
 }
 
 impl From<io::Error> for Error {

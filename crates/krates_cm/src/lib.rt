@@ -1,8 +1,8 @@
 //! The document of `cargo metadata --format-version 1`: its types, and how they are read from JSON.
 #![tactic(auto)]
 
-pub mod command;
 pub mod dependency;
+pub mod document;
 pub mod error;
 pub mod laws;
 pub mod metadata;
@@ -14,8 +14,8 @@ pub mod read_error;
 pub mod resolve;
 pub mod target;
 
-pub use command::MetadataCommand;
 pub use dependency::{Dependency, DependencyKind};
+pub use document::parse;
 pub use error::Error;
 pub use metadata::{Metadata, WorkspaceDefaultMembers};
 pub use names::UnknownName;

@@ -25,7 +25,7 @@
 //!
 //! Any other section is passed over here: it says how the document is used. A tilde anywhere stands for a blank.
 
-use krates_cm::{DependencyKind, Metadata, MetadataCommand, PackageId};
+use krates_cm::{DependencyKind, Metadata, PackageId, parse};
 use krates_ids::Kid;
 use std::alloc::Global;
 use std::test::Fail;
@@ -383,7 +383,7 @@ pub(crate) fn document(alloc: Global, line: &str) -> Result<String, Fail> {
 /// The document of a line, read.
 pub(crate) fn metadata(alloc: Global, line: &str) -> Result<Metadata, Fail> {
     let json = document(alloc, line)?;
-    Ok(MetadataCommand::parse(alloc, json.as_str())?)
+    Ok(parse(alloc, json.as_str())?)
 }
 
 /// The id of a word, read.

@@ -1,0 +1,5 @@
+pub mod Command
+pub mod Options
+pub mod Output
+pub mod Running
+pub mod Setters

@@ -1,0 +1,46 @@
+-- What cargo's output means.
+use Rattle.std.specs.Prelude.{◌≡◌, ◌==◌, Bool, true, false, Option, Some, None, ⊤, slice_index}
+use Rattle.std.specs.List.{find}
+use Rattle.std.specs.Str.{IsUtf8}
+use Rattle.std.specs.Str.Lines.{lines}
+use Rattle.krates_cm.specs.Document.{Text, MetadataModel, text_view}
+use Rattle.krates_cm.specs.Parsing.{IsDocument, IsRefusal}
+use Rattle.krates_cm.specs.declared.error.Error.{Error}
+use Rattle.krates_cm.specs.declared.error.Error.TheVariants as errors
+
+-- the line begins with `{`
+abbrev pub begins_object : Text → Bool
+begins_object line = slice_index line 0 == 123
+
+-- the first line that begins a JSON object
+abbrev pub json_line : Text → Option Text
+json_line output = find begins_object (lines output)
+
+-- cargo ended well, what it wrote is a text, and this is its JSON line
+pub record Answers (success : Bool) (stdout line : Text) : Type 0 where
+  pub ended_well : success ≡ true
+  pub is_text : IsUtf8 stdout
+  pub is_line : json_line stdout ≡ Some line
+
+-- the JSON line is the document
+pub record IsAnswer (success : Bool) (stdout : Text) (m : MetadataModel) : Type 0 where
+  pub line : Text
+  pub answers : Answers success stdout line
+  pub document : IsDocument line m
+
+-- the JSON line is no document, for this reason
+pub record IsNoDocument (success : Bool) (stdout : Text) (e : Error) : Type 0 where
+  pub line : Text
+  pub answers : Answers success stdout line
+  pub refused : IsRefusal line e
+
+-- why there is no document in what cargo wrote; memory may always run out
+abbrev pub IsNoAnswer : Bool → Text → Text → Error → Type 0
+IsNoAnswer success stdout stderr (errors.CargoMetadata said) = (success ≡ false) × IsUtf8 stderr × (text_view said ≡ stderr)
+IsNoAnswer success stdout stderr (errors.ErrUtf8 cause) = (success ≡ false) × (IsUtf8 stderr → ⊥)
+IsNoAnswer success stdout stderr (errors.Utf8 cause) = (success ≡ true) × (IsUtf8 stdout → ⊥)
+IsNoAnswer success stdout stderr errors.NoJson = (success ≡ true) × IsUtf8 stdout × (json_line stdout ≡ None)
+IsNoAnswer success stdout stderr (errors.Json cause) = IsNoDocument success stdout (errors.Json cause)
+IsNoAnswer success stdout stderr (errors.Value cause) = IsNoDocument success stdout (errors.Value cause)
+IsNoAnswer success stdout stderr errors.Memory = ⊤
+IsNoAnswer success stdout stderr _ = ⊥

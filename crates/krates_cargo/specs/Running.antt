@@ -1,0 +1,39 @@
+-- The program that a command runs, and what a run answers.
+use Rattle.std.specs.Prelude.{◌≡◌, ◌≢◌, Bool, true, false, List, Option, Some, None, if◌then◌else◌, fold, codes}
+use Rattle.std.specs.Option.{option_map}
+use Rattle.std.specs.IoError.{error_kind}
+use Rattle.std.specs.Process.{clears_env, command_var}
+use Rattle.std.specs.Str.{bytes_eq}
+use Rattle.std.specs.declared.alloc.Global.{Global}
+use Rattle.std.specs.declared.io.ErrorKind.TheVariants as kinds
+use Rattle.std.specs.declared.process.command.Command.{Command}
+use Rattle.krates_cm.specs.Document.{Text, MetadataModel}
+use Rattle.krates_cm.specs.declared.error.Error.{Error}
+use Rattle.krates_cm.specs.declared.error.Error.TheVariants as errors
+use Rattle.krates_cargo.specs.Output.{IsAnswer, IsNoAnswer}
+
+-- the program that is set, else the one that is handed in, else `cargo`
+abbrev pub program : Option Text → Option Text → Text
+program (Some path) cargo = path
+program None (Some cargo) = cargo
+program None None = codes "cargo"
+
+-- the value of a variable among those that are set
+abbrev pub value_of : List (Text × Text) → Text → Option Text
+value_of variables name = fold (λ found v. if bytes_eq v.0 name then Some v.1 else found) None variables
+
+-- the command sets just these variables of the environment that it inherits
+abbrev pub SetsJust : List (Text × Text) → Command Global → Type 0
+SetsJust variables c = (clears_env c ≡ false) × ((name : Text) → command_var c name ≡ option_map Some (value_of variables name))
+
+-- some output of a cargo that ended well has the document
+abbrev pub IsSomeAnswer : MetadataModel → Type 0
+IsSomeAnswer m = (stdout : Text) × IsAnswer true stdout m
+
+-- why a run has no document: cargo couldn't be run, and not for want of memory; or some output of it has none
+abbrev pub IsNotRead : Error → Type 0
+IsNotRead e = (success : Bool) × (stdout : Text) × (stderr : Text) × IsNoAnswer success stdout stderr e
+
+abbrev pub IsUnrun : Error → Type 0
+IsUnrun (errors.Io cause) = error_kind cause ≢ kinds.OutOfMemory
+IsUnrun e = IsNotRead e

@@ -1,0 +1,270 @@
+//! The command `cargo metadata` with its settings.
+
+ghost use Rattle.std.specs.Prelude.{◌≡◌, ◌↔◌, Some, true, IfOk, IfErr, OnErr};
+ghost use Rattle.std.specs.Option.{option_map};
+ghost use Rattle.std.specs.Bool.{MatchBool};
+ghost use Rattle.std.specs.Borrow.{sem};
+ghost use Rattle.krates_cm.specs.Document.{metadata_view, text_view, texts_view};
+ghost use Rattle.krates_cm.specs.Parsing.{IsDocument, IsRefusal};
+ghost use Rattle.krates_cm.specs.declared.error.Error.TheVariants as errors;
+ghost use Rattle.krates_cargo.specs.Command.{plain_command, words};
+ghost use Rattle.krates_cargo.specs.Setters.{IsChosen, IsNotChosen, RestsCommand, choosing, with_variable};
+
+use crate::words::{push_all, push_flag, push_listed, push_valued, push_word};
+use krates_cm::{Error, Metadata, parse};
+use std::alloc::{AllocError, Global};
+use std::collections::BTreeMap;
+use std::marker::Model;
+
+/// Features of the packages of the workspace (Cargo Book, "cargo metadata", "Feature Selection").
+#[derive(Clone, Debug, Drop)]
+pub enum Features {
+    /// All of them.
+    All,
+    /// Not the feature `default`, unless it is named.
+    NoDefault,
+    /// Those with these names.
+    Selected(Vec<String>),
+}
+
+/// The command `cargo metadata`, whose output is the document, and its settings.
+///
+/// The setters may be called in any order. Names of features and variables of the environment are added to those that are
+/// set; in everything else the last call counts. Those that add want memory, and after a refusal they leave the command as
+/// it was.
+///
+/// A chain of calls looks so: `command.no_deps().manifest_path(path).env("RUSTC", "rustc")?`.
+#[derive(Clone, Debug, Drop)]
+pub struct MetadataCommand {
+    pub(crate) alloc: Global,
+    pub(crate) cargo_path: Option<String>,
+    manifest_path: Option<String>,
+    pub(crate) current_dir: Option<String>,
+    features: Vec<String>,
+    other_options: Vec<String>,
+    pub(crate) variables: BTreeMap<String, String>,
+    has_no_deps: bool,
+    has_all_features: bool,
+    has_no_default_features: bool,
+    pub(crate) is_verbose: bool,
+}
+
+impl Model for MetadataCommand {
+    ghost use Rattle.std.specs.Option.{option_map};
+    ghost use Rattle.krates_cm.specs.Document.{text_view, texts_view};
+    ghost use Rattle.krates_cargo.specs.Command.{CommandModel, variables_view};
+
+    ghost Value = { CommandModel };
+
+    ghost view = { λ c. record {
+      cargo_path = option_map text_view c.cargo_path;
+      manifest_path = option_map text_view c.manifest_path;
+      current_dir = option_map text_view c.current_dir;
+      no_deps = c.has_no_deps;
+      features = texts_view c.features;
+      all_features = c.has_all_features;
+      no_default_features = c.has_no_default_features;
+      other_options = texts_view c.other_options;
+      variables = variables_view c.variables;
+      verbose = c.is_verbose;
+    } };
+}
+
+impl MetadataCommand {
+    /// The command with nothing set.
+    pub fn new(alloc: Global) -> MetadataCommand
+        ensures { result ≡ plain_command }
+    {
+        MetadataCommand {
+            alloc,
+            cargo_path: None,
+            manifest_path: None,
+            current_dir: None,
+            features: Vec::new(alloc),
+            other_options: Vec::new(alloc),
+            variables: BTreeMap::new(alloc),
+            has_no_deps: false,
+            has_all_features: false,
+            has_no_default_features: false,
+            is_verbose: false,
+        }
+    }
+
+    /// The program to run as cargo.
+    pub fn cargo_path(&mut self, path: String) -> &mut Self
+        ensures set { result.now ≡ record (self.old) { cargo_path = Some (text_view path) } }
+        ensures same_reference { result.ghost_name ≡ self.entry.ghost_name }
+    {
+        self.cargo_path = Some(path);
+        self
+    }
+
+    /// The manifest whose workspace is asked for.
+    pub fn manifest_path(&mut self, path: String) -> &mut Self
+        ensures set { result.now ≡ record (self.old) { manifest_path = Some (text_view path) } }
+        ensures same_reference { result.ghost_name ≡ self.entry.ghost_name }
+    {
+        self.manifest_path = Some(path);
+        self
+    }
+
+    /// The directory to run cargo in.
+    pub fn current_dir(&mut self, path: String) -> &mut Self
+        ensures set { result.now ≡ record (self.old) { current_dir = Some (text_view path) } }
+        ensures same_reference { result.ghost_name ≡ self.entry.ghost_name }
+    {
+        self.current_dir = Some(path);
+        self
+    }
+
+    /// Leaves dependencies out of the document.
+    pub fn no_deps(&mut self) -> &mut Self
+        ensures set { result.now ≡ record (self.old) { no_deps = true } }
+        ensures same_reference { result.ghost_name ≡ self.entry.ghost_name }
+    {
+        self.has_no_deps = true;
+        self
+    }
+
+    /// Further options, in place of those that were set before.
+    pub fn other_options(&mut self, options: Vec<String>) -> &mut Self
+        ensures set { result.now ≡ record (self.old) { other_options = texts_view options } }
+        ensures same_reference { result.ghost_name ≡ self.entry.ghost_name }
+    {
+        self.other_options = options;
+        self
+    }
+
+    /// Whether cargo writes its errors and warnings to the standard error of this process.
+    pub fn verbose(&mut self, is_on: bool) -> &mut Self
+        ensures set { result.now ≡ record (self.old) { verbose = is_on } }
+        ensures same_reference { result.ghost_name ≡ self.entry.ghost_name }
+    {
+        self.is_verbose = is_on;
+        self
+    }
+
+    /// The command with these settings alone.
+    pub(crate) fn asking(
+        alloc: Global,
+        cargo_path: Option<String>,
+        manifest_path: Option<String>,
+        current_dir: Option<String>,
+        options: Vec<String>,
+    ) -> MetadataCommand
+        ensures { result ≡ record plain_command {
+          cargo_path = option_map text_view cargo_path;
+          manifest_path = option_map text_view manifest_path;
+          current_dir = option_map text_view current_dir;
+          other_options = texts_view options;
+        } }
+    {
+        MetadataCommand {
+            cargo_path,
+            manifest_path,
+            current_dir,
+            other_options: options,
+            ..MetadataCommand::new(alloc)
+        }
+    }
+
+    /// Chooses features: names are added to those that are chosen already. All of them, and all but the default ones, can be
+    /// chosen only once: the refusal is `FeaturesTwice` exactly where they are chosen already. Only names can want memory.
+    /// After a refusal the command is as it was, as `choose` promises, which does the work.
+    pub fn features(&mut self, features: Features) -> Result<&mut Self, Error>
+        ensures chosen { IfOk result (λ c. c.now ≡ choosing self.old features) }
+        ensures twice { result ≡ Err errors.FeaturesTwice ↔ IsChosen self.old features }
+        ensures refused { IfErr result (IsNotChosen self.old features) }
+        ensures same_reference { IfOk result (λ c. c.ghost_name ≡ self.entry.ghost_name) }
+    {
+        self.choose(features)?;
+        Ok(self)
+    }
+
+    /// Chooses features as `features` does, for a caller that goes on after a refusal: the command is then as it was.
+    pub fn choose(&mut self, features: Features) -> Result<(), Error>
+        ensures chosen { IfOk result (λ _. self.new ≡ choosing self.old features) }
+        ensures refused { IfErr result (IsNotChosen self.old features) }
+        ensures once { IsChosen self.old features → result ≡ Err errors.FeaturesTwice }
+        ensures unchanged { OnErr result (self.new ≡ self.old) }
+    {
+        match features {
+            Features::All if self.has_all_features => return Err(Error::FeaturesTwice),
+            Features::All => self.has_all_features = true,
+            Features::NoDefault if self.has_no_default_features => return Err(Error::FeaturesTwice),
+            Features::NoDefault => self.has_no_default_features = true,
+            Features::Selected(names) => {
+                let mut names = names;
+                self.features.append(&mut names)?;
+            }
+        }
+        Ok(())
+    }
+
+    /// Sets a variable of the environment that cargo gets, beside those of this process; of two values of one name the last
+    /// counts. After a refusal the command is as it was.
+    pub fn env(&mut self, name: &str, value: &str) -> Result<&mut Self, AllocError>
+        ensures* refused { sem 𝓛 (RestsCommand self.entry result) }
+        ensures set { IfOk result (λ c. c.now ≡ with_variable self.old name.now value.now) }
+        ensures same_reference { IfOk result (λ c. c.ghost_name ≡ self.entry.ghost_name) }
+    {
+        if self.has_set(name, value) {
+            Ok(self)
+        } else {
+            Err(AllocError)
+        }
+    }
+
+    /// Sets a variable; whether it could.
+    fn has_set(&mut self, name: &str, value: &str) -> bool
+        ensures { MatchBool result (self.new ≡ with_variable self.old name.now value.now) (self.new ≡ self.old) }
+    {
+        self.set_variable(name, value).is_ok()
+    }
+
+    fn set_variable(&mut self, name: &str, value: &str) -> Result<(), AllocError>
+        ensures set { IfOk result (λ _. self.new ≡ with_variable self.old name.now value.now) }
+        ensures unchanged { OnErr result (self.new ≡ self.old) }
+    {
+        let name = String::from_str(self.alloc, name)?;
+        let value = String::from_str(self.alloc, value)?;
+        self.variables.insert(name, value)?;
+        Ok(())
+    }
+
+    /// The words after the program: `metadata`, `--format-version` and `1`, then `--no-deps`, then `--features` with the names
+    /// joined by commas, `--all-features`, `--no-default-features`, then `--manifest-path` with the path, and then the other
+    /// options; each only where it is set. The only error is want of memory.
+    pub fn args(&self) -> Result<Vec<String>, AllocError>
+        ensures { IfOk result (λ args. texts_view args ≡ words self.now) }
+    {
+        let alloc = self.alloc;
+        let mut args = Vec::new(alloc);
+        push_word(alloc, &mut args, "metadata")?;
+        push_word(alloc, &mut args, "--format-version")?;
+        push_word(alloc, &mut args, "1")?;
+        push_flag(alloc, &mut args, self.has_no_deps, "--no-deps")?;
+        push_listed(alloc, &mut args, "--features", ",", &self.features)?;
+        push_flag(alloc, &mut args, self.has_all_features, "--all-features")?;
+        push_flag(
+            alloc,
+            &mut args,
+            self.has_no_default_features,
+            "--no-default-features",
+        )?;
+        push_valued(alloc, &mut args, "--manifest-path", &self.manifest_path)?;
+        push_all(alloc, &mut args, &self.other_options)?;
+        Ok(args)
+    }
+
+    /// Reads a document: the JSON value of the text (RFC 8259), then the metadata of that value.
+    ///
+    /// The answer is `Json` where the text is no JSON, and `Value` where its value isn't read. `Memory` may stand in place of
+    /// any answer.
+    pub fn parse(alloc: Global, text: &str) -> Result<Metadata, Error>
+        ensures document { IfOk result (λ m. IsDocument text.now (metadata_view m)) }
+        ensures refused { IfErr result (IsRefusal text.now) }
+    {
+        parse(alloc, text)
+    }
+}

@@ -1,0 +1,64 @@
+//! What is read of cargo's output.
+
+ghost use Rattle.std.specs.Prelude.{◌≡◌, [], IfOk, IfErr, false};
+ghost use Rattle.std.specs.Option.{option_map};
+ghost use Rattle.krates_cm.specs.Document.{metadata_view};
+ghost use Rattle.krates_cargo.specs.Output.{IsAnswer, IsNoAnswer, begins_object, json_line};
+
+use crate::command::MetadataCommand;
+use krates_cm::{Error, Metadata};
+use std::alloc::Global;
+
+impl MetadataCommand {
+    /// The first line that begins with `{`, without the `\n` or `\r\n` that ends it. Cargo may write warnings before it.
+    pub fn json_line(output: &str) -> Option<&str>
+        ensures { option_map (λ line. line.now) result ≡ json_line output.now }
+    {
+        output.lines().find(|line| begins_object(line))
+    }
+
+    /// The metadata in what cargo wrote, and whether it ended well.
+    ///
+    /// Where it didn't, the answer is `CargoMetadata` with what it wrote to standard error, or `ErrUtf8` where that is no text.
+    /// Where it did, the answer is `Utf8` where standard output is no text, `NoJson` where no line of it begins with `{`, and
+    /// else what `parse` answers for the first such line. `Memory` may stand in place of any answer.
+    pub fn interpret(
+        alloc: Global,
+        success: bool,
+        stdout: &[u8],
+        stderr: &[u8],
+    ) -> Result<Metadata, Error>
+        ensures answer { IfOk result (λ m. IsAnswer success stdout.now (metadata_view m)) }
+        ensures refused { IfErr result (IsNoAnswer success stdout.now stderr.now) }
+    {
+        if !success {
+            return Err(failure(alloc, stderr));
+        }
+        let output = str::from_utf8(stdout)?;
+        let Some(line) = MetadataCommand::json_line(output) else {
+            return Err(Error::NoJson);
+        };
+        MetadataCommand::parse(alloc, line)
+    }
+}
+
+/// Whether the line begins with `{`.
+fn begins_object(line: &str) -> bool
+    ensures { result ≡ begins_object line.now }
+{
+    line.starts_with('{')
+}
+
+/// The refusal for a cargo that failed and wrote this to standard error.
+fn failure(alloc: Global, stderr: &[u8]) -> Error
+    ensures { IsNoAnswer false [] stderr.now result }
+{
+    let text = match str::from_utf8(stderr) {
+        Ok(text) => text,
+        Err(cause) => return Error::ErrUtf8(cause),
+    };
+    match String::from_str(alloc, text) {
+        Ok(stderr) => Error::CargoMetadata { stderr },
+        Err(_) => Error::Memory,
+    }
+}

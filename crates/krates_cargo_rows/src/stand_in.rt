@@ -1,0 +1,98 @@
+//! The runs, and what stands in for cargo in them.
+
+use krates_cargo::MetadataCommand;
+use krates_cm::Error;
+use krates_stand_in::answer;
+use std::io::Write;
+use std::test::Fail;
+
+/// The last word of a run, and how what is read of it begins.
+const RUNS: &[(&str, &str)] = &[
+    ("x", "2 packages"),
+    (
+        "--fake=fail",
+        "`cargo metadata` exited with an error: no manifest\n",
+    ),
+    (
+        "--fake=badout",
+        "cannot convert the stdout of `cargo metadata`: ",
+    ),
+    (
+        "--fake=baderr",
+        "cannot convert the stderr of `cargo metadata`: ",
+    ),
+    (
+        "--fake=nojson",
+        "could not find any json in the output of `cargo metadata`",
+    ),
+    (
+        "--fake=words",
+        "`cargo metadata` exited with an error: metadata\n--format-version\n1\n--fake=words\n",
+    ),
+    (
+        "--fake=env",
+        "`cargo metadata` exited with an error: a value\n",
+    ),
+];
+
+/// Writes what the last word says, where words follow the name of the test, and answers the status.
+pub(crate) fn run(rt: &HostRuntime) -> Result<u8, Fail> {
+    let mut words = Vec::new(rt.alloc());
+    for word in std::env::args(rt)?.skip(1) {
+        words.push(word)?;
+    }
+    if words.len() < 2 {
+        return Ok(0);
+    }
+    let variable = std::env::var(rt, "FAKE_CARGO").ok();
+    let answer = answer(
+        rt.alloc(),
+        words.as_slice(),
+        variable.as_ref().map(|value| value.as_str()),
+    )?;
+    std::io::writer(rt).write_all(&answer.stdout)?;
+    rt.stderr().write_all(&answer.stderr)?;
+    Ok(answer.status)
+}
+
+/// A command that this program runs in cargo's place, with this last word.
+fn command(rt: &HostRuntime, last: &str) -> Result<MetadataCommand, Fail> {
+    let alloc = rt.alloc();
+    let program = std::env::current_exe(rt)?;
+    let mut options = Vec::new(alloc);
+    options.push(String::from_str(alloc, last)?)?;
+    let mut command = MetadataCommand::new(alloc);
+    command
+        .cargo_path(String::from_str(alloc, program.as_str())?)
+        .other_options(options)
+        .env("FAKE_CARGO", "another")?
+        .env("FAKE_CARGO", "a value")?;
+    Ok(command)
+}
+
+/// What is read of a run.
+fn told(rt: &HostRuntime, command: &MetadataCommand) -> Result<String, Fail> {
+    let alloc = rt.alloc();
+    match command.exec(None, rt) {
+        Ok(metadata) => Ok(format!(in alloc; "{} packages", metadata.packages.len())?),
+        Err(error) => Ok(format!(in alloc; "{error}")?),
+    }
+}
+
+#[test]
+fn runs(rt: HostRuntime) -> Result<(), Fail> {
+    for &(last, begins) in RUNS {
+        let told = told(&rt, &command(&rt, last)?)?;
+        if !told.starts_with(begins) {
+            return Err(Fail::new(format_args!("{last}: {told} in place of {begins}")));
+        }
+    }
+    Ok(())
+}
+
+#[test]
+fn no_program(rt: HostRuntime) -> Result<(), Fail> {
+    let answer = MetadataCommand::new(rt.alloc()).exec(Some("/no/such/program"), &rt);
+    assert!(rt; matches!(answer, Err(Error::Io(_))));
+    Ok(())
+}
