@@ -6,9 +6,8 @@ use Rattle.std.specs.List.{AllZip, AllByRecursion}
 use Rattle.krates_cm.specs.Document.{Text, PackageModel, NodeDepModel, NodeModel, ResolveModel, MetadataModel}
 use Rattle.krates_ids.specs.Correction.{with_features}
 use Rattle.krates_ids.specs.Identity.{Identity, Reads}
-use Rattle.krates_resolve.specs.Admission.{AreIdsOf, AreDepIds, HasVersion, IsRootId, package_texts, node_texts, dep_texts}
-use Rattle.krates_resolve.specs.Ids.{IdsModel}
-use Rattle.krates_resolve.specs.Reordering.{ReordersPackage, ReordersPackages, ReordersNode, ReordersGraph, ReordersResolve, Reorders, ResolveAlike}
+use Rattle.krates_rules.specs.Admission.{AreIdsOf, AreDepIds, HasVersion, IsRootId, package_texts, node_texts, dep_texts, IdsModel}
+use Rattle.krates_rules.specs.Reordering.{ReordersPackage, ReordersPackages, ReordersNode, ReordersGraph, ReordersResolve, Reorders, ResolveAlike}
 use Rattle.krates.specs.Build.{IsResolvable}
 use Rattle.krates.proofs.MovedLists.{moved_zip, zip_turned}
 

@@ -13,14 +13,13 @@ use Rattle.krates_cm.specs.declared.package.Package.{Package}
 use Rattle.krates_ids.specs.Identity.{Identity, empty_identity, Reads, id_cmp}
 use Rattle.krates_ids.specs.declared.error.Error.{Error}
 use Rattle.krates_ids.specs.declared.error.Error.TheVariants as errors
-use Rattle.krates_resolve.specs.Admission.{IsAdmitted, package_texts, doubled_package}
-use Rattle.krates_resolve.specs.AdmissionRefusals.{AreDistinct}
-use Rattle.krates_resolve.specs.Facts.{Id, Cause, Crate, Feature, Lost}
-use Rattle.krates_resolve.specs.Ids.{IdsModel}
-use Rattle.krates_resolve.specs.Questions.{Stands, questions}
-use Rattle.krates_resolve.specs.Resolved.{ReadsAs, resolved, id_of}
+use Rattle.krates_rules.specs.Admission.{IsAdmitted, package_texts, doubled_package, IdsModel}
+use Rattle.krates_document.specs.AdmissionSteps.{AreDistinct}
+use Rattle.krates_rules.specs.Facts.{Id, Cause, Crate, Feature, Lost}
+use Rattle.krates_rules.specs.Questions.{Stands, questions}
+use Rattle.krates_rules.specs.Resolved.{ReadsAs, resolved, id_of}
 use Rattle.krates_resolve.specs.declared.selection.Selection.{Selection}
-use Rattle.krates_resolve.specs.Setting.{SettingModel}
+use Rattle.krates_rules.specs.Setting.{SettingModel}
 use Rattle.krates.specs.Build.{IsResolvable, IsDerived, IsKept, IsNotKept, IsLost, AreThosePackages, HasTooMany, IsUnbuilt, IsMiscount}
 use Rattle.krates.specs.Division.{IsAmong, IsDivision}
 use Rattle.krates.specs.Enabled.{AreEnabledSets}

@@ -11,9 +11,9 @@ use Rattle.krates_ids.specs.Identity.{id_cmp}
 use Rattle.krates_ids.specs.declared.error.Error.{Error}
 use Rattle.krates_ids.specs.declared.error.Error.TheVariants as errors
 use Rattle.krates_ids.specs.declared.index.PackageNames.{PackageNames}
-use Rattle.krates_resolve.specs.Facts.{Id, Fact, Crate, Lost}
-use Rattle.krates_resolve.specs.Reordering.{Reorders, ResolveAlike, IsOrderFree}
-use Rattle.krates_resolve.specs.Setting.{SettingModel}
+use Rattle.krates_rules.specs.Facts.{Id, Fact, Crate, Lost}
+use Rattle.krates_rules.specs.Reordering.{Reorders, ResolveAlike, IsOrderFree}
+use Rattle.krates_rules.specs.Setting.{SettingModel}
 use Rattle.krates.specs.Build.{IsResolvable, IsDerived, IsKept, IsNotKept, IsUnbuilt, IsRefusedSeeing}
 use Rattle.krates.specs.BuildLaws.{BuildAlike, IsBuildOrderFree}
 use Rattle.krates.specs.Indexed.{HasNames}

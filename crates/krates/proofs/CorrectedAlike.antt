@@ -6,7 +6,7 @@ use Rattle.krates_cm.specs.Document.{Text, FeaturesModel, PackageModel, Metadata
 use Rattle.krates_cm.specs.declared.metadata.Metadata.{Metadata}
 use Rattle.krates_ids.specs.Correction.{named, joined, or_else, Refers, IndexModel, IsIndexed, IsCorrection, IsCorrected, known, unknown, index_view, with_features}
 use Rattle.krates_ids.specs.declared.index.IndexAnswer.{IndexAnswer}
-use Rattle.krates_resolve.specs.Reordering.{ReordersPackage, ReordersPackages, Reorders}
+use Rattle.krates_rules.specs.Reordering.{ReordersPackage, ReordersPackages, Reorders}
 use Rattle.krates.specs.BuildLaws.{IsSeenBy}
 use Rattle.krates.specs.Indexed.{IsCorrectedPackage, IsCorrectedDocument}
 use Rattle.krates.proofs.MovedLists.{moved_zip, zipped_through, zip_mapped}

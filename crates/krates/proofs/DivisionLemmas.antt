@@ -12,9 +12,9 @@ use Rattle.std.specs.declared.alloc.AllocError.{AllocError}
 use Rattle.krates_cm.specs.Document.{Text, id_view}
 use Rattle.krates_cm.specs.declared.package.Package.{Package}
 use Rattle.krates_ids.specs.Identity.{Identity, empty_identity, Reads, id_cmp}
-use Rattle.krates_resolve.specs.AdmissionRefusals.{AreDistinct}
-use Rattle.krates_resolve.specs.Facts.{Id}
-use Rattle.krates_resolve.specs.Resolved.{id_of}
+use Rattle.krates_document.specs.AdmissionSteps.{AreDistinct}
+use Rattle.krates_rules.specs.Facts.{Id}
+use Rattle.krates_rules.specs.Resolved.{id_of}
 use Rattle.krates.specs.Build.{AreThosePackages, HasIdAmong}
 use Rattle.krates.specs.Division.{has_same, is_selected, IsAmong, IsDivision}
 use Rattle.krates.specs.Krate.{krate_cmp, krate_ids, krate_packages, paired}

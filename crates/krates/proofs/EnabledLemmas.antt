@@ -7,10 +7,9 @@ use Rattle.std.specs.Prelude.{String}
 use Rattle.std.specs.declared.alloc.Global.{Global}
 use Rattle.krates_cm.specs.Document.{Text, text_view}
 use Rattle.krates_ids.specs.Identity.{Identity}
-use Rattle.krates_resolve.specs.Facts.{Id, Feature}
-use Rattle.krates_resolve.specs.Resolved.{id_of}
+use Rattle.krates_rules.specs.Facts.{Id, Feature}
+use Rattle.krates_rules.specs.Resolved.{id_of, StandsAt}
 use Rattle.krates_resolve.specs.Selection.{feature_fact}
-use Rattle.krates_resolve.specs.Table.{StandsAt}
 use Rattle.krates_resolve.specs.declared.selection.EnabledFeature.{EnabledFeature}
 use Rattle.krates.specs.Enabled.{AreEnabledSets, IsPut}
 use Rattle.krates.specs.Kept.{IsEnabledIn, names_in, names_in_each}

@@ -8,9 +8,9 @@ use Rattle.krates_cm.specs.Document.{PackageModel, id_view, package_view, metada
 use Rattle.krates_cm.specs.declared.metadata.Metadata.{Metadata}
 use Rattle.krates_cm.specs.declared.package.Package.{Package}
 use Rattle.krates_ids.specs.Identity.{Identity, Reads, id_cmp}
-use Rattle.krates_resolve.specs.Facts.{Id}
-use Rattle.krates_resolve.specs.Reordering.{ReordersPackage, Reorders}
-use Rattle.krates_resolve.specs.Resolved.{ReadsAs}
+use Rattle.krates_rules.specs.Facts.{Id}
+use Rattle.krates_rules.specs.Reordering.{ReordersPackage, Reorders}
+use Rattle.krates_rules.specs.Resolved.{ReadsAs}
 use Rattle.krates.specs.Build.{HasIdAmong, AreThosePackages}
 use Rattle.krates.specs.BuildLaws.{IsSamePackage, ListAlike}
 use Rattle.krates.proofs.DivisionLemmas.{ReadsOnce}

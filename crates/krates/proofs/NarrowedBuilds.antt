@@ -8,13 +8,12 @@ use Rattle.krates_cm.specs.declared.metadata.Metadata.{Metadata}
 use Rattle.krates_ids.specs.Identity.{Identity, Reads}
 use Rattle.krates_ids.specs.declared.error.Error.{Error}
 use Rattle.krates_ids.specs.declared.error.Error.TheVariants as errors
-use Rattle.krates_resolve.specs.Admission.{AreIdsOf, AreDepIds, HasVersion, IsRootId, IsInvalidId, IsDoubled, unread, bad_version, StandsForId, of_package, of_member, of_root, of_node, of_dep, package_texts, node_texts, dep_texts}
-use Rattle.krates_resolve.specs.Facts.{Id, Fact, Crate, Lost}
-use Rattle.krates_resolve.specs.Ids.{IdsModel}
-use Rattle.krates_resolve.specs.Narrowing.{IsNarrower, IsNarrowing}
-use Rattle.krates_resolve.specs.Resolved.{id_of, resolved}
-use Rattle.krates_resolve.specs.SelectionRefusals.{cause_of}
-use Rattle.krates_resolve.specs.Setting.{SettingModel}
+use Rattle.krates_rules.specs.Admission.{AreIdsOf, AreDepIds, HasVersion, IsRootId, IsInvalidId, IsDoubled, unread, bad_version, StandsForId, of_package, of_member, of_root, of_node, of_dep, package_texts, node_texts, dep_texts, IdsModel}
+use Rattle.krates_rules.specs.Facts.{Id, Fact, Crate, Lost}
+use Rattle.krates_rules.specs.Narrowing.{IsNarrower, IsNarrowing}
+use Rattle.krates_rules.specs.Resolved.{id_of, resolved}
+use Rattle.krates_rules.specs.SelectionRefusals.{cause_of}
+use Rattle.krates_rules.specs.Setting.{SettingModel}
 use Rattle.krates.specs.Build.{IsDerived, IsUnbuilt, IsRefusedSeeing}
 use Rattle.krates.specs.BuildLaws.{Succeeds, IsBuildNarrowing}
 use Rattle.krates.proofs.DivisionLemmas.{ReadsOnce}

@@ -11,9 +11,8 @@ use Rattle.std.specs.Cmp.{IsTotalOrder}
 use Rattle.std.specs.List.Sorted.{IsStrictlySortedBy, IsSorted, IsSortedBy, IsBinarySearchResult, IsSearchInRange, IsPartitionPoint, IsNonDecreasingBy}
 use Rattle.std.specs.Ordering.{is_eq, is_lt, ordering_index, ordering_reverse}
 use Rattle.krates_ids.specs.Identity.{Identity, IsSameId, id_cmp}
-use Rattle.krates_resolve.specs.Facts.{Id}
-use Rattle.krates_resolve.specs.Resolved.{id_of}
-use Rattle.krates_resolve.specs.Table.{StandsAt}
+use Rattle.krates_rules.specs.Facts.{Id}
+use Rattle.krates_rules.specs.Resolved.{id_of, StandsAt}
 use Rattle.krates.specs.Division.{has_same, IsAmong}
 use Rattle.krates.specs.Krate.{krate_ids}
 use Rattle.krates.specs.declared.krate.Krate.{Krate}

@@ -6,13 +6,12 @@ use Rattle.krates_cm.specs.declared.metadata.Metadata.{Metadata}
 use Rattle.krates_cm.specs.declared.package.Package.{Package}
 use Rattle.krates_ids.specs.Identity.{Reads}
 use Rattle.krates_ids.specs.declared.index.IndexAnswer.{IndexAnswer}
-use Rattle.krates_resolve.specs.Admission.{IsAdmitted, IsDoubled, StandsTwice, package_texts, doubled_package, doubled_node, doubled_dep}
-use Rattle.krates_resolve.specs.Facts.{Id}
-use Rattle.krates_resolve.specs.Ids.{IdsModel}
+use Rattle.krates_rules.specs.Admission.{IsAdmitted, IsDoubled, StandsTwice, package_texts, doubled_package, doubled_node, doubled_dep, IdsModel}
+use Rattle.krates_rules.specs.Facts.{Id}
 use Rattle.std.specs.Prelude.{Result, Ok, Err, IfOk, IfErr}
 use Rattle.krates_ids.specs.declared.error.Error.{Error}
 use Rattle.krates_ids.specs.declared.error.Error.TheVariants as errors
-use Rattle.krates_resolve.specs.Setting.{SettingModel}
+use Rattle.krates_rules.specs.Setting.{SettingModel}
 use Rattle.krates.specs.Build.{IsResolvable, IsBuilt, IsUnbuilt, IsBuildRefused}
 use Rattle.krates.specs.Indexed.{Answering, IsCorrectedPackage, IsCorrectedDocument, IsSeen, Sees}
 use Rattle.krates.specs.Kept.{KeptCrates}

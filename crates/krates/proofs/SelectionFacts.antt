@@ -1,17 +1,17 @@
 -- Which crates and causes are among the facts of a selection, and of the document and the setting.
 use Rattle.std.proofs.Common.{◌≡◌, ◌↔◌, List, ◌++◌, map, Some, Contains, sym, subst, inl, inr}
 use Rattle.krates_cm.specs.Document.{MetadataModel, ResolveModel, Text}
-use Rattle.krates_resolve.specs.Derivation.{Derivable, follows}
-use Rattle.krates_resolve.specs.Facts.{Id, Cause, Fact, Crate, Feature, Lost}
-use Rattle.krates_resolve.specs.Questions.{questions}
-use Rattle.krates_resolve.specs.Resolved.{HasGraphWith, resolved, id_of}
-use Rattle.krates_resolve.specs.Rules.{feature_crate}
+use Rattle.krates_rules.specs.Derivation.{Derivable, follows}
+use Rattle.krates_rules.specs.Facts.{Id, Cause, Fact, Crate, Feature, Lost}
+use Rattle.krates_rules.specs.Questions.{questions}
+use Rattle.krates_rules.specs.Resolved.{HasGraphWith, resolved, id_of}
+use Rattle.krates_rules.specs.Rules.{feature_crate}
 use Rattle.krates_resolve.specs.Selection.{IsSelection, crate_fact, edge_fact, feature_fact, toggled_fact, facts_of}
 use Rattle.krates_resolve.specs.declared.selection.EnabledFeature.{EnabledFeature}
 use Rattle.krates_resolve.specs.declared.selection.KeptEdge.{KeptEdge}
 use Rattle.krates_resolve.specs.declared.selection.Selection.{Selection}
 use Rattle.krates_resolve.specs.declared.selection.ToggledFeature.{ToggledFeature}
-use Rattle.krates_resolve.specs.Setting.{SettingModel}
+use Rattle.krates_rules.specs.Setting.{SettingModel}
 use Rattle.krates.specs.Build.{IsDerived, IsKept, IsLost}
 use Rattle.krates.specs.Division.{IsAmong}
 use Rattle.krates.proofs.Membership.{Member, member_of, contains_of, mapped_of, member_map, member_append, member_left, member_right}

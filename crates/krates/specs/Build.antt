@@ -10,16 +10,15 @@ use Rattle.krates_cm.specs.declared.package.Package.{Package}
 use Rattle.krates_ids.specs.Identity.{Identity, Reads, id_cmp}
 use Rattle.krates_ids.specs.declared.error.Error.{Error}
 use Rattle.krates_ids.specs.declared.error.Error.TheVariants as errors
-use Rattle.krates_resolve.specs.Admission.{IsAdmitted}
-use Rattle.krates_resolve.specs.AdmissionRefusals.{IsRefused}
-use Rattle.krates_resolve.specs.Derivation.{Derivable}
-use Rattle.krates_resolve.specs.Facts.{Id, Cause, Fact, Crate, Feature, Lost}
-use Rattle.krates_resolve.specs.Ids.{IdsModel}
-use Rattle.krates_resolve.specs.Questions.{questions}
-use Rattle.krates_resolve.specs.Resolved.{HasGraphWith, ReadsAs, id_of, resolved}
-use Rattle.krates_resolve.specs.Rules.{Questions}
-use Rattle.krates_resolve.specs.SelectionRefusals.{IsUnselected}
-use Rattle.krates_resolve.specs.Setting.{SettingModel}
+use Rattle.krates_rules.specs.Admission.{IsAdmitted, IdsModel}
+use Rattle.krates_rules.specs.AdmissionRefusals.{IsRefused}
+use Rattle.krates_rules.specs.Derivation.{Derivable}
+use Rattle.krates_rules.specs.Facts.{Id, Cause, Fact, Crate, Feature, Lost}
+use Rattle.krates_rules.specs.Questions.{questions}
+use Rattle.krates_rules.specs.Resolved.{HasGraphWith, ReadsAs, id_of, resolved}
+use Rattle.krates_rules.specs.Rules.{Questions}
+use Rattle.krates_rules.specs.SelectionRefusals.{IsUnselected}
+use Rattle.krates_rules.specs.Setting.{SettingModel}
 use Rattle.krates.specs.Indexed.{Answering, Sees}
 use Rattle.krates.specs.Kept.{KeptCrates, HasEnabled}
 

@@ -9,11 +9,11 @@ use Rattle.krates_ids.specs.declared.error.Error.{Error}
 use Rattle.krates_ids.specs.declared.error.Error.TheVariants.{NoRootKrates, Memory}
 use Rattle.krates_ids.specs.declared.index.IndexAnswer.{IndexAnswer}
 use Rattle.krates_ids.specs.declared.index.PackageNames.{PackageNames}
-use Rattle.krates_resolve.specs.Facts.{Id, Cause, Fact}
-use Rattle.krates_resolve.specs.Narrowing.{IsNarrower}
-use Rattle.krates_resolve.specs.Reordering.{Reorders, ReordersPackage, ResolveAlike}
-use Rattle.krates_resolve.specs.Resolved.{id_of}
-use Rattle.krates_resolve.specs.Setting.{SettingModel}
+use Rattle.krates_rules.specs.Facts.{Id, Cause, Fact}
+use Rattle.krates_rules.specs.Narrowing.{IsNarrower}
+use Rattle.krates_rules.specs.Reordering.{Reorders, ReordersPackage, ResolveAlike}
+use Rattle.krates_rules.specs.Resolved.{id_of}
+use Rattle.krates_rules.specs.Setting.{SettingModel}
 use Rattle.krates.specs.Build.{IsResolvable, IsDerived, IsKept, IsNotKept, IsLost, AreThosePackages, IsRefusedSeeing}
 use Rattle.krates.specs.Indexed.{HasNames, IsCorrectedDocument}
 use Rattle.krates.specs.Kept.{AreOrdered}

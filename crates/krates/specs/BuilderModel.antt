@@ -1,6 +1,6 @@
 -- What a builder holds, as clauses see it.
 use Rattle.std.specs.Prelude.{Option}
-use Rattle.krates_resolve.specs.Setting.{SettingModel}
+use Rattle.krates_rules.specs.Setting.{SettingModel}
 
 -- the setting, and where packages are looked up
 pub record BuilderModel (S : Type 0) : Type 0 where

@@ -4,7 +4,7 @@ use Rattle.std.specs.BTreeSet.{BTreeSet}
 use Rattle.std.specs.declared.alloc.Global.{Global}
 use Rattle.krates_cm.specs.Document.{Text}
 use Rattle.krates_ids.specs.Identity.{Identity}
-use Rattle.krates_resolve.specs.Facts.{Id, Feature}
+use Rattle.krates_rules.specs.Facts.{Id, Feature}
 use Rattle.krates_resolve.specs.Selection.{feature_fact}
 use Rattle.krates_resolve.specs.declared.selection.EnabledFeature.{EnabledFeature}
 use Rattle.krates.specs.Division.{IsAmong}

@@ -2,8 +2,7 @@
 
 ghost use Rattle.std.specs.Prelude.{◌≡◌, ◌↔◌, ℕ, ◌<◌, ◌^◌, List, MatchOption, Some, length, string_bytes};
 ghost use Rattle.std.specs.Iterator.{YieldsFirstRef, item_count};
-ghost use Rattle.krates_resolve.specs.Resolved.{id_of};
-ghost use Rattle.krates_resolve.specs.Table.{StandsAt};
+ghost use Rattle.krates_rules.specs.Resolved.{id_of, StandsAt};
 ghost use Rattle.krates.specs.Kept.{AreOrdered, AreKept, HasFeatures, kept_crates, names_in};
 
 use crate::enabled::EnabledFeatures;

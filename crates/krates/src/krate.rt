@@ -7,8 +7,7 @@ ghost use Rattle.std.specs.Cmp.Rules.{comparing};
 ghost use Rattle.std.specs.List.Sorted.{IsStrictlySortedBy};
 ghost use Rattle.std.specs.Ordering.{as_partial_cmp};
 ghost use Rattle.krates_ids.specs.Identity.{id_cmp};
-ghost use Rattle.krates_resolve.specs.Resolved.{id_of};
-ghost use Rattle.krates_resolve.specs.Table.{StandsAt};
+ghost use Rattle.krates_rules.specs.Resolved.{id_of, StandsAt};
 ghost use Rattle.krates.specs.Krate.{krate_ids, same_krate, krate_cmp};
 
 use krates_cm::Package;

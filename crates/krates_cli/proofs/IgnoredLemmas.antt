@@ -3,14 +3,14 @@ use Rattle.std.proofs.Common.{◌≡◌, ℕ, ◌↔◌, ◌⊎◌, ◌+◌, ◌
 use Rattle.std.proofs.Math.Bool.{or-true, or-false}
 use Rattle.std.proofs.lemmas.Bool.{false≢true}
 use Rattle.std.proofs.lemmas.List.{drop_more}
-use Rattle.krates_resolve.specs.Kind.{has_kind, HasOneMore, IgnoresMore}
-use Rattle.krates_resolve.specs.Setting.{SettingModel}
-use Rattle.krates_resolve.specs.declared.kind.DepKind.{DepKind}
-use Rattle.krates_resolve.specs.declared.kind.DepKind.TheVariants as kinds
-use Rattle.krates_resolve.specs.declared.kind.IgnoredKinds.{IgnoredKinds}
-use Rattle.krates_resolve.specs.declared.kind.KindSet.{KindSet}
-use Rattle.krates_resolve.specs.declared.kind.Scope.TheVariants.{All}
-use Rattle.krates_resolve.specs.PlainSetting.{no_kinds, nothing_ignored}
+use Rattle.krates_rules.specs.Kind.{has_kind, HasOneMore, IgnoresMore}
+use Rattle.krates_rules.specs.Setting.{SettingModel}
+use Rattle.krates_rules.specs.declared.kind.DepKind.{DepKind}
+use Rattle.krates_rules.specs.declared.kind.DepKind.TheVariants as kinds
+use Rattle.krates_rules.specs.declared.kind.IgnoredKinds.{IgnoredKinds}
+use Rattle.krates_rules.specs.declared.kind.KindSet.{KindSet}
+use Rattle.krates_rules.specs.declared.kind.Scope.TheVariants.{All}
+use Rattle.krates_rules.specs.PlainSetting.{no_kinds, nothing_ignored}
 use Rattle.krates_cli.specs.Options.{is_same, set_of}
 use Rattle.krates_cli.specs.OptionsReading.{with_kind, with_kinds, with_ignored}
 

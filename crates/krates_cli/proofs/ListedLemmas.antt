@@ -13,12 +13,11 @@ use Rattle.krates_cm.specs.declared.package.Package.{Package}
 use Rattle.krates_ids.specs.Identity.{Identity, Reads}
 use Rattle.krates_ids.specs.declared.error.Error as build
 use Rattle.krates_ids.specs.declared.error.Error.TheVariants as build_errors
-use Rattle.krates_resolve.specs.Admission.{package_texts, node_texts, dep_texts, HasVersion, AreDepIds, AreIdsOf, IsRootId, StandsForId, of_package, of_member, of_root, of_node, of_dep, IsInvalidId, unread, bad_version, IsDoubled}
-use Rattle.krates_resolve.specs.Ids.{IdsModel}
-use Rattle.krates_resolve.specs.Questions.{questions}
-use Rattle.krates_resolve.specs.Resolved.{HasGraphWith, id_of, resolved}
-use Rattle.krates_resolve.specs.SelectionRefusals.{HasNoRoot, IsUnselected, cause_of}
-use Rattle.krates_resolve.specs.Setting.{SettingModel}
+use Rattle.krates_rules.specs.Admission.{package_texts, node_texts, dep_texts, HasVersion, AreDepIds, AreIdsOf, IsRootId, StandsForId, of_package, of_member, of_root, of_node, of_dep, IsInvalidId, unread, bad_version, IsDoubled, IdsModel}
+use Rattle.krates_rules.specs.Questions.{questions}
+use Rattle.krates_rules.specs.Resolved.{HasGraphWith, id_of, resolved}
+use Rattle.krates_rules.specs.SelectionRefusals.{HasNoRoot, IsUnselected, cause_of}
+use Rattle.krates_rules.specs.Setting.{SettingModel}
 use Rattle.krates.specs.Build.{Answers, IsRefusedAsGiven}
 use Rattle.krates_cli.specs.CommandLine.{AskForListing, IsCause}
 use Rattle.krates_cli.specs.Listing.{IsListing, IsSplit}

@@ -4,7 +4,7 @@ use Rattle.krates_cm.specs.Document.{Text, metadata_view}
 use Rattle.krates_cm.specs.Parsing.{IsDocument}
 use Rattle.krates_cm.specs.declared.metadata.Metadata.{Metadata}
 use Rattle.krates_ids.specs.declared.error.Error as build
-use Rattle.krates_resolve.specs.Setting.{SettingModel}
+use Rattle.krates_rules.specs.Setting.{SettingModel}
 use Rattle.krates_ids.specs.declared.error.Error.TheVariants as causes
 use Rattle.krates.specs.Build.{IsBuildRefused, IsBuilt, IsRefusedAsGiven, IsUnbuilt, IsResolvable}
 use Rattle.krates.specs.Indexed.{Answering, Sees}

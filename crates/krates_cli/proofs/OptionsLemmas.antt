@@ -4,7 +4,7 @@ use Rattle.std.proofs.Math.Bool.{or-true, or-false}
 use Rattle.std.proofs.lemmas.Bool.{false≢true}
 use Rattle.krates_cm.specs.Document.{Text}
 use Rattle.krates_ids.specs.PackageSpecification.{Specification, IsSpec}
-use Rattle.krates_resolve.specs.declared.kind.DepKind.{DepKind}
+use Rattle.krates_rules.specs.declared.kind.DepKind.{DepKind}
 use Rattle.krates_cli.specs.Options.{OptionsModel, plain_options, Wish, every_member, without_kind, at_target, without_package, with_wish, kind_named, AsksWith, ignore_kind, target, exclude, AsksFirst, workspace, valued, IsCommandLine, no_words, one_more, IsUnknown}
 use Rattle.krates_cli.specs.OptionsReading.{and_wish, AddsValue, AddsFirst, BeginsUnknown, IsNoValue, IsUnread}
 use Rattle.krates_cli.specs.declared.options.OptionsError.{OptionsError}

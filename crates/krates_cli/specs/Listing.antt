@@ -6,9 +6,9 @@ use Rattle.krates_cm.specs.Parsing.{IsDocument}
 use Rattle.krates_cm.specs.declared.metadata.Metadata.{Metadata}
 use Rattle.krates_cm.specs.declared.package.Package.{Package}
 use Rattle.krates_ids.specs.Identity.{Identity}
-use Rattle.krates_resolve.specs.Facts.{Id, Cause}
-use Rattle.krates_resolve.specs.Resolved.{id_of}
-use Rattle.krates_resolve.specs.Setting.{SettingModel}
+use Rattle.krates_rules.specs.Facts.{Id, Cause}
+use Rattle.krates_rules.specs.Resolved.{id_of}
+use Rattle.krates_rules.specs.Setting.{SettingModel}
 use Rattle.krates.specs.Build.{IsResolvable, IsKept, IsNotKept, IsLost, AreThosePackages}
 use Rattle.krates_cli.specs.Counted.{AppendsFront}
 use Rattle.krates_cli.specs.Lines.{lines_of}

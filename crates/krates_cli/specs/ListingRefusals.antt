@@ -7,7 +7,7 @@ use Rattle.krates_cm.specs.declared.error.Error.TheVariants as cm_errors
 use Rattle.krates_cm.specs.declared.metadata.Metadata.{Metadata}
 use Rattle.krates_ids.specs.declared.error.Error as build
 use Rattle.krates_ids.specs.declared.error.Error.TheVariants as build_errors
-use Rattle.krates_resolve.specs.Setting.{SettingModel}
+use Rattle.krates_rules.specs.Setting.{SettingModel}
 use Rattle.krates.specs.Build.{IsRefusedAsGiven}
 use Rattle.krates_cli.specs.Listing.{IsListing}
 use Rattle.krates_cli.specs.declared.run_error.RunError.{RunError}

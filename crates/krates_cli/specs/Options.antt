@@ -6,10 +6,10 @@ use Rattle.krates_ids.specs.PackageSpecification.{Specification, IsSpec}
 use Rattle.krates_ids.specs.SpecificationAnswers.{spec_view}
 use Rattle.krates_text.specs.Passing.{Asked}
 use Rattle.krates_text.specs.TargetTable.{target_named}
-use Rattle.krates_resolve.specs.Setting.{SettingModel}
-use Rattle.krates_resolve.specs.declared.kind.DepKind.{DepKind}
-use Rattle.krates_resolve.specs.declared.kind.DepKind.TheVariants as kinds
-use Rattle.krates_resolve.specs.declared.kind.KindSet.{KindSet}
+use Rattle.krates_rules.specs.Setting.{SettingModel}
+use Rattle.krates_rules.specs.declared.kind.DepKind.{DepKind}
+use Rattle.krates_rules.specs.declared.kind.DepKind.TheVariants as kinds
+use Rattle.krates_rules.specs.declared.kind.KindSet.{KindSet}
 use Rattle.krates_cli.specs.declared.options.Options.{Options}
 
 -- ---- what is asked

@@ -1,10 +1,10 @@
 -- How options are read from the front of words, and how purposes are set one by one. Cited by private functions alone.
 use Rattle.std.specs.Prelude.{◌≡◌, ◌++◌, List, [], ◌∷◌, true, ⊤}
 use Rattle.krates_cm.specs.Document.{Text}
-use Rattle.krates_resolve.specs.declared.kind.DepKind.{DepKind}
-use Rattle.krates_resolve.specs.declared.kind.DepKind.TheVariants as kinds
-use Rattle.krates_resolve.specs.declared.kind.IgnoredKinds.{IgnoredKinds}
-use Rattle.krates_resolve.specs.declared.kind.KindSet.{KindSet}
+use Rattle.krates_rules.specs.declared.kind.DepKind.{DepKind}
+use Rattle.krates_rules.specs.declared.kind.DepKind.TheVariants as kinds
+use Rattle.krates_rules.specs.declared.kind.IgnoredKinds.{IgnoredKinds}
+use Rattle.krates_rules.specs.declared.kind.KindSet.{KindSet}
 use Rattle.krates_cli.specs.Options.{OptionsModel, Wish, every_member, without_kind, at_target, without_package, AsksWith, AsksFirst}
 use Rattle.krates_cli.specs.declared.options.OptionsError.{OptionsError}
 use Rattle.krates_cli.specs.declared.options.OptionsError.TheVariants as errors

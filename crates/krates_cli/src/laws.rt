@@ -2,7 +2,7 @@
 
 ghost use Rattle.std.specs.Prelude.{◌≡◌, IsUtf8, List, Option};
 ghost use Rattle.krates_cm.specs.Document.{Text};
-ghost use Rattle.krates_resolve.specs.Setting.{SettingModel};
+ghost use Rattle.krates_rules.specs.Setting.{SettingModel};
 ghost use Rattle.krates_cli.specs.CommandLine.{AskForListing, IsCause};
 ghost use Rattle.krates_cli.specs.Listing.{IsListing};
 ghost use Rattle.krates_cli.specs.ListingRefusals.{IsOutside, IsRunRefused};

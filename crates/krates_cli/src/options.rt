@@ -4,7 +4,7 @@ ghost use Rattle.std.specs.Prelude.{◌≡◌, ◌∷◌, IfErr, IfOk, OnOk, map
 ghost use Rattle.krates_ids.specs.PackageSpecification.{Specification, IsSpec};
 ghost use Rattle.krates_ids.specs.SpecificationAnswers.{spec_view};
 ghost use Rattle.krates_text.specs.AskedTargets.{asked_of};
-ghost use Rattle.krates_resolve.specs.PlainSetting.{plain_setting};
+ghost use Rattle.krates_rules.specs.PlainSetting.{plain_setting};
 ghost use Rattle.krates_cli.specs.Options.{IsCommandLine, IsUnknown, asked_at, kind_named, options_view, plain_options, setting_of};
 ghost use Rattle.krates_cli.specs.OptionsReading.{AddsFirst, AddsValue, BeginsUnknown, IsNoValue, IsUnread, with_ignored};
 ghost use Rattle.krates_cli.specs.declared.options.OptionsError.TheVariants.{Memory};

@@ -5,33 +5,33 @@ use Rattle.std.proofs.lemmas.Option.{slice_get-map, slice_get-get_or, same_Some}
 use Rattle.std.specs.List.{AllZip, slice_get}
 use Rattle.krates_cm.specs.Document.{Text, DependencyModel, DepKindInfoModel, NodeDepModel, NodeModel, node_dep_view}
 use Rattle.krates_ids.specs.Identity.{Identity, Reads}
-use Rattle.krates_resolve.specs.Admission.{NoneDoubled, dep_texts}
-use Rattle.krates_resolve.specs.DeclaredDependency.{dependency_entry, IsDeclared, IsFirstPlace}
-use Rattle.krates_resolve.specs.Facts.{Id, Edge}
+use Rattle.krates_rules.specs.Admission.{NoneDoubled, dep_texts}
+use Rattle.krates_rules.specs.DeclaredDependency.{dependency_entry, IsDeclared, IsFirstPlace}
+use Rattle.krates_rules.specs.Facts.{Id, Edge}
 use Rattle.krates_resolve.specs.LookedUp.{ArePartsOf, NoDep, IsEntryBetween, IsDeclaredFor, TellsDeclared}
 use Rattle.krates_resolve.specs.Lookup.{IsLookup, resolved_view}
-use Rattle.krates_resolve.specs.NodeEntry.{AreParts, IsEntry, IsEntryOf, parent_of, child_of, declared_in, entry_of, edge_between, edge_for}
-use Rattle.krates_resolve.specs.Questions.{Declares, Stands, IsWanted, questions}
-use Rattle.krates_resolve.specs.Resolved.{Resolved, id_of, ReadsAs, HasNode, HasDep}
+use Rattle.krates_resolve.specs.NodeEntry.{AreParts, IsEntry, IsEntryOf, parent_of, child_of, declared_in, entry_of, edge_for}
+use Rattle.krates_rules.specs.Questions.{edge_between, Declares, Stands, IsWanted, questions}
+use Rattle.krates_rules.specs.Resolved.{Resolved, id_of, ReadsAs, HasNode, HasDep, StandsAt}
 use Rattle.krates_resolve.specs.RootChoice.{AsksFor}
 use Rattle.krates_resolve.specs.RootOrder.{ArePicked, nothing, picked, passed, AreInOrder, of_members}
-use Rattle.krates_resolve.specs.Roots.{IsRoot}
-use Rattle.krates_resolve.specs.Rules.{Open}
-use Rattle.krates_resolve.specs.Setting.{SettingModel, IsIgnored, Passes}
-use Rattle.krates_resolve.specs.Table.{StandsAt, IsPlaceOf}
+use Rattle.krates_rules.specs.Roots.{IsRoot}
+use Rattle.krates_rules.specs.Rules.{Open}
+use Rattle.krates_rules.specs.Setting.{SettingModel, IsIgnored, Passes}
+use Rattle.krates_resolve.specs.Table.{IsPlaceOf}
 use Rattle.krates_resolve.specs.declared.lookup.Lookup.{Lookup}
 use Rattle.krates_resolve.specs.declared.node_entry.NodeEntry.{NodeEntry}
 use Rattle.krates_resolve.specs.declared.node_entry.NodeParts.{NodeParts}
-use Rattle.krates_resolve.proofs.AdmissionLemmas.{ReadsOnce, right_of}
-use Rattle.krates_resolve.proofs.DeclaredOnce.{declared_stands}
+use Rattle.krates_rules.proofs.Readings.{ReadsOnce, right_of}
+use Rattle.krates_document.proofs.DeclaredOnce.{declared_stands}
 use Rattle.krates_resolve.proofs.Entries.{Heeds, wanted}
-use Rattle.krates_resolve.proofs.FirstPlaces.{seen_at}
+use Rattle.krates_document.proofs.FirstPlaces.{seen_at}
 use Rattle.krates_resolve.proofs.Growth.{one_id}
 use Rattle.krates_resolve.proofs.Lookups.{node_answer}
 use Rattle.krates_resolve.proofs.NodeParts.{entry_here}
-use Rattle.krates_resolve.proofs.OnlyOne.{place_in, one_node, one_dep}
+use Rattle.krates_rules.proofs.OnlyOne.{place_in, one_node, one_dep}
 use Rattle.krates_resolve.proofs.RootLemmas.{root_member}
-use Rattle.krates_resolve.proofs.Standings.{contains_at}
+use Rattle.krates_rules.proofs.Standings.{contains_at}
 
 -- ---- ids in lists
 

@@ -4,15 +4,15 @@ use Rattle.std.proofs.lemmas.List.{get_or_default}
 use Rattle.std.specs.List.{slice_get}
 use Rattle.krates_cm.specs.Document.{DependencyModel, DepKindInfoModel, PackageModel, dependency_view}
 use Rattle.krates_cm.specs.declared.dependency.Dependency.{Dependency}
-use Rattle.krates_resolve.specs.Admission.{NoneDoubled}
-use Rattle.krates_resolve.specs.Facts.{Id}
-use Rattle.krates_resolve.specs.DeclaredDependency.{IsDeclared}
+use Rattle.krates_rules.specs.Admission.{NoneDoubled}
+use Rattle.krates_rules.specs.Facts.{Id}
+use Rattle.krates_rules.specs.DeclaredDependency.{IsDeclared}
 use Rattle.krates_resolve.specs.NodeEntry.{AreDeclaredBy, declared_in, entry_of}
 use Rattle.krates_resolve.specs.declared.node_entry.NodeEntry.{NodeEntry}
-use Rattle.krates_resolve.proofs.DeclaredOnce.{declared_stands}
-use Rattle.krates_resolve.specs.Resolved.{Resolved, HasPackage, NoPackage}
-use Rattle.krates_resolve.proofs.FirstPlaces.{seen_at}
-use Rattle.krates_resolve.proofs.OnlyOne.{one_package}
+use Rattle.krates_document.proofs.DeclaredOnce.{declared_stands}
+use Rattle.krates_rules.specs.Resolved.{Resolved, HasPackage, NoPackage}
+use Rattle.krates_document.proofs.FirstPlaces.{seen_at}
+use Rattle.krates_rules.proofs.OnlyOne.{one_package}
 
 -- it is optional where the element at its place is
 optional_here : (ds : List Dependency) (k : ℕ) (d : DependencyModel) (x : Dependency) → slice_get (map dependency_view ds) k ≡ Some d → (b : Bool) → (get_or ds k x).optional ≡ b → d.optional ≡ b

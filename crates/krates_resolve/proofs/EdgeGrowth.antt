@@ -6,26 +6,26 @@ use Rattle.std.specs.Global.{Vec}
 use Rattle.std.specs.List.{slice_get}
 use Rattle.krates_cm.specs.Document.{DependencyModel, DepKindInfoModel, NodeDepModel, dependency_view, node_dep_view}
 use Rattle.krates_cm.specs.declared.dependency.Dependency.{Dependency}
-use Rattle.krates_resolve.specs.Admission.{NoneDoubled}
-use Rattle.krates_resolve.specs.DeclaredDependency.{dependency_entry, FirstAt, IsDeclared}
-use Rattle.krates_resolve.specs.Derivation.{Derivable}
-use Rattle.krates_resolve.specs.Facts.{Id, Edge, Fact, Crate, Feature, Kept, Toggled, Lost}
+use Rattle.krates_rules.specs.Admission.{NoneDoubled}
+use Rattle.krates_rules.specs.DeclaredDependency.{dependency_entry, FirstAt, IsDeclared}
+use Rattle.krates_rules.specs.Derivation.{Derivable}
+use Rattle.krates_rules.specs.Facts.{Id, Edge, Fact, Crate, Feature, Kept, Toggled, Lost}
 use Rattle.krates_resolve.specs.Found.{HasFound, HasUsed, IsUsed, IsSound, Grows, Advances}
-use Rattle.krates_resolve.specs.Links.{DepAt, IsMarked}
+use Rattle.krates_rules.specs.Resolved.{DepAt, Resolved}
+use Rattle.krates_resolve.specs.Links.{IsMarked}
 use Rattle.krates_resolve.specs.NodeEntry.{IsEntry, parent_of, child_of, declared_in, entry_of, edge_for}
-use Rattle.krates_resolve.specs.Questions.{IsDeclaredAt, IsWanted, kind_info_of, questions}
-use Rattle.krates_resolve.specs.Resolved.{Resolved}
+use Rattle.krates_rules.specs.Questions.{IsDeclaredAt, IsWanted, kind_info_of, questions}
 use Rattle.krates_resolve.specs.Selection.{edge_view, IsPlaced}
-use Rattle.krates_resolve.specs.Setting.{SettingModel}
+use Rattle.krates_rules.specs.Setting.{SettingModel}
 use Rattle.krates_resolve.specs.declared.found.Found.{Found}
 use Rattle.krates_resolve.specs.declared.links.Links.{Links}
 use Rattle.krates_resolve.specs.declared.node_entry.NodeEntry.{NodeEntry}
 use Rattle.krates_resolve.specs.declared.selection.KeptEdge.{KeptEdge}
-use Rattle.krates_resolve.proofs.DeclaredOnce.{declared_once}
-use Rattle.krates_resolve.proofs.FirstPlaces.{seen_at}
+use Rattle.krates_document.proofs.DeclaredOnce.{declared_once}
+use Rattle.krates_document.proofs.FirstPlaces.{seen_at}
 use Rattle.krates_resolve.proofs.Growing.{used_grows, toggled_grows}
 use Rattle.krates_resolve.proofs.Growth.{seen_from, seen_still, seen_there}
-use Rattle.krates_resolve.proofs.OnlyOne.{one_dep}
+use Rattle.krates_rules.proofs.OnlyOne.{one_dep}
 use Rattle.krates_resolve.proofs.Waking.{one_dep_place, wanted_once}
 
 abbrev WithEdges : Found → Vec KeptEdge → Found

@@ -1,11 +1,10 @@
 -- What stands in what has been found, once a listed feature is enabled or toggled there.
-use Rattle.std.proofs.Common.{Contains, subst}
-use Rattle.krates_cm.specs.Document.{Text, NodeModel}
-use Rattle.krates_resolve.specs.Admission.{NoneDoubled}
-use Rattle.krates_resolve.specs.Facts.{Id, Feature, Toggled}
-use Rattle.krates_resolve.specs.Features.{ListsFeature, LacksFeature}
+use Rattle.krates_cm.specs.Document.{Text}
+use Rattle.krates_rules.specs.Admission.{NoneDoubled}
+use Rattle.krates_rules.specs.Facts.{Id, Feature, Toggled}
+use Rattle.krates_rules.specs.Features.{ListsFeature, LacksFeature}
 use Rattle.krates_resolve.specs.Found.{HasFound, IsNamedIn, IsToggledIn}
-use Rattle.krates_resolve.specs.Resolved.{Resolved}
+use Rattle.krates_rules.specs.Resolved.{Resolved}
 use Rattle.krates_resolve.specs.declared.found.Found.{Found}
 
 -- what is listed isn't lacking

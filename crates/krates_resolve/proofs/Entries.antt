@@ -1,26 +1,25 @@
 -- What an edge of an entry gives, by what its declared dependency and its child are.
 use Rattle.std.proofs.Common.{◌≡◌, ◌⊎◌, ℕ, List, [], ◌∷◌, Bool, true, false, Contains, sym, ◌∙◌, subst, inl, inr}
 use Rattle.krates_cm.specs.Document.{DependencyModel, DepKindInfoModel, NodeDepModel, node_dep_view}
-use Rattle.krates_resolve.specs.Admission.{NoneDoubled}
-use Rattle.krates_resolve.specs.DeclaredDependency.{dependency_entry, FirstAt, IsDeclared, IsUndeclared}
-use Rattle.krates_resolve.specs.Derivation.{Derivable, follows, Among}
-use Rattle.krates_resolve.specs.Facts.{Edge, Fact, LostPackage, LostNode, Undeclared, Crate, Kept, Lost}
+use Rattle.krates_rules.specs.Admission.{NoneDoubled}
+use Rattle.krates_rules.specs.DeclaredDependency.{dependency_entry, FirstAt, IsDeclared, IsUndeclared}
+use Rattle.krates_rules.specs.Derivation.{Derivable, follows, Among}
+use Rattle.krates_rules.specs.Facts.{Edge, Fact, LostPackage, LostNode, Undeclared, Crate, Kept, Lost}
 use Rattle.krates_resolve.specs.Found.{HasFound, IsTried, MayTry, IsRequired, TakenWhen}
-use Rattle.krates_resolve.specs.Kind.{kind_of, ignores}
+use Rattle.krates_rules.specs.Kind.{kind_of, ignores}
 use Rattle.krates_resolve.specs.Lookup.{TellsMember}
 use Rattle.krates_resolve.specs.NodeEntry.{parent_of, child_of, declared_in, entry_of, IsEntry, edge_for}
-use Rattle.krates_resolve.specs.Questions.{Stands, LacksNode, IsListed, IsDeclaredAt, IsWanted, IsLoose, kind_info_of, questions}
-use Rattle.krates_resolve.specs.Resolved.{Resolved, NoPackage}
-use Rattle.krates_resolve.specs.Rules.{Questions, required, target, lost_undeclared, lost_required_package, lost_required_node}
+use Rattle.krates_rules.specs.Questions.{Stands, LacksNode, IsListed, IsDeclaredAt, IsWanted, IsLoose, kind_info_of, questions, IsLeftOut}
+use Rattle.krates_rules.specs.Resolved.{Resolved, NoPackage}
+use Rattle.krates_rules.specs.Rules.{Questions, required, target, lost_undeclared, lost_required_package, lost_required_node}
 use Rattle.krates_resolve.specs.Selection.{edge_view, IsPlaced}
 use Rattle.krates_resolve.specs.declared.found.Found.{Found}
 use Rattle.krates_resolve.specs.declared.node_entry.NodeEntry.{NodeEntry}
 use Rattle.krates_resolve.specs.declared.selection.KeptEdge.{KeptEdge}
-use Rattle.krates_resolve.specs.Setting.{SettingModel, IsIgnored, of_member, of_other, Passes}
-use Rattle.krates_resolve.specs.Standing.{IsLeftOut}
-use Rattle.krates_resolve.proofs.DeclaredOnce.{declared_once, declared_stands}
-use Rattle.krates_resolve.proofs.OnlyOne.{one_dep}
-use Rattle.krates_resolve.proofs.Standings.{not_included}
+use Rattle.krates_rules.specs.Setting.{SettingModel, IsIgnored, of_member, of_other, Passes}
+use Rattle.krates_document.proofs.DeclaredOnce.{declared_once, declared_stands}
+use Rattle.krates_rules.proofs.OnlyOne.{one_dep}
+use Rattle.krates_rules.proofs.Standings.{not_included}
 
 -- ---- the edge in the document
 

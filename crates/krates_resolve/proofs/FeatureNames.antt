@@ -9,11 +9,11 @@ use Rattle.std.specs.Str.{bytes_eq}
 use Rattle.krates_cm.specs.Document.{Text, PackageModel, text_view, texts_view, package_view}
 use Rattle.krates_cm.specs.declared.package.Package.{Package}
 use Rattle.krates_ids.specs.Correction.{named}
-use Rattle.krates_resolve.specs.Admission.{NoneDoubled}
-use Rattle.krates_resolve.specs.Facts.{Id}
+use Rattle.krates_rules.specs.Admission.{NoneDoubled}
+use Rattle.krates_rules.specs.Facts.{Id}
 use Rattle.krates_resolve.specs.FeatureValues.{AreValuesOf}
-use Rattle.krates_resolve.specs.Resolved.{Resolved, HasPackage, NoPackage}
-use Rattle.krates_resolve.proofs.OnlyOne.{one_package}
+use Rattle.krates_rules.specs.Resolved.{Resolved, HasPackage, NoPackage}
+use Rattle.krates_rules.proofs.OnlyOne.{one_package}
 
 -- one entry more in front
 at_front : {X Y : Type 0} (seen : X → Y) (b : Bool) (x : X) (there : Option Y) (found : Option X) → there ≡ option_map seen found → cond b (Some (seen x)) there ≡ option_map seen (cond b (Some x) found)

@@ -10,18 +10,17 @@ use Rattle.std.specs.Cmp.Rules.{comparing}
 use Rattle.std.specs.List.{slice_get}
 use Rattle.std.specs.Ordering.{is_eq, eq_by_cmp}
 use Rattle.krates_cm.specs.Document.{Text, NodeModel}
-use Rattle.krates_resolve.specs.Admission.{NoneDoubled}
-use Rattle.krates_resolve.specs.Facts.{Id}
+use Rattle.krates_rules.specs.Admission.{NoneDoubled}
+use Rattle.krates_rules.specs.Facts.{Id}
 use Rattle.krates_resolve.specs.FeatureOrder.{listed_cmp, same_listed}
 use Rattle.krates_resolve.specs.FeatureTable.{IsNumberOf, listed_view}
-use Rattle.krates_resolve.specs.Features.{ListsFeature, LacksFeature}
+use Rattle.krates_rules.specs.Features.{ListsFeature, LacksFeature}
 use Rattle.krates_resolve.specs.ListedFeatures.{features_from, features_of_node, listed_features}
-use Rattle.krates_resolve.specs.Lookup.{NodeAt}
+use Rattle.krates_rules.specs.Resolved.{NodeAt, Resolved, HasNode}
 use Rattle.krates_resolve.specs.Numbering.{FeatureAt}
-use Rattle.krates_resolve.specs.Resolved.{Resolved, HasNode}
 use Rattle.krates_resolve.specs.declared.features.ListedFeature.{ListedFeature}
-use Rattle.krates_resolve.proofs.OnlyOne.{place_in, one_node}
-use Rattle.krates_resolve.proofs.Standings.{contains_at}
+use Rattle.krates_rules.proofs.OnlyOne.{place_in, one_node}
+use Rattle.krates_rules.proofs.Standings.{contains_at}
 
 -- ---- the order of listed features
 

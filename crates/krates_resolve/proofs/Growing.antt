@@ -2,11 +2,11 @@
 use Rattle.std.proofs.Common.{refl, ◌∙◌}
 use Rattle.krates_cm.specs.Document.{Text, DependencyModel}
 use Rattle.krates_text.specs.FeatureReference.{Reference, krate, weak, strong, simple}
-use Rattle.krates_resolve.specs.Facts.{Id, Edge, Crate, Feature, Kept, Toggled}
+use Rattle.krates_rules.specs.Facts.{Id, Edge, Crate, Feature, Kept, Toggled}
 use Rattle.krates_resolve.specs.Found.{IsNamedIn, IsToggledIn, HasUsed, IsTried, IsAsked, IsToggledStrongly, IsWaiting, IsFollowed, IsHeeded, IsRooted, IsExpanded, HasRoots, IsSound, Grows, Advances, IsAny}
-use Rattle.krates_resolve.specs.Resolved.{Resolved}
-use Rattle.krates_resolve.specs.Rules.{default_name}
-use Rattle.krates_resolve.specs.Setting.{SettingModel}
+use Rattle.krates_rules.specs.Resolved.{Resolved}
+use Rattle.krates_rules.specs.Rules.{default_name}
+use Rattle.krates_rules.specs.Setting.{SettingModel}
 use Rattle.krates_resolve.specs.declared.found.Found.{Found}
 
 pub grows_refl : (r : Resolved) (x : Found) → Grows r x x

@@ -8,21 +8,19 @@ use Rattle.std.specs.List.{slice_get}
 use Rattle.std.specs.Global.{Vec}
 use Rattle.krates_cm.specs.Document.{Text, DepKindInfoModel}
 use Rattle.krates_graph.specs.Agenda.{PutNumbers}
-use Rattle.krates_resolve.specs.Derivation.{Derivable}
-use Rattle.krates_resolve.specs.Facts.{Id, Fact, Crate, Feature, Kept, Toggled, Lost}
+use Rattle.krates_rules.specs.Derivation.{Derivable}
+use Rattle.krates_rules.specs.Facts.{Id, Fact, Crate, Feature, Kept, Toggled, Lost}
 use Rattle.krates_resolve.specs.Found.{HasFound, IsToggledIn, IsAskedWeakly, IsSound, Grows, Advances, HasPut, before, now}
-use Rattle.krates_resolve.specs.Links.{DepAt, IsMarked, Waits, HasMarked, HasWaiter}
-use Rattle.krates_resolve.specs.Lookup.{NodeAt}
-use Rattle.krates_resolve.specs.NodeEntry.{edge_between}
+use Rattle.krates_rules.specs.Resolved.{DepAt, NodeAt, Resolved, id_of, ReadsAs}
+use Rattle.krates_resolve.specs.Links.{IsMarked, Waits, HasMarked, HasWaiter}
+use Rattle.krates_rules.specs.Questions.{edge_between, questions}
 use Rattle.krates_resolve.specs.Numbering.{FeatureAt}
-use Rattle.krates_resolve.specs.Questions.{questions}
-use Rattle.krates_resolve.specs.Resolved.{Resolved, id_of, ReadsAs}
 use Rattle.krates_resolve.specs.Selection.{toggled_fact}
-use Rattle.krates_resolve.specs.Setting.{SettingModel}
+use Rattle.krates_rules.specs.Setting.{SettingModel}
 use Rattle.krates_resolve.specs.declared.found.Found.{Found}
 use Rattle.krates_resolve.specs.declared.links.Links.{Links}
 use Rattle.krates_resolve.specs.declared.selection.ToggledFeature.{ToggledFeature}
-use Rattle.krates_resolve.proofs.AdmissionLemmas.{ReadsOnce}
+use Rattle.krates_rules.proofs.Readings.{ReadsOnce}
 use Rattle.krates_resolve.proofs.Growing.{used_grows, toggled_grows}
 
 -- ---- one more number

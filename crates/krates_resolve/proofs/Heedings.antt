@@ -10,35 +10,34 @@ use Rattle.std.specs.Ordering.{ordering_then, ordering_reverse}
 use Rattle.krates_cm.specs.Document.{Text, node_dep_view, text_view}
 use Rattle.krates_text.specs.FeatureReference.{Reference, weak, strong, simple, IsReference, HasOneReading}
 use Rattle.krates_ids.specs.Identity.{Identity}
-use Rattle.krates_resolve.specs.Admission.{NoneDoubled}
-use Rattle.krates_resolve.specs.Derivation.{Derivable, follows, Among}
-use Rattle.krates_resolve.specs.Facts.{Id, Edge, Fact, Crate, Feature, Kept}
+use Rattle.krates_rules.specs.Admission.{NoneDoubled}
+use Rattle.krates_rules.specs.Derivation.{Derivable, follows, Among}
+use Rattle.krates_rules.specs.Facts.{Id, Edge, Fact, Crate, Feature, Kept}
 use Rattle.krates_resolve.specs.FeatureTable.{listed_view}
 use Rattle.krates_resolve.specs.FeatureValues.{AreValuesOf}
 use Rattle.krates_resolve.specs.Found.{HasFound, IsToggledIn, IsAsked, IsAskedWeakly, IsToggledStrongly, IsWaiting, IsFollowed, IsHeeded, IsValueOfEnabled, IsSound, Advances, AreTried, IsAny, MayTry, MayName, MayToggle}
 use Rattle.krates_resolve.specs.Heeding.{MayAsk, MayWait}
-use Rattle.krates_resolve.specs.Links.{DepAt, IsMarked, Waits, HasWaiter}
+use Rattle.krates_rules.specs.Resolved.{DepAt, NodeAt, Resolved, NoNode, HasNode, HasDep, id_of}
+use Rattle.krates_resolve.specs.Links.{IsMarked, Waits, HasWaiter}
 use Rattle.krates_resolve.specs.ListedFeatures.{listed_features}
-use Rattle.krates_resolve.specs.Lookup.{NodeAt, IsLookup, resolved_view}
+use Rattle.krates_resolve.specs.Lookup.{IsLookup, resolved_view}
 use Rattle.krates_resolve.specs.NodeEntry.{AreParts, IsEntry, parent_of, child_of}
 use Rattle.krates_resolve.specs.Numbering.{FeatureAt}
-use Rattle.krates_resolve.specs.Questions.{questions}
-use Rattle.krates_resolve.specs.Referent.{IsReferent, id_order}
-use Rattle.krates_resolve.specs.Resolved.{Resolved, NoNode, HasNode, HasDep, id_of}
-use Rattle.krates_resolve.specs.Rules.{Questions, IsAskedFor, feature_crate, named, lost_named, asked, toggled_strongly, lost_asked_package, lost_asked_node, lost_toggled_strongly, toggled_weakly, lost_toggled_weakly}
-use Rattle.krates_resolve.specs.Setting.{SettingModel}
+use Rattle.krates_rules.specs.Questions.{questions}
+use Rattle.krates_rules.specs.Referent.{IsReferent, id_order}
+use Rattle.krates_rules.specs.Rules.{Questions, IsAskedFor, feature_crate, named, lost_named, asked, toggled_strongly, lost_asked_package, lost_asked_node, lost_toggled_strongly, toggled_weakly, lost_toggled_weakly}
+use Rattle.krates_rules.specs.Setting.{SettingModel}
 use Rattle.krates_resolve.specs.declared.features.ListedFeature.{ListedFeature}
 use Rattle.krates_resolve.specs.declared.found.Found.{Found}
 use Rattle.krates_resolve.specs.declared.links.Links.{Links}
 use Rattle.krates_resolve.specs.declared.lookup.Lookup.{Lookup}
 use Rattle.krates_resolve.specs.declared.node_entry.NodeEntry.{NodeEntry}
 use Rattle.krates_resolve.specs.declared.node_entry.NodeParts.{NodeParts}
-use Rattle.krates_resolve.proofs.AdmissionLemmas.{ReadsOnce}
+use Rattle.krates_rules.proofs.Readings.{ReadsOnce}
 use Rattle.krates_resolve.proofs.Entries.{one, undeclared_lost}
-use Rattle.krates_resolve.proofs.Growth.{waiter_advances}
-use Rattle.krates_resolve.proofs.Growth.{one_id}
+use Rattle.krates_resolve.proofs.Growth.{waiter_advances, one_id}
 use Rattle.krates_resolve.proofs.NodeParts.{between_tried, dep_of_child}
-use Rattle.krates_resolve.proofs.Standings.{contains_at}
+use Rattle.krates_rules.proofs.Standings.{contains_at}
 use Rattle.krates_resolve.proofs.Waking.{one_dep_place, one_way}
 
 -- ---- derivations

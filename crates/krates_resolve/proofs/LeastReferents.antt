@@ -7,17 +7,17 @@ use Rattle.std.specs.List.{slice_get}
 use Rattle.std.specs.Ordering.{ordering_reverse}
 use Rattle.krates_cm.specs.Document.{Text, NodeModel, NodeDepModel, node_dep_view}
 use Rattle.krates_ids.specs.Identity.{Identity, Reads, id_cmp}
-use Rattle.krates_resolve.specs.Admission.{NoneDoubled, dep_texts}
-use Rattle.krates_resolve.specs.Facts.{Id}
+use Rattle.krates_rules.specs.Admission.{NoneDoubled, dep_texts}
+use Rattle.krates_rules.specs.Facts.{Id}
 use Rattle.krates_resolve.specs.NodeEntry.{AreParts}
-use Rattle.krates_resolve.specs.Referent.{AnswersTo, IsNamed, IsReferent, id_order}
+use Rattle.krates_rules.specs.Referent.{AnswersTo, IsNamed, IsReferent, id_order}
 use Rattle.krates_resolve.specs.ReferentPlace.{IsBefore, IsReferentAt}
-use Rattle.krates_resolve.specs.Resolved.{Resolved, HasDep, id_of}
+use Rattle.krates_rules.specs.Resolved.{Resolved, HasDep, id_of}
 use Rattle.krates_resolve.specs.declared.node_entry.NodeParts.{NodeParts}
-use Rattle.krates_resolve.proofs.AdmissionLemmas.{ReadsOnce, right_of}
-use Rattle.krates_resolve.proofs.DistinctIds.{OrderTellsSame, same_of}
+use Rattle.krates_rules.proofs.Readings.{ReadsOnce, right_of}
+use Rattle.krates_document.proofs.DistinctIds.{OrderTellsSame, same_of}
 use Rattle.krates_resolve.proofs.NodeParts.{has_dep_here}
-use Rattle.krates_resolve.proofs.OnlyOne.{place_in, one_node}
+use Rattle.krates_rules.proofs.OnlyOne.{place_in, one_node}
 
 -- ---- the least so far
 

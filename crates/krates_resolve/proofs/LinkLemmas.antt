@@ -9,11 +9,11 @@ use Rattle.std.specs.Option.{option_map}
 use Rattle.std.specs.Vec.{with_item}
 use Rattle.krates_cm.specs.Document.{Text, NodeModel}
 use Rattle.krates_resolve.specs.Links.{LinkAt, Waits, HasLink, HasLinks, IsNewLink, AreNewLinks, AreNew, HasMarked, HasWaiter}
-use Rattle.krates_resolve.specs.Resolved.{Resolved}
+use Rattle.krates_rules.specs.Resolved.{Resolved}
 use Rattle.krates_resolve.specs.declared.links.Link.{Link}
 use Rattle.krates_resolve.specs.declared.links.Links.{Links}
-use Rattle.krates_resolve.proofs.AdmissionLemmas.{left_of, right_of}
-use Rattle.krates_resolve.proofs.Standings.{contains_at}
+use Rattle.krates_rules.proofs.Readings.{left_of, right_of}
+use Rattle.krates_rules.proofs.Standings.{contains_at}
 
 -- ---- lists with one element changed
 

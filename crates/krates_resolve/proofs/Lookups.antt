@@ -4,14 +4,14 @@ use Rattle.std.proofs.lemmas.Option.{slice_get-map, slice_get-get_or}
 use Rattle.std.specs.List.{AllZip, slice_get}
 use Rattle.krates_cm.specs.Document.{Text, PackageModel, NodeModel}
 use Rattle.krates_ids.specs.Identity.{Identity, Reads}
-use Rattle.krates_resolve.specs.Facts.{Id}
-use Rattle.krates_resolve.specs.Admission.{package_texts, node_texts}
+use Rattle.krates_rules.specs.Facts.{Id}
+use Rattle.krates_rules.specs.Admission.{package_texts, node_texts}
 use Rattle.krates_resolve.specs.Lookup.{IsPackagePlace, IsNodePlace, TellsMember}
-use Rattle.krates_resolve.specs.Resolved.{Resolved, id_of, ReadsAs}
-use Rattle.krates_resolve.specs.Table.{StandsAt, IsPlaceOf}
-use Rattle.krates_resolve.proofs.AdmissionLemmas.{ReadsOnce, left_of, right_of}
-use Rattle.krates_resolve.proofs.OnlyOne.{place_in}
-use Rattle.krates_resolve.proofs.Standings.{contains_at}
+use Rattle.krates_rules.specs.Resolved.{Resolved, id_of, ReadsAs, StandsAt}
+use Rattle.krates_resolve.specs.Table.{IsPlaceOf}
+use Rattle.krates_rules.proofs.Readings.{ReadsOnce, left_of, right_of}
+use Rattle.krates_rules.proofs.OnlyOne.{place_in}
+use Rattle.krates_rules.proofs.Standings.{contains_at}
 
 mapped_at : {A : Type 0} (text : A → Text) (xs : List A) (k : ℕ) (t : Text) → slice_get (map text xs) k ≡ Some t → (x : A) × (slice_get xs k ≡ Some x) × (text x ≡ t)
 mapped_at text [] k t h = absurd cc

@@ -12,24 +12,23 @@ use Rattle.krates_cm.specs.declared.dependency.Dependency.{Dependency}
 use Rattle.krates_cm.specs.declared.resolve.Node.{Node}
 use Rattle.krates_cm.specs.declared.resolve.NodeDep.{NodeDep}
 use Rattle.krates_ids.specs.Identity.{Identity, Reads}
-use Rattle.krates_resolve.specs.Admission.{NoneDoubled, AreDepIds, HasVersion, node_texts, dep_texts}
-use Rattle.krates_resolve.specs.Facts.{Id, Edge}
+use Rattle.krates_rules.specs.Admission.{NoneDoubled, AreDepIds, HasVersion, node_texts, dep_texts}
+use Rattle.krates_rules.specs.Facts.{Id, Edge}
 use Rattle.krates_resolve.specs.Found.{IsTried, AreTried, IsExpanded, Grows, IsRequired}
-use Rattle.krates_resolve.specs.Links.{DepAt}
-use Rattle.krates_resolve.specs.Lookup.{NodeAt, IsLookup, TellsMember, resolved_view}
-use Rattle.krates_resolve.specs.NodeEntry.{AreDeclaredBy, AreParts, IsEntry, IsEntryOf, edge_between}
-use Rattle.krates_resolve.specs.Questions.{IsListed, kind_info_of}
-use Rattle.krates_resolve.specs.Resolved.{Resolved, id_of, ReadsAs, HasNode, HasDep}
+use Rattle.krates_rules.specs.Resolved.{DepAt, NodeAt, Resolved, id_of, ReadsAs, HasNode, HasDep}
+use Rattle.krates_resolve.specs.Lookup.{IsLookup, TellsMember, resolved_view}
+use Rattle.krates_resolve.specs.NodeEntry.{AreDeclaredBy, AreParts, IsEntry, IsEntryOf}
+use Rattle.krates_rules.specs.Questions.{edge_between, IsListed, kind_info_of}
 use Rattle.krates_resolve.specs.declared.found.Found.{Found}
 use Rattle.krates_resolve.specs.declared.lookup.Lookup.{Lookup}
 use Rattle.krates_resolve.specs.declared.node_entry.NodeEntry.{NodeEntry}
 use Rattle.krates_resolve.specs.declared.node_entry.NodeParts.{NodeParts}
-use Rattle.krates_resolve.specs.Setting.{SettingModel}
-use Rattle.krates_resolve.proofs.AdmissionLemmas.{ReadsOnce, left_of, right_of}
+use Rattle.krates_rules.specs.Setting.{SettingModel}
+use Rattle.krates_rules.proofs.Readings.{ReadsOnce, left_of, right_of}
 use Rattle.krates_resolve.proofs.Growing.{tried_grows}
 use Rattle.krates_resolve.proofs.Lookups.{at_place}
-use Rattle.krates_resolve.proofs.OnlyOne.{place_in, one_node, one_dep}
-use Rattle.krates_resolve.proofs.Standings.{contains_at}
+use Rattle.krates_rules.proofs.OnlyOne.{place_in, one_node, one_dep}
+use Rattle.krates_rules.proofs.Standings.{contains_at}
 
 -- related lists are equally long
 long_zip : {A B : Type 0} (R : A → B → Type 0) (xs : List A) (ys : List B) → AllZip R xs ys → length xs ≡ length ys

@@ -8,15 +8,15 @@ use Rattle.std.specs.List.{AllWithin, list_any, slice_get}
 use Rattle.krates_cm.specs.Document.{Text, TargetModel, PackageModel, NodeDepModel, target_view}
 use Rattle.krates_cm.specs.declared.target.Target.{Target}
 use Rattle.krates_cm.specs.declared.target.TargetKind.TheVariants.{Lib}
-use Rattle.krates_resolve.specs.Admission.{NoneDoubled}
-use Rattle.krates_resolve.specs.DeclaredDependency.{FirstAt}
-use Rattle.krates_resolve.specs.DependencyName.{IsNameOf}
-use Rattle.krates_resolve.specs.Facts.{Id}
-use Rattle.krates_resolve.specs.Referent.{IsLibraryRename, AnswersTo, by_name, by_library}
+use Rattle.krates_rules.specs.Admission.{NoneDoubled}
+use Rattle.krates_rules.specs.DeclaredDependency.{FirstAt}
+use Rattle.krates_rules.specs.DependencyName.{IsNameOf}
+use Rattle.krates_rules.specs.Facts.{Id}
+use Rattle.krates_rules.specs.Referent.{IsLibraryRename, AnswersTo, by_name, by_library}
 use Rattle.krates_resolve.specs.ReferentPlace.{IsLibraryOf}
-use Rattle.krates_resolve.specs.Resolved.{Resolved, HasPackage, NoPackage}
-use Rattle.krates_resolve.proofs.FirstPlaces.{first_place}
-use Rattle.krates_resolve.proofs.OnlyOne.{one_package}
+use Rattle.krates_rules.specs.Resolved.{Resolved, HasPackage, NoPackage}
+use Rattle.krates_document.proofs.FirstPlaces.{first_place}
+use Rattle.krates_rules.proofs.OnlyOne.{one_package}
 
 -- ---- what `contains` answers
 

@@ -7,24 +7,23 @@ use Rattle.krates_cm.specs.Document.{Text, PackageModel, NodeModel, node_view, t
 use Rattle.krates_cm.specs.declared.resolve.Node.{Node}
 use Rattle.krates_ids.specs.Identity.{Identity, Reads}
 use Rattle.krates_text.specs.Path.{components}
-use Rattle.krates_resolve.specs.Admission.{IsRootId, NoneDoubled}
-use Rattle.krates_resolve.specs.Derivation.{Derivable, follows, Among}
-use Rattle.krates_resolve.specs.Facts.{Id, Fact, LostPackage, LostNode, Crate, Feature, Lost}
-use Rattle.krates_resolve.specs.Features.{ListsFeature}
+use Rattle.krates_rules.specs.Admission.{IsRootId, NoneDoubled}
+use Rattle.krates_rules.specs.Derivation.{Derivable, follows, Among}
+use Rattle.krates_rules.specs.Facts.{Id, Fact, LostPackage, LostNode, Crate, Feature, Lost}
+use Rattle.krates_rules.specs.Features.{ListsFeature}
 use Rattle.krates_resolve.specs.Found.{HasFound, IsRooted, HasRoots, MayName}
-use Rattle.krates_resolve.specs.Lookup.{NodeAt, IsLookup, resolved_view}
-use Rattle.krates_resolve.specs.Questions.{Stands, LacksNode, questions}
-use Rattle.krates_resolve.specs.Resolved.{Resolved, id_of, IsMember, HasPackage, HasNode, NoPackage}
+use Rattle.krates_rules.specs.Resolved.{NodeAt, Resolved, id_of, IsMember, HasPackage, HasNode, NoPackage}
+use Rattle.krates_resolve.specs.Lookup.{IsLookup, resolved_view}
+use Rattle.krates_rules.specs.Questions.{Stands, LacksNode, questions, IsLeftOut}
 use Rattle.krates_resolve.specs.RootChoice.{AsksFor, AsksForManifests, HasOneOf}
-use Rattle.krates_resolve.specs.Roots.{IsRoot, of_graph, of_workspace, of_manifests, by_setting, without_root, by_manifest, HasManifest}
-use Rattle.krates_resolve.specs.Rules.{Questions, root_crate, root_feature, lost_root_package, lost_root_node}
-use Rattle.krates_resolve.specs.Setting.{SettingModel}
-use Rattle.krates_resolve.specs.Standing.{IsLeftOut}
+use Rattle.krates_rules.specs.Roots.{IsRoot, of_graph, of_workspace, of_manifests, by_setting, without_root, by_manifest, HasManifest}
+use Rattle.krates_rules.specs.Rules.{Questions, root_crate, root_feature, lost_root_package, lost_root_node}
+use Rattle.krates_rules.specs.Setting.{SettingModel}
 use Rattle.krates_resolve.specs.declared.found.Found.{Found}
 use Rattle.krates_resolve.specs.declared.lookup.Lookup.{Lookup}
-use Rattle.krates_resolve.proofs.AdmissionLemmas.{ReadsOnce, left_of, right_of}
-use Rattle.krates_resolve.proofs.OnlyOne.{place_in, one_package, one_node}
-use Rattle.krates_resolve.proofs.Standings.{contains_at, not_included}
+use Rattle.krates_rules.proofs.Readings.{ReadsOnce, left_of, right_of}
+use Rattle.krates_rules.proofs.OnlyOne.{place_in, one_package, one_node}
+use Rattle.krates_rules.proofs.Standings.{contains_at, not_included}
 
 -- ---- which crates are roots
 

@@ -4,26 +4,26 @@ use Rattle.std.proofs.lemmas.Option.{slice_get_within}
 use Rattle.std.specs.Prelude.{⊤}
 use Rattle.krates_cm.specs.Document.{Text, DependencyModel}
 use Rattle.krates_text.specs.FeatureReference.{Reference, krate, weak, strong, simple}
-use Rattle.krates_resolve.specs.Admission.{NoneDoubled}
-use Rattle.krates_resolve.specs.Derivation.{Among, Derivable, follows}
-use Rattle.krates_resolve.specs.Facts.{Id, Edge, Fact, Crate, Feature, Kept, Toggled, Lost}
-use Rattle.krates_resolve.specs.Features.{HasReference}
+use Rattle.krates_rules.specs.Admission.{NoneDoubled}
+use Rattle.krates_rules.specs.Derivation.{Among, Derivable, follows}
+use Rattle.krates_rules.specs.Facts.{Id, Edge, Fact, Crate, Feature, Kept, Toggled, Lost}
+use Rattle.krates_rules.specs.Features.{HasReference}
 use Rattle.krates_resolve.specs.Found.{HasFound, IsSound, Advances, HasRoots, IsExpanded, IsHeeded, IsFollowed, IsAsked, IsTried, IsAny, IsToggledIn}
-use Rattle.krates_resolve.specs.Links.{DepAt, AreNew, HasLinks}
+use Rattle.krates_rules.specs.Resolved.{DepAt, Resolved}
+use Rattle.krates_resolve.specs.Links.{AreNew, HasLinks}
 use Rattle.krates_resolve.specs.ListedFeatures.{listed_features}
-use Rattle.krates_resolve.specs.Questions.{IsDeclaredAs, Stands, IsWanted, questions}
-use Rattle.krates_resolve.specs.References.{AsksFor}
-use Rattle.krates_resolve.specs.Referent.{IsReferent}
-use Rattle.krates_resolve.specs.Resolved.{Resolved}
-use Rattle.krates_resolve.specs.Rules.{Rule, IsAskedFor, root_crate, root_feature, lost_root_package, lost_root_node, feature_crate, named, lost_named, asked, toggled_strongly, lost_asked_package, lost_asked_node, lost_toggled_strongly, required, target, lost_undeclared, lost_required_package, lost_required_node, declared, by_default, lost_declared, toggled_weakly, toggled_feature, lost_toggled_weakly}
+use Rattle.krates_rules.specs.Questions.{IsDeclaredAs, Stands, IsWanted, questions}
+use Rattle.krates_rules.specs.References.{AsksFor}
+use Rattle.krates_rules.specs.Referent.{IsReferent}
+use Rattle.krates_rules.specs.Rules.{Rule, IsAskedFor, root_crate, root_feature, lost_root_package, lost_root_node, feature_crate, named, lost_named, asked, toggled_strongly, lost_asked_package, lost_asked_node, lost_toggled_strongly, required, target, lost_undeclared, lost_required_package, lost_required_node, declared, by_default, lost_declared, toggled_weakly, toggled_feature, lost_toggled_weakly}
 use Rattle.krates_resolve.specs.Saturation.{AreDone}
 use Rattle.krates_resolve.specs.Selection.{edge_view, toggled_fact, IsPlaced}
-use Rattle.krates_resolve.specs.Setting.{SettingModel}
+use Rattle.krates_rules.specs.Setting.{SettingModel}
 use Rattle.krates_resolve.specs.declared.found.Found.{Found}
 use Rattle.krates_resolve.specs.declared.selection.KeptEdge.{KeptEdge}
 use Rattle.krates_resolve.specs.declared.selection.ToggledFeature.{ToggledFeature}
-use Rattle.krates_resolve.proofs.DerivationLaws.{closed_under}
-use Rattle.krates_resolve.proofs.OnlyOne.{place_in}
+use Rattle.krates_rules.proofs.DerivationLaws.{closed_under}
+use Rattle.krates_rules.proofs.OnlyOne.{place_in}
 use Rattle.krates_resolve.proofs.Waking.{as_declared, declared_as_once}
 
 -- ---- a kept edge is open

@@ -10,13 +10,12 @@ use Rattle.std.specs.List.Sorted.{IsStrictlySortedBy}
 use Rattle.std.specs.declared.alloc.Global.{Global}
 use Rattle.krates_cm.specs.Document.{Text, NodeDepModel, DepKindInfoModel, text_view}
 use Rattle.krates_ids.specs.Identity.{Identity, Reads, IsSameId, same_id, id_cmp}
-use Rattle.krates_resolve.specs.Admission.{NoneDoubled, node_texts}
-use Rattle.krates_resolve.specs.Derivation.{Derivable}
-use Rattle.krates_resolve.specs.Facts.{Id, Edge, Fact, Crate, Feature, Kept, Toggled, Lost}
+use Rattle.krates_rules.specs.Admission.{NoneDoubled, node_texts}
+use Rattle.krates_rules.specs.Derivation.{Derivable}
+use Rattle.krates_rules.specs.Facts.{Id, Edge, Fact, Crate, Feature, Kept, Toggled, Lost}
 use Rattle.krates_resolve.specs.Found.{HasFound, IsEnabled}
-use Rattle.krates_resolve.specs.NodeEntry.{edge_between}
-use Rattle.krates_resolve.specs.Questions.{kind_info_of, questions}
-use Rattle.krates_resolve.specs.Resolved.{Resolved, id_of, HasNode, HasDep}
+use Rattle.krates_rules.specs.Questions.{edge_between, kind_info_of, questions}
+use Rattle.krates_rules.specs.Resolved.{Resolved, id_of, HasNode, HasDep}
 use Rattle.krates_resolve.specs.Selection.{edge_view, crate_fact, edge_fact, feature_fact, toggled_fact, facts_of, IsPlaced, IsSelection}
 use Rattle.krates_resolve.specs.SelectionOrder.{same_place, place_cmp, same_text, same_feature, feature_cmp, same_toggled, toggled_cmp}
 use Rattle.krates_resolve.specs.declared.found.Found.{Found}
@@ -24,14 +23,14 @@ use Rattle.krates_resolve.specs.declared.selection.EnabledFeature.{EnabledFeatur
 use Rattle.krates_resolve.specs.declared.selection.KeptEdge.{KeptEdge}
 use Rattle.krates_resolve.specs.declared.selection.Selection.{Selection}
 use Rattle.krates_resolve.specs.declared.selection.ToggledFeature.{ToggledFeature}
-use Rattle.krates_resolve.specs.Setting.{SettingModel}
-use Rattle.krates_resolve.proofs.AdmissionLemmas.{ReadsOnce}
-use Rattle.krates_resolve.proofs.DistinctIds.{id_of_same}
-use Rattle.krates_resolve.proofs.FirstPlaces.{seen_at}
+use Rattle.krates_rules.specs.Setting.{SettingModel}
+use Rattle.krates_rules.proofs.Readings.{ReadsOnce}
+use Rattle.krates_document.proofs.DistinctIds.{id_of_same}
+use Rattle.krates_document.proofs.FirstPlaces.{seen_at}
 use Rattle.krates_resolve.proofs.Growth.{one_id}
 use Rattle.krates_resolve.proofs.NodeParts.{node_here}
-use Rattle.krates_resolve.proofs.OnlyOne.{place_in, one_dep}
-use Rattle.krates_resolve.proofs.Standings.{contains_at}
+use Rattle.krates_rules.proofs.OnlyOne.{place_in, one_dep}
+use Rattle.krates_rules.proofs.Standings.{contains_at}
 
 -- ---- elements of a list that is mapped
 

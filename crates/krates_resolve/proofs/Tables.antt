@@ -6,10 +6,10 @@ use Rattle.std.specs.BTreeMap.{BTreeMap, get}
 use Rattle.std.specs.List.{slice_get}
 use Rattle.std.specs.Ordering.{is_eq}
 use Rattle.krates_ids.specs.Identity.{Identity, id_cmp}
-use Rattle.krates_resolve.specs.Facts.{Id}
-use Rattle.krates_resolve.specs.Resolved.{id_of}
-use Rattle.krates_resolve.specs.Table.{StandsAt, IsPlaceOf, ArePlacesOf}
-use Rattle.krates_resolve.proofs.DistinctIds.{OrderTellsSame, same_of, id_of_same}
+use Rattle.krates_rules.specs.Facts.{Id}
+use Rattle.krates_rules.specs.Resolved.{id_of, StandsAt}
+use Rattle.krates_resolve.specs.Table.{IsPlaceOf, ArePlacesOf}
+use Rattle.krates_document.proofs.DistinctIds.{OrderTellsSame, same_of, id_of_same}
 
 -- the same, of the places below one
 abbrev pub IsPlaceBelow : List Identity → Id → ℕ → Option ℕ → Type 0

@@ -7,16 +7,15 @@ use Rattle.std.specs.List.{slice_get}
 use Rattle.krates_graph.specs.Agenda.{PutNumbers, IsOrderly}
 use Rattle.krates_cm.specs.Document.{Text, DependencyModel}
 use Rattle.krates_text.specs.FeatureReference.{Reference, krate, weak, strong, simple}
-use Rattle.krates_resolve.specs.Facts.{Id, Edge}
+use Rattle.krates_rules.specs.Facts.{Id, Edge}
 use Rattle.krates_resolve.specs.Found.{IsNamedIn, IsToggledIn, HasUsed, IsTried, IsFollowed, IsHeeded, IsExpanded, HasRoots, IsSound, Advances}
-use Rattle.krates_resolve.specs.Lookup.{NodeAt}
+use Rattle.krates_rules.specs.Resolved.{NodeAt, Resolved}
 use Rattle.krates_resolve.specs.Numbering.{FeatureAt}
-use Rattle.krates_resolve.specs.Resolved.{Resolved}
 use Rattle.krates_resolve.specs.Saturation.{AreDone, left_in}
-use Rattle.krates_resolve.specs.Setting.{SettingModel}
+use Rattle.krates_rules.specs.Setting.{SettingModel}
 use Rattle.krates_resolve.specs.declared.found.Found.{Found}
 use Rattle.krates_resolve.proofs.Growing.{expanded_grows, heeded_grows, roots_grow}
-use Rattle.krates_resolve.proofs.Standings.{contains_at}
+use Rattle.krates_rules.proofs.Standings.{contains_at}
 
 -- ---- what has been found doesn't hang on how many were taken
 

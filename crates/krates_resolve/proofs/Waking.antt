@@ -5,22 +5,20 @@ use Rattle.std.proofs.lemmas.Option.{same_Some, slice_get-map}
 use Rattle.std.specs.List.{slice_get}
 use Rattle.std.specs.Option.{option_map}
 use Rattle.krates_cm.specs.Document.{Text, DependencyModel, DepKindInfoModel, NodeModel, NodeDepModel, PackageModel}
-use Rattle.krates_resolve.specs.Admission.{NoneDoubled, doubled_dep, dep_texts}
-use Rattle.krates_resolve.specs.DeclaredDependency.{dependency_entry, IsDeclared}
-use Rattle.krates_resolve.specs.Derivation.{Derivable, Among, follows}
-use Rattle.krates_resolve.specs.Facts.{Id, Edge, Fact, Feature, Kept, Toggled}
+use Rattle.krates_rules.specs.Admission.{NoneDoubled, doubled_dep, dep_texts}
+use Rattle.krates_rules.specs.DeclaredDependency.{dependency_entry, IsDeclared}
+use Rattle.krates_rules.specs.Derivation.{Derivable, Among, follows}
+use Rattle.krates_rules.specs.Facts.{Id, Edge, Fact, Feature, Kept, Toggled}
 use Rattle.krates_resolve.specs.Found.{IsAskedWeakly, MayName, MayToggle, MayUse}
-use Rattle.krates_resolve.specs.Links.{DepAt}
-use Rattle.krates_resolve.specs.NodeEntry.{edge_between}
-use Rattle.krates_resolve.specs.Questions.{IsDeclaredAs, IsWanted, kind_info_of, questions}
-use Rattle.krates_resolve.specs.Resolved.{Resolved, ReadsAs, id_of}
-use Rattle.krates_resolve.specs.Rules.{Questions, declared, by_default, lost_declared, toggled_weakly, toggled_feature, lost_toggled_weakly}
-use Rattle.krates_resolve.specs.Setting.{SettingModel}
-use Rattle.krates_resolve.proofs.AdmissionLemmas.{ReadsOnce}
-use Rattle.krates_resolve.proofs.DeclaredOnce.{declared_once}
+use Rattle.krates_rules.specs.Resolved.{DepAt, Resolved, ReadsAs, id_of}
+use Rattle.krates_rules.specs.Questions.{edge_between, IsDeclaredAs, IsWanted, kind_info_of, questions}
+use Rattle.krates_rules.specs.Rules.{Questions, declared, by_default, lost_declared, toggled_weakly, toggled_feature, lost_toggled_weakly}
+use Rattle.krates_rules.specs.Setting.{SettingModel}
+use Rattle.krates_rules.proofs.Readings.{ReadsOnce}
+use Rattle.krates_document.proofs.DeclaredOnce.{declared_once}
 use Rattle.krates_resolve.proofs.Growth.{one_id}
-use Rattle.krates_resolve.proofs.OnlyOne.{one_package, one_dep, one_node_place}
-use Rattle.krates_resolve.proofs.Standings.{contains_at}
+use Rattle.krates_rules.proofs.OnlyOne.{one_package, one_dep, one_node_place}
+use Rattle.krates_rules.proofs.Standings.{contains_at}
 
 -- ---- what is derivable
 

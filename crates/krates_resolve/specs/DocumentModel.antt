@@ -2,7 +2,7 @@
 use Rattle.krates_cm.specs.Document.{metadata_view, resolve_view}
 use Rattle.krates_cm.specs.declared.metadata.Metadata.{Metadata}
 use Rattle.krates_cm.specs.declared.resolve.Resolve.{Resolve}
-use Rattle.krates_resolve.specs.Resolved.{Resolved}
+use Rattle.krates_rules.specs.Resolved.{Resolved}
 use Rattle.krates_resolve.specs.declared.lookup.Lookup.{Lookup}
 
 pub record DocumentModel : Type 0 where

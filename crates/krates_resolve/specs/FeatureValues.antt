@@ -2,9 +2,9 @@
 use Rattle.std.specs.Prelude.{◌↔◌, List, Contains}
 use Rattle.krates_cm.specs.Document.{Text}
 use Rattle.krates_text.specs.FeatureReference.{Reference, IsReference}
-use Rattle.krates_resolve.specs.Facts.{Id}
-use Rattle.krates_resolve.specs.Features.{HasReference}
-use Rattle.krates_resolve.specs.Resolved.{Resolved}
+use Rattle.krates_rules.specs.Facts.{Id}
+use Rattle.krates_rules.specs.Features.{HasReference}
+use Rattle.krates_rules.specs.Resolved.{Resolved}
 
 -- one of the texts is this reference
 pub record IsAmongValues (values : List Text) (reference : Reference) : Type 0 where

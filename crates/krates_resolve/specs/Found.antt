@@ -3,21 +3,19 @@ use Rattle.std.specs.Prelude.{◌≡◌, ℕ, ◌<◌, Bool, List, [], ◌∷◌
 use Rattle.krates_graph.specs.Agenda.{PutNumbers}
 use Rattle.krates_cm.specs.Document.{Text, DependencyModel, DepKindInfoModel, NodeDepModel}
 use Rattle.krates_text.specs.FeatureReference.{Reference, krate, weak, strong, simple, IsReference}
-use Rattle.krates_resolve.specs.Derivation.{Derivable}
-use Rattle.krates_resolve.specs.Facts.{Id, Edge, LostPackage, LostNode, LostFeature, Undeclared, Fact, Crate, Feature, Kept, Toggled, Lost}
-use Rattle.krates_resolve.specs.Features.{ListsFeature, LacksFeature, HasReference}
-use Rattle.krates_resolve.specs.Links.{DepAt, HasLinks, IsMarked, Waits}
-use Rattle.krates_resolve.specs.Lookup.{NodeAt}
-use Rattle.krates_resolve.specs.NodeEntry.{edge_between}
+use Rattle.krates_rules.specs.Derivation.{Derivable}
+use Rattle.krates_rules.specs.Facts.{Id, Edge, LostPackage, LostNode, LostFeature, Undeclared, Fact, Crate, Feature, Kept, Toggled, Lost}
+use Rattle.krates_rules.specs.Features.{ListsFeature, LacksFeature, HasReference}
+use Rattle.krates_rules.specs.Resolved.{DepAt, NodeAt, Resolved, NoPackage}
+use Rattle.krates_resolve.specs.Links.{HasLinks, IsMarked, Waits}
+use Rattle.krates_rules.specs.Questions.{edge_between, Stands, LacksNode, IsWanted, IsLoose, questions}
 use Rattle.krates_resolve.specs.ListedFeatures.{listed_features}
 use Rattle.krates_resolve.specs.Numbering.{FeatureAt}
-use Rattle.krates_resolve.specs.Questions.{Stands, LacksNode, IsWanted, IsLoose, questions}
-use Rattle.krates_resolve.specs.Referent.{IsReferent}
-use Rattle.krates_resolve.specs.Resolved.{Resolved, NoPackage}
-use Rattle.krates_resolve.specs.Roots.{IsRoot}
-use Rattle.krates_resolve.specs.Rules.{default_name}
+use Rattle.krates_rules.specs.Referent.{IsReferent}
+use Rattle.krates_rules.specs.Roots.{IsRoot}
+use Rattle.krates_rules.specs.Rules.{default_name}
 use Rattle.krates_resolve.specs.Selection.{edge_view, toggled_fact, IsPlaced}
-use Rattle.krates_resolve.specs.Setting.{SettingModel}
+use Rattle.krates_rules.specs.Setting.{SettingModel}
 use Rattle.krates_resolve.specs.declared.found.Found.{Found}
 use Rattle.krates_resolve.specs.declared.selection.KeptEdge.{KeptEdge}
 use Rattle.krates_resolve.specs.declared.selection.ToggledFeature.{ToggledFeature}

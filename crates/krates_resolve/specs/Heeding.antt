@@ -1,13 +1,13 @@
 -- What a reference of an enabled feature may give.
 use Rattle.krates_cm.specs.Document.{Text}
 use Rattle.krates_text.specs.FeatureReference.{Reference}
-use Rattle.krates_resolve.specs.Derivation.{Derivable}
-use Rattle.krates_resolve.specs.Facts.{Id, Feature}
-use Rattle.krates_resolve.specs.Features.{HasReference}
-use Rattle.krates_resolve.specs.Questions.{questions}
-use Rattle.krates_resolve.specs.References.{AsksFor}
-use Rattle.krates_resolve.specs.Resolved.{Resolved}
-use Rattle.krates_resolve.specs.Setting.{SettingModel}
+use Rattle.krates_rules.specs.Derivation.{Derivable}
+use Rattle.krates_rules.specs.Facts.{Id, Feature}
+use Rattle.krates_rules.specs.Features.{HasReference}
+use Rattle.krates_rules.specs.Questions.{questions}
+use Rattle.krates_rules.specs.References.{AsksFor}
+use Rattle.krates_rules.specs.Resolved.{Resolved}
+use Rattle.krates_rules.specs.Setting.{SettingModel}
 
 -- an enabled feature of the crate has the reference
 pub record MayWait (r : Resolved) (s : SettingModel) (p : Id) (reference : Reference) : Type 0 where

@@ -1,18 +1,10 @@
 -- What is kept for each dependency of each node: whether an edge to it is kept, and which of its features wait for one.
 use Rattle.std.specs.Prelude.{◌≡◌, ◌↔◌, ◌⊎◌, ℕ, List, [], Some, false, true, All, Contains, length, map, slice_get}
-use Rattle.krates_cm.specs.Document.{Text, NodeModel, NodeDepModel}
-use Rattle.krates_resolve.specs.Facts.{Id}
-use Rattle.krates_resolve.specs.Lookup.{NodeAt}
-use Rattle.krates_resolve.specs.Resolved.{Resolved, ReadsAs}
+use Rattle.krates_cm.specs.Document.{Text, NodeModel}
+use Rattle.krates_rules.specs.Facts.{Id}
+use Rattle.krates_rules.specs.Resolved.{Resolved, DepAt}
 use Rattle.krates_resolve.specs.declared.links.Link.{Link}
 use Rattle.krates_resolve.specs.declared.links.Links.{Links}
-
--- the dependency of the node at these places leads from the parent to the child
-pub record DepAt (r : Resolved) (parent child : Id) (place index : ℕ) : Type 0 where
-  pub node : NodeAt r parent place
-  pub dep : NodeDepModel
-  pub at : slice_get node.node.deps index ≡ Some dep
-  pub id : ReadsAs dep.pkg child
 
 -- the link of a node's dependency
 pub record LinkAt (links : Links) (place index : ℕ) (link : Link) : Type 0 where

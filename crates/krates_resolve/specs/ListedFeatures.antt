@@ -1,7 +1,7 @@
 -- The features that nodes list, in the order of the document.
 use Rattle.std.specs.Prelude.{ℕ, suc, List, [], ◌∷◌, ◌++◌, map}
 use Rattle.krates_cm.specs.Document.{Text, NodeModel}
-use Rattle.krates_resolve.specs.Resolved.{Resolved}
+use Rattle.krates_rules.specs.Resolved.{Resolved}
 
 -- those of the node at this place, each beside the place
 abbrev pub features_of_node : ℕ → List Text → List (ℕ × Text)

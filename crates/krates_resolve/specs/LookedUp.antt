@@ -1,11 +1,11 @@
 -- What the look-ups behind one question answer.
 use Rattle.std.specs.Prelude.{◌≡◌, ℕ, Option, MatchOption, Contains}
 use Rattle.krates_cm.specs.Document.{DependencyModel, DepKindInfoModel, NodeDepModel, NodeModel, node_dep_view}
-use Rattle.krates_resolve.specs.Admission.{HasVersion}
-use Rattle.krates_resolve.specs.DeclaredDependency.{IsDeclared, IsUndeclared}
-use Rattle.krates_resolve.specs.Facts.{Id}
+use Rattle.krates_rules.specs.Admission.{HasVersion}
+use Rattle.krates_rules.specs.DeclaredDependency.{IsDeclared, IsUndeclared}
+use Rattle.krates_rules.specs.Facts.{Id}
 use Rattle.krates_resolve.specs.NodeEntry.{AreParts, IsEntry, parent_of, child_of, declared_in, entry_of}
-use Rattle.krates_resolve.specs.Resolved.{Resolved, id_of, NoNode, HasNode, HasDep}
+use Rattle.krates_rules.specs.Resolved.{Resolved, id_of, NoNode, HasNode, HasDep}
 use Rattle.krates_resolve.specs.declared.node_entry.NodeEntry.{NodeEntry}
 use Rattle.krates_resolve.specs.declared.node_entry.NodeParts.{NodeParts}
 

@@ -1,12 +1,12 @@
 -- What look-ups in a document answer.
-use Rattle.std.specs.Prelude.{◌≡◌, ℕ, Bool, Option, Some, MatchOption, MatchBool, map, slice_get}
-use Rattle.krates_cm.specs.Document.{PackageModel, NodeModel, metadata_view, node_view, resolve_view}
-use Rattle.krates_resolve.specs.Admission.{AreIdsOf, NoneDoubled}
-use Rattle.krates_resolve.specs.Facts.{Id}
+use Rattle.std.specs.Prelude.{◌≡◌, ℕ, Bool, Option, MatchOption, MatchBool, map}
+use Rattle.krates_cm.specs.Document.{PackageModel, metadata_view, node_view, resolve_view}
+use Rattle.krates_rules.specs.Admission.{AreIdsOf, NoneDoubled}
+use Rattle.krates_rules.specs.Facts.{Id}
 use Rattle.krates_resolve.specs.FeatureTable.{AreNumbered, listed_in}
-use Rattle.krates_resolve.specs.Ids.{ids_view}
+use Rattle.krates_document.specs.Ids.{ids_view}
 use Rattle.krates_resolve.specs.ListedFeatures.{features_from}
-use Rattle.krates_resolve.specs.Resolved.{Resolved, ReadsAs, HasPackage, NoPackage, NoNode, IsMember}
+use Rattle.krates_rules.specs.Resolved.{Resolved, HasPackage, NoPackage, NoNode, IsMember, NodeAt, PackageAt}
 use Rattle.krates_resolve.specs.Table.{ArePlacesOf}
 use Rattle.krates_resolve.specs.declared.lookup.Lookup.{Lookup}
 
@@ -26,17 +26,6 @@ pub record IsLookup (d : Lookup) : Type 0 where
 -- whether the crate is a member of the workspace
 abbrev pub TellsMember : Resolved → Id → Bool → Type 0
 TellsMember r i is_member = MatchBool is_member (IsMember r i) (IsMember r i → ⊥)
-
--- a package with the id stands at this place of the document
-pub record PackageAt (r : Resolved) (i : Id) (place : ℕ) : Type 0 where
-  pub pkg : PackageModel
-  pub at : slice_get r.metadata.packages place ≡ Some pkg
-  pub id : ReadsAs pkg.id i
-
-pub record NodeAt (r : Resolved) (i : Id) (place : ℕ) : Type 0 where
-  pub node : NodeModel
-  pub at : slice_get r.graph.nodes place ≡ Some node
-  pub id : ReadsAs node.id i
 
 -- a place of the package with the id, or none where the document has no such package
 abbrev pub IsPackagePlace : Resolved → Id → Option ℕ → Type 0

@@ -1,14 +1,14 @@
 -- The node of a kept crate, and each dependency of it beside what its package declares.
 use Rattle.std.specs.Prelude.{◌≡◌, ℕ, List, Some, map, slice_get}
 use Rattle.krates_cm.specs.Document.{DependencyModel, DepKindInfoModel, NodeModel, PackageModel, node_dep_view, dependency_view}
-use Rattle.krates_resolve.specs.Admission.{AreDepIds}
-use Rattle.krates_resolve.specs.Facts.{Id, Edge}
-use Rattle.krates_resolve.specs.Links.{DepAt}
-use Rattle.krates_resolve.specs.Lookup.{NodeAt, TellsMember}
-use Rattle.krates_resolve.specs.Resolved.{Resolved, id_of, HasPackage, HasNode, HasDep}
-use Rattle.krates_resolve.specs.DeclaredDependency.{DependencyEntry, dependency_entry}
+use Rattle.krates_rules.specs.Admission.{AreDepIds}
+use Rattle.krates_rules.specs.Facts.{Id, Edge}
+use Rattle.krates_rules.specs.Resolved.{DepAt, NodeAt, Resolved, id_of, HasPackage, HasNode, HasDep}
+use Rattle.krates_resolve.specs.Lookup.{TellsMember}
+use Rattle.krates_rules.specs.DeclaredDependency.{DependencyEntry, dependency_entry}
 use Rattle.krates_resolve.specs.declared.node_entry.NodeEntry.{NodeEntry}
 use Rattle.krates_resolve.specs.declared.node_entry.NodeParts.{NodeParts}
+use Rattle.krates_rules.specs.Questions.{edge_between}
 
 -- these are the dependencies that the package of the crate declares; none where it has no package
 pub record AreDeclaredBy (r : Resolved) (i : Id) (ds : List DependencyModel) : Type 0 where
@@ -55,10 +55,6 @@ pub record IsEntryOf (parts : NodeParts) (at : ℕ) (x : NodeEntry) : Type 0 whe
   pub place : x.place ≡ parts.place
   pub index : x.index ≡ at
   pub is_member : x.is_member ≡ parts.is_member
-
--- the edge between two crates for one purpose and target
-abbrev pub edge_between : Id → Id → DepKindInfoModel → Edge
-edge_between p c k = record { parent = p; child = c; kind = k.kind; cfg = k.target }
 
 -- that of an entry
 abbrev pub edge_for : NodeEntry → DepKindInfoModel → Edge

@@ -4,10 +4,9 @@ use Rattle.std.specs.declared.cmp.Ordering.TheVariants.{Less}
 use Rattle.krates_cm.specs.Document.{Text, TargetModel, PackageModel}
 use Rattle.krates_cm.specs.declared.target.TargetKind.TheVariants.{Lib}
 use Rattle.krates_ids.specs.Identity.{Identity, id_cmp}
-use Rattle.krates_resolve.specs.DeclaredDependency.{FirstAt}
-use Rattle.krates_resolve.specs.Links.{DepAt}
-use Rattle.krates_resolve.specs.Referent.{IsReferent}
-use Rattle.krates_resolve.specs.Resolved.{Resolved, id_of}
+use Rattle.krates_rules.specs.DeclaredDependency.{FirstAt}
+use Rattle.krates_rules.specs.Resolved.{DepAt, Resolved, id_of}
+use Rattle.krates_rules.specs.Referent.{IsReferent}
 use Rattle.krates_resolve.specs.declared.node_entry.NodeParts.{NodeParts}
 
 -- the dependency at this place is the one that the name means

@@ -2,10 +2,10 @@
 use Rattle.std.specs.Prelude.{◌≡◌, List, [], Bool, Contains, MatchBool}
 use Rattle.krates_cm.specs.Document.{Text}
 use Rattle.krates_text.specs.Path.{components}
-use Rattle.krates_resolve.specs.Facts.{Id}
-use Rattle.krates_resolve.specs.Resolved.{Resolved, id_of}
-use Rattle.krates_resolve.specs.Roots.{AsksForWorkspace, AsksForMembers, IsRoot}
-use Rattle.krates_resolve.specs.Setting.{SettingModel}
+use Rattle.krates_rules.specs.Facts.{Id}
+use Rattle.krates_rules.specs.Resolved.{Resolved, id_of}
+use Rattle.krates_rules.specs.Roots.{AsksForWorkspace, AsksForMembers, IsRoot}
+use Rattle.krates_rules.specs.Setting.{SettingModel}
 use Rattle.krates_resolve.specs.declared.roots.RootChoice.{RootChoice}
 use Rattle.krates_resolve.specs.declared.roots.RootChoice.TheVariants as choice
 

@@ -1,10 +1,10 @@
 -- In which order roots are listed.
 use Rattle.std.specs.Prelude.{◌≡◌, List, [], ◌∷◌}
 use Rattle.std.specs.List.{AllZip}
-use Rattle.krates_resolve.specs.Facts.{Id}
-use Rattle.krates_resolve.specs.Resolved.{Resolved, ReadsAs}
-use Rattle.krates_resolve.specs.Roots.{IsRoot}
-use Rattle.krates_resolve.specs.Setting.{SettingModel}
+use Rattle.krates_rules.specs.Facts.{Id}
+use Rattle.krates_rules.specs.Resolved.{Resolved, ReadsAs}
+use Rattle.krates_rules.specs.Roots.{IsRoot}
+use Rattle.krates_rules.specs.Setting.{SettingModel}
 
 -- the second list has the elements of the first that have the property, in their order
 pub data ArePicked {A : Type 0} (P : A → Type 0) : List A → List A → Type 0 where

@@ -1,8 +1,8 @@
 -- How all that is kept is looked for, step by step.
 use Rattle.std.specs.Prelude.{ℕ, ◌+◌, ◌-◌, ◌<◌, ◌≤◌, Bool, MatchBool, length}
 use Rattle.krates_resolve.specs.Found.{IsSound, HasRoots, AreExpanded, AreHeeded}
-use Rattle.krates_resolve.specs.Resolved.{Resolved}
-use Rattle.krates_resolve.specs.Setting.{SettingModel}
+use Rattle.krates_rules.specs.Resolved.{Resolved}
+use Rattle.krates_rules.specs.Setting.{SettingModel}
 use Rattle.krates_resolve.specs.declared.found.Found.{Found}
 
 -- what was found is right and has the roots, and what was taken has been expanded and heeded

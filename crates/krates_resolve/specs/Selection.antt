@@ -3,17 +3,17 @@ use Rattle.std.specs.Prelude.{◌≡◌, ◌↔◌, ◌++◌, List, All, Contain
 use Rattle.std.specs.List.Sorted.{IsStrictlySortedBy}
 use Rattle.krates_cm.specs.Document.{DependencyModel, text_view}
 use Rattle.krates_ids.specs.Identity.{Identity, id_cmp}
-use Rattle.krates_resolve.specs.DeclaredDependency.{FirstAt}
-use Rattle.krates_resolve.specs.Derivation.{Derivable}
-use Rattle.krates_resolve.specs.Facts.{Id, Edge, Fact, Crate, Kept, Feature, Toggled}
-use Rattle.krates_resolve.specs.Questions.{IsDeclaredAt, kind_info_of, questions}
-use Rattle.krates_resolve.specs.Resolved.{Resolved, id_of}
+use Rattle.krates_rules.specs.DeclaredDependency.{FirstAt}
+use Rattle.krates_rules.specs.Derivation.{Derivable}
+use Rattle.krates_rules.specs.Facts.{Id, Edge, Fact, Crate, Kept, Feature, Toggled}
+use Rattle.krates_rules.specs.Questions.{IsDeclaredAt, kind_info_of, questions}
+use Rattle.krates_rules.specs.Resolved.{Resolved, id_of}
 use Rattle.krates_resolve.specs.SelectionOrder.{place_cmp, feature_cmp, toggled_cmp}
 use Rattle.krates_resolve.specs.declared.selection.EnabledFeature.{EnabledFeature}
 use Rattle.krates_resolve.specs.declared.selection.KeptEdge.{KeptEdge}
 use Rattle.krates_resolve.specs.declared.selection.Selection.{Selection}
 use Rattle.krates_resolve.specs.declared.selection.ToggledFeature.{ToggledFeature}
-use Rattle.krates_resolve.specs.Setting.{SettingModel}
+use Rattle.krates_rules.specs.Setting.{SettingModel}
 
 -- ---- the facts of a selection
 

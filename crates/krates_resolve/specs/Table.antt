@@ -1,16 +1,10 @@
 -- A map from ids to places, which answers exactly as a list of ids does.
-use Rattle.std.specs.Prelude.{◌≡◌, ℕ, List, Option, Some, MatchOption, slice_get}
+use Rattle.std.specs.Prelude.{ℕ, List, Option, MatchOption}
 use Rattle.std.specs.Borrow.{Bor}
 use Rattle.std.specs.BTreeMap.{BTreeMap, get}
 use Rattle.krates_ids.specs.Identity.{Identity, id_cmp}
-use Rattle.krates_resolve.specs.Facts.{Id}
-use Rattle.krates_resolve.specs.Resolved.{id_of}
-
--- the id stands at this place of the list
-pub record StandsAt (ids : List Identity) (id : Id) (place : ℕ) : Type 0 where
-  pub there : Identity
-  pub at : slice_get ids place ≡ Some there
-  pub same : id_of there ≡ id
+use Rattle.krates_rules.specs.Facts.{Id}
+use Rattle.krates_rules.specs.Resolved.{id_of, StandsAt}
 
 -- what a look-up of an id answers: a place at which it stands, or none where it stands nowhere
 abbrev pub IsPlaceOf : List Identity → Id → Option ℕ → Type 0

@@ -2,25 +2,25 @@
 
 ghost use Rattle.std.specs.Prelude.{◌≡◌, Contains, IfErr, OnOk, map};
 ghost use Rattle.krates_cm.specs.Document.{DependencyModel, DepKindInfoModel, dep_kind_info_view, dependency_view};
-ghost use Rattle.krates_resolve.specs.DeclaredDependency.{IsDeclared};
-ghost use Rattle.krates_resolve.specs.Derivation.{Derivable};
-ghost use Rattle.krates_resolve.specs.Facts.{Crate, Feature, Kept};
-ghost use Rattle.krates_resolve.specs.Features.{ListsFeature};
+ghost use Rattle.krates_rules.specs.DeclaredDependency.{IsDeclared};
+ghost use Rattle.krates_rules.specs.Derivation.{Derivable};
+ghost use Rattle.krates_rules.specs.Facts.{Crate, Feature, Kept};
+ghost use Rattle.krates_rules.specs.Features.{ListsFeature};
 ghost use Rattle.krates_resolve.specs.Found.{Advances, HasFound, HasUsed, IsNamedIn, IsSound, IsToggledIn, MayName, MayToggle, MayUse};
 ghost use Rattle.krates_resolve.specs.Links.{IsMarked};
-ghost use Rattle.krates_resolve.specs.Lookup.{IsLookup, NodeAt, resolved_view};
-ghost use Rattle.krates_resolve.specs.NodeEntry.{IsEntry, child_of, declared_in, edge_between, edge_for, entry_of, parent_of};
-ghost use Rattle.krates_resolve.specs.Questions.{IsWanted, questions};
-ghost use Rattle.krates_resolve.specs.Resolved.{id_of};
-ghost use Rattle.krates_resolve.specs.Rules.{default_name};
-ghost use Rattle.krates_resolve.specs.SelectionRefusals.{IsUnselected};
+ghost use Rattle.krates_resolve.specs.Lookup.{IsLookup, resolved_view};
+ghost use Rattle.krates_rules.specs.Resolved.{NodeAt, id_of};
+ghost use Rattle.krates_resolve.specs.NodeEntry.{IsEntry, child_of, declared_in, edge_for, entry_of, parent_of};
+ghost use Rattle.krates_rules.specs.Questions.{edge_between, IsWanted, questions};
+ghost use Rattle.krates_rules.specs.Rules.{default_name};
+ghost use Rattle.krates_rules.specs.SelectionRefusals.{IsUnselected};
 
 use crate::features::feature_number;
 use crate::found::Found;
 use crate::lookup::Lookup;
 use crate::node_entry::{NodeEntry, kept_edge};
 use crate::selection::ToggledFeature;
-use crate::setting::Setting;
+use krates_document::setting::Setting;
 use krates_cm::{DepKindInfo, Dependency};
 use krates_ids::{Error, Kid, Lost, laws};
 use std::alloc::Global;

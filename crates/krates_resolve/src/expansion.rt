@@ -4,20 +4,21 @@ ghost use Rattle.std.specs.Prelude.{◌≡◌, ◌<◌, IfErr, OnOk, Some, Conta
 ghost use Rattle.semver.specs.Identifiers.{parts_of};
 ghost use Rattle.krates_cm.specs.Document.{DepKindInfoModel, dep_kind_info_view, node_dep_view};
 ghost use Rattle.krates_cm.specs.Names.{version_named};
-ghost use Rattle.krates_resolve.specs.Admission.{HasVersion};
-ghost use Rattle.krates_resolve.specs.Facts.{Id};
+ghost use Rattle.krates_rules.specs.Admission.{HasVersion};
+ghost use Rattle.krates_rules.specs.Facts.{Id};
 ghost use Rattle.krates_resolve.specs.Found.{IsSound, Advances, IsTried, AreTried, IsExpanded, MayTry, TakenWhen};
-ghost use Rattle.krates_resolve.specs.Lookup.{IsLookup, NodeAt, resolved_view};
+ghost use Rattle.krates_resolve.specs.Lookup.{IsLookup, resolved_view};
+ghost use Rattle.krates_rules.specs.Resolved.{NodeAt};
 ghost use Rattle.krates_resolve.specs.NodeEntry.{IsEntry, parent_of, child_of, edge_for};
-ghost use Rattle.krates_resolve.specs.Questions.{questions};
-ghost use Rattle.krates_resolve.specs.SelectionRefusals.{IsUnselected};
+ghost use Rattle.krates_rules.specs.Questions.{questions};
+ghost use Rattle.krates_rules.specs.SelectionRefusals.{IsUnselected};
 
-use crate::declared_dependency::{declared_of, version_of};
+use krates_document::declared_dependency::{declared_of, version_of};
 use crate::enabling::keep;
 use crate::found::Found;
 use crate::lookup::Lookup;
 use crate::node_entry::{NodeEntry, entry_at, parts_of};
-use crate::setting::Setting;
+use krates_document::setting::Setting;
 use crate::standing::{Standing, standing_of};
 use krates_cm::DepKindInfo;
 use krates_graph::agenda::Taken;

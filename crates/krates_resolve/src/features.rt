@@ -7,14 +7,14 @@ ghost use Rattle.std.specs.Ordering.{as_partial_cmp};
 ghost use Rattle.krates_resolve.specs.FeatureOrder.{listed_cmp, same_listed};
 ghost use Rattle.std.specs.Prelude.{◌≡◌, ◌++◌, IfOk, MatchOption, OnOk, map};
 ghost use Rattle.krates_cm.specs.Document.{node_view, text_view};
-ghost use Rattle.krates_resolve.specs.Facts.{Id};
-ghost use Rattle.krates_resolve.specs.Features.{LacksFeature};
+ghost use Rattle.krates_rules.specs.Facts.{Id};
+ghost use Rattle.krates_rules.specs.Features.{LacksFeature};
 ghost use Rattle.krates_resolve.specs.FeatureTable.{AreNumbered, listed_in, listed_view};
 ghost use Rattle.krates_resolve.specs.FeatureValues.{AreValuesOf};
-ghost use Rattle.krates_resolve.specs.Lookup.{IsLookup, NodeAt, resolved_view};
+ghost use Rattle.krates_resolve.specs.Lookup.{IsLookup, resolved_view};
+ghost use Rattle.krates_rules.specs.Resolved.{NodeAt, id_of};
 ghost use Rattle.krates_resolve.specs.ListedFeatures.{features_from, features_of_node};
 ghost use Rattle.krates_resolve.specs.Numbering.{FeatureAt};
-ghost use Rattle.krates_resolve.specs.Resolved.{id_of};
 
 use crate::lookup::{Lookup, package_of};
 use krates_cm::Node;

@@ -1,18 +1,11 @@
 //! Resolution: which crates, features and edges of a document are kept under a setting.
 #![tactic(auto)]
 
-pub mod admission;
-mod declared_dependency;
-pub mod declared_source;
-mod dependency_name;
 mod enabling;
 mod expansion;
 mod features;
 mod found;
 mod heeding;
-pub mod ids;
-pub mod kind;
-pub mod laws;
 mod links;
 mod lookup;
 mod node_entry;
@@ -21,14 +14,14 @@ mod referent;
 mod roots;
 mod saturation;
 pub mod selection;
-pub mod setting;
 mod sorted;
 mod standing;
 mod table;
 
-pub use admission::admit;
-pub use ids::Ids;
-pub use kind::{DepKind, Scope};
+pub use krates_document::admit;
+pub use krates_document::Ids;
+pub use krates_rules::{DepKind, Scope};
 pub use questions::Document;
 pub use selection::{EnabledFeature, KeptEdge, Selection, ToggledFeature, select};
-pub use setting::Setting;
+pub use krates_document::Setting;
+pub use krates_rules::laws;

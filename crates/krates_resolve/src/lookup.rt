@@ -2,13 +2,13 @@
 
 ghost use Rattle.std.specs.Prelude.{◌≡◌, IfOk, option_map};
 ghost use Rattle.krates_cm.specs.Document.{metadata_view, package_view, resolve_view};
-ghost use Rattle.krates_resolve.specs.Admission.{AreIdsOf, NoneDoubled};
-ghost use Rattle.krates_resolve.specs.Ids.{ids_view};
+ghost use Rattle.krates_rules.specs.Admission.{AreIdsOf, NoneDoubled};
+ghost use Rattle.krates_document.specs.Ids.{ids_view};
 ghost use Rattle.krates_resolve.specs.Lookup.{IsLookup, IsPackagePlace, IsPackageOf, IsNodePlace, TellsMember, resolved_view};
-ghost use Rattle.krates_resolve.specs.Resolved.{id_of};
+ghost use Rattle.krates_rules.specs.Resolved.{id_of};
 
 use crate::features::{FeatureTable, feature_table};
-use crate::ids::Ids;
+use krates_document::ids::Ids;
 use crate::table::{place_of, places_by_id};
 use krates_cm::{Metadata, Package, Resolve};
 use krates_ids::{Kid, laws};

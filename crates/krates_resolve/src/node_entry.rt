@@ -3,9 +3,9 @@
 ghost use Rattle.std.specs.Prelude.{◌≡◌, ◌<◌, ◌↔◌, Contains, IfOk, IsTrue, length, map};
 ghost use Rattle.krates_cm.specs.Document.{dependency_view, dep_kind_info_view};
 ghost use Rattle.krates_resolve.specs.Lookup.{IsLookup, resolved_view};
-ghost use Rattle.krates_resolve.specs.DeclaredDependency.{FirstAt};
+ghost use Rattle.krates_rules.specs.DeclaredDependency.{FirstAt};
 ghost use Rattle.krates_resolve.specs.NodeEntry.{AreDeclaredBy, AreParts, IsEntryOf, edge_for};
-ghost use Rattle.krates_resolve.specs.Resolved.{id_of};
+ghost use Rattle.krates_rules.specs.Resolved.{id_of};
 ghost use Rattle.krates_resolve.specs.Selection.{edge_view};
 
 use crate::lookup::{Lookup, is_member, package_of};

@@ -3,14 +3,14 @@
 ghost use Rattle.std.specs.Prelude.{◌↔◌, ◌<◌, Contains, IfSome, IsTrue, MatchOption, length, option_map};
 ghost use Rattle.krates_cm.specs.Document.{node_dep_view, package_view, target_view};
 ghost use Rattle.krates_cm.specs.declared.target.TargetKind.TheVariants.{Lib};
-ghost use Rattle.krates_resolve.specs.Facts.{Id};
+ghost use Rattle.krates_rules.specs.Facts.{Id};
 ghost use Rattle.krates_resolve.specs.Lookup.{IsLookup, resolved_view};
 ghost use Rattle.krates_resolve.specs.NodeEntry.{AreParts};
-ghost use Rattle.krates_resolve.specs.Referent.{AnswersTo, IsLibraryRename, IsReferent};
+ghost use Rattle.krates_rules.specs.Referent.{AnswersTo, IsLibraryRename, IsReferent};
 ghost use Rattle.krates_resolve.specs.ReferentPlace.{IsBefore, IsLibraryOf, IsReferentAt};
-ghost use Rattle.krates_resolve.specs.Resolved.{id_of};
+ghost use Rattle.krates_rules.specs.Resolved.{id_of};
 
-use crate::dependency_name::is_name_of;
+use krates_document::dependency_name::is_name_of;
 use crate::lookup::{Lookup, package_of};
 use crate::node_entry::NodeParts;
 use krates_cm::{NodeDep, Package, Target, TargetKind};

@@ -1,13 +1,13 @@
 //! All that is kept of a document.
 
 ghost use Rattle.std.specs.Prelude.{◌↔◌, IfErr, IfOk};
-ghost use Rattle.krates_resolve.specs.Derivation.{Derivable};
-ghost use Rattle.krates_resolve.specs.Facts.{Fact};
+ghost use Rattle.krates_rules.specs.Derivation.{Derivable};
+ghost use Rattle.krates_rules.specs.Facts.{Fact};
 ghost use Rattle.krates_resolve.specs.Found.{HasFound, IsSound};
 ghost use Rattle.krates_resolve.specs.Lookup.{IsLookup, resolved_view};
-ghost use Rattle.krates_resolve.specs.Questions.{questions};
+ghost use Rattle.krates_rules.specs.Questions.{questions};
 ghost use Rattle.krates_resolve.specs.Saturation.{AreDone, TakesNext};
-ghost use Rattle.krates_resolve.specs.SelectionRefusals.{IsUnselected};
+ghost use Rattle.krates_rules.specs.SelectionRefusals.{IsUnselected};
 
 use crate::expansion::expand;
 use crate::found::Found;
@@ -15,7 +15,7 @@ use crate::heeding::heed;
 use crate::links::links_of;
 use crate::lookup::Lookup;
 use crate::roots::put_roots;
-use crate::setting::Setting;
+use krates_document::setting::Setting;
 use krates_graph::agenda::Agenda;
 use krates_ids::Error;
 use std::alloc::Global;

@@ -1,11 +1,11 @@
 //! Whether a crate can be kept.
 
 ghost use Rattle.krates_resolve.specs.Lookup.{IsLookup, resolved_view};
-ghost use Rattle.krates_resolve.specs.Resolved.{id_of};
+ghost use Rattle.krates_rules.specs.Resolved.{id_of};
 ghost use Rattle.krates_resolve.specs.Standing.{IsStanding};
 
 use crate::lookup::{Lookup, node_place, package_of};
-use crate::setting::Setting;
+use krates_document::setting::Setting;
 use krates_ids::Kid;
 
 /// What a document and a setting have for a crate.

@@ -1,7 +1,7 @@
 //! Look-ups by id.
 
 ghost use Rattle.std.specs.Prelude.{IfOk};
-ghost use Rattle.krates_resolve.specs.Resolved.{id_of};
+ghost use Rattle.krates_rules.specs.Resolved.{id_of};
 ghost use Rattle.krates_resolve.specs.Table.{ArePlacesOf, IsPlaceOf};
 
 use krates_ids::{Kid, laws};

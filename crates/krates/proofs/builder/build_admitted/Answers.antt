@@ -1,7 +1,7 @@
 use Rattle.std.proofs.Common.{subst, length, List, refl}
 use Rattle.std.proofs.lemmas.Result.{err_from_is_err_and}
 use Rattle.krates_cm.specs.Document.{metadata_view}
-use Rattle.krates_resolve.specs.Ids.{ids_view}
+use Rattle.krates_document.specs.Ids.{ids_view}
 use Rattle.krates.specs.Build.{IsMiscount}
 use Rattle.krates.specs.Enabled.{AreEnabledSets}
 use Rattle.krates.specs.Krate.{krate_ids, krate_packages}

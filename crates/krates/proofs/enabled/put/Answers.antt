@@ -2,7 +2,7 @@ use Rattle.std.proofs.Common.{◌≡◌, ◌<◌, length, get_or, rules, refl}
 use Rattle.std.proofs.lemmas.List.{get_or_default}
 use Rattle.std.proofs.lemmas.Map.Text.{btree_set_updates_text}
 use Rattle.krates_cm.specs.Document.{text_view}
-use Rattle.krates_resolve.specs.Resolved.{id_of}
+use Rattle.krates_rules.specs.Resolved.{id_of}
 use Rattle.krates.specs.Krate.{krate_ids}
 use Rattle.krates.proofs.EnabledLemmas.{place_within, put_there, put_nowhere}
 use Rattle.krates.proofs.NamesIn.{gets_name}

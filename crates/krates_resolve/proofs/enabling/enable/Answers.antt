@@ -1,6 +1,6 @@
 use Rattle.std.proofs.Common.{◌<◌, sym, subst}
 use Rattle.krates_resolve.specs.Lookup.{resolved_view}
-use Rattle.krates_resolve.specs.Resolved.{id_of}
+use Rattle.krates_rules.specs.Resolved.{id_of}
 use Rattle.krates_resolve.proofs.Enabled.{named_here}
 use Rattle.krates_resolve.proofs.FeatureNumbers.{listed_at, number_within}
 use Rattle.krates_resolve.proofs.Growth.{has_put, feature_advances}

@@ -1,12 +1,12 @@
 use Rattle.std.proofs.Common.{String, Global, Contains, refl, sym, ◌∙◌, subst, arith}
 use Rattle.krates_cm.specs.Document.{Text, text_view, dependency_view}
-use Rattle.krates_resolve.specs.Facts.{Crate}
+use Rattle.krates_rules.specs.Facts.{Crate}
 use Rattle.krates_resolve.specs.Found.{Advances, HasUsed, IsNamedIn}
 use Rattle.krates_resolve.specs.Lookup.{resolved_view}
-use Rattle.krates_resolve.specs.Resolved.{id_of}
+use Rattle.krates_rules.specs.Resolved.{id_of}
 use Rattle.krates_resolve.specs.declared.found.Found.{Found}
 use Rattle.krates_resolve.proofs.Growing.{advances_refl, advances_trans, named_grows}
-use Rattle.krates_resolve.proofs.Seen.{seen_more, each_seen}
+use Rattle.krates_document.proofs.Seen.{seen_more, each_seen}
 use Rattle.krates_resolve.proofs.enabling.enable_declared.Goals as goal
 use Rattle.krates_resolve.proofs.enabling.enable_declared.Goals.{then-dependency, else-dependency}
 

@@ -1,7 +1,7 @@
 use Rattle.std.proofs.Common.{◌<◌, sym, subst}
 use Rattle.krates_resolve.specs.Lookup.{resolved_view}
-use Rattle.krates_resolve.specs.Resolved.{id_of}
-use Rattle.krates_resolve.specs.Rules.{default_name}
+use Rattle.krates_rules.specs.Resolved.{id_of}
+use Rattle.krates_rules.specs.Rules.{default_name}
 use Rattle.krates_resolve.proofs.Enabled.{not_lacking}
 use Rattle.krates_resolve.proofs.FeatureNumbers.{listed_at, number_within}
 use Rattle.krates_resolve.proofs.Growth.{has_put, feature_advances}

@@ -1,11 +1,11 @@
 use Rattle.std.proofs.Common.{ℕ, ◌<◌, sym, subst, arith}
 use Rattle.std.proofs.lemmas.Option.{slice_get_within}
 use Rattle.krates_cm.specs.Document.{DependencyModel, dep_kind_info_view}
-use Rattle.krates_resolve.specs.Facts.{Crate}
+use Rattle.krates_rules.specs.Facts.{Crate}
 use Rattle.krates_resolve.specs.Found.{HasUsed, MayUse}
 use Rattle.krates_resolve.specs.Lookup.{resolved_view}
 use Rattle.krates_resolve.specs.NodeEntry.{parent_of, child_of, declared_in, entry_of, edge_for}
-use Rattle.krates_resolve.proofs.DeclaredOnce.{declared_stands}
+use Rattle.krates_document.proofs.DeclaredOnce.{declared_stands}
 use Rattle.krates_resolve.proofs.EdgeGrowth.{edge_advances, edge_kept, placed_here, declared_read, declared_within, used_once, marked_once}
 use Rattle.krates_resolve.proofs.Entries.{child_derivable}
 use Rattle.krates_resolve.proofs.Growing.{advances_trans, used_grows}

@@ -1,7 +1,7 @@
 use Rattle.std.proofs.Common.{◌≡◌, refl}
-use Rattle.krates_resolve.specs.Facts.{Toggled}
+use Rattle.krates_rules.specs.Facts.{Toggled}
 use Rattle.krates_resolve.specs.Lookup.{resolved_view}
-use Rattle.krates_resolve.specs.Resolved.{id_of}
+use Rattle.krates_rules.specs.Resolved.{id_of}
 use Rattle.krates_resolve.specs.Selection.{toggled_fact}
 use Rattle.krates_resolve.specs.declared.selection.ToggledFeature.{ToggledFeature}
 use Rattle.krates_resolve.proofs.Enabled.{toggled_here}

@@ -1,19 +1,20 @@
 use Rattle.std.proofs.Common.{◌≡◌, List, [], get_or, map, Bor, Contains, refl, sym, ◌∙◌, subst, arith}
 use Rattle.std.proofs.lemmas.List.{get_or_default}
 use Rattle.krates_cm.specs.Document.{Text, DepKindInfoModel}
-use Rattle.krates_resolve.specs.Derivation.{Derivable}
-use Rattle.krates_resolve.specs.Facts.{Id, Crate, Kept}
+use Rattle.krates_rules.specs.Derivation.{Derivable}
+use Rattle.krates_rules.specs.Facts.{Id, Crate, Kept}
 use Rattle.krates_resolve.specs.Found.{HasFound, IsToggledIn, MayToggle}
-use Rattle.krates_resolve.specs.Links.{DepAt, Waits}
+use Rattle.krates_rules.specs.Resolved.{DepAt}
+use Rattle.krates_resolve.specs.Links.{Waits}
 use Rattle.krates_resolve.specs.Lookup.{resolved_view}
-use Rattle.krates_resolve.specs.NodeEntry.{parent_of, child_of, edge_between}
-use Rattle.krates_resolve.specs.Questions.{questions}
+use Rattle.krates_resolve.specs.NodeEntry.{parent_of, child_of}
+use Rattle.krates_rules.specs.Questions.{edge_between, questions}
 use Rattle.krates_resolve.specs.declared.links.Links.{Links}
 use Rattle.krates_resolve.proofs.Growing.{advances_refl, advances_trans, toggled_grows}
 use Rattle.krates_resolve.proofs.Growth.{mark_advances}
-use Rattle.krates_resolve.proofs.Seen.{seen_more, each_seen}
+use Rattle.krates_document.proofs.Seen.{seen_more, each_seen}
 use Rattle.krates_resolve.proofs.Waking.{may_wake, one_way}
-use Rattle.krates_resolve.proofs.Zips.{one_seen}
+use Rattle.krates_document.proofs.Zips.{one_seen}
 use Rattle.krates_resolve.proofs.enabling.wake.Goals as goal
 
 pub is_kept-requires : goal.is_kept-requires

@@ -3,7 +3,7 @@ use Rattle.krates_cm.specs.Document.{Text}
 use Rattle.krates_resolve.specs.Found.{Advances, IsToggledIn}
 use Rattle.krates_resolve.specs.Lookup.{resolved_view}
 use Rattle.krates_resolve.specs.NodeEntry.{parent_of, child_of}
-use Rattle.krates_resolve.proofs.Seen.{SeenBelow}
+use Rattle.krates_document.proofs.Seen.{SeenBelow}
 use Rattle.krates_resolve.proofs.enabling.wake.Given as goal
 
 -- the features so far are toggled

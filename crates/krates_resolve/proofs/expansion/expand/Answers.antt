@@ -2,13 +2,13 @@ use Rattle.std.proofs.Common.{◌≡◌, ℕ, map, option_map, Contains, sym, ap
 use Rattle.std.proofs.lemmas.Option.{slice_get-map}
 use Rattle.krates_cm.specs.Document.{node_dep_view}
 use Rattle.krates_ids.specs.Identity.{Identity}
-use Rattle.krates_resolve.specs.Derivation.{Derivable}
-use Rattle.krates_resolve.specs.Facts.{Crate}
+use Rattle.krates_rules.specs.Derivation.{Derivable}
+use Rattle.krates_rules.specs.Facts.{Crate}
 use Rattle.krates_resolve.specs.Found.{AreTried, HasFound, IsExpanded, IsRequired}
-use Rattle.krates_resolve.specs.Lookup.{NodeAt, resolved_view}
+use Rattle.krates_rules.specs.Resolved.{NodeAt, id_of}
+use Rattle.krates_resolve.specs.Lookup.{resolved_view}
 use Rattle.krates_resolve.specs.NodeEntry.{child_of, edge_for}
-use Rattle.krates_resolve.specs.Questions.{questions}
-use Rattle.krates_resolve.specs.Resolved.{id_of}
+use Rattle.krates_rules.specs.Questions.{questions}
 use Rattle.krates_resolve.proofs.Entries.{crate_may_try}
 use Rattle.krates_resolve.proofs.Growing.{advances_trans}
 use Rattle.krates_resolve.proofs.Growth.{one_id}

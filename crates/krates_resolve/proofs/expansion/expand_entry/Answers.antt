@@ -5,7 +5,7 @@ use Rattle.krates_resolve.specs.Found.{IsTried, TakenWhen}
 use Rattle.krates_resolve.specs.Lookup.{resolved_view}
 use Rattle.krates_resolve.specs.NodeEntry.{edge_for}
 use Rattle.krates_resolve.proofs.Growing.{advances_refl, advances_trans, tried_grows}
-use Rattle.krates_resolve.proofs.Seen.{seen_more, each_seen}
+use Rattle.krates_document.proofs.Seen.{seen_more, each_seen}
 use Rattle.krates_resolve.proofs.expansion.expand_entry.Goals as goal
 
 pub loop-info-init : goal.loop-info-init

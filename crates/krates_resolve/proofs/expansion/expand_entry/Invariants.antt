@@ -3,7 +3,7 @@ use Rattle.krates_cm.specs.declared.resolve.DepKindInfo.{DepKindInfo}
 use Rattle.krates_resolve.specs.Found.{Advances, IsTried, TakenWhen}
 use Rattle.krates_resolve.specs.Lookup.{resolved_view}
 use Rattle.krates_resolve.specs.NodeEntry.{edge_for}
-use Rattle.krates_resolve.proofs.Seen.{SeenBelow}
+use Rattle.krates_document.proofs.Seen.{SeenBelow}
 use Rattle.krates_resolve.proofs.expansion.expand_entry.Given as goal
 
 -- each edge so far has been tried

@@ -2,7 +2,7 @@ use Rattle.std.proofs.Common.{◌≡◌, Some, None, map, option_map, rules, sym
 use Rattle.std.specs.BTreeMap.{get_by_text}
 use Rattle.krates_cm.specs.Document.{package_view, text_view, texts_view}
 use Rattle.krates_resolve.specs.Lookup.{resolved_view}
-use Rattle.krates_resolve.specs.Resolved.{id_of}
+use Rattle.krates_rules.specs.Resolved.{id_of}
 use Rattle.krates_resolve.proofs.FeatureNames.{named_here, values_here, lacks_values, no_package_values}
 use Rattle.krates_resolve.proofs.features.feature_values.Goals as goal
 

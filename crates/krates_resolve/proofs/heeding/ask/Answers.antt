@@ -5,8 +5,8 @@ use Rattle.krates_ids.specs.Identity.{Identity}
 use Rattle.krates_resolve.specs.Heeding.{MayAsk}
 use Rattle.krates_resolve.specs.Lookup.{resolved_view}
 use Rattle.krates_resolve.specs.NodeEntry.{edge_for}
-use Rattle.krates_resolve.specs.Referent.{IsReferent}
-use Rattle.krates_resolve.specs.Resolved.{id_of}
+use Rattle.krates_rules.specs.Referent.{IsReferent}
+use Rattle.krates_rules.specs.Resolved.{id_of}
 use Rattle.krates_resolve.proofs.Heedings.{none_asked, entry_asked, asked_may_try}
 use Rattle.krates_resolve.proofs.NodeParts.{deps_long, entry_here}
 use Rattle.krates_resolve.proofs.heeding.ask.Goals as goal

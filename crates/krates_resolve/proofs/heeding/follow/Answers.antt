@@ -3,7 +3,7 @@ use Rattle.std.proofs.lemmas.Result.{on_ok_weaker}
 use Rattle.krates_cm.specs.Document.{Text}
 use Rattle.krates_text.specs.FeatureReference.{IsReference, krate, strong, weak, simple}
 use Rattle.krates_resolve.specs.Lookup.{resolved_view}
-use Rattle.krates_resolve.specs.Resolved.{id_of}
+use Rattle.krates_rules.specs.Resolved.{id_of}
 use Rattle.krates_resolve.proofs.Growing.{advances_trans, asked_grows}
 use Rattle.krates_resolve.proofs.Heedings.{value_may, may_name, followed_by, on_ok_both}
 use Rattle.krates_resolve.proofs.heeding.follow.Goals as goal

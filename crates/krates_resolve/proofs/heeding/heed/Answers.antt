@@ -1,15 +1,15 @@
 use Rattle.std.proofs.Common.{ℕ, String, Global, map, refl, sym, subst, arith, string_bytes}
 use Rattle.krates_cm.specs.Document.{Text, text_view}
 use Rattle.krates_text.specs.FeatureReference.{Reference, IsReference}
-use Rattle.krates_resolve.specs.Facts.{Id, Crate, Feature}
+use Rattle.krates_rules.specs.Facts.{Id, Crate, Feature}
 use Rattle.krates_resolve.specs.Found.{IsFollowed, IsHeeded, IsValueOfEnabled}
 use Rattle.krates_resolve.specs.Lookup.{resolved_view}
 use Rattle.krates_resolve.specs.Numbering.{FeatureAt}
-use Rattle.krates_resolve.specs.Resolved.{id_of}
+use Rattle.krates_rules.specs.Resolved.{id_of}
 use Rattle.krates_resolve.proofs.Growing.{advances_refl, advances_trans, followed_grows}
 use Rattle.krates_resolve.proofs.FeatureNumbers.{listed_place}
 use Rattle.krates_resolve.proofs.Heedings.{listed_here, listed_found, one_feature, value_at, value_of_enabled, heeded_here}
-use Rattle.krates_resolve.proofs.Seen.{seen_more, each_seen}
+use Rattle.krates_document.proofs.Seen.{seen_more, each_seen}
 use Rattle.krates_resolve.proofs.heeding.heed.Goals as goal
 
 pub parts_of-parts-requires-clause-within : goal.parts_of-parts-requires-clause-within

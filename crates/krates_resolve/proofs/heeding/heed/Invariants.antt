@@ -2,8 +2,8 @@ use Rattle.std.proofs.Common.{String, Global, string_bytes}
 use Rattle.krates_text.specs.FeatureReference.{Reference, IsReference}
 use Rattle.krates_resolve.specs.Found.{Advances, IsFollowed}
 use Rattle.krates_resolve.specs.Lookup.{resolved_view}
-use Rattle.krates_resolve.specs.Resolved.{id_of}
-use Rattle.krates_resolve.proofs.Seen.{SeenBelow}
+use Rattle.krates_rules.specs.Resolved.{id_of}
+use Rattle.krates_document.proofs.Seen.{SeenBelow}
 use Rattle.krates_resolve.proofs.heeding.heed.Given as goal
 
 -- each reference so far has been followed

@@ -2,9 +2,9 @@ use Rattle.std.proofs.Common.{subst}
 use Rattle.std.proofs.lemmas.Option.{slice_get_within}
 use Rattle.std.proofs.lemmas.Result.{on_ok_weaker}
 use Rattle.krates_resolve.specs.Lookup.{resolved_view}
-use Rattle.krates_resolve.specs.NodeEntry.{edge_between}
-use Rattle.krates_resolve.specs.Referent.{IsReferent}
-use Rattle.krates_resolve.specs.Resolved.{id_of}
+use Rattle.krates_rules.specs.Questions.{edge_between}
+use Rattle.krates_rules.specs.Referent.{IsReferent}
+use Rattle.krates_rules.specs.Resolved.{id_of}
 use Rattle.krates_resolve.proofs.Heedings.{none_strongly, strongly_here, unmarked_strongly, may_toggle_strongly}
 use Rattle.krates_resolve.proofs.Waking.{one_way}
 use Rattle.krates_resolve.proofs.heeding.toggle_strongly.Goals as goal

@@ -8,7 +8,7 @@ use Rattle.krates_resolve.specs.Links.{AreNewLinks}
 use Rattle.krates_resolve.specs.Lookup.{resolved_view}
 use Rattle.krates_resolve.specs.declared.links.Link.{Link}
 use Rattle.krates_resolve.proofs.LinkLemmas.{links_for_all, all_new}
-use Rattle.krates_resolve.proofs.Zips.{zip_next, zip_all}
+use Rattle.krates_document.proofs.Zips.{zip_next, zip_all}
 use Rattle.krates_resolve.proofs.links.links_of.Goals as goal
 
 pub loop-node-preserved : goal.loop-node-preserved

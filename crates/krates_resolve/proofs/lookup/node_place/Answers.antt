@@ -1,7 +1,7 @@
 use Rattle.std.proofs.Common.{List, sym, subst}
 use Rattle.krates_ids.specs.Identity.{Identity}
 use Rattle.krates_resolve.specs.Lookup.{resolved_view}
-use Rattle.krates_resolve.specs.Resolved.{id_of}
+use Rattle.krates_rules.specs.Resolved.{id_of}
 use Rattle.krates_resolve.specs.Table.{IsPlaceOf, ArePlacesOf}
 use Rattle.krates_resolve.proofs.Lookups.{node_answer}
 use Rattle.krates_resolve.proofs.lookup.node_place.Goals as goal

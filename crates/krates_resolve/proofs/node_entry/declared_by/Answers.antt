@@ -1,7 +1,7 @@
 use Rattle.std.proofs.Common.{sym, ap, map}
 use Rattle.krates_cm.specs.Document.{dependency_view, package_view}
 use Rattle.krates_resolve.specs.Lookup.{resolved_view}
-use Rattle.krates_resolve.specs.Resolved.{id_of}
+use Rattle.krates_rules.specs.Resolved.{id_of}
 use Rattle.krates_resolve.proofs.Declared.{declared_here, none_declared}
 use Rattle.krates_resolve.proofs.node_entry.declared_by.Goals as goal
 

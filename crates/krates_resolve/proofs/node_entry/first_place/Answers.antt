@@ -2,7 +2,7 @@ use Rattle.std.proofs.Common.{◌≡◌, rules, tests}
 use Rattle.std.proofs.lemmas.Iterator.{IsFirst-from_position, YieldsList-from_slice}
 use Rattle.krates_cm.specs.Document.{dep_kind_info_view}
 use Rattle.krates_cm.specs.declared.resolve.DepKindInfo.{DepKindInfo}
-use Rattle.krates_resolve.proofs.FirstPlaces.{some_there, first_there}
+use Rattle.krates_document.proofs.FirstPlaces.{some_there, first_there}
 use Rattle.krates_resolve.proofs.node_entry.first_place.Goals as goal
 
 pub unreachable-requires : goal.unreachable-requires

@@ -1,10 +1,10 @@
 use Rattle.std.proofs.Common.{ℕ, MatchOption}
 use Rattle.std.proofs.lemmas.Result.{IfOk-weaker}
 use Rattle.krates_cm.specs.Document.{DependencyModel, dep_kind_info_view}
-use Rattle.krates_resolve.specs.Questions.{Declares}
-use Rattle.krates_resolve.specs.Facts.{Edge}
+use Rattle.krates_rules.specs.Questions.{Declares}
+use Rattle.krates_rules.specs.Facts.{Edge}
 use Rattle.krates_resolve.specs.Lookup.{resolved_view}
-use Rattle.krates_resolve.specs.Resolved.{id_of}
+use Rattle.krates_rules.specs.Resolved.{id_of}
 use Rattle.krates_resolve.proofs.Asked.{between, declared_told, undeclared_without}
 use Rattle.krates_resolve.proofs.questions.declared_in.Goals as goal
 

@@ -1,7 +1,7 @@
 use Rattle.std.proofs.Common.{sym}
 use Rattle.std.proofs.lemmas.Option.{slice_get_within}
 use Rattle.krates_resolve.specs.Lookup.{resolved_view}
-use Rattle.krates_resolve.specs.Resolved.{id_of}
+use Rattle.krates_rules.specs.Resolved.{id_of}
 use Rattle.krates_resolve.proofs.Asked.{no_dep_told, entry_told}
 use Rattle.krates_resolve.proofs.NodeParts.{deps_long}
 use Rattle.krates_resolve.proofs.questions.entry_between.Goals as goal

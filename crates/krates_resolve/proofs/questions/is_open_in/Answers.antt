@@ -1,6 +1,6 @@
 use Rattle.krates_cm.specs.Document.{dep_kind_info_view}
 use Rattle.krates_resolve.specs.Lookup.{resolved_view}
-use Rattle.krates_resolve.specs.Resolved.{id_of}
+use Rattle.krates_rules.specs.Resolved.{id_of}
 use Rattle.krates_resolve.proofs.Asked.{closed_without}
 use Rattle.krates_resolve.proofs.questions.is_open_in.Goals as goal
 

@@ -2,8 +2,8 @@ use Rattle.std.proofs.Common.{ℕ, ◌<◌, List, None, sym, subst}
 use Rattle.std.proofs.lemmas.Option.{slice_get_within}
 use Rattle.krates_ids.specs.Identity.{Identity}
 use Rattle.krates_resolve.specs.Lookup.{resolved_view}
-use Rattle.krates_resolve.specs.Resolved.{id_of}
-use Rattle.krates_resolve.specs.Table.{IsPlaceOf, StandsAt}
+use Rattle.krates_rules.specs.Resolved.{id_of, StandsAt}
+use Rattle.krates_resolve.specs.Table.{IsPlaceOf}
 use Rattle.krates_resolve.proofs.Asked.{parts_told}
 use Rattle.krates_resolve.proofs.Lookups.{node_answer}
 use Rattle.krates_resolve.proofs.NodeParts.{nodes_long}

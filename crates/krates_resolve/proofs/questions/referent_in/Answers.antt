@@ -1,10 +1,10 @@
 use Rattle.std.proofs.Common.{sym, ◌∙◌, subst}
 use Rattle.std.proofs.lemmas.Option.{slice_get_within, same_Some}
 use Rattle.krates_ids.specs.Identity.{Identity}
-use Rattle.krates_resolve.specs.Facts.{Id}
+use Rattle.krates_rules.specs.Facts.{Id}
 use Rattle.krates_resolve.specs.Lookup.{resolved_view}
-use Rattle.krates_resolve.specs.Referent.{IsReferent}
-use Rattle.krates_resolve.specs.Resolved.{id_of}
+use Rattle.krates_rules.specs.Referent.{IsReferent}
+use Rattle.krates_rules.specs.Resolved.{id_of}
 use Rattle.krates_resolve.proofs.NodeParts.{deps_long}
 use Rattle.krates_resolve.proofs.questions.referent_in.Goals as goal
 

@@ -2,9 +2,9 @@ use Rattle.std.proofs.Common.{◌+◌, Bor, List, map, sym, ap, ◌∙◌, subst
 use Rattle.std.proofs.lemmas.List.{take_all}
 use Rattle.krates_ids.specs.Identity.{Identity}
 use Rattle.krates_resolve.specs.Lookup.{resolved_view}
-use Rattle.krates_resolve.specs.Resolved.{id_of}
+use Rattle.krates_rules.specs.Resolved.{id_of}
 use Rattle.krates_resolve.specs.RootOrder.{ArePicked, nothing}
-use Rattle.krates_resolve.specs.Roots.{IsRoot}
+use Rattle.krates_rules.specs.Roots.{IsRoot}
 use Rattle.krates_resolve.proofs.Asked.{HasThoseOf, ids_in, root_put, root_passed}
 use Rattle.krates_resolve.proofs.questions.root_members.Goals as goal
 use Rattle.krates_resolve.proofs.questions.root_members.Goals.{then-is_root+in_ok-push, else-is_root}

@@ -1,5 +1,5 @@
 use Rattle.krates_resolve.specs.Lookup.{resolved_view}
-use Rattle.krates_resolve.specs.Roots.{IsRoot}
+use Rattle.krates_rules.specs.Roots.{IsRoot}
 use Rattle.krates_resolve.proofs.Asked.{HasThoseOf}
 use Rattle.krates_resolve.proofs.questions.root_members.Given as goal
 

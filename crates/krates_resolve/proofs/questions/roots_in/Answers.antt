@@ -2,9 +2,9 @@ use Rattle.std.proofs.Common.{List, All, map, true, false, sym, subst}
 use Rattle.std.proofs.lemmas.Result.{IfOk-weaker}
 use Rattle.krates_ids.specs.Identity.{Identity}
 use Rattle.krates_resolve.specs.Lookup.{resolved_view}
-use Rattle.krates_resolve.specs.Resolved.{id_of, IsMember}
+use Rattle.krates_rules.specs.Resolved.{id_of, IsMember}
 use Rattle.krates_resolve.specs.RootOrder.{ArePicked, alone}
-use Rattle.krates_resolve.specs.Roots.{IsRoot}
+use Rattle.krates_rules.specs.Roots.{IsRoot}
 use Rattle.krates_resolve.proofs.Asked.{ids_in, roots_told, members_in_order, one_root_told}
 use Rattle.krates_resolve.proofs.RootLemmas.{are_members}
 use Rattle.krates_resolve.proofs.questions.roots_in.Goals as goal

@@ -1,6 +1,6 @@
 use Rattle.krates_resolve.specs.Lookup.{resolved_view}
-use Rattle.krates_resolve.specs.Resolved.{id_of}
-use Rattle.krates_resolve.proofs.Standings.{not_included}
+use Rattle.krates_rules.specs.Resolved.{id_of}
+use Rattle.krates_rules.proofs.Standings.{not_included}
 use Rattle.krates_resolve.proofs.questions.stands.Goals as goal
 
 pub returns-in-NoPackage : goal.returns-in-NoPackage

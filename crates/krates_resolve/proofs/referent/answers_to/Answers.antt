@@ -1,9 +1,9 @@
 use Rattle.std.proofs.Common.{◌≡◌, ◌↔◌, IsTrue, rules, tests}
 use Rattle.krates_cm.specs.Document.{package_view, node_dep_view}
-use Rattle.krates_resolve.specs.DependencyName.{IsNameOf}
+use Rattle.krates_rules.specs.DependencyName.{IsNameOf}
 use Rattle.krates_resolve.specs.Lookup.{resolved_view}
-use Rattle.krates_resolve.specs.Referent.{IsLibraryRename}
-use Rattle.krates_resolve.specs.Resolved.{id_of}
+use Rattle.krates_rules.specs.Referent.{IsLibraryRename}
+use Rattle.krates_rules.specs.Resolved.{id_of}
 use Rattle.krates_resolve.proofs.Referents.{answers_told, not_answering}
 use Rattle.krates_resolve.proofs.referent.answers_to.Goals as goal
 

@@ -1,6 +1,6 @@
 use Rattle.std.proofs.Common.{◌≡◌, ◌↔◌, IsTrue, rules}
 use Rattle.krates_cm.specs.Document.{package_view, target_view, text_view}
-use Rattle.krates_resolve.specs.DependencyName.{IsNameOf}
+use Rattle.krates_rules.specs.DependencyName.{IsNameOf}
 use Rattle.krates_resolve.proofs.Referents.{renamed_told, not_renamed, no_library}
 use Rattle.krates_resolve.proofs.referent.is_library_rename.Goals as goal
 

@@ -5,8 +5,8 @@ use Rattle.krates_cm.specs.Document.{node_dep_view}
 use Rattle.krates_cm.specs.declared.resolve.NodeDep.{NodeDep}
 use Rattle.krates_resolve.specs.Lookup.{resolved_view}
 use Rattle.krates_resolve.specs.ReferentPlace.{IsBefore}
-use Rattle.krates_resolve.specs.Referent.{AnswersTo}
-use Rattle.krates_resolve.specs.Resolved.{id_of}
+use Rattle.krates_rules.specs.Referent.{AnswersTo}
+use Rattle.krates_rules.specs.Resolved.{id_of}
 use Rattle.krates_resolve.proofs.LeastReferents.{least_put, least_stays, least_passed, answers_here, not_here, least_within, referent_told, IsLeastBelow}
 use Rattle.krates_resolve.proofs.NodeParts.{deps_long}
 use Rattle.krates_resolve.proofs.referent.referent_of.Goals as goal

@@ -2,7 +2,7 @@ use Rattle.std.proofs.Common.{◌≡◌, Option, [], length, false, map, sym, ap
 use Rattle.std.proofs.lemmas.List.{nil_from_length}
 use Rattle.krates_cm.specs.Document.{text_view}
 use Rattle.krates_ids.specs.Identity.{Identity}
-use Rattle.krates_resolve.specs.Admission.{IsRootId}
+use Rattle.krates_rules.specs.Admission.{IsRootId}
 use Rattle.krates_resolve.specs.Lookup.{resolved_view}
 use Rattle.krates_resolve.proofs.RootLemmas.{graph_root}
 use Rattle.krates_resolve.proofs.roots.choice_of.Goals as goal

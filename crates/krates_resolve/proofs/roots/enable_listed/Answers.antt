@@ -1,13 +1,13 @@
 use Rattle.std.proofs.Common.{Contains, String, Global, map, sym, subst, arith, string_bytes}
 use Rattle.krates_cm.specs.Document.{Text, text_view}
-use Rattle.krates_resolve.specs.Facts.{Crate, Feature}
+use Rattle.krates_rules.specs.Facts.{Crate, Feature}
 use Rattle.krates_resolve.specs.Found.{HasFound, IsNamedIn, MayName}
 use Rattle.krates_resolve.specs.Lookup.{resolved_view}
-use Rattle.krates_resolve.specs.Resolved.{id_of}
+use Rattle.krates_rules.specs.Resolved.{id_of}
 use Rattle.krates_resolve.proofs.Growing.{advances_refl, advances_trans}
 use Rattle.krates_resolve.proofs.Heedings.{value_at}
 use Rattle.krates_resolve.proofs.RootLemmas.{listed_names, listed_may}
-use Rattle.krates_resolve.proofs.Seen.{seen_more, each_seen}
+use Rattle.krates_document.proofs.Seen.{seen_more, each_seen}
 use Rattle.krates_resolve.proofs.roots.enable_listed.Goals as goal
 
 pub loop-name-init : goal.loop-name-init

@@ -1,6 +1,6 @@
 use Rattle.krates_cm.specs.Document.{package_view}
 use Rattle.krates_resolve.specs.Lookup.{resolved_view}
-use Rattle.krates_resolve.specs.Resolved.{id_of}
+use Rattle.krates_rules.specs.Resolved.{id_of}
 use Rattle.krates_resolve.proofs.RootLemmas.{manifest_here}
 use Rattle.krates_resolve.proofs.roots.has_manifest.Goals as goal
 

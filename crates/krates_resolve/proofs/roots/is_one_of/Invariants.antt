@@ -2,7 +2,7 @@ use Rattle.std.proofs.Common.{◌≡◌, String}
 use Rattle.std.specs.declared.alloc.Global.{Global}
 use Rattle.krates_cm.specs.Document.{text_view}
 use Rattle.krates_text.specs.Path.{components}
-use Rattle.krates_resolve.proofs.Seen.{SeenBelow}
+use Rattle.krates_document.proofs.Seen.{SeenBelow}
 use Rattle.krates_resolve.proofs.roots.is_one_of.Given as goal
 
 -- none so far has the same components

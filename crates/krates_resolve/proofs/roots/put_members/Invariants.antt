@@ -1,9 +1,9 @@
 use Rattle.krates_ids.specs.Identity.{Identity}
 use Rattle.krates_resolve.specs.Found.{Advances, IsRooted}
 use Rattle.krates_resolve.specs.Lookup.{resolved_view}
-use Rattle.krates_resolve.specs.Resolved.{id_of}
-use Rattle.krates_resolve.specs.Roots.{IsRoot}
-use Rattle.krates_resolve.proofs.Seen.{SeenBelow}
+use Rattle.krates_rules.specs.Resolved.{id_of}
+use Rattle.krates_rules.specs.Roots.{IsRoot}
+use Rattle.krates_document.proofs.Seen.{SeenBelow}
 use Rattle.krates_resolve.proofs.roots.put_members.Given as goal
 
 -- each member so far that is a root stands in it

@@ -1,7 +1,7 @@
 use Rattle.std.proofs.lemmas.Result.{on_ok_weaker}
-use Rattle.krates_resolve.specs.Facts.{Crate}
+use Rattle.krates_rules.specs.Facts.{Crate}
 use Rattle.krates_resolve.specs.Lookup.{resolved_view}
-use Rattle.krates_resolve.specs.Resolved.{id_of}
+use Rattle.krates_rules.specs.Resolved.{id_of}
 use Rattle.krates_resolve.proofs.Growing.{advances_trans}
 use Rattle.krates_resolve.proofs.Growth.{has_put, crate_advances}
 use Rattle.krates_resolve.proofs.Heedings.{on_ok_both}

@@ -3,8 +3,8 @@ use Rattle.std.proofs.lemmas.Result.{on_ok_weaker}
 use Rattle.krates_ids.specs.Identity.{Identity}
 use Rattle.krates_resolve.specs.Found.{IsRooted}
 use Rattle.krates_resolve.specs.Lookup.{resolved_view}
-use Rattle.krates_resolve.specs.Resolved.{id_of, IsMember}
-use Rattle.krates_resolve.specs.Roots.{IsRoot}
+use Rattle.krates_rules.specs.Resolved.{id_of, IsMember}
+use Rattle.krates_rules.specs.Roots.{IsRoot}
 use Rattle.krates_resolve.proofs.RootLemmas.{are_members, members_rooted}
 use Rattle.krates_resolve.proofs.roots.put_roots.Goals as goal
 

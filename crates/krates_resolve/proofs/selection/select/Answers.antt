@@ -4,14 +4,14 @@ use Rattle.krates_cm.specs.Document.{Text, metadata_view, resolve_view}
 use Rattle.krates_cm.specs.declared.metadata.Metadata.{Metadata}
 use Rattle.krates_cm.specs.declared.resolve.Resolve.{Resolve}
 use Rattle.krates_ids.specs.Identity.{Identity}
-use Rattle.krates_resolve.specs.Admission.{NoneDoubled}
-use Rattle.krates_resolve.specs.Facts.{Id, Feature}
+use Rattle.krates_rules.specs.Admission.{NoneDoubled}
+use Rattle.krates_rules.specs.Facts.{Id, Feature}
 use Rattle.krates_resolve.specs.Found.{IsEnabled}
 use Rattle.krates_resolve.specs.ListedFeatures.{listed_features}
 use Rattle.krates_resolve.specs.Lookup.{resolved_view}
-use Rattle.krates_resolve.specs.Resolved.{Resolved, resolved}
+use Rattle.krates_rules.specs.Resolved.{Resolved, resolved}
 use Rattle.krates_resolve.specs.Selection.{IsSelection, feature_fact}
-use Rattle.krates_resolve.specs.declared.ids.Ids.{Ids}
+use Rattle.krates_document.specs.declared.ids.Ids.{Ids}
 use Rattle.krates_resolve.specs.declared.selection.Selection.{Selection}
 use Rattle.krates_resolve.proofs.NodeParts.{nodes_long}
 use Rattle.krates_resolve.proofs.Selected.{AreAt, IsWhole, IsInOrder, has_element, selected}

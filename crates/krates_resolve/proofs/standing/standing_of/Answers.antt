@@ -1,7 +1,7 @@
 use Rattle.krates_cm.specs.Document.{package_view}
 use Rattle.krates_resolve.specs.Lookup.{resolved_view}
-use Rattle.krates_resolve.specs.Resolved.{id_of}
-use Rattle.krates_resolve.proofs.Standings.{stands_at}
+use Rattle.krates_rules.specs.Resolved.{id_of}
+use Rattle.krates_rules.proofs.Standings.{stands_at}
 use Rattle.krates_resolve.proofs.standing.standing_of.Goals as goal
 
 pub returns-in-Some-node_place : goal.returns-in-Some-node_place

@@ -1,4 +1,4 @@
-use Rattle.krates_resolve.specs.Ids.{ids_view}
+use Rattle.krates_document.specs.Ids.{ids_view}
 use Rattle.krates.proofs.SeenLemmas.{admitted_seen, sees_built, sees_refused}
 use Rattle.krates.proofs.builder.Builder.build_with_metadata.Goals as goal
 

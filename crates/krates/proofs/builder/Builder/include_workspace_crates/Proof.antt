@@ -6,7 +6,7 @@ use Rattle.std.specs.Bool.{MatchBool}
 use denote.Signature.{Slot, shr_slice_of}
 use denote.Slice.{shr_slice_vals, shr_slice_Tells, shr_slice_Lawful}
 use denote.Text.{StrRefOf}
-use Rattle.krates_resolve.specs.Setting.{AsksForPaths}
+use Rattle.krates_rules.specs.Setting.{AsksForPaths}
 use Rattle.krates.specs.BuilderModel.{BuilderModel}
 use Rattle.std.proofs.VecSteps.Shapes.{after}
 use base.Fml.{Incl}

@@ -1,8 +1,7 @@
 use Rattle.std.proofs.Common.{◌≡◌, ℕ, List, Some, None, get_or, slice_get, rules, arith, sym, ap, subst}
 use Rattle.krates_ids.specs.Identity.{Identity}
 use Rattle.krates_cm.specs.Document.{Text}
-use Rattle.krates_resolve.specs.Resolved.{id_of}
-use Rattle.krates_resolve.specs.Table.{StandsAt}
+use Rattle.krates_rules.specs.Resolved.{id_of, StandsAt}
 use Rattle.krates.specs.Kept.{KeptCrates, names_in, names_in_each}
 use Rattle.krates.specs.Krate.{krate_ids}
 use Rattle.krates.proofs.EnabledLemmas.{place_within, names_at}

@@ -1,7 +1,6 @@
 use Rattle.std.proofs.Common.{rules, ◌≡◌, ◌<◌, ◌^◌, ◌∙◌, ℕ, List, None, Some, length, arith, sym, ap, subst}
 use Rattle.krates_ids.specs.Identity.{Identity}
-use Rattle.krates_resolve.specs.Resolved.{id_of}
-use Rattle.krates_resolve.specs.Table.{StandsAt}
+use Rattle.krates_rules.specs.Resolved.{id_of, StandsAt}
 use Rattle.krates.specs.Kept.{KeptCrates}
 use Rattle.krates.specs.Krate.{krate_ids}
 use Rattle.krates.proofs.OrderedIds.{stands_within}

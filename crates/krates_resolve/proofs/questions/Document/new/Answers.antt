@@ -1,7 +1,7 @@
 use Rattle.std.proofs.Common.{◌≡◌, sym, ap, ◌∙◌, subst, option_map}
 use Rattle.std.proofs.lemmas.Option.{same_Some}
 use Rattle.krates_cm.specs.Document.{metadata_view, resolve_view}
-use Rattle.krates_resolve.specs.Admission.{NoneDoubled}
+use Rattle.krates_rules.specs.Admission.{NoneDoubled}
 use Rattle.krates_resolve.proofs.questions.Document.new.Goals as goal
 
 pub lookup_of-requires-clause-distinct : goal.lookup_of-requires-clause-distinct

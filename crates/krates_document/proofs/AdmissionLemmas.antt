@@ -1,0 +1,211 @@
+-- How the parts of a document's ids make the whole.
+use Rattle.std.proofs.Common.{◌≡◌, ℕ, zero, suc, ◌<◌, List, [], ◌∷◌, length, get_or, Contains, Some, lit<, refl, ap, sym, ◌∙◌, subst, inl, inr, arith, string_bytes, map}
+use Rattle.std.specs.List.{AllZip, AllByRecursion}
+use Rattle.std.proofs.lemmas.Simd.{map-map}
+use Rattle.krates_cm.specs.Document.{Text, NodeModel, ResolveModel, MetadataModel, id_view, node_view, node_dep_view, package_view, resolve_view, metadata_view}
+use Rattle.krates_cm.specs.declared.metadata.Metadata.{Metadata}
+use Rattle.krates_cm.specs.declared.package.Package.{Package}
+use Rattle.krates_cm.specs.declared.resolve.Resolve.{Resolve}
+use Rattle.krates_cm.specs.declared.resolve.Node.{Node}
+use Rattle.krates_cm.specs.declared.resolve.NodeDep.{NodeDep}
+use Rattle.krates_cm.specs.declared.package_id.PackageId.{PackageId}
+use Rattle.krates_ids.specs.Identity.{Identity, Reads, Fault, IsFault}
+use Rattle.krates_ids.specs.declared.error.Error.{Error}
+use Rattle.krates_ids.specs.declared.error.Error.TheVariants as errors
+use Rattle.krates_rules.specs.Admission.{package_texts, node_texts, dep_texts, StandsForId, of_dep, IsInvalidId, unread, bad_version, AreDepIds, AreIdsOf, StandsTwice, IsDoubled, doubled_package, doubled_node, doubled_dep, NoneDoubled, IdsModel}
+use Rattle.krates_rules.specs.AdmissionRefusals.{IsRefused}
+use Rattle.krates_document.specs.AdmissionSteps.{IsBadId, IsUnread, IsBadText, IsBadDep, IsBadNode, StandsTwiceAmong, AreDistinct, AreAllDistinct, IsTwice, IsTwiceIn, StandsTwiceWithin, among_packages, among_nodes, among_deps, IsTwiceWithin}
+use Rattle.krates_rules.specs.Facts.{Id}
+use Rattle.krates_rules.specs.Resolved.{id_of}
+use Rattle.krates_rules.proofs.Readings.{left_of, right_of, ReadsOnce}
+
+-- no text with a fault is read
+abbrev pub FaultsAreUnread : Type 0
+FaultsAreUnread = (t : Text) (i : Identity) (fault : Fault) → Reads t i → IsFault t fault → ⊥
+
+-- an id that is handed back with a true fault is no id
+pub back_unread : (id copy back : PackageId) (fault : Fault) → FaultsAreUnread → string_bytes copy.repr ≡ string_bytes id.repr → back ≡ copy → IsFault (id_view copy) fault
+    → Contains (id_view id ∷ []) (id_view back) × ((i : Identity) → Reads (id_view back) i → ⊥)
+back_unread id copy back fault law same is true_of =
+    let e : id_view back ≡ id_view id = ap id_view is ∙ same in
+    let f : IsFault (id_view back) fault = subst (λ (t : PackageId). IsFault (id_view t) fault) (sym is) true_of in
+    ((0, lit< tt, sym e), λ i r. law (id_view back) i fault r f)
+
+-- the ids of the packages and of the nodes, as the code and as the definitions see them
+pub package_texts_of : (m : Metadata) → package_texts (metadata_view m) ≡ map (λ (p : Package). id_view p.id) m.packages.items
+package_texts_of m = map-map (λ p. p.id) package_view m.packages.items
+
+pub node_texts_of : (g : Resolve) → node_texts (resolve_view g) ≡ map (λ (n : Node). id_view n.id) g.nodes.items
+node_texts_of g = map-map (λ n. n.id) node_view g.nodes.items
+
+-- the ids of a node's dependencies, as the code and as the definitions see them
+pub dep_texts_of : (n : Node) → dep_texts (node_view n) ≡ map (λ (d : NodeDep). id_view d.pkg) n.deps.items
+dep_texts_of n = map-map (λ d. d.pkg) node_dep_view n.deps.items
+
+-- a bad dependency of a node is one of the nodes
+pub bad_node : (nodes : List NodeModel) (n : NodeModel) → Contains nodes n → (e : Error) → IsBadDep (dep_texts n) e → IsBadNode nodes e
+bad_node nodes n among (errors.InvalidId t) h = (n, among, h.0, h.1)
+bad_node nodes n among errors.Memory h = tt
+bad_node nodes n among errors.NoResolveGraph h = absurd h
+bad_node nodes n among (errors.Metadata x) h = absurd h
+bad_node nodes n among (errors.InvalidPkgSpec x) h = absurd h
+bad_node nodes n among errors.NoRootKrates h = absurd h
+bad_node nodes n among (errors.Doubled x) h = absurd h
+bad_node nodes n among (errors.Lost x) h = absurd h
+bad_node nodes n among errors.TooMany h = absurd h
+
+-- ---- what is wrong with an id is wrong with the document
+
+pub unread_bad : (m : MetadataModel) (g : ResolveModel) (texts : List Text) → ((t : Text) → Contains texts t → StandsForId m g t) → (e : Error) → IsUnread texts e → IsBadId m g e
+unread_bad m g texts stands (errors.InvalidId t) h = unread (stands (string_bytes t) h.0) h.1
+unread_bad m g texts stands (errors.Doubled kid) h = absurd h
+unread_bad m g texts stands errors.Memory h = tt
+unread_bad m g texts stands (errors.Metadata x) h = absurd h
+unread_bad m g texts stands (errors.InvalidPkgSpec x) h = absurd h
+unread_bad m g texts stands errors.NoRootKrates h = absurd h
+unread_bad m g texts stands (errors.Lost x) h = absurd h
+unread_bad m g texts stands errors.TooMany h = absurd h
+unread_bad m g texts stands errors.NoResolveGraph h = absurd h
+
+bad_text : (m : MetadataModel) (g : ResolveModel) (n : NodeModel) (t : Text) → Contains g.nodes n → Contains (dep_texts n) t → IsBadText t → IsInvalidId m g t
+bad_text m g n t among has (inl none) = unread (of_dep n among has) none
+bad_text m g n t among has (inr w) = bad_version n among has w.0 w.1 w.2
+
+pub node_bad : (m : MetadataModel) (g : ResolveModel) (e : Error) → IsBadNode g.nodes e → IsBadId m g e
+node_bad m g (errors.InvalidId t) h = bad_text m g h.0 (string_bytes t) h.1 h.2 h.3
+node_bad m g (errors.Doubled kid) h = absurd h
+node_bad m g errors.Memory h = tt
+node_bad m g (errors.Metadata x) h = absurd h
+node_bad m g (errors.InvalidPkgSpec x) h = absurd h
+node_bad m g errors.NoRootKrates h = absurd h
+node_bad m g (errors.Lost x) h = absurd h
+node_bad m g errors.TooMany h = absurd h
+node_bad m g errors.NoResolveGraph h = absurd h
+
+-- a document with such an id is refused
+pub bad_refused : (m : MetadataModel) (g : ResolveModel) → m.resolve ≡ Some g → (e : Error) → IsBadId m g e → IsRefused m e
+bad_refused m g is (errors.InvalidId t) h = record { graph = g; has_graph = is; holds = h }
+bad_refused m g is (errors.Doubled kid) h = absurd h
+bad_refused m g is errors.Memory h = tt
+bad_refused m g is (errors.Metadata x) h = absurd h
+bad_refused m g is (errors.InvalidPkgSpec x) h = absurd h
+bad_refused m g is errors.NoRootKrates h = absurd h
+bad_refused m g is (errors.Lost x) h = absurd h
+bad_refused m g is errors.TooMany h = absurd h
+bad_refused m g is errors.NoResolveGraph h = absurd h
+
+-- ---- what stands twice
+
+pub twice_packages : (ids : IdsModel) (e : Error) → IsTwice ids.packages e → IsTwiceWithin ids e
+twice_packages ids (errors.InvalidId t) h = absurd h
+twice_packages ids (errors.Doubled kid) h = among_packages h
+twice_packages ids errors.Memory h = tt
+twice_packages ids (errors.Metadata x) h = absurd h
+twice_packages ids (errors.InvalidPkgSpec x) h = absurd h
+twice_packages ids errors.NoRootKrates h = absurd h
+twice_packages ids (errors.Lost x) h = absurd h
+twice_packages ids errors.TooMany h = absurd h
+twice_packages ids errors.NoResolveGraph h = absurd h
+
+pub twice_nodes : (ids : IdsModel) (e : Error) → IsTwice ids.nodes e → IsTwiceWithin ids e
+twice_nodes ids (errors.InvalidId t) h = absurd h
+twice_nodes ids (errors.Doubled kid) h = among_nodes h
+twice_nodes ids errors.Memory h = tt
+twice_nodes ids (errors.Metadata x) h = absurd h
+twice_nodes ids (errors.InvalidPkgSpec x) h = absurd h
+twice_nodes ids errors.NoRootKrates h = absurd h
+twice_nodes ids (errors.Lost x) h = absurd h
+twice_nodes ids errors.TooMany h = absurd h
+twice_nodes ids errors.NoResolveGraph h = absurd h
+
+pub twice_deps : (ids : IdsModel) (e : Error) → IsTwiceIn ids.deps e → IsTwiceWithin ids e
+twice_deps ids (errors.InvalidId t) h = absurd h
+twice_deps ids (errors.Doubled kid) h = among_deps h.0 h.1 h.2
+twice_deps ids errors.Memory h = tt
+twice_deps ids (errors.Metadata x) h = absurd h
+twice_deps ids (errors.InvalidPkgSpec x) h = absurd h
+twice_deps ids errors.NoRootKrates h = absurd h
+twice_deps ids (errors.Lost x) h = absurd h
+twice_deps ids errors.TooMany h = absurd h
+twice_deps ids errors.NoResolveGraph h = absurd h
+
+twice_texts : (texts : List Text) (ids : List Identity) (id : Id) → AllZip Reads texts ids → StandsTwiceAmong ids id → StandsTwice texts id
+twice_texts texts ids id z t =
+    let one = left_of Reads texts ids t.first t.one z t.at_first in
+    let other = left_of Reads texts ids t.second t.other z t.at_second in
+    record {
+      first = t.first;
+      second = t.second;
+      apart = t.apart;
+      one = one.0;
+      other = other.0;
+      at_first = one.1;
+      at_second = other.1;
+      one_reads = record { read = t.one; reads = one.2; same = t.one_is };
+      other_reads = record { read = t.other; reads = other.2; same = t.other_is };
+    }
+
+texts_twice : ReadsOnce → (texts : List Text) (ids : List Identity) (id : Id) → AllZip Reads texts ids → StandsTwice texts id → StandsTwiceAmong ids id
+texts_twice once texts ids id z t =
+    let one = right_of Reads texts ids t.first t.one z t.at_first in
+    let other = right_of Reads texts ids t.second t.other z t.at_second in
+    record {
+      first = t.first;
+      second = t.second;
+      apart = t.apart;
+      one = one.0;
+      other = other.0;
+      at_first = one.1;
+      at_second = other.1;
+      one_is = ap id_of (once t.one one.0 t.one_reads.read one.2 t.one_reads.reads) ∙ t.one_reads.same;
+      other_is = ap id_of (once t.other other.0 t.other_reads.read other.2 t.other_reads.reads) ∙ t.other_reads.same;
+    }
+
+-- the dependencies of a node, and their ids
+dep_list : (nodes : List NodeModel) (lists : List (List Identity)) (n : NodeModel) (k : ℕ) → AllZip AreDepIds nodes lists → k < length nodes → get_or nodes k n ≡ n → (list : List Identity) × Contains lists list × AreDepIds n list
+dep_list [] lists n k z lt is = absurd (omega arith)
+dep_list (m ∷ nodes) [] n k z lt is = absurd z
+dep_list (m ∷ nodes) (l ∷ lists) n zero z lt is = (l, (0, omega arith, refl), subst (λ x. AreDepIds x l) is z.0)
+dep_list (m ∷ nodes) (l ∷ lists) n (suc k) z lt is =
+    let w = dep_list nodes lists n k z.1 (omega arith) is in
+    (w.0, (suc w.1.0, omega (arith, w.1.1), w.1.2), w.2)
+
+list_deps : (nodes : List NodeModel) (lists : List (List Identity)) (l : List Identity) (k : ℕ) → AllZip AreDepIds nodes lists → k < length lists → get_or lists k l ≡ l → (n : NodeModel) × Contains nodes n × AreDepIds n l
+list_deps nodes [] l k z lt is = absurd (omega arith)
+list_deps [] (x ∷ lists) l k z lt is = absurd z
+list_deps (n ∷ nodes) (x ∷ lists) l zero z lt is = (n, (0, omega arith, refl), subst (AreDepIds n) is z.0)
+list_deps (n ∷ nodes) (x ∷ lists) l (suc k) z lt is =
+    let w = list_deps nodes lists l k z.1 (omega arith) is in
+    (w.0, (suc w.1.0, omega (arith, w.1.1), w.1.2), w.2)
+
+each_at : {A : Type 0} (P : A → Type 0) (xs : List A) (x : A) (k : ℕ) → AllByRecursion P xs → k < length xs → get_or xs k x ≡ x → P x
+each_at P [] x k h lt is = absurd (omega arith)
+each_at P (y ∷ xs) x zero h lt is = subst P is h.0
+each_at P (y ∷ xs) x (suc k) h lt is = each_at P xs x k h.1 (omega arith) is
+
+-- no id is doubled in a document whose ids are distinct
+pub none_doubled : ReadsOnce → (m : MetadataModel) (g : ResolveModel) (ids : IdsModel) → AreIdsOf m g ids → AreAllDistinct ids → NoneDoubled m g
+none_doubled once m g ids are distinct id (doubled_package t) = distinct.packages id (texts_twice once _ _ id are.packages t)
+none_doubled once m g ids are distinct id (doubled_node t) = distinct.nodes id (texts_twice once _ _ id are.nodes t)
+none_doubled once m g ids are distinct id (doubled_dep n among t) =
+    let w = dep_list g.nodes ids.deps n among.0 are.deps among.1 among.2 in
+    each_at AreDistinct ids.deps w.0 w.1.0 distinct.deps w.1.1 w.1.2 id (texts_twice once _ _ id w.2.read t)
+
+doubled_of : (m : MetadataModel) (g : ResolveModel) (ids : IdsModel) (id : Id) → AreIdsOf m g ids → StandsTwiceWithin ids id → IsDoubled m g id
+doubled_of m g ids id are (among_packages t) = doubled_package (twice_texts _ _ id are.packages t)
+doubled_of m g ids id are (among_nodes t) = doubled_node (twice_texts _ _ id are.nodes t)
+doubled_of m g ids id are (among_deps list among t) =
+    let w = list_deps g.nodes ids.deps list among.0 are.deps among.1 among.2 in
+    doubled_dep w.0 w.1 (twice_texts _ _ id w.2.read t)
+
+-- a document in which an id stands twice is refused
+pub twice_refused : (m : MetadataModel) (g : ResolveModel) (ids : IdsModel) → m.resolve ≡ Some g → AreIdsOf m g ids → (e : Error) → IsTwiceWithin ids e → IsRefused m e
+twice_refused m g ids is are (errors.InvalidId t) h = absurd h
+twice_refused m g ids is are (errors.Doubled kid) h = record { graph = g; has_graph = is; holds = doubled_of m g ids (id_of kid) are h }
+twice_refused m g ids is are errors.Memory h = tt
+twice_refused m g ids is are (errors.Metadata x) h = absurd h
+twice_refused m g ids is are (errors.InvalidPkgSpec x) h = absurd h
+twice_refused m g ids is are errors.NoRootKrates h = absurd h
+twice_refused m g ids is are (errors.Lost x) h = absurd h
+twice_refused m g ids is are errors.TooMany h = absurd h
+twice_refused m g ids is are errors.NoResolveGraph h = absurd h

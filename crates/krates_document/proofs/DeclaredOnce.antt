@@ -1,0 +1,78 @@
+-- At most one dependency is the declared one, and where it is found.
+use Rattle.std.proofs.Common.{◌≡◌, ℕ, zero, suc, ◌+◌, ◌-◌, ◌<◌, List, [], ◌∷◌, drop, slice_get, Option, Some, None, true, false, MatchOption, refl, sym, ap, ◌∙◌, arith, inl, inr}
+use Rattle.std.specs.Option.{is_some}
+use Rattle.std.proofs.lemmas.Bool.{cases_order}
+use Rattle.std.proofs.lemmas.Option.{same_Some}
+use Rattle.krates_cm.specs.Document.{DependencyModel, DepKindInfoModel}
+use Rattle.krates_rules.specs.DeclaredDependency.{DependencyEntry, FirstAt, Fits, FitsBySource, SeveralFit, IsFirstPlace, IsDeclared, IsUndeclared}
+
+-- the first element is one, and so is its place
+one_first : {A : Type 0} (P : A → Type 0) (xs : List A) (j k : ℕ) (x y : A) → FirstAt P xs j x → FirstAt P xs k y → (j ≡ k) × (x ≡ y)
+one_first P xs j k x y a b = elim (cases_order j k) [
+  | inl e ↦ (e, same_Some x y (sym a.here ∙ ap (λ n. slice_get xs n) e ∙ b.here))
+  | inr r ↦ elim r [ inl lt ↦ absurd (b.before j x lt a.here a.holds) | inr lt ↦ absurd (a.before k y lt b.here b.holds) ]
+]
+
+-- at most one dependency is declared, at one place
+pub declared_once : (ds : List DependencyModel) (n : DependencyEntry) (k : DepKindInfoModel) (p q : ℕ) (d e : DependencyModel) → IsDeclared ds n k p d → IsDeclared ds n k q e → (p ≡ q) × (d ≡ e)
+declared_once ds n k p q d e (inl a) (inl b) = one_first (Fits n k) ds p q d e a.1 b.1
+declared_once ds n k p q d e (inl a) (inr b) = absurd (a.0 b.0)
+declared_once ds n k p q d e (inr a) (inl b) = absurd (b.0 a.0)
+declared_once ds n k p q d e (inr a) (inr b) = one_first (FitsBySource n k) ds p q d e a.1 b.1
+
+-- the declared dependency stands at its place
+pub declared_stands : (ds : List DependencyModel) (n : DependencyEntry) (k : DepKindInfoModel) (place : ℕ) (d : DependencyModel) → IsDeclared ds n k place d → slice_get ds place ≡ Some d
+declared_stands ds n k place d (inl a) = a.1.here
+declared_stands ds n k place d (inr a) = a.1.here
+
+-- ---- how it is found
+
+-- what stands behind a place
+behind : {A : Type 0} (xs : List A) (n k m : ℕ) → n + k ≡ m → slice_get (drop n xs) k ≡ slice_get xs m
+behind xs zero k m e = ap (λ j. slice_get xs j) (omega arith)
+behind [] (suc n) k m e = refl
+behind (x ∷ xs) (suc n) k zero e = absurd (omega arith)
+behind (x ∷ xs) (suc n) k (suc m) e = behind xs n k m (omega arith)
+
+-- where none fits, none is declared
+pub none_fits : (ds : List DependencyModel) (n : DependencyEntry) (k : DepKindInfoModel) → ((place : ℕ) (d : DependencyModel) → slice_get ds place ≡ Some d → Fits n k d → ⊥) → IsUndeclared ds n k
+none_fits ds n k none place d (inl a) = none place d a.1.here a.1.holds
+none_fits ds n k none place d (inr a) = none place d a.1.here a.1.holds.fits
+
+-- where none fits behind the first, the first is declared
+pub one_fits : (ds rest : List DependencyModel) (n : DependencyEntry) (k : DepKindInfoModel) (place : ℕ) (d : DependencyModel) (r : Option ℕ) → FirstAt (Fits n k) ds place d → rest ≡ drop (place + 1) ds
+    → IsFirstPlace (Fits n k) rest r → is_some r ≡ false → IsDeclared ds n k place d
+one_fits ds rest n k place d (Some j) first is found e = absurd cc
+one_fits ds rest n k place d None first is none e =
+    let not_behind : (s : SeveralFit ds n k) → place < s.second → ⊥ = λ s lt.
+    let j = s.second - (place + 1) in
+    none j s.other (ap (λ l. slice_get l j) is ∙ behind ds (place + 1) j s.second (omega arith) ∙ s.at_second) s.other_fits in
+    inl (
+      λ s. elim (cases_order s.first place) [
+        | inl e ↦ not_behind s (omega (arith, s.apart))
+        | inr r ↦ elim r [ inl lt ↦ first.before s.first s.one lt s.at_first s.one_fits | inr lt ↦ not_behind s (omega (arith, s.apart)) ]
+      ],
+      first,
+    )
+
+-- where another fits behind the first, several fit
+pub several_fit : (ds rest : List DependencyModel) (n : DependencyEntry) (k : DepKindInfoModel) (place : ℕ) (d : DependencyModel) (r : Option ℕ) → FirstAt (Fits n k) ds place d → rest ≡ drop (place + 1) ds
+    → IsFirstPlace (Fits n k) rest r → is_some r ≡ true → SeveralFit ds n k
+several_fit ds rest n k place d None first is none e = absurd cc
+several_fit ds rest n k place d (Some j) first is found e = record {
+  first = place;
+  second = place + 1 + j;
+  apart = omega arith;
+  one = d;
+  other = found.0;
+  at_first = first.here;
+  at_second = sym (behind ds (place + 1) j (place + 1 + j) refl) ∙ ap (λ l. slice_get l j) (sym is) ∙ found.1.here;
+  one_fits = first.holds;
+  other_fits = found.1.holds;
+}
+
+-- where several fit, the first of them that has the source is declared
+pub first_of_source : (ds : List DependencyModel) (n : DependencyEntry) (k : DepKindInfoModel) (r : Option ℕ) → SeveralFit ds n k → IsFirstPlace (FitsBySource n k) ds r
+    → MatchOption r (IsUndeclared ds n k) (λ place. (d : DependencyModel) × IsDeclared ds n k place d)
+first_of_source ds n k (Some place) several found = (found.0, inr (several, found.1))
+first_of_source ds n k None several none = λ place d h. elim h [ inl a ↦ a.0 several | inr a ↦ none place d a.1.here a.1.holds ]

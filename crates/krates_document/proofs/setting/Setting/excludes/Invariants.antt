@@ -1,0 +1,10 @@
+use Rattle.krates_cm.specs.Document.{package_view}
+use Rattle.krates_ids.specs.PackageSpecification.{SpecFits}
+use Rattle.krates_ids.specs.SpecificationAnswers.{spec_view}
+use Rattle.krates_ids.specs.declared.pkgspec.PkgSpec.{PkgSpec}
+use Rattle.krates_document.proofs.Seen.{SeenBelow}
+use Rattle.krates_document.proofs.setting.Setting.excludes.Given as goal
+
+-- none so far fits
+abbrev pub invariant-loop-spec : goal.invariant-loop-spec
+invariant-loop-spec l = SeenBelow (λ (spec : PkgSpec). SpecFits (spec_view spec) (package_view l.pkg) → ⊥) l.spec-items l.spec-index

@@ -1,0 +1,81 @@
+-- How a document is found to be admitted or refused, step by step.
+use Rattle.std.specs.Prelude.{string_bytes, ⊤, List, Contains, ◌≡◌, ◌⊎◌, None, ℕ, ◌<◌, Some, slice_get}
+use Rattle.krates_cm.specs.Document.{ResolveModel, MetadataModel, Text, NodeModel}
+use Rattle.krates_ids.specs.declared.error.Error.{Error}
+use Rattle.krates_ids.specs.declared.error.Error.TheVariants as errors
+use Rattle.krates_rules.specs.Admission.{IsInvalidId, dep_texts, IdsModel}
+use Rattle.krates_ids.specs.Identity.{Identity, Reads}
+use Rattle.krates_cm.specs.Names.{version_named}
+use Rattle.krates_rules.specs.Facts.{Id}
+use Rattle.krates_rules.specs.Resolved.{id_of}
+use Rattle.std.specs.List.{AllByRecursion}
+
+-- an id of the document is invalid
+abbrev pub IsBadId : MetadataModel → ResolveModel → Error → Type 0
+IsBadId m g (errors.InvalidId t) = IsInvalidId m g (string_bytes t)
+IsBadId m g errors.Memory = ⊤
+IsBadId m g _ = ⊥
+
+-- one of the texts is no id
+abbrev pub IsUnread : List Text → Error → Type 0
+IsUnread texts (errors.InvalidId t) = Contains texts (string_bytes t) × ((i : Identity) → Reads (string_bytes t) i → ⊥)
+IsUnread texts errors.Memory = ⊤
+IsUnread texts _ = ⊥
+
+-- the text is no id, or that of a dependency without a semantic version
+abbrev pub IsBadText : Text → Type 0
+IsBadText t = ((i : Identity) → Reads t i → ⊥) ⊎ ((i : Identity) × Reads t i × (version_named i.version ≡ None))
+
+-- one of the texts is bad
+abbrev pub IsBadDep : List Text → Error → Type 0
+IsBadDep texts (errors.InvalidId t) = Contains texts (string_bytes t) × IsBadText (string_bytes t)
+IsBadDep texts errors.Memory = ⊤
+IsBadDep texts _ = ⊥
+
+-- a dependency of one of the nodes is
+abbrev pub IsBadNode : List NodeModel → Error → Type 0
+IsBadNode nodes (errors.InvalidId t) = (n : NodeModel) × Contains nodes n × Contains (dep_texts n) (string_bytes t) × IsBadText (string_bytes t)
+IsBadNode nodes errors.Memory = ⊤
+IsBadNode nodes _ = ⊥
+
+-- the id stands at two places of a list of ids
+pub record StandsTwiceAmong (ids : List Identity) (id : Id) : Type 0 where
+  pub first : ℕ
+  pub second : ℕ
+  pub apart : first < second
+  pub one : Identity
+  pub other : Identity
+  pub at_first : slice_get ids first ≡ Some one
+  pub at_second : slice_get ids second ≡ Some other
+  pub one_is : id_of one ≡ id
+  pub other_is : id_of other ≡ id
+
+abbrev pub AreDistinct : List Identity → Type 0
+AreDistinct ids = (id : Id) → StandsTwiceAmong ids id → ⊥
+
+abbrev pub IsTwice : List Identity → Error → Type 0
+IsTwice ids (errors.Doubled kid) = StandsTwiceAmong ids (id_of kid)
+IsTwice ids errors.Memory = ⊤
+IsTwice ids _ = ⊥
+
+-- the id stands twice in one of the lists
+abbrev pub IsTwiceIn : List (List Identity) → Error → Type 0
+IsTwiceIn lists (errors.Doubled kid) = (ids : List Identity) × Contains lists ids × StandsTwiceAmong ids (id_of kid)
+IsTwiceIn lists errors.Memory = ⊤
+IsTwiceIn lists _ = ⊥
+
+pub record AreAllDistinct (ids : IdsModel) : Type 0 where
+  pub packages : AreDistinct ids.packages
+  pub nodes : AreDistinct ids.nodes
+  pub deps : AllByRecursion AreDistinct ids.deps
+
+-- the id stands twice among the packages, the nodes, or the dependencies of a node
+pub data StandsTwiceWithin (ids : IdsModel) (id : Id) : Type 0 where
+  among_packages : StandsTwiceAmong ids.packages id → StandsTwiceWithin ids id
+  among_nodes : StandsTwiceAmong ids.nodes id → StandsTwiceWithin ids id
+  among_deps : (list : List Identity) → Contains ids.deps list → StandsTwiceAmong list id → StandsTwiceWithin ids id
+
+abbrev pub IsTwiceWithin : IdsModel → Error → Type 0
+IsTwiceWithin ids (errors.Doubled kid) = StandsTwiceWithin ids (id_of kid)
+IsTwiceWithin ids errors.Memory = ⊤
+IsTwiceWithin ids _ = ⊥

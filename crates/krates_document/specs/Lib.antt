@@ -1,0 +1,2 @@
+pub mod AdmissionSteps
+pub mod Ids

@@ -1,0 +1,221 @@
+//! Which documents can be resolved at all.
+
+ghost use Rattle.std.specs.Prelude.{◌≡◌, IfOk, IfErr, OnOk, None, [], ◌∷◌, MatchBool, map, option_map, option_to_list};
+ghost use Rattle.std.specs.List.{AllZip, AllByRecursion};
+ghost use Rattle.krates_cm.specs.Document.{Text, id_view, node_view, resolve_view, metadata_view};
+ghost use Rattle.krates_cm.specs.Names.{version_named};
+ghost use Rattle.krates_ids.specs.Identity.{Reads};
+ghost use Rattle.krates_rules.specs.Admission.{HasVersion, AreDepIds, IsRootId, AreIdsOf, IsAdmitted};
+ghost use Rattle.krates_rules.specs.AdmissionRefusals.{IsRefused};
+ghost use Rattle.krates_document.specs.AdmissionSteps.{IsBadId, IsUnread, IsBadDep, IsBadNode, AreDistinct, IsTwice, IsTwiceIn, AreAllDistinct, IsTwiceWithin};
+ghost use Rattle.krates_document.specs.Ids.{ids_view};
+
+use crate::declared_dependency::version_of;
+use crate::ids::Ids;
+use krates_cm::{Metadata, Node, NodeDep, Package, PackageId, Resolve};
+use krates_ids::{Error, IdError, Kid, laws};
+use std::alloc::{AllocError, Global};
+use std::collections::BTreeSet;
+
+/// Reads the ids of a document, and refuses a document that can't be resolved.
+///
+/// The answer has an id for each place at which one has to stand. It is refused, in this order of classes: as
+/// `NoResolveGraph` where the document has no resolved graph; as `InvalidId` where the text of a package, a member, the
+/// root, a node or a node's dependency isn't an id, or the version of such a dependency isn't semantic; or as `Doubled`
+/// where two packages, two nodes or two dependencies of one node have the same id. Which of several true refusals of the
+/// last two is named is left open. `Memory` may stand in place of any answer.
+pub fn admit(alloc: Global, metadata: &Metadata) -> Result<Ids, Error>
+    ensures admitted { IfOk result (λ ids. IsAdmitted (metadata_view metadata.now) (ids_view ids)) }
+    ensures refused { IfErr result (IsRefused (metadata_view metadata.now)) }
+{
+    laws::one_reading();
+    let Some(resolve) = &metadata.resolve else {
+        return Err(Error::NoResolveGraph);
+    };
+    let ids = ids_of(alloc, metadata, resolve)?;
+    expect_none_doubled(alloc, &ids)?;
+    Ok(ids)
+}
+
+/// Reads the ids of a document.
+fn ids_of(alloc: Global, metadata: &Metadata, resolve: &Resolve) -> Result<Ids, Error>
+    ensures read { IfOk result (λ ids. AreIdsOf (metadata_view metadata.now) (resolve_view resolve.now) (ids_view ids)) }
+    ensures refused { IfErr result (IsBadId (metadata_view metadata.now) (resolve_view resolve.now)) }
+{
+    let packages = read_ids(alloc, &metadata.packages)?;
+    let members = read_ids(alloc, &metadata.workspace_members)?;
+    let root = read_root(&resolve.root)?;
+    let nodes = read_ids(alloc, &resolve.nodes)?;
+    let deps = read_deps(alloc, &resolve.nodes)?;
+    Ok(Ids {
+        packages,
+        members,
+        root,
+        nodes,
+        deps,
+    })
+}
+
+/// Refuses an id that stands twice.
+fn expect_none_doubled(alloc: Global, ids: &Ids) -> Result<(), Error>
+    ensures distinct { OnOk result (AreAllDistinct (ids_view ids.now)) }
+    ensures refused { IfErr result (IsTwiceWithin (ids_view ids.now)) }
+{
+    expect_distinct(alloc, &ids.packages)?;
+    expect_distinct(alloc, &ids.nodes)?;
+    expect_all_distinct(alloc, &ids.deps)?;
+    Ok(())
+}
+
+/// Reads the id of the root, where there is one.
+fn read_root(root: &Option<PackageId>) -> Result<Option<Kid>, Error>
+    ensures read { IfOk result (IsRootId (option_map id_view root.now)) }
+    ensures refused { IfErr result (IsUnread (option_to_list (option_map id_view root.now))) }
+{
+    match root {
+        Some(id) => Ok(Some(read_id(id)?)),
+        None => Ok(None),
+    }
+}
+
+/// What has an id in the document.
+trait HasId {
+    /// The text of the id.
+    ghost text: { Self → Text };
+
+    fn package_id(&self) -> &PackageId
+        ensures { id_view result.now ≡ text self.now };
+}
+
+impl HasId for PackageId {
+    ghost text = { id_view };
+
+    fn package_id(&self) -> &PackageId {
+        self
+    }
+}
+
+impl HasId for Package {
+    ghost text = { λ p. id_view p.id };
+
+    fn package_id(&self) -> &PackageId {
+        &self.id
+    }
+}
+
+impl HasId for Node {
+    ghost text = { λ n. id_view n.id };
+
+    fn package_id(&self) -> &PackageId {
+        &self.id
+    }
+}
+
+impl HasId for NodeDep {
+    ghost text = { λ d. id_view d.pkg };
+
+    fn package_id(&self) -> &PackageId {
+        &self.pkg
+    }
+}
+
+/// Reads an id.
+fn read_id(id: &PackageId) -> Result<Kid, Error>
+    ensures read { IfOk result (λ kid. Reads (id_view id.now) kid) }
+    ensures refused { IfErr result (IsUnread (id_view id.now ∷ [])) }
+{
+    laws::one_reading();
+    let copy = PackageId {
+        repr: id.repr.clone()?,
+    };
+    match Kid::try_from(copy) {
+        Ok(kid) => Ok(kid),
+        Err(IdError::Memory(_)) => Err(Error::Memory),
+        Err(IdError::Opaque(id)) => Err(Error::InvalidId(id.repr)),
+        Err(IdError::Stable(id)) => Err(Error::InvalidId(id.repr)),
+        Err(IdError::Escape(id)) => Err(Error::InvalidId(id.repr)),
+    }
+}
+
+/// Reads the ids of a list, in order.
+fn read_ids<T: HasId>(alloc: Global, items: &[T]) -> Result<Vec<Kid>, Error>
+    ensures read { IfOk result (λ kids. AllZip Reads (map T.text items.now) kids.items) }
+    ensures refused { IfErr result (IsUnread (map T.text items.now)) }
+{
+    let mut kids = Vec::new(alloc);
+    for item in items {
+        kids.push(read_id(item.package_id())?)?;
+    }
+    Ok(kids)
+}
+
+/// Whether the version of an id is semantic.
+fn has_version(alloc: Global, kid: &Kid) -> Result<bool, AllocError>
+    ensures { IfOk result (λ has. MatchBool has (HasVersion kid.now) (version_named kid.now.version ≡ None)) }
+{
+    Ok(version_of(alloc, kid)?.is_some())
+}
+
+/// Reads the id of a dependency, whose version has to be semantic.
+fn read_dep_id(alloc: Global, dep: &NodeDep) -> Result<Kid, Error>
+    ensures read { IfOk result (λ kid. Reads (id_view dep.now.pkg) kid) }
+    ensures version { IfOk result HasVersion }
+    ensures refused { IfErr result (IsBadDep (id_view dep.now.pkg ∷ [])) }
+{
+    let kid = read_id(&dep.pkg)?;
+    if has_version(alloc, &kid)? {
+        return Ok(kid);
+    }
+    Err(Error::InvalidId(dep.pkg.repr.clone()?))
+}
+
+/// Reads the ids of a node's dependencies, in order.
+fn read_dep_ids(alloc: Global, deps: &[NodeDep]) -> Result<Vec<Kid>, Error>
+    ensures read { IfOk result (λ kids. AllZip Reads (map (λ d. id_view d.pkg) deps.now) kids.items) }
+    ensures versions { IfOk result (λ kids. AllByRecursion HasVersion kids.items) }
+    ensures refused { IfErr result (IsBadDep (map (λ d. id_view d.pkg) deps.now)) }
+{
+    let mut kids = Vec::new(alloc);
+    for dep in deps {
+        kids.push(read_dep_id(alloc, dep)?)?;
+    }
+    Ok(kids)
+}
+
+/// Reads the ids of each node's dependencies.
+fn read_deps(alloc: Global, nodes: &[Node]) -> Result<Vec<Vec<Kid>>, Error>
+    ensures read { IfOk result (λ lists. AllZip AreDepIds (map node_view nodes.now) (map (λ kids. kids.items) lists.items)) }
+    ensures refused { IfErr result (IsBadNode (map node_view nodes.now)) }
+{
+    let mut lists = Vec::new(alloc);
+    for node in nodes {
+        lists.push(read_dep_ids(alloc, &node.deps)?)?;
+    }
+    Ok(lists)
+}
+
+/// Refuses an id that stands twice.
+fn expect_distinct(alloc: Global, kids: &[Kid]) -> Result<(), Error>
+    ensures distinct { OnOk result (AreDistinct kids.now) }
+    ensures refused { IfErr result (IsTwice kids.now) }
+{
+    laws::comparison();
+    let mut seen: BTreeSet<&Kid> = BTreeSet::new(alloc);
+    for kid in kids {
+        if !seen.insert(kid)? {
+            return Err(Error::Doubled(kid.clone()?));
+        }
+    }
+    Ok(())
+}
+
+/// Refuses an id that stands twice in one of the lists.
+fn expect_all_distinct(alloc: Global, lists: &[Vec<Kid>]) -> Result<(), Error>
+    ensures distinct { OnOk result (AllByRecursion AreDistinct (map (λ kids. kids.items) lists.now)) }
+    ensures refused { IfErr result (IsTwiceIn (map (λ kids. kids.items) lists.now)) }
+{
+    for kids in lists {
+        expect_distinct(alloc, kids)?;
+    }
+    Ok(())
+}

@@ -1,0 +1,13 @@
+//! A document that is ready to be resolved: its ids read once, and what the caller's setting says of it.
+#![tactic(auto)]
+
+pub mod admission;
+pub mod declared_dependency;
+pub mod declared_source;
+pub mod dependency_name;
+pub mod ids;
+pub mod setting;
+
+pub use admission::admit;
+pub use ids::Ids;
+pub use setting::Setting;

@@ -1,0 +1,181 @@
+//! The caller's setting.
+
+ghost use Rattle.std.specs.Prelude.{◌≡◌, ◌↔◌, ◌++◌, [], false, IfOk, IsTrue, OnOk, OnErr, map, string_bytes, option_map};
+ghost use Rattle.std.specs.List.{AllZip};
+ghost use Rattle.krates_cm.specs.Document.{package_view, text_view};
+ghost use Rattle.krates_ids.specs.SpecificationAnswers.{spec_view};
+ghost use Rattle.krates_text.specs.AskedTargets.{asked_of};
+ghost use Rattle.krates_rules.specs.Kind.{kind_of, ignores, IgnoresMore};
+ghost use Rattle.krates_rules.specs.Setting.{SettingModel, IsManifestOf, AsksForPaths, IsExcluded, Passes};
+ghost use Rattle.krates_rules.specs.PlainSetting.{plain_setting};
+
+use krates_rules::kind::{DepKind, IgnoredKinds, NO_KINDS, Scope};
+use krates_cm::{DependencyKind, Package};
+use krates_ids::PkgSpec;
+use krates_text::passing;
+use krates_text::path::{ends_with, join};
+use krates_text::target::Target;
+use std::alloc::{AllocError, Global};
+use std::marker::Model;
+
+/// What the caller asks for.
+#[derive(Debug, Drop)]
+pub struct Setting {
+    targets: Vec<(Target, Vec<String>)>,
+    manifests: Vec<String>,
+    exclusions: Vec<PkgSpec>,
+    ignored: IgnoredKinds,
+    workspace: bool,
+}
+
+impl Model for Setting {
+    ghost Value = { SettingModel };
+
+    ghost view = { λ s. record {
+      targets = map asked_of s.targets.items;
+      manifests = map text_view s.manifests.items;
+      exclusions = map spec_view s.exclusions.items;
+      ignored = s.ignored;
+      workspace = s.workspace;
+    } };
+}
+
+impl Setting {
+    /// Nothing is set: the root, or every member, is kept with all that it needs.
+    pub fn new(alloc: Global) -> Setting
+        ensures { result ≡ plain_setting }
+    {
+        Setting {
+            targets: Vec::new(alloc),
+            manifests: Vec::new(alloc),
+            exclusions: Vec::new(alloc),
+            ignored: IgnoredKinds {
+                of_members: NO_KINDS,
+                of_others: NO_KINDS,
+            },
+            workspace: false,
+        }
+    }
+
+    /// Ignores the dependencies for this purpose of the crates of the scope, beside those that are ignored already.
+    pub fn ignore_kind(&mut self, kind: DepKind, scope: Scope)
+        ensures ignored { IgnoresMore self.old.ignored self.new.ignored kind scope }
+        ensures rest { self.new ≡ record self.old { ignored = self.new.ignored } }
+    {
+        self.ignored = self.ignored.with(kind, scope);
+    }
+
+    /// Whether every member of the workspace is a root, also where the graph has a root of its own.
+    pub fn workspace(&mut self, is_on: bool)
+        ensures { self.new ≡ record self.old { workspace = is_on } }
+    {
+        self.workspace = is_on;
+    }
+
+    /// Leaves out the packages that one of the specifications fits, beside those that are left out already. After a refusal
+    /// the setting is as it was.
+    pub fn exclude(&mut self, mut specs: Vec<PkgSpec>) -> Result<(), AllocError>
+        ensures appended { OnOk result (self.new ≡ record self.old { exclusions = self.old.exclusions ++ map spec_view specs.items }) }
+        ensures refused { OnErr result (self.new ≡ self.old) }
+    {
+        self.exclusions.append(&mut specs)
+    }
+
+    /// Keeps only dependencies whose target text passes at one of the targets, beside those that are set already. After a
+    /// refusal the setting is as it was.
+    pub fn include_targets(
+        &mut self,
+        mut targets: Vec<(Target, Vec<String>)>,
+    ) -> Result<(), AllocError>
+        ensures appended { OnOk result (self.new ≡ record self.old { targets = self.old.targets ++ map asked_of targets.items }) }
+        ensures refused { OnErr result (self.new ≡ self.old) }
+    {
+        self.targets.append(&mut targets)
+    }
+
+    /// Asks for the crates with these manifests as roots, beside those that are asked for already. A path that doesn't end in
+    /// `Cargo.toml` means the manifest in that directory. After a refusal the setting is as it was.
+    pub fn include_workspace_crates(
+        &mut self,
+        alloc: Global,
+        paths: &[&str],
+    ) -> Result<(), AllocError>
+        ensures appended { OnOk result (AsksForPaths self.old self.new paths.now) }
+        ensures refused { OnErr result (self.new ≡ self.old) }
+    {
+        let mut manifests = manifests_of(alloc, paths)?;
+        self.manifests.append(&mut manifests)
+    }
+
+    /// Whether the package is left out: one of the specifications fits it (Cargo Book, "Package ID Specifications").
+    pub fn excludes(&self, pkg: &Package) -> bool
+        ensures { IsTrue result ↔ IsExcluded self.now (package_view pkg.now) }
+    {
+        for spec in &self.exclusions {
+            if spec.matches(pkg) {
+                return true;
+            }
+        }
+        false
+    }
+
+    /// Whether dependencies for this purpose are ignored, where a member of the workspace has them, or another crate.
+    pub fn ignores(&self, kind: DependencyKind, is_member: bool) -> bool
+        ensures { result ≡ ignores self.now.ignored (kind_of kind) is_member }
+    {
+        self.ignored.has(DepKind::from(kind), is_member)
+    }
+
+    /// Whether a dependency with this target text passes: the text that stands behind `target` in a manifest
+    /// (Cargo Book, "Platform specific dependencies").
+    ///
+    /// A dependency without a text always passes. A text that is a cfg expression passes where one single target that is
+    /// set, with its features, makes the whole of it true, and any other text where it is the triple of one of them. Where
+    /// no target is set, every text passes but an expression that asks nothing and is false, as `cfg(any())`.
+    ///
+    /// The only error is want of memory.
+    pub fn passes(&self, alloc: Global, cfg: &Option<String>) -> Result<bool, AllocError>
+        ensures { IfOk result (λ b. IsTrue b ↔ Passes self.now (option_map text_view cfg.now)) }
+    {
+        match cfg {
+            Some(text) => passing::passes(alloc, Some(text.as_str()), &self.targets),
+            None => Ok(true),
+        }
+    }
+
+    /// The manifests that are asked for.
+    pub fn manifests(&self) -> &[String]
+        ensures { map text_view result.now ≡ self.now.manifests }
+    {
+        &self.manifests
+    }
+
+    /// Whether every member is asked for.
+    pub fn is_workspace(&self) -> bool
+        ensures { result ≡ self.now.workspace }
+    {
+        self.workspace
+    }
+}
+
+/// The manifests that these paths mean.
+fn manifests_of(alloc: Global, paths: &[&str]) -> Result<Vec<String>, AllocError>
+    ensures { IfOk result (λ manifests. AllZip IsManifestOf (map (λ path. path.now) paths.now) (map text_view manifests.items)) }
+{
+    let mut manifests = Vec::new(alloc);
+    for &path in paths {
+        manifests.push(manifest_of(alloc, path)?)?;
+    }
+    Ok(manifests)
+}
+
+/// The manifest that a path means.
+fn manifest_of(alloc: Global, path: &str) -> Result<String, AllocError>
+    ensures { IfOk result (λ manifest. IsManifestOf path.now (text_view manifest)) }
+{
+    if ends_with(path, "Cargo.toml") {
+        String::from_str(alloc, path)
+    } else {
+        join(alloc, path, "Cargo.toml")
+    }
+}
