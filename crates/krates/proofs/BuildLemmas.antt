@@ -20,7 +20,7 @@ use Rattle.krates_rules.specs.Questions.{Stands, questions}
 use Rattle.krates_rules.specs.Resolved.{ReadsAs, resolved, id_of}
 use Rattle.krates_resolve.specs.declared.selection.Selection.{Selection}
 use Rattle.krates_rules.specs.Setting.{SettingModel}
-use Rattle.krates.specs.Build.{IsResolvable, IsDerived, IsKept, IsNotKept, IsLost, AreThosePackages, HasTooMany, IsUnbuilt, IsMiscount}
+use Rattle.krates.specs.Build.{IsResolvable, IsDerived, KeepsCrate, DropsCrate, IsLost, AreThosePackages, HasTooMany, GraphRefusal, CountRefusal}
 use Rattle.krates.specs.Division.{IsAmong, IsDivision}
 use Rattle.krates.specs.Enabled.{AreEnabledSets}
 use Rattle.krates.specs.Kept.{IsEnabledIn, names_in_each}
@@ -128,7 +128,7 @@ exactly_those once all P ids listed h has i = (
 -- ---- what is kept
 
 -- what is kept has a package
-pub has_package : (m : Metadata) (s : SettingModel) (i : Id) → IsKept (metadata_view m) s i → (pkg : Package) × Contains m.packages.items pkg × ReadsAs (id_view pkg.id) i
+pub has_package : (m : Metadata) (s : SettingModel) (i : Id) → KeepsCrate (metadata_view m) s i → (pkg : Package) × Contains m.packages.items pkg × ReadsAs (id_view pkg.id) i
 has_package m s i h =
     let stands : Stands (resolved (metadata_view m) h.graph) s i = unfold questions in derivable_stands (questions (resolved (metadata_view m) h.graph) s) h.holds in
     let found = stands.included.has_package in
@@ -137,11 +137,11 @@ has_package m s i h =
 
 -- all that a build says of what it keeps
 pub record Builds (m : Metadata) (s : SettingModel) (d : Division) : Type 0 where
-  pub kept : (i : Id) → IsKept (metadata_view m) s i ↔ Contains (map id_of (krate_ids d.kept.items)) i
-  pub some : (i : Id) × IsKept (metadata_view m) s i
+  pub kept : (i : Id) → KeepsCrate (metadata_view m) s i ↔ Contains (map id_of (krate_ids d.kept.items)) i
+  pub some : (i : Id) × KeepsCrate (metadata_view m) s i
   pub none_lost : (c : Cause) → IsLost (metadata_view m) s c → ⊥
-  pub packages : AreThosePackages m.packages.items (IsKept (metadata_view m) s) (krate_ids d.kept.items) (krate_packages d.kept.items)
-  pub others : AreThosePackages m.packages.items (IsNotKept (metadata_view m) s) (krate_ids d.others.items) (krate_packages d.others.items)
+  pub packages : AreThosePackages m.packages.items (KeepsCrate (metadata_view m) s) (krate_ids d.kept.items) (krate_packages d.kept.items)
+  pub others : AreThosePackages m.packages.items (DropsCrate (metadata_view m) s) (krate_ids d.others.items) (krate_packages d.others.items)
 
 flip_iff : (P Q : Type 0) → P ↔ Q → Q ↔ P
 flip_iff P Q h = (h.1, h.0)
@@ -151,14 +151,14 @@ not_iff P Q h = (λ n q. n (h.1 q), λ n p. n (h.0 p))
 
 pub builds : ReadsOnce → (m : Metadata) (s : SettingModel) (x : Selection) (d : Division) → Selects (metadata_view m) s x → IsDivision m.packages.items x.krates.items d → Builds m s d
 builds once m s x d sel div =
-    let iff : (i : Id) → IsAmong x.krates.items i ↔ IsKept (metadata_view m) s i = λ i. flip_iff _ _ (kept_among (metadata_view m) s x sel i) in
-    let packages = those_same m.packages.items (IsAmong x.krates.items) (IsKept (metadata_view m) s) (krate_ids d.kept.items) (krate_packages d.kept.items) iff div.kept in
+    let iff : (i : Id) → IsAmong x.krates.items i ↔ KeepsCrate (metadata_view m) s i = λ i. flip_iff _ _ (kept_among (metadata_view m) s x sel i) in
+    let packages = those_same m.packages.items (IsAmong x.krates.items) (KeepsCrate (metadata_view m) s) (krate_ids d.kept.items) (krate_packages d.kept.items) iff div.kept in
     record {
-      kept = exactly_those once m.packages.items (IsKept (metadata_view m) s) (krate_ids d.kept.items) (krate_packages d.kept.items) packages (has_package m s);
+      kept = exactly_those once m.packages.items (KeepsCrate (metadata_view m) s) (krate_ids d.kept.items) (krate_packages d.kept.items) packages (has_package m s);
       some = (sel.holds.some.0, record { graph = sel.graph; has_graph = sel.has_graph; holds = sel.holds.some.1 });
       none_lost = none_lost (metadata_view m) s x sel;
       packages = packages;
-      others = those_same m.packages.items (λ i. IsAmong x.krates.items i → ⊥) (IsNotKept (metadata_view m) s) (krate_ids d.others.items) (krate_packages d.others.items) (λ i. not_iff _ _ (iff i)) div.others;
+      others = those_same m.packages.items (λ i. IsAmong x.krates.items i → ⊥) (DropsCrate (metadata_view m) s) (krate_ids d.others.items) (krate_packages d.others.items) (λ i. not_iff _ _ (iff i)) div.others;
     }
 
 -- the same, of what the body has in hand
@@ -196,7 +196,7 @@ miscounted_many o m s d g is b many =
       many = simp length-map many;
     }
 
-pub miscount_refused : Compares → (m : Metadata) (s : SettingModel) (d : Division) (ids : IdsModel) → IsAdmitted (metadata_view m) ids → Builds m s d → (e : Error) → IsMiscount (length d.kept.items) e → IsUnbuilt (metadata_view m) s e
+pub miscount_refused : Compares → (m : Metadata) (s : SettingModel) (d : Division) (ids : IdsModel) → IsAdmitted (metadata_view m) ids → Builds m s d → (e : Error) → CountRefusal (length d.kept.items) e → GraphRefusal (metadata_view m) s e
 miscount_refused o m s d ids a b errors.NoResolveGraph h = absurd h
 miscount_refused o m s d ids a b (errors.Metadata inner) h = absurd h
 miscount_refused o m s d ids a b (errors.InvalidPkgSpec t) h = absurd h

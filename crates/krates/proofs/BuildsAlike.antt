@@ -14,7 +14,7 @@ use Rattle.krates_ids.specs.declared.index.PackageNames.{PackageNames}
 use Rattle.krates_rules.specs.Facts.{Id, Fact, Crate, Lost}
 use Rattle.krates_rules.specs.Reordering.{Reorders, ResolveAlike, IsOrderFree}
 use Rattle.krates_rules.specs.Setting.{SettingModel}
-use Rattle.krates.specs.Build.{IsResolvable, IsDerived, IsKept, IsNotKept, IsUnbuilt, IsRefusedSeeing}
+use Rattle.krates.specs.Build.{IsResolvable, IsDerived, KeepsCrate, DropsCrate, GraphRefusal, IsRefusedSeeing}
 use Rattle.krates.specs.BuildLaws.{BuildAlike, IsBuildOrderFree}
 use Rattle.krates.specs.Indexed.{HasNames}
 use Rattle.krates.proofs.AdmittedAlike.{turned, resolvable_there}
@@ -70,7 +70,7 @@ graph_of : (a : Option ResolveModel) → (a ≡ None → ⊥) → (g : ResolveMo
 graph_of None h = absurd (h refl)
 graph_of (Some g) h = (g, refl)
 
-too_many_there : (p q : MetadataModel) (s : SettingModel) → ResolveAlike p q → IsUnbuilt p s errors.TooMany → IsUnbuilt q s errors.TooMany
+too_many_there : (p q : MetadataModel) (s : SettingModel) → ResolveAlike p q → GraphRefusal p s errors.TooMany → GraphRefusal q s errors.TooMany
 too_many_there p q s w h =
     let g = graph_of q.resolve (λ none. let back = w.no_graph.1 none in cc (back, h.has_graph)) in
     let facts = w.facts s in
@@ -86,7 +86,7 @@ too_many_there p q s w h =
       };
     }
 
-unbuilt_there : (p q : MetadataModel) (s : SettingModel) → ResolveAlike p q → (e : Error) → IsUnbuilt p s e → IsUnbuilt q s e
+unbuilt_there : (p q : MetadataModel) (s : SettingModel) → ResolveAlike p q → (e : Error) → GraphRefusal p s e → GraphRefusal q s e
 unbuilt_there p q s w (errors.Lost what) h = (w.unselected s (errors.Lost what)).0 h
 unbuilt_there p q s w errors.NoRootKrates h = (w.unselected s errors.NoRootKrates).0 h
 unbuilt_there p q s w errors.TooMany h = too_many_there p q s w h
@@ -111,7 +111,7 @@ refused_there m n p q s r given w (errors.InvalidPkgSpec x) h = absurd h
 
 -- ---- the law
 
-not_kept_alike : (p q : MetadataModel) (s : SettingModel) → ((f : Fact) → IsDerived p s f ↔ IsDerived q s f) → (i : Id) → IsNotKept p s i ↔ IsNotKept q s i
+not_kept_alike : (p q : MetadataModel) (s : SettingModel) → ((f : Fact) → IsDerived p s f ↔ IsDerived q s f) → (i : Id) → DropsCrate p s i ↔ DropsCrate q s i
 not_kept_alike p q s facts i = (λ none k. none ((facts (Crate i)).1 k), λ none k. none ((facts (Crate i)).0 k))
 
 builds_alike : IsOrderFree → ReadsOnce → IsTotalOrder id_cmp → (m n p q : Metadata) (s : SettingModel) → Reorders (metadata_view m) (metadata_view n) → Reorders (metadata_view p) (metadata_view q) → BuildAlike m n p q s
@@ -126,8 +126,8 @@ builds_alike free once o m n p q s given seen =
     record {
       names = names_same m n given;
       facts = facts;
-      kept = list_alike once o p q (IsKept (metadata_view p) s) (IsKept (metadata_view q) s) seen (λ i. facts (Crate i));
-      reported = list_alike once o p q (IsNotKept (metadata_view p) s) (IsNotKept (metadata_view q) s) seen (not_kept_alike (metadata_view p) (metadata_view q) s facts);
+      kept = list_alike once o p q (KeepsCrate (metadata_view p) s) (KeepsCrate (metadata_view q) s) seen (λ i. facts (Crate i));
+      reported = list_alike once o p q (DropsCrate (metadata_view p) s) (DropsCrate (metadata_view q) s) seen (not_kept_alike (metadata_view p) (metadata_view q) s facts);
       refused = λ e. (
         refused_there m n p q s (resolvable_there (metadata_view m) (metadata_view n) given there_given) there_given there_seen e,
         refused_there n m q p s (resolvable_there (metadata_view n) (metadata_view m) back back_given) back_given back_seen e,

@@ -14,7 +14,7 @@ use Rattle.krates_rules.specs.Narrowing.{IsNarrower, IsNarrowing}
 use Rattle.krates_rules.specs.Resolved.{id_of, resolved}
 use Rattle.krates_rules.specs.SelectionRefusals.{cause_of}
 use Rattle.krates_rules.specs.Setting.{SettingModel}
-use Rattle.krates.specs.Build.{IsDerived, IsUnbuilt, IsRefusedSeeing}
+use Rattle.krates.specs.Build.{IsDerived, GraphRefusal, IsRefusedSeeing}
 use Rattle.krates.specs.BuildLaws.{Succeeds, IsBuildNarrowing}
 use Rattle.krates.proofs.DivisionLemmas.{ReadsOnce}
 use Rattle.krates.proofs.Membership.{Member, member_of, contains_of}
@@ -105,7 +105,7 @@ part : IsNarrowing → (p : MetadataModel) (wide narrow : SettingModel) → IsNa
 part law p wide narrow step f h = record { graph = h.graph; has_graph = h.has_graph; holds = (law (resolved p h.graph) wide narrow step).facts f h.holds }
 
 -- a part of what is numbered is numbered
-not_too_many : IsNarrowing → (m p : Metadata) (wide narrow : SettingModel) (ids : List Identity) → IsNarrower wide narrow → Succeeds m p wide ids → IsUnbuilt (metadata_view p) narrow errors.TooMany → ⊥
+not_too_many : IsNarrowing → (m p : Metadata) (wide narrow : SettingModel) (ids : List Identity) → IsNarrower wide narrow → Succeeds m p wide ids → GraphRefusal (metadata_view p) narrow errors.TooMany → ⊥
 not_too_many law m p wide narrow ids step s h =
     let kept : (z : Id) → Member h.holds.ids z → Member (map id_of ids) z = λ z n.
     (let c = contains_of h.holds.ids z n in

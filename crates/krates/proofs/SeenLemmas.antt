@@ -6,13 +6,13 @@ use Rattle.krates_cm.specs.declared.metadata.Metadata.{Metadata}
 use Rattle.krates_cm.specs.declared.package.Package.{Package}
 use Rattle.krates_ids.specs.Identity.{Reads}
 use Rattle.krates_ids.specs.declared.index.IndexAnswer.{IndexAnswer}
-use Rattle.krates_rules.specs.Admission.{IsAdmitted, IsDoubled, StandsTwice, package_texts, doubled_package, doubled_node, doubled_dep, IdsModel}
+use Rattle.krates_rules.specs.Admission.{IsAdmitted, IsDoubled, IsDoubledIn, package_texts, doubled_package, doubled_node, doubled_dep, IdsModel}
 use Rattle.krates_rules.specs.Facts.{Id}
 use Rattle.std.specs.Prelude.{Result, Ok, Err, IfOk, IfErr}
 use Rattle.krates_ids.specs.declared.error.Error.{Error}
 use Rattle.krates_ids.specs.declared.error.Error.TheVariants as errors
 use Rattle.krates_rules.specs.Setting.{SettingModel}
-use Rattle.krates.specs.Build.{IsResolvable, IsBuilt, IsUnbuilt, IsBuildRefused}
+use Rattle.krates.specs.Build.{IsResolvable, IsBuilt, GraphRefusal, BuildRefusal}
 use Rattle.krates.specs.Indexed.{Answering, IsCorrectedPackage, IsCorrectedDocument, IsSeen, Sees}
 use Rattle.krates.specs.Kept.{KeptCrates}
 
@@ -26,7 +26,7 @@ same_texts answer (x ∷ xs) (y ∷ ys) h =
     ap (λ t. t ∷ map (λ (p : PackageModel). p.id) (map package_view ys)) (ap (λ (p : Package). id_view p.id) h.0.nothing_else) ∙ ap (λ ts. id_view x.id ∷ ts) (same_texts answer xs ys h.1)
 
 same_doubled : (m n : MetadataModel) (g : ResolveModel) (id : Id) → package_texts n ≡ package_texts m → IsDoubled n g id → IsDoubled m g id
-same_doubled m n g id texts (doubled_package twice) = doubled_package (subst (λ ts. StandsTwice ts id) texts twice)
+same_doubled m n g id texts (doubled_package twice) = doubled_package (subst (λ ts. IsDoubledIn ts id) texts twice)
 same_doubled m n g id texts (doubled_node twice) = doubled_node twice
 same_doubled m n g id texts (doubled_dep node among twice) = doubled_dep node among twice
 
@@ -66,7 +66,7 @@ sees_built may_answer index given seen s filters before after (Ok k) is_seen b =
 sees_built may_answer index given seen s filters before after (Err e) is_seen b = tt
 
 refused_as : {S : Type 0} (may_answer : Answering S) (index : Option S) (given seen : Metadata) (s : SettingModel) → IsResolvable (metadata_view given) → IsSeen may_answer index given seen
-    → (e : Error) → IsUnbuilt (metadata_view seen) s e → IsBuildRefused may_answer index given s e
+    → (e : Error) → GraphRefusal (metadata_view seen) s e → BuildRefusal may_answer index given s e
 refused_as may_answer index given seen s r is_seen errors.NoResolveGraph h = absurd h
 refused_as may_answer index given seen s r is_seen (errors.Metadata inner) h = absurd h
 refused_as may_answer index given seen s r is_seen (errors.InvalidPkgSpec t) h = absurd h
@@ -78,6 +78,6 @@ refused_as may_answer index given seen s r is_seen errors.TooMany h = (r, record
 refused_as may_answer index given seen s r is_seen errors.Memory h = tt
 
 pub sees_refused : {S : Type 0} (may_answer : Answering S) (index : Option S) (given seen : Metadata) (s : SettingModel) (ids : IdsModel) (result : Result KeptCrates Error)
-    → IsAdmitted (metadata_view given) ids → IsSeen may_answer index given seen → IfErr result (IsUnbuilt (metadata_view seen) s) → IfErr result (IsBuildRefused may_answer index given s)
+    → IsAdmitted (metadata_view given) ids → IsSeen may_answer index given seen → IfErr result (GraphRefusal (metadata_view seen) s) → IfErr result (BuildRefusal may_answer index given s)
 sees_refused may_answer index given seen s ids (Ok k) a is_seen h = tt
 sees_refused may_answer index given seen s ids (Err e) a is_seen h = refused_as may_answer index given seen s (record { ids = ids; admitted = a }) is_seen e h

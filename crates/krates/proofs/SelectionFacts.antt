@@ -12,7 +12,7 @@ use Rattle.krates_resolve.specs.declared.selection.KeptEdge.{KeptEdge}
 use Rattle.krates_resolve.specs.declared.selection.Selection.{Selection}
 use Rattle.krates_resolve.specs.declared.selection.ToggledFeature.{ToggledFeature}
 use Rattle.krates_rules.specs.Setting.{SettingModel}
-use Rattle.krates.specs.Build.{IsDerived, IsKept, IsLost}
+use Rattle.krates.specs.Build.{IsDerived, KeepsCrate, IsLost}
 use Rattle.krates.specs.Division.{IsAmong}
 use Rattle.krates.proofs.Membership.{Member, member_of, contains_of, mapped_of, member_map, member_append, member_left, member_right}
 
@@ -97,14 +97,14 @@ derived_of m s g f is d = record { graph = g; has_graph = is; holds = d }
 abbrev pub Selects : MetadataModel → SettingModel → Selection → Type 0
 Selects m s x = HasGraphWith m (λ g. IsSelection (resolved m g) s x)
 
-pub kept_among : (m : MetadataModel) (s : SettingModel) (x : Selection) → Selects m s x → (i : Id) → IsKept m s i ↔ IsAmong x.krates.items i
+pub kept_among : (m : MetadataModel) (s : SettingModel) (x : Selection) → Selects m s x → (i : Id) → KeepsCrate m s i ↔ IsAmong x.krates.items i
 kept_among m s x h i = (
   λ k. crate_among x i ((h.holds.facts (Crate i)).0 (derived_at m s h.graph (Crate i) h.has_graph k)),
   λ a. derived_of m s h.graph (Crate i) h.has_graph ((h.holds.facts (Crate i)).1 (among_crate x i a)),
 )
 
 -- a feature that is derived is one of the features of the selection, and its crate is kept
-pub enabled_among : (m : MetadataModel) (s : SettingModel) (x : Selection) → Selects m s x → (i : Id) (f : Text) → IsDerived m s (Feature i f) ↔ (IsKept m s i × Contains (map feature_fact x.features.items) (Feature i f))
+pub enabled_among : (m : MetadataModel) (s : SettingModel) (x : Selection) → Selects m s x → (i : Id) (f : Text) → IsDerived m s (Feature i f) ↔ (KeepsCrate m s i × Contains (map feature_fact x.features.items) (Feature i f))
 enabled_among m s x h i f = (
   λ d.
       (let at = derived_at m s h.graph (Feature i f) h.has_graph d in

@@ -11,13 +11,13 @@ use Rattle.krates_ids.specs.Identity.{Identity, Reads, id_cmp}
 use Rattle.krates_ids.specs.declared.error.Error.{Error}
 use Rattle.krates_ids.specs.declared.error.Error.TheVariants as errors
 use Rattle.krates_rules.specs.Admission.{IsAdmitted, IdsModel}
-use Rattle.krates_rules.specs.AdmissionRefusals.{IsRefused}
+use Rattle.krates_rules.specs.AdmissionRefusals.{AdmissionRefusal}
 use Rattle.krates_rules.specs.Derivation.{Derivable}
 use Rattle.krates_rules.specs.Facts.{Id, Cause, Fact, Crate, Feature, Lost}
 use Rattle.krates_rules.specs.Questions.{questions}
 use Rattle.krates_rules.specs.Resolved.{HasGraphWith, ReadsAs, id_of, resolved}
 use Rattle.krates_rules.specs.Rules.{Questions}
-use Rattle.krates_rules.specs.SelectionRefusals.{IsUnselected}
+use Rattle.krates_rules.specs.SelectionRefusals.{SelectionRefusal}
 use Rattle.krates_rules.specs.Setting.{SettingModel}
 use Rattle.krates.specs.Indexed.{Answering, Sees}
 use Rattle.krates.specs.Kept.{KeptCrates, HasEnabled}
@@ -38,11 +38,12 @@ abbrev pub IsDerived : MetadataModel → SettingModel → Fact → Type 0
 IsDerived m s f = Answers m s (λ q. Derivable q f)
 
 -- the crate has to be kept
-abbrev pub IsKept : MetadataModel → SettingModel → Id → Type 0
-IsKept m s i = IsDerived m s (Crate i)
+abbrev pub KeepsCrate : MetadataModel → SettingModel → Id → Type 0
+KeepsCrate m s i = IsDerived m s (Crate i)
 
-abbrev pub IsNotKept : MetadataModel → SettingModel → Id → Type 0
-IsNotKept m s i = IsKept m s i → ⊥
+-- the crate has no derivation
+abbrev pub DropsCrate : MetadataModel → SettingModel → Id → Type 0
+DropsCrate m s i = KeepsCrate m s i → ⊥
 
 -- the document lacks this, and some derivation asks for it
 abbrev pub IsLost : MetadataModel → SettingModel → Cause → Type 0
@@ -68,16 +69,16 @@ pub record AreThosePackages (all : List Package) (P : Id → Type 0) (ids : List
 pub record IsReported {F : Type 0} (filters : F → Package → F → Type 0) (m : Metadata) (s : SettingModel) (before after : F) : Type 0 where
   pub ids : List Identity
   pub others : List Package
-  pub not_kept : AreThosePackages m.packages.items (IsNotKept (metadata_view m) s) ids others
+  pub not_kept : AreThosePackages m.packages.items (DropsCrate (metadata_view m) s) ids others
   pub run : FoldsTo filters before others after
 
 -- All that is true of what a build keeps of a document, and of what it reports.
 pub record IsBuilt {F : Type 0} (filters : F → Package → F → Type 0) (m : Metadata) (s : SettingModel) (before after : F) (k : KeptCrates) : Type 0 where
   -- the crates with a derivation are kept, and no others
-  pub kept : (i : Id) → IsKept (metadata_view m) s i ↔ Contains (map id_of k.ids) i
-  pub some : (i : Id) × IsKept (metadata_view m) s i
+  pub kept : (i : Id) → KeepsCrate (metadata_view m) s i ↔ Contains (map id_of k.ids) i
+  pub some : (i : Id) × KeepsCrate (metadata_view m) s i
   pub none_lost : (c : Cause) → IsLost (metadata_view m) s c → ⊥
-  pub packages : AreThosePackages m.packages.items (IsKept (metadata_view m) s) k.ids k.packages
+  pub packages : AreThosePackages m.packages.items (KeepsCrate (metadata_view m) s) k.ids k.packages
   -- of the kept crates the features with a derivation are enabled, and no others
   pub enabled : (i : Id) (f : Text) → IsDerived (metadata_view m) s (Feature i f) ↔ HasEnabled k i f
   pub root : k.workspace_root ≡ text_view m.workspace_root
@@ -94,41 +95,41 @@ pub record HasTooMany (q : Questions) : Type 0 where
   pub many : 2 ^ 32 ≤ length ids
 
 -- why nothing is built of a document that can be resolved; memory may always run out
-abbrev pub IsUnbuilt : MetadataModel → SettingModel → Error → Type 0
-IsUnbuilt m s (errors.Lost what) = Answers m s (λ q. IsUnselected q (errors.Lost what))
-IsUnbuilt m s errors.NoRootKrates = Answers m s (λ q. IsUnselected q errors.NoRootKrates)
-IsUnbuilt m s errors.TooMany = Answers m s HasTooMany
-IsUnbuilt m s errors.Memory = ⊤
-IsUnbuilt m s _ = ⊥
+abbrev pub GraphRefusal : MetadataModel → SettingModel → Error → Type 0
+GraphRefusal m s (errors.Lost what) = Answers m s (λ q. SelectionRefusal q (errors.Lost what))
+GraphRefusal m s errors.NoRootKrates = Answers m s (λ q. SelectionRefusal q errors.NoRootKrates)
+GraphRefusal m s errors.TooMany = Answers m s HasTooMany
+GraphRefusal m s errors.Memory = ⊤
+GraphRefusal m s _ = ⊥
 
 -- The first class that is true of the document counts, and the cause is true; memory may always run out. Whether the document
 -- can be resolved is asked of it as it is given, and all else of it as it is looked at.
-abbrev pub IsBuildRefused : {S : Type 0} → Answering S → Option S → Metadata → SettingModel → Error → Type 0
-IsBuildRefused may_answer index m s errors.NoResolveGraph = IsRefused (metadata_view m) errors.NoResolveGraph
-IsBuildRefused may_answer index m s (errors.InvalidId t) = IsRefused (metadata_view m) (errors.InvalidId t)
-IsBuildRefused may_answer index m s (errors.Doubled kid) = IsRefused (metadata_view m) (errors.Doubled kid)
-IsBuildRefused may_answer index m s (errors.Lost what) = IsResolvable (metadata_view m) × Sees may_answer index m (λ seen. IsUnbuilt (metadata_view seen) s (errors.Lost what))
-IsBuildRefused may_answer index m s errors.NoRootKrates = IsResolvable (metadata_view m) × Sees may_answer index m (λ seen. IsUnbuilt (metadata_view seen) s errors.NoRootKrates)
-IsBuildRefused may_answer index m s errors.TooMany = IsResolvable (metadata_view m) × Sees may_answer index m (λ seen. IsUnbuilt (metadata_view seen) s errors.TooMany)
-IsBuildRefused may_answer index m s errors.Memory = ⊤
-IsBuildRefused may_answer index m s _ = ⊥
+abbrev pub BuildRefusal : {S : Type 0} → Answering S → Option S → Metadata → SettingModel → Error → Type 0
+BuildRefusal may_answer index m s errors.NoResolveGraph = AdmissionRefusal (metadata_view m) errors.NoResolveGraph
+BuildRefusal may_answer index m s (errors.InvalidId t) = AdmissionRefusal (metadata_view m) (errors.InvalidId t)
+BuildRefusal may_answer index m s (errors.Doubled kid) = AdmissionRefusal (metadata_view m) (errors.Doubled kid)
+BuildRefusal may_answer index m s (errors.Lost what) = IsResolvable (metadata_view m) × Sees may_answer index m (λ seen. GraphRefusal (metadata_view seen) s (errors.Lost what))
+BuildRefusal may_answer index m s errors.NoRootKrates = IsResolvable (metadata_view m) × Sees may_answer index m (λ seen. GraphRefusal (metadata_view seen) s errors.NoRootKrates)
+BuildRefusal may_answer index m s errors.TooMany = IsResolvable (metadata_view m) × Sees may_answer index m (λ seen. GraphRefusal (metadata_view seen) s errors.TooMany)
+BuildRefusal may_answer index m s errors.Memory = ⊤
+BuildRefusal may_answer index m s _ = ⊥
 
 -- the same of a build that is given m and looks at p
 abbrev pub IsRefusedSeeing : Metadata → Metadata → SettingModel → Error → Type 0
-IsRefusedSeeing m p s errors.NoResolveGraph = IsRefused (metadata_view m) errors.NoResolveGraph
-IsRefusedSeeing m p s (errors.InvalidId t) = IsRefused (metadata_view m) (errors.InvalidId t)
-IsRefusedSeeing m p s (errors.Doubled kid) = IsRefused (metadata_view m) (errors.Doubled kid)
-IsRefusedSeeing m p s (errors.Lost what) = IsResolvable (metadata_view m) × IsUnbuilt (metadata_view p) s (errors.Lost what)
-IsRefusedSeeing m p s errors.NoRootKrates = IsResolvable (metadata_view m) × IsUnbuilt (metadata_view p) s errors.NoRootKrates
-IsRefusedSeeing m p s errors.TooMany = IsResolvable (metadata_view m) × IsUnbuilt (metadata_view p) s errors.TooMany
+IsRefusedSeeing m p s errors.NoResolveGraph = AdmissionRefusal (metadata_view m) errors.NoResolveGraph
+IsRefusedSeeing m p s (errors.InvalidId t) = AdmissionRefusal (metadata_view m) (errors.InvalidId t)
+IsRefusedSeeing m p s (errors.Doubled kid) = AdmissionRefusal (metadata_view m) (errors.Doubled kid)
+IsRefusedSeeing m p s (errors.Lost what) = IsResolvable (metadata_view m) × GraphRefusal (metadata_view p) s (errors.Lost what)
+IsRefusedSeeing m p s errors.NoRootKrates = IsResolvable (metadata_view m) × GraphRefusal (metadata_view p) s errors.NoRootKrates
+IsRefusedSeeing m p s errors.TooMany = IsResolvable (metadata_view m) × GraphRefusal (metadata_view p) s errors.TooMany
 IsRefusedSeeing m p s errors.Memory = ⊤
 IsRefusedSeeing m p s _ = ⊥
 
 -- the same without an index, where the document is looked at as it is given
-abbrev pub IsRefusedAsGiven : Metadata → SettingModel → Error → Type 0
-IsRefusedAsGiven m s e = IsRefusedSeeing m m s e
+abbrev pub BuildRefusalAsGiven : Metadata → SettingModel → Error → Type 0
+BuildRefusalAsGiven m s e = IsRefusedSeeing m m s e
 
 -- there are more kept crates than can be numbered
-abbrev pub IsMiscount : ℕ → Error → Type 0
-IsMiscount n errors.TooMany = 2 ^ 32 ≤ n
-IsMiscount n _ = ⊥
+abbrev pub CountRefusal : ℕ → Error → Type 0
+CountRefusal n errors.TooMany = 2 ^ 32 ≤ n
+CountRefusal n _ = ⊥

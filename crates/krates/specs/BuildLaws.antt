@@ -14,7 +14,7 @@ use Rattle.krates_rules.specs.Narrowing.{IsNarrower}
 use Rattle.krates_rules.specs.Reordering.{Reorders, ReordersPackage, ResolveAlike}
 use Rattle.krates_rules.specs.Resolved.{id_of}
 use Rattle.krates_rules.specs.Setting.{SettingModel}
-use Rattle.krates.specs.Build.{IsResolvable, IsDerived, IsKept, IsNotKept, IsLost, AreThosePackages, IsRefusedSeeing}
+use Rattle.krates.specs.Build.{IsResolvable, IsDerived, KeepsCrate, DropsCrate, IsLost, AreThosePackages, IsRefusedSeeing}
 use Rattle.krates.specs.Indexed.{HasNames, IsCorrectedDocument}
 use Rattle.krates.specs.Kept.{AreOrdered}
 
@@ -43,8 +43,8 @@ pub record BuildAlike (m n p q : Metadata) (s : SettingModel) : Type 0 where
   -- the same crates, features and edges have derivations
   pub facts : (f : Fact) → IsDerived (metadata_view p) s f ↔ IsDerived (metadata_view q) s f
   -- the ids are equal place by place, so kept crates have the same numbers
-  pub kept : ListAlike p q (IsKept (metadata_view p) s) (IsKept (metadata_view q) s)
-  pub reported : ListAlike p q (IsNotKept (metadata_view p) s) (IsNotKept (metadata_view q) s)
+  pub kept : ListAlike p q (KeepsCrate (metadata_view p) s) (KeepsCrate (metadata_view q) s)
+  pub reported : ListAlike p q (DropsCrate (metadata_view p) s) (DropsCrate (metadata_view q) s)
   pub refused : (e : Error) → IsRefusedSeeing m p s e ↔ IsRefusedSeeing n q s e
 
 -- What is looked at of two documents differs in order alone, so it resolves alike and builds alike.
@@ -65,7 +65,7 @@ IsBuildOrderFree = (answer : Option IndexAnswer) (m n p q : Metadata) → Reorde
 pub record Succeeds (m p : Metadata) (s : SettingModel) (ids : List Identity) : Type 0 where
   pub resolvable : IsResolvable (metadata_view m)
   pub none_lost : (c : Cause) → IsLost (metadata_view p) s c → ⊥
-  pub kept : (i : Id) → IsKept (metadata_view p) s i ↔ Contains (map id_of ids) i
+  pub kept : (i : Id) → KeepsCrate (metadata_view p) s i ↔ Contains (map id_of ids) i
   pub ordered : AreOrdered ids
 
 -- The narrower setting keeps a part of what the wider one does.

@@ -11,7 +11,7 @@ ghost use Rattle.krates_document.specs.Ids.{ids_view};
 ghost use Rattle.krates_rules.specs.Kind.{IgnoresMore};
 ghost use Rattle.krates_rules.specs.PlainSetting.{plain_setting};
 ghost use Rattle.krates_rules.specs.Setting.{AsksForPaths};
-ghost use Rattle.krates.specs.Build.{IsResolvable, IsBuilt, IsUnbuilt, IsBuildRefused, IsMiscount};
+ghost use Rattle.krates.specs.Build.{IsResolvable, IsBuilt, GraphRefusal, BuildRefusal, CountRefusal};
 ghost use Rattle.krates.specs.Builder.{RestsUnchanged};
 ghost use Rattle.krates.specs.BuilderModel.{with_setting};
 ghost use Rattle.krates.specs.Indexed.{IsAskable, Sees};
@@ -189,7 +189,7 @@ impl Builder {
         ensures admitted { OnOk result (IsResolvable (metadata_view metadata)) }
         ensures built { IfOk result (λ krates. Sees (λ source. BuildIndexCache.post source.build) self.index metadata (λ seen. IsBuilt F.filters seen self.setting filter.old filter.new krates)) }
         ensures callable { F.can_filter filter.new }
-        ensures refused { IfErr result (IsBuildRefused (λ source. BuildIndexCache.post source.build) self.index metadata self.setting) }
+        ensures refused { IfErr result (BuildRefusal (λ source. BuildIndexCache.post source.build) self.index metadata self.setting) }
         ensures unchanged { OnErr result (filter.new ≡ filter.old) }
     {
         let Builder {
@@ -215,7 +215,7 @@ fn build_admitted<F: OnFilter>(
     requires callable { F.can_filter filter.old }
     ensures built { IfOk result (IsBuilt F.filters metadata setting.now filter.old filter.new) }
     ensures callable { F.can_filter filter.new }
-    ensures refused { IfErr result (IsUnbuilt (metadata_view metadata) setting.now) }
+    ensures refused { IfErr result (GraphRefusal (metadata_view metadata) setting.now) }
     ensures unchanged { OnErr result (filter.new ≡ filter.old) }
 {
     laws::one_reading();
@@ -231,7 +231,7 @@ fn build_admitted<F: OnFilter>(
 /// Refuses more crates than can be numbered.
 fn expect_numbered(kept: &[Krate]) -> Result<(), Error>
     ensures numbered { OnOk result (length kept.now < 2 ^ 32) }
-    ensures refused { IfErr result (IsMiscount (length kept.now)) }
+    ensures refused { IfErr result (CountRefusal (length kept.now)) }
 {
     if kept.len() > u32::MAX as usize {
         return Err(Error::TooMany);

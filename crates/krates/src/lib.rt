@@ -46,7 +46,7 @@ pub mod cfg {
 
 /// What an index knows of packages, and the correction of their features by it.
 pub mod index {
-    pub use krates_ids::index::{
+    pub use krates_ids::{
         BuildIndexCache, CachingIndex, FeaturesMap, IndexAnswer, IndexKrate, IndexKrateVersion,
         PackageNames,
     };

@@ -16,12 +16,12 @@ use Rattle.krates_ids.specs.declared.error.Error.TheVariants as build_errors
 use Rattle.krates_rules.specs.Admission.{package_texts, node_texts, dep_texts, HasVersion, AreDepIds, AreIdsOf, IsRootId, StandsForId, of_package, of_member, of_root, of_node, of_dep, IsInvalidId, unread, bad_version, IsDoubled, IdsModel}
 use Rattle.krates_rules.specs.Questions.{questions}
 use Rattle.krates_rules.specs.Resolved.{HasGraphWith, id_of, resolved}
-use Rattle.krates_rules.specs.SelectionRefusals.{HasNoRoot, IsUnselected, cause_of}
+use Rattle.krates_rules.specs.SelectionRefusals.{HasNoRoot, SelectionRefusal, cause_of}
 use Rattle.krates_rules.specs.Setting.{SettingModel}
-use Rattle.krates.specs.Build.{Answers, IsRefusedAsGiven}
+use Rattle.krates.specs.Build.{Answers, BuildRefusalAsGiven}
 use Rattle.krates_cli.specs.CommandLine.{AskForListing, IsCause}
 use Rattle.krates_cli.specs.Listing.{IsListing, IsSplit}
-use Rattle.krates_cli.specs.ListingRefusals.{IsOutside, IsRunRefused}
+use Rattle.krates_cli.specs.ListingRefusals.{IsOutside, RunRefusal}
 use Rattle.krates_cli.specs.Options.{OptionsModel, IsCommandLine, setting_of}
 use Rattle.krates_cli.specs.declared.run_error.RunError.{RunError}
 use Rattle.krates_cli.specs.declared.run_error.RunError.TheVariants as errors
@@ -97,7 +97,7 @@ of_graph m P g has h = subst P (same_Some h.graph g (sym h.has_graph ∙ has)) h
 
 -- a document that is divided is refused for nothing but memory, and more crates than can be numbered
 divided_refused : ReadsOnce → (s : SettingModel) (m n : Metadata) (kept others : List Package) (cause : build.Error) → metadata_view n ≡ metadata_view m
-    → IsSplit s m kept others → IsRefusedAsGiven n s cause → (cause ≡ build_errors.Memory → ⊥) → cause ≡ build_errors.TooMany
+    → IsSplit s m kept others → BuildRefusalAsGiven n s cause → (cause ≡ build_errors.Memory → ⊥) → cause ≡ build_errors.TooMany
 divided_refused once s m n kept others build_errors.NoResolveGraph same split refused limited =
     absurd (none-some _ (sym (subst (λ (d : MetadataModel). d.resolve ≡ None) same refused) ∙ split.resolvable.admitted.has_graph))
 divided_refused once s m n kept others (build_errors.InvalidId t) same split refused limited =
@@ -111,7 +111,7 @@ divided_refused once s m n kept others (build_errors.Doubled kid) same split ref
     let doubled = subst (λ (d : MetadataModel). HasGraphWith d (λ g. IsDoubled d g (id_of kid))) same refused in
     absurd (admitted.none_doubled (id_of kid) (of_graph d (λ g. IsDoubled d g (id_of kid)) admitted.graph admitted.has_graph doubled))
 divided_refused once s m n kept others (build_errors.Lost what) same split refused limited =
-    absurd (split.none_lost (cause_of what) (subst (λ (d : MetadataModel). Answers d s (λ q. IsUnselected q (build_errors.Lost what))) same refused.1))
+    absurd (split.none_lost (cause_of what) (subst (λ (d : MetadataModel). Answers d s (λ q. SelectionRefusal q (build_errors.Lost what))) same refused.1))
 divided_refused once s m n kept others build_errors.NoRootKrates same split refused limited =
     let some = split.some.1 in
     let d = metadata_view m in
@@ -123,7 +123,7 @@ divided_refused once s m n kept others (build_errors.Metadata _) same split refu
 divided_refused once s m n kept others (build_errors.InvalidPkgSpec _) same split refused limited = absurd refused
 
 -- a run over a text that has a listing is refused for a cause that isn't the text's
-pub listed_refused : ReadsOnce → (s : SettingModel) (bytes lines : Text) (cause : RunError) → IsUtf8 bytes → IsListing s bytes lines → IsRunRefused s bytes cause → IsOutside cause
+pub listed_refused : ReadsOnce → (s : SettingModel) (bytes lines : Text) (cause : RunError) → IsUtf8 bytes → IsListing s bytes lines → RunRefusal s bytes cause → IsOutside cause
 listed_refused once s bytes lines errors.Read utf8 listing refused = tt
 listed_refused once s bytes lines errors.Utf8 utf8 listing refused = refused utf8
 listed_refused once s bytes lines (errors.Parse cause) utf8 listing (_, refused) =
@@ -144,4 +144,4 @@ asked_refused once alone words remaining cause listed (inl memory) = subst IsOut
 asked_refused once alone words None cause listed (inr asked) = absurd listed.2
 asked_refused once alone words (Some bytes) cause listed (inr asked) =
     let same = alone words asked.0 listed.0 asked.1 listed.1 in
-    listed_refused once (setting_of listed.0) bytes listed.2.1.0 cause listed.2.0 listed.2.1.1 (subst (λ (o : OptionsModel). IsRunRefused (setting_of o) bytes cause) same asked.2)
+    listed_refused once (setting_of listed.0) bytes listed.2.1.0 cause listed.2.0 listed.2.1.1 (subst (λ (o : OptionsModel). RunRefusal (setting_of o) bytes cause) same asked.2)

@@ -6,14 +6,14 @@ use Rattle.krates_cm.specs.declared.metadata.Metadata.{Metadata}
 use Rattle.krates_ids.specs.declared.error.Error as build
 use Rattle.krates_rules.specs.Setting.{SettingModel}
 use Rattle.krates_ids.specs.declared.error.Error.TheVariants as causes
-use Rattle.krates.specs.Build.{IsBuildRefused, IsBuilt, IsRefusedAsGiven, IsUnbuilt, IsResolvable}
+use Rattle.krates.specs.Build.{BuildRefusal, IsBuilt, BuildRefusalAsGiven, GraphRefusal, IsResolvable}
 use Rattle.krates.specs.Indexed.{Answering, Sees}
 use Rattle.krates_cli.specs.declared.run_error.RunError.{RunError}
 use Rattle.krates_cli.specs.declared.run_error.RunError.TheVariants as errors
 use Rattle.krates.specs.Kept.{KeptCrates}
 use Rattle.krates_cli.specs.Lines.{kept_lines, reported_lines}
 use Rattle.krates_cli.specs.Listing.{IsListing}
-use Rattle.krates_cli.specs.ListingRefusals.{IsUnlisted}
+use Rattle.krates_cli.specs.ListingRefusals.{ListingRefusal}
 use Rattle.krates_cli.specs.Reported.{Reports, lines_in, is_whole}
 use Rattle.krates_cli.specs.declared.reported.Reported.{Reported}
 use Rattle.krates_cli.proofs.ReportedLemmas.{all_reported}
@@ -23,24 +23,24 @@ use Rattle.krates_cli.specs.RunError.{BuildErrorBecomes}
 pub as_given : {S : Type 0} (may_answer : Answering S) (m : Metadata) (P : Metadata → Type 0) → Sees may_answer None m P → P m
 as_given may_answer m P h = subst P h.is_seen h.holds
 
-pub refused_as_given : {S : Type 0} (may_answer : Answering S) (m : Metadata) (s : SettingModel) (cause : build.Error) → IsBuildRefused may_answer None m s cause → IsRefusedAsGiven m s cause
+pub refused_as_given : {S : Type 0} (may_answer : Answering S) (m : Metadata) (s : SettingModel) (cause : build.Error) → BuildRefusal may_answer None m s cause → BuildRefusalAsGiven m s cause
 refused_as_given a m s causes.NoResolveGraph h = h
 refused_as_given a m s (causes.InvalidId t) h = h
 refused_as_given a m s (causes.Doubled kid) h = h
-refused_as_given a m s (causes.Lost what) h = (h.0, as_given a m (λ seen. IsUnbuilt (metadata_view seen) s (causes.Lost what)) h.1)
-refused_as_given a m s causes.NoRootKrates h = (h.0, as_given a m (λ seen. IsUnbuilt (metadata_view seen) s causes.NoRootKrates) h.1)
-refused_as_given a m s causes.TooMany h = (h.0, as_given a m (λ seen. IsUnbuilt (metadata_view seen) s causes.TooMany) h.1)
+refused_as_given a m s (causes.Lost what) h = (h.0, as_given a m (λ seen. GraphRefusal (metadata_view seen) s (causes.Lost what)) h.1)
+refused_as_given a m s causes.NoRootKrates h = (h.0, as_given a m (λ seen. GraphRefusal (metadata_view seen) s causes.NoRootKrates) h.1)
+refused_as_given a m s causes.TooMany h = (h.0, as_given a m (λ seen. GraphRefusal (metadata_view seen) s causes.TooMany) h.1)
 refused_as_given a m s causes.Memory h = tt
 refused_as_given a m s (causes.Metadata cause) h = absurd h
 refused_as_given a m s (causes.InvalidPkgSpec text) h = absurd h
 
 -- the text of a document whose build is refused has no listing, for the same reason
 pub unbuilt : (s : SettingModel) (text : Text) (m : Metadata) → IsDocument text (metadata_view m) → (cause : build.Error) (e : RunError)
-    → IsRefusedAsGiven m s cause → BuildErrorBecomes cause e → IsUnlisted s text e
+    → BuildRefusalAsGiven m s cause → BuildErrorBecomes cause e → ListingRefusal s text e
 unbuilt s text m document cause (errors.Build same) refused becomes = record {
   metadata = m;
   document = document;
-  refused = subst (IsRefusedAsGiven m s) (sym becomes.0) refused;
+  refused = subst (BuildRefusalAsGiven m s) (sym becomes.0) refused;
   not_memory = λ is_memory. becomes.1 (sym becomes.0 ∙ is_memory);
 }
 unbuilt s text m document cause errors.Memory refused becomes = tt

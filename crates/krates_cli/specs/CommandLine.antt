@@ -4,7 +4,7 @@ use Rattle.std.specs.Io.KnownBytes.{Appends}
 use Rattle.krates_cm.specs.Document.{Text}
 use Rattle.krates_cli.specs.Counted.{AppendsFront, HasFailed, inner_of}
 use Rattle.krates_cli.specs.Listing.{IsListing}
-use Rattle.krates_cli.specs.ListingRefusals.{IsRunRefused}
+use Rattle.krates_cli.specs.ListingRefusals.{RunRefusal}
 use Rattle.krates_cli.specs.Options.{OptionsModel, IsCommandLine, setting_of}
 use Rattle.krates_cli.specs.declared.counted.Counted.{Counted}
 use Rattle.krates_cli.specs.declared.run_error.RunError.{RunError}
@@ -29,7 +29,7 @@ Asking words P = (o : OptionsModel) × IsCommandLine words o × P o
 -- The cause is true of the words and of the bytes that are to be read, where those are known. Memory may always run out.
 abbrev pub IsCause : List Text → Option Text → RunError → Type 0
 IsCause words remaining cause =
-    (cause ≡ errors.Memory) ⊎ Asking words (λ o. IfSome remaining (λ bytes. IsRunRefused (setting_of o) bytes cause))
+    (cause ≡ errors.Memory) ⊎ Asking words (λ o. IfSome remaining (λ bytes. RunRefusal (setting_of o) bytes cause))
 
 -- the words ask for something, and what is to be read has a listing under it
 abbrev pub AskForListing : List Text → Option Text → Type 0

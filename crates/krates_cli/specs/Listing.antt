@@ -9,7 +9,7 @@ use Rattle.krates_ids.specs.Identity.{Identity}
 use Rattle.krates_rules.specs.Facts.{Id, Cause}
 use Rattle.krates_rules.specs.Resolved.{id_of}
 use Rattle.krates_rules.specs.Setting.{SettingModel}
-use Rattle.krates.specs.Build.{IsResolvable, IsKept, IsNotKept, IsLost, AreThosePackages}
+use Rattle.krates.specs.Build.{IsResolvable, KeepsCrate, DropsCrate, IsLost, AreThosePackages}
 use Rattle.krates_cli.specs.Counted.{AppendsFront}
 use Rattle.krates_cli.specs.Lines.{lines_of}
 
@@ -18,12 +18,12 @@ use Rattle.krates_cli.specs.Lines.{lines_of}
 pub record IsSplit (s : SettingModel) (m : Metadata) (kept others : List Package) : Type 0 where
   pub resolvable : IsResolvable (metadata_view m)
   pub none_lost : (c : Cause) → IsLost (metadata_view m) s c → ⊥
-  pub some : (i : Id) × IsKept (metadata_view m) s i
+  pub some : (i : Id) × KeepsCrate (metadata_view m) s i
   pub kept_ids : List Identity
-  pub every : (i : Id) → IsKept (metadata_view m) s i ↔ Contains (map id_of kept_ids) i
-  pub kept_are : AreThosePackages m.packages.items (IsKept (metadata_view m) s) kept_ids kept
+  pub every : (i : Id) → KeepsCrate (metadata_view m) s i ↔ Contains (map id_of kept_ids) i
+  pub kept_are : AreThosePackages m.packages.items (KeepsCrate (metadata_view m) s) kept_ids kept
   pub other_ids : List Identity
-  pub others_are : AreThosePackages m.packages.items (IsNotKept (metadata_view m) s) other_ids others
+  pub others_are : AreThosePackages m.packages.items (DropsCrate (metadata_view m) s) other_ids others
 
 -- The text is a document, and these are the lines of its packages.
 pub record IsListing (s : SettingModel) (text lines : Text) : Type 0 where

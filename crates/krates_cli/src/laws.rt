@@ -5,7 +5,7 @@ ghost use Rattle.krates_cm.specs.Document.{Text};
 ghost use Rattle.krates_rules.specs.Setting.{SettingModel};
 ghost use Rattle.krates_cli.specs.CommandLine.{AskForListing, IsCause};
 ghost use Rattle.krates_cli.specs.Listing.{IsListing};
-ghost use Rattle.krates_cli.specs.ListingRefusals.{IsOutside, IsRunRefused};
+ghost use Rattle.krates_cli.specs.ListingRefusals.{IsOutside, RunRefusal};
 ghost use Rattle.krates_cli.specs.declared.run_error.RunError.{RunError};
 ghost use Rattle.krates_cli.specs.Options.{IsCommandLine, OptionsModel};
 
@@ -22,7 +22,7 @@ pub fn one_command_line()
 /// crates are kept than can be numbered. So it succeeds exactly where there is a listing, these aside.
 pub fn listed_or_refused()
     ensures text { (s : SettingModel) (bytes lines : Text) (cause : RunError)
-        → IsUtf8 bytes → IsListing s bytes lines → IsRunRefused s bytes cause → IsOutside cause }
+        → IsUtf8 bytes → IsListing s bytes lines → RunRefusal s bytes cause → IsOutside cause }
     ensures words { (words : List Text) (remaining : Option Text) (cause : RunError)
         → AskForListing words remaining → IsCause words remaining cause → IsOutside cause }
 {

@@ -3,7 +3,7 @@
 ghost use Rattle.std.specs.Prelude.{◌≡◌, ◌≢◌, IfErr, IfOk, IfSome, OnOk, string_bytes};
 ghost use Rattle.krates_cli.specs.Counted.{HasFailed, inner_of};
 ghost use Rattle.krates_cli.specs.Listing.{IsListing, WritesBeginning, WritesListing};
-ghost use Rattle.krates_cli.specs.ListingRefusals.{IsUnlisted, IsRunRefused};
+ghost use Rattle.krates_cli.specs.ListingRefusals.{ListingRefusal, RunRefusal};
 ghost use Rattle.krates_cli.specs.Options.{meant_setting};
 ghost use Rattle.krates_cli.specs.declared.run_error.RunError.TheVariants as errors;
 
@@ -21,7 +21,7 @@ use std::io::{Read, Write};
 /// `Memory`.
 fn listing(alloc: Global, options: &Options, text: &str) -> Result<String, RunError>
     ensures listed { IfOk result (λ lines. IsListing (meant_setting options.now) text.now (string_bytes lines)) }
-    ensures refused { IfErr result (IsUnlisted (meant_setting options.now) text.now) }
+    ensures refused { IfErr result (ListingRefusal (meant_setting options.now) text.now) }
 {
     let metadata = MetadataCommand::parse(alloc, text)?;
     let mut reported = Reported::new(alloc);
@@ -45,7 +45,7 @@ pub fn run<R: Read, W: Write>(
     output: &mut Counted<W>,
 ) -> Result<(), RunError>
     ensures written { OnOk result (IfSome (R.remaining (inner_of input.old)) (λ bytes. WritesListing (meant_setting options.now) bytes (W.contents (inner_of output.old)) (W.contents (inner_of output.new)))) }
-    ensures refused { IfErr result (λ e. IfSome (R.remaining (inner_of input.old)) (λ bytes. IsRunRefused (meant_setting options.now) bytes e)) }
+    ensures refused { IfErr result (λ e. IfSome (R.remaining (inner_of input.old)) (λ bytes. RunRefusal (meant_setting options.now) bytes e)) }
     ensures read { result ≡ Err errors.Read → HasFailed input.old input.new }
     ensures write { result ≡ Err errors.Write → HasFailed output.old output.new }
     ensures beginning { result ≡ Err errors.Write → IfSome (R.remaining (inner_of input.old))

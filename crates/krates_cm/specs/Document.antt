@@ -30,18 +30,23 @@ use Rattle.krates_cm.specs.declared.target.Edition.{Edition}
 abbrev pub Text : Type 0
 Text = List ℕ
 
+-- the bytes of a text
 abbrev pub text_view : String Global → Text
 text_view s = string_bytes s
 
+-- the texts of a list
 abbrev pub texts_view : Vec (String Global) → List Text
 texts_view v = map text_view v.items
 
+-- the text of a package id
 abbrev pub id_view : PackageId → Text
 id_view id = text_view id.repr
 
+-- the texts of a list of package ids
 abbrev pub ids_view : Vec PackageId → List Text
 ids_view ids = map id_view ids.items
 
+-- the text of a source
 abbrev pub source_view : Source → Text
 source_view s = text_view s.repr
 
@@ -55,23 +60,28 @@ VersionModel = ℕ × ℕ × ℕ × List ℕ × List ℕ
 abbrev pub RequirementModel : Type 0
 RequirementModel = List Held
 
+-- the comparators of a requirement
 abbrev pub requirement_view : VersionReq → RequirementModel
 requirement_view r = map comparator_view r.comparators.items
 
 -- ---- the resolved graph
 
+-- for what a dependency of a node is needed, and on which target
 pub record DepKindInfoModel : Type 0 where
   pub kind : DependencyKind
   pub target : Option Text
 
+-- a kind and a target, seen so
 abbrev pub dep_kind_info_view : DepKindInfo → DepKindInfoModel
 dep_kind_info_view k = record { kind = k.kind; target = option_map text_view k.target }
 
+-- a dependency of a node of the resolved graph
 pub record NodeDepModel : Type 0 where
   pub name : Text
   pub pkg : Text
   pub dep_kinds : List DepKindInfoModel
 
+-- a dependency of a node, seen so
 abbrev pub node_dep_view : NodeDep → NodeDepModel
 node_dep_view d = record {
   name = text_view d.name;
@@ -79,12 +89,14 @@ node_dep_view d = record {
   dep_kinds = map dep_kind_info_view d.dep_kinds.items;
 }
 
+-- a node of the resolved graph
 pub record NodeModel : Type 0 where
   pub id : Text
   pub deps : List NodeDepModel
   pub dependencies : List Text
   pub features : List Text
 
+-- a node, seen so
 abbrev pub node_view : Node → NodeModel
 node_view n = record {
   id = id_view n.id;
@@ -93,15 +105,18 @@ node_view n = record {
   features = texts_view n.features;
 }
 
+-- the resolved graph
 pub record ResolveModel : Type 0 where
   pub nodes : List NodeModel
   pub root : Option Text
 
+-- the resolved graph, seen so
 abbrev pub resolve_view : Resolve → ResolveModel
 resolve_view r = record { nodes = map node_view r.nodes.items; root = option_map id_view r.root }
 
 -- ---- packages
 
+-- a dependency that a package declares
 pub record DependencyModel : Type 0 where
   pub name : Text
   pub source : Option Text
@@ -115,6 +130,7 @@ pub record DependencyModel : Type 0 where
   pub registry : Option Text
   pub path : Option Text
 
+-- a declared dependency, seen so
 abbrev pub dependency_view : Dependency → DependencyModel
 dependency_view d = record {
   name = text_view d.name;
@@ -130,6 +146,7 @@ dependency_view d = record {
   path = option_map text_view d.path;
 }
 
+-- a library, binary, test or other target of a package
 pub record TargetModel : Type 0 where
   pub name : Text
   pub kind : List TargetKind
@@ -141,6 +158,7 @@ pub record TargetModel : Type 0 where
   pub test : Bool
   pub doc : Bool
 
+-- a target, seen so
 abbrev pub target_view : Target → TargetModel
 target_view t = record {
   name = text_view t.name;
@@ -158,9 +176,11 @@ target_view t = record {
 abbrev pub FeaturesModel : Type 0
 FeaturesModel = List (Text × List Text)
 
+-- the features of a map, in the order of their names
 abbrev pub features_view : BTreeMap (String Global) (Vec (String Global)) → FeaturesModel
 features_view m = map (λ e. (text_view e.0, texts_view e.1)) m.entries
 
+-- a package of the document
 pub record PackageModel : Type 0 where
   pub name : Text
   pub version : VersionModel
@@ -187,6 +207,7 @@ pub record PackageModel : Type 0 where
   pub default_run : Option Text
   pub rust_version : Option VersionModel
 
+-- a package, seen so
 abbrev pub package_view : Package → PackageModel
 package_view p = record {
   name = text_view p.name;
@@ -217,9 +238,11 @@ package_view p = record {
 
 -- ---- the whole document
 
+-- the default members, where the document has them
 abbrev pub default_members_view : WorkspaceDefaultMembers → Option (List Text)
 default_members_view m = option_map ids_view m.0
 
+-- the whole document
 pub record MetadataModel : Type 0 where
   pub packages : List PackageModel
   pub workspace_members : List Text
@@ -231,6 +254,7 @@ pub record MetadataModel : Type 0 where
   pub workspace_metadata : Data
   pub version : ℕ
 
+-- the whole document, seen so
 abbrev pub metadata_view : Metadata → MetadataModel
 metadata_view m = record {
   packages = map package_view m.packages.items;

@@ -12,9 +12,9 @@ use Rattle.krates_cm.specs.declared.package_id.PackageId.{PackageId}
 use Rattle.krates_ids.specs.Identity.{Identity, Reads, Fault, IsFault}
 use Rattle.krates_ids.specs.declared.error.Error.{Error}
 use Rattle.krates_ids.specs.declared.error.Error.TheVariants as errors
-use Rattle.krates_rules.specs.Admission.{package_texts, node_texts, dep_texts, StandsForId, of_dep, IsInvalidId, unread, bad_version, AreDepIds, AreIdsOf, StandsTwice, IsDoubled, doubled_package, doubled_node, doubled_dep, NoneDoubled, IdsModel}
-use Rattle.krates_rules.specs.AdmissionRefusals.{IsRefused}
-use Rattle.krates_document.specs.AdmissionSteps.{IsBadId, IsUnread, IsBadText, IsBadDep, IsBadNode, StandsTwiceAmong, AreDistinct, AreAllDistinct, IsTwice, IsTwiceIn, StandsTwiceWithin, among_packages, among_nodes, among_deps, IsTwiceWithin}
+use Rattle.krates_rules.specs.Admission.{package_texts, node_texts, dep_texts, StandsForId, of_dep, IsInvalidId, unread, bad_version, AreDepIds, AreIdsOf, IsDoubledIn, IsDoubled, doubled_package, doubled_node, doubled_dep, NoneDoubled, IdsModel}
+use Rattle.krates_rules.specs.AdmissionRefusals.{AdmissionRefusal}
+use Rattle.krates_document.specs.AdmissionSteps.{InvalidIdRefusal, UnreadRefusal, IsBadText, InvalidDepRefusal, InvalidNodeRefusal, IsDoubledAmong, AreDistinct, AreAllDistinct, DoubledRefusal, DoubledInRefusal, IsDoubledWithin, among_packages, among_nodes, among_deps, DoubledWithinRefusal}
 use Rattle.krates_rules.specs.Facts.{Id}
 use Rattle.krates_rules.specs.Resolved.{id_of}
 use Rattle.krates_rules.proofs.Readings.{left_of, right_of, ReadsOnce}
@@ -43,7 +43,7 @@ pub dep_texts_of : (n : Node) → dep_texts (node_view n) ≡ map (λ (d : NodeD
 dep_texts_of n = map-map (λ d. d.pkg) node_dep_view n.deps.items
 
 -- a bad dependency of a node is one of the nodes
-pub bad_node : (nodes : List NodeModel) (n : NodeModel) → Contains nodes n → (e : Error) → IsBadDep (dep_texts n) e → IsBadNode nodes e
+pub bad_node : (nodes : List NodeModel) (n : NodeModel) → Contains nodes n → (e : Error) → InvalidDepRefusal (dep_texts n) e → InvalidNodeRefusal nodes e
 bad_node nodes n among (errors.InvalidId t) h = (n, among, h.0, h.1)
 bad_node nodes n among errors.Memory h = tt
 bad_node nodes n among errors.NoResolveGraph h = absurd h
@@ -56,7 +56,7 @@ bad_node nodes n among errors.TooMany h = absurd h
 
 -- ---- what is wrong with an id is wrong with the document
 
-pub unread_bad : (m : MetadataModel) (g : ResolveModel) (texts : List Text) → ((t : Text) → Contains texts t → StandsForId m g t) → (e : Error) → IsUnread texts e → IsBadId m g e
+pub unread_bad : (m : MetadataModel) (g : ResolveModel) (texts : List Text) → ((t : Text) → Contains texts t → StandsForId m g t) → (e : Error) → UnreadRefusal texts e → InvalidIdRefusal m g e
 unread_bad m g texts stands (errors.InvalidId t) h = unread (stands (string_bytes t) h.0) h.1
 unread_bad m g texts stands (errors.Doubled kid) h = absurd h
 unread_bad m g texts stands errors.Memory h = tt
@@ -71,7 +71,7 @@ bad_text : (m : MetadataModel) (g : ResolveModel) (n : NodeModel) (t : Text) →
 bad_text m g n t among has (inl none) = unread (of_dep n among has) none
 bad_text m g n t among has (inr w) = bad_version n among has w.0 w.1 w.2
 
-pub node_bad : (m : MetadataModel) (g : ResolveModel) (e : Error) → IsBadNode g.nodes e → IsBadId m g e
+pub node_bad : (m : MetadataModel) (g : ResolveModel) (e : Error) → InvalidNodeRefusal g.nodes e → InvalidIdRefusal m g e
 node_bad m g (errors.InvalidId t) h = bad_text m g h.0 (string_bytes t) h.1 h.2 h.3
 node_bad m g (errors.Doubled kid) h = absurd h
 node_bad m g errors.Memory h = tt
@@ -83,7 +83,7 @@ node_bad m g errors.TooMany h = absurd h
 node_bad m g errors.NoResolveGraph h = absurd h
 
 -- a document with such an id is refused
-pub bad_refused : (m : MetadataModel) (g : ResolveModel) → m.resolve ≡ Some g → (e : Error) → IsBadId m g e → IsRefused m e
+pub bad_refused : (m : MetadataModel) (g : ResolveModel) → m.resolve ≡ Some g → (e : Error) → InvalidIdRefusal m g e → AdmissionRefusal m e
 bad_refused m g is (errors.InvalidId t) h = record { graph = g; has_graph = is; holds = h }
 bad_refused m g is (errors.Doubled kid) h = absurd h
 bad_refused m g is errors.Memory h = tt
@@ -96,7 +96,7 @@ bad_refused m g is errors.NoResolveGraph h = absurd h
 
 -- ---- what stands twice
 
-pub twice_packages : (ids : IdsModel) (e : Error) → IsTwice ids.packages e → IsTwiceWithin ids e
+pub twice_packages : (ids : IdsModel) (e : Error) → DoubledRefusal ids.packages e → DoubledWithinRefusal ids e
 twice_packages ids (errors.InvalidId t) h = absurd h
 twice_packages ids (errors.Doubled kid) h = among_packages h
 twice_packages ids errors.Memory h = tt
@@ -107,7 +107,7 @@ twice_packages ids (errors.Lost x) h = absurd h
 twice_packages ids errors.TooMany h = absurd h
 twice_packages ids errors.NoResolveGraph h = absurd h
 
-pub twice_nodes : (ids : IdsModel) (e : Error) → IsTwice ids.nodes e → IsTwiceWithin ids e
+pub twice_nodes : (ids : IdsModel) (e : Error) → DoubledRefusal ids.nodes e → DoubledWithinRefusal ids e
 twice_nodes ids (errors.InvalidId t) h = absurd h
 twice_nodes ids (errors.Doubled kid) h = among_nodes h
 twice_nodes ids errors.Memory h = tt
@@ -118,7 +118,7 @@ twice_nodes ids (errors.Lost x) h = absurd h
 twice_nodes ids errors.TooMany h = absurd h
 twice_nodes ids errors.NoResolveGraph h = absurd h
 
-pub twice_deps : (ids : IdsModel) (e : Error) → IsTwiceIn ids.deps e → IsTwiceWithin ids e
+pub twice_deps : (ids : IdsModel) (e : Error) → DoubledInRefusal ids.deps e → DoubledWithinRefusal ids e
 twice_deps ids (errors.InvalidId t) h = absurd h
 twice_deps ids (errors.Doubled kid) h = among_deps h.0 h.1 h.2
 twice_deps ids errors.Memory h = tt
@@ -129,7 +129,7 @@ twice_deps ids (errors.Lost x) h = absurd h
 twice_deps ids errors.TooMany h = absurd h
 twice_deps ids errors.NoResolveGraph h = absurd h
 
-twice_texts : (texts : List Text) (ids : List Identity) (id : Id) → AllZip Reads texts ids → StandsTwiceAmong ids id → StandsTwice texts id
+twice_texts : (texts : List Text) (ids : List Identity) (id : Id) → AllZip Reads texts ids → IsDoubledAmong ids id → IsDoubledIn texts id
 twice_texts texts ids id z t =
     let one = left_of Reads texts ids t.first t.one z t.at_first in
     let other = left_of Reads texts ids t.second t.other z t.at_second in
@@ -145,7 +145,7 @@ twice_texts texts ids id z t =
       other_reads = record { read = t.other; reads = other.2; same = t.other_is };
     }
 
-texts_twice : ReadsOnce → (texts : List Text) (ids : List Identity) (id : Id) → AllZip Reads texts ids → StandsTwice texts id → StandsTwiceAmong ids id
+texts_twice : ReadsOnce → (texts : List Text) (ids : List Identity) (id : Id) → AllZip Reads texts ids → IsDoubledIn texts id → IsDoubledAmong ids id
 texts_twice once texts ids id z t =
     let one = right_of Reads texts ids t.first t.one z t.at_first in
     let other = right_of Reads texts ids t.second t.other z t.at_second in
@@ -191,7 +191,7 @@ none_doubled once m g ids are distinct id (doubled_dep n among t) =
     let w = dep_list g.nodes ids.deps n among.0 are.deps among.1 among.2 in
     each_at AreDistinct ids.deps w.0 w.1.0 distinct.deps w.1.1 w.1.2 id (texts_twice once _ _ id w.2.read t)
 
-doubled_of : (m : MetadataModel) (g : ResolveModel) (ids : IdsModel) (id : Id) → AreIdsOf m g ids → StandsTwiceWithin ids id → IsDoubled m g id
+doubled_of : (m : MetadataModel) (g : ResolveModel) (ids : IdsModel) (id : Id) → AreIdsOf m g ids → IsDoubledWithin ids id → IsDoubled m g id
 doubled_of m g ids id are (among_packages t) = doubled_package (twice_texts _ _ id are.packages t)
 doubled_of m g ids id are (among_nodes t) = doubled_node (twice_texts _ _ id are.nodes t)
 doubled_of m g ids id are (among_deps list among t) =
@@ -199,7 +199,7 @@ doubled_of m g ids id are (among_deps list among t) =
     doubled_dep w.0 w.1 (twice_texts _ _ id w.2.read t)
 
 -- a document in which an id stands twice is refused
-pub twice_refused : (m : MetadataModel) (g : ResolveModel) (ids : IdsModel) → m.resolve ≡ Some g → AreIdsOf m g ids → (e : Error) → IsTwiceWithin ids e → IsRefused m e
+pub twice_refused : (m : MetadataModel) (g : ResolveModel) (ids : IdsModel) → m.resolve ≡ Some g → AreIdsOf m g ids → (e : Error) → DoubledWithinRefusal ids e → AdmissionRefusal m e
 twice_refused m g ids is are (errors.InvalidId t) h = absurd h
 twice_refused m g ids is are (errors.Doubled kid) h = record { graph = g; has_graph = is; holds = doubled_of m g ids (id_of kid) are h }
 twice_refused m g ids is are errors.Memory h = tt

@@ -10,7 +10,7 @@ use Rattle.std.specs.BTreeSet.{insert_key}
 use Rattle.std.specs.List.{list_any, slice_get}
 use Rattle.std.specs.Ordering.{is_eq, match_ordering}
 use Rattle.krates_ids.specs.Identity.{Identity, IsSameId, id_cmp}
-use Rattle.krates_document.specs.AdmissionSteps.{StandsTwiceAmong, AreDistinct}
+use Rattle.krates_document.specs.AdmissionSteps.{IsDoubledAmong, AreDistinct}
 use Rattle.krates_rules.specs.Facts.{Id}
 use Rattle.krates_rules.specs.Resolved.{id_of}
 
@@ -126,7 +126,7 @@ get_take (x ∷ xs) (suc i) zero a h = (omega arith, h)
 get_take (x ∷ xs) (suc i) (suc k) a h = let w = get_take xs i k a h in (omega (arith, w.0), w.1)
 
 -- an id that was seen stands twice
-pub seen_twice : OrderTellsSame → (ids : List Identity) (i : ℕ) (x : Identity) → i < length ids → x ≡ get_or ids i x → has_id (take i ids) x ≡ true → StandsTwiceAmong ids (id_of x)
+pub seen_twice : OrderTellsSame → (ids : List Identity) (i : ℕ) (x : Identity) → i < length ids → x ≡ get_or ids i x → has_id (take i ids) x ≡ true → IsDoubledAmong ids (id_of x)
 seen_twice tells ids i x lt is has =
     let w = place_of (take i ids) x has in
     let g = get_take ids i w.at w.there w.is in

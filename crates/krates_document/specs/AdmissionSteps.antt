@@ -11,35 +11,35 @@ use Rattle.krates_rules.specs.Resolved.{id_of}
 use Rattle.std.specs.List.{AllByRecursion}
 
 -- an id of the document is invalid
-abbrev pub IsBadId : MetadataModel → ResolveModel → Error → Type 0
-IsBadId m g (errors.InvalidId t) = IsInvalidId m g (string_bytes t)
-IsBadId m g errors.Memory = ⊤
-IsBadId m g _ = ⊥
+abbrev pub InvalidIdRefusal : MetadataModel → ResolveModel → Error → Type 0
+InvalidIdRefusal m g (errors.InvalidId t) = IsInvalidId m g (string_bytes t)
+InvalidIdRefusal m g errors.Memory = ⊤
+InvalidIdRefusal m g _ = ⊥
 
 -- one of the texts is no id
-abbrev pub IsUnread : List Text → Error → Type 0
-IsUnread texts (errors.InvalidId t) = Contains texts (string_bytes t) × ((i : Identity) → Reads (string_bytes t) i → ⊥)
-IsUnread texts errors.Memory = ⊤
-IsUnread texts _ = ⊥
+abbrev pub UnreadRefusal : List Text → Error → Type 0
+UnreadRefusal texts (errors.InvalidId t) = Contains texts (string_bytes t) × ((i : Identity) → Reads (string_bytes t) i → ⊥)
+UnreadRefusal texts errors.Memory = ⊤
+UnreadRefusal texts _ = ⊥
 
 -- the text is no id, or that of a dependency without a semantic version
 abbrev pub IsBadText : Text → Type 0
 IsBadText t = ((i : Identity) → Reads t i → ⊥) ⊎ ((i : Identity) × Reads t i × (version_named i.version ≡ None))
 
 -- one of the texts is bad
-abbrev pub IsBadDep : List Text → Error → Type 0
-IsBadDep texts (errors.InvalidId t) = Contains texts (string_bytes t) × IsBadText (string_bytes t)
-IsBadDep texts errors.Memory = ⊤
-IsBadDep texts _ = ⊥
+abbrev pub InvalidDepRefusal : List Text → Error → Type 0
+InvalidDepRefusal texts (errors.InvalidId t) = Contains texts (string_bytes t) × IsBadText (string_bytes t)
+InvalidDepRefusal texts errors.Memory = ⊤
+InvalidDepRefusal texts _ = ⊥
 
 -- a dependency of one of the nodes is
-abbrev pub IsBadNode : List NodeModel → Error → Type 0
-IsBadNode nodes (errors.InvalidId t) = (n : NodeModel) × Contains nodes n × Contains (dep_texts n) (string_bytes t) × IsBadText (string_bytes t)
-IsBadNode nodes errors.Memory = ⊤
-IsBadNode nodes _ = ⊥
+abbrev pub InvalidNodeRefusal : List NodeModel → Error → Type 0
+InvalidNodeRefusal nodes (errors.InvalidId t) = (n : NodeModel) × Contains nodes n × Contains (dep_texts n) (string_bytes t) × IsBadText (string_bytes t)
+InvalidNodeRefusal nodes errors.Memory = ⊤
+InvalidNodeRefusal nodes _ = ⊥
 
 -- the id stands at two places of a list of ids
-pub record StandsTwiceAmong (ids : List Identity) (id : Id) : Type 0 where
+pub record IsDoubledAmong (ids : List Identity) (id : Id) : Type 0 where
   pub first : ℕ
   pub second : ℕ
   pub apart : first < second
@@ -51,18 +51,18 @@ pub record StandsTwiceAmong (ids : List Identity) (id : Id) : Type 0 where
   pub other_is : id_of other ≡ id
 
 abbrev pub AreDistinct : List Identity → Type 0
-AreDistinct ids = (id : Id) → StandsTwiceAmong ids id → ⊥
+AreDistinct ids = (id : Id) → IsDoubledAmong ids id → ⊥
 
-abbrev pub IsTwice : List Identity → Error → Type 0
-IsTwice ids (errors.Doubled kid) = StandsTwiceAmong ids (id_of kid)
-IsTwice ids errors.Memory = ⊤
-IsTwice ids _ = ⊥
+abbrev pub DoubledRefusal : List Identity → Error → Type 0
+DoubledRefusal ids (errors.Doubled kid) = IsDoubledAmong ids (id_of kid)
+DoubledRefusal ids errors.Memory = ⊤
+DoubledRefusal ids _ = ⊥
 
 -- the id stands twice in one of the lists
-abbrev pub IsTwiceIn : List (List Identity) → Error → Type 0
-IsTwiceIn lists (errors.Doubled kid) = (ids : List Identity) × Contains lists ids × StandsTwiceAmong ids (id_of kid)
-IsTwiceIn lists errors.Memory = ⊤
-IsTwiceIn lists _ = ⊥
+abbrev pub DoubledInRefusal : List (List Identity) → Error → Type 0
+DoubledInRefusal lists (errors.Doubled kid) = (ids : List Identity) × Contains lists ids × IsDoubledAmong ids (id_of kid)
+DoubledInRefusal lists errors.Memory = ⊤
+DoubledInRefusal lists _ = ⊥
 
 pub record AreAllDistinct (ids : IdsModel) : Type 0 where
   pub packages : AreDistinct ids.packages
@@ -70,12 +70,12 @@ pub record AreAllDistinct (ids : IdsModel) : Type 0 where
   pub deps : AllByRecursion AreDistinct ids.deps
 
 -- the id stands twice among the packages, the nodes, or the dependencies of a node
-pub data StandsTwiceWithin (ids : IdsModel) (id : Id) : Type 0 where
-  among_packages : StandsTwiceAmong ids.packages id → StandsTwiceWithin ids id
-  among_nodes : StandsTwiceAmong ids.nodes id → StandsTwiceWithin ids id
-  among_deps : (list : List Identity) → Contains ids.deps list → StandsTwiceAmong list id → StandsTwiceWithin ids id
+pub data IsDoubledWithin (ids : IdsModel) (id : Id) : Type 0 where
+  among_packages : IsDoubledAmong ids.packages id → IsDoubledWithin ids id
+  among_nodes : IsDoubledAmong ids.nodes id → IsDoubledWithin ids id
+  among_deps : (list : List Identity) → Contains ids.deps list → IsDoubledAmong list id → IsDoubledWithin ids id
 
-abbrev pub IsTwiceWithin : IdsModel → Error → Type 0
-IsTwiceWithin ids (errors.Doubled kid) = StandsTwiceWithin ids (id_of kid)
-IsTwiceWithin ids errors.Memory = ⊤
-IsTwiceWithin ids _ = ⊥
+abbrev pub DoubledWithinRefusal : IdsModel → Error → Type 0
+DoubledWithinRefusal ids (errors.Doubled kid) = IsDoubledWithin ids (id_of kid)
+DoubledWithinRefusal ids errors.Memory = ⊤
+DoubledWithinRefusal ids _ = ⊥

@@ -6,8 +6,8 @@ ghost use Rattle.krates_cm.specs.Document.{Text, id_view, node_view, resolve_vie
 ghost use Rattle.krates_cm.specs.Names.{version_named};
 ghost use Rattle.krates_ids.specs.Identity.{Reads};
 ghost use Rattle.krates_rules.specs.Admission.{HasVersion, AreDepIds, IsRootId, AreIdsOf, IsAdmitted};
-ghost use Rattle.krates_rules.specs.AdmissionRefusals.{IsRefused};
-ghost use Rattle.krates_document.specs.AdmissionSteps.{IsBadId, IsUnread, IsBadDep, IsBadNode, AreDistinct, IsTwice, IsTwiceIn, AreAllDistinct, IsTwiceWithin};
+ghost use Rattle.krates_rules.specs.AdmissionRefusals.{AdmissionRefusal};
+ghost use Rattle.krates_document.specs.AdmissionSteps.{InvalidIdRefusal, UnreadRefusal, InvalidDepRefusal, InvalidNodeRefusal, AreDistinct, DoubledRefusal, DoubledInRefusal, AreAllDistinct, DoubledWithinRefusal};
 ghost use Rattle.krates_document.specs.Ids.{ids_view};
 
 use crate::declared_dependency::version_of;
@@ -26,7 +26,7 @@ use std::collections::BTreeSet;
 /// last two is named is left open. `Memory` may stand in place of any answer.
 pub fn admit(alloc: Global, metadata: &Metadata) -> Result<Ids, Error>
     ensures admitted { IfOk result (λ ids. IsAdmitted (metadata_view metadata.now) (ids_view ids)) }
-    ensures refused { IfErr result (IsRefused (metadata_view metadata.now)) }
+    ensures refused { IfErr result (AdmissionRefusal (metadata_view metadata.now)) }
 {
     laws::one_reading();
     let Some(resolve) = &metadata.resolve else {
@@ -40,7 +40,7 @@ pub fn admit(alloc: Global, metadata: &Metadata) -> Result<Ids, Error>
 /// Reads the ids of a document.
 fn ids_of(alloc: Global, metadata: &Metadata, resolve: &Resolve) -> Result<Ids, Error>
     ensures read { IfOk result (λ ids. AreIdsOf (metadata_view metadata.now) (resolve_view resolve.now) (ids_view ids)) }
-    ensures refused { IfErr result (IsBadId (metadata_view metadata.now) (resolve_view resolve.now)) }
+    ensures refused { IfErr result (InvalidIdRefusal (metadata_view metadata.now) (resolve_view resolve.now)) }
 {
     let packages = read_ids(alloc, &metadata.packages)?;
     let members = read_ids(alloc, &metadata.workspace_members)?;
@@ -59,7 +59,7 @@ fn ids_of(alloc: Global, metadata: &Metadata, resolve: &Resolve) -> Result<Ids, 
 /// Refuses an id that stands twice.
 fn expect_none_doubled(alloc: Global, ids: &Ids) -> Result<(), Error>
     ensures distinct { OnOk result (AreAllDistinct (ids_view ids.now)) }
-    ensures refused { IfErr result (IsTwiceWithin (ids_view ids.now)) }
+    ensures refused { IfErr result (DoubledWithinRefusal (ids_view ids.now)) }
 {
     expect_distinct(alloc, &ids.packages)?;
     expect_distinct(alloc, &ids.nodes)?;
@@ -70,7 +70,7 @@ fn expect_none_doubled(alloc: Global, ids: &Ids) -> Result<(), Error>
 /// Reads the id of the root, where there is one.
 fn read_root(root: &Option<PackageId>) -> Result<Option<Kid>, Error>
     ensures read { IfOk result (IsRootId (option_map id_view root.now)) }
-    ensures refused { IfErr result (IsUnread (option_to_list (option_map id_view root.now))) }
+    ensures refused { IfErr result (UnreadRefusal (option_to_list (option_map id_view root.now))) }
 {
     match root {
         Some(id) => Ok(Some(read_id(id)?)),
@@ -122,7 +122,7 @@ impl HasId for NodeDep {
 /// Reads an id.
 fn read_id(id: &PackageId) -> Result<Kid, Error>
     ensures read { IfOk result (λ kid. Reads (id_view id.now) kid) }
-    ensures refused { IfErr result (IsUnread (id_view id.now ∷ [])) }
+    ensures refused { IfErr result (UnreadRefusal (id_view id.now ∷ [])) }
 {
     laws::one_reading();
     let copy = PackageId {
@@ -140,7 +140,7 @@ fn read_id(id: &PackageId) -> Result<Kid, Error>
 /// Reads the ids of a list, in order.
 fn read_ids<T: HasId>(alloc: Global, items: &[T]) -> Result<Vec<Kid>, Error>
     ensures read { IfOk result (λ kids. AllZip Reads (map T.text items.now) kids.items) }
-    ensures refused { IfErr result (IsUnread (map T.text items.now)) }
+    ensures refused { IfErr result (UnreadRefusal (map T.text items.now)) }
 {
     let mut kids = Vec::new(alloc);
     for item in items {
@@ -160,7 +160,7 @@ fn has_version(alloc: Global, kid: &Kid) -> Result<bool, AllocError>
 fn read_dep_id(alloc: Global, dep: &NodeDep) -> Result<Kid, Error>
     ensures read { IfOk result (λ kid. Reads (id_view dep.now.pkg) kid) }
     ensures version { IfOk result HasVersion }
-    ensures refused { IfErr result (IsBadDep (id_view dep.now.pkg ∷ [])) }
+    ensures refused { IfErr result (InvalidDepRefusal (id_view dep.now.pkg ∷ [])) }
 {
     let kid = read_id(&dep.pkg)?;
     if has_version(alloc, &kid)? {
@@ -173,7 +173,7 @@ fn read_dep_id(alloc: Global, dep: &NodeDep) -> Result<Kid, Error>
 fn read_dep_ids(alloc: Global, deps: &[NodeDep]) -> Result<Vec<Kid>, Error>
     ensures read { IfOk result (λ kids. AllZip Reads (map (λ d. id_view d.pkg) deps.now) kids.items) }
     ensures versions { IfOk result (λ kids. AllByRecursion HasVersion kids.items) }
-    ensures refused { IfErr result (IsBadDep (map (λ d. id_view d.pkg) deps.now)) }
+    ensures refused { IfErr result (InvalidDepRefusal (map (λ d. id_view d.pkg) deps.now)) }
 {
     let mut kids = Vec::new(alloc);
     for dep in deps {
@@ -185,7 +185,7 @@ fn read_dep_ids(alloc: Global, deps: &[NodeDep]) -> Result<Vec<Kid>, Error>
 /// Reads the ids of each node's dependencies.
 fn read_deps(alloc: Global, nodes: &[Node]) -> Result<Vec<Vec<Kid>>, Error>
     ensures read { IfOk result (λ lists. AllZip AreDepIds (map node_view nodes.now) (map (λ kids. kids.items) lists.items)) }
-    ensures refused { IfErr result (IsBadNode (map node_view nodes.now)) }
+    ensures refused { IfErr result (InvalidNodeRefusal (map node_view nodes.now)) }
 {
     let mut lists = Vec::new(alloc);
     for node in nodes {
@@ -197,7 +197,7 @@ fn read_deps(alloc: Global, nodes: &[Node]) -> Result<Vec<Vec<Kid>>, Error>
 /// Refuses an id that stands twice.
 fn expect_distinct(alloc: Global, kids: &[Kid]) -> Result<(), Error>
     ensures distinct { OnOk result (AreDistinct kids.now) }
-    ensures refused { IfErr result (IsTwice kids.now) }
+    ensures refused { IfErr result (DoubledRefusal kids.now) }
 {
     laws::comparison();
     let mut seen: BTreeSet<&Kid> = BTreeSet::new(alloc);
@@ -212,7 +212,7 @@ fn expect_distinct(alloc: Global, kids: &[Kid]) -> Result<(), Error>
 /// Refuses an id that stands twice in one of the lists.
 fn expect_all_distinct(alloc: Global, lists: &[Vec<Kid>]) -> Result<(), Error>
     ensures distinct { OnOk result (AllByRecursion AreDistinct (map (λ kids. kids.items) lists.now)) }
-    ensures refused { IfErr result (IsTwiceIn (map (λ kids. kids.items) lists.now)) }
+    ensures refused { IfErr result (DoubledInRefusal (map (λ kids. kids.items) lists.now)) }
 {
     for kids in lists {
         expect_distinct(alloc, kids)?;

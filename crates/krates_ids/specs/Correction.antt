@@ -18,9 +18,11 @@ pub record IndexVersionModel : Type 0 where
   pub version : VersionModel
   pub features : FeaturesModel
 
+-- a version that the index knows, with its features
 abbrev pub index_version_view : IndexKrateVersion → IndexVersionModel
 index_version_view v = record { version = parts_of v.version; features = features_view v.features }
 
+-- the versions of a crate that the index knows
 abbrev pub index_krate_view : IndexKrate → List IndexVersionModel
 index_krate_view k = map index_version_view k.versions.items
 
@@ -28,6 +30,7 @@ index_krate_view k = map index_version_view k.versions.items
 abbrev pub IndexModel : Type 0
 IndexModel = List (Text × Option (List IndexVersionModel))
 
+-- what the index answers, by name
 abbrev pub index_view : IndexAnswer → IndexModel
 index_view a = map (λ e. (text_view e.0, option_map index_krate_view e.1)) a.krates.entries
 

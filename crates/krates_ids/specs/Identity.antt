@@ -47,6 +47,7 @@ pub record IsOpaqueForm (t name version source : Text) : Type 0 where
 
 -- ---- the stable form: LEFT "#" FRAGMENT
 
+-- how the source of a package from a git repository begins
 abbrev pub git : Text
 git = codes "git+"
 

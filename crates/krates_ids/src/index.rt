@@ -1,17 +1,9 @@
-//! What the index of crates.io knows of packages, and the correction of their features by it.
+//! What the index of crates.io knows of packages.
 //!
 //! The manifest of a published package may lack features that the index has, and the features that its optional
 //! dependencies are. Source: the Cargo Book, "Features", and "Registry Index".
 
-ghost use Rattle.std.specs.Prelude.{◌≡◌, ◌↔◌, IsTrue, OnOk, OnErr, MatchOption, Some, map, length};
-ghost use Rattle.semver.specs.Identifiers.{parts_of};
-ghost use Rattle.krates_cm.specs.Document.{FeaturesModel, features_view, package_view, source_view};
-ghost use Rattle.krates_ids.specs.Correction.{crates_io, index_view, index_version_view, IsFirstEqual, IsIndexed, IsCorrected};
-
-use crate::corrected_features::corrected_features;
-use krates_cm::Package;
 use semver::Version;
-use std::alloc::{AllocError, Global};
 use std::collections::{BTreeMap, BTreeSet};
 
 /// The features of a package, each with what it enables.
@@ -49,89 +41,3 @@ pub struct IndexAnswer {
 
 /// What looks the names of packages up in an index, once.
 pub type BuildIndexCache = Box<dyn FnOnce(PackageNames) -> IndexAnswer>;
-
-/// What an index has answered about the packages of a document.
-#[derive(Drop)]
-pub struct CachingIndex {
-    /// The answer.
-    pub answer: IndexAnswer,
-}
-
-impl CachingIndex {
-    /// Asks the index for these names, and keeps what it answers.
-    pub fn new(build: BuildIndexCache, names: PackageNames) -> CachingIndex
-        requires { BuildIndexCache.pre build names }
-        ensures { BuildIndexCache.post build names result.answer }
-    {
-        CachingIndex {
-            answer: build(names),
-        }
-    }
-
-    /// Corrects the features of a package of crates.io that the answer has, by the features that it has there; any other
-    /// package is left as it is.
-    ///
-    /// Features are only added, and those of the manifest keep their values. To correct twice is to correct once.
-    /// Errs where memory is wanted, and then the package is unchanged.
-    pub fn correct(&self, alloc: Global, pkg: &mut Package) -> Result<(), AllocError>
-        ensures corrected { OnOk result (IsCorrected (index_view self.now.answer) (package_view pkg.old) (package_view pkg.new)) }
-        ensures nothing_else { OnOk result (pkg.new ≡ record pkg.old { features = pkg.new.features }) }
-        ensures refused { OnErr result (pkg.new ≡ pkg.old) }
-    {
-        if let Some(features) = indexed_features(&self.answer, pkg) {
-            let corrected = corrected_features(alloc, &pkg.features, features)?;
-            pkg.features = corrected;
-        }
-        Ok(())
-    }
-}
-
-/// The features that the index has of a package of crates.io, where it has its version.
-fn indexed_features<'a>(answer: &'a IndexAnswer, pkg: &Package) -> Option<&'a FeaturesMap>
-    ensures { let index = index_view answer.now in let model = package_view pkg.now in
-        MatchOption result ((features : FeaturesModel) → IsIndexed index model features → ⊥) (λ features. IsIndexed index model (features_view features.now)) }
-{
-    if !is_of_crates_io(pkg) {
-        return None;
-    }
-    let Some(known) = answer.krates.get(pkg.name.as_str()) else {
-        return None;
-    };
-    match known {
-        Some(krate) => features_of(&krate.versions, &pkg.version),
-        None => None,
-    }
-}
-
-/// Whether the source of a package is exactly that of crates.io.
-fn is_of_crates_io(pkg: &Package) -> bool
-    ensures { IsTrue result ↔ ((package_view pkg.now).source ≡ Some crates_io) }
-{
-    match &pkg.source {
-        Some(source) => {
-            source.repr.as_str() == "registry+https://github.com/rust-lang/crates.io-index"
-        }
-        None => false,
-    }
-}
-
-/// The features of the first version that equals this one in all five parts, where there is one.
-fn features_of<'a>(versions: &'a [IndexKrateVersion], version: &Version) -> Option<&'a FeaturesMap>
-    ensures { let all = map index_version_view versions.now in let wanted = parts_of version.now in
-        MatchOption result ((place : _) (features : FeaturesModel) → IsFirstEqual all wanted place features → ⊥)
-        (λ features. (place : _) × IsFirstEqual all wanted place (features_view features.now)) }
-{
-    for indexed in versions {
-        if is_same_version(&indexed.version, version) {
-            return Some(&indexed.features);
-        }
-    }
-    None
-}
-
-/// Whether the versions are equal in all five parts: the three numbers, the pre-release and the build metadata.
-fn is_same_version(left: &Version, right: &Version) -> bool
-    ensures { IsTrue result ↔ (parts_of left.now ≡ parts_of right.now) }
-{
-    left == right
-}

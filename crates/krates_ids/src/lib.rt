@@ -7,6 +7,7 @@ pub mod error;
 mod escapes;
 mod id_error;
 pub mod index;
+pub mod correction;
 pub mod kid;
 pub mod laws;
 mod opaque;
@@ -16,9 +17,7 @@ mod stable;
 
 pub use error::{Error, Lost};
 pub use id_error::IdError;
-pub use index::{
-    BuildIndexCache, CachingIndex, FeaturesMap, IndexAnswer, IndexKrate, IndexKrateVersion,
-    PackageNames,
-};
+pub use correction::CachingIndex;
+pub use index::{BuildIndexCache, FeaturesMap, IndexAnswer, IndexKrate, IndexKrateVersion, PackageNames};
 pub use kid::Kid;
 pub use pkgspec::PkgSpec;

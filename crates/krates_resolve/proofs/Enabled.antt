@@ -3,7 +3,7 @@ use Rattle.krates_cm.specs.Document.{Text}
 use Rattle.krates_rules.specs.Admission.{NoneDoubled}
 use Rattle.krates_rules.specs.Facts.{Id, Feature, Toggled}
 use Rattle.krates_rules.specs.Features.{ListsFeature, LacksFeature}
-use Rattle.krates_resolve.specs.Found.{HasFound, IsNamedIn, IsToggledIn}
+use Rattle.krates_resolve.specs.Found.{HasFound, IsEnabledBySome, IsToggledIn}
 use Rattle.krates_rules.specs.Resolved.{Resolved}
 use Rattle.krates_resolve.specs.declared.found.Found.{Found}
 
@@ -12,7 +12,7 @@ pub not_lacking : (r : Resolved) (i : Id) (f : Text) → NoneDoubled r.metadata 
 not_lacking r i f none lists lacks = lacks lists
 
 -- it is named in what has been found, where it is found
-pub named_here : (r : Resolved) (x : Found) (i : Id) (f : Text) → NoneDoubled r.metadata r.graph → ListsFeature r i f → HasFound r x (Feature i f) → IsNamedIn r x i f
+pub named_here : (r : Resolved) (x : Found) (i : Id) (f : Text) → NoneDoubled r.metadata r.graph → ListsFeature r i f → HasFound r x (Feature i f) → IsEnabledBySome r x i f
 named_here r x i f none lists found = record { enabled = λ h. found; listed = λ h. not_lacking r i f none lists h }
 
 -- it is toggled in what has been found, where it is found

@@ -9,7 +9,7 @@ use Rattle.krates_resolve.specs.Found.{HasFound, IsTried, MayTry, IsRequired, Ta
 use Rattle.krates_rules.specs.Kind.{kind_of, ignores}
 use Rattle.krates_resolve.specs.Lookup.{TellsMember}
 use Rattle.krates_resolve.specs.NodeEntry.{parent_of, child_of, declared_in, entry_of, IsEntry, edge_for}
-use Rattle.krates_rules.specs.Questions.{Stands, LacksNode, IsListed, IsDeclaredAt, IsWanted, IsLoose, kind_info_of, questions, IsLeftOut}
+use Rattle.krates_rules.specs.Questions.{Stands, LacksNode, IsConsidered, IsDeclaredAt, IsWanted, IsLoose, kind_info_of, questions, IsLeftOut}
 use Rattle.krates_rules.specs.Resolved.{Resolved, NoPackage}
 use Rattle.krates_rules.specs.Rules.{Questions, required, target, lost_undeclared, lost_required_package, lost_required_node}
 use Rattle.krates_resolve.specs.Selection.{edge_view, IsPlaced}
@@ -43,7 +43,7 @@ pub heeds : (r : Resolved) (s : SettingModel) (x : NodeEntry) (k : DepKindInfoMo
     → Heeds r s x k
 heeds r s x k h c b is off = record { at = h; among = c; not_ignored = not_ignored r s (edge_for x k) x.is_member h.tells (sym is ∙ off) }
 
-listed : (r : Resolved) (s : SettingModel) (x : NodeEntry) (k : DepKindInfoModel) → Heeds r s x k → IsListed r s (edge_for x k) (node_dep_view x.dep.now)
+listed : (r : Resolved) (s : SettingModel) (x : NodeEntry) (k : DepKindInfoModel) → Heeds r s x k → IsConsidered r s (edge_for x k) (node_dep_view x.dep.now)
 listed r s x k h = record { lists = record { node = h.at.node; has_node = h.at.has_node; has_dep = h.at.has_dep; has_kind = h.among }; not_ignored = h.not_ignored }
 
 pub declared_at : (r : Resolved) (s : SettingModel) (x : NodeEntry) (k : DepKindInfoModel) (place : ℕ) (d : DependencyModel) → Heeds r s x k
@@ -77,7 +77,7 @@ placed r s x k e place d h first is at first_of_kind =
     record { dependency = d; declared = here.0; place = here.1 }
 
 -- a listed edge is listed by the entry's own dependency
-own_dep : (r : Resolved) (s : SettingModel) (x : NodeEntry) (k : DepKindInfoModel) (dep : NodeDepModel) → NoneDoubled r.metadata r.graph → IsEntry r x → IsListed r s (edge_for x k) dep → dep ≡ node_dep_view x.dep.now
+own_dep : (r : Resolved) (s : SettingModel) (x : NodeEntry) (k : DepKindInfoModel) (dep : NodeDepModel) → NoneDoubled r.metadata r.graph → IsEntry r x → IsConsidered r s (edge_for x k) dep → dep ≡ node_dep_view x.dep.now
 own_dep r s x k dep none h l = one_dep r (parent_of x) (child_of x) l.lists.node h.node dep (node_dep_view x.dep.now) none l.lists.has_node h.has_node l.lists.has_dep h.has_dep
 
 -- the edge is wanted for one declared dependency alone

@@ -18,7 +18,7 @@ use Rattle.krates_rules.specs.Features.{ListsFeature, LacksFeature}
 use Rattle.krates_resolve.specs.ListedFeatures.{features_from, features_of_node, listed_features}
 use Rattle.krates_rules.specs.Resolved.{NodeAt, Resolved, HasNode}
 use Rattle.krates_resolve.specs.Numbering.{FeatureAt}
-use Rattle.krates_resolve.specs.declared.features.ListedFeature.{ListedFeature}
+use Rattle.krates_resolve.specs.declared.feature_table.ListedFeature.{ListedFeature}
 use Rattle.krates_rules.proofs.OnlyOne.{place_in, one_node}
 use Rattle.krates_rules.proofs.Standings.{contains_at}
 

@@ -13,7 +13,7 @@ use Rattle.krates_rules.specs.Resolved.{NodeAt, Resolved, id_of}
 use Rattle.krates_resolve.specs.Lookup.{IsLookup, resolved_view}
 use Rattle.krates_resolve.specs.Numbering.{FeatureAt}
 use Rattle.krates_resolve.specs.Selection.{feature_fact}
-use Rattle.krates_resolve.specs.declared.features.ListedFeature.{ListedFeature}
+use Rattle.krates_resolve.specs.declared.feature_table.ListedFeature.{ListedFeature}
 use Rattle.krates_resolve.specs.declared.lookup.Lookup.{Lookup}
 use Rattle.krates_resolve.specs.declared.selection.EnabledFeature.{EnabledFeature}
 use Rattle.krates_rules.proofs.Readings.{ReadsOnce, left_of, right_of}

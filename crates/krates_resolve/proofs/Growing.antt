@@ -3,7 +3,7 @@ use Rattle.std.proofs.Common.{refl, ◌∙◌}
 use Rattle.krates_cm.specs.Document.{Text, DependencyModel}
 use Rattle.krates_text.specs.FeatureReference.{Reference, krate, weak, strong, simple}
 use Rattle.krates_rules.specs.Facts.{Id, Edge, Crate, Feature, Kept, Toggled}
-use Rattle.krates_resolve.specs.Found.{IsNamedIn, IsToggledIn, HasUsed, IsTried, IsAsked, IsToggledStrongly, IsWaiting, IsFollowed, IsHeeded, IsRooted, IsExpanded, HasRoots, IsSound, Grows, Advances, IsAny}
+use Rattle.krates_resolve.specs.Found.{IsEnabledBySome, IsToggledIn, HasUsed, IsTried, IsAsked, IsToggledStrongly, IsWaiting, IsFollowed, IsHeeded, IsRooted, IsExpanded, HasRoots, IsSound, Grows, Advances, IsAny}
 use Rattle.krates_rules.specs.Resolved.{Resolved}
 use Rattle.krates_rules.specs.Rules.{default_name}
 use Rattle.krates_rules.specs.Setting.{SettingModel}
@@ -28,7 +28,7 @@ advances_refl r s x sound = record { sound = sound; grows = grows_refl r x }
 pub advances_trans : (r : Resolved) (s : SettingModel) (x y z : Found) → Advances r s x y → Advances r s y z → Advances r s x z
 advances_trans r s x y z a b = record { sound = b.sound; grows = grows_trans r x y z a.grows b.grows }
 
-pub named_grows : (r : Resolved) (x y : Found) (i : Id) (f : Text) → Grows r x y → IsNamedIn r x i f → IsNamedIn r y i f
+pub named_grows : (r : Resolved) (x y : Found) (i : Id) (f : Text) → Grows r x y → IsEnabledBySome r x i f → IsEnabledBySome r y i f
 named_grows r x y i f g h = record { enabled = λ lists. g.found (Feature i f) (h.enabled lists); listed = h.listed }
 
 pub toggled_grows : (r : Resolved) (x y : Found) (p c : Id) (f : Text) → Grows r x y → IsToggledIn r x p c f → IsToggledIn r y p c f

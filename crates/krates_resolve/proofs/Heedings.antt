@@ -16,7 +16,7 @@ use Rattle.krates_rules.specs.Facts.{Id, Edge, Fact, Crate, Feature, Kept}
 use Rattle.krates_resolve.specs.FeatureTable.{listed_view}
 use Rattle.krates_resolve.specs.FeatureValues.{AreValuesOf}
 use Rattle.krates_resolve.specs.Found.{HasFound, IsToggledIn, IsAsked, IsAskedWeakly, IsToggledStrongly, IsWaiting, IsFollowed, IsHeeded, IsValueOfEnabled, IsSound, Advances, AreTried, IsAny, MayTry, MayName, MayToggle}
-use Rattle.krates_resolve.specs.Heeding.{MayAsk, MayWait}
+use Rattle.krates_resolve.specs.Heeding.{MayAsk, HasEnabledReference}
 use Rattle.krates_rules.specs.Resolved.{DepAt, NodeAt, Resolved, NoNode, HasNode, HasDep, id_of}
 use Rattle.krates_resolve.specs.Links.{IsMarked, Waits, HasWaiter}
 use Rattle.krates_resolve.specs.ListedFeatures.{listed_features}
@@ -27,7 +27,7 @@ use Rattle.krates_rules.specs.Questions.{questions}
 use Rattle.krates_rules.specs.Referent.{IsReferent, id_order}
 use Rattle.krates_rules.specs.Rules.{Questions, IsAskedFor, feature_crate, named, lost_named, asked, toggled_strongly, lost_asked_package, lost_asked_node, lost_toggled_strongly, toggled_weakly, lost_toggled_weakly}
 use Rattle.krates_rules.specs.Setting.{SettingModel}
-use Rattle.krates_resolve.specs.declared.features.ListedFeature.{ListedFeature}
+use Rattle.krates_resolve.specs.declared.feature_table.ListedFeature.{ListedFeature}
 use Rattle.krates_resolve.specs.declared.found.Found.{Found}
 use Rattle.krates_resolve.specs.declared.links.Links.{Links}
 use Rattle.krates_resolve.specs.declared.lookup.Lookup.{Lookup}
@@ -52,10 +52,10 @@ feature_keeps : (r : Resolved) (s : SettingModel) (i : Id) (f : Text) → Deriva
 feature_keeps r s i f enabled = follows (feature_crate {p = i} {f = f}) (one (questions r s) (Feature i f) enabled)
 
 -- a text is the value of an enabled feature, so its reference is one
-pub value_may : (r : Resolved) (s : SettingModel) (i : Id) (text : Text) (reference : Reference) → IsValueOfEnabled r s i text → IsReference text reference → MayWait r s i reference
+pub value_may : (r : Resolved) (s : SettingModel) (i : Id) (text : Text) (reference : Reference) → IsValueOfEnabled r s i text → IsReference text reference → HasEnabledReference r s i reference
 value_may r s i text reference v is = record { feature = v.feature; enabled = v.enabled; refers = v.refers reference is }
 
-pub may_name : (r : Resolved) (s : SettingModel) (i : Id) (g : Text) → MayWait r s i (simple g) → MayName r s i g
+pub may_name : (r : Resolved) (s : SettingModel) (i : Id) (g : Text) → HasEnabledReference r s i (simple g) → MayName r s i g
 unfolding questions
 may_name r s i g m = record {
   enabled = λ lists. follows (named {p = i} {f = m.feature} {g = g} m.refers lists) (one (questions r s) (Feature i m.feature) m.enabled);
@@ -76,7 +76,7 @@ asked_may_try r s e name m referent =
       declared = undeclared_lost r s e (feature_keeps r s e.parent f m.has.enabled);
     }
 
-pub may_toggle_strongly : (r : Resolved) (s : SettingModel) (e : Edge) (name g : Text) → MayWait r s e.parent (strong name g) → IsReferent r e.parent name e.child → Derivable (questions r s) (Kept e) → MayToggle r s e.parent e.child g
+pub may_toggle_strongly : (r : Resolved) (s : SettingModel) (e : Edge) (name g : Text) → HasEnabledReference r s e.parent (strong name g) → IsReferent r e.parent name e.child → Derivable (questions r s) (Kept e) → MayToggle r s e.parent e.child g
 unfolding questions
 may_toggle_strongly r s e name g m referent kept =
     let premises = two (questions r s) (Feature e.parent m.feature) (Kept e) m.enabled kept in
@@ -85,7 +85,7 @@ may_toggle_strongly r s e name g m referent kept =
       listed = λ lacks. follows (lost_toggled_strongly {e = e} {f = m.feature} {g = g} {c = name} m.refers referent lacks) premises;
     }
 
-pub may_toggle_weakly : (r : Resolved) (s : SettingModel) (e : Edge) (name g : Text) → MayWait r s e.parent (weak name g) → IsReferent r e.parent name e.child → Derivable (questions r s) (Kept e) → MayToggle r s e.parent e.child g
+pub may_toggle_weakly : (r : Resolved) (s : SettingModel) (e : Edge) (name g : Text) → HasEnabledReference r s e.parent (weak name g) → IsReferent r e.parent name e.child → Derivable (questions r s) (Kept e) → MayToggle r s e.parent e.child g
 unfolding questions
 may_toggle_weakly r s e name g m referent kept =
     let premises = two (questions r s) (Feature e.parent m.feature) (Kept e) m.enabled kept in
@@ -194,7 +194,7 @@ pub record IsReady (r : Resolved) (s : SettingModel) (x y : Found) (p child : Id
   pub advances : Advances r s x y
   pub toggled : IsMarked y.links place index → IsToggledIn r y p child g
 
-pub asked_weakly : (r : Resolved) (s : SettingModel) (p child : Id) (name g : Text) → MayWait r s p (weak name g) → IsReferent r p name child → IsAskedWeakly r s p child g
+pub asked_weakly : (r : Resolved) (s : SettingModel) (p child : Id) (name g : Text) → HasEnabledReference r s p (weak name g) → IsReferent r p name child → IsAskedWeakly r s p child g
 asked_weakly r s p child name g m is = record { feature = m.feature; enabled = m.enabled; name = name; refers = m.refers; referent = is }
 
 -- ---- a text is one reference

@@ -10,7 +10,7 @@ use Rattle.krates_ids.specs.Identity.{Identity, Reads, id_cmp}
 use Rattle.krates_rules.specs.Admission.{NoneDoubled, dep_texts}
 use Rattle.krates_rules.specs.Facts.{Id}
 use Rattle.krates_resolve.specs.NodeEntry.{AreParts}
-use Rattle.krates_rules.specs.Referent.{AnswersTo, IsNamed, IsReferent, id_order}
+use Rattle.krates_rules.specs.Referent.{AnswersTo, AnswersIn, IsReferent, id_order}
 use Rattle.krates_resolve.specs.ReferentPlace.{IsBefore, IsReferentAt}
 use Rattle.krates_rules.specs.Resolved.{Resolved, HasDep, id_of}
 use Rattle.krates_resolve.specs.declared.node_entry.NodeParts.{NodeParts}
@@ -141,11 +141,11 @@ has_dep_at r parts name k c p a =
     (here, has_dep_here p.at.node parts.children.now k a.dep c p.children here a.at)
 
 -- what answers is named
-named_there : (r : Resolved) (parts : NodeParts) (name : Text) (k : ℕ) (c : Identity) → AreParts r parts.place parts → AnswersAt r parts name k c → IsNamed r (id_of parts.parent.now) name (id_of c)
+named_there : (r : Resolved) (parts : NodeParts) (name : Text) (k : ℕ) (c : Identity) → AreParts r parts.place parts → AnswersAt r parts name k c → AnswersIn r (id_of parts.parent.now) name (id_of c)
 named_there r parts name k c p a = record { node = p.at.node; has_node = p.has_node; dep = a.dep; has_dep = (has_dep_at r parts name k c p a).1; answers = a.answers }
 
 -- and what is named answers at some place
-answers_there : ReadsOnce → (r : Resolved) (parts : NodeParts) (name : Text) (child : Id) → NoneDoubled r.metadata r.graph → AreParts r parts.place parts → IsNamed r (id_of parts.parent.now) name child
+answers_there : ReadsOnce → (r : Resolved) (parts : NodeParts) (name : Text) (child : Id) → NoneDoubled r.metadata r.graph → AreParts r parts.place parts → AnswersIn r (id_of parts.parent.now) name child
     → (k : ℕ) × (c : Identity) × (k < length parts.children.now) × AnswersAt r parts name k c × (id_of c ≡ child)
 answers_there once r parts name child none p n =
     let same = one_node r (id_of parts.parent.now) n.node p.at.node none n.has_node p.has_node in

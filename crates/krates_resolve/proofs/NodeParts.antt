@@ -18,7 +18,7 @@ use Rattle.krates_resolve.specs.Found.{IsTried, AreTried, IsExpanded, Grows, IsR
 use Rattle.krates_rules.specs.Resolved.{DepAt, NodeAt, Resolved, id_of, ReadsAs, HasNode, HasDep}
 use Rattle.krates_resolve.specs.Lookup.{IsLookup, TellsMember, resolved_view}
 use Rattle.krates_resolve.specs.NodeEntry.{AreDeclaredBy, AreParts, IsEntry, IsEntryOf}
-use Rattle.krates_rules.specs.Questions.{edge_between, IsListed, kind_info_of}
+use Rattle.krates_rules.specs.Questions.{edge_between, IsConsidered, kind_info_of}
 use Rattle.krates_resolve.specs.declared.found.Found.{Found}
 use Rattle.krates_resolve.specs.declared.lookup.Lookup.{Lookup}
 use Rattle.krates_resolve.specs.declared.node_entry.NodeEntry.{NodeEntry}
@@ -78,7 +78,7 @@ tried_more r s x y parent ds ids at d i g here id_here h now k e j below there i
 ]
 
 -- the edge has been tried where it has been for each dependency that lists it
-tried_by_listed : (r : Resolved) (s : SettingModel) (x : Found) (e : Edge) (taken : DependencyModel → Type 0) → ((dep : NodeDepModel) → IsListed r s e dep → IsTried r s x e taken) → IsTried r s x e taken
+tried_by_listed : (r : Resolved) (s : SettingModel) (x : Found) (e : Edge) (taken : DependencyModel → Type 0) → ((dep : NodeDepModel) → IsConsidered r s e dep → IsTried r s x e taken) → IsTried r s x e taken
 tried_by_listed r s x e taken tried = record {
   kept = λ d w is_taken stands. (tried w.declared.dep w.declared.listed).kept d w is_taken stands;
   declared = λ loose. (tried loose.dep loose.listed).declared loose;
@@ -88,7 +88,7 @@ tried_by_listed r s x e taken tried = record {
 
 -- an edge that the node lists is one of those that were tried
 listed_tried : ReadsOnce → (r : Resolved) (s : SettingModel) (x : Found) (e : Edge) (n : NodeModel) (ids : List Identity) (dep : NodeDepModel) → NoneDoubled r.metadata r.graph → HasNode r e.parent n → AreDepIds n ids
-    → TriedBelow r s x e.parent n.deps ids (length ids) → IsListed r s e dep → IsTried r s x e IsRequired
+    → TriedBelow r s x e.parent n.deps ids (length ids) → IsConsidered r s e dep → IsTried r s x e IsRequired
 listed_tried once r s x e n ids dep none has z all l =
     let same = one_node r e.parent l.lists.node n none l.lists.has_node has in
     let d = subst (λ (m : NodeModel). HasDep m e.child dep) same l.lists.has_dep in

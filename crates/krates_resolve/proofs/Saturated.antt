@@ -13,7 +13,7 @@ use Rattle.krates_rules.specs.Resolved.{DepAt, Resolved}
 use Rattle.krates_resolve.specs.Links.{AreNew, HasLinks}
 use Rattle.krates_resolve.specs.ListedFeatures.{listed_features}
 use Rattle.krates_rules.specs.Questions.{IsDeclaredAs, Stands, IsWanted, questions}
-use Rattle.krates_rules.specs.References.{AsksFor}
+use Rattle.krates_rules.specs.References.{Demands}
 use Rattle.krates_rules.specs.Referent.{IsReferent}
 use Rattle.krates_rules.specs.Rules.{Rule, IsAskedFor, root_crate, root_feature, lost_root_package, lost_root_node, feature_crate, named, lost_named, asked, toggled_strongly, lost_asked_package, lost_asked_node, lost_toggled_strongly, required, target, lost_undeclared, lost_required_package, lost_required_node, declared, by_default, lost_declared, toggled_weakly, toggled_feature, lost_toggled_weakly}
 use Rattle.krates_resolve.specs.Saturation.{AreDone}
@@ -90,7 +90,7 @@ stands_in r s e o =
 -- ---- what a heeded feature gives
 
 -- a reference asks for the dependency that it names
-asked_in : (r : Resolved) (s : SettingModel) (x : Found) (p : Id) (name : Text) (reference : Reference) → IsFollowed r s x p reference → AsksFor reference name → IsAsked r s x p name
+asked_in : (r : Resolved) (s : SettingModel) (x : Found) (p : Id) (name : Text) (reference : Reference) → IsFollowed r s x p reference → Demands reference name → IsAsked r s x p name
 asked_in r s x p name (simple f) h asks = absurd asks
 asked_in r s x p name (krate c) h asks = subst (IsAsked r s x p) (sym asks) h
 asked_in r s x p name (strong c f) h asks = subst (IsAsked r s x p) (sym asks) h.0

@@ -8,7 +8,7 @@ use Rattle.krates_graph.specs.Agenda.{PutNumbers, IsOrderly}
 use Rattle.krates_cm.specs.Document.{Text, DependencyModel}
 use Rattle.krates_text.specs.FeatureReference.{Reference, krate, weak, strong, simple}
 use Rattle.krates_rules.specs.Facts.{Id, Edge}
-use Rattle.krates_resolve.specs.Found.{IsNamedIn, IsToggledIn, HasUsed, IsTried, IsFollowed, IsHeeded, IsExpanded, HasRoots, IsSound, Advances}
+use Rattle.krates_resolve.specs.Found.{IsEnabledBySome, IsToggledIn, HasUsed, IsTried, IsFollowed, IsHeeded, IsExpanded, HasRoots, IsSound, Advances}
 use Rattle.krates_rules.specs.Resolved.{NodeAt, Resolved}
 use Rattle.krates_resolve.specs.Numbering.{FeatureAt}
 use Rattle.krates_resolve.specs.Saturation.{AreDone, left_in}
@@ -23,7 +23,7 @@ use Rattle.krates_rules.proofs.Standings.{contains_at}
 abbrev pub taken_to : Found → ℕ → ℕ → Found
 taken_to x n m = record { krates = record x.krates { taken = n }; features = record x.features { taken = m }; edges = x.edges; toggled = x.toggled; links = x.links }
 
-named_taken : (r : Resolved) (x : Found) (n m : ℕ) (i : Id) (f : Text) → IsNamedIn r x i f → IsNamedIn r (taken_to x n m) i f
+named_taken : (r : Resolved) (x : Found) (n m : ℕ) (i : Id) (f : Text) → IsEnabledBySome r x i f → IsEnabledBySome r (taken_to x n m) i f
 named_taken r x n m i f h = record { enabled = h.enabled; listed = h.listed }
 
 toggled_taken : (r : Resolved) (x : Found) (n m : ℕ) (p c : Id) (f : Text) → IsToggledIn r x p c f → IsToggledIn r (taken_to x n m) p c f

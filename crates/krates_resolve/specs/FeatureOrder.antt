@@ -3,7 +3,7 @@ use Rattle.std.specs.Prelude.{Bool, ◌==◌}
 use Rattle.std.specs.declared.cmp.Ordering.{Ordering}
 use Rattle.std.specs.Cmp.Lexicographic.{slice_cmp, pointwise}
 use Rattle.std.specs.Ordering.{nat_cmp, on, then_cmp, eq_of_both}
-use Rattle.krates_resolve.specs.declared.features.ListedFeature.{ListedFeature}
+use Rattle.krates_resolve.specs.declared.feature_table.ListedFeature.{ListedFeature}
 
 abbrev pub same_listed : ListedFeature → ListedFeature → Bool
 same_listed = eq_of_both (on (λ x. x.place) ◌==◌) (on (λ x. x.name.now) (pointwise ◌==◌))

@@ -3,8 +3,8 @@ use Rattle.std.specs.BTreeMap.{get}
 use Rattle.std.specs.Prelude.{◌≡◌, ℕ, List, Option, Some, MatchOption, map, slice_get}
 use Rattle.krates_cm.specs.Document.{Text}
 use Rattle.krates_resolve.specs.FeatureOrder.{listed_cmp}
-use Rattle.krates_resolve.specs.declared.features.FeatureTable.{FeatureTable}
-use Rattle.krates_resolve.specs.declared.features.ListedFeature.{ListedFeature}
+use Rattle.krates_resolve.specs.declared.feature_table.FeatureTable.{FeatureTable}
+use Rattle.krates_resolve.specs.declared.feature_table.ListedFeature.{ListedFeature}
 
 abbrev pub listed_view : ListedFeature → ℕ × Text
 listed_view x = (x.place, x.name.now)

@@ -58,7 +58,7 @@ HasFound r x f = IsAmongFindings r (findings x) f
 -- ---- what the rules give from a crate, an edge, a feature or a reference stands in it
 
 -- the feature is enabled, which its crate has to list
-pub record IsNamedIn (r : Resolved) (x : Found) (i : Id) (f : Text) : Type 0 where
+pub record IsEnabledBySome (r : Resolved) (x : Found) (i : Id) (f : Text) : Type 0 where
   pub enabled : ListsFeature r i f → HasFound r x (Feature i f)
   pub listed : LacksFeature r i f → ⊥
 
@@ -69,7 +69,7 @@ pub record IsToggledIn (r : Resolved) (x : Found) (parent child : Id) (f : Text)
 
 -- the features that a declared dependency asks for
 pub record HasUsed (r : Resolved) (x : Found) (d : DependencyModel) (child : Id) : Type 0 where
-  pub declared : (g : Text) → Contains d.features g → IsNamedIn r x child g
+  pub declared : (g : Text) → Contains d.features g → IsEnabledBySome r x child g
   pub by_default : d.uses_default_features ≡ true → ListsFeature r child default_name → HasFound r x (Feature child default_name)
 
 -- what a kept edge gives: the features that its declared dependency asks for
@@ -111,7 +111,7 @@ IsWaiting r x p name g = (child : Id) (place index : ℕ) → IsReferent r p nam
 
 -- all that a reference of an enabled feature gives
 abbrev pub IsFollowed : Resolved → SettingModel → Found → Id → Reference → Type 0
-IsFollowed r s x p (simple g) = IsNamedIn r x p g
+IsFollowed r s x p (simple g) = IsEnabledBySome r x p g
 IsFollowed r s x p (krate name) = IsAsked r s x p name
 IsFollowed r s x p (strong name g) = IsAsked r s x p name × IsToggledStrongly r s x p name g
 IsFollowed r s x p (weak name g) = IsWaiting r x p name g

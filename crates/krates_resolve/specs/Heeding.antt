@@ -5,12 +5,12 @@ use Rattle.krates_rules.specs.Derivation.{Derivable}
 use Rattle.krates_rules.specs.Facts.{Id, Feature}
 use Rattle.krates_rules.specs.Features.{HasReference}
 use Rattle.krates_rules.specs.Questions.{questions}
-use Rattle.krates_rules.specs.References.{AsksFor}
+use Rattle.krates_rules.specs.References.{Demands}
 use Rattle.krates_rules.specs.Resolved.{Resolved}
 use Rattle.krates_rules.specs.Setting.{SettingModel}
 
 -- an enabled feature of the crate has the reference
-pub record MayWait (r : Resolved) (s : SettingModel) (p : Id) (reference : Reference) : Type 0 where
+pub record HasEnabledReference (r : Resolved) (s : SettingModel) (p : Id) (reference : Reference) : Type 0 where
   pub feature : Text
   pub enabled : Derivable (questions r s) (Feature p feature)
   pub refers : HasReference r p feature reference
@@ -18,5 +18,5 @@ pub record MayWait (r : Resolved) (s : SettingModel) (p : Id) (reference : Refer
 -- an enabled feature of the crate has a reference that asks for the dependency of this name
 pub record MayAsk (r : Resolved) (s : SettingModel) (p : Id) (name : Text) : Type 0 where
   pub reference : Reference
-  pub has : MayWait r s p reference
-  pub asks : AsksFor reference name
+  pub has : HasEnabledReference r s p reference
+  pub asks : Demands reference name

@@ -6,14 +6,14 @@ ghost use Rattle.krates_rules.specs.DeclaredDependency.{IsDeclared};
 ghost use Rattle.krates_rules.specs.Derivation.{Derivable};
 ghost use Rattle.krates_rules.specs.Facts.{Crate, Feature, Kept};
 ghost use Rattle.krates_rules.specs.Features.{ListsFeature};
-ghost use Rattle.krates_resolve.specs.Found.{Advances, HasFound, HasUsed, IsNamedIn, IsSound, IsToggledIn, MayName, MayToggle, MayUse};
+ghost use Rattle.krates_resolve.specs.Found.{Advances, HasFound, HasUsed, IsEnabledBySome, IsSound, IsToggledIn, MayName, MayToggle, MayUse};
 ghost use Rattle.krates_resolve.specs.Links.{IsMarked};
 ghost use Rattle.krates_resolve.specs.Lookup.{IsLookup, resolved_view};
 ghost use Rattle.krates_rules.specs.Resolved.{NodeAt, id_of};
 ghost use Rattle.krates_resolve.specs.NodeEntry.{IsEntry, child_of, declared_in, edge_for, entry_of, parent_of};
 ghost use Rattle.krates_rules.specs.Questions.{edge_between, IsWanted, questions};
 ghost use Rattle.krates_rules.specs.Rules.{default_name};
-ghost use Rattle.krates_rules.specs.SelectionRefusals.{IsUnselected};
+ghost use Rattle.krates_rules.specs.SelectionRefusals.{SelectionRefusal};
 
 use crate::features::feature_number;
 use crate::found::Found;
@@ -50,9 +50,9 @@ pub(crate) fn enable<'a>(
     requires may { MayName (resolved_view lookup.now) setting.now (id_of node.id.now) name.now }
     ensures advanced { OnOk result (Advances (resolved_view lookup.now) setting.now found.old found.new) }
     ensures listed { OnOk result (ListsFeature (resolved_view lookup.now) (id_of node.entry.id.now) name.now) }
-    ensures named { OnOk result (IsNamedIn (resolved_view lookup.now) found.new (id_of node.entry.id.now) name.now) }
+    ensures named { OnOk result (IsEnabledBySome (resolved_view lookup.now) found.new (id_of node.entry.id.now) name.now) }
     ensures same_links { OnOk result (found.new.links ≡ found.old.links) }
-    ensures refused { IfErr result (IsUnselected (questions (resolved_view lookup.now) setting.now)) }
+    ensures refused { IfErr result (SelectionRefusal (questions (resolved_view lookup.now) setting.now)) }
 {
     laws::one_reading();
     match feature_number(lookup, node.place, name) {
@@ -107,7 +107,7 @@ pub(crate) fn toggle<'a>(
     ensures advanced { OnOk result (Advances (resolved_view lookup.now) setting.now found.old found.new) }
     ensures toggled { OnOk result (IsToggledIn (resolved_view lookup.now) found.new (id_of by.now) (id_of node.entry.id.now) name.now) }
     ensures same_links { OnOk result (found.new.links ≡ found.old.links) }
-    ensures refused { IfErr result (IsUnselected (questions (resolved_view lookup.now) setting.now)) }
+    ensures refused { IfErr result (SelectionRefusal (questions (resolved_view lookup.now) setting.now)) }
 {
     laws::one_reading();
     enable(alloc, lookup, setting, node, name, found)?;
@@ -136,7 +136,7 @@ fn enable_declared<'a>(
     ensures advanced { OnOk result (Advances (resolved_view lookup.now) setting.now found.old found.new) }
     ensures used { OnOk result (HasUsed (resolved_view lookup.now) found.new (dependency_view dependency.now) (id_of node.entry.id.now)) }
     ensures same_links { OnOk result (found.new.links ≡ found.old.links) }
-    ensures refused { IfErr result (IsUnselected (questions (resolved_view lookup.now) setting.now)) }
+    ensures refused { IfErr result (SelectionRefusal (questions (resolved_view lookup.now) setting.now)) }
 {
     for name in &dependency.features {
         enable(alloc, lookup, setting, node, name.as_str(), found)?;
@@ -165,7 +165,7 @@ fn wake<'a>(
     requires may { (k : DepKindInfoModel) × Derivable (questions (resolved_view lookup.now) setting.now) (Kept (edge_between (parent_of entry.now) (child_of entry.now) k)) }
     ensures advanced { OnOk result (Advances (resolved_view lookup.now) setting.now found.old found.new) }
     ensures marked { OnOk result (IsMarked found.new.links entry.now.place entry.now.index) }
-    ensures refused { IfErr result (IsUnselected (questions (resolved_view lookup.now) setting.now)) }
+    ensures refused { IfErr result (SelectionRefusal (questions (resolved_view lookup.now) setting.now)) }
 {
     laws::one_reading();
     if found.links.is_kept(entry.place, entry.index) {
@@ -200,7 +200,7 @@ pub(crate) fn keep<'a>(
     requires may { Derivable (questions (resolved_view lookup.now) setting.now) (Kept (edge_for entry.now (dep_kind_info_view info.now))) }
     ensures advanced { OnOk result (Advances (resolved_view lookup.now) setting.now found.old found.new) }
     ensures kept { OnOk result (HasFound (resolved_view lookup.now) found.new (Kept (edge_for entry.now (dep_kind_info_view info.now)))) }
-    ensures refused { IfErr result (IsUnselected (questions (resolved_view lookup.now) setting.now)) }
+    ensures refused { IfErr result (SelectionRefusal (questions (resolved_view lookup.now) setting.now)) }
 {
     laws::one_reading();
     let node = KeptNode {

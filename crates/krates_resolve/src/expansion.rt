@@ -11,7 +11,7 @@ ghost use Rattle.krates_resolve.specs.Lookup.{IsLookup, resolved_view};
 ghost use Rattle.krates_rules.specs.Resolved.{NodeAt};
 ghost use Rattle.krates_resolve.specs.NodeEntry.{IsEntry, parent_of, child_of, edge_for};
 ghost use Rattle.krates_rules.specs.Questions.{questions};
-ghost use Rattle.krates_rules.specs.SelectionRefusals.{IsUnselected};
+ghost use Rattle.krates_rules.specs.SelectionRefusals.{SelectionRefusal};
 
 use krates_document::declared_dependency::{declared_of, version_of};
 use crate::enabling::keep;
@@ -42,7 +42,7 @@ pub(crate) fn expand<'a>(
     requires within { taken < found.old.krates.size }
     ensures advanced { OnOk result (Advances (resolved_view lookup.now) setting.now found.old found.new) }
     ensures expanded { OnOk result ((krate : Id) → NodeAt (resolved_view lookup.now) krate taken → IsExpanded (resolved_view lookup.now) setting.now found.new krate) }
-    ensures refused { IfErr result (IsUnselected (questions (resolved_view lookup.now) setting.now)) }
+    ensures refused { IfErr result (SelectionRefusal (questions (resolved_view lookup.now) setting.now)) }
 {
     laws::one_reading();
     let parts = parts_of(lookup, taken.number());
@@ -69,7 +69,7 @@ pub(crate) fn expand_entry<'a>(
     requires may { (k : DepKindInfoModel) → MayTry (resolved_view lookup.now) setting.now (edge_for entry.now k) (TakenWhen asked) }
     ensures advanced { OnOk result (Advances (resolved_view lookup.now) setting.now found.old found.new) }
     ensures tried { OnOk result (AreTried (resolved_view lookup.now) setting.now found.new (parent_of entry.now) (child_of entry.now) (node_dep_view entry.now.dep.now) (TakenWhen asked)) }
-    ensures refused { IfErr result (IsUnselected (questions (resolved_view lookup.now) setting.now)) }
+    ensures refused { IfErr result (SelectionRefusal (questions (resolved_view lookup.now) setting.now)) }
 {
     let Some(version) = version_of(alloc, entry.child)? else {
         unreachable!()
@@ -100,7 +100,7 @@ fn expand_edge<'a>(
     requires may { MayTry (resolved_view lookup.now) setting.now (edge_for entry.now (dep_kind_info_view info.now)) (TakenWhen asked) }
     ensures advanced { OnOk result (Advances (resolved_view lookup.now) setting.now found.old found.new) }
     ensures tried { OnOk result (IsTried (resolved_view lookup.now) setting.now found.new (edge_for entry.now (dep_kind_info_view info.now)) (TakenWhen asked)) }
-    ensures refused { IfErr result (IsUnselected (questions (resolved_view lookup.now) setting.now)) }
+    ensures refused { IfErr result (SelectionRefusal (questions (resolved_view lookup.now) setting.now)) }
 {
     if setting.ignores(info.kind, entry.is_member) {
         return Ok(());

@@ -7,14 +7,14 @@ ghost use Rattle.krates_rules.specs.Derivation.{Derivable};
 ghost use Rattle.krates_rules.specs.Facts.{Id, Crate, Feature};
 ghost use Rattle.krates_rules.specs.Features.{HasReference};
 ghost use Rattle.krates_resolve.specs.Found.{Advances, HasFound, IsAsked, IsFollowed, IsHeeded, IsSound, IsToggledIn, IsToggledStrongly, IsValueOfEnabled, IsWaiting, MayToggle};
-ghost use Rattle.krates_resolve.specs.Heeding.{MayAsk, MayWait};
+ghost use Rattle.krates_resolve.specs.Heeding.{MayAsk, HasEnabledReference};
 ghost use Rattle.krates_rules.specs.Resolved.{DepAt, id_of};
 ghost use Rattle.krates_resolve.specs.Links.{IsMarked};
 ghost use Rattle.krates_resolve.specs.Lookup.{IsLookup, resolved_view};
 ghost use Rattle.krates_resolve.specs.NodeEntry.{AreParts};
 ghost use Rattle.krates_resolve.specs.Numbering.{FeatureAt};
 ghost use Rattle.krates_rules.specs.Questions.{questions};
-ghost use Rattle.krates_rules.specs.SelectionRefusals.{IsUnselected};
+ghost use Rattle.krates_rules.specs.SelectionRefusals.{SelectionRefusal};
 
 use crate::enabling::{KeptNode, enable, toggle};
 use crate::expansion::expand_entry;
@@ -45,7 +45,7 @@ pub(crate) fn heed<'a>(
     requires within { taken < found.old.features.size }
     ensures advanced { OnOk result (Advances (resolved_view lookup.now) setting.now found.old found.new) }
     ensures heeded { OnOk result ((krate : Id) (f : Text) → FeatureAt (resolved_view lookup.now) krate f taken → IsHeeded (resolved_view lookup.now) setting.now found.new krate f) }
-    ensures refused { IfErr result (IsUnselected (questions (resolved_view lookup.now) setting.now)) }
+    ensures refused { IfErr result (SelectionRefusal (questions (resolved_view lookup.now) setting.now)) }
 {
     laws::one_reading();
     let feature = lookup.features.listed[taken.number()];
@@ -72,7 +72,7 @@ fn follow<'a>(
     requires value { IsValueOfEnabled (resolved_view lookup.now) setting.now (id_of parts.now.parent.now) text.now }
     ensures advanced { OnOk result (Advances (resolved_view lookup.now) setting.now found.old found.new) }
     ensures followed { OnOk result ((reference : Reference) → IsReference text.now reference → IsFollowed (resolved_view lookup.now) setting.now found.new (id_of parts.now.parent.now) reference) }
-    ensures refused { IfErr result (IsUnselected (questions (resolved_view lookup.now) setting.now)) }
+    ensures refused { IfErr result (SelectionRefusal (questions (resolved_view lookup.now) setting.now)) }
 {
     krates_text::laws::one_reference();
     match ParsedFeature::from(text).feat() {
@@ -109,7 +109,7 @@ fn ask<'a>(
     requires may { MayAsk (resolved_view lookup.now) setting.now (id_of parts.now.parent.now) name.now }
     ensures advanced { OnOk result (Advances (resolved_view lookup.now) setting.now found.old found.new) }
     ensures asked { OnOk result (IsAsked (resolved_view lookup.now) setting.now found.new (id_of parts.now.parent.now) name.now) }
-    ensures refused { IfErr result (IsUnselected (questions (resolved_view lookup.now) setting.now)) }
+    ensures refused { IfErr result (SelectionRefusal (questions (resolved_view lookup.now) setting.now)) }
 {
     let Some(index) = referent_of(lookup, parts, name) else {
         return Ok(());
@@ -132,10 +132,10 @@ fn toggle_strongly<'a>(
     requires parts { AreParts (resolved_view lookup.now) parts.now.place parts.now }
     requires sound { IsSound (resolved_view lookup.now) setting.now found.old }
     requires asked { IsAsked (resolved_view lookup.now) setting.now found.old (id_of parts.now.parent.now) name.now }
-    requires may { MayWait (resolved_view lookup.now) setting.now (id_of parts.now.parent.now) (strong name.now feature.now) }
+    requires may { HasEnabledReference (resolved_view lookup.now) setting.now (id_of parts.now.parent.now) (strong name.now feature.now) }
     ensures advanced { OnOk result (Advances (resolved_view lookup.now) setting.now found.old found.new) }
     ensures toggled { OnOk result (IsToggledStrongly (resolved_view lookup.now) setting.now found.new (id_of parts.now.parent.now) name.now feature.now) }
-    ensures refused { IfErr result (IsUnselected (questions (resolved_view lookup.now) setting.now)) }
+    ensures refused { IfErr result (SelectionRefusal (questions (resolved_view lookup.now) setting.now)) }
 {
     laws::one_reading();
     let Some(index) = referent_of(lookup, parts, name) else {
@@ -160,10 +160,10 @@ fn wait<'a>(
     requires lookup { IsLookup lookup.now }
     requires parts { AreParts (resolved_view lookup.now) parts.now.place parts.now }
     requires sound { IsSound (resolved_view lookup.now) setting.now found.old }
-    requires may { MayWait (resolved_view lookup.now) setting.now (id_of parts.now.parent.now) (weak name.now feature.now) }
+    requires may { HasEnabledReference (resolved_view lookup.now) setting.now (id_of parts.now.parent.now) (weak name.now feature.now) }
     ensures advanced { OnOk result (Advances (resolved_view lookup.now) setting.now found.old found.new) }
     ensures waiting { OnOk result (IsWaiting (resolved_view lookup.now) found.new (id_of parts.now.parent.now) name.now feature.now) }
-    ensures refused { IfErr result (IsUnselected (questions (resolved_view lookup.now) setting.now)) }
+    ensures refused { IfErr result (SelectionRefusal (questions (resolved_view lookup.now) setting.now)) }
 {
     laws::one_reading();
     let Some(index) = referent_of(lookup, parts, name) else {
@@ -195,7 +195,7 @@ fn toggle_child<'a>(
     ensures advanced { OnOk result (Advances (resolved_view lookup.now) setting.now found.old found.new) }
     ensures toggled { OnOk result ((child : Id) → DepAt (resolved_view lookup.now) (id_of parts.now.parent.now) child parts.now.place index → IsToggledIn (resolved_view lookup.now) found.new (id_of parts.now.parent.now) child feature.now) }
     ensures same_links { OnOk result (found.new.links ≡ found.old.links) }
-    ensures refused { IfErr result (IsUnselected (questions (resolved_view lookup.now) setting.now)) }
+    ensures refused { IfErr result (SelectionRefusal (questions (resolved_view lookup.now) setting.now)) }
 {
     laws::one_reading();
     let id = &parts.children[index];

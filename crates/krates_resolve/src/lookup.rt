@@ -7,7 +7,7 @@ ghost use Rattle.krates_document.specs.Ids.{ids_view};
 ghost use Rattle.krates_resolve.specs.Lookup.{IsLookup, IsPackagePlace, IsPackageOf, IsNodePlace, TellsMember, resolved_view};
 ghost use Rattle.krates_rules.specs.Resolved.{id_of};
 
-use crate::features::{FeatureTable, feature_table};
+use crate::feature_table::{FeatureTable, feature_table};
 use krates_document::ids::Ids;
 use crate::table::{place_of, places_by_id};
 use krates_cm::{Metadata, Package, Resolve};

@@ -12,7 +12,7 @@ ghost use Rattle.krates_rules.specs.Resolved.{NodeAt, id_of, IsMember};
 ghost use Rattle.krates_rules.specs.Questions.{questions};
 ghost use Rattle.krates_resolve.specs.RootChoice.{IsChoice, AsksFor, HasOneOf};
 ghost use Rattle.krates_rules.specs.Roots.{IsRoot, HasManifest, IsWorkspaceManifest};
-ghost use Rattle.krates_rules.specs.SelectionRefusals.{IsUnselected};
+ghost use Rattle.krates_rules.specs.SelectionRefusals.{SelectionRefusal};
 
 use crate::enabling::{KeptNode, enable};
 use crate::found::Found;
@@ -44,7 +44,7 @@ pub(crate) fn put_roots<'a>(
     requires sound { IsSound (resolved_view lookup.now) setting.now found.old }
     ensures advanced { OnOk result (Advances (resolved_view lookup.now) setting.now found.old found.new) }
     ensures roots { OnOk result (HasRoots (resolved_view lookup.now) setting.now found.new) }
-    ensures refused { IfErr result (IsUnselected (questions (resolved_view lookup.now) setting.now)) }
+    ensures refused { IfErr result (SelectionRefusal (questions (resolved_view lookup.now) setting.now)) }
 {
     laws::one_reading();
     match choice_of(lookup, setting) {
@@ -115,7 +115,7 @@ fn put_members<'a>(
     requires members { All (λ member. IsMember (resolved_view lookup.now) (id_of member)) members.now }
     ensures advanced { OnOk result (Advances (resolved_view lookup.now) setting.now found.old found.new) }
     ensures rooted { OnOk result (All (λ member. IsRoot (resolved_view lookup.now) setting.now (id_of member) → IsRooted (resolved_view lookup.now) setting.now found.new (id_of member)) members.now) }
-    ensures refused { IfErr result (IsUnselected (questions (resolved_view lookup.now) setting.now)) }
+    ensures refused { IfErr result (SelectionRefusal (questions (resolved_view lookup.now) setting.now)) }
 {
     for member in members {
         put_member(alloc, lookup, setting, all, member, found)?;
@@ -138,7 +138,7 @@ fn put_member<'a>(
     requires member { IsMember (resolved_view lookup.now) (id_of member.now) }
     ensures advanced { OnOk result (Advances (resolved_view lookup.now) setting.now found.old found.new) }
     ensures rooted { OnOk result (IsRoot (resolved_view lookup.now) setting.now (id_of member.now) → IsRooted (resolved_view lookup.now) setting.now found.new (id_of member.now)) }
-    ensures refused { IfErr result (IsUnselected (questions (resolved_view lookup.now) setting.now)) }
+    ensures refused { IfErr result (SelectionRefusal (questions (resolved_view lookup.now) setting.now)) }
 {
     if is_root(lookup, setting, all, member) {
         return put_root(alloc, lookup, setting, member, found);
@@ -197,7 +197,7 @@ fn put_root<'a>(
     requires root { IsRoot (resolved_view lookup.now) setting.now (id_of root.now) }
     ensures advanced { OnOk result (Advances (resolved_view lookup.now) setting.now found.old found.new) }
     ensures rooted { OnOk result (IsRooted (resolved_view lookup.now) setting.now found.new (id_of root.now)) }
-    ensures refused { IfErr result (IsUnselected (questions (resolved_view lookup.now) setting.now)) }
+    ensures refused { IfErr result (SelectionRefusal (questions (resolved_view lookup.now) setting.now)) }
 {
     laws::one_reading();
     match standing_of(lookup, setting, root) {
@@ -227,7 +227,7 @@ fn enable_listed<'a>(
     requires may { (f : Text) → ListsFeature (resolved_view lookup.now) (id_of node.id.now) f → Derivable (questions (resolved_view lookup.now) setting.now) (Feature (id_of node.id.now) f) }
     ensures advanced { OnOk result (Advances (resolved_view lookup.now) setting.now found.old found.new) }
     ensures enabled { OnOk result ((f : Text) → ListsFeature (resolved_view lookup.now) (id_of node.entry.id.now) f → HasFound (resolved_view lookup.now) found.new (Feature (id_of node.entry.id.now) f)) }
-    ensures refused { IfErr result (IsUnselected (questions (resolved_view lookup.now) setting.now)) }
+    ensures refused { IfErr result (SelectionRefusal (questions (resolved_view lookup.now) setting.now)) }
 {
     for name in &lookup.resolve.nodes[node.place].features {
         enable(alloc, lookup, setting, node, name.as_str(), found)?;

@@ -7,7 +7,7 @@ ghost use Rattle.krates_resolve.specs.Found.{HasFound, IsSound};
 ghost use Rattle.krates_resolve.specs.Lookup.{IsLookup, resolved_view};
 ghost use Rattle.krates_rules.specs.Questions.{questions};
 ghost use Rattle.krates_resolve.specs.Saturation.{AreDone, TakesNext};
-ghost use Rattle.krates_rules.specs.SelectionRefusals.{IsUnselected};
+ghost use Rattle.krates_rules.specs.SelectionRefusals.{SelectionRefusal};
 
 use crate::expansion::expand;
 use crate::found::Found;
@@ -33,7 +33,7 @@ pub(crate) fn saturate<'a>(
     requires { IsLookup lookup.now }
     ensures exact { IfOk result (λ found. (f : Fact) → Derivable (questions (resolved_view lookup.now) setting.now) f ↔ HasFound (resolved_view lookup.now) found f) }
     ensures sound { IfOk result (λ found. IsSound (resolved_view lookup.now) setting.now found) }
-    ensures refused { IfErr result (IsUnselected (questions (resolved_view lookup.now) setting.now)) }
+    ensures refused { IfErr result (SelectionRefusal (questions (resolved_view lookup.now) setting.now)) }
 {
     let mut found = Found {
         krates: Agenda::new(alloc, lookup.resolve.nodes.len())?,
@@ -57,7 +57,7 @@ fn take_next<'a>(
     requires lookup { IsLookup lookup.now }
     requires done { AreDone (resolved_view lookup.now) setting.now found.old }
     ensures taken { IfOk result (λ more. TakesNext (resolved_view lookup.now) setting.now found.old found.new more) }
-    ensures refused { IfErr result (IsUnselected (questions (resolved_view lookup.now) setting.now)) }
+    ensures refused { IfErr result (SelectionRefusal (questions (resolved_view lookup.now) setting.now)) }
 {
     if let Some(taken) = found.krates.take() {
         expand(alloc, lookup, setting, taken, found)?;

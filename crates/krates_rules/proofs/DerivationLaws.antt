@@ -11,7 +11,7 @@ pub record Within (a b : Questions) : Type 0 where
   pub root : (p : Id) → a.Root p → b.Root p
   pub stands : (p : Id) → a.Stands p → b.Stands p
   pub no_package : (p : Id) → a.NoPackage p → b.NoPackage p
-  pub no_node : (p : Id) → a.NoNode p → b.NoNode p
+  pub no_node : (p : Id) → a.LacksNode p → b.LacksNode p
   pub lists : (p : Id) (f : Text) → a.Lists p f → b.Lists p f
   pub lacks : (p : Id) (f : Text) → a.Lacks p f → b.Lacks p f
   pub refers : (p : Id) (f : Text) (r : Reference) → a.Refers p f r → b.Refers p f r

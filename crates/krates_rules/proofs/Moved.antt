@@ -5,7 +5,7 @@ use Rattle.std.proofs.lemmas.List.Edits.{Swapped, swapped_from_swap}
 use Rattle.std.proofs.lemmas.List.Sorted.{IsPermutation-keeps, IsPermutation-swap, length_permutation}
 use Rattle.std.proofs.lemmas.Option.{slice_get-get_or, slice_get_within, get_or_from_slice_get}
 use Rattle.krates_cm.specs.Document.{Text}
-use Rattle.krates_rules.specs.Admission.{StandsTwice}
+use Rattle.krates_rules.specs.Admission.{IsDoubledIn}
 use Rattle.krates_rules.specs.Facts.{Id}
 use Rattle.krates_rules.specs.Resolved.{ReadsAs}
 
@@ -86,7 +86,7 @@ apart_moved : {X : Type 0} (xs ys : List X) (a b : X) → IsPermutation xs ys �
 apart_moved xs ys a b moved s =
     IsPermutation-keeps xs (λ zs. StandApart zs a b) s (λ zs i j p q t. apart_swapped zs i j a b p q t) ys moved
 
-as_apart : (xs : List Text) (id : Id) → (t : StandsTwice xs id) → StandApart xs t.one t.other
+as_apart : (xs : List Text) (id : Id) → (t : IsDoubledIn xs id) → StandApart xs t.one t.other
 as_apart xs id t = record {
   one = t.first;
   other = t.second;
@@ -96,7 +96,7 @@ as_apart xs id t = record {
 }
 
 twice : (xs : List Text) (id : Id) (j k : ℕ) (a b : Text) → j < k → slice_get xs j ≡ Some a → slice_get xs k ≡ Some b
-    → ReadsAs a id → ReadsAs b id → StandsTwice xs id
+    → ReadsAs a id → ReadsAs b id → IsDoubledIn xs id
 twice xs id j k a b lt at_first at_second one other = record {
   first = j;
   second = k;
@@ -110,7 +110,7 @@ twice xs id j k a b lt at_first at_second one other = record {
 }
 
 -- what stands twice still does
-pub twice_moved : (xs ys : List Text) (id : Id) → IsPermutation xs ys → StandsTwice xs id → StandsTwice ys id
+pub twice_moved : (xs ys : List Text) (id : Id) → IsPermutation xs ys → IsDoubledIn xs id → IsDoubledIn ys id
 twice_moved xs ys id moved t =
     let s = apart_moved xs ys t.one t.other moved (as_apart xs id t) in
     elim (cases_order s.one s.other) [

@@ -10,7 +10,7 @@ use Rattle.krates_rules.specs.Narrowing.{IsNarrower, excludes_more, ignores_more
 use Rattle.krates_rules.specs.Questions.{IsIncluded, questions}
 use Rattle.krates_rules.specs.Resolved.{Resolved}
 use Rattle.krates_rules.specs.Roots.{AsksForWorkspace, AsksForMembers, by_setting, without_root, by_manifest, HasManifest, IsRoot, of_graph, of_workspace, of_manifests}
-use Rattle.krates_rules.specs.SelectionRefusals.{IsUnselected, cause_of}
+use Rattle.krates_rules.specs.SelectionRefusals.{SelectionRefusal, cause_of}
 use Rattle.krates_rules.specs.Setting.{SettingModel, IsExcluded, IsIgnored, of_member, of_other, Passes}
 use Rattle.krates_rules.proofs.AnyTarget.{passes_anywhere}
 use Rattle.krates_rules.proofs.DerivationLaws.{Within, derivable_within}
@@ -140,7 +140,7 @@ leaves_out r wide _ (asks_targets targets none) = record {
 -- ---- the law
 
 refused_narrower : (r : Resolved) (wide narrow : SettingModel) → Within (questions r narrow) (questions r wide)
-    → LosesNothing (questions r wide) → (e : Error) → IsUnselected (questions r narrow) e
+    → LosesNothing (questions r wide) → (e : Error) → SelectionRefusal (questions r narrow) e
     → (e ≡ errors.NoRootKrates) ⊎ (e ≡ errors.Memory)
 refused_narrower r wide narrow w none (errors.Lost what) d = absurd (none (cause_of what) (derivable_within w d))
 refused_narrower r wide narrow w none errors.NoRootKrates h = inl refl

@@ -4,7 +4,7 @@ use Rattle.std.proofs.lemmas.Bool.{cases_order}
 use Rattle.std.proofs.lemmas.Option.{slice_get-map, slice_get-get_or, same_Some}
 use Rattle.std.specs.List.{slice_get}
 use Rattle.krates_cm.specs.Document.{Text, PackageModel, NodeModel, NodeDepModel}
-use Rattle.krates_rules.specs.Admission.{StandsTwice, NoneDoubled, doubled_package, doubled_node, doubled_dep}
+use Rattle.krates_rules.specs.Admission.{IsDoubledIn, NoneDoubled, doubled_package, doubled_node, doubled_dep}
 use Rattle.krates_rules.specs.Facts.{Id}
 use Rattle.krates_rules.specs.Resolved.{NodeAt, Resolved, ReadsAs, HasPackage, HasNode, HasDep}
 
@@ -13,7 +13,7 @@ pub place_in : {A : Type 0} (xs : List A) (x : A) → Contains xs x → (k : ℕ
 place_in xs x (k, lt, is) = (k, slice_get-get_or xs k x lt ∙ ap (λ y. Some y) is)
 
 -- texts that read as one id stand at one place
-one_place : (texts : List Text) (i : Id) → (StandsTwice texts i → ⊥) → (j k : ℕ) (t u : Text) → slice_get texts j ≡ Some t → ReadsAs t i → slice_get texts k ≡ Some u → ReadsAs u i → j ≡ k
+one_place : (texts : List Text) (i : Id) → (IsDoubledIn texts i → ⊥) → (j k : ℕ) (t u : Text) → slice_get texts j ≡ Some t → ReadsAs t i → slice_get texts k ≡ Some u → ReadsAs u i → j ≡ k
 one_place texts i none j k t u a ra b rb = elim (cases_order j k) [
   | inl e ↦ e
   | inr r ↦ elim r [
@@ -23,7 +23,7 @@ one_place texts i none j k t u a ra b rb = elim (cases_order j k) [
 ]
 
 -- elements whose texts read as one id are the same, and stand at one place
-one_element : {A : Type 0} (text : A → Text) (xs : List A) (i : Id) → (StandsTwice (map text xs) i → ⊥) → (j k : ℕ) (x y : A) → slice_get xs j ≡ Some x → ReadsAs (text x) i → slice_get xs k ≡ Some y → ReadsAs (text y) i
+one_element : {A : Type 0} (text : A → Text) (xs : List A) (i : Id) → (IsDoubledIn (map text xs) i → ⊥) → (j k : ℕ) (x y : A) → slice_get xs j ≡ Some x → ReadsAs (text x) i → slice_get xs k ≡ Some y → ReadsAs (text y) i
     → (j ≡ k) × (x ≡ y)
 one_element text xs i none j k x y a ra b rb =
     let e = one_place (map text xs) i none j k (text x) (text y) (slice_get-map text xs j ∙ ap (option_map text) a) ra (slice_get-map text xs k ∙ ap (option_map text) b) rb in

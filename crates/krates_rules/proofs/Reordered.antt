@@ -10,16 +10,16 @@ use Rattle.krates_ids.specs.declared.error.Error.{Error}
 use Rattle.krates_ids.specs.declared.error.Error.TheVariants as errors
 use Rattle.krates_text.specs.Path.{components}
 use Rattle.krates_rules.specs.Admission.{package_texts, node_texts, dep_texts, StandsForId, of_package, of_member, of_root, of_node, of_dep, IsInvalidId, unread, bad_version, IsDoubled, doubled_package, doubled_node, doubled_dep}
-use Rattle.krates_rules.specs.AdmissionRefusals.{IsRefused}
+use Rattle.krates_rules.specs.AdmissionRefusals.{AdmissionRefusal}
 use Rattle.krates_rules.specs.DeclaredDependency.{dependency_entry, IsDeclared, IsUndeclared}
 use Rattle.krates_rules.specs.Derivation.{Derivable}
 use Rattle.krates_rules.specs.Facts.{Id, Edge}
-use Rattle.krates_rules.specs.Questions.{IsIncluded, ListsEdge, IsListed, kind_info_of, questions}
-use Rattle.krates_rules.specs.Referent.{IsLibraryRename, AnswersTo, by_name, by_library, IsNamed}
+use Rattle.krates_rules.specs.Questions.{IsIncluded, ListsEdge, IsConsidered, kind_info_of, questions}
+use Rattle.krates_rules.specs.Referent.{IsLibraryRename, AnswersTo, by_name, by_library, AnswersIn}
 use Rattle.krates_rules.specs.Reordering.{ReordersPackage, ReordersPackages, ReordersNode, ReordersGraph, ReordersResolve, Reorders, HasInvalidId, HasDoubledId, IsOrderFree}
 use Rattle.krates_rules.specs.Resolved.{Resolved, resolved, id_of, ReadsAs, HasGraphWith, HasPackage, HasNode, HasDep, IsMember}
 use Rattle.krates_rules.specs.Roots.{AsksForWorkspace, AsksForMembers, by_setting, without_root, by_manifest, HasManifest, IsRoot, of_graph, of_workspace, of_manifests}
-use Rattle.krates_rules.specs.SelectionRefusals.{IsUnselected}
+use Rattle.krates_rules.specs.SelectionRefusals.{SelectionRefusal}
 use Rattle.krates_rules.specs.Setting as settings
 use Rattle.krates_rules.specs.Setting.{SettingModel, IsExcluded, IsIgnored}
 use Rattle.krates_rules.proofs.Readings.{left_of, right_of}
@@ -164,7 +164,7 @@ answers_same r t c d name w (by_library {p} e h renamed) =
     let q = package_same r t c p w h in
     by_library {p = q.pkg} e q.has_package (library_same p q.pkg d.name q.same renamed)
 
-named_same : (r t : Resolved) (i : Id) (name : Text) (c : Id) → SaySame r t → IsNamed r i name c → IsNamed t i name c
+named_same : (r t : Resolved) (i : Id) (name : Text) (c : Id) → SaySame r t → AnswersIn r i name c → AnswersIn t i name c
 named_same r t i name c w x =
     let m = twin r t i x.node w x.has_node in
     record {
@@ -193,7 +193,7 @@ ignored_same r t s e w (settings.of_other other told) =
     settings.of_other (λ x. other (member_same t r e.parent (swapped r t w) x)) told
 
 listed_same : (r t : Resolved) (s : SettingModel) (e : Edge) (d : NodeDepModel) → SaySame r t
-    → IsListed r s e d → IsListed t s e d
+    → IsConsidered r s e d → IsConsidered t s e d
 listed_same r t s e d w x = record {
   lists = edge_same r t e d w x.lists;
   not_ignored = λ y. x.not_ignored (ignored_same t r s e (swapped r t w) y);
@@ -301,7 +301,7 @@ doubled_same r t id w (doubled_dep n among h) =
     doubled_dep m.0 m.1 (twice_moved (dep_texts n) (dep_texts m.0) id (dep_texts_same n m.0 m.2) h)
 
 unselected_same : (r t : Resolved) (s : SettingModel) (e : Error) → SaySame r t
-    → IsUnselected (questions r s) e → IsUnselected (questions t s) e
+    → SelectionRefusal (questions r s) e → SelectionRefusal (questions t s) e
 unselected_same r t s (errors.Lost what) w d = derivable_within (same_within r t s w) d
 unselected_same r t s errors.NoRootKrates w h =
     let back = same_within t r s (swapped r t w) in
@@ -433,7 +433,7 @@ invalid_both m n w text = both m n w (λ r. IsInvalidId r.metadata r.graph text)
 doubled_both : (m n : MetadataModel) → Reorders m n → (id : Id) → HasDoubledId m id ↔ HasDoubledId n id
 doubled_both m n w id = both m n w (λ r. IsDoubled r.metadata r.graph id) (λ r t same x. doubled_same r t id same x)
 
-refused_same : (m n : MetadataModel) → Reorders m n → (e : Error) → IsRefused m e ↔ IsRefused n e
+refused_same : (m n : MetadataModel) → Reorders m n → (e : Error) → AdmissionRefusal m e ↔ AdmissionRefusal n e
 refused_same m n w errors.NoResolveGraph = none_same m.resolve n.resolve w.resolve
 refused_same m n w (errors.InvalidId t) = invalid_both m n w (string_bytes t)
 refused_same m n w (errors.Doubled kid) = doubled_both m n w (id_of kid)
@@ -451,5 +451,5 @@ order_free m n w = record {
   invalid = invalid_both m n w;
   doubled = doubled_both m n w;
   refused = refused_same m n w;
-  unselected = λ s e. both m n w (λ r. IsUnselected (questions r s) e) (λ r t same x. unselected_same r t s e same x);
+  unselected = λ s e. both m n w (λ r. SelectionRefusal (questions r s) e) (λ r t same x. unselected_same r t s e same x);
 }

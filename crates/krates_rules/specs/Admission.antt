@@ -9,9 +9,11 @@ use Rattle.krates_rules.specs.Resolved.{ReadsAs}
 
 -- ---- the texts of a document that have to be ids
 
+-- the id texts of the packages
 abbrev pub package_texts : MetadataModel → List Text
 package_texts m = map (λ p. p.id) m.packages
 
+-- the id texts of the nodes
 abbrev pub node_texts : ResolveModel → List Text
 node_texts g = map (λ n. n.id) g.nodes
 
@@ -30,9 +32,11 @@ pub record AreDepIds (n : NodeModel) (ids : List Identity) : Type 0 where
   pub read : AllZip Reads (dep_texts n) ids
   pub versions : AllByRecursion HasVersion ids
 
+-- this is the root's id, or there is no root and no id
 abbrev pub IsRootId : Option Text → Option Identity → Type 0
 IsRootId text root = MatchOption text (root ≡ None) (λ t. IsSomeAnd root (Reads t))
 
+-- the ids of a document, in its order
 pub record IdsModel : Type 0 where
   pub packages : List Identity
   pub members : List Identity
@@ -67,7 +71,7 @@ pub data IsInvalidId (m : MetadataModel) (g : ResolveModel) (t : Text) : Type 0 
 -- ---- ids that stand twice
 
 -- the id stands at two places of a list of texts
-pub record StandsTwice (texts : List Text) (id : Id) : Type 0 where
+pub record IsDoubledIn (texts : List Text) (id : Id) : Type 0 where
   pub first : ℕ
   pub second : ℕ
   pub apart : first < second
@@ -80,9 +84,9 @@ pub record StandsTwice (texts : List Text) (id : Id) : Type 0 where
 
 -- two packages, two nodes, or two dependencies of one node have the id; two identical packages count too
 pub data IsDoubled (m : MetadataModel) (g : ResolveModel) (id : Id) : Type 0 where
-  doubled_package : StandsTwice (package_texts m) id → IsDoubled m g id
-  doubled_node : StandsTwice (node_texts g) id → IsDoubled m g id
-  doubled_dep : (n : NodeModel) → Contains g.nodes n → StandsTwice (dep_texts n) id → IsDoubled m g id
+  doubled_package : IsDoubledIn (package_texts m) id → IsDoubled m g id
+  doubled_node : IsDoubledIn (node_texts g) id → IsDoubled m g id
+  doubled_dep : (n : NodeModel) → Contains g.nodes n → IsDoubledIn (dep_texts n) id → IsDoubled m g id
 
 -- no id is doubled
 abbrev pub NoneDoubled : MetadataModel → ResolveModel → Type 0
@@ -90,6 +94,7 @@ NoneDoubled m g = (id : Id) → IsDoubled m g id → ⊥
 
 -- ---- the document is admitted
 
+-- the document has a resolved graph, these are its ids, and none is doubled
 pub record IsAdmitted (m : MetadataModel) (ids : IdsModel) : Type 0 where
   pub graph : ResolveModel
   pub has_graph : m.resolve ≡ Some graph

@@ -7,9 +7,9 @@ use Rattle.krates_rules.specs.Admission.{IsInvalidId, IsDoubled}
 use Rattle.krates_rules.specs.Resolved.{id_of, HasGraphWith}
 
 -- The cause is true of the document; memory may always run out.
-abbrev pub IsRefused : MetadataModel → Error → Type 0
-IsRefused m errors.NoResolveGraph = m.resolve ≡ None
-IsRefused m (errors.InvalidId t) = HasGraphWith m (λ g. IsInvalidId m g (string_bytes t))
-IsRefused m (errors.Doubled kid) = HasGraphWith m (λ g. IsDoubled m g (id_of kid))
-IsRefused m errors.Memory = ⊤
-IsRefused m _ = ⊥
+abbrev pub AdmissionRefusal : MetadataModel → Error → Type 0
+AdmissionRefusal m errors.NoResolveGraph = m.resolve ≡ None
+AdmissionRefusal m (errors.InvalidId t) = HasGraphWith m (λ g. IsInvalidId m g (string_bytes t))
+AdmissionRefusal m (errors.Doubled kid) = HasGraphWith m (λ g. IsDoubled m g (id_of kid))
+AdmissionRefusal m errors.Memory = ⊤
+AdmissionRefusal m _ = ⊥

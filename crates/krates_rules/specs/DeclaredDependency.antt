@@ -12,6 +12,7 @@ pub record DependencyEntry : Type 0 where
   pub id : Id
   pub dep : NodeDepModel
 
+-- the dependency of a node with this id
 abbrev pub dependency_entry : Id → NodeDepModel → DependencyEntry
 dependency_entry i d = record { id = i; dep = d }
 
@@ -27,6 +28,7 @@ NameFits n d = IsNameOf n.dep.name (declared_name d) ⊎ IsNameOf n.id.name (dec
 abbrev pub VersionMatches : VersionModel → RequirementModel → Type 0
 VersionMatches v req = (matches_views req v ≡ true) ⊎ ((v.3 ≢ []) × (req ≡ []))
 
+-- the version of the dependency's id is one that the requirement allows
 pub record VersionFits (n : DependencyEntry) (d : DependencyModel) : Type 0 where
   pub version : VersionModel
   pub named : version_named n.id.version ≡ Some version

@@ -3,9 +3,11 @@ use Rattle.std.specs.Prelude.{◌≡◌, ◌⊎◌, ℕ}
 use Rattle.std.specs.List.{AllZip}
 use Rattle.krates_cm.specs.Document.{Text}
 
+-- '_'
 abbrev pub underscore : ℕ
 underscore = 95
 
+-- '-'
 abbrev pub hyphen : ℕ
 hyphen = 45
 

@@ -10,7 +10,7 @@ use Rattle.krates_rules.specs.Kind.{IgnoresMore}
 use Rattle.krates_rules.specs.Questions.{questions}
 use Rattle.krates_rules.specs.Resolved.{Resolved}
 use Rattle.krates_rules.specs.Rules.{Questions}
-use Rattle.krates_rules.specs.SelectionRefusals.{IsUnselected}
+use Rattle.krates_rules.specs.SelectionRefusals.{SelectionRefusal}
 use Rattle.krates_rules.specs.Setting.{SettingModel}
 use Rattle.krates_rules.specs.declared.kind.DepKind.{DepKind}
 use Rattle.krates_rules.specs.declared.kind.IgnoredKinds.{IgnoredKinds}
@@ -36,7 +36,7 @@ pub record SelectsPart (r : Resolved) (wide narrow : SettingModel) : Type 0 wher
   -- each fact that has a derivation under the narrower has one under the wider, those of what is lost included
   pub facts : (f : Fact) → Derivable (questions r narrow) f → Derivable (questions r wide) f
   -- where nothing is lost under the wider, the narrower is refused only since no crate is left, or for want of memory
-  pub refusals : LosesNothing (questions r wide) → (e : Error) → IsUnselected (questions r narrow) e
+  pub refusals : LosesNothing (questions r wide) → (e : Error) → SelectionRefusal (questions r narrow) e
       → (e ≡ NoRootKrates) ⊎ (e ≡ Memory)
 
 -- a narrower setting selects a part

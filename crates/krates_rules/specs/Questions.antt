@@ -55,14 +55,14 @@ abbrev pub IsDeclaredAs : Resolved → Edge → DependencyModel → Type 0
 IsDeclaredAs r e d = (place : ℕ) × Declares r e place d
 
 -- the edge is listed, and not ignored
-pub record IsListed (r : Resolved) (s : SettingModel) (e : Edge) (d : NodeDepModel) : Type 0 where
+pub record IsConsidered (r : Resolved) (s : SettingModel) (e : Edge) (d : NodeDepModel) : Type 0 where
   pub lists : ListsEdge r e d
   pub not_ignored : IsIgnored r s e → ⊥
 
 -- the edge is listed, not ignored, and declared as this dependency, which stands at this place of its package's list
 pub record IsDeclaredAt (r : Resolved) (s : SettingModel) (e : Edge) (place : ℕ) (d : DependencyModel) : Type 0 where
   pub dep : NodeDepModel
-  pub listed : IsListed r s e dep
+  pub listed : IsConsidered r s e dep
   pub pkg : PackageModel
   pub has_package : HasPackage r e.parent pkg
   pub declared : IsDeclared pkg.dependencies (dependency_entry e.child dep) (kind_info_of e) place d
@@ -76,17 +76,18 @@ pub record IsWanted (r : Resolved) (s : SettingModel) (e : Edge) (d : Dependency
 -- the edge is listed, not ignored, and no package of its parent declares it
 pub record IsLoose (r : Resolved) (s : SettingModel) (e : Edge) : Type 0 where
   pub dep : NodeDepModel
-  pub listed : IsListed r s e dep
+  pub listed : IsConsidered r s e dep
   pub undeclared : (p : PackageModel) → HasPackage r e.parent p → IsUndeclared p.dependencies (dependency_entry e.child dep) (kind_info_of e)
 
 -- ---- all that the rules ask
 
+-- what the rules ask, answered by this document and this setting
 unfoldable pub questions : Resolved → SettingModel → Questions
 questions r s = record {
   Root = IsRoot r s;
   Stands = Stands r s;
   NoPackage = NoPackage r;
-  NoNode = LacksNode r s;
+  LacksNode = LacksNode r s;
   Lists = ListsFeature r;
   Lacks = LacksFeature r;
   Refers = HasReference r;

@@ -28,7 +28,7 @@ abbrev pub id_order : Id → Id → Ordering
 id_order = by_texts (λ i. i.name) (λ i. i.version) (λ i. i.source)
 
 -- the node of the crate has this dependency, and it answers to the name
-pub record IsNamed (r : Resolved) (i : Id) (name : Text) (child : Id) : Type 0 where
+pub record AnswersIn (r : Resolved) (i : Id) (name : Text) (child : Id) : Type 0 where
   pub node : NodeModel
   pub has_node : HasNode r i node
   pub dep : NodeDepModel
@@ -37,5 +37,5 @@ pub record IsNamed (r : Resolved) (i : Id) (name : Text) (child : Id) : Type 0 w
 
 -- What a name means in a reference of the crate: the least, by id, of the dependencies of its node that answer to it.
 pub record IsReferent (r : Resolved) (i : Id) (name : Text) (child : Id) : Type 0 where
-  pub is_named : IsNamed r i name child
-  pub least : (other : Id) → IsNamed r i name other → id_order child other ≢ Greater
+  pub is_named : AnswersIn r i name child
+  pub least : (other : Id) → AnswersIn r i name other → id_order child other ≢ Greater

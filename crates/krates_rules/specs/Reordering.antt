@@ -5,12 +5,12 @@ use Rattle.krates_cm.specs.Document.{Text, PackageModel, NodeModel, ResolveModel
 use Rattle.krates_ids.specs.Correction.{named, with_features}
 use Rattle.krates_ids.specs.declared.error.Error.{Error}
 use Rattle.krates_rules.specs.Admission.{IsInvalidId, IsDoubled}
-use Rattle.krates_rules.specs.AdmissionRefusals.{IsRefused}
+use Rattle.krates_rules.specs.AdmissionRefusals.{AdmissionRefusal}
 use Rattle.krates_rules.specs.Derivation.{Derivable}
 use Rattle.krates_rules.specs.Facts.{Id, Fact}
 use Rattle.krates_rules.specs.Questions.{questions}
 use Rattle.krates_rules.specs.Resolved.{resolved, HasGraphWith}
-use Rattle.krates_rules.specs.SelectionRefusals.{IsUnselected}
+use Rattle.krates_rules.specs.SelectionRefusals.{SelectionRefusal}
 use Rattle.krates_rules.specs.Setting.{SettingModel}
 
 -- ---- documents in another order
@@ -70,7 +70,7 @@ HasDoubledId m id = HasGraphWith m (λ g. IsDoubled m g id)
 
 -- nothing is selected from the document under the setting, for this cause
 abbrev pub HasNoSelection : MetadataModel → SettingModel → Error → Type 0
-HasNoSelection m s e = HasGraphWith m (λ g. IsUnselected (questions (resolved m g) s) e)
+HasNoSelection m s e = HasGraphWith m (λ g. SelectionRefusal (questions (resolved m g) s) e)
 
 -- what is resolved of one document is resolved of the other, and what refuses one refuses the other
 pub record ResolveAlike (m n : MetadataModel) : Type 0 where
@@ -83,7 +83,7 @@ pub record ResolveAlike (m n : MetadataModel) : Type 0 where
   -- the same ids are doubled
   pub doubled : (id : Id) → HasDoubledId m id ↔ HasDoubledId n id
   -- both are refused before resolution for the same causes
-  pub refused : (e : Error) → IsRefused m e ↔ IsRefused n e
+  pub refused : (e : Error) → AdmissionRefusal m e ↔ AdmissionRefusal n e
   -- and in resolution
   pub unselected : (s : SettingModel) (e : Error) → HasNoSelection m s e ↔ HasNoSelection n s e
 

@@ -19,6 +19,7 @@ pub record Resolved : Type 0 where
   pub metadata : MetadataModel
   pub graph : ResolveModel
 
+-- the document with this graph
 abbrev pub resolved : MetadataModel → ResolveModel → Resolved
 resolved m g = record { metadata = m; graph = g }
 
@@ -33,6 +34,7 @@ pub record HasPackage (r : Resolved) (i : Id) (p : PackageModel) : Type 0 where
   pub among : Contains r.metadata.packages p
   pub id : ReadsAs p.id i
 
+-- the document has no package with the id
 abbrev pub NoPackage : Resolved → Id → Type 0
 NoPackage r i = (p : PackageModel) → HasPackage r i p → ⊥
 
@@ -41,6 +43,7 @@ pub record HasNode (r : Resolved) (i : Id) (n : NodeModel) : Type 0 where
   pub among : Contains r.graph.nodes n
   pub id : ReadsAs n.id i
 
+-- the graph has no node with the id
 abbrev pub NoNode : Resolved → Id → Type 0
 NoNode r i = (n : NodeModel) → HasNode r i n → ⊥
 

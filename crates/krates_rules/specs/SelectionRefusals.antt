@@ -23,8 +23,8 @@ pub record HasNoRoot (q : Questions) : Type 0 where
   pub no_lost : (c : Cause) → Derivable q (facts.Lost c) → ⊥
 
 -- The cause is true; memory may always run out.
-abbrev pub IsUnselected : Questions → Error → Type 0
-IsUnselected q (errors.Lost what) = Derivable q (facts.Lost (cause_of what))
-IsUnselected q errors.NoRootKrates = HasNoRoot q
-IsUnselected q errors.Memory = ⊤
-IsUnselected q _ = ⊥
+abbrev pub SelectionRefusal : Questions → Error → Type 0
+SelectionRefusal q (errors.Lost what) = Derivable q (facts.Lost (cause_of what))
+SelectionRefusal q errors.NoRootKrates = HasNoRoot q
+SelectionRefusal q errors.Memory = ⊤
+SelectionRefusal q _ = ⊥

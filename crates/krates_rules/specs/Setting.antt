@@ -14,6 +14,7 @@ use Rattle.krates_rules.specs.declared.kind.IgnoredKinds.{IgnoredKinds}
 
 -- ---- what is set
 
+-- what the caller sets
 pub record SettingModel : Type 0 where
   -- the targets that are asked, each with its features
   pub targets : List Asked

@@ -14,6 +14,7 @@ mutual
     word : List ℕ → Tree
     pair : (key string : List ℕ) → Tree
 
+  -- predicates in a list
   pub data Trees : Type 0 where
     no_trees : Trees
     tree : Tree → Trees → Trees
@@ -27,9 +28,11 @@ added (tree first rest) last = tree first (added rest last)
 abbrev pub is_blank : ℕ → Bool
 is_blank c = c == 32 || c == 9 || c == 10 || c == 13
 
+-- blanks, tabs, newlines or carriage returns, or nothing
 abbrev pub AreBlanks : List ℕ → Type 0
 AreBlanks text = AllByRecursion (λ c. IsTrue (is_blank c)) text
 
+-- a number of this stretch
 abbrev pub is_between : ℕ → ℕ → ℕ → Bool
 is_between low high c = nat_le low c && nat_le c high
 
@@ -41,6 +44,7 @@ is_word_start c = is_between 97 122 c || is_between 65 90 c || c == 95
 abbrev pub is_word_part : ℕ → Bool
 is_word_part c = is_word_start c || is_between 48 57 c
 
+-- a letter or `_`, and then letters, digits or `_`
 abbrev pub IsWord : List ℕ → Type 0
 IsWord [] = ⊥
 IsWord (c ∷ rest) = IsTrue (is_word_start c) × AllByRecursion (λ b. IsTrue (is_word_part b)) rest
@@ -53,6 +57,7 @@ is_form w = bytes_eq w (codes "all") || bytes_eq w (codes "any") || bytes_eq w (
 abbrev pub is_reserved : List ℕ → Bool
 is_reserved w = is_form w || bytes_eq w (codes "true") || bytes_eq w (codes "false")
 
+-- a word that is no form and no constant
 abbrev pub IsFreeWord : List ℕ → Type 0
 IsFreeWord w = IsWord w × (is_reserved w ≡ false)
 
@@ -87,6 +92,7 @@ abbrev mutual
   nesting (word w) = 0
   nesting (pair key string) = 0
 
+  -- of the deepest of a list
   pub nesting_among : Trees → ℕ
   nesting_among no_trees = 0
   nesting_among (tree p ps) = max (nesting p) (nesting_among ps)

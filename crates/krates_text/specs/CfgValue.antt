@@ -44,10 +44,12 @@ abbrev mutual
   value target features (word w) = word_value target w
   value target features (pair key string) = pair_value target features key string
 
+  -- each of the list is true
   pub all_true : DescribedTarget → List (List ℕ) → Trees → Bool
   all_true target features no_trees = true
   all_true target features (tree p ps) = value target features p && all_true target features ps
 
+  -- one of the list is true
   pub some_true : DescribedTarget → List (List ℕ) → Trees → Bool
   some_true target features no_trees = false
   some_true target features (tree p ps) = value target features p || some_true target features ps
@@ -62,6 +64,7 @@ abbrev mutual
   count (word w) = 1
   count (pair key string) = 1
 
+  -- of a list, together
   pub count_among : Trees → ℕ
   count_among no_trees = 0
   count_among (tree p ps) = count p + count_among ps

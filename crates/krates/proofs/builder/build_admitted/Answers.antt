@@ -2,7 +2,7 @@ use Rattle.std.proofs.Common.{subst, length, List, refl}
 use Rattle.std.proofs.lemmas.Result.{err_from_is_err_and}
 use Rattle.krates_cm.specs.Document.{metadata_view}
 use Rattle.krates_document.specs.Ids.{ids_view}
-use Rattle.krates.specs.Build.{IsMiscount}
+use Rattle.krates.specs.Build.{CountRefusal}
 use Rattle.krates.specs.Enabled.{AreEnabledSets}
 use Rattle.krates.specs.Krate.{krate_ids, krate_packages}
 use Rattle.krates.specs.declared.krate.Krate.{Krate}
@@ -19,7 +19,7 @@ pub returns-in_err-expect_numbered-clause-refused : goal.returns-in_err-expect_n
 returns-in_err-expect_numbered-clause-refused g c =
     let b = built c.one_reading.ensures.once c.args.metadata c.args.setting.now c.args.setting.now c.in_ok-selection.selection c.deref.result.now c.in_ok-division.division refl c.deref.ensures.value c.in_ok-selection.ensures.selected c.in_ok-division.ensures in
     let error = c.in_err-expect_numbered.field-0.0 in
-    let miscount = subst (λ (ks : List Krate). IsMiscount (length ks) error) c.deref-2.ensures.value c.in_err-expect_numbered.ensures.refused in
+    let miscount = subst (λ (ks : List Krate). CountRefusal (length ks) error) c.deref-2.ensures.value c.in_err-expect_numbered.ensures.refused in
     let p = err_from_is_err_and c.from_residual-in_err-expect_numbered.result c.from_residual-in_err-expect_numbered.ensures.1 in
     rw (p.1, p.2) (miscount_refused (record { total = c.comparison.ensures.total; tells = c.comparison.ensures.order }) c.args.metadata c.args.setting.now c.in_ok-division.division (ids_view c.args.ids) c.requires.admitted b error miscount)
 

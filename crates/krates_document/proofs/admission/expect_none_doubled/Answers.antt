@@ -3,7 +3,7 @@ use Rattle.std.proofs.lemmas.Result.{err_from_is_err_and}
 use Rattle.std.specs.Global.{Vec}
 use Rattle.std.specs.List.{AllByRecursion}
 use Rattle.krates_ids.specs.Identity.{Identity}
-use Rattle.krates_document.specs.AdmissionSteps.{AreDistinct, IsTwiceIn}
+use Rattle.krates_document.specs.AdmissionSteps.{AreDistinct, DoubledInRefusal}
 use Rattle.krates_document.specs.Ids.{ids_view}
 use Rattle.krates_document.proofs.AdmissionLemmas.{twice_deps}
 use Rattle.krates_document.proofs.admission.expect_none_doubled.Goals as goal
@@ -11,7 +11,7 @@ use Rattle.krates_document.proofs.admission.expect_none_doubled.Goals as goal
 pub returns-in_err-expect_all_distinct-clause-refused : goal.returns-in_err-expect_all_distinct-clause-refused
 returns-in_err-expect_all_distinct-clause-refused c =
     let error = c.in_err-expect_all_distinct.field-0.0 in
-    let twice = subst (λ (lists : List (List Identity)). IsTwiceIn lists error) (ap (map (λ (ks : Vec Identity). ks.items)) c.deref-3.ensures.value) c.in_err-expect_all_distinct.ensures.refused in
+    let twice = subst (λ (lists : List (List Identity)). DoubledInRefusal lists error) (ap (map (λ (ks : Vec Identity). ks.items)) c.deref-3.ensures.value) c.in_err-expect_all_distinct.ensures.refused in
     let p = err_from_is_err_and c.from_residual-in_err-expect_all_distinct.result c.from_residual-in_err-expect_all_distinct.ensures.1 in
     rw (p.1, p.2) (twice_deps (ids_view c.args.ids.now) error twice)
 

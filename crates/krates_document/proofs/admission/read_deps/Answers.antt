@@ -7,7 +7,7 @@ use Rattle.krates_cm.specs.Document.{Text, id_view, node_view}
 use Rattle.krates_cm.specs.declared.resolve.NodeDep.{NodeDep}
 use Rattle.krates_ids.specs.Identity.{Identity, Reads}
 use Rattle.krates_rules.specs.Admission.{AreDepIds, dep_texts}
-use Rattle.krates_document.specs.AdmissionSteps.{IsBadDep}
+use Rattle.krates_document.specs.AdmissionSteps.{InvalidDepRefusal}
 use Rattle.krates_document.proofs.AdmissionLemmas.{bad_node, dep_texts_of}
 use Rattle.krates_document.proofs.Zips.{zip_next, zip_all, one_seen}
 use Rattle.krates_document.proofs.admission.read_deps.Goals as goal
@@ -18,7 +18,7 @@ returns-in_err-read_dep_ids-clause-refused c =
     let error = c.in_err-read_dep_ids.field-0.0 in
     let texts : map (λ (d : NodeDep). id_view d.pkg) c.deref.result.now ≡ dep_texts (node_view node) = ap (map (λ (d : NodeDep). id_view d.pkg)) c.deref.ensures.value ∙ sym (dep_texts_of node) in
     let among = one_seen node_view c.args.nodes.now c.loop-node.node-index node (omega arith) c.node-item.is in
-    let bad = subst (λ (ts : List Text). IsBadDep ts error) texts c.in_err-read_dep_ids.ensures.refused in
+    let bad = subst (λ (ts : List Text). InvalidDepRefusal ts error) texts c.in_err-read_dep_ids.ensures.refused in
     let p = err_from_is_err_and c.from_residual.result c.from_residual.ensures.1 in
     rw (p.1, p.2) (bad_node (map node_view c.args.nodes.now) (node_view node) among error bad)
 

@@ -1,7 +1,7 @@
 use Rattle.std.proofs.Common.{String, Global, Contains, refl, sym, ◌∙◌, subst, arith}
 use Rattle.krates_cm.specs.Document.{Text, text_view, dependency_view}
 use Rattle.krates_rules.specs.Facts.{Crate}
-use Rattle.krates_resolve.specs.Found.{Advances, HasUsed, IsNamedIn}
+use Rattle.krates_resolve.specs.Found.{Advances, HasUsed, IsEnabledBySome}
 use Rattle.krates_resolve.specs.Lookup.{resolved_view}
 use Rattle.krates_rules.specs.Resolved.{id_of}
 use Rattle.krates_resolve.specs.declared.found.Found.{Found}
@@ -29,8 +29,8 @@ loop-name-preserved c =
     let inv = c.loop-name.invariant in
     let step = c.in_ok-enable.ensures in (
       advances_trans r s c.args.found.now x y inv.0 step.advanced,
-      seen_more (λ (name : String Global). IsNamedIn r y i (text_view name)) c.deref-name-items.result.now c.loop-name.name-index c.name-item.result c.loop-name-test.true c.name-item.is
-          (λ k d lt. named_grows r x y i _ step.advanced.grows (inv.1 k d lt)) (subst (IsNamedIn r y i) c.as_str.ensures.value step.named),
+      seen_more (λ (name : String Global). IsEnabledBySome r y i (text_view name)) c.deref-name-items.result.now c.loop-name.name-index c.name-item.result c.loop-name-test.true c.name-item.is
+          (λ k d lt. named_grows r x y i _ step.advanced.grows (inv.1 k d lt)) (subst (IsEnabledBySome r y i) c.as_str.ensures.value step.named),
       step.same_links ∙ inv.2,
     )
 
@@ -58,8 +58,8 @@ returns-clause-used c =
     let d = dependency_view c.args.dependency.now in
     let x = c.loop-name.found in
     let inv = c.loop-name.invariant in
-    let named : (g : Text) → Contains d.features g → IsNamedIn r x i g =
-    each_seen text_view (IsNamedIn r x i) c.deref-name-items.result.now c.args.dependency.now.features.items c.loop-name.name-index c.deref-name-items.ensures.value (omega arith) inv.1 in
+    let named : (g : Text) → Contains d.features g → IsEnabledBySome r x i g =
+    each_seen text_view (IsEnabledBySome r x i) c.deref-name-items.result.now c.args.dependency.now.features.items c.loop-name.name-index c.deref-name-items.ensures.value (omega arith) inv.1 in
     elim c.if-dependency.branch [
       | then-dependency w ↦ (
           let y = w.enable_default.new.found in

@@ -1,6 +1,6 @@
 use Rattle.std.proofs.Common.{◌≡◌, String, Global}
 use Rattle.krates_cm.specs.Document.{text_view}
-use Rattle.krates_resolve.specs.Found.{Advances, IsNamedIn}
+use Rattle.krates_resolve.specs.Found.{Advances, IsEnabledBySome}
 use Rattle.krates_resolve.specs.Lookup.{resolved_view}
 use Rattle.krates_rules.specs.Resolved.{id_of}
 use Rattle.krates_document.proofs.Seen.{SeenBelow}
@@ -10,5 +10,5 @@ use Rattle.krates_resolve.proofs.enabling.enable_declared.Given as goal
 abbrev pub invariant-loop-name : goal.invariant-loop-name
 invariant-loop-name l =
     Advances (resolved_view l.lookup) l.setting l.fn.found l.found
-    × SeenBelow (λ (name : String Global). IsNamedIn (resolved_view l.lookup) l.found (id_of l.node.id.now) (text_view name)) l.name-items l.name-index
+    × SeenBelow (λ (name : String Global). IsEnabledBySome (resolved_view l.lookup) l.found (id_of l.node.id.now) (text_view name)) l.name-items l.name-index
     × (l.found.links ≡ l.fn.found.links)

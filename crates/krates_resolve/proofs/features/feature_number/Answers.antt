@@ -4,7 +4,7 @@ use Rattle.krates_cm.specs.Document.{Text}
 use Rattle.krates_resolve.specs.FeatureOrder.{listed_cmp}
 use Rattle.krates_resolve.specs.FeatureTable.{IsNumberOf}
 use Rattle.krates_resolve.specs.Lookup.{resolved_view}
-use Rattle.krates_resolve.specs.declared.features.ListedFeature.{ListedFeature}
+use Rattle.krates_resolve.specs.declared.feature_table.ListedFeature.{ListedFeature}
 use Rattle.krates_resolve.proofs.FeatureNumbers.{number_answer}
 use Rattle.krates_resolve.proofs.features.feature_number.Goals as goal
 

@@ -1,7 +1,7 @@
 use Rattle.std.proofs.Common.{Contains, String, Global, map, sym, subst, arith, string_bytes}
 use Rattle.krates_cm.specs.Document.{Text, text_view}
 use Rattle.krates_rules.specs.Facts.{Crate, Feature}
-use Rattle.krates_resolve.specs.Found.{HasFound, IsNamedIn, MayName}
+use Rattle.krates_resolve.specs.Found.{HasFound, IsEnabledBySome, MayName}
 use Rattle.krates_resolve.specs.Lookup.{resolved_view}
 use Rattle.krates_rules.specs.Resolved.{id_of}
 use Rattle.krates_resolve.proofs.Growing.{advances_refl, advances_trans}
@@ -43,7 +43,7 @@ loop-name-preserved c =
     let texts = c.deref-name-items.result.now in
     let names = listed_names c.args.lookup.now i c.args.node.place c.index.result.now c.requires.lookup c.requires.node c.index.ensures f in
     let among = subst (λ ts. Contains (map text_view ts) f) c.deref-name-items.ensures.value (value_at texts c.loop-name.name-index c.name-item.result c.loop-name-test.true c.name-item.is) in
-    let named = subst (λ (t : Text). IsNamedIn r y i t) c.as_str.ensures.value step.named in (
+    let named = subst (λ (t : Text). IsEnabledBySome r y i t) c.as_str.ensures.value step.named in (
       advances_trans r s c.args.found.now x y inv.0 step.advanced,
       seen_more (λ (name : String Global). HasFound r y (Feature i (string_bytes name))) texts c.loop-name.name-index c.name-item.result c.loop-name-test.true c.name-item.is
           (λ k d lt. step.advanced.grows.found (Feature i _) (inv.1 k d lt)) (named.enabled (names.1 among)),

@@ -7,7 +7,7 @@ use Rattle.krates_resolve.specs.declared.selection.EnabledFeature.{EnabledFeatur
 use Rattle.krates_resolve.proofs.FeaturesAt.{HasNumber, HaveNumbers, itself, enabled_told, listed_long, place_within, numbered_here}
 use Rattle.krates_resolve.proofs.NodeParts.{nodes_long, within_vec}
 use Rattle.krates_document.proofs.Zips.{zip_read, zip_all}
-use Rattle.krates_resolve.proofs.selection.features_at.Goals as goal
+use Rattle.krates_resolve.proofs.resolution.features_at.Goals as goal
 
 pub index-requires : goal.index-requires
 index-requires c =

@@ -2,7 +2,7 @@ use Rattle.std.proofs.Common.{ℕ, List, [], ◌∷◌, ◌++◌, refl, sym, ap,
 use Rattle.std.proofs.lemmas.List.{take_all}
 use Rattle.krates_ids.specs.Identity.{Identity}
 use Rattle.krates_resolve.proofs.Selected.{AreAt, at_more}
-use Rattle.krates_resolve.proofs.selection.kids_at.Goals as goal
+use Rattle.krates_resolve.proofs.resolution.kids_at.Goals as goal
 
 pub loop-place-init : goal.loop-place-init
 loop-place-init c = subst (λ (kids : List Identity). AreAt c.args.ids.now [] kids) (sym c.new-kids.ensures.items) refl

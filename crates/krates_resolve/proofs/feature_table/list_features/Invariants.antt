@@ -2,7 +2,7 @@ use Rattle.std.proofs.Common.{◌≡◌, ◌++◌, drop, map}
 use Rattle.krates_cm.specs.Document.{text_view}
 use Rattle.krates_resolve.specs.FeatureTable.{listed_view}
 use Rattle.krates_resolve.specs.ListedFeatures.{features_of_node}
-use Rattle.krates_resolve.proofs.features.list_features.Given as goal
+use Rattle.krates_resolve.proofs.feature_table.list_features.Given as goal
 
 -- those that are listed so far and those of the rest are what is listed in the end
 abbrev pub invariant-loop-feature : goal.invariant-loop-feature

@@ -1,7 +1,7 @@
 use Rattle.std.proofs.Common.{◌<◌, length, arith}
 use Rattle.std.proofs.lemmas.List.{get_or_default}
 use Rattle.krates_resolve.proofs.FeatureNumbers.{numbers_more, numbers_whole}
-use Rattle.krates_resolve.proofs.features.feature_table.Goals as goal
+use Rattle.krates_resolve.proofs.feature_table.feature_table.Goals as goal
 
 pub loop-number-init : goal.loop-number-init
 loop-number-init c = λ q. rw c.new-numbers.ensures.empty (λ n lt s. absurd (omega (arith, lt)))

@@ -1,6 +1,6 @@
 use Rattle.std.proofs.Common.{take}
 use Rattle.krates_resolve.proofs.Selected.{AreAt}
-use Rattle.krates_resolve.proofs.selection.kids_at.Given as goal
+use Rattle.krates_resolve.proofs.resolution.kids_at.Given as goal
 
 -- the ids are those at the places so far
 abbrev pub invariant-loop-place : goal.invariant-loop-place

@@ -1,5 +1,5 @@
 use Rattle.krates_resolve.proofs.FeatureNumbers.{AreNumberedBelow}
-use Rattle.krates_resolve.proofs.features.feature_table.Given as goal
+use Rattle.krates_resolve.proofs.feature_table.feature_table.Given as goal
 
 -- the map has the numbers of the features so far
 abbrev pub invariant-loop-number : goal.invariant-loop-number

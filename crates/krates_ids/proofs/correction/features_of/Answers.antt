@@ -1,7 +1,7 @@
 use Rattle.std.proofs.Common.{◌≡◌, rules, tests}
 use Rattle.semver.specs.Identifiers.{parts_of}
 use Rattle.krates_ids.proofs.IndexLemmas.{first_equal, none_equal}
-use Rattle.krates_ids.proofs.index.features_of.Goals as goal
+use Rattle.krates_ids.proofs.correction.features_of.Goals as goal
 
 pub returns-then-is_same_version : goal.returns-then-is_same_version
 returns-then-is_same_version c =

@@ -1,7 +1,7 @@
 use Rattle.std.proofs.Common.{take}
 use Rattle.krates_resolve.specs.Lookup.{resolved_view}
 use Rattle.krates_resolve.proofs.FeaturesAt.{HaveNumbers}
-use Rattle.krates_resolve.proofs.selection.features_at.Given as goal
+use Rattle.krates_resolve.proofs.resolution.features_at.Given as goal
 
 -- the features have the numbers so far
 abbrev pub invariant-loop-number : goal.invariant-loop-number

@@ -15,7 +15,7 @@ use Rattle.krates_document.specs.declared.ids.Ids.{Ids}
 use Rattle.krates_resolve.specs.declared.selection.Selection.{Selection}
 use Rattle.krates_resolve.proofs.NodeParts.{nodes_long}
 use Rattle.krates_resolve.proofs.Selected.{AreAt, IsWhole, IsInOrder, has_element, selected}
-use Rattle.krates_resolve.proofs.selection.select.Goals as goal
+use Rattle.krates_resolve.proofs.resolution.select.Goals as goal
 
 pub lookup_of-requires-clause-distinct : goal.lookup_of-requires-clause-distinct
 lookup_of-requires-clause-distinct c =

@@ -1,0 +1,95 @@
+//! Resolution: from an admitted document and a setting to what is kept of it.
+
+ghost use Rattle.std.proofs.Common.{rules};
+ghost use Rattle.std.specs.Prelude.{◌≡◌, ◌↔◌, ◌<◌, All, Contains, IfOk, IfErr, Some, length, map, slice_get};
+ghost use Rattle.krates_cm.specs.Document.{Text, metadata_view};
+ghost use Rattle.krates_rules.specs.Admission.{IsAdmitted};
+ghost use Rattle.krates_rules.specs.Facts.{Id, Feature};
+ghost use Rattle.krates_resolve.specs.Found.{IsEnabled};
+ghost use Rattle.krates_document.specs.Ids.{ids_view};
+ghost use Rattle.krates_resolve.specs.ListedFeatures.{listed_features};
+ghost use Rattle.krates_resolve.specs.Lookup.{IsLookup, resolved_view};
+ghost use Rattle.krates_rules.specs.Questions.{questions};
+ghost use Rattle.krates_rules.specs.Resolved.{HasGraphWith, resolved};
+ghost use Rattle.krates_resolve.specs.Selection.{IsSelection, feature_fact};
+ghost use Rattle.krates_rules.specs.SelectionRefusals.{SelectionRefusal};
+
+use crate::selection::{EnabledFeature, Selection};
+use crate::found::Found;
+use krates_document::ids::Ids;
+use crate::lookup::{Lookup, lookup_of};
+use crate::saturation::saturate;
+use krates_document::setting::Setting;
+use crate::sorted::in_order;
+use krates_cm::Metadata;
+use krates_ids::{Error, Kid, laws};
+use std::alloc::{AllocError, Global};
+
+/// What is kept of a document that was admitted with these ids: exactly what has a derivation from the roots by the rules.
+///
+/// It is refused as `Lost` exactly where the document lacks what some derivation asks for, naming a true lack; and as
+/// `NoRootKrates` exactly where nothing is lacking and no crate is kept. `Memory` may stand in place of any answer.
+pub fn select(
+    alloc: Global,
+    metadata: &Metadata,
+    ids: &Ids,
+    setting: &Setting,
+) -> Result<Selection, Error>
+    requires { IsAdmitted (metadata_view metadata.now) (ids_view ids.now) }
+    ensures selected { IfOk result (λ selection. HasGraphWith (metadata_view metadata.now) (λ g. IsSelection (resolved (metadata_view metadata.now) g) setting.now selection)) }
+    ensures refused { IfErr result (λ error. HasGraphWith (metadata_view metadata.now) (λ g. SelectionRefusal (questions (resolved (metadata_view metadata.now) g) setting.now) error)) }
+{
+    laws::one_reading();
+    laws::comparison();
+    let Some(resolve) = &metadata.resolve else {
+        unreachable!()
+    };
+    let lookup = lookup_of(alloc, metadata, resolve, ids)?;
+    let found = saturate(alloc, &lookup, setting)?;
+    if found.krates.numbers().is_empty() {
+        return Err(Error::NoRootKrates);
+    }
+    let krates = in_order(kids_at(alloc, &ids.nodes, found.krates.numbers())?)?;
+    let features = in_order(features_at(alloc, &lookup, found.features.numbers())?)?;
+    let Found { edges, toggled, .. } = found;
+    Ok(Selection {
+        krates,
+        edges: in_order(edges)?,
+        features,
+        toggled: in_order(toggled)?,
+    })
+}
+
+/// The listed features of these numbers.
+fn features_at<'a>(
+    alloc: Global,
+    lookup: &Lookup<'a>,
+    numbers: &[usize],
+) -> Result<Vec<EnabledFeature>, AllocError>
+    requires lookup { IsLookup lookup.now }
+    requires within { All (λ number. number < length (listed_features (resolved_view lookup.now))) numbers.now }
+    ensures { IfOk result (λ list. (i : Id) (f : Text) → IsEnabled (resolved_view lookup.now) numbers.now i f ↔ Contains (map feature_fact list.items) (Feature i f)) }
+{
+    laws::one_reading();
+    let mut list = Vec::new(alloc);
+    for number in numbers {
+        let feature = lookup.features.listed[*number];
+        list.push(EnabledFeature {
+            krate: lookup.ids.nodes[feature.place].clone()?,
+            name: String::from_str(alloc, feature.name)?,
+        })?;
+    }
+    Ok(list)
+}
+
+/// The ids at these places of a list.
+fn kids_at(alloc: Global, ids: &[Kid], places: &[usize]) -> Result<Vec<Kid>, AllocError>
+    requires { All (λ place. place < length ids.now) places.now }
+    ensures { IfOk result (λ kids. map (slice_get ids.now) places.now ≡ map Some kids.items) }
+{
+    let mut kids = Vec::new(alloc);
+    for place in places {
+        kids.push(ids[*place].clone()?)?;
+    }
+    Ok(kids)
+}
