@@ -1,7 +1,7 @@
 //! Which documents are refused before they are resolved, and why.
 
-use crate::documents::metadata;
-use crate::table::{Question, Row, hold};
+use krates_samples::documents::metadata;
+use krates_samples::table::{Question, Row, hold};
 use krates_resolve::admit;
 use std::alloc::Global;
 use std::test::Fail;

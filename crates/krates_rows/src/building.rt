@@ -2,9 +2,9 @@
 
 ghost use Rattle.std.specs.Prelude.{◌≡◌, None, ⊤};
 
-use crate::documents::{kid_of, metadata, word_of};
+use krates_samples::documents::{kid_of, metadata, word_of};
 use crate::setters::build_as;
-use crate::table::{Question, Row, hold};
+use krates_samples::table::{Question, Row, hold};
 use krates::cm::Metadata;
 use krates::{Builder, Error, Krates, NoneFilter, OnFilter, Package};
 use std::alloc::{AllocError, Global};

@@ -1,7 +1,7 @@
 //! Which declared dependency an edge has, where its package declares one several times.
 
 use crate::building::Built;
-use crate::table::{Row, hold};
+use krates_samples::table::{Row, hold};
 use krates_resolve::declared_source::is_path_of;
 use std::test::Fail;
 

@@ -1,7 +1,7 @@
 //! Features by the rules: which are enabled, which edges they keep, and which are lost.
 
 use crate::selection::Selected;
-use crate::table::{Row, hold};
+use krates_samples::table::{Row, hold};
 use std::test::Fail;
 
 const ENABLED: &[Row] = &[

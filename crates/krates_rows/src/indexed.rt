@@ -3,8 +3,8 @@
 ghost use Rattle.std.specs.Prelude.{⊤};
 
 use crate::building::{Reported, told_of};
-use crate::documents::{metadata, section};
-use crate::table::{Question, Row, hold};
+use krates_samples::documents::{metadata, section};
+use krates_samples::table::{Question, Row, hold};
 use krates::index::{BuildIndexCache, IndexAnswer, IndexKrate, IndexKrateVersion, PackageNames};
 use krates::{Builder, OnFilter, Package};
 use semver::Version;

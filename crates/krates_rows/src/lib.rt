@@ -1,4 +1,4 @@
-//! Worked examples of documents: what resolution, builds and the program answer where the answer is known.
+//! Worked examples of documents: what resolution and builds answer where the answer is known.
 //!
 //! They stand apart from the crates that they test, since a crate with tests is proved twice. An example is a row of a table: a
 //! line in a small language of documents, and the line that answers it.
@@ -13,15 +13,9 @@ mod building;
 #[cfg(test)]
 mod declared;
 #[cfg(test)]
-mod documents;
-#[cfg(test)]
 mod enabled;
 #[cfg(test)]
 mod indexed;
-#[cfg(test)]
-mod listing;
-#[cfg(test)]
-mod options;
 #[cfg(test)]
 mod public_names;
 #[cfg(test)]
@@ -32,7 +26,3 @@ mod selection;
 mod setters;
 #[cfg(test)]
 mod settings;
-#[cfg(test)]
-mod streams;
-#[cfg(test)]
-mod table;

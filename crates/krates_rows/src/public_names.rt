@@ -1,7 +1,7 @@
 //! The names under which the library gives its items: each public path is called once.
 
-use crate::documents::metadata;
-use crate::table::{Question, Row, hold};
+use krates_samples::documents::metadata;
+use krates_samples::table::{Question, Row, hold};
 use krates::agenda::Agenda;
 use krates::cfg::{CfgError, Expression, TargetInfo, builtin};
 use krates::cm::DependencyKind;

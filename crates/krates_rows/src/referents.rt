@@ -1,7 +1,7 @@
 //! Which dependency a feature reference means: the least by id, also by the name of its library, and over edges of any kind.
 
 use crate::selection::Selected;
-use crate::table::{Row, hold};
+use krates_samples::table::{Row, hold};
 use std::test::Fail;
 
 const MEANT: &[Row] = &[

@@ -1,8 +1,8 @@
 //! What is selected of a document: crates, edges with their places, and features, each in order.
 
-use crate::documents::{metadata, word_of};
+use krates_samples::documents::{metadata, word_of};
 use crate::setters::set_as;
-use crate::table::{Question, Row, hold};
+use krates_samples::table::{Question, Row, hold};
 use krates_cm::DependencyKind;
 use krates_resolve::{Selection, Setting, admit, select};
 use std::alloc::Global;

@@ -10,7 +10,7 @@
 
 ghost use Rattle.std.specs.Prelude.{◌≡◌, OnOk};
 
-use crate::documents::kind_named;
+use krates_samples::documents::kind_named;
 use krates::{Builder, DepKind, PkgSpec, Scope, Target};
 use krates_resolve::Setting;
 use std::alloc::Global;

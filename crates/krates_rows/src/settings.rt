@@ -1,8 +1,8 @@
 //! What a build keeps and reports under each setting of the builder.
 
 use crate::building::{Built, outcome};
-use crate::documents::metadata;
-use crate::table::{Row, hold};
+use krates_samples::documents::metadata;
+use krates_samples::table::{Row, hold};
 use krates::{Builder, DepKind, PkgSpec, Scope};
 use std::test::Fail;
 

@@ -1,7 +1,7 @@
 //! Whole runs of the command line: from a document, or what is none, to the lines, the refusal and the status.
 
-use crate::documents::document;
-use crate::table::{Question, Row, hold};
+use krates_samples::documents::document;
+use krates_samples::table::{Question, Row, hold};
 use krates_cli::{Counted, Options, RunError, program, refuse_words, run};
 use std::alloc::Global;
 use std::io::{ErrorKind, Read, Write};

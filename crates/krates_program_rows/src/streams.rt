@@ -1,8 +1,8 @@
 //! Runs over readers and writers that give and take little at a time, that fail, and that are interrupted.
 
-use crate::documents::document;
+use krates_samples::documents::document;
 use crate::listing::told;
-use crate::table::{Question, Row, hold};
+use krates_samples::table::{Question, Row, hold};
 use krates_cli::Counted;
 use std::alloc::Global;
 use std::io::{ErrorKind, Read, Write};

@@ -1,7 +1,7 @@
 //! Options of the command line: what they leave out of a document, and which words are none.
 
 use crate::listing::{Listed, USAGE, told, words_of};
-use crate::table::{Question, Row, hold};
+use krates_samples::table::{Question, Row, hold};
 use krates_cli::Counted;
 use std::alloc::Global;
 use std::str;

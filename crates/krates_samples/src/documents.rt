@@ -34,7 +34,7 @@ use std::test::Fail;
 const CRATES_IO: &str = "registry+https://github.com/rust-lang/crates.io-index";
 
 /// The section of this name, without it.
-pub(crate) fn section<'a>(line: &'a str, name: &str) -> Option<&'a str> {
+pub fn section<'a>(line: &'a str, name: &str) -> Option<&'a str> {
     for part in line.split(" / ") {
         if let Some(rest) = part.strip_prefix(name) {
             return Some(rest);
@@ -68,7 +68,7 @@ fn is_marked(word: &str, mark: char) -> bool {
 }
 
 /// The id of a word.
-pub(crate) fn id_of(alloc: Global, word: &str) -> Result<String, Fail> {
+pub fn id_of(alloc: Global, word: &str) -> Result<String, Fail> {
     if let Some(id) = option_of(word, "id=") {
         return Ok(String::from_str(alloc, id)?);
     }
@@ -83,7 +83,7 @@ pub(crate) fn id_of(alloc: Global, word: &str) -> Result<String, Fail> {
 }
 
 /// The word for an id of a crate at `/w`, or the id itself where it is another.
-pub(crate) fn word_of(id: &str) -> &str {
+pub fn word_of(id: &str) -> &str {
     let Some(place) = id.strip_prefix("path+file:///w/") else {
         return id;
     };
@@ -127,7 +127,7 @@ fn push_member(json: &mut String, key: &str, text: Option<&str>) -> Result<(), F
 }
 
 /// The kind of dependency of this name: `dev`, `build`, and any other for a normal one.
-pub(crate) fn kind_named(name: &str) -> DependencyKind {
+pub fn kind_named(name: &str) -> DependencyKind {
     if name == "dev" {
         return DependencyKind::Development;
     }
@@ -365,7 +365,7 @@ fn push_graph(json: &mut String, alloc: Global, line: &str, packages: &str) -> R
 }
 
 /// The text of the document of a line. Its default members are no ids, since nothing looks at them.
-pub(crate) fn document(alloc: Global, line: &str) -> Result<String, Fail> {
+pub fn document(alloc: Global, line: &str) -> Result<String, Fail> {
     let (packages, _) = line.split_once(" / ").unwrap_or((line, ""));
     let mut json = String::new(alloc);
     json.push_str(
@@ -381,13 +381,13 @@ pub(crate) fn document(alloc: Global, line: &str) -> Result<String, Fail> {
 }
 
 /// The document of a line, read.
-pub(crate) fn metadata(alloc: Global, line: &str) -> Result<Metadata, Fail> {
+pub fn metadata(alloc: Global, line: &str) -> Result<Metadata, Fail> {
     let json = document(alloc, line)?;
     Ok(parse(alloc, json.as_str())?)
 }
 
 /// The id of a word, read.
-pub(crate) fn kid_of(alloc: Global, word: &str) -> Result<Kid, Fail> {
+pub fn kid_of(alloc: Global, word: &str) -> Result<Kid, Fail> {
     let repr = id_of(alloc, word)?;
     Ok(Kid::try_from(PackageId { repr })?)
 }

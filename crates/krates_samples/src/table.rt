@@ -4,16 +4,16 @@ use std::alloc::Global;
 use std::test::Fail;
 
 /// A row: a line that asks, and the line that is known to answer it.
-pub(crate) type Row = (&'static str, &'static str);
+pub type Row = (&'static str, &'static str);
 
 /// What the lines of a table ask.
-pub(crate) trait Question {
+pub trait Question {
     /// What a line is answered.
     fn told(alloc: Global, line: &str) -> Result<String, Fail>;
 }
 
 /// Holds each row to its answer; fails at the first that is answered otherwise, and names it.
-pub(crate) fn hold<Q: Question>(alloc: Global, rows: &[Row]) -> Result<(), Fail> {
+pub fn hold<Q: Question>(alloc: Global, rows: &[Row]) -> Result<(), Fail> {
     for &(line, answer) in rows {
         let told = Q::told(alloc, line)?;
         if told.as_str() != answer {

@@ -1,0 +1,11 @@
+//! Worked examples of the program: what it answers to words, documents and failing streams where the answer is known.
+//!
+//! They stand apart from the crate that they test, since a crate with tests is proved twice. An example is a row of a table.
+#![tactic(auto)]
+
+#[cfg(test)]
+mod listing;
+#[cfg(test)]
+mod options;
+#[cfg(test)]
+mod streams;
