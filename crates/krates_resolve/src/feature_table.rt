@@ -1,23 +1,16 @@
 //! The features that nodes list, by number.
 
-ghost use Rattle.std.proofs.Common.{rules};
-ghost use Rattle.std.specs.Cmp.{partial_order_from_own_ties};
-ghost use Rattle.std.specs.Cmp.Rules.{comparing};
-ghost use Rattle.std.specs.Ordering.{as_partial_cmp};
-ghost use Rattle.krates_resolve.specs.FeatureOrder.{listed_cmp, same_listed};
 ghost use Rattle.std.specs.Prelude.{◌≡◌, ◌++◌, IfOk, OnOk, map};
 ghost use Rattle.krates_cm.specs.Document.{node_view, text_view};
 ghost use Rattle.krates_resolve.specs.FeatureTable.{AreNumbered, listed_in, listed_view};
 ghost use Rattle.krates_resolve.specs.ListedFeatures.{features_from, features_of_node};
 
 use krates_cm::Node;
-use krates_ids::laws;
 use std::alloc::{AllocError, Global};
-use std::cmp::Ordering;
 use std::collections::BTreeMap;
 
 /// A feature that a node lists.
-#[derive(Clone, Copy)]
+#[derive(Clone, Copy, PartialEq, Eq, PartialOrd, Ord)]
 pub(crate) struct ListedFeature<'a> {
     /// The place of the node.
     pub place: usize,
@@ -79,45 +72,4 @@ fn list_features<'a>(
         })?;
     }
     Ok(())
-}
-
-impl PartialEq for ListedFeature<'_> {
-    ghost eq = { same_listed };
-
-    ghost laws = { Prim.search (comparing, rules) depth 9 };
-
-    fn eq(&self, other: &Self) -> bool {
-        self.place == other.place && self.name == other.name
-    }
-}
-
-impl Eq for ListedFeature<'_> {
-    ghost laws = { Prim.search (comparing, rules) depth 9 };
-}
-
-impl Ord for ListedFeature<'_> {
-    ghost cmp = { listed_cmp };
-
-    ghost total = { Prim.search (comparing, rules) depth 9 };
-
-    ghost matches_partial_cmp = { Prim.search (comparing, rules) depth 9 };
-
-    ghost matches_eq = { Prim.search (comparing, rules) depth 9 };
-
-    fn cmp(&self, other: &Self) -> Ordering {
-        match self.place.cmp(&other.place) {
-            Ordering::Equal => self.name.cmp(other.name),
-            order => order,
-        }
-    }
-}
-
-impl PartialOrd for ListedFeature<'_> {
-    ghost partial_cmp = { as_partial_cmp listed_cmp };
-
-    ghost laws = { partial_order_from_own_ties (Prim.search (comparing, rules) depth 9) (Prim.search (comparing, rules) depth 9) };
-
-    fn partial_cmp(&self, other: &Self) -> Option<Ordering> {
-        Some(self.cmp(other))
-    }
 }
