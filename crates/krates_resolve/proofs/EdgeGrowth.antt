@@ -10,7 +10,7 @@ use Rattle.krates_rules.specs.Admission.{NoneDoubled}
 use Rattle.krates_rules.specs.DeclaredDependency.{dependency_entry, FirstAt, IsDeclared}
 use Rattle.krates_rules.specs.Derivation.{Derivable}
 use Rattle.krates_rules.specs.Facts.{Id, Edge, Fact, Crate, Feature, Kept, Toggled, Lost}
-use Rattle.krates_resolve.specs.Found.{HasFound, HasUsed, IsUsed, IsSound, Grows, Advances}
+use Rattle.krates_resolve.specs.Found.{HasFound, HasUsed, IsAny, IsUsed, IsSound, Grows, Advances}
 use Rattle.krates_rules.specs.Resolved.{DepAt, Resolved}
 use Rattle.krates_resolve.specs.Links.{IsMarked}
 use Rattle.krates_resolve.specs.NodeEntry.{IsEntry, parent_of, child_of, declared_in, entry_of, edge_for}
@@ -23,7 +23,7 @@ use Rattle.krates_resolve.specs.declared.node_entry.NodeEntry.{NodeEntry}
 use Rattle.krates_resolve.specs.declared.selection.KeptEdge.{KeptEdge}
 use Rattle.krates_document.proofs.DeclaredOnce.{declared_once}
 use Rattle.krates_document.proofs.FirstPlaces.{seen_at}
-use Rattle.krates_resolve.proofs.Growing.{used_grows, toggled_grows}
+use Rattle.krates_resolve.proofs.Growing.{used_grows, tried_grows}
 use Rattle.krates_resolve.proofs.Growth.{seen_from, seen_still, seen_there}
 use Rattle.krates_rules.proofs.OnlyOne.{one_dep}
 use Rattle.krates_resolve.proofs.Waking.{one_dep_place, wanted_once}
@@ -67,7 +67,7 @@ pub edge_advances : (r : Resolved) (s : SettingModel) (x : Found) (v : Vec KeptE
     → Advances r s x (record x { edges = v }) × HasFound r (record x { edges = v }) (Kept edge)
 edge_advances r s x v e edge sound more is placed reached used marked d =
     let y = WithEdges x v in
-    let grown : Grows r x y = record { found = λ f h. edge_found r x v e f more h; waits = λ k i z h. h; krates = λ k n h. h; features = λ k n h. h; krates_taken = refl; features_taken = refl } in
+    let grown : Grows r x y = record { found = λ f h. edge_found r x v e f more h; waits = λ b k m n z at h. inl h; krates = λ k n h. h; features = λ k n h. h; krates_taken = refl; features_taken = refl } in
     let back = sym is in (
       record {
         sound = record {
@@ -82,7 +82,8 @@ edge_advances r s x v e edge sound more is placed reached used marked d =
               each_edge x v e (λ a. (n i : ℕ) → DepAt r a.parent a.child n i → IsMarked x.links n i) more (λ a o n i there. sound.marked a n i o there)
               (subst (λ (a : Edge). (n i : ℕ) → DepAt r a.parent a.child n i → IsMarked x.links n i) back marked) z h place index at;
           asked = sound.asked;
-          woken = λ b k m n z at m2 waits. toggled_grows r x y b k z grown (sound.woken b k m n z at m2 waits);
+          woken = sound.woken;
+          tried = λ z m k at was. tried_grows r s x y z IsAny grown (sound.tried z m k at was);
           arrived = sound.arrived;
           kept = sound.kept;
           toggled = sound.toggled;

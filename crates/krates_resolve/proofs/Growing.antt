@@ -1,5 +1,5 @@
 -- What has been found stays found, and what stood in it stands in it.
-use Rattle.std.proofs.Common.{refl, ◌∙◌}
+use Rattle.std.proofs.Common.{refl, ◌∙◌, inl, inr}
 use Rattle.krates_cm.specs.Document.{Text, DependencyModel}
 use Rattle.krates_text.specs.FeatureReference.{Reference, krate, weak, strong, simple}
 use Rattle.krates_rules.specs.Facts.{Id, Edge, Crate, Feature, Kept, Toggled}
@@ -10,12 +10,18 @@ use Rattle.krates_rules.specs.Setting.{SettingModel}
 use Rattle.krates_resolve.specs.declared.found.Found.{Found}
 
 pub grows_refl : (r : Resolved) (x : Found) → Grows r x x
-grows_refl r x = record { found = λ f h. h; waits = λ p i g h. h; krates = λ k n h. h; features = λ k n h. h; krates_taken = refl; features_taken = refl }
+grows_refl r x = record { found = λ f h. h; waits = λ p c k i g at h. inl h; krates = λ k n h. h; features = λ k n h. h; krates_taken = refl; features_taken = refl }
+
+pub toggled_grows : (r : Resolved) (x y : Found) (p c : Id) (f : Text) → Grows r x y → IsToggledIn r x p c f → IsToggledIn r y p c f
+toggled_grows r x y p c f g h = record { toggled = λ lists. g.found (Toggled p c f) (h.toggled lists); listed = h.listed }
 
 pub grows_trans : (r : Resolved) (x y z : Found) → Grows r x y → Grows r y z → Grows r x z
 grows_trans r x y z g h = record {
   found = λ f a. h.found f (g.found f a);
-  waits = λ p i t a. h.waits p i t (g.waits p i t a);
+  waits = λ p c k i t at a. elim (g.waits p c k i t at a) [
+    | inl still ↦ h.waits p c k i t at still
+    | inr is ↦ inr (toggled_grows r y z p c t h is)
+  ];
   krates = λ k n a. h.krates k n (g.krates k n a);
   features = λ k n a. h.features k n (g.features k n a);
   krates_taken = h.krates_taken ∙ g.krates_taken;
@@ -31,9 +37,6 @@ advances_trans r s x y z a b = record { sound = b.sound; grows = grows_trans r x
 pub named_grows : (r : Resolved) (x y : Found) (i : Id) (f : Text) → Grows r x y → IsEnabledBySome r x i f → IsEnabledBySome r y i f
 named_grows r x y i f g h = record { enabled = λ lists. g.found (Feature i f) (h.enabled lists); listed = h.listed }
 
-pub toggled_grows : (r : Resolved) (x y : Found) (p c : Id) (f : Text) → Grows r x y → IsToggledIn r x p c f → IsToggledIn r y p c f
-toggled_grows r x y p c f g h = record { toggled = λ lists. g.found (Toggled p c f) (h.toggled lists); listed = h.listed }
-
 pub used_grows : (r : Resolved) (x y : Found) (d : DependencyModel) (c : Id) → Grows r x y → HasUsed r x d c → HasUsed r y d c
 used_grows r x y d c g h = record { declared = λ f among. named_grows r x y c f g (h.declared f among); by_default = λ uses lists. g.found (Feature c default_name) (h.by_default uses lists) }
 
@@ -47,7 +50,10 @@ pub strongly_grows : (r : Resolved) (s : SettingModel) (x y : Found) (p : Id) (n
 strongly_grows r s x y p name f g h e d same referent w st = toggled_grows r x y p e.child f g (h e d same referent w st)
 
 pub waiting_grows : (r : Resolved) (x y : Found) (p : Id) (name f : Text) → Grows r x y → IsWaiting r x p name f → IsWaiting r y p name f
-waiting_grows r x y p name f g h child place index referent dep = g.waits place index f (h child place index referent dep)
+waiting_grows r x y p name f g h child place index referent dep = elim (h child place index referent dep) [
+  | inl still ↦ g.waits p child place index f dep still
+  | inr is ↦ inr (toggled_grows r x y p child f g is)
+]
 
 pub followed_grows : (r : Resolved) (s : SettingModel) (x y : Found) (p : Id) (reference : Reference) → Grows r x y → IsFollowed r s x p reference → IsFollowed r s y p reference
 followed_grows r s x y p (simple f) g h = named_grows r x y p f g h

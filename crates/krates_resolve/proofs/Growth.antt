@@ -6,13 +6,13 @@ use Rattle.std.proofs.lemmas.Option.{same_Some}
 use Rattle.std.specs.Bool.{OnTrue, OnFalse}
 use Rattle.std.specs.List.{slice_get}
 use Rattle.std.specs.Global.{Vec}
-use Rattle.krates_cm.specs.Document.{Text, DepKindInfoModel}
+use Rattle.krates_cm.specs.Document.{Text, DependencyModel, DepKindInfoModel}
 use Rattle.krates_graph.specs.Agenda.{PutNumbers}
 use Rattle.krates_rules.specs.Derivation.{Derivable}
-use Rattle.krates_rules.specs.Facts.{Id, Fact, Crate, Feature, Kept, Toggled, Lost}
-use Rattle.krates_resolve.specs.Found.{HasFound, IsToggledIn, IsAskedWeakly, IsSound, Grows, Advances, HasPut, before, now}
+use Rattle.krates_rules.specs.Facts.{Id, Edge, Fact, Crate, Feature, Kept, Toggled, Lost}
+use Rattle.krates_resolve.specs.Found.{HasFound, HasUsed, IsAny, IsEnabledBySome, IsToggledIn, IsTried, IsAskedWeakly, IsSound, Grows, Advances, HasPut, before, now}
 use Rattle.krates_rules.specs.Resolved.{DepAt, NodeAt, Resolved, id_of, ReadsAs}
-use Rattle.krates_resolve.specs.Links.{IsMarked, Waits, HasMarked, HasWaiter}
+use Rattle.krates_resolve.specs.Links.{IsMarked, NotesAsked, Waits, HasMarked, HasWaiter}
 use Rattle.krates_rules.specs.Questions.{edge_between, questions}
 use Rattle.krates_resolve.specs.Numbering.{FeatureAt}
 use Rattle.krates_resolve.specs.Selection.{toggled_fact}
@@ -21,7 +21,7 @@ use Rattle.krates_resolve.specs.declared.found.Found.{Found}
 use Rattle.krates_resolve.specs.declared.links.Links.{Links}
 use Rattle.krates_resolve.specs.declared.selection.ToggledFeature.{ToggledFeature}
 use Rattle.krates_rules.proofs.Readings.{ReadsOnce}
-use Rattle.krates_resolve.proofs.Growing.{used_grows, toggled_grows}
+use Rattle.krates_resolve.proofs.Growing.{used_grows, tried_grows}
 
 -- ---- one more number
 
@@ -98,7 +98,7 @@ crate_derivable once r s x a place i (Lost c) sound p n d h = absurd h
 crate_grows : (r : Resolved) (x : Found) (a : PutNumbers) (place : ℕ) → HasPut x.krates a place → Grows r x (WithKrates x a)
 crate_grows r x a place p = record {
   found = λ f h. crate_found r x a place f p h;
-  waits = λ k i g h. h;
+  waits = λ b c k i g at h. inl h;
   krates = λ k n h. put_at x.krates a place k n p h;
   features = λ k n h. h;
   krates_taken = (put_taken x.krates a place p).0;
@@ -122,7 +122,8 @@ crate_advances once r s x a place i sound p n d =
           used = λ e h b w. used_grows r x y b e.child g (sound.used e h b w);
           marked = sound.marked;
           asked = sound.asked;
-          woken = λ b c k m t at marked waits. toggled_grows r x y b c t g (sound.woken b c k m t at marked waits);
+          woken = sound.woken;
+          tried = λ e m k at was. tried_grows r s x y e IsAny g (sound.tried e m k at was);
           arrived = λ b c k m at marked. g.found (Crate c) (sound.arrived b c k m at marked);
           kept = sound.kept;
           toggled = sound.toggled;
@@ -167,7 +168,7 @@ feature_derivable once r s x a number i f (Lost c) sound p at d h = absurd h
 feature_grows : (r : Resolved) (x : Found) (a : PutNumbers) (number : ℕ) → HasPut x.features a number → Grows r x (WithFeatures x a)
 feature_grows r x a number p = record {
   found = λ f h. feature_found r x a number f p h;
-  waits = λ k i g h. h;
+  waits = λ b c k i g at h. inl h;
   krates = λ k n h. h;
   features = λ k n h. put_at x.features a number k n p h;
   krates_taken = refl;
@@ -191,7 +192,8 @@ feature_advances once r s x a number i f sound p at kept d =
           used = λ e h b w. used_grows r x y b e.child g (sound.used e h b w);
           marked = sound.marked;
           asked = sound.asked;
-          woken = λ b c k m t there marked waits. toggled_grows r x y b c t g (sound.woken b c k m t there marked waits);
+          woken = sound.woken;
+          tried = λ e m k at was. tried_grows r s x y e IsAny g (sound.tried e m k at was);
           arrived = sound.arrived;
           kept = sound.kept;
           toggled = λ b c t h. g.found (Feature c t) (sound.toggled b c t h);
@@ -248,7 +250,7 @@ pub toggled_advances : (r : Resolved) (s : SettingModel) (x : Found) (v : Vec To
     → HasFound r x (Feature c g) → Derivable (questions r s) (Toggled p c g) → Advances r s x (record x { toggled = v }) × HasFound r (record x { toggled = v }) (Toggled p c g)
 toggled_advances r s x v t p c g sound more is enabled d =
     let y = WithToggled x v in
-    let grown : Grows r x y = record { found = λ f h. toggled_found r x v t f more h; waits = λ k i z h. h; krates = λ k n h. h; features = λ k n h. h; krates_taken = refl; features_taken = refl } in (
+    let grown : Grows r x y = record { found = λ f h. toggled_found r x v t f more h; waits = λ b k m n z at h. inl h; krates = λ k n h. h; features = λ k n h. h; krates_taken = refl; features_taken = refl } in (
       record {
         sound = record {
           krates_size = sound.krates_size;
@@ -260,7 +262,8 @@ toggled_advances r s x v t p c g sound more is enabled d =
           used = λ e h b w. used_grows r x y b e.child grown (sound.used e h b w);
           marked = sound.marked;
           asked = sound.asked;
-          woken = λ b k m n z at marked waits. toggled_grows r x y b k z grown (sound.woken b k m n z at marked waits);
+          woken = sound.woken;
+          tried = λ e m k at was. tried_grows r s x y e IsAny grown (sound.tried e m k at was);
           arrived = sound.arrived;
           kept = sound.kept;
           toggled = λ b k z h. elim (seen_from toggled_fact x.toggled.items v.items t (Toggled b k z) more h) [
@@ -274,34 +277,41 @@ toggled_advances r s x v t p c g sound more is enabled d =
       subst (Contains (map toggled_fact v.items)) is (seen_there toggled_fact x.toggled.items v.items t more),
     )
 
--- ---- one more feature that waits
+-- ---- other links
 
-abbrev WithLinks : Found → Links → Found
-WithLinks x l = record x { links = l }
+-- the dependency at the same places
+dep_there : (r : Resolved) (p c : Id) (k i place index : ℕ) → k ≡ place → i ≡ index → DepAt r p c k i → DepAt r p c place index
+dep_there r p c k i place index a b at = subst (λ (m : ℕ). DepAt r p c m index) a (subst (DepAt r p c k) b at)
 
-links_found : (r : Resolved) (x : Found) (l : Links) (f : Fact) → HasFound r x f → HasFound r (WithLinks x l) f
+-- what was found, with other links
+abbrev pub with_links : Found → Links → Found
+with_links x l = record { krates = x.krates; features = x.features; edges = x.edges; toggled = x.toggled; links = l }
+
+links_found : (r : Resolved) (x : Found) (l : Links) (f : Fact) → HasFound r x f → HasFound r (with_links x l) f
 links_found r x l (Crate i) h = h
 links_found r x l (Kept e) h = h
 links_found r x l (Feature i g) h = h
 links_found r x l (Toggled i j g) h = h
 links_found r x l (Lost c) h = h
 
-links_back : (r : Resolved) (x : Found) (l : Links) (f : Fact) → HasFound r (WithLinks x l) f → HasFound r x f
+links_back : (r : Resolved) (x : Found) (l : Links) (f : Fact) → HasFound r (with_links x l) f → HasFound r x f
 links_back r x l (Crate i) h = h
 links_back r x l (Kept e) h = h
 links_back r x l (Feature i g) h = h
 links_back r x l (Toggled i j g) h = h
 links_back r x l (Lost c) h = h
 
-links_grow : (r : Resolved) (x : Found) (l : Links) → ((k i : ℕ) (g : Text) → Waits x.links k i g → Waits l k i g) → Grows r x (WithLinks x l)
-links_grow r x l waits = record { found = links_found r x l; waits = waits; krates = λ k n h. h; features = λ k n h. h; krates_taken = refl; features_taken = refl }
+links_grow : (r : Resolved) (x : Found) (l : Links) → ((k i : ℕ) (g : Text) → Waits x.links k i g → Waits l k i g) → Grows r x (with_links x l)
+links_grow r x l waits = record { found = links_found r x l; waits = λ p c k i g at h. inl (waits k i g h); krates = λ k n h. h; features = λ k n h. h; krates_taken = refl; features_taken = refl }
 
--- the name of a feature that an enabled one asks for weakly, which is toggled where the dependency is marked
+-- ---- one more feature that waits
+
+-- the name of a feature that an enabled one asks for weakly, of a dependency that isn't marked
 pub waiter_advances : (r : Resolved) (s : SettingModel) (x : Found) (l : Links) (place index : ℕ) (g : Text) → IsSound r s x → HasWaiter x.links l place index g
-    → ((p child : Id) → DepAt r p child place index → IsAskedWeakly r s p child g) → ((p child : Id) → DepAt r p child place index → IsMarked x.links place index → IsToggledIn r x p child g)
-    → Advances r s x (record x { links = l })
-waiter_advances r s x l place index g sound more asked woken =
-    let y = WithLinks x l in
+    → ((p child : Id) → DepAt r p child place index → IsAskedWeakly r s p child g) → (IsMarked x.links place index → ⊥)
+    → Advances r s x (with_links x l)
+waiter_advances r s x l place index g sound more asked unmarked =
+    let y = with_links x l in
     let grown = links_grow r x l more.stays in
     record {
       sound = record {
@@ -315,9 +325,13 @@ waiter_advances r s x l place index g sound more asked woken =
         marked = λ e k i h at. (more.marks k i).0 (sound.marked e k i h at);
         asked = λ p c k i t at w. elim (more.from k i t w) [
           | inl o ↦ sound.asked p c k i t at o
-          | inr same ↦ subst (IsAskedWeakly r s p c) (sym same.2) (asked p c (there p c k i same.0 same.1 at))
+          | inr same ↦ subst (IsAskedWeakly r s p c) (sym same.2) (asked p c (dep_there r p c k i place index same.0 same.1 at))
         ];
-        woken = λ p c k i t at m w. toggled_grows r x y p c t grown (woke p c k i t at ((more.marks k i).1 m) (more.from k i t w));
+        woken = λ k i t m w. elim (more.from k i t w) [
+          | inl o ↦ sound.woken k i t ((more.marks k i).1 m) o
+          | inr same ↦ unmarked (subst (λ (n : ℕ). IsMarked x.links n index) same.0 (subst (IsMarked x.links k) same.1 ((more.marks k i).1 m)))
+        ];
+        tried = λ e k i at was. tried_grows r s x y e IsAny grown (sound.tried e k i at (more.asked k i was));
         arrived = λ p c k i at m. sound.arrived p c k i at ((more.marks k i).1 m);
         kept = λ p c k i at m. sound.kept p c k i at ((more.marks k i).1 m);
         toggled = sound.toggled;
@@ -325,26 +339,13 @@ waiter_advances r s x l place index g sound more asked woken =
       };
       grows = grown;
     }
-  where
-    there : (p c : Id) (k i : ℕ) → k ≡ place → i ≡ index → DepAt r p c k i → DepAt r p c place index
-    there p c k i a b at = subst (λ (m : ℕ). DepAt r p c m index) a (subst (DepAt r p c k) b at)
 
-    woke : (p c : Id) (k i : ℕ) (t : Text) → DepAt r p c k i → IsMarked x.links k i → Waits x.links k i t ⊎ ((k ≡ place) × (i ≡ index) × (t ≡ g)) → IsToggledIn r x p c t
-    woke p c k i t at m (inl o) = sound.woken p c k i t at m o
-    woke p c k i t at m (inr same) =
-        subst (IsToggledIn r x p c) (sym same.2)
-        (woken p c (there p c k i same.0 same.1 at) (subst (λ (n : ℕ). IsMarked x.links n index) same.0 (subst (IsMarked x.links k) same.1 m)))
+-- ---- the edges by a dependency have been asked for
 
--- ---- one more mark
-
--- the mark of a dependency, the crate of which is kept, as an edge by it may be, and whose features that wait are toggled
-pub mark_advances : (r : Resolved) (s : SettingModel) (x : Found) (l : Links) (place index : ℕ) → IsSound r s x → HasMarked x.links l place index
-    → ((p child : Id) → DepAt r p child place index → HasFound r x (Crate child))
-    → ((p child : Id) → DepAt r p child place index → (k : DepKindInfoModel) × Derivable (questions r s) (Kept (edge_between p child k)))
-    → ((p child : Id) (g : Text) → DepAt r p child place index → Waits x.links place index g → IsToggledIn r x p child g)
-    → Advances r s x (record x { links = l })
-mark_advances r s x l place index sound more arrived kept woken =
-    let y = WithLinks x l in
+pub asked_advances : (r : Resolved) (s : SettingModel) (x : Found) (l : Links) (place index : ℕ) → IsSound r s x → NotesAsked x.links l place index
+    → ((e : Edge) → DepAt r e.parent e.child place index → IsTried r s x e IsAny) → Advances r s x (with_links x l)
+asked_advances r s x l place index sound more now_tried =
+    let y = with_links x l in
     let grown = links_grow r x l (λ k i g. (more.waits k i g).0) in
     record {
       sound = record {
@@ -355,26 +356,75 @@ mark_advances r s x l place index sound more arrived kept woken =
         placed = sound.placed;
         reached = sound.reached;
         used = λ e h b w. used_grows r x y b e.child grown (sound.used e h b w);
-        marked = λ e k i h at. more.stays k i (sound.marked e k i h at);
+        marked = λ e k i h at. (more.marks k i).0 (sound.marked e k i h at);
         asked = λ p c k i t at w. sound.asked p c k i t at ((more.waits k i t).1 w);
-        woken = λ p c k i t at m w. toggled_grows r x y p c t grown (woke p c k i t at (more.from k i m) ((more.waits k i t).1 w));
-        arrived = λ p c k i at m. elim (more.from k i m) [
-          | inl o ↦ sound.arrived p c k i at o
-          | inr same ↦ arrived p c (there p c k i same.0 same.1 at)
-        ];
-        kept = λ p c k i at m. elim (more.from k i m) [
-          | inl o ↦ sound.kept p c k i at o
-          | inr same ↦ kept p c (there p c k i same.0 same.1 at)
-        ];
+        woken = λ k i t m w. sound.woken k i t ((more.marks k i).1 m) ((more.waits k i t).1 w);
+        tried = λ e k i at was. tried_grows r s x y e IsAny grown (elim (more.from k i was) [
+          | inl o ↦ sound.tried e k i at o
+          | inr same ↦ now_tried e (dep_there r e.parent e.child k i place index same.0 same.1 at)
+        ]);
+        arrived = λ p c k i at m. sound.arrived p c k i at ((more.marks k i).1 m);
+        kept = λ p c k i at m. sound.kept p c k i at ((more.marks k i).1 m);
         toggled = sound.toggled;
         enabled = sound.enabled;
       };
       grows = grown;
     }
-  where
-    there : (p c : Id) (k i : ℕ) → k ≡ place → i ≡ index → DepAt r p c k i → DepAt r p c place index
-    there p c k i a b at = subst (λ (m : ℕ). DepAt r p c m index) a (subst (DepAt r p c k) b at)
 
-    woke : (p c : Id) (k i : ℕ) (t : Text) → DepAt r p c k i → IsMarked x.links k i ⊎ ((k ≡ place) × (i ≡ index)) → Waits x.links k i t → IsToggledIn r x p c t
-    woke p c k i t at (inl o) w = sound.woken p c k i t at o w
-    woke p c k i t at (inr same) w = woken p c t (there p c k i same.0 same.1 at) (subst (λ (n : ℕ). Waits x.links n index t) same.0 (subst (λ (n : ℕ). Waits x.links k n t) same.1 w))
+-- ---- one more mark
+
+named_linked : (r : Resolved) (x : Found) (l : Links) (i : Id) (f : Text) → IsEnabledBySome r x i f → IsEnabledBySome r (with_links x l) i f
+named_linked r x l i f h = record { enabled = h.enabled; listed = h.listed }
+
+used_linked : (r : Resolved) (x : Found) (l : Links) (d : DependencyModel) (c : Id) → HasUsed r x d c → HasUsed r (with_links x l) d c
+used_linked r x l d c h = record { declared = λ g among. named_linked r x l c g (h.declared g among); by_default = h.by_default }
+
+tried_linked : (r : Resolved) (s : SettingModel) (x : Found) (l : Links) (e : Edge) (taken : DependencyModel → Type 0) → IsTried r s x e taken → IsTried r s (with_links x l) e taken
+tried_linked r s x l e taken h = record { kept = h.kept; has_package = h.has_package; has_node = h.has_node; declared = h.declared }
+
+-- the mark of a dependency, the crate of which is kept, as an edge by it may be
+pub mark_sound : (r : Resolved) (s : SettingModel) (x : Found) (l : Links) (place index : ℕ) (names : List Text) → IsSound r s x → HasMarked x.links l place index names
+    → ((p child : Id) → DepAt r p child place index → HasFound r x (Crate child))
+    → ((p child : Id) → DepAt r p child place index → (k : DepKindInfoModel) × Derivable (questions r s) (Kept (edge_between p child k)))
+    → IsSound r s (with_links x l)
+mark_sound r s x l place index names sound more arrived kept = record {
+  krates_size = sound.krates_size;
+  features_size = sound.features_size;
+  has_links = λ p c k i at. more.links k i (sound.has_links p c k i at);
+  derivable = λ f h. sound.derivable f (links_back r x l f h);
+  placed = sound.placed;
+  reached = sound.reached;
+  used = λ e h b w. used_linked r x l b e.child (sound.used e h b w);
+  marked = λ e k i h at. more.stays k i (sound.marked e k i h at);
+  asked = λ p c k i t at w. sound.asked p c k i t at (more.waited k i t w);
+  woken = λ k i t m w. elim (more.from k i m) [
+    | inl o ↦ sound.woken k i t o (more.waited k i t w)
+    | inr same ↦ more.none_left t (subst (λ (n : ℕ). Waits l n index t) same.0 (subst (λ (n : ℕ). Waits l k n t) same.1 w))
+  ];
+  tried = λ e k i at was. tried_linked r s x l e IsAny (sound.tried e k i at (more.asked k i was));
+  arrived = λ p c k i at m. elim (more.from k i m) [
+    | inl o ↦ sound.arrived p c k i at o
+    | inr same ↦ arrived p c (dep_there r p c k i place index same.0 same.1 at)
+  ];
+  kept = λ p c k i at m. elim (more.from k i m) [
+    | inl o ↦ sound.kept p c k i at o
+    | inr same ↦ kept p c (dep_there r p c k i place index same.0 same.1 at)
+  ];
+  toggled = sound.toggled;
+  enabled = sound.enabled;
+}
+
+-- nothing is lost by it, where the features that waited have been toggled since
+pub mark_grows : (r : Resolved) (x : Found) (l : Links) (z : Found) (place index : ℕ) (names : List Text) → HasMarked x.links l place index names → Grows r (with_links x l) z
+    → ((p child : Id) (g : Text) → DepAt r p child place index → Contains names g → IsToggledIn r z p child g) → Grows r x z
+mark_grows r x l z place index names more g toggled = record {
+  found = λ f h. g.found f (links_found r x l f h);
+  waits = λ p c k i t at w. elim (more.waits k i t w) [
+    | inl o ↦ g.waits p c k i t at o
+    | inr same ↦ inr (toggled p c t (dep_there r p c k i place index same.0 same.1 at) same.2)
+  ];
+  krates = g.krates;
+  features = g.features;
+  krates_taken = g.krates_taken;
+  features_taken = g.features_taken;
+}

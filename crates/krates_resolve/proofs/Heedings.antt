@@ -15,15 +15,15 @@ use Rattle.krates_rules.specs.Derivation.{Derivable, follows, Among}
 use Rattle.krates_rules.specs.Facts.{Id, Edge, Fact, Crate, Feature, Kept}
 use Rattle.krates_resolve.specs.FeatureTable.{listed_view}
 use Rattle.krates_resolve.specs.FeatureValues.{AreValuesOf}
-use Rattle.krates_resolve.specs.Found.{HasFound, IsToggledIn, IsAsked, IsAskedWeakly, IsToggledStrongly, IsWaiting, IsFollowed, IsHeeded, IsValueOfEnabled, IsSound, Advances, AreTried, IsAny, MayTry, MayName, MayToggle}
-use Rattle.krates_resolve.specs.Heeding.{MayAsk, HasEnabledReference}
+use Rattle.krates_resolve.specs.Found.{HasFound, IsToggledIn, IsAsked, IsAskedWeakly, IsToggledStrongly, IsWaiting, WaitsOrIsToggled, IsFollowed, IsHeeded, IsValueOfEnabled, IsSound, Advances, AreTried, IsTried, IsAny, MayTry, MayName, MayToggle}
+use Rattle.krates_resolve.specs.Heeding.{IsAskedAt, MayAsk, MayAskAt, HasEnabledReference}
 use Rattle.krates_rules.specs.Resolved.{DepAt, NodeAt, Resolved, NoNode, HasNode, HasDep, id_of}
-use Rattle.krates_resolve.specs.Links.{IsMarked, Waits, HasWaiter}
+use Rattle.krates_resolve.specs.Links.{IsMarked, HasWaiter}
 use Rattle.krates_resolve.specs.ListedFeatures.{listed_features}
 use Rattle.krates_resolve.specs.Lookup.{IsLookup, resolved_view}
-use Rattle.krates_resolve.specs.NodeEntry.{AreParts, IsEntry, parent_of, child_of}
+use Rattle.krates_resolve.specs.NodeEntry.{AreParts, IsEntry, IsEntryOf, parent_of, child_of}
 use Rattle.krates_resolve.specs.Numbering.{FeatureAt}
-use Rattle.krates_rules.specs.Questions.{questions}
+use Rattle.krates_rules.specs.Questions.{edge_between, questions}
 use Rattle.krates_rules.specs.Referent.{IsReferent, id_order}
 use Rattle.krates_rules.specs.Rules.{Questions, IsAskedFor, feature_crate, named, lost_named, asked, toggled_strongly, lost_asked_package, lost_asked_node, lost_toggled_strongly, toggled_weakly, lost_toggled_weakly}
 use Rattle.krates_rules.specs.Setting.{SettingModel}
@@ -35,8 +35,8 @@ use Rattle.krates_resolve.specs.declared.node_entry.NodeEntry.{NodeEntry}
 use Rattle.krates_resolve.specs.declared.node_entry.NodeParts.{NodeParts}
 use Rattle.krates_rules.proofs.Readings.{ReadsOnce}
 use Rattle.krates_resolve.proofs.Entries.{one, undeclared_lost}
-use Rattle.krates_resolve.proofs.Growth.{waiter_advances, one_id}
-use Rattle.krates_resolve.proofs.NodeParts.{between_tried, dep_of_child}
+use Rattle.krates_resolve.proofs.Growth.{waiter_advances, with_links, one_id}
+use Rattle.krates_resolve.proofs.NodeParts.{between_tried, dep_of_child, entry_here}
 use Rattle.krates_rules.proofs.Standings.{contains_at}
 use Rattle.krates_resolve.proofs.Waking.{one_dep_place, one_way}
 
@@ -134,17 +134,36 @@ found_node r x i found none = none found.node.node (record { among = contains_at
 pub none_asked : (r : Resolved) (s : SettingModel) (x : Found) (p : Id) (name : Text) → ((child : Id) → IsReferent r p name child → ⊥) → IsAsked r s x p name
 none_asked r s x p name none e same referent = absurd (none e.child referent)
 
--- each edge of the entry that the name means has been tried
-pub entry_asked : (r : Resolved) (s : SettingModel) (x : Found) (y : NodeEntry) (p : Id) (name : Text) → NoneDoubled r.metadata r.graph → IsEntry r y → parent_of y ≡ p → IsReferent r p name (child_of y)
-    → AreTried r s x (parent_of y) (child_of y) (node_dep_view y.dep.now) IsAny → IsAsked r s x p name
-entry_asked r s x y p name none at is_parent is tried e same referent =
-    let parent : parent_of y ≡ e.parent = is_parent ∙ sym same in
-    let child : child_of y ≡ e.child = one_referent r p name (child_of y) e.child is referent in
+-- each edge of the entry's dependency has been tried
+pub entry_tried : (r : Resolved) (s : SettingModel) (x : Found) (y : NodeEntry) (e : Edge) → NoneDoubled r.metadata r.graph → IsEntry r y → parent_of y ≡ e.parent → child_of y ≡ e.child
+    → AreTried r s x (parent_of y) (child_of y) (node_dep_view y.dep.now) IsAny → IsTried r s x e IsAny
+entry_tried r s x y e none at parent child tried =
     let dep = node_dep_view y.dep.now in
     let has_node = subst (λ (i : Id). HasNode r i at.node) parent at.has_node in
     let has_dep = subst (λ (i : Id). HasDep at.node i dep) child at.has_dep in
     let each = subst (λ (i : Id). AreTried r s x e.parent i dep IsAny) child (subst (λ (i : Id). AreTried r s x i (child_of y) dep IsAny) parent tried) in
     between_tried r s x e at.node dep IsAny none has_node has_dep each
+
+-- an entry's own dependency
+pub dep_of_entry : (r : Resolved) (parts : NodeParts) (y : NodeEntry) (index : ℕ) → IsEntryOf parts index y → IsEntry r y → DepAt r (id_of parts.parent.now) (child_of y) parts.place index
+dep_of_entry r parts y index e is =
+    let of_parent = subst (λ (i : Identity). DepAt r (id_of i) (child_of y) y.place y.index) e.parent is.at in
+    subst (λ (n : ℕ). DepAt r (id_of parts.parent.now) (child_of y) n index) e.place (subst (λ (n : ℕ). DepAt r (id_of parts.parent.now) (child_of y) y.place n) e.index of_parent)
+
+pub tried_at : ReadsOnce → (r : Resolved) (s : SettingModel) (x : Found) (parts : NodeParts) (y : NodeEntry) (index : ℕ) (e : Edge) → NoneDoubled r.metadata r.graph → AreParts r parts.place parts → IsEntryOf parts index y
+    → AreTried r s x (parent_of y) (child_of y) (node_dep_view y.dep.now) IsAny → DepAt r e.parent e.child parts.place index → IsTried r s x e IsAny
+tried_at once r s x parts y index e none p of tried there =
+    let is = (entry_here r parts.place parts index y p of).0 in
+    let same = one_way once r (id_of parts.parent.now) (child_of y) e.parent e.child parts.place index (dep_of_entry r parts y index of is) there in
+    entry_tried r s x y e none is (ap id_of of.parent ∙ same.0) same.1 tried
+
+-- a name means the dependency at these places
+pub asked_there : (r : Resolved) (s : SettingModel) (x : Found) (p child : Id) (name : Text) (place index : ℕ) → IsReferent r p name child → DepAt r p child place index → IsAskedAt r s x p place index → IsAsked r s x p name
+asked_there r s x p child name place index is dep each e same referent = each e same (subst (λ (i : Id). DepAt r p i place index) (one_referent r p name child e.child is referent) dep)
+
+pub may_ask_there : ReadsOnce → (r : Resolved) (s : SettingModel) (p child : Id) (name : Text) (place index : ℕ) → MayAsk r s p name → IsReferent r p name child → DepAt r p child place index → MayAskAt r s p place index
+may_ask_there once r s p child name place index may is dep other k at =
+    asked_may_try r s (edge_between p other k) name may (subst (IsReferent r p name) (one_way once r p child p other place index dep at).1 is)
 
 -- ---- a feature that is toggled strongly
 
@@ -168,31 +187,22 @@ unmarked_strongly r s x p child name g place index sound is_asked is dep unmarke
 pub none_waiting : (r : Resolved) (x : Found) (p : Id) (name g : Text) → ((child : Id) → IsReferent r p name child → ⊥) → IsWaiting r x p name g
 none_waiting r x p name g none child place index referent dep = absurd (none child referent)
 
-pub waiting_here : (r : Resolved) (x : Found) (p child : Id) (name g : Text) (place index : ℕ) → NoneDoubled r.metadata r.graph → IsReferent r p name child → DepAt r p child place index → Waits x.links place index g → IsWaiting r x p name g
-waiting_here r x p child name g place index none is dep waits other i k referent there =
+pub waiting_here : (r : Resolved) (x : Found) (p child : Id) (name g : Text) (place index : ℕ) → NoneDoubled r.metadata r.graph → IsReferent r p name child → DepAt r p child place index
+    → WaitsOrIsToggled r x p child place index g → IsWaiting r x p name g
+waiting_here r x p child name g place index none is dep here other i k referent there =
     let same = one_referent r p name other child referent is in
     let at = one_dep_place r p child place index i k none dep (subst (λ (c : Id). DepAt r p c i k) same there) in
-    subst (λ (n : ℕ). Waits x.links n k g) at.0 (subst (λ (n : ℕ). Waits x.links place n g) at.1 waits)
+    let index_moved = subst (λ (n : ℕ). WaitsOrIsToggled r x p child place n g) at.1 here in
+    let moved = subst (λ (n : ℕ). WaitsOrIsToggled r x p child n k g) at.0 index_moved in
+    subst (λ (c : Id). WaitsOrIsToggled r x p c i k g) (sym same) moved
 
--- what was found, with other links
-abbrev pub with_links : Found → Links → Found
-with_links x links = record { krates = x.krates; features = x.features; edges = x.edges; toggled = x.toggled; links = links }
-
-moved : (P : Id → Id → Text → Type 0) (p q c d : Id) (g : Text) → p ≡ q → c ≡ d → P p c g → P q d g
-moved P p q c d g parent child x = subst (λ (i : Id). P i d g) parent (subst (λ (i : Id). P p i g) child x)
-
--- one more feature waits, which is toggled where an edge is kept already
+-- one more feature waits, of a dependency to which no edge is kept yet
 pub wait_advances : ReadsOnce → (r : Resolved) (s : SettingModel) (x : Found) (links : Links) (p child : Id) (place index : ℕ) (g : Text) → IsSound r s x → HasWaiter x.links links place index g → DepAt r p child place index
-    → IsAskedWeakly r s p child g → (IsMarked x.links place index → IsToggledIn r x p child g) → Advances r s x (with_links x links)
-wait_advances once r s x links p child place index g sound w dep weakly toggled =
+    → IsAskedWeakly r s p child g → (IsMarked x.links place index → ⊥) → Advances r s x (with_links x links)
+wait_advances once r s x links p child place index g sound w dep weakly unmarked =
     waiter_advances r s x links place index g sound w
-    (λ q c there. let same = one_way once r p child q c place index dep there in moved (IsAskedWeakly r s) p q child c g same.0 same.1 weakly)
-    (λ q c there marked. let same = one_way once r p child q c place index dep there in moved (IsToggledIn r x) p q child c g same.0 same.1 (toggled marked))
-
--- what stands before a feature waits: it is toggled where an edge is kept already
-pub record IsReady (r : Resolved) (s : SettingModel) (x y : Found) (p child : Id) (place index : ℕ) (g : Text) : Type 0 where
-  pub advances : Advances r s x y
-  pub toggled : IsMarked y.links place index → IsToggledIn r y p child g
+    (λ q c there. let same = one_way once r p child q c place index dep there in subst (λ (i : Id). IsAskedWeakly r s i c g) same.0 (subst (λ (i : Id). IsAskedWeakly r s p i g) same.1 weakly))
+    unmarked
 
 pub asked_weakly : (r : Resolved) (s : SettingModel) (p child : Id) (name g : Text) → HasEnabledReference r s p (weak name g) → IsReferent r p name child → IsAskedWeakly r s p child g
 asked_weakly r s p child name g m is = record { feature = m.feature; enabled = m.enabled; name = name; refers = m.refers; referent = is }

@@ -8,7 +8,7 @@ use Rattle.std.specs.List.{slice_get, AllZip}
 use Rattle.std.specs.Option.{option_map}
 use Rattle.std.specs.Vec.{with_item}
 use Rattle.krates_cm.specs.Document.{Text, NodeModel}
-use Rattle.krates_resolve.specs.Links.{LinkAt, Waits, HasLink, HasLinks, IsNewLink, AreNewLinks, AreNew, HasMarked, HasWaiter}
+use Rattle.krates_resolve.specs.Links.{LinkAt, Waits, HasLink, HasLinks, IsNewLink, AreNewLinks, AreNew, HasMarked, HasWaiter, NotesAsked}
 use Rattle.krates_rules.specs.Resolved.{Resolved}
 use Rattle.krates_resolve.specs.declared.links.Link.{Link}
 use Rattle.krates_resolve.specs.declared.links.Links.{Links}
@@ -140,19 +140,27 @@ replaced x place index row was is has read there =
 moved_at : (y : Links) (p i place index : ℕ) (l : Link) → p ≡ place → i ≡ index → LinkAt y place index l → LinkAt y p i l
 moved_at y p i place index l a b h = subst (λ (n : ℕ). LinkAt y n i l) (sym a) (subst (λ (n : ℕ). LinkAt y place n l) (sym b) h)
 
--- ---- it is marked, or one more feature waits
+-- ---- its edges were asked for, it is marked, or one more feature waits
 
-pub marked_now : (x y : Links) (place index : ℕ) (was is : Link) → IsReplaced x y place index was is → is.is_kept ≡ true → is.waiting ≡ was.waiting → HasMarked x y place index
-marked_now x y place index was is h kept same = record {
-  marked = record { link = is; at = h.after; is_kept = kept };
-  stays = λ p i m. elim (h.forth p i m.link m.at) [
-    | inl o ↦ record { link = m.link; at = o; is_kept = m.is_kept }
-    | inr e ↦ record { link = is; at = moved_at y p i place index is e.0 e.1 h.after; is_kept = kept }
-  ];
+nowhere : {A : Type 0} (x : A) → Contains [] x → ⊥
+nowhere x (k, lt, is) = omega (arith, lt)
+
+pub asked_now : (x y : Links) (place index : ℕ) (was is : Link) → IsReplaced x y place index was is → is.is_kept ≡ was.is_kept → is.waiting ≡ was.waiting → NotesAsked x y place index
+asked_now x y place index was is h same_kept same = record {
   from = λ p i m. elim (h.back p i m.link m.at) [
-    | inl o ↦ inl (record { link = m.link; at = o; is_kept = m.is_kept })
+    | inl o ↦ inl (record { link = m.link; at = o; is_asked = m.is_asked })
     | inr e ↦ inr (e.0, e.1)
   ];
+  marks = λ p i. (
+    λ m. elim (h.forth p i m.link m.at) [
+      | inl o ↦ record { link = m.link; at = o; is_kept = m.is_kept }
+      | inr e ↦ record { link = is; at = moved_at y p i place index is e.0 e.1 h.after; is_kept = same_kept ∙ ap (λ (l : Link). l.is_kept) (sym e.2) ∙ m.is_kept }
+    ],
+    λ m. elim (h.back p i m.link m.at) [
+      | inl o ↦ record { link = m.link; at = o; is_kept = m.is_kept }
+      | inr e ↦ record { link = was; at = moved_at x p i place index was e.0 e.1 h.before; is_kept = sym same_kept ∙ ap (λ (l : Link). l.is_kept) (sym e.2) ∙ m.is_kept }
+    ],
+  );
   waits = λ p i g. (
     λ w. elim (h.forth p i w.link w.at) [
       | inl o ↦ record { link = w.link; at = o; among = w.among }
@@ -169,8 +177,47 @@ marked_now x y place index was is h kept same = record {
   ];
 }
 
-pub waits_now : (x y : Links) (place index : ℕ) (was is : Link) (name : Bor Text) → IsReplaced x y place index was is → is.is_kept ≡ was.is_kept → is.waiting.items ≡ was.waiting.items ++ name ∷ [] → HasWaiter x y place index name.now
-waits_now x y place index was is name h same more =
+-- the names of a link
+abbrev pub names_of : Link → List Text
+names_of l = map (λ (t : Bor Text). t.now) l.waiting.items
+
+pub marked_now : (x y : Links) (place index : ℕ) (was is : Link) (names : List Text) → IsReplaced x y place index was is → is.is_kept ≡ true → is.is_asked ≡ was.is_asked → is.waiting.items ≡ [] → names ≡ names_of was
+    → HasMarked x y place index names
+marked_now x y place index was is names h kept same_asked none taken = record {
+  marked = record { link = is; at = h.after; is_kept = kept };
+  stays = λ p i m. elim (h.forth p i m.link m.at) [
+    | inl o ↦ record { link = m.link; at = o; is_kept = m.is_kept }
+    | inr e ↦ record { link = is; at = moved_at y p i place index is e.0 e.1 h.after; is_kept = kept }
+  ];
+  from = λ p i m. elim (h.back p i m.link m.at) [
+    | inl o ↦ inl (record { link = m.link; at = o; is_kept = m.is_kept })
+    | inr e ↦ inr (e.0, e.1)
+  ];
+  waits = λ p i g w. elim (h.forth p i w.link w.at) [
+    | inl o ↦ inl (record { link = w.link; at = o; among = w.among })
+    | inr e ↦ inr (e.0, e.1, subst (λ (ts : List Text). Contains ts g) (ap names_of e.2 ∙ sym taken) w.among)
+  ];
+  waited = λ p i g w. elim (h.back p i w.link w.at) [
+    | inl o ↦ record { link = w.link; at = o; among = w.among }
+    | inr e ↦ absurd (nowhere g (subst (λ (ts : List Text). Contains ts g) (ap names_of e.2 ∙ none_named) w.among))
+  ];
+  took = λ g c. record { link = was; at = h.before; among = subst (λ (ts : List Text). Contains ts g) taken c };
+  none_left = λ g w. nowhere g (subst (λ (ts : List Text). Contains ts g) (ap names_of (one_link y place index w.link is w.at h.after) ∙ none_named) w.among);
+  asked = λ p i m. elim (h.back p i m.link m.at) [
+    | inl o ↦ record { link = m.link; at = o; is_asked = m.is_asked }
+    | inr e ↦ record { link = was; at = moved_at x p i place index was e.0 e.1 h.before; is_asked = sym same_asked ∙ ap (λ (l : Link). l.is_asked) (sym e.2) ∙ m.is_asked }
+  ];
+  links = λ p i l. elim (h.forth p i l.0 l.1) [
+    | inl o ↦ (l.0, o)
+    | inr e ↦ (is, moved_at y p i place index is e.0 e.1 h.after)
+  ];
+}
+  where
+    none_named : names_of is ≡ []
+    none_named = ap (map (λ (t : Bor Text). t.now)) none
+
+pub waits_now : (x y : Links) (place index : ℕ) (was is : Link) (name : Bor Text) → IsReplaced x y place index was is → is.is_kept ≡ was.is_kept → is.is_asked ≡ was.is_asked → is.waiting.items ≡ was.waiting.items ++ name ∷ [] → HasWaiter x y place index name.now
+waits_now x y place index was is name h same same_asked more =
     let names : map (λ (t : Bor Text). t.now) is.waiting.items ≡ map (λ (t : Bor Text). t.now) was.waiting.items ++ name.now ∷ [] =
     ap (map (λ (t : Bor Text). t.now)) more ∙ map-append (λ (t : Bor Text). t.now) was.waiting.items (name ∷ []) in
     record {
@@ -200,29 +247,21 @@ waits_now x y place index was is name h same more =
           | inr e ↦ record { link = was; at = moved_at x p i place index was e.0 e.1 h.before; is_kept = sym same ∙ ap (λ (l : Link). l.is_kept) (sym e.2) ∙ m.is_kept }
         ],
       );
+      asked = λ p i m. elim (h.back p i m.link m.at) [
+        | inl o ↦ record { link = m.link; at = o; is_asked = m.is_asked }
+        | inr e ↦ record { link = was; at = moved_at x p i place index was e.0 e.1 h.before; is_asked = sym same_asked ∙ ap (λ (l : Link). l.is_asked) (sym e.2) ∙ m.is_asked }
+      ];
       links = λ p i l. elim (h.forth p i l.0 l.1) [
         | inl o ↦ (l.0, o)
         | inr e ↦ (is, moved_at y p i place index is e.0 e.1 h.after)
       ];
     }
 
--- ---- what reads answer
-
--- the names of a link that was read are those that wait
-pub names_wait : (x : Links) (place index : ℕ) (link : Link) (names : List (Bor Text)) → LinkAt x place index link → names ≡ link.waiting.items → (g : Text) → Waits x place index g ↔ Contains (map (λ t. t.now) names) g
-names_wait x place index link names at same g = (
-  λ w. subst (λ (ns : List (Bor Text)). Contains (map (λ t. t.now) ns) g) (ap (λ (l : Link). l.waiting.items) (one_link x place index w.link link w.at at) ∙ sym same) w.among,
-  λ h. record { link = link; at = at; among = subst (λ (ns : List (Bor Text)). Contains (map (λ t. t.now) ns) g) same h },
-)
-
 -- ---- all are new
 
 there_is : {A : Type 0} (xs : List A) (i : ℕ) → i < length xs → (x : A) × (slice_get xs i ≡ Some x)
 there_is [] i lt = absurd (omega (arith, lt))
 there_is (x ∷ xs) i lt = (get_or (x ∷ xs) i x, slice_get-get_or (x ∷ xs) i x lt)
-
-nowhere : {A : Type 0} (x : A) → Contains [] x → ⊥
-nowhere x (k, lt, is) = omega (arith, lt)
 
 pub links_for_all : (r : Resolved) (x : Links) → AllZip AreNewLinks r.graph.nodes (map (λ v. v.items) x.of_nodes.items) → HasLinks r x
 links_for_all r x z p c place index dep =
@@ -239,6 +278,7 @@ new_link nodes x place index link z at =
 
 pub all_new : (nodes : List NodeModel) (x : Links) → AllZip AreNewLinks nodes (map (λ v. v.items) x.of_nodes.items) → AreNew x
 all_new nodes x z = record {
+  unasked = λ place index m. let new = new_link nodes x place index m.link z m.at in absurd (cc (new.unasked, m.is_asked));
   unmarked = λ place index m. let new = new_link nodes x place index m.link z m.at in absurd (cc (new.unmarked, m.is_kept));
   none_waits = λ place index g w.
       let new = new_link nodes x place index w.link z w.at in

@@ -134,8 +134,10 @@ weakly_there : (r : Resolved) (s : SettingModel) (x : Found) (e : Edge) (f g c :
     → HasFound r x (Feature e.parent f) → HasFound r x (Kept e) → IsToggledIn r x e.parent e.child g
 weakly_there r s x e f g c done refers referent found kept =
     let at = stands_in r s e (kept_open r s e (done.sound.derivable (Kept e) kept)) in
-    let waits = done.heeded e.parent f found (weak c g) refers e.child at.place at.index referent at.dep in
-    done.sound.woken e.parent e.child at.place at.index g at.dep (done.sound.marked e at.place at.index kept at.dep) waits
+    elim (done.heeded e.parent f found (weak c g) refers e.child at.place at.index referent at.dep) [
+      | inl waits ↦ absurd (done.sound.woken at.place at.index g (done.sound.marked e at.place at.index kept at.dep) waits)
+      | inr is ↦ is
+    ]
 
 -- a kept edge is wanted as what it is declared
 wanted_as : (r : Resolved) (s : SettingModel) (x : Found) (e : Edge) (d : DependencyModel) → NoneDoubled r.metadata r.graph → IsDone r s x → HasFound r x (Kept e) → IsDeclaredAs r e d → IsWanted r s e d
@@ -210,7 +212,8 @@ sound_start r s x krates features links new none = record {
   used = λ e h. absurd (nothing_found r x none (Kept e) h);
   marked = λ e place index h. absurd (nothing_found r x none (Kept e) h);
   asked = λ p c place index g dep waits. absurd (new.none_waits place index g waits);
-  woken = λ p c place index g dep marked. absurd (new.unmarked place index marked);
+  woken = λ place index g marked waits. new.unmarked place index marked;
+  tried = λ e place index dep was. absurd (new.unasked place index was);
   arrived = λ p c place index dep marked. absurd (new.unmarked place index marked);
   kept = λ p c place index dep marked. absurd (new.unmarked place index marked);
   toggled = λ p c g h. absurd (nothing_found r x none (Toggled p c g) h);

@@ -8,7 +8,7 @@ use Rattle.krates_graph.specs.Agenda.{PutNumbers, IsOrderly}
 use Rattle.krates_cm.specs.Document.{Text, DependencyModel}
 use Rattle.krates_text.specs.FeatureReference.{Reference, krate, weak, strong, simple}
 use Rattle.krates_rules.specs.Facts.{Id, Edge}
-use Rattle.krates_resolve.specs.Found.{IsEnabledBySome, IsToggledIn, HasUsed, IsTried, IsFollowed, IsHeeded, IsExpanded, HasRoots, IsSound, Advances}
+use Rattle.krates_resolve.specs.Found.{IsEnabledBySome, IsToggledIn, HasUsed, IsAny, IsTried, IsFollowed, IsHeeded, IsExpanded, HasRoots, IsSound, Advances}
 use Rattle.krates_rules.specs.Resolved.{NodeAt, Resolved}
 use Rattle.krates_resolve.specs.Numbering.{FeatureAt}
 use Rattle.krates_resolve.specs.Saturation.{AreDone, left_in}
@@ -45,7 +45,10 @@ followed_taken r s x n m p (strong name f) h = (
   λ e same referent. tried_taken r s x n m e _ (h.0 e same referent),
   λ e d same referent w stands. toggled_taken r x n m p e.child f (h.1 e d same referent w stands),
 )
-followed_taken r s x n m p (weak name f) h = h
+followed_taken r s x n m p (weak name f) h = λ child place index referent dep. elim (h child place index referent dep) [
+  | inl still ↦ inl still
+  | inr is ↦ inr (toggled_taken r x n m p child f is)
+]
 
 heeded_taken : (r : Resolved) (s : SettingModel) (x : Found) (n m : ℕ) (i : Id) (f : Text) → IsHeeded r s x i f → IsHeeded r s (taken_to x n m) i f
 heeded_taken r s x n m i f h reference has = followed_taken r s x n m i reference (h reference has)
@@ -64,7 +67,8 @@ sound_taken r s x n m h = record {
   used = λ e found d w. used_taken r x n m d e.child (h.used e found d w);
   marked = h.marked;
   asked = h.asked;
-  woken = λ p c place index g dep marked waits. toggled_taken r x n m p c g (h.woken p c place index g dep marked waits);
+  woken = h.woken;
+  tried = λ e place index dep was. tried_taken r s x n m e IsAny (h.tried e place index dep was);
   arrived = h.arrived;
   kept = h.kept;
   toggled = h.toggled;

@@ -1,5 +1,5 @@
 -- What has been found of a selection while it is looked for.
-use Rattle.std.specs.Prelude.{◌≡◌, ℕ, ◌<◌, Bool, List, [], ◌∷◌, ◌++◌, All, Some, false, true, Contains, length, map, slice_get, ⊤}
+use Rattle.std.specs.Prelude.{◌≡◌, ℕ, ◌<◌, Bool, List, [], ◌∷◌, ◌++◌, ◌⊎◌, All, Some, false, true, Contains, length, map, slice_get, ⊤}
 use Rattle.krates_graph.specs.Agenda.{PutNumbers}
 use Rattle.krates_cm.specs.Document.{Text, DependencyModel, DepKindInfoModel, NodeDepModel}
 use Rattle.krates_text.specs.FeatureReference.{Reference, krate, weak, strong, simple, IsReference}
@@ -7,7 +7,7 @@ use Rattle.krates_rules.specs.Derivation.{Derivable}
 use Rattle.krates_rules.specs.Facts.{Id, Edge, LostPackage, LostNode, LostFeature, Undeclared, Fact, Crate, Feature, Kept, Toggled, Lost}
 use Rattle.krates_rules.specs.Features.{ListsFeature, LacksFeature, HasReference}
 use Rattle.krates_rules.specs.Resolved.{DepAt, NodeAt, Resolved, NoPackage}
-use Rattle.krates_resolve.specs.Links.{HasLinks, IsMarked, Waits}
+use Rattle.krates_resolve.specs.Links.{HasLinks, IsMarked, Waits, WasAsked}
 use Rattle.krates_rules.specs.Questions.{edge_between, Stands, LacksNode, IsWanted, IsLoose, questions}
 use Rattle.krates_resolve.specs.ListedFeatures.{listed_features}
 use Rattle.krates_resolve.specs.Numbering.{FeatureAt}
@@ -105,9 +105,14 @@ abbrev pub IsToggledStrongly : Resolved → SettingModel → Found → Id → Te
 IsToggledStrongly r s x p name g =
     (e : Edge) (d : DependencyModel) → e.parent ≡ p → IsReferent r p name e.child → IsWanted r s e d → Stands r s e.child → IsToggledIn r x p e.child g
 
--- the feature of the dependency of this name waits for a kept edge
+-- the feature of the dependency waits for a kept edge, or is toggled
+abbrev pub WaitsOrIsToggled : Resolved → Found → Id → Id → ℕ → ℕ → Text → Type 0
+WaitsOrIsToggled r x p child place index g = Waits x.links place index g ⊎ IsToggledIn r x p child g
+
+-- and so the feature of the dependency of this name
 abbrev pub IsWaiting : Resolved → Found → Id → Text → Text → Type 0
-IsWaiting r x p name g = (child : Id) (place index : ℕ) → IsReferent r p name child → DepAt r p child place index → Waits x.links place index g
+IsWaiting r x p name g =
+    (child : Id) (place index : ℕ) → IsReferent r p name child → DepAt r p child place index → WaitsOrIsToggled r x p child place index g
 
 -- all that a reference of an enabled feature gives
 abbrev pub IsFollowed : Resolved → SettingModel → Found → Id → Reference → Type 0
@@ -180,7 +185,9 @@ pub record IsSound (r : Resolved) (s : SettingModel) (x : Found) : Type 0 where
   pub marked : (e : Edge) (place index : ℕ) → HasFound r x (Kept e) → DepAt r e.parent e.child place index → IsMarked x.links place index
   -- a feature that waits
   pub asked : (p child : Id) (place index : ℕ) (g : Text) → DepAt r p child place index → Waits x.links place index g → IsAskedWeakly r s p child g
-  pub woken : (p child : Id) (place index : ℕ) (g : Text) → DepAt r p child place index → IsMarked x.links place index → Waits x.links place index g → IsToggledIn r x p child g
+  pub woken : (place index : ℕ) (g : Text) → IsMarked x.links place index → Waits x.links place index g → ⊥
+  -- the edges of a dependency that was asked for
+  pub tried : (e : Edge) (place index : ℕ) → DepAt r e.parent e.child place index → WasAsked x.links place index → IsTried r s x e IsAny
   -- the crate that a marked dependency leads to, by an edge that is kept
   pub arrived : (p child : Id) (place index : ℕ) → DepAt r p child place index → IsMarked x.links place index → HasFound r x (Crate child)
   pub kept : (p child : Id) (place index : ℕ) → DepAt r p child place index → IsMarked x.links place index → (k : DepKindInfoModel) × Derivable (questions r s) (Kept (edge_between p child k))
@@ -191,7 +198,7 @@ pub record IsSound (r : Resolved) (s : SettingModel) (x : Found) : Type 0 where
 -- more may have been found, and nothing is lost
 pub record Grows (r : Resolved) (old new : Found) : Type 0 where
   pub found : (f : Fact) → HasFound r old f → HasFound r new f
-  pub waits : (place index : ℕ) (g : Text) → Waits old.links place index g → Waits new.links place index g
+  pub waits : (p child : Id) (place index : ℕ) (g : Text) → DepAt r p child place index → Waits old.links place index g → WaitsOrIsToggled r new p child place index g
   pub krates : (k n : ℕ) → slice_get old.krates.put k ≡ Some n → slice_get new.krates.put k ≡ Some n
   pub features : (k n : ℕ) → slice_get old.features.put k ≡ Some n → slice_get new.features.put k ≡ Some n
   pub krates_taken : new.krates.taken ≡ old.krates.taken

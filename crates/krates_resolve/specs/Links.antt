@@ -1,4 +1,5 @@
--- What is kept for each dependency of each node: whether an edge to it is kept, and which of its features wait for one.
+-- What is kept for each dependency of each node: whether its edges have been asked for, whether one is kept, and which of its
+-- features wait for one.
 use Rattle.std.specs.Prelude.{◌≡◌, ◌↔◌, ◌⊎◌, ℕ, List, [], Some, false, true, All, Contains, length, map, slice_get}
 use Rattle.krates_cm.specs.Document.{Text, NodeModel}
 use Rattle.krates_rules.specs.Facts.{Id}
@@ -18,6 +19,12 @@ pub record IsMarked (links : Links) (place index : ℕ) : Type 0 where
   pub at : LinkAt links place index link
   pub is_kept : link.is_kept ≡ true
 
+-- all edges by this dependency have been asked for
+pub record WasAsked (links : Links) (place index : ℕ) : Type 0 where
+  pub link : Link
+  pub at : LinkAt links place index link
+  pub is_asked : link.is_asked ≡ true
+
 -- the feature of this name waits for a kept edge by this dependency
 pub record Waits (links : Links) (place index : ℕ) (name : Text) : Type 0 where
   pub link : Link
@@ -32,8 +39,9 @@ HasLink links place index = (link : Link) × LinkAt links place index link
 abbrev pub HasLinks : Resolved → Links → Type 0
 HasLinks r links = (parent child : Id) (place index : ℕ) → DepAt r parent child place index → HasLink links place index
 
--- no edge by the dependency is kept, and none of its features waits
+-- no edge by the dependency was asked for or is kept, and none of its features waits
 pub record IsNewLink (link : Link) : Type 0 where
+  pub unasked : link.is_asked ≡ false
   pub unmarked : link.is_kept ≡ false
   pub none_waits : link.waiting.items ≡ []
 
@@ -42,17 +50,29 @@ pub record AreNewLinks (n : NodeModel) (links : List Link) : Type 0 where
   pub each : length links ≡ length n.deps
   pub new : All IsNewLink links
 
--- nothing is kept or waits yet
+-- nothing is asked for, is kept or waits yet
 pub record AreNew (links : Links) : Type 0 where
+  pub unasked : (place index : ℕ) → WasAsked links place index → ⊥
   pub unmarked : (place index : ℕ) → IsMarked links place index → ⊥
   pub none_waits : (place index : ℕ) (g : Text) → Waits links place index g → ⊥
 
--- the dependency is marked now, and nothing else is changed
-pub record HasMarked (old new : Links) (place index : ℕ) : Type 0 where
+-- the edges by the dependency have been asked for now, and nothing else is changed
+pub record NotesAsked (old new : Links) (place index : ℕ) : Type 0 where
+  pub from : (p i : ℕ) → WasAsked new p i → WasAsked old p i ⊎ ((p ≡ place) × (i ≡ index))
+  pub marks : (p i : ℕ) → IsMarked old p i ↔ IsMarked new p i
+  pub waits : (p i : ℕ) (g : Text) → Waits old p i g ↔ Waits new p i g
+  pub links : (p i : ℕ) → HasLink old p i → HasLink new p i
+
+-- the dependency is marked now, none of its features waits any more but these did, and nothing else is changed
+pub record HasMarked (old new : Links) (place index : ℕ) (names : List Text) : Type 0 where
   pub marked : IsMarked new place index
   pub stays : (p i : ℕ) → IsMarked old p i → IsMarked new p i
   pub from : (p i : ℕ) → IsMarked new p i → IsMarked old p i ⊎ ((p ≡ place) × (i ≡ index))
-  pub waits : (p i : ℕ) (g : Text) → Waits old p i g ↔ Waits new p i g
+  pub waits : (p i : ℕ) (g : Text) → Waits old p i g → Waits new p i g ⊎ ((p ≡ place) × (i ≡ index) × Contains names g)
+  pub waited : (p i : ℕ) (g : Text) → Waits new p i g → Waits old p i g
+  pub took : (g : Text) → Contains names g → Waits old place index g
+  pub none_left : (g : Text) → Waits new place index g → ⊥
+  pub asked : (p i : ℕ) → WasAsked new p i → WasAsked old p i
   pub links : (p i : ℕ) → HasLink old p i → HasLink new p i
 
 -- one more feature waits, and nothing else is changed
@@ -61,4 +81,5 @@ pub record HasWaiter (old new : Links) (place index : ℕ) (name : Text) : Type 
   pub stays : (p i : ℕ) (g : Text) → Waits old p i g → Waits new p i g
   pub from : (p i : ℕ) (g : Text) → Waits new p i g → Waits old p i g ⊎ ((p ≡ place) × (i ≡ index) × (g ≡ name))
   pub marks : (p i : ℕ) → IsMarked old p i ↔ IsMarked new p i
+  pub asked : (p i : ℕ) → WasAsked new p i → WasAsked old p i
   pub links : (p i : ℕ) → HasLink old p i → HasLink new p i

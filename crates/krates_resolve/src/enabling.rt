@@ -147,7 +147,7 @@ fn enable_declared<'a>(
     Ok(())
 }
 
-/// Toggles the features that wait for an edge by this dependency, which may be kept, and marks it.
+/// Marks this dependency, an edge by which may be kept, and toggles its features that waited for that.
 fn wake<'a>(
     alloc: Global,
     lookup: &Lookup<'a>,
@@ -171,11 +171,10 @@ fn wake<'a>(
     if found.links.is_kept(entry.place, entry.index) {
         return Ok(());
     }
-    let names = found.links.waiting(alloc, entry.place, entry.index)?;
+    let names = found.links.mark(alloc, entry.place, entry.index);
     for name in names.as_slice() {
         toggle(alloc, lookup, setting, entry.parent, node, *name, found)?;
     }
-    found.links.mark(entry.place, entry.index);
     Ok(())
 }
 

@@ -7,7 +7,7 @@ ghost use Rattle.krates_rules.specs.Derivation.{Derivable};
 ghost use Rattle.krates_rules.specs.Facts.{Id, Crate, Feature};
 ghost use Rattle.krates_rules.specs.Features.{HasReference};
 ghost use Rattle.krates_resolve.specs.Found.{Advances, HasFound, IsAsked, IsFollowed, IsHeeded, IsSound, IsToggledIn, IsToggledStrongly, IsValueOfEnabled, IsWaiting, MayToggle};
-ghost use Rattle.krates_resolve.specs.Heeding.{MayAsk, HasEnabledReference};
+ghost use Rattle.krates_resolve.specs.Heeding.{IsAskedAt, MayAsk, MayAskAt, HasEnabledReference};
 ghost use Rattle.krates_rules.specs.Resolved.{DepAt, id_of};
 ghost use Rattle.krates_resolve.specs.Links.{IsMarked};
 ghost use Rattle.krates_resolve.specs.Lookup.{IsLookup, resolved_view};
@@ -84,10 +84,9 @@ fn follow<'a>(
             enable(alloc, lookup, setting, node, name, found)
         }
         Feature::Krate(krate) => ask(alloc, lookup, setting, parts, krate, found),
-        Feature::Strong { krate, feature } => {
-            ask(alloc, lookup, setting, parts, krate, found)?;
-            toggle_strongly(alloc, lookup, setting, parts, krate, feature, found)
-        }
+        Feature::Strong { krate, feature } => toggle_strongly(
+            alloc, lookup, setting, parts, krate, feature, found,
+        ),
         Feature::Weak { krate, feature } => wait(
             alloc, lookup, setting, parts, krate, feature, found,
         ),
@@ -111,14 +110,42 @@ fn ask<'a>(
     ensures asked { OnOk result (IsAsked (resolved_view lookup.now) setting.now found.new (id_of parts.now.parent.now) name.now) }
     ensures refused { IfErr result (SelectionRefusal (questions (resolved_view lookup.now) setting.now)) }
 {
+    laws::one_reading();
     let Some(index) = referent_of(lookup, parts, name) else {
         return Ok(());
     };
-    let entry = entry_at(parts, index);
-    expand_entry(alloc, lookup, setting, &entry, true, found)
+    ask_once(alloc, lookup, setting, parts, index, found)
 }
 
-/// Toggles a feature of the dependency of this name, where an edge to it is kept.
+/// Keeps the edges by a dependency, also where it is optional, unless that was done before.
+fn ask_once<'a>(
+    alloc: Global,
+    lookup: &Lookup<'a>,
+    setting: &Setting,
+    parts: &NodeParts<'a>,
+    index: usize,
+    found: &mut Found<'a>,
+) -> Result<(), Error>
+    requires lookup { IsLookup lookup.now }
+    requires parts { AreParts (resolved_view lookup.now) parts.now.place parts.now }
+    requires sound { IsSound (resolved_view lookup.now) setting.now found.old }
+    requires within { index < length parts.now.children.now }
+    requires may { MayAskAt (resolved_view lookup.now) setting.now (id_of parts.now.parent.now) parts.now.place index }
+    ensures advanced { OnOk result (Advances (resolved_view lookup.now) setting.now found.old found.new) }
+    ensures asked { OnOk result (IsAskedAt (resolved_view lookup.now) setting.now found.new (id_of parts.now.parent.now) parts.now.place index) }
+    ensures refused { IfErr result (SelectionRefusal (questions (resolved_view lookup.now) setting.now)) }
+{
+    laws::one_reading();
+    if found.links.is_asked(parts.place, index) {
+        return Ok(());
+    }
+    let entry = entry_at(parts, index);
+    expand_entry(alloc, lookup, setting, &entry, true, found)?;
+    found.links.note_asked(parts.place, index);
+    Ok(())
+}
+
+/// Keeps the edges to the dependency of this name, also where it is optional, and toggles a feature of it where one is kept.
 fn toggle_strongly<'a>(
     alloc: Global,
     lookup: &Lookup<'a>,
@@ -131,9 +158,9 @@ fn toggle_strongly<'a>(
     requires lookup { IsLookup lookup.now }
     requires parts { AreParts (resolved_view lookup.now) parts.now.place parts.now }
     requires sound { IsSound (resolved_view lookup.now) setting.now found.old }
-    requires asked { IsAsked (resolved_view lookup.now) setting.now found.old (id_of parts.now.parent.now) name.now }
     requires may { HasEnabledReference (resolved_view lookup.now) setting.now (id_of parts.now.parent.now) (strong name.now feature.now) }
     ensures advanced { OnOk result (Advances (resolved_view lookup.now) setting.now found.old found.new) }
+    ensures asked { OnOk result (IsAsked (resolved_view lookup.now) setting.now found.new (id_of parts.now.parent.now) name.now) }
     ensures toggled { OnOk result (IsToggledStrongly (resolved_view lookup.now) setting.now found.new (id_of parts.now.parent.now) name.now feature.now) }
     ensures refused { IfErr result (SelectionRefusal (questions (resolved_view lookup.now) setting.now)) }
 {
@@ -141,6 +168,7 @@ fn toggle_strongly<'a>(
     let Some(index) = referent_of(lookup, parts, name) else {
         return Ok(());
     };
+    ask_once(alloc, lookup, setting, parts, index, found)?;
     if !found.links.is_kept(parts.place, index) {
         return Ok(());
     }
@@ -170,7 +198,7 @@ fn wait<'a>(
         return Ok(());
     };
     if found.links.is_kept(parts.place, index) {
-        toggle_child(alloc, lookup, setting, parts, index, feature, found)?;
+        return toggle_child(alloc, lookup, setting, parts, index, feature, found);
     }
     found.links.let_wait(parts.place, index, feature)?;
     Ok(())

@@ -1,17 +1,19 @@
 //! What is kept for each dependency of each node.
 
-ghost use Rattle.std.specs.Prelude.{◌↔◌, Contains, IfOk, IsTrue, OnOk, map};
+ghost use Rattle.std.specs.Prelude.{◌↔◌, IfOk, IsTrue, OnOk, map};
 ghost use Rattle.krates_cm.specs.Document.{Text, node_view};
-ghost use Rattle.krates_resolve.specs.Links.{AreNew, AreNewLinks, HasLink, HasLinks, HasMarked, HasWaiter, IsMarked, Waits};
+ghost use Rattle.krates_resolve.specs.Links.{AreNew, AreNewLinks, HasLink, HasLinks, HasMarked, HasWaiter, IsMarked, NotesAsked, Waits, WasAsked};
 ghost use Rattle.krates_resolve.specs.Lookup.{IsLookup, resolved_view};
 
 use crate::lookup::Lookup;
 use krates_cm::Node;
 use std::alloc::{AllocError, Global};
+use std::mem;
 
-/// A dependency of a node: whether an edge to it is kept, and the features of it that wait for one.
+/// A dependency of a node: whether its edges have been asked for, whether one is kept, and the features of it that wait for one.
 #[derive(Drop)]
 pub(crate) struct Link<'a> {
+    pub is_asked: bool,
     pub is_kept: bool,
     pub waiting: Vec<&'a str>,
 }
@@ -42,6 +44,7 @@ fn links_of_node<'a>(alloc: Global, node: &Node) -> Result<Vec<Link<'a>>, AllocE
     let mut links = Vec::new(alloc);
     for _ in &node.deps {
         links.push(Link {
+            is_asked: false,
             is_kept: false,
             waiting: Vec::new(alloc),
         })?;
@@ -58,12 +61,30 @@ impl<'a> Links<'a> {
         self.of_nodes[place][index].is_kept
     }
 
-    /// Notes that an edge by this dependency is kept.
-    pub(crate) fn mark(&mut self, place: usize, index: usize)
-        requires { HasLink self.old place index }
-        ensures { HasMarked self.old self.new place index }
+    /// Whether all edges by this dependency have been asked for.
+    pub(crate) fn is_asked(&self, place: usize, index: usize) -> bool
+        requires { HasLink self.now place index }
+        ensures { IsTrue result ↔ WasAsked self.now place index }
     {
-        self.of_nodes[place][index].is_kept = true;
+        self.of_nodes[place][index].is_asked
+    }
+
+    /// Notes that all edges by this dependency have been asked for.
+    pub(crate) fn note_asked(&mut self, place: usize, index: usize)
+        requires { HasLink self.old place index }
+        ensures { NotesAsked self.old self.new place index }
+    {
+        self.of_nodes[place][index].is_asked = true;
+    }
+
+    /// Notes that an edge by this dependency is kept, and takes the features that waited for one.
+    pub(crate) fn mark(&mut self, alloc: Global, place: usize, index: usize) -> Vec<&'a str>
+        requires { HasLink self.old place index }
+        ensures { HasMarked self.old self.new place index (map (λ name. name.now) result.items) }
+    {
+        let link = &mut self.of_nodes[place][index];
+        link.is_kept = true;
+        mem::replace(&mut link.waiting, Vec::new(alloc))
     }
 
     /// Lets a feature of this dependency wait for a kept edge.
@@ -78,22 +99,5 @@ impl<'a> Links<'a> {
     {
         self.of_nodes[place][index].waiting.push(name)?;
         Ok(())
-    }
-
-    /// The features of this dependency that wait for a kept edge.
-    pub(crate) fn waiting(
-        &self,
-        alloc: Global,
-        place: usize,
-        index: usize,
-    ) -> Result<Vec<&'a str>, AllocError>
-        requires { HasLink self.now place index }
-        ensures { IfOk result (λ names. (g : Text) → Waits self.now place index g ↔ Contains (map (λ name. name.now) names.items) g) }
-    {
-        let mut names = Vec::new(alloc);
-        for name in &self.of_nodes[place][index].waiting {
-            names.push(*name)?;
-        }
-        Ok(names)
     }
 }

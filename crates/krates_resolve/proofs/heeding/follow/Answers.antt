@@ -4,7 +4,6 @@ use Rattle.krates_cm.specs.Document.{Text}
 use Rattle.krates_text.specs.FeatureReference.{IsReference, krate, strong, weak, simple}
 use Rattle.krates_resolve.specs.Lookup.{resolved_view}
 use Rattle.krates_rules.specs.Resolved.{id_of}
-use Rattle.krates_resolve.proofs.Growing.{advances_trans, asked_grows}
 use Rattle.krates_resolve.proofs.Heedings.{value_may, may_name, followed_by, on_ok_both}
 use Rattle.krates_resolve.proofs.heeding.follow.Goals as goal
 
@@ -35,24 +34,15 @@ returns-in-Krate-clause-followed c =
     let is = subst (λ (t : Text). IsReference t reference) c.from.ensures c.in-Krate.ensures in
     on_ok_weaker c.ask.result (λ followed. followed_by r s c.ask.new.found (id_of c.args.parts.now.parent.now) text reference (c.one_reference.ensures text) is followed) c.ask.ensures.asked
 
-pub returns-in_ok-ask-in-Strong-clause-advanced : goal.returns-in_ok-ask-in-Strong-clause-advanced
-returns-in_ok-ask-in-Strong-clause-advanced c =
-    on_ok_weaker c.toggle_strongly.result (λ a. advances_trans (resolved_view c.args.lookup.now) c.args.setting.now c.args.found.now c.ask-in-Strong.new.found c.toggle_strongly.new.found c.in_ok-ask-in-Strong.ensures.advanced a)
-    c.toggle_strongly.ensures.advanced
-
-pub returns-in_ok-ask-in-Strong-clause-followed : goal.returns-in_ok-ask-in-Strong-clause-followed
-returns-in_ok-ask-in-Strong-clause-followed c =
+pub returns-in-Strong-clause-followed : goal.returns-in-Strong-clause-followed
+returns-in-Strong-clause-followed c =
     let r = resolved_view c.args.lookup.now in
     let s = c.args.setting.now in
-    let p = id_of c.args.parts.now.parent.now in
     let text = c.args.text.now in
-    let name = c.in-Strong.krate.now in
-    let reference = strong name c.in-Strong.feature.now in
-    let x = c.ask-in-Strong.new.found in
+    let reference = strong c.in-Strong.krate.now c.in-Strong.feature.now in
     let y = c.toggle_strongly.new.found in
     let is = subst (λ (t : Text). IsReference t reference) c.from.ensures c.in-Strong.ensures in
-    on_ok_both c.toggle_strongly.result (λ a toggled. followed_by r s y p text reference (c.one_reference.ensures text) is (asked_grows r s x y p name a.grows c.in_ok-ask-in-Strong.ensures.asked, toggled))
-    c.toggle_strongly.ensures.advanced c.toggle_strongly.ensures.toggled
+    on_ok_both c.toggle_strongly.result (λ asked toggled. followed_by r s y (id_of c.args.parts.now.parent.now) text reference (c.one_reference.ensures text) is (asked, toggled)) c.toggle_strongly.ensures.asked c.toggle_strongly.ensures.toggled
 
 pub returns-in-Weak-clause-followed : goal.returns-in-Weak-clause-followed
 returns-in-Weak-clause-followed c =

@@ -1,28 +1,55 @@
-use Rattle.std.proofs.Common.{subst}
+use Rattle.std.proofs.Common.{refl, subst}
 use Rattle.std.proofs.lemmas.Option.{slice_get_within}
 use Rattle.std.proofs.lemmas.Result.{on_ok_weaker}
+use Rattle.krates_text.specs.FeatureReference.{strong}
 use Rattle.krates_resolve.specs.Lookup.{resolved_view}
 use Rattle.krates_rules.specs.Questions.{edge_between}
 use Rattle.krates_rules.specs.Referent.{IsReferent}
 use Rattle.krates_rules.specs.Resolved.{id_of}
-use Rattle.krates_resolve.proofs.Heedings.{none_strongly, strongly_here, unmarked_strongly, may_toggle_strongly}
+use Rattle.krates_resolve.proofs.Growing.{advances_trans, asked_grows}
+use Rattle.krates_resolve.proofs.Heedings.{none_asked, none_strongly, strongly_here, unmarked_strongly, may_toggle_strongly, asked_there, may_ask_there}
 use Rattle.krates_resolve.proofs.Waking.{one_way}
 use Rattle.krates_resolve.proofs.heeding.toggle_strongly.Goals as goal
+
+pub returns-in_default-clause-asked : goal.returns-in_default-clause-asked
+returns-in_default-clause-asked c = none_asked (resolved_view c.args.lookup.now) c.args.setting.now c.args.found.now (id_of c.args.parts.now.parent.now) c.args.name.now c.in_default.ensures
 
 pub returns-in_default-clause-toggled : goal.returns-in_default-clause-toggled
 returns-in_default-clause-toggled c =
     none_strongly (resolved_view c.args.lookup.now) c.args.setting.now c.args.found.now (id_of c.args.parts.now.parent.now) c.args.name.now c.args.feature.now c.in_default.ensures
 
+pub ask_once-requires-clause-within : goal.ask_once-requires-clause-within
+ask_once-requires-clause-within c =
+    let at = c.in-Some.ensures in
+    slice_get_within c.args.parts.now.children.now c.in-Some.index at.child at.at
+
+pub ask_once-requires-clause-may : goal.ask_once-requires-clause-may
+ask_once-requires-clause-may c =
+    let at = c.in-Some.ensures in
+    let name = c.args.name.now in
+    may_ask_there c.one_reading.ensures.once (resolved_view c.args.lookup.now) c.args.setting.now (id_of c.args.parts.now.parent.now) (id_of at.child) name c.args.parts.now.place c.in-Some.index
+    (record { reference = strong name c.args.feature.now; has = c.requires.may; asks = refl }) at.is at.dep
+
 pub is_kept-requires : goal.is_kept-requires
 is_kept-requires c =
     let at = c.in-Some.ensures in
-    c.requires.sound.has_links (id_of c.args.parts.now.parent.now) (id_of at.child) c.args.parts.now.place c.in-Some.index at.dep
+    c.in_ok-ask_once.ensures.advanced.sound.has_links (id_of c.args.parts.now.parent.now) (id_of at.child) c.args.parts.now.place c.in-Some.index at.dep
+
+pub returns-then-not-is_kept-clause-asked : goal.returns-then-not-is_kept-clause-asked
+returns-then-not-is_kept-clause-asked c =
+    let at = c.in-Some.ensures in
+    asked_there (resolved_view c.args.lookup.now) c.args.setting.now c.ask_once.new.found (id_of c.args.parts.now.parent.now) (id_of at.child) c.args.name.now c.args.parts.now.place c.in-Some.index at.is at.dep c.in_ok-ask_once.ensures.asked
 
 pub returns-then-not-is_kept-clause-toggled : goal.returns-then-not-is_kept-clause-toggled
 returns-then-not-is_kept-clause-toggled c =
     let at = c.in-Some.ensures in
-    unmarked_strongly (resolved_view c.args.lookup.now) c.args.setting.now c.args.found.now (id_of c.args.parts.now.parent.now) (id_of at.child) c.args.name.now c.args.feature.now c.args.parts.now.place c.in-Some.index
-    c.requires.sound c.requires.asked at.is at.dep (λ m. absurd (cc (c.is_kept.ensures.1 m, c.if-not-is_kept.true)))
+    let r = resolved_view c.args.lookup.now in
+    let s = c.args.setting.now in
+    let p = id_of c.args.parts.now.parent.now in
+    let x = c.ask_once.new.found in
+    let asked = asked_there r s x p (id_of at.child) c.args.name.now c.args.parts.now.place c.in-Some.index at.is at.dep c.in_ok-ask_once.ensures.asked in
+    unmarked_strongly r s x p (id_of at.child) c.args.name.now c.args.feature.now c.args.parts.now.place c.in-Some.index c.in_ok-ask_once.ensures.advanced.sound asked at.is at.dep
+    (λ m. absurd (cc (c.is_kept.ensures.1 m, c.if-not-is_kept.true)))
 
 pub toggle_child-requires-clause-within : goal.toggle_child-requires-clause-within
 toggle_child-requires-clause-within c =
@@ -38,8 +65,22 @@ toggle_child-requires-clause-may c child there =
     let parent = id_of c.args.parts.now.parent.now in
     let at = c.in-Some.ensures in
     let same = (one_way c.one_reading.ensures.once r parent (id_of at.child) parent child c.args.parts.now.place c.in-Some.index at.dep there).1 in
-    let kept = c.requires.sound.kept parent child c.args.parts.now.place c.in-Some.index there (c.is_kept.ensures.0 c.if-not-is_kept.false) in
+    let kept = c.in_ok-ask_once.ensures.advanced.sound.kept parent child c.args.parts.now.place c.in-Some.index there (c.is_kept.ensures.0 c.if-not-is_kept.false) in
     may_toggle_strongly r c.args.setting.now (edge_between parent child kept.0) c.args.name.now c.args.feature.now c.requires.may (subst (IsReferent r parent c.args.name.now) same at.is) kept.1
+
+pub returns-clause-advanced : goal.returns-clause-advanced
+returns-clause-advanced c =
+    on_ok_weaker c.toggle_child.result (λ a. advances_trans (resolved_view c.args.lookup.now) c.args.setting.now c.args.found.now c.ask_once.new.found c.toggle_child.new.found c.in_ok-ask_once.ensures.advanced a) c.toggle_child.ensures.advanced
+
+pub returns-clause-asked : goal.returns-clause-asked
+returns-clause-asked c =
+    let at = c.in-Some.ensures in
+    let r = resolved_view c.args.lookup.now in
+    let s = c.args.setting.now in
+    let p = id_of c.args.parts.now.parent.now in
+    let x = c.ask_once.new.found in
+    let asked = asked_there r s x p (id_of at.child) c.args.name.now c.args.parts.now.place c.in-Some.index at.is at.dep c.in_ok-ask_once.ensures.asked in
+    on_ok_weaker c.toggle_child.result (λ a. asked_grows r s x c.toggle_child.new.found p c.args.name.now a.grows asked) c.toggle_child.ensures.advanced
 
 pub returns-clause-toggled : goal.returns-clause-toggled
 returns-clause-toggled c =

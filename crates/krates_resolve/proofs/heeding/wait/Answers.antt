@@ -1,15 +1,12 @@
-use Rattle.std.proofs.Common.{sym, subst}
+use Rattle.std.proofs.Common.{inl, inr, subst}
 use Rattle.std.proofs.lemmas.Option.{slice_get_within}
-use Rattle.krates_resolve.specs.Links.{HasLink}
+use Rattle.std.proofs.lemmas.Result.{on_ok_weaker}
 use Rattle.krates_resolve.specs.Lookup.{resolved_view}
 use Rattle.krates_rules.specs.Questions.{edge_between}
 use Rattle.krates_rules.specs.Referent.{IsReferent}
 use Rattle.krates_rules.specs.Resolved.{id_of}
-use Rattle.krates_resolve.specs.declared.found.Found.{Found}
-use Rattle.krates_resolve.specs.declared.links.Links.{Links}
-use Rattle.krates_resolve.proofs.Growing.{advances_refl, advances_trans}
-use Rattle.krates_resolve.proofs.Heedings.{IsReady, none_waiting, waiting_here, wait_advances, with_links, asked_weakly, may_toggle_weakly}
-use Rattle.krates_resolve.proofs.heeding.wait.Goals.{then-is_kept+in_ok-toggle_child, else-is_kept}
+use Rattle.krates_resolve.proofs.Growth.{with_links}
+use Rattle.krates_resolve.proofs.Heedings.{none_waiting, waiting_here, wait_advances, asked_weakly, may_toggle_weakly}
 use Rattle.krates_resolve.proofs.Waking.{one_way}
 use Rattle.krates_resolve.proofs.heeding.wait.Goals as goal
 
@@ -38,40 +35,31 @@ toggle_child-requires-clause-may c child there =
     let kept = c.requires.sound.kept parent child c.args.parts.now.place c.in-Some.index there (c.is_kept.ensures.0 c.if-is_kept.true) in
     may_toggle_weakly r c.args.setting.now (edge_between parent child kept.0) c.args.name.now c.args.feature.now c.requires.may (subst (IsReferent r parent c.args.name.now) same at.is) kept.1
 
+pub returns-then-is_kept-clause-waiting : goal.returns-then-is_kept-clause-waiting
+returns-then-is_kept-clause-waiting c =
+    let at = c.in-Some.ensures in
+    on_ok_weaker c.toggle_child.result
+    (λ toggled. waiting_here (resolved_view c.args.lookup.now) c.toggle_child.new.found (id_of c.args.parts.now.parent.now) (id_of at.child) c.args.name.now c.args.feature.now c.args.parts.now.place c.in-Some.index
+    c.requires.lookup.distinct at.is at.dep (inr (toggled (id_of at.child) at.dep))) c.toggle_child.ensures.toggled
+
 pub let_wait-requires : goal.let_wait-requires
 let_wait-requires c =
     let at = c.in-Some.ensures in
-    let x = c.args.found.now in
-    let place = c.args.parts.now.place in
-    let k = c.in-Some.index in
-    let link = c.requires.sound.has_links (id_of c.args.parts.now.parent.now) (id_of at.child) place k at.dep in
-    elim c.if-is_kept.branch [
-      | then-is_kept+in_ok-toggle_child w ↦ subst (λ (y : Found). HasLink y.links place k) (sym w.found-is) (subst (λ (links : Links). HasLink links place k) (sym w.in_ok-toggle_child.ensures.same_links) link)
-      | else-is_kept w ↦ subst (λ (y : Found). HasLink y.links place k) (sym w.found-is) link
-    ]
+    c.requires.sound.has_links (id_of c.args.parts.now.parent.now) (id_of at.child) c.args.parts.now.place c.in-Some.index at.dep
 
 pub returns-clause-advanced : goal.returns-clause-advanced
 returns-clause-advanced c =
     let r = resolved_view c.args.lookup.now in
     let s = c.args.setting.now in
     let at = c.in-Some.ensures in
-    let x = c.args.found.now in
-    let y = c.if-is_kept.found in
     let p = id_of c.args.parts.now.parent.now in
     let child = id_of at.child in
-    let place = c.args.parts.now.place in
-    let k = c.in-Some.index in
     let g = c.args.feature.now in
-    let ready : IsReady r s x y p child place k g = elim c.if-is_kept.branch [
-      | then-is_kept+in_ok-toggle_child w ↦ (let step = w.in_ok-toggle_child.ensures in
-          subst (λ (z : Found). IsReady r s x z p child place k g) (sym w.found-is) (record { advances = step.advanced; toggled = λ m. step.toggled child at.dep }))
-      | else-is_kept w ↦ subst (λ (z : Found). IsReady r s x z p child place k g) (sym w.found-is) (record { advances = advances_refl r s x c.requires.sound; toggled = λ m. absurd (cc (c.is_kept.ensures.1 m, w.if-is_kept.false)) })
-    ] in
-    advances_trans r s x y (with_links y c.let_wait.new.self) ready.advances
-    (wait_advances c.one_reading.ensures.once r s y c.let_wait.new.self p child place k g ready.advances.sound c.in_ok-let_wait.ensures at.dep (asked_weakly r s p child c.args.name.now g c.requires.may at.is) ready.toggled)
+    wait_advances c.one_reading.ensures.once r s c.args.found.now c.let_wait.new.self p child c.args.parts.now.place c.in-Some.index g c.requires.sound c.in_ok-let_wait.ensures at.dep
+    (asked_weakly r s p child c.args.name.now g c.requires.may at.is) (λ m. absurd (cc (c.is_kept.ensures.1 m, c.if-is_kept.false)))
 
 pub returns-clause-waiting : goal.returns-clause-waiting
 returns-clause-waiting c =
     let at = c.in-Some.ensures in
-    waiting_here (resolved_view c.args.lookup.now) (with_links c.if-is_kept.found c.let_wait.new.self) (id_of c.args.parts.now.parent.now) (id_of at.child) c.args.name.now c.args.feature.now c.args.parts.now.place c.in-Some.index
-    c.requires.lookup.distinct at.is at.dep c.in_ok-let_wait.ensures.waits
+    waiting_here (resolved_view c.args.lookup.now) (with_links c.args.found.now c.let_wait.new.self) (id_of c.args.parts.now.parent.now) (id_of at.child) c.args.name.now c.args.feature.now c.args.parts.now.place c.in-Some.index
+    c.requires.lookup.distinct at.is at.dep (inl c.in_ok-let_wait.ensures.waits)

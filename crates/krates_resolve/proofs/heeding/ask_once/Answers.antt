@@ -1,0 +1,75 @@
+use Rattle.std.proofs.Common.{get_or, sym, ap, subst}
+use Rattle.krates_rules.specs.Facts.{Id}
+use Rattle.krates_resolve.specs.Found.{IsAny, MayTry}
+use Rattle.krates_resolve.specs.Lookup.{resolved_view}
+use Rattle.krates_resolve.specs.NodeEntry.{child_of}
+use Rattle.krates_rules.specs.Questions.{edge_between}
+use Rattle.krates_rules.specs.Resolved.{DepAt, id_of}
+use Rattle.krates_resolve.proofs.Growing.{advances_trans}
+use Rattle.krates_resolve.proofs.Growth.{asked_advances, with_links}
+use Rattle.krates_resolve.proofs.Heedings.{child_dep, dep_of_entry, tried_at}
+use Rattle.krates_resolve.proofs.NodeParts.{deps_long, entry_here}
+use Rattle.krates_resolve.proofs.heeding.ask_once.Goals as goal
+
+pub is_asked-requires : goal.is_asked-requires
+is_asked-requires c =
+    let r = resolved_view c.args.lookup.now in
+    let parts = c.args.parts.now in
+    let child = get_or parts.children.now c.args.index parts.parent.now in
+    c.requires.sound.has_links (id_of parts.parent.now) (id_of child) parts.place c.args.index (child_dep r parts c.args.index parts.parent.now c.requires.parts c.requires.within)
+
+pub returns-then-is_asked-clause-asked : goal.returns-then-is_asked-clause-asked
+returns-then-is_asked-clause-asked c e same there =
+    let parts = c.args.parts.now in
+    let at = subst (λ (i : Id). DepAt (resolved_view c.args.lookup.now) i e.child parts.place c.args.index) (sym same) there in
+    c.requires.sound.tried e parts.place c.args.index at (c.is_asked.ensures.0 c.if-is_asked.true)
+
+pub entry_at-entry-requires-clause-lengths : goal.entry_at-entry-requires-clause-lengths
+entry_at-entry-requires-clause-lengths c = sym (deps_long (resolved_view c.args.lookup.now) c.args.parts.now.place c.args.parts.now c.requires.parts)
+
+pub expand_entry-requires-clause-entry : goal.expand_entry-requires-clause-entry
+expand_entry-requires-clause-entry c =
+    (entry_here (resolved_view c.args.lookup.now) c.args.parts.now.place c.args.parts.now c.args.index c.entry_at-entry.result c.requires.parts c.entry_at-entry.ensures).0
+
+pub expand_entry-requires-clause-version : goal.expand_entry-requires-clause-version
+expand_entry-requires-clause-version c =
+    (entry_here (resolved_view c.args.lookup.now) c.args.parts.now.place c.args.parts.now c.args.index c.entry_at-entry.result c.requires.parts c.entry_at-entry.ensures).1
+
+pub expand_entry-requires-clause-may : goal.expand_entry-requires-clause-may
+expand_entry-requires-clause-may c k =
+    let r = resolved_view c.args.lookup.now in
+    let s = c.args.setting.now in
+    let e = c.entry_at-entry.ensures in
+    let entry = c.entry_at-entry.result in
+    let is = (entry_here r c.args.parts.now.place c.args.parts.now c.args.index entry c.requires.parts e).0 in
+    let at = dep_of_entry r c.args.parts.now entry c.args.index e is in
+    subst (λ (i : Id). MayTry r s (edge_between i (child_of entry) k) IsAny) (sym (ap id_of e.parent)) (c.requires.may (child_of entry) k at)
+
+pub note_asked-requires : goal.note_asked-requires
+note_asked-requires c =
+    let r = resolved_view c.args.lookup.now in
+    let parts = c.args.parts.now in
+    let child = get_or parts.children.now c.args.index parts.parent.now in
+    c.in_ok-expand_entry.ensures.advanced.sound.has_links (id_of parts.parent.now) (id_of child) parts.place c.args.index (child_dep r parts c.args.index parts.parent.now c.requires.parts c.requires.within)
+
+pub returns-clause-advanced : goal.returns-clause-advanced
+returns-clause-advanced c =
+    let r = resolved_view c.args.lookup.now in
+    let s = c.args.setting.now in
+    let parts = c.args.parts.now in
+    let y = c.expand_entry.new.found in
+    let step = c.in_ok-expand_entry.ensures in
+    advances_trans r s c.args.found.now y (with_links y c.note_asked.new.self) step.advanced
+    (asked_advances r s y c.note_asked.new.self parts.place c.args.index step.advanced.sound c.note_asked.ensures
+    (λ f there. tried_at c.one_reading.ensures.once r s y parts c.entry_at-entry.result c.args.index f c.requires.lookup.distinct c.requires.parts c.entry_at-entry.ensures step.tried there))
+
+pub returns-clause-asked : goal.returns-clause-asked
+returns-clause-asked c e same there =
+    let r = resolved_view c.args.lookup.now in
+    let s = c.args.setting.now in
+    let parts = c.args.parts.now in
+    let y = c.expand_entry.new.found in
+    let step = c.in_ok-expand_entry.ensures in
+    let at = subst (λ (i : Id). DepAt r i e.child parts.place c.args.index) (sym same) there in
+    let tried = tried_at c.one_reading.ensures.once r s y parts c.entry_at-entry.result c.args.index e c.requires.lookup.distinct c.requires.parts c.entry_at-entry.ensures step.tried at in
+    record { kept = tried.kept; has_package = tried.has_package; has_node = tried.has_node; declared = tried.declared }
