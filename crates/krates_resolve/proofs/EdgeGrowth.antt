@@ -1,9 +1,10 @@
 -- What has been found grows by an edge.
-use Rattle.std.proofs.Common.{◌≡◌, ℕ, ◌<◌, List, [], ◌∷◌, ◌++◌, length, get_or, map, All, Some, Contains, refl, sym, ap, ◌∙◌, subst, inl, inr}
-use Rattle.std.proofs.lemmas.List.{get_or_default}
+use Rattle.std.proofs.Common.{◌≡◌, ℕ, ◌<◌, List, [], ◌∷◌, ◌++◌, length, map, All, Some, Contains, refl, sym, ap, ◌∙◌, subst, inl, inr}
 use Rattle.std.proofs.lemmas.List.Elements.{All-push}
 use Rattle.std.specs.Global.{Vec}
+use Rattle.std.proofs.lemmas.Option.{same_Some, slice_get-map}
 use Rattle.std.specs.List.{slice_get}
+use Rattle.std.specs.Option.{option_map}
 use Rattle.krates_cm.specs.Document.{DependencyModel, DepKindInfoModel, NodeDepModel, dependency_view, node_dep_view}
 use Rattle.krates_cm.specs.declared.dependency.Dependency.{Dependency}
 use Rattle.krates_rules.specs.Admission.{NoneDoubled}
@@ -121,10 +122,8 @@ placed_here r s x k e place d none h first w is at first_of_kind =
     record { dependency = d; declared = here.0; place = here.1 }
 
 -- the declared dependency at a place, as it is read there
-pub declared_read : (ds : List Dependency) (place : ℕ) (d : DependencyModel) (x : Dependency) → slice_get (map dependency_view ds) place ≡ Some d → dependency_view (get_or ds place x) ≡ d
-declared_read ds place d x at =
-    let s = seen_at dependency_view ds place d at in
-    sym (ap dependency_view (get_or_default ds place s.0 x s.1)) ∙ s.2
+pub declared_seen : (ds : List Dependency) (place : ℕ) (d : DependencyModel) (x : Dependency) → slice_get (map dependency_view ds) place ≡ Some d → slice_get ds place ≡ Some x → dependency_view x ≡ d
+declared_seen ds place d x at here = same_Some (dependency_view x) d (sym (slice_get-map dependency_view ds place ∙ ap (option_map dependency_view) here) ∙ at)
 
 -- there is one at the place
 pub declared_within : (ds : List Dependency) (place : ℕ) (d : DependencyModel) → slice_get (map dependency_view ds) place ≡ Some d → place < length ds

@@ -1,7 +1,9 @@
 -- The listed features by their numbers, and the numbers by the features.
 use Rattle.std.specs.BTreeMap.{get}
-use Rattle.std.specs.Prelude.{◌≡◌, ℕ, List, Option, Some, MatchOption, map, slice_get}
-use Rattle.krates_cm.specs.Document.{Text}
+use Rattle.std.specs.Prelude.{◌≡◌, ◌++◌, String, ℕ, List, Option, Some, MatchOption, map, slice_get}
+use Rattle.krates_cm.specs.Document.{Text, text_view}
+use Rattle.std.specs.declared.alloc.Global.{Global}
+use Rattle.krates_resolve.specs.ListedFeatures.{features_of_node}
 use Rattle.krates_resolve.specs.FeatureOrder.{listed_cmp}
 use Rattle.krates_resolve.specs.declared.feature_table.FeatureTable.{FeatureTable}
 use Rattle.krates_resolve.specs.declared.feature_table.ListedFeature.{ListedFeature}
@@ -19,3 +21,7 @@ IsNumberOf all x answer = MatchOption answer ((n : ℕ) → slice_get all n ≡ 
 -- the table has a number of each feature that it lists, and of no other
 abbrev pub AreNumbered : FeatureTable → Type 0
 AreNumbered t = (x : ListedFeature) → IsNumberOf (listed_in t) (listed_view x) (get listed_cmp t.numbers x)
+
+-- these features of the node at the place are listed behind the others
+abbrev pub ListsMore : List ListedFeature → List ListedFeature → ℕ → List (String Global) → Type 0
+ListsMore old new place features = map listed_view new ≡ map listed_view old ++ features_of_node place (map text_view features)

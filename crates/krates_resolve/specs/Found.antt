@@ -1,5 +1,5 @@
 -- What has been found of a selection while it is looked for.
-use Rattle.std.specs.Prelude.{◌≡◌, ℕ, ◌<◌, Bool, List, [], ◌∷◌, ◌++◌, ◌⊎◌, All, Some, false, true, Contains, length, map, slice_get, ⊤}
+use Rattle.std.specs.Prelude.{◌≡◌, ◌↔◌, ℕ, ◌<◌, Bool, List, [], ◌∷◌, ◌++◌, ◌⊎◌, All, Some, false, true, Contains, length, map, slice_get, ⊤}
 use Rattle.krates_graph.specs.Agenda.{PutNumbers}
 use Rattle.krates_cm.specs.Document.{Text, DependencyModel, DepKindInfoModel, NodeDepModel}
 use Rattle.krates_text.specs.FeatureReference.{Reference, krate, weak, strong, simple, IsReference}
@@ -14,9 +14,10 @@ use Rattle.krates_resolve.specs.Numbering.{FeatureAt}
 use Rattle.krates_rules.specs.Referent.{IsReferent}
 use Rattle.krates_rules.specs.Roots.{IsRoot}
 use Rattle.krates_rules.specs.Rules.{default_name}
-use Rattle.krates_resolve.specs.Selection.{edge_view, toggled_fact, IsPlaced}
+use Rattle.krates_resolve.specs.Selection.{edge_view, feature_fact, toggled_fact, IsPlaced}
 use Rattle.krates_rules.specs.Setting.{SettingModel}
 use Rattle.krates_resolve.specs.declared.found.Found.{Found}
+use Rattle.krates_resolve.specs.declared.selection.EnabledFeature.{EnabledFeature}
 use Rattle.krates_resolve.specs.declared.selection.KeptEdge.{KeptEdge}
 use Rattle.krates_resolve.specs.declared.selection.ToggledFeature.{ToggledFeature}
 
@@ -234,3 +235,7 @@ AreExpanded r s x n = (k place : ℕ) (i : Id) → k < n → slice_get x.krates.
 -- and the features of the first numbers
 abbrev pub AreHeeded : Resolved → SettingModel → Found → ℕ → Type 0
 AreHeeded r s x n = (k number : ℕ) (i : Id) (f : Text) → k < n → slice_get x.features.put k ≡ Some number → FeatureAt r i f number → IsHeeded r s x i f
+
+-- these are the features of the numbers
+abbrev pub HasEach : Resolved → List ℕ → List EnabledFeature → Type 0
+HasEach r numbers list = (i : Id) (f : Text) → IsEnabled r numbers i f ↔ Contains (map feature_fact list) (Feature i f)

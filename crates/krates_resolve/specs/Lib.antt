@@ -1,3 +1,4 @@
+pub mod Basis
 pub mod DocumentModel
 pub mod FeatureOrder
 pub mod FeatureTable

@@ -1,6 +1,11 @@
 -- What look-ups in a document answer.
-use Rattle.std.specs.Prelude.{◌≡◌, ℕ, Bool, Option, MatchOption, MatchBool, map}
-use Rattle.krates_cm.specs.Document.{PackageModel, metadata_view, node_view, resolve_view}
+use Rattle.std.specs.Prelude.{◌≡◌, ℕ, Bool, Option, MatchOption, MatchBool, map, option_map}
+use Rattle.krates_cm.specs.Document.{PackageModel, metadata_view, node_view, package_view, resolve_view}
+use Rattle.krates_cm.specs.declared.metadata.Metadata.{Metadata}
+use Rattle.krates_cm.specs.declared.package.Package.{Package}
+use Rattle.krates_cm.specs.declared.resolve.Resolve.{Resolve}
+use Rattle.krates_document.specs.declared.ids.Ids.{Ids}
+use Rattle.std.specs.Borrow.{Bor}
 use Rattle.krates_rules.specs.Admission.{AreIdsOf, NoneDoubled}
 use Rattle.krates_rules.specs.Facts.{Id}
 use Rattle.krates_resolve.specs.FeatureTable.{AreNumbered, listed_in}
@@ -38,3 +43,10 @@ IsPackageOf r i answer = MatchOption answer (NoPackage r i) (HasPackage r i)
 -- a place of the node with the id, or none where the graph has no such node
 abbrev pub IsNodePlace : Resolved → Id → Option ℕ → Type 0
 IsNodePlace r i answer = MatchOption answer (NoNode r i) (NodeAt r i)
+
+abbrev pub TellsPackage : Resolved → Id → Option (Bor Package) → Type 0
+TellsPackage r i answer = IsPackageOf r i (option_map (λ pkg. package_view pkg.now) answer)
+
+-- it is that of this document, this graph and these ids
+abbrev pub IsOf : Metadata → Resolve → Ids → Lookup → Type 0
+IsOf metadata resolve ids d = (d.metadata.now ≡ metadata) × (d.resolve.now ≡ resolve) × (d.ids.now ≡ ids)

@@ -1,11 +1,15 @@
 -- The node of a kept crate, and each dependency of it beside what its package declares.
-use Rattle.std.specs.Prelude.{◌≡◌, ℕ, List, Some, map, slice_get}
-use Rattle.krates_cm.specs.Document.{DependencyModel, DepKindInfoModel, NodeModel, PackageModel, node_dep_view, dependency_view}
+use Rattle.std.specs.Prelude.{◌≡◌, ℕ, Contains, List, Some, map, slice_get}
+use Rattle.semver.specs.Identifiers.{parts_of}
+use Rattle.krates_cm.specs.Names.{version_named}
+use Rattle.krates_cm.specs.Document.{DependencyModel, DepKindInfoModel, NodeModel, PackageModel, dep_kind_info_view, node_dep_view, dependency_view}
+use Rattle.krates_cm.specs.declared.resolve.DepKindInfo.{DepKindInfo}
 use Rattle.krates_rules.specs.Admission.{AreDepIds}
 use Rattle.krates_rules.specs.Facts.{Id, Edge}
 use Rattle.krates_rules.specs.Resolved.{DepAt, NodeAt, Resolved, id_of, HasPackage, HasNode, HasDep}
 use Rattle.krates_resolve.specs.Lookup.{TellsMember}
-use Rattle.krates_rules.specs.DeclaredDependency.{DependencyEntry, dependency_entry}
+use Rattle.krates_rules.specs.DeclaredDependency.{DependencyEntry, FirstAt, dependency_entry}
+use Rattle.krates_resolve.specs.declared.node_entry.EntryEdge.{EntryEdge}
 use Rattle.krates_resolve.specs.declared.node_entry.NodeEntry.{NodeEntry}
 use Rattle.krates_resolve.specs.declared.node_entry.NodeParts.{NodeParts}
 use Rattle.krates_rules.specs.Questions.{edge_between}
@@ -24,6 +28,10 @@ pub record AreParts (r : Resolved) (place : ℕ) (x : NodeParts) : Type 0 where
   pub declares : AreDeclaredBy r (id_of x.parent.now) (map dependency_view x.declared.now)
   pub tells : TellsMember r (id_of x.parent.now) x.is_member
   pub place_is : x.place ≡ place
+
+-- the crate of a node's parts
+abbrev pub krate_of : NodeParts → Id
+krate_of parts = id_of parts.parent.now
 
 abbrev pub parent_of : NodeEntry → Id
 parent_of x = id_of x.parent.now
@@ -59,3 +67,22 @@ pub record IsEntryOf (parts : NodeParts) (at : ℕ) (x : NodeEntry) : Type 0 whe
 -- that of an entry
 abbrev pub edge_for : NodeEntry → DepKindInfoModel → Edge
 edge_for x k = edge_between (parent_of x) (child_of x) k
+
+abbrev pub edge_of : EntryEdge → Edge
+edge_of x = edge_for x.entry.now (dep_kind_info_view x.info.now)
+
+-- the version is that of the crate that is depended on
+abbrev pub HasItsVersion : EntryEdge → Type 0
+HasItsVersion x = version_named x.entry.now.child.now.version ≡ Some (parts_of x.version.now)
+
+-- the dependency lists this purpose and target
+abbrev pub ListsInfo : NodeEntry → DepKindInfo → Type 0
+ListsInfo x info = Contains (map dep_kind_info_view x.dep.now.dep_kinds.items) (dep_kind_info_view info)
+
+abbrev pub IsListedEdge : EntryEdge → Type 0
+IsListedEdge x = ListsInfo x.entry.now x.info.now
+
+-- the first place of this purpose and target in the list
+abbrev pub IsFirstInfo : List DepKindInfo → DepKindInfo → ℕ → Type 0
+IsFirstInfo infos info place =
+    FirstAt (λ k. k ≡ dep_kind_info_view info) (map dep_kind_info_view infos) place (dep_kind_info_view info)

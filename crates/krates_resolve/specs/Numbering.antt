@@ -1,7 +1,8 @@
 -- Numbers of listed features: those of all nodes in the order of the document, one after another.
-use Rattle.std.specs.Prelude.{◌≡◌, ℕ, Some, slice_get}
+use Rattle.std.specs.Prelude.{◌≡◌, ℕ, Option, MatchOption, Some, slice_get}
 use Rattle.krates_cm.specs.Document.{Text}
 use Rattle.krates_rules.specs.Facts.{Id}
+use Rattle.krates_rules.specs.Features.{LacksFeature}
 use Rattle.krates_resolve.specs.ListedFeatures.{listed_features}
 use Rattle.krates_rules.specs.Resolved.{NodeAt, Resolved}
 
@@ -10,3 +11,7 @@ pub record FeatureAt (r : Resolved) (i : Id) (f : Text) (number : ℕ) : Type 0 
   pub place : ℕ
   pub at : slice_get (listed_features r) number ≡ Some (place, f)
   pub node : NodeAt r i place
+
+-- a number of the feature of the node at the place, or none where the crate doesn't list it
+abbrev pub TellsNumber : Resolved → ℕ → Text → Option ℕ → Type 0
+TellsNumber r place f answer = (i : Id) → NodeAt r i place → MatchOption answer (LacksFeature r i f) (FeatureAt r i f)

@@ -1,12 +1,15 @@
 -- The place of a referent among the dependencies of a node.
 use Rattle.std.specs.Prelude.{◌≡◌, ℕ, List, Option, Some, MatchOption, Contains, slice_get, ⊤}
 use Rattle.std.specs.declared.cmp.Ordering.TheVariants.{Less}
-use Rattle.krates_cm.specs.Document.{Text, TargetModel, PackageModel}
+use Rattle.krates_cm.specs.Document.{Text, TargetModel, PackageModel, node_dep_view}
+use Rattle.krates_cm.specs.declared.resolve.NodeDep.{NodeDep}
 use Rattle.krates_cm.specs.declared.target.TargetKind.TheVariants.{Lib}
 use Rattle.krates_ids.specs.Identity.{Identity, id_cmp}
 use Rattle.krates_rules.specs.DeclaredDependency.{FirstAt}
 use Rattle.krates_rules.specs.Resolved.{DepAt, Resolved, id_of}
-use Rattle.krates_rules.specs.Referent.{IsReferent}
+use Rattle.krates_rules.specs.Referent.{AnswersTo, IsReferent}
+use Rattle.krates_rules.specs.Facts.{Id}
+use Rattle.krates_resolve.specs.NodeEntry.{krate_of}
 use Rattle.krates_resolve.specs.declared.node_entry.NodeParts.{NodeParts}
 
 -- the dependency at this place is the one that the name means
@@ -24,3 +27,12 @@ IsBefore ids id place = MatchOption place ⊤ (λ at. (there : Identity) × (sli
 abbrev pub IsLibraryOf : PackageModel → Option TargetModel → Type 0
 IsLibraryOf p answer =
     MatchOption answer ((place : ℕ) (t : TargetModel) → slice_get p.targets place ≡ Some t → Contains t.kind Lib → ⊥) (λ t. (place : ℕ) × FirstAt (λ t. Contains t.kind Lib) p.targets place t)
+
+-- the place of what the name means, or none where it means nothing
+abbrev pub TellsReferent : Resolved → NodeParts → Text → Option ℕ → Type 0
+TellsReferent r parts name answer =
+    MatchOption answer ((child : Id) → IsReferent r (krate_of parts) name child → ⊥) (IsReferentAt r parts name)
+
+-- the dependency on this crate answers to the name
+abbrev pub AnswersAs : Resolved → Identity → NodeDep → Text → Type 0
+AnswersAs r child dep name = AnswersTo r (id_of child) (node_dep_view dep) name

@@ -1,6 +1,9 @@
 -- How all that is kept is looked for, step by step.
-use Rattle.std.specs.Prelude.{ℕ, ◌+◌, ◌-◌, ◌<◌, ◌≤◌, Bool, MatchBool, length}
-use Rattle.krates_resolve.specs.Found.{IsSound, HasRoots, AreExpanded, AreHeeded}
+use Rattle.std.specs.Prelude.{ℕ, ◌↔◌, ◌+◌, ◌-◌, ◌<◌, ◌≤◌, Bool, MatchBool, length}
+use Rattle.krates_resolve.specs.Found.{HasFound, IsSound, HasRoots, AreExpanded, AreHeeded}
+use Rattle.krates_rules.specs.Derivation.{Derivable}
+use Rattle.krates_rules.specs.Facts.{Fact}
+use Rattle.krates_rules.specs.Questions.{questions}
 use Rattle.krates_rules.specs.Resolved.{Resolved}
 use Rattle.krates_rules.specs.Setting.{SettingModel}
 use Rattle.krates_resolve.specs.declared.found.Found.{Found}
@@ -23,3 +26,7 @@ left_in x = (x.krates.size - x.krates.taken) + (x.features.size - x.features.tak
 abbrev pub TakesNext : Resolved → SettingModel → Found → Found → Bool → Type 0
 TakesNext r s old new more =
     AreDone r s new × MatchBool more (left_in new < left_in old) ((length new.krates.put ≤ new.krates.taken) × (length new.features.put ≤ new.features.taken))
+
+-- exactly the derivable facts have been found
+abbrev pub HasExactly : Resolved → SettingModel → Found → Type 0
+HasExactly r s x = (f : Fact) → Derivable (questions r s) f ↔ HasFound r x f

@@ -1,9 +1,9 @@
 //! The features that nodes list, by number.
 
-ghost use Rattle.std.specs.Prelude.{◌≡◌, ◌++◌, IfOk, OnOk, map};
-ghost use Rattle.krates_cm.specs.Document.{node_view, text_view};
-ghost use Rattle.krates_resolve.specs.FeatureTable.{AreNumbered, listed_in, listed_view};
-ghost use Rattle.krates_resolve.specs.ListedFeatures.{features_from, features_of_node};
+ghost use Rattle.std.specs.Prelude.{◌≡◌, IfOk, OnOk, map};
+ghost use Rattle.krates_cm.specs.Document.{node_view};
+ghost use Rattle.krates_resolve.specs.FeatureTable.{AreNumbered, ListsMore, listed_in, listed_view};
+ghost use Rattle.krates_resolve.specs.ListedFeatures.{features_from};
 
 use krates_cm::Node;
 use std::alloc::{AllocError, Global};
@@ -48,7 +48,7 @@ fn listed_features<'a>(
     alloc: Global,
     nodes: &'a [Node],
 ) -> Result<Vec<ListedFeature<'a>>, AllocError>
-    ensures { IfOk result (λ listed. map listed_view listed.items ≡ features_from 0 (map node_view nodes.now)) }
+    ensures { IfOk result (λ all. map listed_view all.items ≡ features_from 0 (map node_view nodes.now)) }
 {
     let mut listed = Vec::new(alloc);
     for (place, node) in nodes.iter().enumerate() {
@@ -63,7 +63,7 @@ fn list_features<'a>(
     features: &'a [String],
     listed: &mut Vec<ListedFeature<'a>>,
 ) -> Result<(), AllocError>
-    ensures { OnOk result (map listed_view listed.new.items ≡ map listed_view listed.old.items ++ features_of_node place (map text_view features.now)) }
+    ensures { OnOk result (ListsMore listed.old.items listed.new.items place features.now) }
 {
     for feature in features {
         listed.push(ListedFeature {

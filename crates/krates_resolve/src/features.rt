@@ -1,13 +1,11 @@
 //! The features that nodes list, by number.
 
-ghost use Rattle.std.specs.Prelude.{MatchOption, map};
+ghost use Rattle.std.specs.Prelude.{map};
 ghost use Rattle.krates_cm.specs.Document.{text_view};
-ghost use Rattle.krates_rules.specs.Facts.{Id};
-ghost use Rattle.krates_rules.specs.Features.{LacksFeature};
 ghost use Rattle.krates_resolve.specs.FeatureValues.{AreValuesOf};
 ghost use Rattle.krates_resolve.specs.Lookup.{IsLookup, resolved_view};
-ghost use Rattle.krates_rules.specs.Resolved.{NodeAt, id_of};
-ghost use Rattle.krates_resolve.specs.Numbering.{FeatureAt};
+ghost use Rattle.krates_rules.specs.Resolved.{id_of};
+ghost use Rattle.krates_resolve.specs.Numbering.{TellsNumber};
 
 use crate::feature_table::ListedFeature;
 use crate::lookup::{Lookup, package_of};
@@ -16,7 +14,7 @@ use krates_ids::{Kid, laws};
 /// A number of a feature of the node at this place; none where the node doesn't list it.
 pub(crate) fn feature_number<'a>(lookup: &Lookup<'a>, place: usize, name: &'a str) -> Option<usize>
     requires { IsLookup lookup.now }
-    ensures { (i : Id) → NodeAt (resolved_view lookup.now) i place → MatchOption result (LacksFeature (resolved_view lookup.now) i name.now) (FeatureAt (resolved_view lookup.now) i name.now) }
+    ensures { TellsNumber (resolved_view lookup.now) place name.now result }
 {
     lookup
         .features

@@ -1,6 +1,7 @@
 //! Resolution: which crates, features and edges of a document are kept under a setting.
 #![tactic(auto)]
 
+mod basis;
 mod enabling;
 mod expansion;
 mod features;

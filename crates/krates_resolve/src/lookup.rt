@@ -1,10 +1,10 @@
 //! The document, looked up by id.
 
-ghost use Rattle.std.specs.Prelude.{◌≡◌, IfOk, option_map};
-ghost use Rattle.krates_cm.specs.Document.{metadata_view, package_view, resolve_view};
+ghost use Rattle.std.specs.Prelude.{IfOk};
+ghost use Rattle.krates_cm.specs.Document.{metadata_view, resolve_view};
 ghost use Rattle.krates_rules.specs.Admission.{AreIdsOf, NoneDoubled};
 ghost use Rattle.krates_document.specs.Ids.{ids_view};
-ghost use Rattle.krates_resolve.specs.Lookup.{IsLookup, IsPackagePlace, IsPackageOf, IsNodePlace, TellsMember, resolved_view};
+ghost use Rattle.krates_resolve.specs.Lookup.{IsLookup, IsOf, IsPackagePlace, TellsPackage, IsNodePlace, TellsMember, resolved_view};
 ghost use Rattle.krates_rules.specs.Resolved.{id_of};
 
 use crate::feature_table::{FeatureTable, feature_table};
@@ -37,7 +37,7 @@ pub(crate) fn lookup_of<'a>(
     requires read { AreIdsOf (metadata_view metadata.now) (resolve_view resolve.now) (ids_view ids.now) }
     requires distinct { NoneDoubled (metadata_view metadata.now) (resolve_view resolve.now) }
     ensures lookup { IfOk result (λ d. IsLookup d) }
-    ensures of_these { IfOk result (λ d. (d.metadata.now ≡ metadata.now) × (d.resolve.now ≡ resolve.now) × (d.ids.now ≡ ids.now)) }
+    ensures of_these { IfOk result (IsOf metadata.now resolve.now ids.now) }
 {
     let packages = places_by_id(alloc, &ids.packages)?;
     let nodes = places_by_id(alloc, &ids.nodes)?;
@@ -57,7 +57,7 @@ pub(crate) fn lookup_of<'a>(
 /// The package with the id.
 pub(crate) fn package_of<'a>(lookup: &Lookup<'a>, id: &'a Kid) -> Option<&'a Package>
     requires { IsLookup lookup.now }
-    ensures { IsPackageOf (resolved_view lookup.now) (id_of id.now) (option_map (λ pkg. package_view pkg.now) result) }
+    ensures { TellsPackage (resolved_view lookup.now) (id_of id.now) result }
 {
     let place = package_place(lookup, id)?;
     Some(&lookup.metadata.packages[place])

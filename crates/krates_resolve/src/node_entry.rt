@@ -1,10 +1,9 @@
 //! The node of a kept crate, and each dependency of it.
 
-ghost use Rattle.std.specs.Prelude.{◌≡◌, ◌<◌, ◌↔◌, Contains, IfOk, IsTrue, length, map};
+ghost use Rattle.std.specs.Prelude.{◌≡◌, ◌<◌, ◌↔◌, Contains, IfOk, IsTrue, length, map, Some, slice_get};
 ghost use Rattle.krates_cm.specs.Document.{dependency_view, dep_kind_info_view};
 ghost use Rattle.krates_resolve.specs.Lookup.{IsLookup, resolved_view};
-ghost use Rattle.krates_rules.specs.DeclaredDependency.{FirstAt};
-ghost use Rattle.krates_resolve.specs.NodeEntry.{AreDeclaredBy, AreParts, IsEntryOf, edge_for};
+ghost use Rattle.krates_resolve.specs.NodeEntry.{AreDeclaredBy, AreParts, IsEntryOf, IsFirstInfo, ListsInfo, edge_for};
 ghost use Rattle.krates_rules.specs.Resolved.{id_of};
 ghost use Rattle.krates_resolve.specs.Selection.{edge_view};
 
@@ -12,6 +11,7 @@ use crate::lookup::{Lookup, is_member, package_of};
 use crate::selection::KeptEdge;
 use krates_cm::{DepKindInfo, Dependency, NodeDep};
 use krates_ids::Kid;
+use semver::Version;
 use std::alloc::AllocError;
 
 /// A dependency of a kept crate's node, beside what its package declares.
@@ -31,6 +31,17 @@ pub(crate) struct NodeEntry<'a> {
     pub index: usize,
     /// Whether the kept crate is a member of the workspace.
     pub is_member: bool,
+}
+
+/// A dependency of a kept crate's node, for one purpose and target.
+#[derive(Clone, Copy)]
+pub(crate) struct EntryEdge<'a, 's> {
+    /// The dependency.
+    pub entry: &'s NodeEntry<'a>,
+    /// The purpose and target.
+    pub info: &'s DepKindInfo,
+    /// The version of the crate that is depended on.
+    pub version: &'s Version,
 }
 
 /// The node of a kept crate, taken apart.
@@ -84,6 +95,14 @@ pub(crate) fn entry_at<'a>(parts: &NodeParts<'a>, index: usize) -> NodeEntry<'a>
     }
 }
 
+/// The declared dependency of an entry at a place.
+pub(crate) fn declared_at<'a>(entry: &NodeEntry<'a>, place: usize) -> &'a Dependency
+    requires { place < length entry.now.declared.now }
+    ensures { slice_get entry.now.declared.now place ≡ Some result.now }
+{
+    &entry.declared[place]
+}
+
 /// The dependencies that the package of a crate declares; none where it has no package.
 pub(crate) fn declared_by<'a>(lookup: &Lookup<'a>, krate: &'a Kid) -> &'a [Dependency]
     requires { IsLookup lookup.now }
@@ -101,10 +120,10 @@ pub(crate) fn kept_edge<'a>(
     info: &DepKindInfo,
     declared: usize,
 ) -> Result<KeptEdge, AllocError>
-    requires { Contains (map dep_kind_info_view entry.now.dep.now.dep_kinds.items) (dep_kind_info_view info.now) }
+    requires { ListsInfo entry.now info.now }
     ensures edge { IfOk result (λ kept. edge_view kept ≡ edge_for entry.now (dep_kind_info_view info.now)) }
     ensures declared { IfOk result (λ kept. kept.declared ≡ declared) }
-    ensures place { IfOk result (λ kept. FirstAt (λ k. k ≡ dep_kind_info_view info.now) (map dep_kind_info_view entry.now.dep.now.dep_kinds.items) kept.place (dep_kind_info_view info.now)) }
+    ensures place { IfOk result (λ kept. IsFirstInfo entry.now.dep.now.dep_kinds.items info.now kept.place) }
 {
     Ok(KeptEdge {
         parent: entry.parent.clone()?,
@@ -119,7 +138,7 @@ pub(crate) fn kept_edge<'a>(
 /// The first place of a purpose and target in a list that has it.
 fn first_place(infos: &[DepKindInfo], info: &DepKindInfo) -> usize
     requires { Contains (map dep_kind_info_view infos.now) (dep_kind_info_view info.now) }
-    ensures { FirstAt (λ k. k ≡ dep_kind_info_view info.now) (map dep_kind_info_view infos.now) result (dep_kind_info_view info.now) }
+    ensures { IsFirstInfo infos.now info.now result }
 {
     match infos.iter().position(|other| is_same_info(other, info)) {
         Some(place) => place,

@@ -1,25 +1,25 @@
 //! What the rules of resolution ask of a document, asked one by one.
 
 ghost use Rattle.std.specs.Prelude.{◌≡◌, ℕ, ◌↔◌, ◌∷◌, [], All, Contains, IfOk, IsTrue, MatchOption, map};
+ghost use Rattle.krates_resolve.specs.Basis.{document_of};
 ghost use Rattle.krates_cm.specs.Document.{DependencyModel, dep_kind_info_view, metadata_view, node_dep_view};
 ghost use Rattle.krates_rules.specs.Admission.{HasVersion, IsAdmitted};
 ghost use Rattle.krates_resolve.specs.DocumentModel.{as_resolved};
 ghost use Rattle.krates_rules.specs.Facts.{Id};
 ghost use Rattle.krates_document.specs.Ids.{ids_view};
-ghost use Rattle.krates_resolve.specs.LookedUp.{TellsDeclared, TellsEntry, TellsParts};
+ghost use Rattle.krates_resolve.specs.LookedUp.{AreRoots, AreRootsInOrder, IsOpenAs, PicksRoots, TellsChild, TellsDeclaredPlace, edge_asked, TellsDeclared, TellsEntry, TellsParts};
 ghost use Rattle.krates_resolve.specs.Lookup.{IsLookup, resolved_view};
 ghost use Rattle.krates_resolve.specs.NodeEntry.{IsEntry, edge_for};
 ghost use Rattle.krates_rules.specs.Questions.{edge_between, Declares, Stands, questions};
 ghost use Rattle.krates_rules.specs.Referent.{IsReferent};
 ghost use Rattle.krates_rules.specs.Resolved.{HasGraphWith, IsMember, id_of, resolved};
 ghost use Rattle.krates_resolve.specs.RootChoice.{AsksFor};
-ghost use Rattle.krates_resolve.specs.RootOrder.{AreInOrder, ArePicked};
+ghost use Rattle.krates_resolve.specs.RootOrder.{AreInOrder};
 ghost use Rattle.krates_rules.specs.Roots.{IsRoot};
 ghost use Rattle.krates_rules.specs.Rules.{Open};
 ghost use Rattle.krates_resolve.specs.Table.{IsPlaceOf};
 
-use krates_document::declared_dependency::{declared_of, version_of};
-use krates_document::ids::Ids;
+use crate::basis::Basis;
 use crate::lookup::{Lookup, lookup_of};
 use crate::node_entry::{NodeEntry, NodeParts, entry_at, is_same_info, parts_of};
 use crate::referent::referent_of;
@@ -139,14 +139,19 @@ impl<'a> Document<'a> {
         ensures { let edge = edge_between (id_of parent.now) (id_of child.now) (dep_kind_info_view info.now) in
             IfOk result (λ b. IsTrue b ↔ ((d : DependencyModel) × Open (questions (as_resolved self.now) setting.now) edge d)) }
     {
-        is_open_in(alloc, &self.lookup, setting, parent, child, info)
+        let basis = Basis {
+            alloc,
+            lookup: &self.lookup,
+            setting,
+        };
+        is_open_in(&basis, parent, child, info)
     }
 }
 
 /// What a name means in a reference of a crate.
 fn referent_in<'a>(lookup: &Lookup<'a>, krate: &Kid, name: &str) -> Option<&'a Kid>
     requires { IsLookup lookup.now }
-    ensures { MatchOption result ((child : Id) → IsReferent (resolved_view lookup.now) (id_of krate.now) name.now child → ⊥) (λ child. IsReferent (resolved_view lookup.now) (id_of krate.now) name.now (id_of child.now)) }
+    ensures { TellsChild (resolved_view lookup.now) (id_of krate.now) name.now result }
 {
     let Some(parts) = parts_for(lookup, krate) else {
         return None;
@@ -193,8 +198,8 @@ fn roots_in<'a>(
     setting: &Setting,
 ) -> Result<Vec<&'a Kid>, AllocError>
     requires { IsLookup lookup.now }
-    ensures each { IfOk result (λ roots. (i : Id) → IsRoot (resolved_view lookup.now) setting.now i ↔ Contains (map (λ root. id_of root.now) roots.items) i) }
-    ensures order { IfOk result (λ roots. AreInOrder (resolved_view lookup.now) setting.now (map (λ root. id_of root.now) roots.items)) }
+    ensures each { IfOk result (AreRoots (resolved_view lookup.now) setting.now) }
+    ensures order { IfOk result (AreRootsInOrder (resolved_view lookup.now) setting.now) }
 {
     laws::one_reading();
     match choice_of(lookup, setting) {
@@ -224,7 +229,7 @@ fn root_members<'a>(
     requires lookup { IsLookup lookup.now }
     requires asks { AsksFor (resolved_view lookup.now) setting.now all }
     requires members { All (λ member. IsMember (resolved_view lookup.now) (id_of member)) members.now }
-    ensures { IfOk result (λ roots. ArePicked (IsRoot (resolved_view lookup.now) setting.now) (map id_of members.now) (map (λ root. id_of root.now) roots.items)) }
+    ensures { IfOk result (PicksRoots (resolved_view lookup.now) setting.now members.now) }
 {
     let mut roots = Vec::new(alloc);
     for member in members {
@@ -244,8 +249,8 @@ fn declared_in<'a>(
     info: &DepKindInfo,
 ) -> Result<Option<usize>, AllocError>
     requires { IsLookup lookup.now }
-    ensures { let edge = edge_between (id_of parent.now) (id_of child.now) (dep_kind_info_view info.now) in
-        IfOk result (λ answer. MatchOption answer ((place : ℕ) (d : DependencyModel) → Declares (resolved_view lookup.now) edge place d → ⊥) (λ place. (d : DependencyModel) × Declares (resolved_view lookup.now) edge place d)) }
+    ensures { let edge = edge_asked parent.now child.now info.now in
+        IfOk result (TellsDeclaredPlace (resolved_view lookup.now) edge) }
 {
     match entry_between(lookup, parent, child) {
         Some(entry) => declared_for(alloc, &entry, info),
@@ -300,19 +305,17 @@ fn lists(dep: &NodeDep, info: &DepKindInfo) -> bool
 
 /// Whether an edge between two crates may be kept.
 fn is_open_in<'a>(
-    alloc: Global,
-    lookup: &Lookup<'a>,
-    setting: &Setting,
+    basis: &Basis<'a, '_>,
     parent: &Kid,
     child: &Kid,
     info: &DepKindInfo,
 ) -> Result<bool, AllocError>
-    requires { IsLookup lookup.now }
-    ensures { let edge = edge_between (id_of parent.now) (id_of child.now) (dep_kind_info_view info.now) in
-        IfOk result (λ b. IsTrue b ↔ ((d : DependencyModel) × Open (questions (resolved_view lookup.now) setting.now) edge d)) }
+    requires { IsLookup basis.now.lookup.now }
+    ensures { let edge = edge_asked parent.now child.now info.now in
+        IfOk result (λ b. IsTrue b ↔ IsOpenAs (document_of basis.now) basis.now.setting.now edge) }
 {
-    match entry_between(lookup, parent, child) {
-        Some(entry) => is_entry_open(alloc, lookup, setting, &entry, info),
+    match entry_between(basis.lookup, parent, child) {
+        Some(entry) => is_entry_open(basis.alloc, basis.lookup, basis.setting, &entry, info),
         None => Ok(false),
     }
 }
@@ -329,7 +332,7 @@ fn is_entry_open<'a>(
     requires entry { IsEntry (resolved_view lookup.now) entry.now }
     requires version { HasVersion entry.now.child.now }
     ensures { let edge = edge_for entry.now (dep_kind_info_view info.now) in
-        IfOk result (λ b. IsTrue b ↔ ((d : DependencyModel) × Open (questions (resolved_view lookup.now) setting.now) edge d)) }
+        IfOk result (λ b. IsTrue b ↔ IsOpenAs (resolved_view lookup.now) setting.now edge) }
 {
     if setting.ignores(info.kind, entry.is_member) {
         return Ok(false);

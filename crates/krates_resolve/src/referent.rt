@@ -1,14 +1,12 @@
 //! Which dependency a name in a feature reference means.
 
-ghost use Rattle.std.specs.Prelude.{◌↔◌, ◌<◌, Contains, IfSome, IsTrue, MatchOption, length, option_map};
-ghost use Rattle.krates_cm.specs.Document.{node_dep_view, package_view, target_view};
+ghost use Rattle.std.specs.Prelude.{◌↔◌, ◌<◌, Contains, IfSome, IsTrue, length, option_map};
+ghost use Rattle.krates_cm.specs.Document.{package_view, target_view};
 ghost use Rattle.krates_cm.specs.declared.target.TargetKind.TheVariants.{Lib};
-ghost use Rattle.krates_rules.specs.Facts.{Id};
 ghost use Rattle.krates_resolve.specs.Lookup.{IsLookup, resolved_view};
 ghost use Rattle.krates_resolve.specs.NodeEntry.{AreParts};
-ghost use Rattle.krates_rules.specs.Referent.{AnswersTo, IsLibraryRename, IsReferent};
-ghost use Rattle.krates_resolve.specs.ReferentPlace.{IsBefore, IsLibraryOf, IsReferentAt};
-ghost use Rattle.krates_rules.specs.Resolved.{id_of};
+ghost use Rattle.krates_rules.specs.Referent.{IsLibraryRename};
+ghost use Rattle.krates_resolve.specs.ReferentPlace.{IsBefore, IsLibraryOf, TellsReferent, AnswersAs};
 
 use krates_document::dependency_name::is_name_of;
 use crate::lookup::{Lookup, package_of};
@@ -26,7 +24,7 @@ pub(crate) fn referent_of<'a>(
 ) -> Option<usize>
     requires lookup { IsLookup lookup.now }
     requires parts { AreParts (resolved_view lookup.now) parts.now.place parts.now }
-    ensures { MatchOption result ((child : Id) → IsReferent (resolved_view lookup.now) (id_of parts.now.parent.now) name.now child → ⊥) (IsReferentAt (resolved_view lookup.now) parts.now name.now) }
+    ensures { TellsReferent (resolved_view lookup.now) parts.now name.now result }
 {
     laws::one_reading();
     laws::comparison();
@@ -55,7 +53,7 @@ fn is_before(ids: &[Kid], id: &Kid, place: Option<usize>) -> bool
 /// Whether a dependency of a node answers to a name.
 fn answers_to<'a>(lookup: &Lookup<'a>, child: &'a Kid, dep: &NodeDep, name: &str) -> bool
     requires { IsLookup lookup.now }
-    ensures { IsTrue result ↔ AnswersTo (resolved_view lookup.now) (id_of child.now) (node_dep_view dep.now) name.now }
+    ensures { IsTrue result ↔ AnswersAs (resolved_view lookup.now) child.now dep.now name.now }
 {
     if is_name_of(dep.name.as_str(), name) {
         return true;

@@ -1,17 +1,16 @@
 //! Resolution: from an admitted document and a setting to what is kept of it.
 
 ghost use Rattle.std.proofs.Common.{rules};
-ghost use Rattle.std.specs.Prelude.{◌≡◌, ◌↔◌, ◌<◌, All, Contains, IfOk, IfErr, Some, length, map, slice_get};
-ghost use Rattle.krates_cm.specs.Document.{Text, metadata_view};
+ghost use Rattle.std.specs.Prelude.{◌≡◌, ◌<◌, All, IfOk, IfErr, Some, length, map, slice_get};
+ghost use Rattle.krates_cm.specs.Document.{metadata_view};
 ghost use Rattle.krates_rules.specs.Admission.{IsAdmitted};
-ghost use Rattle.krates_rules.specs.Facts.{Id, Feature};
-ghost use Rattle.krates_resolve.specs.Found.{IsEnabled};
+ghost use Rattle.krates_resolve.specs.Found.{HasEach};
 ghost use Rattle.krates_document.specs.Ids.{ids_view};
 ghost use Rattle.krates_resolve.specs.ListedFeatures.{listed_features};
 ghost use Rattle.krates_resolve.specs.Lookup.{IsLookup, resolved_view};
 ghost use Rattle.krates_rules.specs.Questions.{questions};
 ghost use Rattle.krates_rules.specs.Resolved.{HasGraphWith, resolved};
-ghost use Rattle.krates_resolve.specs.Selection.{IsSelection, feature_fact};
+ghost use Rattle.krates_resolve.specs.Selection.{IsSelection};
 ghost use Rattle.krates_rules.specs.SelectionRefusals.{SelectionRefusal};
 
 use crate::selection::{EnabledFeature, Selection};
@@ -67,8 +66,8 @@ fn features_at<'a>(
     numbers: &[usize],
 ) -> Result<Vec<EnabledFeature>, AllocError>
     requires lookup { IsLookup lookup.now }
-    requires within { All (λ number. number < length (listed_features (resolved_view lookup.now))) numbers.now }
-    ensures { IfOk result (λ list. (i : Id) (f : Text) → IsEnabled (resolved_view lookup.now) numbers.now i f ↔ Contains (map feature_fact list.items) (Feature i f)) }
+    requires within { All (λ n. n < length (listed_features (resolved_view lookup.now))) numbers.now }
+    ensures { IfOk result (λ list. HasEach (resolved_view lookup.now) numbers.now list.items) }
 {
     laws::one_reading();
     let mut list = Vec::new(alloc);

@@ -1,19 +1,16 @@
 //! The roots: the crates that are kept for themselves.
 
-ghost use Rattle.std.specs.Prelude.{◌≡◌, ◌↔◌, All, Bool, IfErr, IsTrue, MatchBool, OnOk, map, string_bytes};
+ghost use Rattle.krates_resolve.specs.Basis.{AsksForRoots, Has, HasEachRoot, HasListed, HasMember, HasRoot, HasRooted, HasRootedRoot, IsNodeOf, IsRight, MayEnableListed, Moves, Refuses, crate_of};
+ghost use Rattle.std.specs.Prelude.{◌↔◌, All, IfErr, IsTrue, OnOk, map};
 ghost use Rattle.krates_cm.specs.Document.{Text, text_view};
 ghost use Rattle.krates_text.specs.Path.{components};
-ghost use Rattle.krates_rules.specs.Derivation.{Derivable};
-ghost use Rattle.krates_rules.specs.Facts.{Crate, Feature};
-ghost use Rattle.krates_rules.specs.Features.{ListsFeature};
-ghost use Rattle.krates_resolve.specs.Found.{IsSound, Advances, HasFound, IsRooted, HasRoots};
+ghost use Rattle.krates_rules.specs.Facts.{Crate};
 ghost use Rattle.krates_resolve.specs.Lookup.{IsLookup, resolved_view};
-ghost use Rattle.krates_rules.specs.Resolved.{NodeAt, id_of, IsMember};
-ghost use Rattle.krates_rules.specs.Questions.{questions};
+ghost use Rattle.krates_rules.specs.Resolved.{id_of, IsMember};
 ghost use Rattle.krates_resolve.specs.RootChoice.{IsChoice, AsksFor, HasOneOf};
 ghost use Rattle.krates_rules.specs.Roots.{IsRoot, HasManifest, IsWorkspaceManifest};
-ghost use Rattle.krates_rules.specs.SelectionRefusals.{SelectionRefusal};
 
+use crate::basis::Basis;
 use crate::enabling::{KeptNode, enable};
 use crate::found::Found;
 use crate::lookup::{Lookup, package_of};
@@ -21,7 +18,6 @@ use krates_document::setting::Setting;
 use crate::standing::{Standing, standing_of};
 use krates_ids::{Error, Kid, Lost, laws};
 use krates_text::path::{parent, same};
-use std::alloc::Global;
 
 /// Which crates are the roots.
 pub(crate) enum RootChoice<'a> {
@@ -34,37 +30,18 @@ pub(crate) enum RootChoice<'a> {
 }
 
 /// Puts the roots: the graph's root, every member, or the members with one of the manifests that are asked for.
-pub(crate) fn put_roots<'a>(
-    alloc: Global,
-    lookup: &Lookup<'a>,
-    setting: &Setting,
-    found: &mut Found<'a>,
-) -> Result<(), Error>
-    requires lookup { IsLookup lookup.now }
-    requires sound { IsSound (resolved_view lookup.now) setting.now found.old }
-    ensures advanced { OnOk result (Advances (resolved_view lookup.now) setting.now found.old found.new) }
-    ensures roots { OnOk result (HasRoots (resolved_view lookup.now) setting.now found.new) }
-    ensures refused { IfErr result (SelectionRefusal (questions (resolved_view lookup.now) setting.now)) }
+pub(crate) fn put_roots<'a>(basis: &Basis<'a, '_>, found: &mut Found<'a>) -> Result<(), Error>
+    requires lookup { IsLookup basis.now.lookup.now }
+    requires sound { IsRight basis.now found.old }
+    ensures advanced { OnOk result (Moves basis.now found.old found.new) }
+    ensures roots { OnOk result (HasEachRoot basis.now found.new) }
+    ensures refused { IfErr result (Refuses basis.now) }
 {
     laws::one_reading();
-    match choice_of(lookup, setting) {
-        RootChoice::Root(root) => put_root(alloc, lookup, setting, root, found),
-        RootChoice::Members => put_members(
-            alloc,
-            lookup,
-            setting,
-            true,
-            &lookup.ids.members,
-            found,
-        ),
-        RootChoice::Manifests => put_members(
-            alloc,
-            lookup,
-            setting,
-            false,
-            &lookup.ids.members,
-            found,
-        ),
+    match choice_of(basis.lookup, basis.setting) {
+        RootChoice::Root(root) => put_root(basis, root, found),
+        RootChoice::Members => put_members(basis, true, &basis.lookup.ids.members, found),
+        RootChoice::Manifests => put_members(basis, false, &basis.lookup.ids.members, found),
     }
 }
 
@@ -102,46 +79,42 @@ fn asks_for_workspace(manifests: &[String], workspace_root: &str) -> bool
 
 /// Puts each of these members that is a root: all of them, or those with one of the manifests.
 fn put_members<'a>(
-    alloc: Global,
-    lookup: &Lookup<'a>,
-    setting: &Setting,
+    basis: &Basis<'a, '_>,
     all: bool,
     members: &'a [Kid],
     found: &mut Found<'a>,
 ) -> Result<(), Error>
-    requires lookup { IsLookup lookup.now }
-    requires sound { IsSound (resolved_view lookup.now) setting.now found.old }
-    requires asks { AsksFor (resolved_view lookup.now) setting.now all }
-    requires members { All (λ member. IsMember (resolved_view lookup.now) (id_of member)) members.now }
-    ensures advanced { OnOk result (Advances (resolved_view lookup.now) setting.now found.old found.new) }
-    ensures rooted { OnOk result (All (λ member. IsRoot (resolved_view lookup.now) setting.now (id_of member) → IsRooted (resolved_view lookup.now) setting.now found.new (id_of member)) members.now) }
-    ensures refused { IfErr result (SelectionRefusal (questions (resolved_view lookup.now) setting.now)) }
+    requires lookup { IsLookup basis.now.lookup.now }
+    requires sound { IsRight basis.now found.old }
+    requires asks { AsksForRoots basis.now all }
+    requires members { All (λ member. HasMember basis.now (id_of member)) members.now }
+    ensures advanced { OnOk result (Moves basis.now found.old found.new) }
+    ensures rooted { OnOk result (All (λ m. HasRootedRoot basis.now found.new (id_of m)) members.now) }
+    ensures refused { IfErr result (Refuses basis.now) }
 {
     for member in members {
-        put_member(alloc, lookup, setting, all, member, found)?;
+        put_member(basis, all, member, found)?;
     }
     Ok(())
 }
 
 /// Puts a member that is a root.
 fn put_member<'a>(
-    alloc: Global,
-    lookup: &Lookup<'a>,
-    setting: &Setting,
+    basis: &Basis<'a, '_>,
     all: bool,
     member: &'a Kid,
     found: &mut Found<'a>,
 ) -> Result<(), Error>
-    requires lookup { IsLookup lookup.now }
-    requires sound { IsSound (resolved_view lookup.now) setting.now found.old }
-    requires asks { AsksFor (resolved_view lookup.now) setting.now all }
-    requires member { IsMember (resolved_view lookup.now) (id_of member.now) }
-    ensures advanced { OnOk result (Advances (resolved_view lookup.now) setting.now found.old found.new) }
-    ensures rooted { OnOk result (IsRoot (resolved_view lookup.now) setting.now (id_of member.now) → IsRooted (resolved_view lookup.now) setting.now found.new (id_of member.now)) }
-    ensures refused { IfErr result (SelectionRefusal (questions (resolved_view lookup.now) setting.now)) }
+    requires lookup { IsLookup basis.now.lookup.now }
+    requires sound { IsRight basis.now found.old }
+    requires asks { AsksForRoots basis.now all }
+    requires member { HasMember basis.now (id_of member.now) }
+    ensures advanced { OnOk result (Moves basis.now found.old found.new) }
+    ensures rooted { OnOk result (HasRootedRoot basis.now found.new (id_of member.now)) }
+    ensures refused { IfErr result (Refuses basis.now) }
 {
-    if is_root(lookup, setting, all, member) {
-        return put_root(alloc, lookup, setting, member, found);
+    if is_root(basis.lookup, basis.setting, all, member) {
+        return put_root(basis, member, found);
     }
     Ok(())
 }
@@ -185,52 +158,44 @@ fn is_one_of(paths: &[String], path: &str) -> bool
 }
 
 /// Puts a root, unless it is excluded.
-fn put_root<'a>(
-    alloc: Global,
-    lookup: &Lookup<'a>,
-    setting: &Setting,
-    root: &'a Kid,
-    found: &mut Found<'a>,
-) -> Result<(), Error>
-    requires lookup { IsLookup lookup.now }
-    requires sound { IsSound (resolved_view lookup.now) setting.now found.old }
-    requires root { IsRoot (resolved_view lookup.now) setting.now (id_of root.now) }
-    ensures advanced { OnOk result (Advances (resolved_view lookup.now) setting.now found.old found.new) }
-    ensures rooted { OnOk result (IsRooted (resolved_view lookup.now) setting.now found.new (id_of root.now)) }
-    ensures refused { IfErr result (SelectionRefusal (questions (resolved_view lookup.now) setting.now)) }
+fn put_root<'a>(basis: &Basis<'a, '_>, root: &'a Kid, found: &mut Found<'a>) -> Result<(), Error>
+    requires lookup { IsLookup basis.now.lookup.now }
+    requires sound { IsRight basis.now found.old }
+    requires root { HasRoot basis.now (id_of root.now) }
+    ensures advanced { OnOk result (Moves basis.now found.old found.new) }
+    ensures rooted { OnOk result (HasRooted basis.now found.new (id_of root.now)) }
+    ensures refused { IfErr result (Refuses basis.now) }
 {
     laws::one_reading();
-    match standing_of(lookup, setting, root) {
+    match standing_of(basis.lookup, basis.setting, root) {
         Standing::NoPackage => Err(Error::Lost(Lost::Package(root.clone()?))),
         Standing::NoNode => Err(Error::Lost(Lost::Node(root.clone()?))),
         Standing::Excluded => Ok(()),
         Standing::Stands(place) => {
             let node = KeptNode { id: root, place };
             let _ = found.krates.put(place);
-            enable_listed(alloc, lookup, setting, node, found)
+            enable_listed(basis, node, found)
         }
     }
 }
 
 /// Enables each feature that the node of a root lists.
 fn enable_listed<'a>(
-    alloc: Global,
-    lookup: &Lookup<'a>,
-    setting: &Setting,
+    basis: &Basis<'a, '_>,
     node: KeptNode<'a>,
     found: &mut Found<'a>,
 ) -> Result<(), Error>
-    requires lookup { IsLookup lookup.now }
-    requires node { NodeAt (resolved_view lookup.now) (id_of node.id.now) node.place }
-    requires sound { IsSound (resolved_view lookup.now) setting.now found.old }
-    requires kept { HasFound (resolved_view lookup.now) found.old (Crate (id_of node.id.now)) }
-    requires may { (f : Text) → ListsFeature (resolved_view lookup.now) (id_of node.id.now) f → Derivable (questions (resolved_view lookup.now) setting.now) (Feature (id_of node.id.now) f) }
-    ensures advanced { OnOk result (Advances (resolved_view lookup.now) setting.now found.old found.new) }
-    ensures enabled { OnOk result ((f : Text) → ListsFeature (resolved_view lookup.now) (id_of node.entry.id.now) f → HasFound (resolved_view lookup.now) found.new (Feature (id_of node.entry.id.now) f)) }
-    ensures refused { IfErr result (SelectionRefusal (questions (resolved_view lookup.now) setting.now)) }
+    requires lookup { IsLookup basis.now.lookup.now }
+    requires node { IsNodeOf basis.now node }
+    requires sound { IsRight basis.now found.old }
+    requires kept { Has basis.now found.old (Crate (crate_of node)) }
+    requires may { (f : Text) → MayEnableListed basis.now (crate_of node) f }
+    ensures advanced { OnOk result (Moves basis.now found.old found.new) }
+    ensures enabled { OnOk result ((f : Text) → HasListed basis.now found.new (crate_of node.entry) f) }
+    ensures refused { IfErr result (Refuses basis.now) }
 {
-    for name in &lookup.resolve.nodes[node.place].features {
-        enable(alloc, lookup, setting, node, name.as_str(), found)?;
+    for name in &basis.lookup.resolve.nodes[node.place].features {
+        enable(basis, node, name.as_str(), found)?;
     }
     Ok(())
 }

@@ -1,14 +1,14 @@
 //! All that is kept of a document.
 
-ghost use Rattle.std.specs.Prelude.{◌↔◌, IfErr, IfOk};
-ghost use Rattle.krates_rules.specs.Derivation.{Derivable};
-ghost use Rattle.krates_rules.specs.Facts.{Fact};
-ghost use Rattle.krates_resolve.specs.Found.{HasFound, IsSound};
+ghost use Rattle.krates_resolve.specs.Basis.{HasDone, Refuses, TakesOne};
+ghost use Rattle.std.specs.Prelude.{IfErr, IfOk};
+ghost use Rattle.krates_resolve.specs.Found.{IsSound};
+ghost use Rattle.krates_resolve.specs.Saturation.{HasExactly};
 ghost use Rattle.krates_resolve.specs.Lookup.{IsLookup, resolved_view};
 ghost use Rattle.krates_rules.specs.Questions.{questions};
-ghost use Rattle.krates_resolve.specs.Saturation.{AreDone, TakesNext};
 ghost use Rattle.krates_rules.specs.SelectionRefusals.{SelectionRefusal};
 
+use crate::basis::Basis;
 use crate::expansion::expand;
 use crate::found::Found;
 use crate::heeding::heed;
@@ -31,7 +31,7 @@ pub(crate) fn saturate<'a>(
     setting: &Setting,
 ) -> Result<Found<'a>, Error>
     requires { IsLookup lookup.now }
-    ensures exact { IfOk result (λ found. (f : Fact) → Derivable (questions (resolved_view lookup.now) setting.now) f ↔ HasFound (resolved_view lookup.now) found f) }
+    ensures exact { IfOk result (HasExactly (resolved_view lookup.now) setting.now) }
     ensures sound { IfOk result (λ found. IsSound (resolved_view lookup.now) setting.now found) }
     ensures refused { IfErr result (SelectionRefusal (questions (resolved_view lookup.now) setting.now)) }
 {
@@ -42,30 +42,30 @@ pub(crate) fn saturate<'a>(
         toggled: Vec::new(alloc),
         links: links_of(alloc, lookup)?,
     };
-    put_roots(alloc, lookup, setting, &mut found)?;
-    while take_next(alloc, lookup, setting, &mut found)? {}
+    let basis = Basis {
+        alloc,
+        lookup,
+        setting,
+    };
+    put_roots(&basis, &mut found)?;
+    while take_next(&basis, &mut found)? {}
     Ok(found)
 }
 
 /// Takes the next crate and expands it, or else the next feature and heeds it; whether there was one.
-fn take_next<'a>(
-    alloc: Global,
-    lookup: &Lookup<'a>,
-    setting: &Setting,
-    found: &mut Found<'a>,
-) -> Result<bool, Error>
-    requires lookup { IsLookup lookup.now }
-    requires done { AreDone (resolved_view lookup.now) setting.now found.old }
-    ensures taken { IfOk result (λ more. TakesNext (resolved_view lookup.now) setting.now found.old found.new more) }
-    ensures refused { IfErr result (SelectionRefusal (questions (resolved_view lookup.now) setting.now)) }
+fn take_next<'a>(basis: &Basis<'a, '_>, found: &mut Found<'a>) -> Result<bool, Error>
+    requires lookup { IsLookup basis.now.lookup.now }
+    requires done { HasDone basis.now found.old }
+    ensures taken { IfOk result (λ more. TakesOne basis.now found.old found.new more) }
+    ensures refused { IfErr result (Refuses basis.now) }
 {
     if let Some(taken) = found.krates.take() {
-        expand(alloc, lookup, setting, taken, found)?;
+        expand(basis, taken, found)?;
         return Ok(true);
     }
     let Some(taken) = found.features.take() else {
         return Ok(false);
     };
-    heed(alloc, lookup, setting, taken, found)?;
+    heed(basis, taken, found)?;
     Ok(true)
 }

@@ -11,7 +11,7 @@ use Rattle.krates_resolve.proofs.enabling.enable_declared.Goals as goal
 use Rattle.krates_resolve.proofs.enabling.enable_declared.Goals.{then-dependency, else-dependency}
 
 pub loop-name-init : goal.loop-name-init
-loop-name-init c = (advances_refl (resolved_view c.args.lookup.now) c.args.setting.now c.args.found.now c.requires.sound, λ k d lt. absurd (omega (arith, lt)), refl)
+loop-name-init c = (advances_refl (resolved_view c.args.basis.now.lookup.now) c.args.basis.now.setting.now c.args.found.now c.requires.sound, λ k d lt. absurd (omega (arith, lt)), refl)
 
 pub enable-requires-clause-sound : goal.enable-requires-clause-sound
 enable-requires-clause-sound c = c.loop-name.invariant.0.sound
@@ -21,8 +21,8 @@ enable-requires-clause-kept c = c.loop-name.invariant.0.grows.found (Crate (id_o
 
 pub loop-name-preserved : goal.loop-name-preserved
 loop-name-preserved c =
-    let r = resolved_view c.args.lookup.now in
-    let s = c.args.setting.now in
+    let r = resolved_view c.args.basis.now.lookup.now in
+    let s = c.args.basis.now.setting.now in
     let i = id_of c.args.node.id.now in
     let x = c.loop-name.found in
     let y = c.enable.new.found in
@@ -42,8 +42,8 @@ enable_default-requires-clause-kept c = c.loop-name.invariant.0.grows.found (Cra
 
 pub returns-clause-advanced : goal.returns-clause-advanced
 returns-clause-advanced c =
-    let r = resolved_view c.args.lookup.now in
-    let s = c.args.setting.now in
+    let r = resolved_view c.args.basis.now.lookup.now in
+    let s = c.args.basis.now.setting.now in
     let x = c.loop-name.found in
     let inv = c.loop-name.invariant in
     elim c.if-dependency.branch [
@@ -53,7 +53,7 @@ returns-clause-advanced c =
 
 pub returns-clause-used : goal.returns-clause-used
 returns-clause-used c =
-    let r = resolved_view c.args.lookup.now in
+    let r = resolved_view c.args.basis.now.lookup.now in
     let i = id_of c.args.node.id.now in
     let d = dependency_view c.args.dependency.now in
     let x = c.loop-name.found in

@@ -9,6 +9,6 @@ use Rattle.krates_resolve.proofs.enabling.enable_declared.Given as goal
 -- the features so far are enabled
 abbrev pub invariant-loop-name : goal.invariant-loop-name
 invariant-loop-name l =
-    Advances (resolved_view l.lookup) l.setting l.fn.found l.found
-    × SeenBelow (λ (name : String Global). IsEnabledBySome (resolved_view l.lookup) l.found (id_of l.node.id.now) (text_view name)) l.name-items l.name-index
+    Advances (resolved_view l.basis.lookup.now) l.basis.setting.now l.fn.found l.found
+    × SeenBelow (λ (name : String Global). IsEnabledBySome (resolved_view l.basis.lookup.now) l.found (id_of l.node.id.now) (text_view name)) l.name-items l.name-index
     × (l.found.links ≡ l.fn.found.links)

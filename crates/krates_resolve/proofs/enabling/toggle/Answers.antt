@@ -11,12 +11,12 @@ use Rattle.krates_resolve.proofs.Waking.{may_name}
 use Rattle.krates_resolve.proofs.enabling.toggle.Goals as goal
 
 pub enable-requires-clause-may : goal.enable-requires-clause-may
-enable-requires-clause-may c = may_name (resolved_view c.args.lookup.now) c.args.setting.now (id_of c.args.by.now) (id_of c.args.node.id.now) c.args.name.now c.requires.may
+enable-requires-clause-may c = may_name (resolved_view c.args.basis.now.lookup.now) c.args.basis.now.setting.now (id_of c.args.by.now) (id_of c.args.node.id.now) c.args.name.now c.requires.may
 
 pub returns-clause-advanced : goal.returns-clause-advanced
 returns-clause-advanced c =
-    let r = resolved_view c.args.lookup.now in
-    let s = c.args.setting.now in
+    let r = resolved_view c.args.basis.now.lookup.now in
+    let s = c.args.basis.now.setting.now in
     let p = id_of c.args.by.now in
     let i = id_of c.args.node.id.now in
     let g = c.args.name.now in
@@ -29,8 +29,8 @@ returns-clause-advanced c =
 
 pub returns-clause-toggled : goal.returns-clause-toggled
 returns-clause-toggled c =
-    let r = resolved_view c.args.lookup.now in
-    let s = c.args.setting.now in
+    let r = resolved_view c.args.basis.now.lookup.now in
+    let s = c.args.basis.now.setting.now in
     let p = id_of c.args.by.now in
     let i = id_of c.args.node.id.now in
     let g = c.args.name.now in

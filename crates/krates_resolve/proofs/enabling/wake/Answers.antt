@@ -25,8 +25,8 @@ mark-names-requires c = c.requires.sound.has_links (parent_of c.args.entry.now) 
 
 pub loop-name-init : goal.loop-name-init
 loop-name-init c =
-    let r = resolved_view c.args.lookup.now in
-    let s = c.args.setting.now in
+    let r = resolved_view c.args.basis.now.lookup.now in
+    let s = c.args.basis.now.setting.now in
     let e = c.args.entry.now in
     let x = c.args.found.now in
     let links = c.mark-names.new.self in
@@ -44,12 +44,12 @@ toggle-requires-clause-sound c = c.loop-name.invariant.2.sound
 pub toggle-requires-clause-kept : goal.toggle-requires-clause-kept
 toggle-requires-clause-kept c =
     let x = c.loop-name.found in
-    subst (λ (i : Id). HasFound (resolved_view c.args.lookup.now) x (Crate i)) (sym c.requires.of_child) (c.loop-name.invariant.2.grows.found (Crate (child_of c.args.entry.now)) c.requires.kept)
+    subst (λ (i : Id). HasFound (resolved_view c.args.basis.now.lookup.now) x (Crate i)) (sym c.requires.of_child) (c.loop-name.invariant.2.grows.found (Crate (child_of c.args.entry.now)) c.requires.kept)
 
 pub toggle-requires-clause-may : goal.toggle-requires-clause-may
 toggle-requires-clause-may c =
-    let r = resolved_view c.args.lookup.now in
-    let s = c.args.setting.now in
+    let r = resolved_view c.args.basis.now.lookup.now in
+    let s = c.args.basis.now.setting.now in
     let x = c.args.entry.now in
     let items = c.as_slice-name-items.result.now in
     let name : Bor Text = get_or items c.loop-name.name-index (record { ref_ptr = (0, 0); now = [] }) in
@@ -60,8 +60,8 @@ toggle-requires-clause-may c =
 
 pub loop-name-preserved : goal.loop-name-preserved
 loop-name-preserved c =
-    let r = resolved_view c.args.lookup.now in
-    let s = c.args.setting.now in
+    let r = resolved_view c.args.basis.now.lookup.now in
+    let s = c.args.basis.now.setting.now in
     let e = c.args.entry.now in
     let x = c.loop-name.found in
     let y = c.toggle.new.found in
@@ -79,8 +79,8 @@ loop-name-preserved c =
 
 pub returns-clause-advanced : goal.returns-clause-advanced
 returns-clause-advanced c =
-    let r = resolved_view c.args.lookup.now in
-    let s = c.args.setting.now in
+    let r = resolved_view c.args.basis.now.lookup.now in
+    let s = c.args.basis.now.setting.now in
     let e = c.args.entry.now in
     let x = c.loop-name.found in
     let inv = c.loop-name.invariant in

@@ -14,6 +14,6 @@ abbrev pub invariant-loop-name : goal.invariant-loop-name
 invariant-loop-name l =
     (links : Links)
     × HasMarked l.fn.found.links links l.entry.place l.entry.index (map (λ (t : Bor Text). t.now) l.name-items)
-    × Advances (resolved_view l.lookup) l.setting (with_links l.fn.found links) l.found
-    × SeenBelow (λ (name : Bor Text). IsToggledIn (resolved_view l.lookup) l.found (parent_of l.entry) (child_of l.entry) name.now) l.name-items l.name-index
+    × Advances (resolved_view l.basis.lookup.now) l.basis.setting.now (with_links l.fn.found links) l.found
+    × SeenBelow (λ (name : Bor Text). IsToggledIn (resolved_view l.basis.lookup.now) l.found (parent_of l.entry) (child_of l.entry) name.now) l.name-items l.name-index
     × (l.found.links ≡ links)

@@ -16,20 +16,20 @@ use Rattle.krates_resolve.proofs.NodeParts.{deps_long, entry_here, tried_more, t
 use Rattle.krates_resolve.proofs.expansion.expand.Goals as goal
 
 pub entry_at-entry-requires-clause-lengths : goal.entry_at-entry-requires-clause-lengths
-entry_at-entry-requires-clause-lengths c = sym (deps_long (resolved_view c.args.lookup.now) c.number.result c.parts_of-parts.result c.parts_of-parts.ensures)
+entry_at-entry-requires-clause-lengths c = sym (deps_long (resolved_view c.args.basis.now.lookup.now) c.number.result c.parts_of-parts.result c.parts_of-parts.ensures)
 
 pub expand_entry-requires-clause-entry : goal.expand_entry-requires-clause-entry
 expand_entry-requires-clause-entry c =
-    (entry_here (resolved_view c.args.lookup.now) c.number.result c.parts_of-parts.result c.loop-index.index c.entry_at-entry.result c.parts_of-parts.ensures c.entry_at-entry.ensures).0
+    (entry_here (resolved_view c.args.basis.now.lookup.now) c.number.result c.parts_of-parts.result c.loop-index.index c.entry_at-entry.result c.parts_of-parts.ensures c.entry_at-entry.ensures).0
 
 pub expand_entry-requires-clause-version : goal.expand_entry-requires-clause-version
 expand_entry-requires-clause-version c =
-    (entry_here (resolved_view c.args.lookup.now) c.number.result c.parts_of-parts.result c.loop-index.index c.entry_at-entry.result c.parts_of-parts.ensures c.entry_at-entry.ensures).1
+    (entry_here (resolved_view c.args.basis.now.lookup.now) c.number.result c.parts_of-parts.result c.loop-index.index c.entry_at-entry.result c.parts_of-parts.ensures c.entry_at-entry.ensures).1
 
 pub expand_entry-requires-clause-may : goal.expand_entry-requires-clause-may
 expand_entry-requires-clause-may c k =
-    let r = resolved_view c.args.lookup.now in
-    let s = c.args.setting.now in
+    let r = resolved_view c.args.basis.now.lookup.now in
+    let s = c.args.basis.now.setting.now in
     let parent = c.parts_of-parts.result.parent.now in
     let put = c.args.found.now.krates.put in
     let kept : HasFound r c.args.found.now (Crate (id_of parent)) = record {
@@ -42,8 +42,8 @@ expand_entry-requires-clause-may c k =
 
 pub loop-index-preserved : goal.loop-index-preserved
 loop-index-preserved c =
-    let r = resolved_view c.args.lookup.now in
-    let s = c.args.setting.now in
+    let r = resolved_view c.args.basis.now.lookup.now in
+    let s = c.args.basis.now.setting.now in
     let parts = c.parts_of-parts.result in
     let entry = c.entry_at-entry.result in
     let x = c.loop-index.found in
@@ -60,8 +60,8 @@ loop-index-preserved c =
 
 pub returns-clause-expanded : goal.returns-clause-expanded
 returns-clause-expanded c krate at =
-    let r = resolved_view c.args.lookup.now in
-    let s = c.args.setting.now in
+    let r = resolved_view c.args.basis.now.lookup.now in
+    let s = c.args.basis.now.setting.now in
     let once = c.one_reading.ensures.once in
     let p = c.parts_of-parts.ensures in
     let parts = c.parts_of-parts.result in

@@ -9,7 +9,7 @@ use Rattle.krates_document.proofs.Seen.{seen_more, each_seen}
 use Rattle.krates_resolve.proofs.expansion.expand_entry.Goals as goal
 
 pub loop-info-init : goal.loop-info-init
-loop-info-init c = (advances_refl (resolved_view c.args.lookup.now) c.args.setting.now c.args.found.now c.requires.sound, λ k d lt. absurd (omega (arith, lt)))
+loop-info-init c = (advances_refl (resolved_view c.args.basis.now.lookup.now) c.args.basis.now.setting.now c.args.found.now c.requires.sound, λ k d lt. absurd (omega (arith, lt)))
 
 pub expand_edge-requires-clause-sound : goal.expand_edge-requires-clause-sound
 expand_edge-requires-clause-sound c = c.loop-info.invariant.0.sound
@@ -19,8 +19,8 @@ expand_edge-requires-clause-may c = c.requires.may (dep_kind_info_view c.info-it
 
 pub loop-info-preserved : goal.loop-info-preserved
 loop-info-preserved c =
-    let r = resolved_view c.args.lookup.now in
-    let s = c.args.setting.now in
+    let r = resolved_view c.args.basis.now.lookup.now in
+    let s = c.args.basis.now.setting.now in
     let x = c.loop-info.found in
     let y = c.expand_edge.new.found in
     let inv = c.loop-info.invariant in
@@ -35,5 +35,5 @@ returns-clause-advanced c = c.loop-info.invariant.0
 
 pub returns-clause-tried : goal.returns-clause-tried
 returns-clause-tried c =
-    each_seen dep_kind_info_view (λ k. IsTried (resolved_view c.args.lookup.now) c.args.setting.now c.loop-info.found (edge_for c.args.entry.now k) (TakenWhen c.args.asked)) c.as_slice-info-items.result.now c.args.entry.now.dep.now.dep_kinds.items
+    each_seen dep_kind_info_view (λ k. IsTried (resolved_view c.args.basis.now.lookup.now) c.args.basis.now.setting.now c.loop-info.found (edge_for c.args.entry.now k) (TakenWhen c.args.asked)) c.as_slice-info-items.result.now c.args.entry.now.dep.now.dep_kinds.items
     c.loop-info.info-index c.as_slice-info-items.ensures.value (omega arith) c.loop-info.invariant.1

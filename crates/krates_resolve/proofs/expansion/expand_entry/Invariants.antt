@@ -9,5 +9,5 @@ use Rattle.krates_resolve.proofs.expansion.expand_entry.Given as goal
 -- each edge so far has been tried
 abbrev pub invariant-loop-info : goal.invariant-loop-info
 invariant-loop-info l =
-    Advances (resolved_view l.lookup) l.setting l.fn.found l.found
-    × SeenBelow (λ (info : DepKindInfo). IsTried (resolved_view l.lookup) l.setting l.found (edge_for l.entry (dep_kind_info_view info)) (TakenWhen l.asked)) l.info-items l.info-index
+    Advances (resolved_view l.basis.lookup.now) l.basis.setting.now l.fn.found l.found
+    × SeenBelow (λ (info : DepKindInfo). IsTried (resolved_view l.basis.lookup.now) l.basis.setting.now l.found (edge_for l.entry (dep_kind_info_view info)) (TakenWhen l.asked)) l.info-items l.info-index

@@ -6,7 +6,7 @@ use Rattle.krates_resolve.proofs.Heedings.{none_asked, asked_there, may_ask_ther
 use Rattle.krates_resolve.proofs.heeding.ask.Goals as goal
 
 pub returns-in_default-clause-asked : goal.returns-in_default-clause-asked
-returns-in_default-clause-asked c = none_asked (resolved_view c.args.lookup.now) c.args.setting.now c.args.found.now (id_of c.args.parts.now.parent.now) c.args.name.now c.in_default.ensures
+returns-in_default-clause-asked c = none_asked (resolved_view c.args.basis.now.lookup.now) c.args.basis.now.setting.now c.args.found.now (id_of c.args.parts.now.parent.now) c.args.name.now c.in_default.ensures
 
 pub ask_once-requires-clause-within : goal.ask_once-requires-clause-within
 ask_once-requires-clause-within c =
@@ -16,11 +16,11 @@ ask_once-requires-clause-within c =
 pub ask_once-requires-clause-may : goal.ask_once-requires-clause-may
 ask_once-requires-clause-may c =
     let at = c.in-Some.ensures in
-    may_ask_there c.one_reading.ensures.once (resolved_view c.args.lookup.now) c.args.setting.now (id_of c.args.parts.now.parent.now) (id_of at.child) c.args.name.now c.args.parts.now.place c.in-Some.index c.requires.may at.is at.dep
+    may_ask_there c.one_reading.ensures.once (resolved_view c.args.basis.now.lookup.now) c.args.basis.now.setting.now (id_of c.args.parts.now.parent.now) (id_of at.child) c.args.name.now c.args.parts.now.place c.in-Some.index c.requires.may at.is at.dep
 
 pub returns-clause-asked : goal.returns-clause-asked
 returns-clause-asked c =
     let at = c.in-Some.ensures in
     on_ok_weaker c.ask_once.result
-    (λ asked. asked_there (resolved_view c.args.lookup.now) c.args.setting.now c.ask_once.new.found (id_of c.args.parts.now.parent.now) (id_of at.child) c.args.name.now c.args.parts.now.place c.in-Some.index at.is at.dep asked)
+    (λ asked. asked_there (resolved_view c.args.basis.now.lookup.now) c.args.basis.now.setting.now c.ask_once.new.found (id_of c.args.parts.now.parent.now) (id_of at.child) c.args.name.now c.args.parts.now.place c.in-Some.index at.is at.dep asked)
     c.ask_once.ensures.asked

@@ -13,7 +13,7 @@ use Rattle.krates_resolve.proofs.heeding.ask_once.Goals as goal
 
 pub is_asked-requires : goal.is_asked-requires
 is_asked-requires c =
-    let r = resolved_view c.args.lookup.now in
+    let r = resolved_view c.args.basis.now.lookup.now in
     let parts = c.args.parts.now in
     let child = get_or parts.children.now c.args.index parts.parent.now in
     c.requires.sound.has_links (id_of parts.parent.now) (id_of child) parts.place c.args.index (child_dep r parts c.args.index parts.parent.now c.requires.parts c.requires.within)
@@ -21,24 +21,24 @@ is_asked-requires c =
 pub returns-then-is_asked-clause-asked : goal.returns-then-is_asked-clause-asked
 returns-then-is_asked-clause-asked c e same there =
     let parts = c.args.parts.now in
-    let at = subst (λ (i : Id). DepAt (resolved_view c.args.lookup.now) i e.child parts.place c.args.index) (sym same) there in
+    let at = subst (λ (i : Id). DepAt (resolved_view c.args.basis.now.lookup.now) i e.child parts.place c.args.index) (sym same) there in
     c.requires.sound.tried e parts.place c.args.index at (c.is_asked.ensures.0 c.if-is_asked.true)
 
 pub entry_at-entry-requires-clause-lengths : goal.entry_at-entry-requires-clause-lengths
-entry_at-entry-requires-clause-lengths c = sym (deps_long (resolved_view c.args.lookup.now) c.args.parts.now.place c.args.parts.now c.requires.parts)
+entry_at-entry-requires-clause-lengths c = sym (deps_long (resolved_view c.args.basis.now.lookup.now) c.args.parts.now.place c.args.parts.now c.requires.parts)
 
 pub expand_entry-requires-clause-entry : goal.expand_entry-requires-clause-entry
 expand_entry-requires-clause-entry c =
-    (entry_here (resolved_view c.args.lookup.now) c.args.parts.now.place c.args.parts.now c.args.index c.entry_at-entry.result c.requires.parts c.entry_at-entry.ensures).0
+    (entry_here (resolved_view c.args.basis.now.lookup.now) c.args.parts.now.place c.args.parts.now c.args.index c.entry_at-entry.result c.requires.parts c.entry_at-entry.ensures).0
 
 pub expand_entry-requires-clause-version : goal.expand_entry-requires-clause-version
 expand_entry-requires-clause-version c =
-    (entry_here (resolved_view c.args.lookup.now) c.args.parts.now.place c.args.parts.now c.args.index c.entry_at-entry.result c.requires.parts c.entry_at-entry.ensures).1
+    (entry_here (resolved_view c.args.basis.now.lookup.now) c.args.parts.now.place c.args.parts.now c.args.index c.entry_at-entry.result c.requires.parts c.entry_at-entry.ensures).1
 
 pub expand_entry-requires-clause-may : goal.expand_entry-requires-clause-may
 expand_entry-requires-clause-may c k =
-    let r = resolved_view c.args.lookup.now in
-    let s = c.args.setting.now in
+    let r = resolved_view c.args.basis.now.lookup.now in
+    let s = c.args.basis.now.setting.now in
     let e = c.entry_at-entry.ensures in
     let entry = c.entry_at-entry.result in
     let is = (entry_here r c.args.parts.now.place c.args.parts.now c.args.index entry c.requires.parts e).0 in
@@ -47,15 +47,15 @@ expand_entry-requires-clause-may c k =
 
 pub note_asked-requires : goal.note_asked-requires
 note_asked-requires c =
-    let r = resolved_view c.args.lookup.now in
+    let r = resolved_view c.args.basis.now.lookup.now in
     let parts = c.args.parts.now in
     let child = get_or parts.children.now c.args.index parts.parent.now in
     c.in_ok-expand_entry.ensures.advanced.sound.has_links (id_of parts.parent.now) (id_of child) parts.place c.args.index (child_dep r parts c.args.index parts.parent.now c.requires.parts c.requires.within)
 
 pub returns-clause-advanced : goal.returns-clause-advanced
 returns-clause-advanced c =
-    let r = resolved_view c.args.lookup.now in
-    let s = c.args.setting.now in
+    let r = resolved_view c.args.basis.now.lookup.now in
+    let s = c.args.basis.now.setting.now in
     let parts = c.args.parts.now in
     let y = c.expand_entry.new.found in
     let step = c.in_ok-expand_entry.ensures in
@@ -65,8 +65,8 @@ returns-clause-advanced c =
 
 pub returns-clause-asked : goal.returns-clause-asked
 returns-clause-asked c e same there =
-    let r = resolved_view c.args.lookup.now in
-    let s = c.args.setting.now in
+    let r = resolved_view c.args.basis.now.lookup.now in
+    let s = c.args.basis.now.setting.now in
     let parts = c.args.parts.now in
     let y = c.expand_entry.new.found in
     let step = c.in_ok-expand_entry.ensures in

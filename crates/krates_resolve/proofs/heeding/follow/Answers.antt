@@ -9,8 +9,8 @@ use Rattle.krates_resolve.proofs.heeding.follow.Goals as goal
 
 pub enable-requires-clause-may : goal.enable-requires-clause-may
 enable-requires-clause-may c =
-    let r = resolved_view c.args.lookup.now in
-    let s = c.args.setting.now in
+    let r = resolved_view c.args.basis.now.lookup.now in
+    let s = c.args.basis.now.setting.now in
     let p = id_of c.args.parts.now.parent.now in
     let name = c.in-Simple.name.now in
     let is = subst (λ (t : Text). IsReference t (simple name)) c.from.ensures c.in-Simple.ensures in
@@ -18,8 +18,8 @@ enable-requires-clause-may c =
 
 pub returns-in-Simple-clause-followed : goal.returns-in-Simple-clause-followed
 returns-in-Simple-clause-followed c =
-    let r = resolved_view c.args.lookup.now in
-    let s = c.args.setting.now in
+    let r = resolved_view c.args.basis.now.lookup.now in
+    let s = c.args.basis.now.setting.now in
     let text = c.args.text.now in
     let reference = simple c.in-Simple.name.now in
     let is = subst (λ (t : Text). IsReference t reference) c.from.ensures c.in-Simple.ensures in
@@ -27,8 +27,8 @@ returns-in-Simple-clause-followed c =
 
 pub returns-in-Krate-clause-followed : goal.returns-in-Krate-clause-followed
 returns-in-Krate-clause-followed c =
-    let r = resolved_view c.args.lookup.now in
-    let s = c.args.setting.now in
+    let r = resolved_view c.args.basis.now.lookup.now in
+    let s = c.args.basis.now.setting.now in
     let text = c.args.text.now in
     let reference = krate c.in-Krate.krate.now in
     let is = subst (λ (t : Text). IsReference t reference) c.from.ensures c.in-Krate.ensures in
@@ -36,8 +36,8 @@ returns-in-Krate-clause-followed c =
 
 pub returns-in-Strong-clause-followed : goal.returns-in-Strong-clause-followed
 returns-in-Strong-clause-followed c =
-    let r = resolved_view c.args.lookup.now in
-    let s = c.args.setting.now in
+    let r = resolved_view c.args.basis.now.lookup.now in
+    let s = c.args.basis.now.setting.now in
     let text = c.args.text.now in
     let reference = strong c.in-Strong.krate.now c.in-Strong.feature.now in
     let y = c.toggle_strongly.new.found in
@@ -46,8 +46,8 @@ returns-in-Strong-clause-followed c =
 
 pub returns-in-Weak-clause-followed : goal.returns-in-Weak-clause-followed
 returns-in-Weak-clause-followed c =
-    let r = resolved_view c.args.lookup.now in
-    let s = c.args.setting.now in
+    let r = resolved_view c.args.basis.now.lookup.now in
+    let s = c.args.basis.now.setting.now in
     let text = c.args.text.now in
     let reference = weak c.in-Weak.krate.now c.in-Weak.feature.now in
     let is = subst (λ (t : Text). IsReference t reference) c.from.ensures c.in-Weak.ensures in

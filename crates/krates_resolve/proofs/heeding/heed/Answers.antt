@@ -14,37 +14,37 @@ use Rattle.krates_resolve.proofs.heeding.heed.Goals as goal
 
 pub parts_of-parts-requires-clause-within : goal.parts_of-parts-requires-clause-within
 parts_of-parts-requires-clause-within c =
-    let r = resolved_view c.args.lookup.now in
+    let r = resolved_view c.args.basis.now.lookup.now in
     let feature = c.index-feature.result.now in
-    let at = listed_here c.args.lookup.now c.args.setting.now c.args.found.now c.args.taken c.number.result feature c.requires.lookup c.requires.sound c.requires.within c.number.ensures c.index-feature.ensures in
+    let at = listed_here c.args.basis.now.lookup.now c.args.basis.now.setting.now c.args.found.now c.args.taken c.number.result feature c.requires.lookup c.requires.sound c.requires.within c.number.ensures c.index-feature.ensures in
     listed_place r c.number.result feature.place feature.name.now at
 
 pub loop-text-init : goal.loop-text-init
-loop-text-init c = (advances_refl (resolved_view c.args.lookup.now) c.args.setting.now c.args.found.now c.requires.sound, λ k d lt. absurd (omega (arith, lt)))
+loop-text-init c = (advances_refl (resolved_view c.args.basis.now.lookup.now) c.args.basis.now.setting.now c.args.found.now c.requires.sound, λ k d lt. absurd (omega (arith, lt)))
 
 pub follow-requires-clause-sound : goal.follow-requires-clause-sound
 follow-requires-clause-sound c = c.loop-text.invariant.0.sound
 
 pub follow-requires-clause-kept : goal.follow-requires-clause-kept
 follow-requires-clause-kept c =
-    let r = resolved_view c.args.lookup.now in
+    let r = resolved_view c.args.basis.now.lookup.now in
     let x = c.args.found.now in
     let feature = c.index-feature.result.now in
     let f = feature.name.now in
     let i = id_of c.parts_of-parts.result.parent.now in
-    let at = listed_here c.args.lookup.now c.args.setting.now x c.args.taken c.number.result feature c.requires.lookup c.requires.sound c.requires.within c.number.ensures c.index-feature.ensures in
+    let at = listed_here c.args.basis.now.lookup.now c.args.basis.now.setting.now x c.args.taken c.number.result feature c.requires.lookup c.requires.sound c.requires.within c.number.ensures c.index-feature.ensures in
     let enabled = listed_found r x c.args.taken c.number.result i feature.place f c.requires.put c.number.ensures at c.parts_of-parts.ensures.at in
     c.loop-text.invariant.0.grows.found (Crate i) (c.requires.sound.enabled i f enabled)
 
 pub follow-requires-clause-value : goal.follow-requires-clause-value
 follow-requires-clause-value c =
-    let r = resolved_view c.args.lookup.now in
-    let s = c.args.setting.now in
+    let r = resolved_view c.args.basis.now.lookup.now in
+    let s = c.args.basis.now.setting.now in
     let x = c.args.found.now in
     let feature = c.index-feature.result.now in
     let f = feature.name.now in
     let i = id_of c.parts_of-parts.result.parent.now in
-    let at = listed_here c.args.lookup.now s x c.args.taken c.number.result feature c.requires.lookup c.requires.sound c.requires.within c.number.ensures c.index-feature.ensures in
+    let at = listed_here c.args.basis.now.lookup.now s x c.args.taken c.number.result feature c.requires.lookup c.requires.sound c.requires.within c.number.ensures c.index-feature.ensures in
     let enabled = listed_found r x c.args.taken c.number.result i feature.place f c.requires.put c.number.ensures at c.parts_of-parts.ensures.at in
     let texts = c.feature_values-text-items.result.now in
     let among = value_at texts c.loop-text.text-index c.text-item.result c.loop-text-test.true c.text-item.is in
@@ -53,8 +53,8 @@ follow-requires-clause-value c =
 
 pub loop-text-preserved : goal.loop-text-preserved
 loop-text-preserved c =
-    let r = resolved_view c.args.lookup.now in
-    let s = c.args.setting.now in
+    let r = resolved_view c.args.basis.now.lookup.now in
+    let s = c.args.basis.now.setting.now in
     let i = id_of c.parts_of-parts.result.parent.now in
     let x = c.loop-text.found in
     let y = c.follow.new.found in
@@ -71,13 +71,13 @@ returns-clause-advanced c = c.loop-text.invariant.0
 
 pub returns-clause-heeded : goal.returns-clause-heeded
 returns-clause-heeded c krate f there =
-    let r = resolved_view c.args.lookup.now in
-    let s = c.args.setting.now in
+    let r = resolved_view c.args.basis.now.lookup.now in
+    let s = c.args.basis.now.setting.now in
     let x = c.loop-text.found in
     let number = c.number.result in
     let feature = c.index-feature.result.now in
     let i = id_of c.parts_of-parts.result.parent.now in
-    let at = listed_here c.args.lookup.now s c.args.found.now c.args.taken number feature c.requires.lookup c.requires.sound c.requires.within c.number.ensures c.index-feature.ensures in
+    let at = listed_here c.args.basis.now.lookup.now s c.args.found.now c.args.taken number feature c.requires.lookup c.requires.sound c.requires.within c.number.ensures c.index-feature.ensures in
     let same = one_feature c.one_reading.ensures.once r i krate feature.place number feature.name.now f c.parts_of-parts.ensures.at at (subst (λ (n : ℕ). FeatureAt r krate f n) (sym c.number.ensures) there) in
     let texts = c.feature_values-text-items.result.now in
     let each = each_seen text_view (λ (t : Text). (reference : Reference) → IsReference t reference → IsFollowed r s x i reference) texts texts c.loop-text.text-index refl (omega arith) c.loop-text.invariant.1 in

@@ -9,5 +9,5 @@ use Rattle.krates_resolve.proofs.heeding.heed.Given as goal
 -- each reference so far has been followed
 abbrev pub invariant-loop-text : goal.invariant-loop-text
 invariant-loop-text l =
-    Advances (resolved_view l.lookup) l.setting l.fn.found l.found
-    × SeenBelow (λ (text : String Global). (reference : Reference) → IsReference (string_bytes text) reference → IsFollowed (resolved_view l.lookup) l.setting l.found (id_of l.parts.parent.now) reference) l.text-items l.text-index
+    Advances (resolved_view l.basis.lookup.now) l.basis.setting.now l.fn.found l.found
+    × SeenBelow (λ (text : String Global). (reference : Reference) → IsReference (string_bytes text) reference → IsFollowed (resolved_view l.basis.lookup.now) l.basis.setting.now l.found (id_of l.parts.parent.now) reference) l.text-items l.text-index

@@ -10,7 +10,7 @@ use Rattle.krates_resolve.proofs.heeding.toggle_child.Goals as goal
 
 pub unreachable-requires : goal.unreachable-requires
 unreachable-requires c =
-    let r = resolved_view c.args.lookup.now in
+    let r = resolved_view c.args.basis.now.lookup.now in
     let parts = c.args.parts.now in
     let child = id_of (get_or parts.children.now c.args.index c.index-parts-index.result) in
     let dep = child_dep r parts c.args.index c.index-parts-index.result c.requires.parts c.requires.within in
@@ -18,7 +18,7 @@ unreachable-requires c =
 
 pub toggle-requires-clause-kept : goal.toggle-requires-clause-kept
 toggle-requires-clause-kept c =
-    let r = resolved_view c.args.lookup.now in
+    let r = resolved_view c.args.basis.now.lookup.now in
     let parts = c.args.parts.now in
     let child = id_of (get_or parts.children.now c.args.index c.index-parts-index.result) in
     let dep = child_dep r parts c.args.index c.index-parts-index.result c.requires.parts c.requires.within in
@@ -26,14 +26,14 @@ toggle-requires-clause-kept c =
 
 pub toggle-requires-clause-may : goal.toggle-requires-clause-may
 toggle-requires-clause-may c =
-    let r = resolved_view c.args.lookup.now in
+    let r = resolved_view c.args.basis.now.lookup.now in
     let parts = c.args.parts.now in
     let child = id_of (get_or parts.children.now c.args.index c.index-parts-index.result) in
     c.requires.may child (child_dep r parts c.args.index c.index-parts-index.result c.requires.parts c.requires.within)
 
 pub returns-clause-toggled : goal.returns-clause-toggled
 returns-clause-toggled c =
-    let r = resolved_view c.args.lookup.now in
+    let r = resolved_view c.args.basis.now.lookup.now in
     let parts = c.args.parts.now in
     let parent = id_of parts.parent.now in
     let child = id_of (get_or parts.children.now c.args.index c.index-parts-index.result) in

@@ -12,11 +12,11 @@ use Rattle.krates_resolve.proofs.Waking.{one_way}
 use Rattle.krates_resolve.proofs.heeding.toggle_strongly.Goals as goal
 
 pub returns-in_default-clause-asked : goal.returns-in_default-clause-asked
-returns-in_default-clause-asked c = none_asked (resolved_view c.args.lookup.now) c.args.setting.now c.args.found.now (id_of c.args.parts.now.parent.now) c.args.name.now c.in_default.ensures
+returns-in_default-clause-asked c = none_asked (resolved_view c.args.basis.now.lookup.now) c.args.basis.now.setting.now c.args.found.now (id_of c.args.parts.now.parent.now) c.args.name.now c.in_default.ensures
 
 pub returns-in_default-clause-toggled : goal.returns-in_default-clause-toggled
 returns-in_default-clause-toggled c =
-    none_strongly (resolved_view c.args.lookup.now) c.args.setting.now c.args.found.now (id_of c.args.parts.now.parent.now) c.args.name.now c.args.feature.now c.in_default.ensures
+    none_strongly (resolved_view c.args.basis.now.lookup.now) c.args.basis.now.setting.now c.args.found.now (id_of c.args.parts.now.parent.now) c.args.name.now c.args.feature.now c.in_default.ensures
 
 pub ask_once-requires-clause-within : goal.ask_once-requires-clause-within
 ask_once-requires-clause-within c =
@@ -27,7 +27,7 @@ pub ask_once-requires-clause-may : goal.ask_once-requires-clause-may
 ask_once-requires-clause-may c =
     let at = c.in-Some.ensures in
     let name = c.args.name.now in
-    may_ask_there c.one_reading.ensures.once (resolved_view c.args.lookup.now) c.args.setting.now (id_of c.args.parts.now.parent.now) (id_of at.child) name c.args.parts.now.place c.in-Some.index
+    may_ask_there c.one_reading.ensures.once (resolved_view c.args.basis.now.lookup.now) c.args.basis.now.setting.now (id_of c.args.parts.now.parent.now) (id_of at.child) name c.args.parts.now.place c.in-Some.index
     (record { reference = strong name c.args.feature.now; has = c.requires.may; asks = refl }) at.is at.dep
 
 pub is_kept-requires : goal.is_kept-requires
@@ -38,13 +38,13 @@ is_kept-requires c =
 pub returns-then-not-is_kept-clause-asked : goal.returns-then-not-is_kept-clause-asked
 returns-then-not-is_kept-clause-asked c =
     let at = c.in-Some.ensures in
-    asked_there (resolved_view c.args.lookup.now) c.args.setting.now c.ask_once.new.found (id_of c.args.parts.now.parent.now) (id_of at.child) c.args.name.now c.args.parts.now.place c.in-Some.index at.is at.dep c.in_ok-ask_once.ensures.asked
+    asked_there (resolved_view c.args.basis.now.lookup.now) c.args.basis.now.setting.now c.ask_once.new.found (id_of c.args.parts.now.parent.now) (id_of at.child) c.args.name.now c.args.parts.now.place c.in-Some.index at.is at.dep c.in_ok-ask_once.ensures.asked
 
 pub returns-then-not-is_kept-clause-toggled : goal.returns-then-not-is_kept-clause-toggled
 returns-then-not-is_kept-clause-toggled c =
     let at = c.in-Some.ensures in
-    let r = resolved_view c.args.lookup.now in
-    let s = c.args.setting.now in
+    let r = resolved_view c.args.basis.now.lookup.now in
+    let s = c.args.basis.now.setting.now in
     let p = id_of c.args.parts.now.parent.now in
     let x = c.ask_once.new.found in
     let asked = asked_there r s x p (id_of at.child) c.args.name.now c.args.parts.now.place c.in-Some.index at.is at.dep c.in_ok-ask_once.ensures.asked in
@@ -61,22 +61,22 @@ toggle_child-requires-clause-marked c = c.is_kept.ensures.0 c.if-not-is_kept.fal
 
 pub toggle_child-requires-clause-may : goal.toggle_child-requires-clause-may
 toggle_child-requires-clause-may c child there =
-    let r = resolved_view c.args.lookup.now in
+    let r = resolved_view c.args.basis.now.lookup.now in
     let parent = id_of c.args.parts.now.parent.now in
     let at = c.in-Some.ensures in
     let same = (one_way c.one_reading.ensures.once r parent (id_of at.child) parent child c.args.parts.now.place c.in-Some.index at.dep there).1 in
     let kept = c.in_ok-ask_once.ensures.advanced.sound.kept parent child c.args.parts.now.place c.in-Some.index there (c.is_kept.ensures.0 c.if-not-is_kept.false) in
-    may_toggle_strongly r c.args.setting.now (edge_between parent child kept.0) c.args.name.now c.args.feature.now c.requires.may (subst (IsReferent r parent c.args.name.now) same at.is) kept.1
+    may_toggle_strongly r c.args.basis.now.setting.now (edge_between parent child kept.0) c.args.name.now c.args.feature.now c.requires.may (subst (IsReferent r parent c.args.name.now) same at.is) kept.1
 
 pub returns-clause-advanced : goal.returns-clause-advanced
 returns-clause-advanced c =
-    on_ok_weaker c.toggle_child.result (λ a. advances_trans (resolved_view c.args.lookup.now) c.args.setting.now c.args.found.now c.ask_once.new.found c.toggle_child.new.found c.in_ok-ask_once.ensures.advanced a) c.toggle_child.ensures.advanced
+    on_ok_weaker c.toggle_child.result (λ a. advances_trans (resolved_view c.args.basis.now.lookup.now) c.args.basis.now.setting.now c.args.found.now c.ask_once.new.found c.toggle_child.new.found c.in_ok-ask_once.ensures.advanced a) c.toggle_child.ensures.advanced
 
 pub returns-clause-asked : goal.returns-clause-asked
 returns-clause-asked c =
     let at = c.in-Some.ensures in
-    let r = resolved_view c.args.lookup.now in
-    let s = c.args.setting.now in
+    let r = resolved_view c.args.basis.now.lookup.now in
+    let s = c.args.basis.now.setting.now in
     let p = id_of c.args.parts.now.parent.now in
     let x = c.ask_once.new.found in
     let asked = asked_there r s x p (id_of at.child) c.args.name.now c.args.parts.now.place c.in-Some.index at.is at.dep c.in_ok-ask_once.ensures.asked in
@@ -86,5 +86,5 @@ pub returns-clause-toggled : goal.returns-clause-toggled
 returns-clause-toggled c =
     let at = c.in-Some.ensures in
     on_ok_weaker c.toggle_child.result (λ toggled.
-    strongly_here (resolved_view c.args.lookup.now) c.args.setting.now c.toggle_child.new.found (id_of c.args.parts.now.parent.now) (id_of at.child) c.args.name.now c.args.feature.now at.is (toggled (id_of at.child) at.dep))
+    strongly_here (resolved_view c.args.basis.now.lookup.now) c.args.basis.now.setting.now c.toggle_child.new.found (id_of c.args.parts.now.parent.now) (id_of at.child) c.args.name.now c.args.feature.now at.is (toggled (id_of at.child) at.dep))
     c.toggle_child.ensures.toggled

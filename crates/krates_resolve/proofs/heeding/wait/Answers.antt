@@ -11,7 +11,7 @@ use Rattle.krates_resolve.proofs.Waking.{one_way}
 use Rattle.krates_resolve.proofs.heeding.wait.Goals as goal
 
 pub returns-in_default-clause-waiting : goal.returns-in_default-clause-waiting
-returns-in_default-clause-waiting c = none_waiting (resolved_view c.args.lookup.now) c.args.found.now (id_of c.args.parts.now.parent.now) c.args.name.now c.args.feature.now c.in_default.ensures
+returns-in_default-clause-waiting c = none_waiting (resolved_view c.args.basis.now.lookup.now) c.args.found.now (id_of c.args.parts.now.parent.now) c.args.name.now c.args.feature.now c.in_default.ensures
 
 pub is_kept-requires : goal.is_kept-requires
 is_kept-requires c =
@@ -28,18 +28,18 @@ toggle_child-requires-clause-marked c = c.is_kept.ensures.0 c.if-is_kept.true
 
 pub toggle_child-requires-clause-may : goal.toggle_child-requires-clause-may
 toggle_child-requires-clause-may c child there =
-    let r = resolved_view c.args.lookup.now in
+    let r = resolved_view c.args.basis.now.lookup.now in
     let parent = id_of c.args.parts.now.parent.now in
     let at = c.in-Some.ensures in
     let same = (one_way c.one_reading.ensures.once r parent (id_of at.child) parent child c.args.parts.now.place c.in-Some.index at.dep there).1 in
     let kept = c.requires.sound.kept parent child c.args.parts.now.place c.in-Some.index there (c.is_kept.ensures.0 c.if-is_kept.true) in
-    may_toggle_weakly r c.args.setting.now (edge_between parent child kept.0) c.args.name.now c.args.feature.now c.requires.may (subst (IsReferent r parent c.args.name.now) same at.is) kept.1
+    may_toggle_weakly r c.args.basis.now.setting.now (edge_between parent child kept.0) c.args.name.now c.args.feature.now c.requires.may (subst (IsReferent r parent c.args.name.now) same at.is) kept.1
 
 pub returns-then-is_kept-clause-waiting : goal.returns-then-is_kept-clause-waiting
 returns-then-is_kept-clause-waiting c =
     let at = c.in-Some.ensures in
     on_ok_weaker c.toggle_child.result
-    (λ toggled. waiting_here (resolved_view c.args.lookup.now) c.toggle_child.new.found (id_of c.args.parts.now.parent.now) (id_of at.child) c.args.name.now c.args.feature.now c.args.parts.now.place c.in-Some.index
+    (λ toggled. waiting_here (resolved_view c.args.basis.now.lookup.now) c.toggle_child.new.found (id_of c.args.parts.now.parent.now) (id_of at.child) c.args.name.now c.args.feature.now c.args.parts.now.place c.in-Some.index
     c.requires.lookup.distinct at.is at.dep (inr (toggled (id_of at.child) at.dep))) c.toggle_child.ensures.toggled
 
 pub let_wait-requires : goal.let_wait-requires
@@ -49,8 +49,8 @@ let_wait-requires c =
 
 pub returns-clause-advanced : goal.returns-clause-advanced
 returns-clause-advanced c =
-    let r = resolved_view c.args.lookup.now in
-    let s = c.args.setting.now in
+    let r = resolved_view c.args.basis.now.lookup.now in
+    let s = c.args.basis.now.setting.now in
     let at = c.in-Some.ensures in
     let p = id_of c.args.parts.now.parent.now in
     let child = id_of at.child in
@@ -61,5 +61,5 @@ returns-clause-advanced c =
 pub returns-clause-waiting : goal.returns-clause-waiting
 returns-clause-waiting c =
     let at = c.in-Some.ensures in
-    waiting_here (resolved_view c.args.lookup.now) (with_links c.args.found.now c.let_wait.new.self) (id_of c.args.parts.now.parent.now) (id_of at.child) c.args.name.now c.args.feature.now c.args.parts.now.place c.in-Some.index
+    waiting_here (resolved_view c.args.basis.now.lookup.now) (with_links c.args.found.now c.let_wait.new.self) (id_of c.args.parts.now.parent.now) (id_of at.child) c.args.name.now c.args.feature.now c.args.parts.now.place c.in-Some.index
     c.requires.lookup.distinct at.is at.dep (inl c.in_ok-let_wait.ensures.waits)

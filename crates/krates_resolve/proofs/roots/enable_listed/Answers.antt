@@ -11,7 +11,7 @@ use Rattle.krates_document.proofs.Seen.{seen_more, each_seen}
 use Rattle.krates_resolve.proofs.roots.enable_listed.Goals as goal
 
 pub loop-name-init : goal.loop-name-init
-loop-name-init c = (advances_refl (resolved_view c.args.lookup.now) c.args.setting.now c.args.found.now c.requires.sound, λ k d lt. absurd (omega (arith, lt)))
+loop-name-init c = (advances_refl (resolved_view c.args.basis.now.lookup.now) c.args.basis.now.setting.now c.args.found.now c.requires.sound, λ k d lt. absurd (omega (arith, lt)))
 
 pub enable-requires-clause-sound : goal.enable-requires-clause-sound
 enable-requires-clause-sound c = c.loop-name.invariant.0.sound
@@ -21,19 +21,19 @@ enable-requires-clause-kept c = c.loop-name.invariant.0.grows.found (Crate (id_o
 
 pub enable-requires-clause-may : goal.enable-requires-clause-may
 enable-requires-clause-may c =
-    let r = resolved_view c.args.lookup.now in
-    let s = c.args.setting.now in
+    let r = resolved_view c.args.basis.now.lookup.now in
+    let s = c.args.basis.now.setting.now in
     let i = id_of c.args.node.id.now in
     let f = string_bytes c.name-item.result in
     let texts = c.deref-name-items.result.now in
-    let names = listed_names c.args.lookup.now i c.args.node.place c.index.result.now c.requires.lookup c.requires.node c.index.ensures f in
+    let names = listed_names c.args.basis.now.lookup.now i c.args.node.place c.index.result.now c.requires.lookup c.requires.node c.index.ensures f in
     let among = subst (λ ts. Contains (map text_view ts) f) c.deref-name-items.ensures.value (value_at texts c.loop-name.name-index c.name-item.result c.loop-name-test.true c.name-item.is) in
     subst (λ (t : Text). MayName r s i t) (sym c.as_str.ensures.value) (listed_may r s i f c.requires.lookup.distinct (names.1 among) (c.requires.may f))
 
 pub loop-name-preserved : goal.loop-name-preserved
 loop-name-preserved c =
-    let r = resolved_view c.args.lookup.now in
-    let s = c.args.setting.now in
+    let r = resolved_view c.args.basis.now.lookup.now in
+    let s = c.args.basis.now.setting.now in
     let i = id_of c.args.node.id.now in
     let f = string_bytes c.name-item.result in
     let x = c.loop-name.found in
@@ -41,7 +41,7 @@ loop-name-preserved c =
     let inv = c.loop-name.invariant in
     let step = c.in_ok-enable.ensures in
     let texts = c.deref-name-items.result.now in
-    let names = listed_names c.args.lookup.now i c.args.node.place c.index.result.now c.requires.lookup c.requires.node c.index.ensures f in
+    let names = listed_names c.args.basis.now.lookup.now i c.args.node.place c.index.result.now c.requires.lookup c.requires.node c.index.ensures f in
     let among = subst (λ ts. Contains (map text_view ts) f) c.deref-name-items.ensures.value (value_at texts c.loop-name.name-index c.name-item.result c.loop-name-test.true c.name-item.is) in
     let named = subst (λ (t : Text). IsEnabledBySome r y i t) c.as_str.ensures.value step.named in (
       advances_trans r s c.args.found.now x y inv.0 step.advanced,
@@ -54,8 +54,8 @@ returns-clause-advanced c = c.loop-name.invariant.0
 
 pub returns-clause-enabled : goal.returns-clause-enabled
 returns-clause-enabled c f lists =
-    let r = resolved_view c.args.lookup.now in
+    let r = resolved_view c.args.basis.now.lookup.now in
     let i = id_of c.args.node.id.now in
     let texts = c.deref-name-items.result.now in
-    let names = listed_names c.args.lookup.now i c.args.node.place c.index.result.now c.requires.lookup c.requires.node c.index.ensures f in
+    let names = listed_names c.args.basis.now.lookup.now i c.args.node.place c.index.result.now c.requires.lookup c.requires.node c.index.ensures f in
     each_seen text_view (λ (t : Text). HasFound r c.loop-name.found (Feature i t)) texts c.index.result.now.features.items c.loop-name.name-index c.deref-name-items.ensures.value (omega arith) c.loop-name.invariant.1 f (names.0 lists)

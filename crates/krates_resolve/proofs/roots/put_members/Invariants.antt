@@ -9,5 +9,5 @@ use Rattle.krates_resolve.proofs.roots.put_members.Given as goal
 -- each member so far that is a root stands in it
 abbrev pub invariant-loop-member : goal.invariant-loop-member
 invariant-loop-member l =
-    Advances (resolved_view l.lookup) l.setting l.fn.found l.found
-    × SeenBelow (λ (member : Identity). IsRoot (resolved_view l.lookup) l.setting (id_of member) → IsRooted (resolved_view l.lookup) l.setting l.found (id_of member)) l.members l.member-index
+    Advances (resolved_view l.basis.lookup.now) l.basis.setting.now l.fn.found l.found
+    × SeenBelow (λ (member : Identity). IsRoot (resolved_view l.basis.lookup.now) l.basis.setting.now (id_of member) → IsRooted (resolved_view l.basis.lookup.now) l.basis.setting.now l.found (id_of member)) l.members l.member-index

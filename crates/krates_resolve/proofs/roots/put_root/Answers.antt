@@ -10,19 +10,19 @@ use Rattle.krates_resolve.proofs.roots.put_root.Goals as goal
 
 pub returns-in_ok-clone-in-NoPackage-clause-refused : goal.returns-in_ok-clone-in-NoPackage-clause-refused
 returns-in_ok-clone-in-NoPackage-clause-refused c =
-    rw c.in_ok-clone-in-NoPackage.ensures.cases (root_package_lost (resolved_view c.args.lookup.now) c.args.setting.now (id_of c.args.root.now) c.requires.root c.in-NoPackage.ensures)
+    rw c.in_ok-clone-in-NoPackage.ensures.cases (root_package_lost (resolved_view c.args.basis.now.lookup.now) c.args.basis.now.setting.now (id_of c.args.root.now) c.requires.root c.in-NoPackage.ensures)
 
 pub returns-in_ok-clone-in-NoNode-clause-refused : goal.returns-in_ok-clone-in-NoNode-clause-refused
 returns-in_ok-clone-in-NoNode-clause-refused c =
-    rw c.in_ok-clone-in-NoNode.ensures.cases (root_node_lost (resolved_view c.args.lookup.now) c.args.setting.now (id_of c.args.root.now) c.requires.root c.in-NoNode.ensures)
+    rw c.in_ok-clone-in-NoNode.ensures.cases (root_node_lost (resolved_view c.args.basis.now.lookup.now) c.args.basis.now.setting.now (id_of c.args.root.now) c.requires.root c.in-NoNode.ensures)
 
 pub returns-in-Excluded-clause-rooted : goal.returns-in-Excluded-clause-rooted
-returns-in-Excluded-clause-rooted c = left_out_rooted (resolved_view c.args.lookup.now) c.args.setting.now c.args.found.now (id_of c.args.root.now) c.requires.lookup.distinct c.in-Excluded.ensures
+returns-in-Excluded-clause-rooted c = left_out_rooted (resolved_view c.args.basis.now.lookup.now) c.args.basis.now.setting.now c.args.found.now (id_of c.args.root.now) c.requires.lookup.distinct c.in-Excluded.ensures
 
 pub enable_listed-requires-clause-sound : goal.enable_listed-requires-clause-sound
 enable_listed-requires-clause-sound c =
-    let r = resolved_view c.args.lookup.now in
-    let s = c.args.setting.now in
+    let r = resolved_view c.args.basis.now.lookup.now in
+    let s = c.args.basis.now.setting.now in
     let x = c.args.found.now in
     let i = id_of c.args.root.now in
     let p = c.put.ensures in
@@ -31,8 +31,8 @@ enable_listed-requires-clause-sound c =
 
 pub enable_listed-requires-clause-kept : goal.enable_listed-requires-clause-kept
 enable_listed-requires-clause-kept c =
-    let r = resolved_view c.args.lookup.now in
-    let s = c.args.setting.now in
+    let r = resolved_view c.args.basis.now.lookup.now in
+    let s = c.args.basis.now.setting.now in
     let x = c.args.found.now in
     let i = id_of c.args.root.now in
     let p = c.put.ensures in
@@ -40,12 +40,12 @@ enable_listed-requires-clause-kept c =
     (crate_advances c.one_reading.ensures.once r s x c.put.new.self c.in-Stands.place i c.requires.sound put c.in-Stands.ensures.1 (root_derivable r s i c.requires.root c.in-Stands.ensures.0)).1
 
 pub enable_listed-requires-clause-may : goal.enable_listed-requires-clause-may
-enable_listed-requires-clause-may c = root_enables (resolved_view c.args.lookup.now) c.args.setting.now (id_of c.args.root.now) c.requires.root c.in-Stands.ensures.0
+enable_listed-requires-clause-may c = root_enables (resolved_view c.args.basis.now.lookup.now) c.args.basis.now.setting.now (id_of c.args.root.now) c.requires.root c.in-Stands.ensures.0
 
 pub returns-in-Stands-clause-advanced : goal.returns-in-Stands-clause-advanced
 returns-in-Stands-clause-advanced c =
-    let r = resolved_view c.args.lookup.now in
-    let s = c.args.setting.now in
+    let r = resolved_view c.args.basis.now.lookup.now in
+    let s = c.args.basis.now.setting.now in
     let x = c.args.found.now in
     let i = id_of c.args.root.now in
     let p = c.put.ensures in
@@ -55,8 +55,8 @@ returns-in-Stands-clause-advanced c =
 
 pub returns-in-Stands-clause-rooted : goal.returns-in-Stands-clause-rooted
 returns-in-Stands-clause-rooted c =
-    let r = resolved_view c.args.lookup.now in
-    let s = c.args.setting.now in
+    let r = resolved_view c.args.basis.now.lookup.now in
+    let s = c.args.basis.now.setting.now in
     let x = c.args.found.now in
     let i = id_of c.args.root.now in
     let p = c.put.ensures in

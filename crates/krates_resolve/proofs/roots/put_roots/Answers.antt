@@ -10,32 +10,32 @@ use Rattle.krates_resolve.proofs.roots.put_roots.Goals as goal
 
 pub put_members-requires-clause-members : goal.put_members-requires-clause-members
 put_members-requires-clause-members c =
-    let r = resolved_view c.args.lookup.now in
-    subst (λ (ms : List Identity). All (λ m. IsMember r (id_of m)) ms) (sym c.deref.ensures.value) (are_members r c.args.lookup.now.ids.now.members.items c.requires.lookup.ids.members)
+    let r = resolved_view c.args.basis.now.lookup.now in
+    subst (λ (ms : List Identity). All (λ m. IsMember r (id_of m)) ms) (sym c.deref.ensures.value) (are_members r c.args.basis.now.lookup.now.ids.now.members.items c.requires.lookup.ids.members)
 
 pub put_members-requires-in-Manifests-clause-members : goal.put_members-requires-in-Manifests-clause-members
 put_members-requires-in-Manifests-clause-members c =
-    let r = resolved_view c.args.lookup.now in
-    subst (λ (ms : List Identity). All (λ m. IsMember r (id_of m)) ms) (sym c.deref-in-Manifests.ensures.value) (are_members r c.args.lookup.now.ids.now.members.items c.requires.lookup.ids.members)
+    let r = resolved_view c.args.basis.now.lookup.now in
+    subst (λ (ms : List Identity). All (λ m. IsMember r (id_of m)) ms) (sym c.deref-in-Manifests.ensures.value) (are_members r c.args.basis.now.lookup.now.ids.now.members.items c.requires.lookup.ids.members)
 
 pub returns-in-Root-clause-roots : goal.returns-in-Root-clause-roots
 returns-in-Root-clause-roots c =
-    on_ok_weaker c.put_root.result (λ h i is. subst (IsRooted (resolved_view c.args.lookup.now) c.args.setting.now c.put_root.new.found) (sym (c.in-Root.ensures.1 i is)) h) c.put_root.ensures.rooted
+    on_ok_weaker c.put_root.result (λ h i is. subst (IsRooted (resolved_view c.args.basis.now.lookup.now) c.args.basis.now.setting.now c.put_root.new.found) (sym (c.in-Root.ensures.1 i is)) h) c.put_root.ensures.rooted
 
 pub returns-in-Members-clause-roots : goal.returns-in-Members-clause-roots
 returns-in-Members-clause-roots c =
-    let r = resolved_view c.args.lookup.now in
-    let s = c.args.setting.now in
+    let r = resolved_view c.args.basis.now.lookup.now in
+    let s = c.args.basis.now.setting.now in
     let x = c.put_members.new.found in
     on_ok_weaker c.put_members.result (λ h.
-    members_rooted c.one_reading.ensures.once r s x true c.args.lookup.now.ids.now.members.items c.in-Members.ensures c.requires.lookup.ids.members
+    members_rooted c.one_reading.ensures.once r s x true c.args.basis.now.lookup.now.ids.now.members.items c.in-Members.ensures c.requires.lookup.ids.members
     (subst (λ (ms : List Identity). All (λ m. IsRoot r s (id_of m) → IsRooted r s x (id_of m)) ms) c.deref.ensures.value h)) c.put_members.ensures.rooted
 
 pub returns-in-Manifests-clause-roots : goal.returns-in-Manifests-clause-roots
 returns-in-Manifests-clause-roots c =
-    let r = resolved_view c.args.lookup.now in
-    let s = c.args.setting.now in
+    let r = resolved_view c.args.basis.now.lookup.now in
+    let s = c.args.basis.now.setting.now in
     let x = c.put_members-in-Manifests.new.found in
     on_ok_weaker c.put_members-in-Manifests.result (λ h.
-    members_rooted c.one_reading.ensures.once r s x false c.args.lookup.now.ids.now.members.items c.in-Manifests.ensures c.requires.lookup.ids.members
+    members_rooted c.one_reading.ensures.once r s x false c.args.basis.now.lookup.now.ids.now.members.items c.in-Manifests.ensures c.requires.lookup.ids.members
     (subst (λ (ms : List Identity). All (λ m. IsRoot r s (id_of m) → IsRooted r s x (id_of m)) ms) c.deref-in-Manifests.ensures.value h)) c.put_members-in-Manifests.ensures.rooted

@@ -11,7 +11,7 @@ expand-requires-clause-sound c =
     let x = c.args.found.now in
     let n = x.krates.taken + 1 in
     let same = same_agendas x c.take.new.self x.features (record x.krates { taken = n }) x.features c.in-Some.ensures.counted refl in
-    subst (IsSound (resolved_view c.args.lookup.now) c.args.setting.now) (sym same) (sound_taken (resolved_view c.args.lookup.now) c.args.setting.now x n x.features.taken c.requires.done.sound)
+    subst (IsSound (resolved_view c.args.basis.now.lookup.now) c.args.basis.now.setting.now) (sym same) (sound_taken (resolved_view c.args.basis.now.lookup.now) c.args.basis.now.setting.now x n x.features.taken c.requires.done.sound)
 
 pub expand-requires-clause-put : goal.expand-requires-clause-put
 expand-requires-clause-put c =
@@ -25,8 +25,8 @@ expand-requires-clause-within c =
 
 pub returns-in-Some-clause-taken : goal.returns-in-Some-clause-taken
 returns-in-Some-clause-taken c =
-    let r = resolved_view c.args.lookup.now in
-    let s = c.args.setting.now in
+    let r = resolved_view c.args.basis.now.lookup.now in
+    let s = c.args.basis.now.setting.now in
     let x = c.args.found.now in
     let z = c.expand.new.found in
     let n = x.krates.taken + 1 in
@@ -37,8 +37,8 @@ returns-in-Some-clause-taken c =
 
 pub returns-in_default-take-clause-taken : goal.returns-in_default-take-clause-taken
 returns-in_default-take-clause-taken c =
-    let r = resolved_view c.args.lookup.now in
-    let s = c.args.setting.now in
+    let r = resolved_view c.args.basis.now.lookup.now in
+    let s = c.args.basis.now.setting.now in
     let x = c.args.found.now in
     let still = unchanged x.krates c.take.new.self (x.krates.taken + 0) c.in_default.ensures.counted (omega arith) in
     let also = unchanged x.features c.take-2.new.self (x.features.taken + 0) c.in_default-take.ensures.counted (omega arith) in
@@ -48,8 +48,8 @@ returns-in_default-take-clause-taken c =
 
 pub heed-requires-clause-sound : goal.heed-requires-clause-sound
 heed-requires-clause-sound c =
-    let r = resolved_view c.args.lookup.now in
-    let s = c.args.setting.now in
+    let r = resolved_view c.args.basis.now.lookup.now in
+    let s = c.args.basis.now.setting.now in
     let x = c.args.found.now in
     let m = x.features.taken + 1 in
     let still = unchanged x.krates c.take.new.self (x.krates.taken + 0) c.in_default.ensures.counted (omega arith) in
@@ -68,8 +68,8 @@ heed-requires-clause-within c =
 
 pub returns-clause-taken : goal.returns-clause-taken
 returns-clause-taken c =
-    let r = resolved_view c.args.lookup.now in
-    let s = c.args.setting.now in
+    let r = resolved_view c.args.basis.now.lookup.now in
+    let s = c.args.basis.now.setting.now in
     let x = c.args.found.now in
     let z = c.heed.new.found in
     let m = x.features.taken + 1 in
