@@ -9,9 +9,9 @@ ghost use Rattle.krates_rules.specs.Kind.{kind_of, ignores, IgnoresMore};
 ghost use Rattle.krates_rules.specs.Setting.{SettingModel, IsManifestOf, AsksForPaths, IsExcluded, Passes};
 ghost use Rattle.krates_rules.specs.PlainSetting.{plain_setting};
 
-use krates_rules::kind::{DepKind, IgnoredKinds, NO_KINDS, Scope};
 use krates_cm::{DependencyKind, Package};
 use krates_ids::PkgSpec;
+use krates_rules::kind::{DepKind, IgnoredKinds, NO_KINDS, Scope};
 use krates_text::passing;
 use krates_text::path::{ends_with, join};
 use krates_text::target::Target;

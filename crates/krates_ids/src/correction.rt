@@ -7,8 +7,8 @@ ghost use Rattle.semver.specs.Identifiers.{parts_of};
 ghost use Rattle.krates_cm.specs.Document.{FeaturesModel, features_view, package_view};
 ghost use Rattle.krates_ids.specs.Correction.{crates_io, index_view, index_version_view, IsFirstEqual, IsIndexed, IsCorrected};
 
-use crate::index::{BuildIndexCache, FeaturesMap, IndexAnswer, IndexKrateVersion, PackageNames};
 use crate::corrected_features::corrected_features;
+use crate::index::{BuildIndexCache, FeaturesMap, IndexAnswer, IndexKrateVersion, PackageNames};
 use krates_cm::Package;
 use semver::Version;
 use std::alloc::{AllocError, Global};

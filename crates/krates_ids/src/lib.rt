@@ -2,12 +2,12 @@
 #![tactic(auto)]
 
 mod corrected_features;
+pub mod correction;
 mod cuts;
 pub mod error;
 mod escapes;
 mod id_error;
 pub mod index;
-pub mod correction;
 pub mod kid;
 pub mod laws;
 mod opaque;
@@ -15,9 +15,11 @@ pub mod pkgspec;
 mod span;
 mod stable;
 
+pub use correction::CachingIndex;
 pub use error::{Error, Lost};
 pub use id_error::IdError;
-pub use correction::CachingIndex;
-pub use index::{BuildIndexCache, FeaturesMap, IndexAnswer, IndexKrate, IndexKrateVersion, PackageNames};
+pub use index::{
+    BuildIndexCache, FeaturesMap, IndexAnswer, IndexKrate, IndexKrateVersion, PackageNames,
+};
 pub use kid::Kid;
 pub use pkgspec::PkgSpec;

@@ -8,9 +8,9 @@ ghost use Rattle.krates_resolve.specs.Lookup.{IsLookup, IsOf, IsPackagePlace, Te
 ghost use Rattle.krates_rules.specs.Resolved.{id_of};
 
 use crate::feature_table::{FeatureTable, feature_table};
-use krates_document::ids::Ids;
 use crate::table::{place_of, places_by_id};
 use krates_cm::{Metadata, Package, Resolve};
+use krates_document::ids::Ids;
 use krates_ids::{Kid, laws};
 use std::alloc::{AllocError, Global};
 use std::collections::BTreeMap;

@@ -8,10 +8,10 @@ ghost use Rattle.krates_resolve.specs.NodeEntry.{AreParts};
 ghost use Rattle.krates_rules.specs.Referent.{IsLibraryRename};
 ghost use Rattle.krates_resolve.specs.ReferentPlace.{IsBefore, IsLibraryOf, TellsReferent, AnswersAs};
 
-use krates_document::dependency_name::is_name_of;
 use crate::lookup::{Lookup, package_of};
 use crate::node_entry::NodeParts;
 use krates_cm::{NodeDep, Package, Target, TargetKind};
+use krates_document::dependency_name::is_name_of;
 use krates_ids::{Kid, laws};
 
 /// The place of the dependency that a name means in a reference of a crate: the least, by id, of the dependencies of its node

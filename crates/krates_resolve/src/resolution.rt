@@ -13,14 +13,14 @@ ghost use Rattle.krates_rules.specs.Resolved.{HasGraphWith, resolved};
 ghost use Rattle.krates_resolve.specs.Selection.{IsSelection};
 ghost use Rattle.krates_rules.specs.SelectionRefusals.{SelectionRefusal};
 
-use crate::selection::{EnabledFeature, Selection};
 use crate::found::Found;
-use krates_document::ids::Ids;
 use crate::lookup::{Lookup, lookup_of};
 use crate::saturation::saturate;
-use krates_document::setting::Setting;
+use crate::selection::{EnabledFeature, Selection};
 use crate::sorted::in_order;
 use krates_cm::Metadata;
+use krates_document::ids::Ids;
+use krates_document::setting::Setting;
 use krates_ids::{Error, Kid, laws};
 use std::alloc::{AllocError, Global};
 

@@ -14,8 +14,8 @@ use crate::basis::Basis;
 use crate::enabling::{KeptNode, enable};
 use crate::found::Found;
 use crate::lookup::{Lookup, package_of};
-use krates_document::setting::Setting;
 use crate::standing::{Standing, standing_of};
+use krates_document::setting::Setting;
 use krates_ids::{Error, Kid, Lost, laws};
 use krates_text::path::{parent, same};
 

@@ -237,14 +237,16 @@ same_within r t s w = record {
   };
   declared = λ e d x.
       let y = x.1 in
-      let q = package_same r t e.parent y.pkg w y.has_package in
-      (x.0, record {
-        dep = y.dep;
-        lists = edge_same r t e y.dep w y.lists;
-        pkg = q.pkg;
-        has_package = q.has_package;
-        declared = subst (λ ds. IsDeclared ds (dependency_entry e.child y.dep) (kind_info_of e) x.0 d) (dependencies_same y.pkg q.pkg q.same) y.declared;
-      });
+      let q = package_same r t e.parent y.pkg w y.has_package in (
+        x.0,
+        record {
+          dep = y.dep;
+          lists = edge_same r t e y.dep w y.lists;
+          pkg = q.pkg;
+          has_package = q.has_package;
+          declared = subst (λ ds. IsDeclared ds (dependency_entry e.child y.dep) (kind_info_of e) x.0 d) (dependencies_same y.pkg q.pkg q.same) y.declared;
+        },
+      );
   wanted = λ e d x.
       let y = x.declared in
       let q = package_same r t e.parent y.pkg w y.has_package in
