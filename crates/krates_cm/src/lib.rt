@@ -2,6 +2,7 @@
 #![tactic(auto)]
 
 pub mod command;
+pub mod copies;
 pub mod dependency;
 pub mod error;
 pub mod laws;
@@ -9,6 +10,7 @@ pub mod metadata;
 pub mod names;
 pub mod package;
 pub mod package_id;
+pub mod queries;
 pub mod read;
 pub mod read_error;
 pub mod resolve;
