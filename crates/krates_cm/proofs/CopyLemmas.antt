@@ -11,7 +11,8 @@ use Rattle.semver.specs.contracts.VersionReqClone.TheImpl.{ghosts as requirement
 use Rattle.semver.specs.declared.Comparator.{Comparator}
 use Rattle.semver.specs.declared.Version.{Version}
 use Rattle.semver.specs.declared.VersionReq.{VersionReq}
-use Rattle.krates_cm.specs.Document.{Text, text_view, texts_view, features_view, requirement_view}
+use Rattle.krates_cm.specs.Document.{Text, text_view, texts_view, id_view, ids_view, features_view, requirement_view}
+use Rattle.krates_cm.specs.declared.package_id.PackageId.{PackageId}
 
 -- ---- lists and maps
 
@@ -29,6 +30,10 @@ TextsCopied v w = AllZip (λ s t. string_bytes t ≡ string_bytes s) v.items w.i
 -- of a list of texts
 pub same_texts : (v w : Vec (String Global)) → TextsCopied v w → texts_view w ≡ texts_view v
 same_texts v w h = same_list (λ s t. string_bytes t ≡ string_bytes s) text_view (λ s t same. same) v.items w.items h.0
+
+-- of a list of ids
+pub same_ids : (v w : Vec PackageId) → AllZip (λ id copy. id_view copy ≡ id_view id) v.items w.items × (vec_len w ≡ vec_len v) → ids_view w ≡ ids_view v
+same_ids v w h = same_list (λ id copy. id_view copy ≡ id_view id) id_view (λ id copy same. same) v.items w.items h.0
 
 -- of a list whose items are copied as they are
 pub same_items : {X : Type 0} (xs ys : List X) → AllZip (λ x y. y ≡ x) xs ys → ys ≡ xs

@@ -1,0 +1,10 @@
+//! The document of `cargo metadata --format-version 1`, written as JSON.
+#![tactic(auto)]
+
+pub mod names;
+pub mod object;
+pub mod resolve;
+pub mod to_value;
+pub mod values;
+
+pub use to_value::ToValue;
