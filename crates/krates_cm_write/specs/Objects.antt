@@ -1,5 +1,5 @@
 -- How JSON data is put together that is written for a value.
-use Rattle.std.specs.Prelude.{◌≡◌, ℕ, List, [], ◌∷◌, Bool, true, Option, Some, None, ⊤, MatchBool}
+use Rattle.std.specs.Prelude.{◌≡◌, ℕ, List, [], ◌∷◌, Bool, true, false, Option, Some, None, ⊤}
 use Rattle.serde_json.specs.Data.{Data, null, boolean, number, unsigned, string, array, object, Items, no_items, item, Members, no_members, member, put}
 use Rattle.krates_cm.specs.Document.{Text}
 
@@ -72,15 +72,12 @@ abbrev pub only_where : Bool → Text → (Data → Type 0) → Table → Table
 only_where there key W rest = row there key W rest
 
 -- the members are those of the table's rows, in order
-abbrev mutual
-  pub MembersWritten : Table → Members → Type 0
-  MembersWritten no_more no_members = ⊤
-  MembersWritten no_more (member name d ms) = ⊥
-  MembersWritten (row there key W rest) ms = MatchBool there (FirstWritten key W rest ms) (MembersWritten rest ms)
-
-  FirstWritten : Text → (Data → Type 0) → Table → Members → Type 0
-  FirstWritten key W rest no_members = ⊥
-  FirstWritten key W rest (member name d ms) = (name ≡ key) × W d × MembersWritten rest ms
+abbrev pub MembersWritten : Table → Members → Type 0
+MembersWritten no_more no_members = ⊤
+MembersWritten no_more (member name d ms) = ⊥
+MembersWritten (row true key W rest) no_members = ⊥
+MembersWritten (row true key W rest) (member name d ms) = (name ≡ key) × W d × MembersWritten rest ms
+MembersWritten (row false key W rest) ms = MembersWritten rest ms
 
 -- an object of a table's rows
 abbrev pub ObjectWritten : Table → Data → Type 0

@@ -1,5 +1,5 @@
 -- The texts that are written for kinds, versions and requirements.
-use Rattle.std.specs.Prelude.{◌≡◌, ◌==◌, List, [], ◌∷◌, ◌++◌, codes, if◌then◌else◌}
+use Rattle.std.specs.Prelude.{◌≡◌, ◌==◌, ◌∷◌, ◌++◌, codes, if◌then◌else◌}
 use Rattle.std.specs.Fmt.{decimal}
 use Rattle.serde_json.specs.Data.{Data, null, string}
 use Rattle.semver.specs.Identifiers.{parts_text}
@@ -57,7 +57,7 @@ VersionWritten v d = d ≡ string (parts_text v)
 
 -- a version of Rust: major and minor, and the patch where it isn't 0
 abbrev pub rust_version_text : VersionModel → Text
-rust_version_text v = decimal v.0 ++ (46 ∷ (decimal v.1 ++ (if v.2 == 0 then [] else 46 ∷ decimal v.2)))
+rust_version_text v = if v.2 == 0 then decimal v.0 ++ (46 ∷ decimal v.1) else decimal v.0 ++ (46 ∷ (decimal v.1 ++ (46 ∷ decimal v.2)))
 
 abbrev pub RustVersionWritten : Writer VersionModel
 RustVersionWritten v d = d ≡ string (rust_version_text v)
