@@ -1,6 +1,7 @@
 //! The document of `cargo metadata --format-version 1`, written as JSON.
 #![tactic(auto)]
 
+pub mod laws;
 pub mod metadata;
 pub mod names;
 pub mod object;
