@@ -23,6 +23,8 @@ mod passing;
 #[cfg(test)]
 mod paths;
 #[cfg(test)]
+mod queries;
+#[cfg(test)]
 mod reading;
 #[cfg(test)]
 mod references;
@@ -30,3 +32,5 @@ mod references;
 mod specifications;
 #[cfg(test)]
 mod targets;
+#[cfg(test)]
+mod writing;

@@ -1,12 +1,11 @@
 -- Packages and whole documents that were read are written as data that reads as them.
-use Rattle.std.proofs.Common.{◌≡◌, List, [], ◌∷◌, Option, Some, None, refl, ap, ◌∙◌}
+use Rattle.std.proofs.Common.{◌≡◌, List, [], ◌∷◌, Option, Some, None, refl}
 use Rattle.std.specs.Prelude.{codes, MatchOption}
 use Rattle.serde_json.specs.Data.{Data, null, boolean, number, string, array, object, Items, no_items, item}
 use Rattle.serde_json.specs.Find.{get}
 use Rattle.krates_cm.specs.Document.{Text, VersionModel, DependencyModel, PackageModel, MetadataModel}
 use Rattle.krates_cm.specs.Faults.{missing}
-use Rattle.krates_cm.specs.PackageParts.{AboutModel, SettingsModel}
-use Rattle.krates_cm.specs.Reading.{Reader, text, whole, any, list, map_of, optional, refused, nullable}
+use Rattle.krates_cm.specs.Reading.{text, whole, any, list, map_of, refused, nullable}
 use Rattle.krates_cm.specs.Tables.{edition, version, rust_version, dependency, target, about, settings, package_reader, resolve, metadata}
 use Rattle.krates_cm.specs.declared.target.Edition.TheVariants.{E2015}
 use Rattle.krates_cm_write.specs.Objects.{Writer, TextWritten, AnyWritten, WholeWritten, OptionWritten, EachWritten, ListWritten, MapWritten}
@@ -14,7 +13,7 @@ use Rattle.krates_cm_write.specs.RoundTrip.{RequirementReads, PackageRequirement
 use Rattle.krates_cm_write.specs.Texts.{EditionWritten, VersionWritten, RustVersionWritten}
 use Rattle.krates_cm_write.specs.WrittenTables.{package_table, metadata_table, DependencyWritten, TargetWritten, PackageWritten, ResolveWritten, MetadataWritten}
 use Rattle.krates_cm_write.proofs.ReadAgain.{ReadsBack, NeverNull, text_again, whole_again, any_again, edition_again, list_again, map_again, nullable_again, text_never_null, list_never_null, found_again, required_again, default_again, optional_again, only_some_again, present_again, told, object_again, dependency_again, target_again, resolve_again, resolve_never_null}
-use Rattle.krates_cm_write.proofs.ReadBefore.{RustNamed, PackageNamed, EachNamed, package_told, metadata_told}
+use Rattle.krates_cm_write.proofs.ReadBefore.{RustNamed, PackageNamed, EachNamed}
 use Rattle.krates_cm_write.proofs.VersionsAgain.{named_again, rust_again}
 
 -- ---- what is known of data twice

@@ -1,14 +1,14 @@
 -- What was written is read again: of each way to put data together, and so of each table.
-use Rattle.std.proofs.Common.{◌≡◌, ℕ, List, [], ◌∷◌, Bool, true, false, Option, Some, None, refl, sym, ap, ◌∙◌, subst, nat_cmp, length, suc, arith}
+use Rattle.std.proofs.Common.{◌≡◌, ℕ, List, [], ◌∷◌, true, false, Option, Some, None, refl, sym, subst, nat_cmp, length, suc, arith}
 use Rattle.std.proofs.lemmas.Bool.Decides.{nat_tests}
-use Rattle.std.specs.Prelude.{codes, MatchOption, MatchBool, is_some, not, ◌==◌, ⊤, ◌<◌}
+use Rattle.std.specs.Prelude.{codes, MatchOption, MatchBool, is_some, not, ◌==◌}
 use Rattle.std.specs.Cmp.Lexicographic.{slice_cmp}
 use Rattle.std.specs.Ordering.{MatchOrdering, match_ordering}
 use Rattle.std.specs.declared.cmp.Ordering.{Ordering}
 use Rattle.std.specs.declared.cmp.Ordering.TheVariants.{Less, Equal, Greater}
 use Rattle.serde_json.specs.Data.{Data, null, boolean, number, string, array, object, Items, no_items, item, Members, no_members, member}
 use Rattle.serde_json.specs.Find.{get, get_member}
-use Rattle.krates_cm.specs.Document.{Text, DepKindInfoModel, NodeDepModel, NodeModel, ResolveModel, DependencyModel, TargetModel}
+use Rattle.krates_cm.specs.Document.{Text}
 use Rattle.krates_cm.specs.Faults.{missing}
 use Rattle.krates_cm.specs.Reading.{Reading, Reader, text, whole, any, items, list, map_items, map_of, found, required, or_default, nullable, present, optional, refused, read_as}
 use Rattle.krates_cm.specs.Reading as reading

@@ -1,5 +1,5 @@
 -- What was read has versions that some texts name: the tables, read backwards.
-use Rattle.std.proofs.Common.{◌≡◌, List, [], ◌∷◌, Option, Some, None, refl, sym, ap, ◌∙◌, subst}
+use Rattle.std.proofs.Common.{◌≡◌, List, [], ◌∷◌, Option, Some, None, refl, ap, subst}
 use Rattle.std.specs.Prelude.{codes, ⊤}
 use Rattle.std.proofs.lemmas.Option.{same_Some}
 use Rattle.serde_json.specs.Data.{Data, null, boolean, number, string, array, object, Items, no_items, item}
@@ -8,7 +8,7 @@ use Rattle.krates_cm.specs.Document.{Text, VersionModel, PackageModel, MetadataM
 use Rattle.krates_cm.specs.Faults.{Fault}
 use Rattle.krates_cm.specs.Names.{version_named, rust_version_named}
 use Rattle.krates_cm.specs.PackageParts.{SettingsModel}
-use Rattle.krates_cm.specs.Reading.{Reading, Reader, applied, if_read, named, found, refused, read_as, nullable, required, optional, items, list}
+use Rattle.krates_cm.specs.Reading.{Reading, applied, if_read, named, found, refused, read_as, nullable, items, list}
 use Rattle.krates_cm.specs.Tables.{rust_version, settings, package_reader, metadata}
 
 -- ---- functions of several readings

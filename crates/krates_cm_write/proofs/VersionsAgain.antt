@@ -1,8 +1,7 @@
 -- Versions that were read are written as texts that read as them.
-use Rattle.std.proofs.Common.{◌≡◌, ℕ, ◌+◌, ◌<◌, ◌≤◌, ◌^◌, List, [], ◌∷◌, ◌++◌, Bool, true, false, cond, ◌||◌, Option, Some, None, Ok, Err, Result, refl, sym, ap, ◌∙◌, subst, arith, eqb, append-nil, append_assoc, count_by, ◌%◌, inl, inr}
-use Rattle.std.specs.Prelude.{codes, ◌==◌, if◌then◌else◌}
+use Rattle.std.proofs.Common.{◌≡◌, ℕ, ◌+◌, ◌<◌, ◌^◌, [], ◌∷◌, ◌++◌, Bool, true, false, cond, ◌||◌, Some, None, Ok, Err, Result, refl, sym, ap, ◌∙◌, subst, arith, append-nil, append_assoc, count_by, ◌%◌, inl, inr}
+use Rattle.std.specs.Prelude.{codes, ◌==◌}
 use Rattle.std.specs.Fmt.{decimal}
-use Rattle.std.specs.List.{list_any}
 use Rattle.std.specs.Result.{result_ok}
 use Rattle.std.proofs.lemmas.Bool.{cases_Bool, eqb-true}
 use Rattle.std.proofs.lemmas.Bool.Decides.{nat_tests}

@@ -1,5 +1,5 @@
 -- A list that is written item by item.
-use Rattle.std.proofs.Common.{◌≡◌, ℕ, ◌+◌, ◌<◌, ◌≤◌, List, [], ◌∷◌, ◌++◌, length, get_or, take, map, String, Global, string_bytes, refl, sym, ap, ◌∙◌, subst, arith}
+use Rattle.std.proofs.Common.{◌≡◌, ℕ, ◌+◌, ◌<◌, ◌≤◌, List, [], ◌∷◌, ◌++◌, length, get_or, take, map, String, Global, string_bytes, refl, sym, ap, ◌∙◌, subst}
 use Rattle.std.proofs.lemmas.List.{map-append, take_more, take_all}
 use Rattle.serde_json.specs.Data.{Data, Members, no_members, put}
 use Rattle.serde_json.specs.View.{view, items_view, members_view}

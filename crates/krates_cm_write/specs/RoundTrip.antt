@@ -1,5 +1,5 @@
 -- When what was written for a value reads as that value.
-use Rattle.std.specs.Prelude.{◌≡◌, List, Some, MatchOption, codes}
+use Rattle.std.specs.Prelude.{◌≡◌, Some, MatchOption, codes}
 use Rattle.serde_json.specs.Data.{Data}
 use Rattle.serde_json.specs.Find.{get}
 use Rattle.krates_cm.specs.Document.{Text, DependencyModel, PackageModel, MetadataModel}

@@ -1,7 +1,7 @@
 -- The texts that are written for kinds, versions and requirements.
 use Rattle.std.specs.Prelude.{◌≡◌, ◌==◌, ◌∷◌, ◌++◌, codes, if◌then◌else◌}
 use Rattle.std.specs.Fmt.{decimal}
-use Rattle.serde_json.specs.Data.{Data, null, string}
+use Rattle.serde_json.specs.Data.{null, string}
 use Rattle.semver.specs.Identifiers.{parts_text}
 use Rattle.krates_cm.specs.Document.{Text, VersionModel, RequirementModel}
 use Rattle.krates_cm.specs.Names.{edition_text}
