@@ -25,6 +25,8 @@ mod passing;
 #[cfg(test)]
 mod paths;
 #[cfg(test)]
+mod queries;
+#[cfg(test)]
 mod reading;
 #[cfg(test)]
 mod references;
@@ -34,3 +36,5 @@ mod refusals;
 mod specifications;
 #[cfg(test)]
 mod targets;
+#[cfg(test)]
+mod writing;

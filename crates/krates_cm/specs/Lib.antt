@@ -3,5 +3,6 @@ pub mod Faults
 pub mod Names
 pub mod PackageParts
 pub mod Parsing
+pub mod Queries
 pub mod Reading
 pub mod Tables

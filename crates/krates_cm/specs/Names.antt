@@ -72,3 +72,17 @@ has_extra s = list_any (λ b. b == 45 || b == 43) s
 
 abbrev pub rust_version_named : Text → Option VersionModel
 rust_version_named s = if has_extra s then None else version_named (with_patch s)
+
+-- ---- the text of each value
+
+-- a kind as it is printed: a document has null for the normal one
+abbrev pub dependency_kind_text : DependencyKind → Text
+dependency_kind_text Normal = codes "normal"
+dependency_kind_text Development = codes "dev"
+dependency_kind_text Build = codes "build"
+
+abbrev pub edition_text : Edition → Text
+edition_text E2015 = codes "2015"
+edition_text E2018 = codes "2018"
+edition_text E2021 = codes "2021"
+edition_text E2024 = codes "2024"

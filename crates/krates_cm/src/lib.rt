@@ -1,6 +1,7 @@
 //! The document of `cargo metadata --format-version 1`: its types, and how they are read from JSON.
 #![tactic(auto)]
 
+pub mod copies;
 pub mod dependency;
 pub mod document;
 pub mod error;
@@ -9,6 +10,7 @@ pub mod metadata;
 pub mod names;
 pub mod package;
 pub mod package_id;
+pub mod queries;
 pub mod read;
 pub mod read_error;
 pub mod resolve;

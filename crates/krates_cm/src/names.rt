@@ -1,15 +1,22 @@
 //! The texts by which the document names target kinds, crate types and editions.
 
 ghost use Rattle.std.specs.Prelude.{◌≡◌, Some, None, MatchResult};
-ghost use Rattle.krates_cm.specs.Names.{target_kind_named, crate_type_named, edition_named};
+ghost use Rattle.krates_cm.specs.Document.{id_view, source_view};
+ghost use Rattle.krates_cm.specs.Names.{target_kind_named, crate_type_named, edition_named, dependency_kind_text, edition_text};
+ghost use Rattle.krates_cm.specs.declared.dependency.DependencyKind.TheVariants.{Normal};
+ghost use Rattle.krates_cm.specs.declared.target.Edition.TheVariants.{E2015};
 ghost use Rattle.krates_cm.specs.declared.names.UnknownName.TheVariants as unknown;
 
+use crate::dependency::DependencyKind;
+use crate::package::Source;
+use crate::package_id::PackageId;
 use crate::target::{CrateType, Edition, TargetKind};
+use std::fmt;
 use std::str::FromStr;
 use thiserror::Error;
 
 /// A text that names no value of its type.
-#[derive(Debug, Drop, Error)]
+#[derive(Clone, Copy, Debug, Error)]
 pub enum UnknownName {
     #[error("unknown target kind")]
     TargetKind,
@@ -77,5 +84,73 @@ impl FromStr for Edition {
             "2024" => Ok(Edition::E2024),
             _ => Err(UnknownName::Edition),
         }
+    }
+}
+
+impl Edition {
+    /// The year, as the document has it.
+    pub fn as_str(&self) -> &'static str
+        ensures { result.now ≡ edition_text self.now }
+    {
+        match self {
+            Edition::E2015 => "2015",
+            Edition::E2018 => "2018",
+            Edition::E2021 => "2021",
+            Edition::E2024 => "2024",
+        }
+    }
+}
+
+impl fmt::Display for Edition {
+    ghost output = { λ edition. Some (edition_text edition) };
+
+    fn fmt<W: fmt::Write>(&self, f: &mut fmt::Formatter<W>) -> fmt::Result {
+        f.write_str(self.as_str())
+    }
+}
+
+/// The oldest edition.
+impl Default for Edition {
+    ghost is_default = { λ edition. edition ≡ E2015 };
+
+    fn default() -> Edition {
+        Edition::E2015
+    }
+}
+
+impl fmt::Display for DependencyKind {
+    ghost output = { λ kind. Some (dependency_kind_text kind) };
+
+    fn fmt<W: fmt::Write>(&self, f: &mut fmt::Formatter<W>) -> fmt::Result {
+        f.write_str(match self {
+            DependencyKind::Normal => "normal",
+            DependencyKind::Development => "dev",
+            DependencyKind::Build => "build",
+        })
+    }
+}
+
+/// The normal kind.
+impl Default for DependencyKind {
+    ghost is_default = { λ kind. kind ≡ Normal };
+
+    fn default() -> DependencyKind {
+        DependencyKind::Normal
+    }
+}
+
+impl fmt::Display for PackageId {
+    ghost output = { λ id. Some (id_view id) };
+
+    fn fmt<W: fmt::Write>(&self, f: &mut fmt::Formatter<W>) -> fmt::Result {
+        f.write_str(self.repr.as_str())
+    }
+}
+
+impl fmt::Display for Source {
+    ghost output = { λ source. Some (source_view source) };
+
+    fn fmt<W: fmt::Write>(&self, f: &mut fmt::Formatter<W>) -> fmt::Result {
+        f.write_str(self.repr.as_str())
     }
 }

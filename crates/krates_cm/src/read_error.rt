@@ -8,7 +8,7 @@ use thiserror::Error;
 
 /// What is wrong with a JSON value that isn't read. Where several refusals are true of a value,
 /// which one is named is left open.
-#[derive(Debug, Drop, Error)]
+#[derive(Clone, Copy, Debug, Error)]
 pub enum ReadError {
     /// An object lacks this key.
     #[error("missing key: {0}")]

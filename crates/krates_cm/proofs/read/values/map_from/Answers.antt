@@ -4,7 +4,6 @@ use Rattle.std.specs.Map.{keys_of}
 use Rattle.std.specs.String.{string_cmp}
 use Rattle.serde_json.specs.View.{view, members_view}
 use Rattle.serde_json.proofs.Views.{Entry}
-use Rattle.krates_cm.specs.Reading.{map_items}
 use Rattle.krates_cm.proofs.MapReading.{inserted, entry_read, keys_pushed}
 use Rattle.krates_cm.proofs.read.values.map_from.Goals as goal
 

@@ -2,7 +2,7 @@ use Rattle.std.proofs.Common.{◌≡◌, List, ◌++◌, map, string_bytes}
 use Rattle.serde_json.specs.View.{members_view}
 use Rattle.serde_json.proofs.Views.{Entry}
 use Rattle.krates_cm.specs.Faults.{Fault}
-use Rattle.krates_cm.specs.Reading.{Reading, map_items}
+use Rattle.krates_cm.specs.Reading.{map_items}
 use Rattle.krates_cm.proofs.ListReading.{with_front}
 use Rattle.krates_cm.proofs.MapReading.{key_texts}
 use Rattle.krates_cm.proofs.read.values.map_from.Given as goal

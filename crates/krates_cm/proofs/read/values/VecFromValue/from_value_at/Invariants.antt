@@ -1,7 +1,7 @@
 use Rattle.std.proofs.Common.{◌≡◌, drop, map}
 use Rattle.serde_json.specs.View.{items_view}
 use Rattle.krates_cm.specs.Faults.{Fault}
-use Rattle.krates_cm.specs.Reading.{Reading, items}
+use Rattle.krates_cm.specs.Reading.{items}
 use Rattle.krates_cm.proofs.ListReading.{with_front}
 use Rattle.krates_cm.proofs.read.values.VecFromValue.from_value_at.Given as goal
 

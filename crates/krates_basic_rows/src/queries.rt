@@ -1,0 +1,269 @@
+//! What a document answers, what its kinds and ids print, and copies of its types.
+
+use krates_cm::{
+    DepKindInfo, Dependency, DependencyKind, Edition, FromValue, Metadata, Package, PackageId,
+    Source, Target, TargetKind, WorkspaceDefaultMembers,
+};
+use serde_json::Value;
+use std::alloc::{AllocError, Global};
+use std::fmt::Debug;
+use std::test::Fail;
+
+/// What stands before the rows and behind them: the packages `a` in `/w/a` and `b` in `/w/b`, and a member `a`.
+const DOCUMENT: (&str, &str) = (
+    r#"{"packages":[{"name":"a","version":"0.1.0","id":"A","dependencies":[],"targets":[],"features":{},"manifest_path":"/w/a/Cargo.toml"},{"name":"b","version":"0.1.0","id":"B","dependencies":[],"targets":[],"features":{},"manifest_path":"/w/./b//Cargo.toml"}],"workspace_members":["A"],"target_directory":"/t","#,
+    "}",
+);
+
+/// The rest of a document, and its root, the packages of the workspace, the default ones, and the package `B`.
+const ANSWERS: &[(&str, &str)] = &[
+    (
+        r#""workspace_root":"/w""#,
+        r#"root None, members ["a"], default None, B is Some("b")"#,
+    ),
+    (
+        r#""workspace_root":"/w/b/","workspace_default_members":["B"]"#,
+        r#"root Some("b"), members ["a"], default Some(["b"]), B is Some("b")"#,
+    ),
+    (
+        r#""workspace_root":"/w/b","resolve":null,"workspace_default_members":["B","A","C"]"#,
+        r#"root Some("b"), members ["a"], default Some(["a", "b"]), B is Some("b")"#,
+    ),
+    (
+        r#""workspace_root":"/w/b","resolve":{"nodes":[],"root":"A"},"workspace_default_members":[]"#,
+        r#"root Some("a"), members ["a"], default Some([]), B is Some("b")"#,
+    ),
+    (
+        r#""workspace_root":"/w/b","resolve":{"nodes":[],"root":null}"#,
+        r#"root None, members ["a"], default None, B is Some("b")"#,
+    ),
+    (
+        r#""workspace_root":"/w/b","resolve":{"nodes":[],"root":"C"}"#,
+        r#"root None, members ["a"], default None, B is Some("b")"#,
+    ),
+];
+
+/// The manifest of a package with its licence file and its readme, and where these are.
+const FILES: &[(&str, &str)] = &[
+    (
+        r#""manifest_path":"/w/a/Cargo.toml","license_file":"LICENSE","readme":"R""#,
+        r#"Some("/w/a/LICENSE"), Some("/w/a/R")"#,
+    ),
+    (
+        r#""manifest_path":"/w/a/Cargo.toml","license_file":"../L""#,
+        r#"Some("/w/a/../L"), None"#,
+    ),
+    (
+        r#""manifest_path":"/w/a/Cargo.toml","license_file":"/x""#,
+        r#"Some("/x"), None"#,
+    ),
+    (
+        r#""manifest_path":"Cargo.toml","readme":"R""#,
+        r#"None, Some("R")"#,
+    ),
+    (r#""manifest_path":"/","readme":"R""#, r#"None, Some("/R")"#),
+];
+
+/// What stands around the rows above.
+const PACKAGE: (&str, &str) = (
+    r#"{"name":"a","version":"0.1.0","id":"A","dependencies":[],"targets":[],"features":{},"#,
+    "}",
+);
+
+/// The kinds of a target, and which tests say yes.
+const KINDS: &[(&str, &str)] = &[
+    (r#""lib""#, "lib "),
+    (r#""rlib","dylib","cdylib","staticlib""#, ""),
+    (r#""bin""#, "bin "),
+    (r#""example""#, "example "),
+    (r#""test""#, "test "),
+    (r#""bench""#, "bench "),
+    (r#""custom-build""#, "custom-build "),
+    (r#""proc-macro""#, "proc-macro "),
+    (r#""test","lib","bin""#, "lib bin test "),
+];
+
+/// The names of packages.
+fn names<'a>(alloc: Global, packages: &[&'a Package]) -> Result<Vec<&'a str>, AllocError> {
+    packages.iter().map(|p| p.name.as_str()).collect(alloc)
+}
+
+/// What a document answers.
+fn answers(alloc: Global, metadata: &Metadata) -> Result<String, AllocError> {
+    let root = metadata.root_package().map(|p| p.name.as_str());
+    let members = metadata.workspace_packages(alloc)?;
+    let members = names(alloc, members.as_slice())?;
+    let defaults = match metadata.workspace_default_packages(alloc)? {
+        Some(packages) => Some(names(alloc, packages.as_slice())?),
+        None => None,
+    };
+    let id = PackageId {
+        repr: String::from_str(alloc, "B")?,
+    };
+    let package = metadata.package(&id).map(|p| p.name.as_str());
+    format!(in alloc; "root {root:?}, members {members:?}, default {defaults:?}, B is {package:?}")
+}
+
+/// Where the files of a package are.
+fn files(alloc: Global, package: &Package) -> Result<String, AllocError> {
+    let license = package.license_file(alloc)?;
+    let readme = package.readme(alloc)?;
+    format!(in alloc; "{license:?}, {readme:?}")
+}
+
+/// The tests that say yes of a target.
+fn tests(alloc: Global, target: &Target) -> Result<String, AllocError> {
+    let all = [
+        (target.is_lib(), "lib "),
+        (target.is_bin(), "bin "),
+        (target.is_example(), "example "),
+        (target.is_test(), "test "),
+        (target.is_bench(), "bench "),
+        (target.is_custom_build(), "custom-build "),
+        (target.is_proc_macro(), "proc-macro "),
+    ];
+    let mut told = String::new(alloc);
+    for &(is, name) in all.as_slice() {
+        if is {
+            told.push_str(name)?;
+        }
+    }
+    Ok(told)
+}
+
+/// Compares what is told of each row, with what stands around it, with what is expected.
+fn hold<T: FromValue>(
+    alloc: Global,
+    around: (&str, &str),
+    rows: &[(&str, &str)],
+    tell: fn(Global, &T) -> Result<String, AllocError>,
+) -> Result<(), Fail> {
+    let (before, behind) = around;
+    for &(row, expected) in rows {
+        let json = format!(in alloc; "{before}{row}{behind}")?;
+        let value = Value::from_str(alloc, json.as_str())?;
+        let told = tell(alloc, &T::from_value(alloc, &value)?)?;
+        if told.as_str() != expected {
+            return Err(Fail::new(format_args!("{row}: {told} in place of {expected}")));
+        }
+    }
+    Ok(())
+}
+
+#[test]
+fn documents_answer(rt: HostRuntime) -> Result<(), Fail> {
+    hold(rt.alloc(), DOCUMENT, ANSWERS, answers)
+}
+
+#[test]
+fn files_of_packages(rt: HostRuntime) -> Result<(), Fail> {
+    hold(rt.alloc(), PACKAGE, FILES, files)
+}
+
+#[test]
+fn kinds_of_targets(rt: HostRuntime) -> Result<(), Fail> {
+    hold(
+        rt.alloc(),
+        (r#"{"name":"t","src_path":"s","kind":["#, "]}"),
+        KINDS,
+        tests,
+    )
+}
+
+/// JSON of each type that is copied.
+const COPIED_ID: &str = r#""a 0.1.0""#;
+
+const COPIED_INFO: &str = r#"{"kind":"dev","target":"t"}"#;
+
+const COPIED_DEPENDENCY: &str =
+    r#"{"name":"b","source":"s","req":">=1.2, <3","kind":"build","optional":true,"uses_default_features":true,"features":["f","g"],"target":"t","rename":"r","registry":"g","path":"/b"}"#;
+
+const COPIED_TARGET: &str =
+    r#"{"name":"t","kind":["custom-build"],"crate_types":["cdylib"],"required-features":["f"],"src_path":"s","edition":"2021","doctest":false,"test":true,"doc":false}"#;
+
+const COPIED_PACKAGE: &str =
+    r#"{"name":"a","version":"1.2.3-rc+b","authors":["x"],"id":"i","source":"s","description":"d","dependencies":[],"license":"MIT","license_file":"L","targets":[],"features":{"f":["g"]},"manifest_path":"m","categories":["c"],"keywords":["k"],"readme":"R","repository":"o","homepage":"h","documentation":"u","edition":"2024","metadata":{"k":[1,null]},"links":"l","publish":["p"],"default_run":"p","rust_version":"1.70.1"}"#;
+
+const COPIED_DOCUMENT: &str =
+    r#"{"packages":[],"workspace_members":["a"],"workspace_default_members":["b"],"workspace_root":"/w","target_directory":"/t","build_directory":"/b","metadata":{"k":[true]},"version":1,"resolve":{"nodes":[{"id":"a","deps":[{"name":"b","pkg":"c","dep_kinds":[{"kind":"build","target":"t"}]}],"dependencies":["c"],"features":["f"]}],"root":"a"}}"#;
+
+/// Fails where a copy of what is read of a text shows other fields.
+fn copy<T: FromValue + Clone + Debug>(alloc: Global, json: &str) -> Result<T, Fail> {
+    let value = Value::from_str(alloc, json)?;
+    let read = T::from_value(alloc, &value)?;
+    let copy = read.clone()?;
+    if format!(in alloc; "{read:?}")? != format!(in alloc; "{copy:?}")? {
+        return Err(Fail::new(format_args!("{json}: a copy shows {copy:?}")));
+    }
+    Ok(copy)
+}
+
+#[test]
+fn copies(rt: HostRuntime) -> Result<(), Fail> {
+    let alloc = rt.alloc();
+    drop(copy::<PackageId>(alloc, COPIED_ID)?);
+    drop(copy::<Source>(alloc, COPIED_ID)?);
+    drop(copy::<DepKindInfo>(alloc, COPIED_INFO)?);
+    drop(copy::<Dependency>(alloc, COPIED_DEPENDENCY)?);
+    drop(copy::<Target>(alloc, COPIED_TARGET)?);
+    drop(copy::<Package>(alloc, COPIED_PACKAGE)?);
+    Ok(())
+}
+
+#[test]
+fn copies_of_documents(rt: HostRuntime) -> Result<(), Fail> {
+    let copied = copy::<Metadata>(rt.alloc(), COPIED_DOCUMENT)?;
+    let members: WorkspaceDefaultMembers = copied.workspace_default_members.clone()?;
+    assert_eq!(rt; members.as_slice().map(|ids| ids.len()), Some(1));
+    Ok(())
+}
+
+#[test]
+fn printed_texts(rt: HostRuntime) -> Result<(), Fail> {
+    let alloc = rt.alloc();
+    let id = PackageId {
+        repr: String::from_str(alloc, "i")?,
+    };
+    let source = Source {
+        repr: String::from_str(alloc, "s")?,
+    };
+    let kinds = [
+        DependencyKind::default(),
+        DependencyKind::Development,
+        DependencyKind::Build,
+    ];
+    let [normal, dev, build] = kinds;
+    let text = format!(in alloc;
+        "{id} {source} {normal} {dev} {build} {} {}",
+        Edition::default(),
+        Edition::E2024
+    )?;
+    assert_eq!(rt; text.as_str(), "i s normal dev build 2015 2024");
+    assert_eq!(rt; Edition::E2018.as_str(), "2018");
+    Ok(())
+}
+
+#[test]
+fn comparisons(rt: HostRuntime) -> Result<(), Fail> {
+    let alloc = rt.alloc();
+    assert!(rt; TargetKind::CustomBuild < TargetKind::CDyLib);
+    assert!(rt; Edition::E2015 < Edition::E2018);
+    let upper = PackageId {
+        repr: String::from_str(alloc, "B")?,
+    };
+    let lower = PackageId {
+        repr: String::from_str(alloc, "a")?,
+    };
+    assert!(rt; upper < lower);
+    let crates_io = String::from_str(
+        alloc,
+        "registry+https://github.com/rust-lang/crates.io-index",
+    )?;
+    assert!(rt; Source { repr: crates_io }.is_crates_io());
+    let other = String::from_str(
+        alloc,
+        "registry+https://github.com/rust-lang/crates.io-index/",
+    )?;
+    assert!(rt; !Source { repr: other }.is_crates_io());
+    Ok(())
+}

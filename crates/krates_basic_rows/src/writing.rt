@@ -1,0 +1,175 @@
+//! What each type is written as, and that what was written is read as it was.
+
+use krates_cm::{
+    Dependency, FromValue, Metadata, Node, Package, PackageId, Resolve, Source, Target,
+};
+use krates_cm_write::ToValue;
+use serde_json::Value;
+use std::alloc::Global;
+use std::fmt::Debug;
+use std::test::Fail;
+
+/// JSON that is read as an id, and what is written for it.
+const IDS: &[(&str, &str)] = &[(r#""a 0.1.0""#, r#""a 0.1.0""#)];
+
+/// The same of a declared dependency.
+const DECLARED: &[(&str, &str)] = &[
+    (
+        r#"{"name":"b","req":"*","kind":"dev","optional":false,"uses_default_features":false,"features":[]}"#,
+        r#"{"features":[],"kind":"dev","name":"b","optional":false,"registry":null,"rename":null,"req":"*","source":null,"target":null,"uses_default_features":false}"#,
+    ),
+    (
+        r#"{"name":"b","source":"s","req":"*","kind":"normal","optional":true,"uses_default_features":true,"features":["f"],"target":"t","rename":"r","registry":"g","path":"/b"}"#,
+        r#"{"features":["f"],"kind":null,"name":"b","optional":true,"path":"/b","registry":"g","rename":"r","req":"*","source":"s","target":"t","uses_default_features":true}"#,
+    ),
+];
+
+/// The same of a target.
+const TARGETS: &[(&str, &str)] = &[
+    (
+        r#"{"name":"t","kind":["lib","proc-macro"],"src_path":"s"}"#,
+        r#"{"crate_types":[],"doc":true,"doctest":true,"edition":"2015","kind":["lib","proc-macro"],"name":"t","src_path":"s","test":true}"#,
+    ),
+    (
+        r#"{"name":"t","kind":["custom-build"],"crate_types":["cdylib","staticlib"],"required-features":["f"],"src_path":"s","edition":"2021","doctest":false,"test":false,"doc":false}"#,
+        r#"{"crate_types":["cdylib","staticlib"],"doc":false,"doctest":false,"edition":"2021","kind":["custom-build"],"name":"t","required-features":["f"],"src_path":"s","test":false}"#,
+    ),
+];
+
+/// The same of a package.
+const PACKAGES: &[(&str, &str)] = &[
+    (
+        r#"{"name":"a","version":"0.1.0-rc.1+b","id":"i","dependencies":[],"targets":[],"features":{"g":["f"],"f":[]},"manifest_path":"m"}"#,
+        r#"{"authors":[],"categories":[],"default_run":null,"dependencies":[],"description":null,"documentation":null,"edition":"2015","features":{"f":[],"g":["f"]},"homepage":null,"id":"i","keywords":[],"license":null,"license_file":null,"links":null,"manifest_path":"m","metadata":null,"name":"a","publish":null,"readme":null,"repository":null,"rust_version":null,"source":null,"targets":[],"version":"0.1.0-rc.1+b"}"#,
+    ),
+    (
+        r#"{"name":"a","version":"1.2.3","authors":["x"],"id":"i","source":"s","description":"d","dependencies":[],"license":"MIT","license_file":"L","targets":[],"features":{},"manifest_path":"m","categories":["c"],"keywords":["k"],"readme":"R","repository":"o","homepage":"h","documentation":"u","edition":"2024","metadata":{"k":[1,null]},"links":"l","publish":[],"default_run":"p","rust_version":"1.70.1"}"#,
+        r#"{"authors":["x"],"categories":["c"],"default_run":"p","dependencies":[],"description":"d","documentation":"u","edition":"2024","features":{},"homepage":"h","id":"i","keywords":["k"],"license":"MIT","license_file":"L","links":"l","manifest_path":"m","metadata":{"k":[1,null]},"name":"a","publish":[],"readme":"R","repository":"o","rust_version":"1.70.1","source":"s","targets":[],"version":"1.2.3"}"#,
+    ),
+];
+
+/// What stands around the version of Rust that a package needs, as it is read and as it is written.
+const BEFORE: &str =
+    r#"{"name":"a","version":"1.0.0","id":"i","dependencies":[],"targets":[],"features":{},"manifest_path":"m","rust_version":"#;
+
+const WRITTEN_BEFORE: &str =
+    r#"{"authors":[],"categories":[],"default_run":null,"dependencies":[],"description":null,"documentation":null,"edition":"2015","features":{},"homepage":null,"id":"i","keywords":[],"license":null,"license_file":null,"links":null,"manifest_path":"m","metadata":null,"name":"a","publish":null,"readme":null,"repository":null,"rust_version":"#;
+
+const WRITTEN_BEHIND: &str = r#","source":null,"targets":[],"version":"1.0.0"}"#;
+
+/// A version of Rust, and what is written for it.
+const RUST_VERSIONS: &[(&str, &str)] = &[
+    (r#""1.70""#, r#""1.70""#),
+    (r#""1.70.0""#, r#""1.70""#),
+    (r#""1.70.1""#, r#""1.70.1""#),
+    (r#""0.0""#, r#""0.0""#),
+];
+
+/// JSON that is read as a node or a resolved graph, and what is written for it.
+const NODES: &[(&str, &str)] = &[(
+    r#"{"id":"a","dependencies":["c"]}"#,
+    r#"{"dependencies":["c"],"deps":[],"features":[],"id":"a"}"#,
+)];
+
+const GRAPHS: &[(&str, &str)] = &[
+    (r#"{"nodes":[],"root":"a"}"#, r#"{"nodes":[],"root":"a"}"#),
+    (
+        r#"{"nodes":[{"id":"a","deps":[{"name":"b","pkg":"c","dep_kinds":[{"kind":"build","target":"t"},{}]}],"dependencies":["c"],"features":["f"]}],"root":null}"#,
+        r#"{"nodes":[{"dependencies":["c"],"deps":[{"dep_kinds":[{"kind":"build","target":"t"},{"kind":null,"target":null}],"name":"b","pkg":"c"}],"features":["f"],"id":"a"}],"root":null}"#,
+    ),
+];
+
+/// The same of a whole document.
+const DOCUMENTS: &[(&str, &str)] = &[
+    (
+        r#"{"packages":[],"workspace_members":["a"],"workspace_root":"/w","target_directory":"/t"}"#,
+        r#"{"metadata":null,"packages":[],"resolve":null,"target_directory":"/t","version":0,"workspace_members":["a"],"workspace_root":"/w"}"#,
+    ),
+    (
+        r#"{"packages":[],"workspace_members":[],"workspace_default_members":["b"],"workspace_root":"/w","target_directory":"/t","build_directory":"/b","metadata":{"k":[true]},"version":1,"resolve":{"nodes":[],"root":null}}"#,
+        r#"{"build_directory":"/b","metadata":{"k":[true]},"packages":[],"resolve":{"nodes":[],"root":null},"target_directory":"/t","version":1,"workspace_default_members":["b"],"workspace_members":[],"workspace_root":"/w"}"#,
+    ),
+    (
+        r#"{"packages":[{"name":"a","version":"0.1.0","id":"path+file:///w/a#0.1.0","dependencies":[{"name":"b","req":"*","kind":"dev","optional":false,"uses_default_features":false,"features":[]}],"targets":[],"features":{},"manifest_path":"/w/a/Cargo.toml"},{"name":"b","version":"0.1.0","id":"path+file:///w/b#0.1.0","dependencies":[],"targets":[],"features":{},"manifest_path":"/w/b/Cargo.toml"}],"workspace_members":["path+file:///w/a#0.1.0"],"workspace_root":"/w","target_directory":"/w/target","resolve":{"nodes":[{"id":"path+file:///w/a#0.1.0","deps":[{"name":"b","pkg":"path+file:///w/b#0.1.0","dep_kinds":[{"kind":"dev","target":null}]}],"dependencies":["path+file:///w/b#0.1.0"],"features":[]},{"id":"path+file:///w/b#0.1.0","deps":[],"dependencies":[],"features":[]}],"root":null}}"#,
+        r#"{"metadata":null,"packages":[{"authors":[],"categories":[],"default_run":null,"dependencies":[{"features":[],"kind":"dev","name":"b","optional":false,"registry":null,"rename":null,"req":"*","source":null,"target":null,"uses_default_features":false}],"description":null,"documentation":null,"edition":"2015","features":{},"homepage":null,"id":"path+file:///w/a#0.1.0","keywords":[],"license":null,"license_file":null,"links":null,"manifest_path":"/w/a/Cargo.toml","metadata":null,"name":"a","publish":null,"readme":null,"repository":null,"rust_version":null,"source":null,"targets":[],"version":"0.1.0"},{"authors":[],"categories":[],"default_run":null,"dependencies":[],"description":null,"documentation":null,"edition":"2015","features":{},"homepage":null,"id":"path+file:///w/b#0.1.0","keywords":[],"license":null,"license_file":null,"links":null,"manifest_path":"/w/b/Cargo.toml","metadata":null,"name":"b","publish":null,"readme":null,"repository":null,"rust_version":null,"source":null,"targets":[],"version":"0.1.0"}],"resolve":{"nodes":[{"dependencies":["path+file:///w/b#0.1.0"],"deps":[{"dep_kinds":[{"kind":"dev","target":null}],"name":"b","pkg":"path+file:///w/b#0.1.0"}],"features":[],"id":"path+file:///w/a#0.1.0"},{"dependencies":[],"deps":[],"features":[],"id":"path+file:///w/b#0.1.0"}],"root":null},"target_directory":"/w/target","version":0,"workspace_members":["path+file:///w/a#0.1.0"],"workspace_root":"/w"}"#,
+    ),
+];
+
+/// What is written for what is read of a text.
+fn written<T: FromValue + ToValue>(alloc: Global, json: &str) -> Result<String, Fail> {
+    let value = Value::from_str(alloc, json)?;
+    let read = T::from_value(alloc, &value)?;
+    Ok(read.to_value(alloc)?.to_string(alloc)?)
+}
+
+/// What is read of a text, with all its fields.
+fn fields<T: FromValue + Debug>(alloc: Global, json: &str) -> Result<String, Fail> {
+    let value = Value::from_str(alloc, json)?;
+    let read = T::from_value(alloc, &value)?;
+    Ok(format!(in alloc; "{read:?}")?)
+}
+
+/// Compares what is written for each row with what is expected, and what is read of both.
+fn hold<T: FromValue + ToValue + Debug>(
+    alloc: Global,
+    around: (&str, &str, &str, &str),
+    rows: &[(&str, &str)],
+) -> Result<(), Fail> {
+    let (before, behind, written_before, written_behind) = around;
+    for &(row, expected) in rows {
+        let json = format!(in alloc; "{before}{row}{behind}")?;
+        let expected = format!(in alloc; "{written_before}{expected}{written_behind}")?;
+        let told = written::<T>(alloc, json.as_str())?;
+        if told != expected {
+            return Err(Fail::new(format_args!("{row}: {told} in place of {expected}")));
+        }
+        if fields::<T>(alloc, told.as_str())? != fields::<T>(alloc, json.as_str())? {
+            return Err(Fail::new(format_args!("{row}: {told} is read as another value")));
+        }
+    }
+    Ok(())
+}
+
+/// Nothing stands around the rows.
+const WHOLE: (&str, &str, &str, &str) = ("", "", "", "");
+
+#[test]
+fn texts_are_written(rt: HostRuntime) -> Result<(), Fail> {
+    hold::<PackageId>(rt.alloc(), WHOLE, IDS)?;
+    hold::<Source>(rt.alloc(), WHOLE, IDS)
+}
+
+#[test]
+fn declared_dependencies_are_written(rt: HostRuntime) -> Result<(), Fail> {
+    hold::<Dependency>(rt.alloc(), WHOLE, DECLARED)
+}
+
+#[test]
+fn targets_are_written(rt: HostRuntime) -> Result<(), Fail> {
+    hold::<Target>(rt.alloc(), WHOLE, TARGETS)
+}
+
+#[test]
+fn packages_are_written(rt: HostRuntime) -> Result<(), Fail> {
+    hold::<Package>(rt.alloc(), WHOLE, PACKAGES)
+}
+
+#[test]
+fn versions_of_rust_are_written(rt: HostRuntime) -> Result<(), Fail> {
+    hold::<Package>(
+        rt.alloc(),
+        (BEFORE, "}", WRITTEN_BEFORE, WRITTEN_BEHIND),
+        RUST_VERSIONS,
+    )
+}
+
+#[test]
+fn resolved_graphs_are_written(rt: HostRuntime) -> Result<(), Fail> {
+    hold::<Node>(rt.alloc(), WHOLE, NODES)?;
+    hold::<Resolve>(rt.alloc(), WHOLE, GRAPHS)
+}
+
+#[test]
+fn documents_are_written(rt: HostRuntime) -> Result<(), Fail> {
+    hold::<Metadata>(rt.alloc(), WHOLE, DOCUMENTS)
+}

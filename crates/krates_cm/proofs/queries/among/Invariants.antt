@@ -1,0 +1,8 @@
+use Rattle.std.proofs.Common.{◌≡◌, map, take}
+use Rattle.krates_cm.specs.Document.{id_view}
+use Rattle.krates_cm.specs.Queries.{packages_among}
+use Rattle.krates_cm.proofs.queries.among.Given as goal
+
+-- those of the packages so far are found
+abbrev pub invariant-loop-pkg : goal.invariant-loop-pkg
+invariant-loop-pkg l = map (λ p. p.now) l.found.items ≡ packages_among (take l.pkg-index l.packages) (map id_view l.ids)

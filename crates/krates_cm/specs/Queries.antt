@@ -1,0 +1,40 @@
+-- What is asked of a document: its root, the packages of its workspace, the files that a package names.
+use Rattle.std.specs.Prelude.{◌≡◌, ◌⊎◌, ℕ, List, [], ◌∷◌, ◌++◌, Option, None, Some, option_and_then, MatchOption, codes, bytes_eq, filter}
+use Rattle.std.specs.List.{AllWithin, All, find, list_any, slice_get}
+use Rattle.krates_text.specs.Path.{HasNoParent, IsParent, components, joined}
+use Rattle.krates_cm.specs.Document.{Text, text_view, id_view}
+use Rattle.krates_cm.specs.declared.metadata.Metadata.{Metadata}
+use Rattle.krates_cm.specs.declared.package.Package.{Package}
+
+-- the first package of this id
+abbrev pub package_of : List Package → Text → Option Package
+package_of packages id = find (λ p. bytes_eq (id_view p.id) id) packages
+
+-- the packages of these ids, in the order of the document
+abbrev pub packages_among : List Package → List Text → List Package
+packages_among packages ids = filter (λ p. list_any (λ id. bytes_eq id (id_view p.id)) ids) packages
+
+-- the first with a property, or none where none has it
+abbrev pub IsFirst : {X : Type 0} → (X → Type 0) → List X → Option X → Type 0
+IsFirst P xs first = MatchOption first (All (λ x. P x → ⊥) xs)
+    (λ x. P x × (place : ℕ) × (slice_get xs place ≡ Some x) × AllWithin (λ y. P y → ⊥) xs 0 place)
+
+-- by its components, the path is that of the manifest in a directory
+abbrev pub IsManifestIn : Text → Text → Type 0
+IsManifestIn directory path = components path ≡ components directory ++ codes "Cargo.toml" ∷ []
+
+-- With a resolved graph, the first package whose id is that of the graph's root; without one, the first
+-- whose manifest is that of the workspace's root.
+abbrev pub IsRootPackage : Metadata → Option Package → Type 0
+IsRootPackage m root = MatchOption m.resolve
+    (IsFirst (λ p. IsManifestIn (text_view m.workspace_root) (text_view p.manifest_path)) m.packages.items root)
+    (λ graph. root ≡ option_and_then (λ id. package_of m.packages.items (id_view id)) graph.root)
+
+-- the directory of a manifest: its path's parent, and that path itself where it has none
+abbrev pub IsDirectoryOf : Text → Text → Type 0
+IsDirectoryOf manifest directory = IsParent manifest directory ⊎ (HasNoParent manifest × (directory ≡ manifest))
+
+-- where a file is that a manifest names, if it names one: joined to the manifest's directory
+abbrev pub IsBeside : Text → Option Text → Option Text → Type 0
+IsBeside manifest file path = MatchOption file (path ≡ None)
+    (λ name. (directory : Text) × IsDirectoryOf manifest directory × (path ≡ Some (joined directory name)))

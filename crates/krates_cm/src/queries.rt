@@ -1,0 +1,233 @@
+//! What is asked of a document: its root, the packages of its workspace, the files that a package names.
+
+ghost use Rattle.std.specs.Prelude.{◌≡◌, ◌↔◌, Contains, IfOk, IsSome, IsTrue, Some, bytes_eq, codes, map, option_copied, option_map};
+ghost use Rattle.std.specs.List.{list_any};
+ghost use Rattle.krates_cm.specs.Document.{id_view, ids_view, source_view, text_view};
+ghost use Rattle.krates_cm.specs.Queries.{package_of, packages_among, IsBeside, IsManifestIn, IsRootPackage};
+ghost use Rattle.krates_cm.specs.declared.target.TargetKind.TheVariants as kinds;
+
+use crate::metadata::{Metadata, WorkspaceDefaultMembers};
+use crate::package::{Package, Source};
+use crate::package_id::PackageId;
+use crate::target::{Target, TargetKind};
+use krates_text::path;
+use std::alloc::{AllocError, Global};
+use std::ops::Index;
+
+impl Metadata {
+    /// The package that the document was made for: with a resolved graph the first whose id is that of
+    /// the graph's root, and none where it has no root; without one the first whose manifest is `Cargo.toml`
+    /// in the workspace's root, paths being compared by components. Time `O(packages)`.
+    pub fn root_package(&self) -> Option<&Package>
+        ensures { IsRootPackage self.now (option_copied result) }
+    {
+        match &self.resolve {
+            Some(graph) => match &graph.root {
+                Some(id) => self.package(id),
+                None => None,
+            },
+            None => self.packages.iter().find(|p| is_manifest_in(
+                self.workspace_root.as_str(),
+                p.manifest_path.as_str(),
+            )),
+        }
+    }
+
+    /// The first package of this id; none where the document has none. Time `O(packages)`.
+    pub fn package(&self, id: &PackageId) -> Option<&Package>
+        ensures { option_copied result ≡ package_of self.now.packages.items (id_view id.now) }
+    {
+        self.packages.iter().find(|p| p.id == *id)
+    }
+
+    /// The packages whose ids are those of members, in the order of the document.
+    /// The only error is want of memory. Time `O(packages · members)`.
+    pub fn workspace_packages(&self, alloc: Global) -> Result<Vec<&Package>, AllocError>
+        ensures { IfOk result (λ v. map (λ p. p.now) v.items
+            ≡ packages_among self.now.packages.items (ids_view self.now.workspace_members)) }
+    {
+        among(
+            alloc,
+            self.packages.as_slice(),
+            self.workspace_members.as_slice(),
+        )
+    }
+
+    /// The packages whose ids are those of default members, in the order of the document; none where the
+    /// document names no default members. The only error is want of memory. Time `O(packages · members)`.
+    pub fn workspace_default_packages(
+        &self,
+        alloc: Global,
+    ) -> Result<Option<Vec<&Package>>, AllocError>
+        ensures { IfOk result (λ o. option_map (λ v. map (λ p. p.now) v.items) o
+            ≡ option_map (λ ids. packages_among self.now.packages.items (ids_view ids)) self.now.workspace_default_members.0) }
+    {
+        match &self.workspace_default_members.0 {
+            Some(ids) => Ok(Some(among(alloc, self.packages.as_slice(), ids.as_slice())?)),
+            None => Ok(None),
+        }
+    }
+}
+
+/// The first package of an id, which has to be there.
+impl Index<&PackageId> for Metadata {
+    type Output = Package;
+
+    ghost can_index = { λ m id. IsSome (package_of m.packages.items (id_view id.now)) };
+
+    ghost index_gives = { λ m id p. package_of m.packages.items (id_view id.now) ≡ Some p };
+
+    fn index(&self, id: &PackageId) -> &Package {
+        self.package(id).unwrap()
+    }
+}
+
+impl WorkspaceDefaultMembers {
+    /// The default members, in the order of the document; none where it doesn't name them.
+    pub fn as_slice(&self) -> Option<&[PackageId]>
+        ensures { option_map (λ ids. ids.now) result ≡ option_map (λ ids. ids.items) self.now.0 }
+    {
+        match &self.0 {
+            Some(ids) => Some(ids.as_slice()),
+            None => None,
+        }
+    }
+}
+
+impl Package {
+    /// The path of the licence file, where the manifest names one: joined to the manifest's directory.
+    /// The only error is want of memory.
+    pub fn license_file(&self, alloc: Global) -> Result<Option<String>, AllocError>
+        ensures { IfOk result (λ path. IsBeside (text_view self.now.manifest_path)
+            (option_map text_view self.now.license_file) (option_map text_view path)) }
+    {
+        beside(alloc, self.manifest_path.as_str(), &self.license_file)
+    }
+
+    /// The path of the readme, where the manifest names one: joined to the manifest's directory.
+    /// The only error is want of memory.
+    pub fn readme(&self, alloc: Global) -> Result<Option<String>, AllocError>
+        ensures { IfOk result (λ path. IsBeside (text_view self.now.manifest_path)
+            (option_map text_view self.now.readme) (option_map text_view path)) }
+    {
+        beside(alloc, self.manifest_path.as_str(), &self.readme)
+    }
+}
+
+impl Source {
+    /// Whether this is the registry crates.io.
+    pub fn is_crates_io(&self) -> bool
+        ensures { result ≡ bytes_eq (source_view self.now) (codes "registry+https://github.com/rust-lang/crates.io-index") }
+    {
+        self.repr.as_str() == "registry+https://github.com/rust-lang/crates.io-index"
+    }
+}
+
+impl Target {
+    /// Whether the kinds have `lib`.
+    pub fn is_lib(&self) -> bool
+        ensures { IsTrue result ↔ Contains self.now.kind.items kinds.Lib }
+    {
+        has_kind(self, TargetKind::Lib)
+    }
+
+    /// Whether the kinds have `bin`.
+    pub fn is_bin(&self) -> bool
+        ensures { IsTrue result ↔ Contains self.now.kind.items kinds.Bin }
+    {
+        has_kind(self, TargetKind::Bin)
+    }
+
+    /// Whether the kinds have `example`.
+    pub fn is_example(&self) -> bool
+        ensures { IsTrue result ↔ Contains self.now.kind.items kinds.Example }
+    {
+        has_kind(self, TargetKind::Example)
+    }
+
+    /// Whether the kinds have `test`.
+    pub fn is_test(&self) -> bool
+        ensures { IsTrue result ↔ Contains self.now.kind.items kinds.Test }
+    {
+        has_kind(self, TargetKind::Test)
+    }
+
+    /// Whether the kinds have `bench`.
+    pub fn is_bench(&self) -> bool
+        ensures { IsTrue result ↔ Contains self.now.kind.items kinds.Bench }
+    {
+        has_kind(self, TargetKind::Bench)
+    }
+
+    /// Whether the kinds have `custom-build`.
+    pub fn is_custom_build(&self) -> bool
+        ensures { IsTrue result ↔ Contains self.now.kind.items kinds.CustomBuild }
+    {
+        has_kind(self, TargetKind::CustomBuild)
+    }
+
+    /// Whether the kinds have `proc-macro`.
+    pub fn is_proc_macro(&self) -> bool
+        ensures { IsTrue result ↔ Contains self.now.kind.items kinds.ProcMacro }
+    {
+        has_kind(self, TargetKind::ProcMacro)
+    }
+}
+
+/// Whether a target has this kind.
+fn has_kind(target: &Target, kind: TargetKind) -> bool
+    ensures { IsTrue result ↔ Contains target.now.kind.items kind }
+{
+    target.kind.contains(&kind)
+}
+
+/// The packages of some ids, in the order of the document.
+fn among<'a>(
+    alloc: Global,
+    packages: &'a [Package],
+    ids: &[PackageId],
+) -> Result<Vec<&'a Package>, AllocError>
+    ensures { IfOk result (λ v. map (λ p. p.now) v.items ≡ packages_among packages.now (map id_view ids.now)) }
+{
+    let mut found = Vec::new(alloc);
+    for pkg in packages {
+        if is_among(ids, &pkg.id) {
+            found.push(pkg)?;
+        }
+    }
+    Ok(found)
+}
+
+/// Whether an id is among some.
+fn is_among(ids: &[PackageId], id: &PackageId) -> bool
+    ensures { result ≡ list_any (λ one. bytes_eq one (id_view id.now)) (map id_view ids.now) }
+{
+    ids.contains(id)
+}
+
+/// Whether a path is that of the manifest in a directory, by components.
+fn is_manifest_in(directory: &str, path: &str) -> bool
+    ensures { IsTrue result ↔ IsManifestIn directory.now path.now }
+{
+    match path::parent(path) {
+        Some(parent) => path::same(parent, directory) && path::ends_with(path, "Cargo.toml"),
+        None => false,
+    }
+}
+
+/// Where a file is that a manifest names.
+fn beside(
+    alloc: Global,
+    manifest: &str,
+    file: &Option<String>,
+) -> Result<Option<String>, AllocError>
+    ensures { IfOk result (λ path. IsBeside manifest.now (option_map text_view file.now) (option_map text_view path)) }
+{
+    match file {
+        Some(name) => {
+            let directory = path::parent(manifest).unwrap_or(manifest);
+            Ok(Some(path::join(alloc, directory, name.as_str())?))
+        }
+        None => Ok(None),
+    }
+}

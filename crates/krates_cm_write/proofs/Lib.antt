@@ -1,0 +1,5 @@
+pub mod DocumentAgain
+pub mod ReadAgain
+pub mod ReadBefore
+pub mod VersionsAgain
+pub mod WrittenLists

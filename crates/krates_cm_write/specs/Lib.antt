@@ -1,0 +1,4 @@
+pub mod Objects
+pub mod RoundTrip
+pub mod Texts
+pub mod WrittenTables
