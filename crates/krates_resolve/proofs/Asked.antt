@@ -9,16 +9,16 @@ use Rattle.krates_rules.specs.Admission.{NoneDoubled, dep_texts}
 use Rattle.krates_rules.specs.DeclaredDependency.{dependency_entry, IsDeclared, IsFirstPlace}
 use Rattle.krates_rules.specs.Facts.{Id, Edge}
 use Rattle.krates_resolve.specs.LookedUp.{ArePartsOf, NoDep, IsEntryBetween, IsDeclaredFor, TellsDeclared}
-use Rattle.krates_resolve.specs.Lookup.{IsLookup, resolved_view}
+use Rattle.krates_resolve.specs.Lookup.{resolved_view}
 use Rattle.krates_resolve.specs.NodeEntry.{AreParts, IsEntry, IsEntryOf, parent_of, child_of, declared_in, entry_of, edge_for}
 use Rattle.krates_rules.specs.Questions.{edge_between, Declares, Stands, IsWanted, questions}
-use Rattle.krates_rules.specs.Resolved.{Resolved, id_of, ReadsAs, HasNode, HasDep, StandsAt}
+use Rattle.krates_rules.specs.Resolved.{NodeAt, Resolved, id_of, ReadsAs, HasNode, HasDep, StandsAt}
 use Rattle.krates_resolve.specs.RootChoice.{AsksFor}
 use Rattle.krates_resolve.specs.RootOrder.{ArePicked, nothing, picked, passed, AreInOrder, of_members}
 use Rattle.krates_rules.specs.Roots.{IsRoot}
 use Rattle.krates_rules.specs.Rules.{Open}
 use Rattle.krates_rules.specs.Setting.{SettingModel, IsIgnored, Passes}
-use Rattle.krates_resolve.specs.Table.{IsPlaceOf}
+use Rattle.krates_resolve.specs.CrateTable.{IsPlaceOf}
 use Rattle.krates_resolve.specs.declared.lookup.Lookup.{Lookup}
 use Rattle.krates_resolve.specs.declared.node_entry.NodeEntry.{NodeEntry}
 use Rattle.krates_resolve.specs.declared.node_entry.NodeParts.{NodeParts}
@@ -27,7 +27,6 @@ use Rattle.krates_document.proofs.DeclaredOnce.{declared_stands}
 use Rattle.krates_resolve.proofs.Entries.{Heeds, wanted}
 use Rattle.krates_document.proofs.FirstPlaces.{seen_at}
 use Rattle.krates_resolve.proofs.Growth.{one_id}
-use Rattle.krates_resolve.proofs.Lookups.{node_answer}
 use Rattle.krates_resolve.proofs.NodeParts.{entry_here}
 use Rattle.krates_rules.proofs.OnlyOne.{place_in, one_node, one_dep}
 use Rattle.krates_resolve.proofs.RootLemmas.{root_member}
@@ -43,10 +42,9 @@ place_told ids i (Some place) (j, first) =
     record { there = get_or ids place x.0; at = slice_get-get_or ids place x.0 x.1; same = x.2 ∙ first.holds }
 
 -- the parts of the node at the crate's place are those of its node
-pub parts_told : ReadsOnce → (d : Lookup) (krate : Id) (place : ℕ) (x : NodeParts) → IsLookup d → StandsAt d.ids.now.nodes.items krate place → AreParts (resolved_view d) place x → ArePartsOf (resolved_view d) krate x
-parts_told once d krate place x h s p =
+pub parts_told : ReadsOnce → (d : Lookup) (krate : Id) (place : ℕ) (x : NodeParts) → NodeAt (resolved_view d) krate place → AreParts (resolved_view d) place x → ArePartsOf (resolved_view d) krate x
+parts_told once d krate place x at p =
     let r = resolved_view d in
-    let at = node_answer r d.ids.now.nodes.items krate (Some place) once h.ids.nodes s in
     record { parts = subst (λ (n : ℕ). AreParts r n x) (sym p.place_is) p; parent = one_id once r (id_of x.parent.now) krate place p.at at }
 
 -- where the child isn't among the ids of the node's dependencies, the node doesn't have it

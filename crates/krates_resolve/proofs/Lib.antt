@@ -13,10 +13,12 @@ pub mod LeastReferents
 pub mod LinkLemmas
 pub mod Lookups
 pub mod NodeParts
+pub mod NumberedPlaces
 pub mod Referents
 pub mod RootLemmas
 pub mod Saturated
+pub mod Searches
+pub mod SeenInOrder
 pub mod Selected
-pub mod Tables
 pub mod Taken
 pub mod Waking

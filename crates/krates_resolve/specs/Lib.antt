@@ -1,4 +1,5 @@
 pub mod Basis
+pub mod CrateTable
 pub mod DocumentModel
 pub mod FeatureOrder
 pub mod FeatureTable
@@ -18,4 +19,3 @@ pub mod Saturation
 pub mod Selection
 pub mod SelectionOrder
 pub mod Standing
-pub mod Table

@@ -2,6 +2,7 @@
 #![tactic(auto)]
 
 mod basis;
+mod crate_table;
 mod enabling;
 mod expansion;
 mod feature_table;
@@ -19,7 +20,6 @@ mod saturation;
 pub mod selection;
 mod sorted;
 mod standing;
-mod table;
 
 pub use krates_document::{Ids, Setting, admit};
 pub use krates_rules::{DepKind, Scope, laws};

@@ -7,23 +7,20 @@ ghost use Rattle.krates_document.specs.Ids.{ids_view};
 ghost use Rattle.krates_resolve.specs.Lookup.{IsLookup, IsOf, IsPackagePlace, TellsPackage, IsNodePlace, TellsMember, resolved_view};
 ghost use Rattle.krates_rules.specs.Resolved.{id_of};
 
+use crate::crate_table::{CrateTable, crate_table, number_of};
 use crate::feature_table::{FeatureTable, feature_table};
-use crate::table::{place_of, places_by_id};
 use krates_cm::{Metadata, Package, Resolve};
 use krates_document::ids::Ids;
 use krates_ids::{Kid, laws};
 use std::alloc::{AllocError, Global};
-use std::collections::BTreeMap;
 
-/// A document with its ids, and where the packages, the nodes and the members of each id stand.
+/// A document with its ids, its crates by number, and its features by number.
 #[derive(Drop)]
 pub(crate) struct Lookup<'a> {
     pub metadata: &'a Metadata,
     pub resolve: &'a Resolve,
     pub ids: &'a Ids,
-    pub packages: BTreeMap<&'a Kid, usize>,
-    pub nodes: BTreeMap<&'a Kid, usize>,
-    pub members: BTreeMap<&'a Kid, usize>,
+    pub table: CrateTable,
     pub features: FeatureTable<'a>,
 }
 
@@ -39,23 +36,19 @@ pub(crate) fn lookup_of<'a>(
     ensures lookup { IfOk result (λ d. IsLookup d) }
     ensures of_these { IfOk result (IsOf metadata.now resolve.now ids.now) }
 {
-    let packages = places_by_id(alloc, &ids.packages)?;
-    let nodes = places_by_id(alloc, &ids.nodes)?;
-    let members = places_by_id(alloc, &ids.members)?;
+    let table = crate_table(alloc, ids)?;
     let features = feature_table(alloc, &resolve.nodes)?;
     Ok(Lookup {
         metadata,
         resolve,
         ids,
-        packages,
-        nodes,
-        members,
+        table,
         features,
     })
 }
 
 /// The package with the id.
-pub(crate) fn package_of<'a>(lookup: &Lookup<'a>, id: &'a Kid) -> Option<&'a Package>
+pub(crate) fn package_of<'a>(lookup: &Lookup<'a>, id: &Kid) -> Option<&'a Package>
     requires { IsLookup lookup.now }
     ensures { TellsPackage (resolved_view lookup.now) (id_of id.now) result }
 {
@@ -64,28 +57,33 @@ pub(crate) fn package_of<'a>(lookup: &Lookup<'a>, id: &'a Kid) -> Option<&'a Pac
 }
 
 /// The place of the package with the id.
-fn package_place<'a>(lookup: &Lookup<'a>, id: &'a Kid) -> Option<usize>
+fn package_place(lookup: &Lookup<'_>, id: &Kid) -> Option<usize>
     requires { IsLookup lookup.now }
     ensures { IsPackagePlace (resolved_view lookup.now) (id_of id.now) result }
 {
     laws::one_reading();
-    place_of(&lookup.ids.packages, &lookup.packages, id)
+    let number = number_of(&lookup.table.ids, id)?;
+    lookup.table.packages[number]
 }
 
 /// The place of the node with the id.
-pub(crate) fn node_place<'a>(lookup: &Lookup<'a>, id: &'a Kid) -> Option<usize>
+pub(crate) fn node_place(lookup: &Lookup<'_>, id: &Kid) -> Option<usize>
     requires { IsLookup lookup.now }
     ensures { IsNodePlace (resolved_view lookup.now) (id_of id.now) result }
 {
     laws::one_reading();
-    place_of(&lookup.ids.nodes, &lookup.nodes, id)
+    let number = number_of(&lookup.table.ids, id)?;
+    lookup.table.nodes[number]
 }
 
 /// Whether the crate is a member of the workspace.
-pub(crate) fn is_member<'a>(lookup: &Lookup<'a>, id: &'a Kid) -> bool
+pub(crate) fn is_member(lookup: &Lookup<'_>, id: &Kid) -> bool
     requires { IsLookup lookup.now }
     ensures { TellsMember (resolved_view lookup.now) (id_of id.now) result }
 {
     laws::one_reading();
-    place_of(&lookup.ids.members, &lookup.members, id).is_some()
+    let Some(number) = number_of(&lookup.table.ids, id) else {
+        return false;
+    };
+    lookup.table.members[number].is_some()
 }

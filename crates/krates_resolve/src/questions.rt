@@ -17,10 +17,10 @@ ghost use Rattle.krates_resolve.specs.RootChoice.{AsksFor};
 ghost use Rattle.krates_resolve.specs.RootOrder.{AreInOrder};
 ghost use Rattle.krates_rules.specs.Roots.{IsRoot};
 ghost use Rattle.krates_rules.specs.Rules.{Open};
-ghost use Rattle.krates_resolve.specs.Table.{IsPlaceOf};
+ghost use Rattle.krates_resolve.specs.CrateTable.{IsPlaceOf};
 
 use crate::basis::Basis;
-use crate::lookup::{Lookup, lookup_of};
+use crate::lookup::{Lookup, lookup_of, node_place};
 use crate::node_entry::{NodeEntry, NodeParts, entry_at, is_same_info, parts_of};
 use crate::referent::referent_of;
 use crate::roots::{RootChoice, choice_of, is_root};
@@ -35,8 +35,8 @@ use std::marker::Model;
 
 /// A document that was admitted, ready to be asked what the rules of resolution ask of it.
 ///
-/// A crate is named by its id. One that isn't of the document has no dependency, and is no root. Each question goes over the
-/// ids of the document's nodes, or of its members, once.
+/// A crate is named by its id, and found by halves. One that isn't of the document has no dependency, and is no root. The roots
+/// take one walk over the members.
 #[derive(Drop)]
 pub struct Document<'a> {
     lookup: Lookup<'a>,
@@ -165,14 +165,12 @@ fn referent_in<'a>(lookup: &Lookup<'a>, krate: &Kid, name: &str) -> Option<&'a K
 }
 
 /// The node of a crate, taken apart; none where it has no node.
-///
-/// It is looked for in the list of ids, since the table takes only ids that live as long as the document.
 fn parts_for<'a>(lookup: &Lookup<'a>, krate: &Kid) -> Option<NodeParts<'a>>
     requires { IsLookup lookup.now }
     ensures { TellsParts (resolved_view lookup.now) (id_of krate.now) result }
 {
     laws::one_reading();
-    let Some(place) = place_among(&lookup.ids.nodes, krate) else {
+    let Some(place) = node_place(lookup, krate) else {
         return None;
     };
     Some(parts_of(lookup, place))
