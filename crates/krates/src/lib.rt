@@ -36,6 +36,7 @@ pub mod cm {
         Node, NodeDep, Package, PackageId, ReadError, Resolve, Source, Target, TargetKind,
         UnknownName, WorkspaceDefaultMembers, laws,
     };
+    pub use krates_cm_write::ToValue;
 }
 
 /// Expressions over targets, and the targets that are known by their triple.
