@@ -1,11 +1,9 @@
-//! Worked examples of texts, ids, metadata and the graph: what the lower crates answer where the answer is known.
+//! Worked examples of ids and metadata: what the crates of the document answer where the answer is known.
 //!
 //! They stand apart from the crates that they test, since a crate with tests is proved twice. What is expected stands in
 //! constants, which cost no proof: a row in the body of a test costs as much as a small function.
 #![tactic(auto)]
 
-#[cfg(test)]
-mod agenda;
 #[cfg(test)]
 mod cargo;
 #[cfg(test)]
@@ -13,28 +11,16 @@ mod correction;
 #[cfg(test)]
 mod documents;
 #[cfg(test)]
-mod expressions;
-#[cfg(test)]
-mod graph;
-#[cfg(test)]
 mod ids;
 #[cfg(test)]
 mod packages;
-#[cfg(test)]
-mod passing;
-#[cfg(test)]
-mod paths;
 #[cfg(test)]
 mod queries;
 #[cfg(test)]
 mod reading;
 #[cfg(test)]
-mod references;
-#[cfg(test)]
 mod refusals;
 #[cfg(test)]
 mod specifications;
-#[cfg(test)]
-mod targets;
 #[cfg(test)]
 mod writing;
