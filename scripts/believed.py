@@ -1,0 +1,180 @@
+#!/usr/bin/env python3
+"""Lists the definitions that the contract of `build_with_metadata` reaches: all that a reader has to believe of the headline.
+
+    scripts/believed.py           writes docs/HEADLINE.md
+    scripts/believed.py --check   says whether docs/HEADLINE.md is what it would write
+
+The definitions of the standard library and of the ported crates are left out: they are not this repository's.
+"""
+import pathlib
+import re
+import sys
+
+ROOT = pathlib.Path(__file__).resolve().parent.parent
+PAGE = ROOT / "docs" / "HEADLINE.md"
+SOURCE = "crates/krates/src/builder.rt"
+FUNCTION = "build_with_metadata"
+
+HEAD = """# The headline, and all that has to be believed of it
+
+Written by `scripts/believed.py` from the contract of `Builder::build_with_metadata`
+([builder.rt](../{source})), and compared with it by each run of the gate. The proofs need not be read: they are checked.
+What has to be read, to know what is proved, are the contract and the {count} definitions that it reaches, {lines} lines in {files} files.
+Of these, {fields} lines say nothing new: they list the fields of a document and of what an index answers, as clauses see them.
+They stand here so that each is explained before it is used, each with the sentence that stands above it in its file.
+
+```
+{contract}
+```
+"""
+
+IMPORT = re.compile(r"^\s*(?:ghost )?use Rattle\.(\w+)\.specs\.([\w.]+?)(?:\.\{(.*?)\})?(?: as (\w+))?;?$", re.M | re.S)
+DEFINITION = re.compile(r"^(?:abbrev |unfoldable )?pub (?:(data|record) )?([\w']+)")
+WORD = re.compile(r"[\w']+")
+
+
+class Definition:
+    """A definition of a file: its name, the sentence above it, its lines, the words in it."""
+
+    def __init__(self, file, name, remark, text):
+        self.file, self.name, self.remark, self.text = file, name, remark, text
+        self.words = set(WORD.findall("\n".join(line.split("--")[0] for line in text.split("\n"))))
+
+
+class File:
+    """A file of definitions: its imports by the word that they bring, and its definitions by name."""
+
+    def __init__(self, path):
+        self.path = path
+        text = path.read_text(encoding="utf-8")
+        self.title = " ".join(re.match(r"(?:-- ?[^\n]*\n)*", text)[0].replace("-- ", "").replace("--", "").split())
+        self.imports = imports_of(text)
+        self.definitions = {}
+        for paragraph in re.split(r"\n{2,}", without_blocks(text)):
+            for name, definition in definitions_of(self, paragraph):
+                self.definitions[name] = definition
+
+
+def without_blocks(text):
+    """The text with the definitions of its `mutual` blocks as if they stood alone."""
+    lines, inside = [], False
+    for line in text.split("\n"):
+        if line in ("mutual", "abbrev mutual"):
+            inside = True
+            continue
+        inside = inside and (not line or line.startswith("  "))
+        lines.append(line[2:] if inside else line)
+    return "\n".join(lines)
+
+
+def imports_of(text):
+    """Which definition of which file each imported word names; `None` stands for the whole file."""
+    found = {}
+    for crate, path, names, alias in IMPORT.findall(text):
+        file = ROOT / "crates" / crate / "specs" / (path.split(".")[0] + ".antt")
+        if not file.exists():
+            continue
+        if alias and not names:
+            found[alias] = (file, None)
+        for name in names.replace("\n", " ").split(","):
+            word = name.strip().split(" as ")
+            if word[0]:
+                found[word[-1]] = (file, word[0])
+    return found
+
+
+def definitions_of(file, paragraph):
+    """The definitions of a paragraph; the constructors of a `data` lead to it too."""
+    lines = paragraph.split("\n")
+    remark = " ".join(line.lstrip("- ") for line in lines if line.startswith("-- ") and not line.startswith("-- ----"))
+    body = "\n".join(line for line in lines if not line.startswith("--"))
+    for line in lines:
+        head = DEFINITION.match(line)
+        if not head:
+            continue
+        definition = Definition(file, head[2], remark, body)
+        yield head[2], definition
+        if head[1] == "data":
+            for constructor in re.findall(r"^  ([\w']+) :", body, re.M):
+                yield constructor, definition
+        return
+
+
+def read(path, files={}):
+    if path not in files:
+        files[path] = File(path)
+    return files[path]
+
+
+def contract():
+    """The clauses of the function, as they stand in the source, and the words in them."""
+    text = (ROOT / SOURCE).read_text(encoding="utf-8")
+    after = text[text.index("fn " + FUNCTION) :]
+    clauses = [line.strip() for line in after[: after.index("\n    {\n")].split("\n") if re.match(r"\s*(requires|ensures)", line)]
+    return clauses, imports_of(text)
+
+
+def used(words, imports, own):
+    """The definitions that these words name, by the imports and the definitions of the file in which they stand."""
+    for word in sorted(words):
+        if word in own:
+            yield own[word]
+        elif word in imports:
+            path, name = imports[word]
+            file = read(path)
+            if name is None:
+                yield from file.definitions.values()
+            elif name in file.definitions:
+                yield file.definitions[name]
+
+
+def reached():
+    """All definitions that the contract reaches, each behind those that it uses."""
+    clauses, imports = contract()
+    order, seen = [], set()
+
+    def visit(definition):
+        key = (definition.file.path, definition.name)
+        if key in seen:
+            return
+        seen.add(key)
+        for other in used(definition.words - {definition.name}, definition.file.imports, definition.file.definitions):
+            visit(other)
+        order.append(definition)
+
+    for definition in used(set(WORD.findall(" ".join(clauses))), imports, {}):
+        visit(definition)
+    return clauses, order
+
+
+def page():
+    clauses, order = reached()
+    files = []
+    for definition in order:
+        if definition.file not in files:
+            files.append(definition.file)
+    lines = sum(len(definition.text.split("\n")) for definition in order)
+    fields = sum(len(definition.text.split("\n")) for definition in order if definition.name.endswith(("_view", "Model")))
+    out = [HEAD.format(source=SOURCE, count=len(order), lines=lines, fields=fields, files=len(files), contract="\n".join(clauses))]
+    for file in files:
+        place = file.path.relative_to(ROOT)
+        out.append(f"## {file.title.split('. ')[0].rstrip('.')}\n\n[{place.parts[1]}, {place.stem}](../{place})\n")
+        for definition in [d for d in order if d.file is file]:
+            out.append(f"- `{definition.name}`" + (f": {definition.remark}" if definition.remark else ""))
+        out.append("")
+    return "\n".join(out)
+
+
+def main():
+    text = page()
+    if "--check" in sys.argv[1:]:
+        if PAGE.exists() and PAGE.read_text(encoding="utf-8") == text:
+            return 0
+        print("docs/HEADLINE.md is not what scripts/believed.py writes")
+        return 1
+    PAGE.write_text(text, encoding="utf-8")
+    return 0
+
+
+if __name__ == "__main__":
+    sys.exit(main())
