@@ -1,7 +1,8 @@
 -- What is asked of a document: its root, the packages of its workspace, the files that a package names.
 use Rattle.std.specs.Prelude.{◌≡◌, ◌⊎◌, ℕ, List, [], ◌∷◌, ◌++◌, Option, None, Some, option_and_then, MatchOption, codes, bytes_eq, filter}
 use Rattle.std.specs.List.{AllWithin, All, find, list_any, slice_get}
-use Rattle.krates_text.specs.Path.{HasNoParent, IsParent, components, joined}
+use Rattle.std.specs.Path.{path_join}
+use Rattle.krates_text.specs.Path.{HasNoParent, IsParent, components}
 use Rattle.krates_cm.specs.Document.{Text, text_view, id_view}
 use Rattle.krates_cm.specs.declared.metadata.Metadata.{Metadata}
 use Rattle.krates_cm.specs.declared.package.Package.{Package}
@@ -37,4 +38,4 @@ IsDirectoryOf manifest directory = IsParent manifest directory ⊎ (HasNoParent 
 -- where a file is that a manifest names, if it names one: joined to the manifest's directory
 abbrev pub IsBeside : Text → Option Text → Option Text → Type 0
 IsBeside manifest file path = MatchOption file (path ≡ None)
-    (λ name. (directory : Text) × IsDirectoryOf manifest directory × (path ≡ Some (joined directory name)))
+    (λ name. (directory : Text) × IsDirectoryOf manifest directory × (path ≡ Some (path_join directory name)))
