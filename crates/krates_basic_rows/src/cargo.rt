@@ -231,14 +231,34 @@ fn read(alloc: Global, success: bool, stdout: &[u8], stderr: &[u8]) -> Result<St
     }
 }
 
+/// What the lines of a table ask.
+trait Question {
+    /// What a line is answered.
+    fn told(alloc: Global, line: &str) -> Result<String, Fail>;
+}
+
+/// Asks for the words of a command.
+struct CommandWords;
+
+impl Question for CommandWords {
+    fn told(alloc: Global, line: &str) -> Result<String, Fail> {
+        words(alloc, line)
+    }
+}
+
+/// Asks what a tool's options become.
+struct OptionsCommand;
+
+impl Question for OptionsCommand {
+    fn told(alloc: Global, line: &str) -> Result<String, Fail> {
+        becomes(alloc, line)
+    }
+}
+
 /// Holds each row to its answer.
-fn hold(
-    alloc: Global,
-    rows: &[Row],
-    told: impl Fn(Global, &str) -> Result<String, Fail>,
-) -> Result<(), Fail> {
+fn hold<Q: Question>(alloc: Global, rows: &[Row]) -> Result<(), Fail> {
     for &(line, answer) in rows {
-        let told = told(alloc, line)?;
+        let told = Q::told(alloc, line)?;
         if told.as_str() != answer {
             return Err(Fail::new(format_args!("{line}: {told} in place of {answer}")));
         }
@@ -248,12 +268,12 @@ fn hold(
 
 #[test]
 fn words_of_a_command(rt: HostRuntime) -> Result<(), Fail> {
-    hold(rt.alloc(), WORDS, words)
+    hold::<CommandWords>(rt.alloc(), WORDS)
 }
 
 #[test]
 fn options_become_a_command(rt: HostRuntime) -> Result<(), Fail> {
-    hold(rt.alloc(), BECOMES, becomes)
+    hold::<OptionsCommand>(rt.alloc(), BECOMES)
 }
 
 #[test]
@@ -272,5 +292,13 @@ fn output_is_interpreted(rt: HostRuntime) -> Result<(), Fail> {
             return Err(Fail::new(format_args!("{told} in place of {begins}")));
         }
     }
+    Ok(())
+}
+
+#[test]
+fn a_copy_of_features_holds_the_same(rt: HostRuntime) -> Result<(), Fail> {
+    let features = Features::Selected(parts(rt.alloc(), "x,y")?);
+    let copy = format!(in rt.alloc(); "{:?}", features.clone()?)?;
+    assert_eq!(rt; copy.as_str(), "Selected([\"x\", \"y\"])");
     Ok(())
 }

@@ -1,9 +1,10 @@
 -- A `cargo metadata` command, and the words that cargo is run with.
-use Rattle.std.specs.Prelude.{Bool, false, List, [], ◌∷◌, ◌++◌, Option, Some, None, String, codes, map, if◌then◌else◌}
+use Rattle.std.specs.Prelude.{◌≡◌, Bool, false, List, [], ◌∷◌, ◌++◌, Option, Some, None, String, codes, map, if◌then◌else◌}
 use Rattle.std.specs.List.{join_by}
 use Rattle.std.specs.BTreeMap.{BTreeMap}
+use Rattle.std.specs.Global.{Vec}
 use Rattle.std.specs.declared.alloc.Global.{Global}
-use Rattle.krates_cm.specs.Document.{Text, text_view}
+use Rattle.krates_cm.specs.Document.{Text, text_view, texts_view}
 
 -- What is set, a text being its bytes. The variables of the environment stand in the order of their names.
 pub record CommandModel : Type 0 where
@@ -37,6 +38,10 @@ abbrev pub variables_view : BTreeMap (String Global) (String Global) → List (T
 variables_view m = map (λ e. (text_view e.0, text_view e.1)) m.entries
 
 -- ---- parts of a list of words
+
+-- the words have these added
+abbrev pub Adds : Vec (String Global) → Vec (String Global) → List Text → Type 0
+Adds old new more = texts_view new ≡ texts_view old ++ more
 
 -- the word where the flag is set
 abbrev pub flag : Bool → Text → List Text

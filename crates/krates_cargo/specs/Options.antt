@@ -40,7 +40,7 @@ pub record IsInOrder (given names : List Text) : Type 0 where
   pub rises : IsStrictlySortedBy (slice_cmp nat_cmp) names
   pub same : (name : Text) → Contains names name ↔ Contains given name
 
--- the options of the command, the features being these names
+-- the options that are said, the features being these names
 abbrev pub options_with : OptionsModel → List Text → List Text
 options_with o names =
     flag o.no_default_features (codes "--no-default-features")
@@ -61,9 +61,18 @@ abbrev pub manifest_of : Option Text → Option Text
 manifest_of manifest = option_map (λ _. codes "Cargo.toml") manifest
 
 -- the directory is the parent of the manifest, and without one the directory that is set
-abbrev pub IsDirectory : Option Text → Option Text → Option Text → Type 0
-IsDirectory None dir here = here ≡ option_map or_here dir
-IsDirectory (Some manifest) dir here = (parent : Text) × IsParent manifest parent × (here ≡ Some (or_here parent))
+abbrev pub IsPlace : Option Text → Option Text → Option Text → Type 0
+IsPlace None dir here = here ≡ option_map or_here dir
+IsPlace (Some manifest) dir here =
+    (parent : Text) × IsParent manifest parent × (here ≡ Some (or_here parent))
+
+abbrev pub IsDirectory : OptionsModel → Option Text → Type 0
+IsDirectory o here = IsPlace o.manifest_path o.current_dir here
+
+-- the options of the command, with the features in order
+abbrev pub AreOptions : OptionsModel → List Text → Type 0
+AreOptions o options =
+    (names : List Text) × IsInOrder o.features names × (options ≡ options_with o names)
 
 -- there is a manifest, and it has no parent
 abbrev pub LacksParent : Option Text → Type 0
@@ -75,7 +84,7 @@ pub record IsCommandOf (o : OptionsModel) (c : CommandModel) : Type 0 where
   pub names : List Text
   pub in_order : IsInOrder o.features names
   pub directory : Option Text
-  pub is_directory : IsDirectory o.manifest_path o.current_dir directory
+  pub is_directory : IsDirectory o directory
   pub is : c ≡ record plain_command {
     cargo_path = o.cargo_path;
     manifest_path = manifest_of o.manifest_path;

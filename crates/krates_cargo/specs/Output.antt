@@ -36,7 +36,8 @@ pub record IsNoDocument (success : Bool) (stdout : Text) (e : Error) : Type 0 wh
 
 -- why there is no document in what cargo wrote; memory may always run out
 abbrev pub IsNoAnswer : Bool → Text → Text → Error → Type 0
-IsNoAnswer success stdout stderr (errors.CargoMetadata said) = (success ≡ false) × IsUtf8 stderr × (text_view said ≡ stderr)
+IsNoAnswer success stdout stderr (errors.CargoMetadata said) =
+    (success ≡ false) × IsUtf8 stderr × (text_view said ≡ stderr)
 IsNoAnswer success stdout stderr (errors.ErrUtf8 cause) = (success ≡ false) × (IsUtf8 stderr → ⊥)
 IsNoAnswer success stdout stderr (errors.Utf8 cause) = (success ≡ true) × (IsUtf8 stdout → ⊥)
 IsNoAnswer success stdout stderr errors.NoJson = (success ≡ true) × IsUtf8 stdout × (json_line stdout ≡ None)

@@ -1,5 +1,6 @@
 -- The program that a command runs, and what a run answers.
 use Rattle.std.specs.Prelude.{◌≡◌, ◌≢◌, Bool, true, false, List, Option, Some, None, if◌then◌else◌, fold, codes}
+use Rattle.std.specs.Borrow.{Bor}
 use Rattle.std.specs.Option.{option_map}
 use Rattle.std.specs.IoError.{error_kind}
 use Rattle.std.specs.Process.{clears_env, command_var}
@@ -13,9 +14,9 @@ use Rattle.krates_cm.specs.declared.error.Error.TheVariants as errors
 use Rattle.krates_cargo.specs.Output.{IsAnswer, IsNoAnswer}
 
 -- the program that is set, else the one that is handed in, else `cargo`
-abbrev pub program : Option Text → Option Text → Text
+abbrev pub program : Option Text → Option (Bor Text) → Text
 program (Some path) cargo = path
-program None (Some cargo) = cargo
+program None (Some cargo) = cargo.now
 program None None = codes "cargo"
 
 -- the value of a variable among those that are set
@@ -24,7 +25,8 @@ value_of variables name = fold (λ found v. if bytes_eq v.0 name then Some v.1 e
 
 -- the command sets just these variables of the environment that it inherits
 abbrev pub SetsJust : List (Text × Text) → Command Global → Type 0
-SetsJust variables c = (clears_env c ≡ false) × ((name : Text) → command_var c name ≡ option_map Some (value_of variables name))
+SetsJust variables c =
+    (clears_env c ≡ false) × ((name : Text) → command_var c name ≡ option_map Some (value_of variables name))
 
 -- some output of a cargo that ended well has the document
 abbrev pub IsSomeAnswer : MetadataModel → Type 0

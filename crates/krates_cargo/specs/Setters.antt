@@ -1,5 +1,5 @@
 -- What the setters change.
-use Rattle.std.specs.Prelude.{◌≡◌, true, ◌++◌, Result, ⊤}
+use Rattle.std.specs.Prelude.{◌≡◌, true, List, ◌++◌, Result, ⊤}
 use Rattle.std.specs.BTreeMap.{insert_entry}
 use Rattle.std.specs.Borrow.{RestsIfErr, MutBor, Fml}
 use Rattle.std.specs.Cmp.Lexicographic.{slice_cmp}
@@ -37,9 +37,16 @@ IsNotChosen c features errors.FeaturesTwice = IsChosen c features
 IsNotChosen c features errors.Memory = TakesMemory features
 IsNotChosen c features _ = ⊥
 
--- the variables with this one set: a name that is there takes the value, and another goes to its place in the order
+-- the variables with this one set: a name that is there takes the value, another goes to its place in the order
 abbrev pub with_variable : CommandModel → Text → Text → CommandModel
 with_variable c name value = record c { variables = insert_entry (slice_cmp nat_cmp) c.variables name value }
+
+-- more features, and more options, than those that are asked for
+abbrev pub with_features : OptionsModel → List Text → OptionsModel
+with_features o names = record o { features = o.features ++ names }
+
+abbrev pub with_options : OptionsModel → List Text → OptionsModel
+with_options o options = record o { other_options = o.other_options ++ options }
 
 -- ---- after a refusal all is as it was
 

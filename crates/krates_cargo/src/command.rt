@@ -217,7 +217,8 @@ impl MetadataCommand {
 
     /// Sets a variable; whether it could.
     fn has_set(&mut self, name: &str, value: &str) -> bool
-        ensures { MatchBool result (self.new ≡ with_variable self.old name.now value.now) (self.new ≡ self.old) }
+        ensures { MatchBool result
+            (self.new ≡ with_variable self.old name.now value.now) (self.new ≡ self.old) }
     {
         self.set_variable(name, value).is_ok()
     }

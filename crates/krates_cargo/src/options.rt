@@ -1,13 +1,13 @@
 //! What is asked of cargo, as the command line of a tool asks it.
 
-ghost use Rattle.std.specs.Prelude.{◌≡◌, ◌↔◌, ◌++◌, List, Some, true, IfOk, IfErr, map};
+ghost use Rattle.std.specs.Prelude.{◌≡◌, ◌↔◌, Some, true, IfOk, IfErr, map};
 ghost use Rattle.std.specs.Option.{option_map};
 ghost use Rattle.std.specs.Bool.{MatchBool};
 ghost use Rattle.std.specs.Borrow.{sem};
-ghost use Rattle.krates_cm.specs.Document.{Text, text_view, texts_view};
+ghost use Rattle.krates_cm.specs.Document.{text_view, texts_view};
 ghost use Rattle.krates_cm.specs.declared.error.Error.TheVariants as errors;
-ghost use Rattle.krates_cargo.specs.Options.{IsCommandOf, IsDirectory, IsInOrder, IsParentlessOrMemory, LacksParent, manifest_of, options_with, or_here, plain_options};
-ghost use Rattle.krates_cargo.specs.Setters.{RestsOptions};
+ghost use Rattle.krates_cargo.specs.Options.{AreOptions, IsCommandOf, IsDirectory, IsInOrder, IsParentlessOrMemory, LacksParent, manifest_of, or_here, plain_options};
+ghost use Rattle.krates_cargo.specs.Setters.{RestsOptions, with_features, with_options};
 
 use crate::command::MetadataCommand;
 use crate::words::{push_all, push_flag, push_listed};
@@ -141,7 +141,7 @@ impl Cmd {
     /// Asks for the features with these names, beside those that are asked for already. After a refusal all is as it was.
     pub fn features(&mut self, names: Vec<String>) -> Result<&mut Self, AllocError>
         ensures* refused { sem 𝓛 (RestsOptions self.entry result) }
-        ensures appended { IfOk result (λ c. c.now ≡ record (self.old) { features = self.old.features ++ texts_view names }) }
+        ensures appended { IfOk result (λ c. c.now ≡ with_features self.old (texts_view names)) }
         ensures same_reference { IfOk result (λ c. c.ghost_name ≡ self.entry.ghost_name) }
     {
         if self.has_added_features(names) {
@@ -153,7 +153,7 @@ impl Cmd {
 
     /// Asks for more features; whether it could.
     fn has_added_features(&mut self, names: Vec<String>) -> bool
-        ensures { MatchBool result (self.new ≡ record (self.old) { features = self.old.features ++ texts_view names }) (self.new ≡ self.old) }
+        ensures { MatchBool result (self.new ≡ with_features self.old (texts_view names)) (self.new ≡ self.old) }
     {
         let mut names = names;
         self.features.append(&mut names).is_ok()
@@ -162,7 +162,7 @@ impl Cmd {
     /// Adds further options to those that are set. After a refusal all is as it was.
     pub fn other_options(&mut self, options: Vec<String>) -> Result<&mut Self, AllocError>
         ensures* refused { sem 𝓛 (RestsOptions self.entry result) }
-        ensures appended { IfOk result (λ c. c.now ≡ record (self.old) { other_options = self.old.other_options ++ texts_view options }) }
+        ensures appended { IfOk result (λ c. c.now ≡ with_options self.old (texts_view options)) }
         ensures same_reference { IfOk result (λ c. c.ghost_name ≡ self.entry.ghost_name) }
     {
         if self.has_added_options(options) {
@@ -174,7 +174,7 @@ impl Cmd {
 
     /// Adds further options; whether it could.
     fn has_added_options(&mut self, options: Vec<String>) -> bool
-        ensures { MatchBool result (self.new ≡ record (self.old) { other_options = self.old.other_options ++ texts_view options }) (self.new ≡ self.old) }
+        ensures { MatchBool result (self.new ≡ with_options self.old (texts_view options)) (self.new ≡ self.old) }
     {
         let mut options = options;
         self.other_options.append(&mut options).is_ok()
@@ -208,7 +208,7 @@ impl Cmd {
 
     /// Where the command runs.
     fn directory(&self) -> Result<Option<String>, Error>
-        ensures directory { IfOk result (λ here. IsDirectory self.now.manifest_path self.now.current_dir (option_map text_view here)) }
+        ensures directory { IfOk result (λ here. IsDirectory self.now (option_map text_view here)) }
         ensures parentless { result ≡ Err errors.NoManifestParent ↔ LacksParent self.now.manifest_path }
         ensures refused { IfErr result IsParentlessOrMemory }
     {
@@ -233,7 +233,7 @@ impl Cmd {
 
     /// The options of the command.
     fn options(&self) -> Result<Vec<String>, AllocError>
-        ensures { IfOk result (λ options. (names : List Text) × IsInOrder self.now.features names × (texts_view options ≡ options_with self.now names)) }
+        ensures { IfOk result (λ options. AreOptions self.now (texts_view options)) }
     {
         let alloc = self.alloc;
         let names = in_order(alloc, &self.features)?;
@@ -267,7 +267,7 @@ fn in_order(alloc: Global, names: &[String]) -> Result<Vec<String>, AllocError>
 
 /// The directory that is set, where one is.
 fn directory_set(alloc: Global, dir: &Option<String>) -> Result<Option<String>, AllocError>
-    ensures { IfOk result (λ here. option_map text_view here ≡ option_map or_here (option_map text_view dir.now)) }
+    ensures { IfOk result (λ d. option_map text_view d ≡ option_map or_here (option_map text_view dir.now)) }
 {
     match dir {
         Some(dir) => Ok(Some(or_here(alloc, dir.as_str())?)),

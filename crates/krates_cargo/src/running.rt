@@ -1,7 +1,6 @@
 //! How cargo is run.
 
 ghost use Rattle.std.specs.Prelude.{◌≡◌, ◌++◌, [], IfOk, IfErr, OnOk, map};
-ghost use Rattle.std.specs.Option.{option_map};
 ghost use Rattle.std.specs.Process.{SameDir, SameEnv, SameProgramAndArgs, clears_env, command_args, command_dir, command_program, command_var};
 ghost use Rattle.krates_cm.specs.Document.{Text, metadata_view, text_view};
 ghost use Rattle.krates_cm.specs.declared.error.Error.TheVariants as errors;
@@ -20,7 +19,7 @@ impl MetadataCommand {
     /// `CARGO`, else of `cargo`; with the words of `args`, in the directory that is set, with the variables that are set beside
     /// those of this process. The only error is `Memory`.
     pub fn cargo_command(&self, cargo: Option<&str>) -> Result<Command, Error>
-        ensures program { IfOk result (λ c. command_program c ≡ program self.now.cargo_path (option_map (λ p. p.now) cargo.entry)) }
+        ensures program { IfOk result (λ c. command_program c ≡ program self.now.cargo_path cargo.entry) }
         ensures words { IfOk result (λ c. command_args c ≡ words self.now) }
         ensures directory { IfOk result (λ c. command_dir c ≡ self.now.current_dir) }
         ensures variables { IfOk result (SetsJust self.now.variables) }
@@ -40,7 +39,7 @@ impl MetadataCommand {
 
     /// The program that is run.
     fn program<'a>(&'a self, cargo: Option<&'a str>) -> &'a str
-        ensures { result.now ≡ program self.now.cargo_path (option_map (λ p. p.now) cargo.entry) }
+        ensures { result.now ≡ program self.now.cargo_path cargo.entry }
     {
         match &self.cargo_path {
             Some(path) => path.as_str(),
@@ -83,7 +82,8 @@ fn unrun(cause: io::Error) -> Error
 
 /// Adds words to the command.
 fn add_words(command: &mut Command, words: &[String]) -> Result<(), AllocError>
-    ensures words { OnOk result (command_args command.new ≡ command_args command.old ++ map text_view words.now) }
+    ensures words { OnOk result
+        (command_args command.new ≡ command_args command.old ++ map text_view words.now) }
     ensures program { OnOk result (command_program command.new ≡ command_program command.old) }
     ensures environment { OnOk result (SameEnv command.old command.new) }
     ensures directory { OnOk result (SameDir command.old command.new) }

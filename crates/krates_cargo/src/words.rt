@@ -3,7 +3,7 @@
 ghost use Rattle.std.specs.Prelude.{◌≡◌, ◌++◌, ◌∷◌, [], IfOk, OnOk, map, string_bytes, codes};
 ghost use Rattle.std.specs.Option.{option_map};
 ghost use Rattle.krates_cm.specs.Document.{text_view, texts_view};
-ghost use Rattle.krates_cargo.specs.Command.{flag, joined, listed, valued};
+ghost use Rattle.krates_cargo.specs.Command.{Adds, flag, joined, listed, valued};
 
 use std::alloc::{AllocError, Global};
 
@@ -13,7 +13,7 @@ pub(crate) fn push_word(
     words: &mut Vec<String>,
     word: &str,
 ) -> Result<(), AllocError>
-    ensures { OnOk result (texts_view words.new ≡ texts_view words.old ++ word.now ∷ []) }
+    ensures { OnOk result (Adds words.old words.new (word.now ∷ [])) }
 {
     words.push(String::from_str(alloc, word)?)?;
     Ok(())
@@ -26,7 +26,7 @@ pub(crate) fn push_flag(
     is_set: bool,
     word: &str,
 ) -> Result<(), AllocError>
-    ensures { OnOk result (texts_view words.new ≡ texts_view words.old ++ flag is_set word.now) }
+    ensures { OnOk result (Adds words.old words.new (flag is_set word.now)) }
 {
     if is_set {
         push_word(alloc, words, word)?;
@@ -41,7 +41,7 @@ pub(crate) fn push_valued(
     option: &str,
     value: &Option<String>,
 ) -> Result<(), AllocError>
-    ensures { OnOk result (texts_view words.new ≡ texts_view words.old ++ valued option.now (option_map text_view value.now)) }
+    ensures { OnOk result (Adds words.old words.new (valued option.now (option_map text_view value.now))) }
 {
     if let Some(value) = value {
         push_word(alloc, words, option)?;
@@ -58,7 +58,7 @@ pub(crate) fn push_listed(
     separator: &str,
     names: &[String],
 ) -> Result<(), AllocError>
-    ensures { OnOk result (texts_view words.new ≡ texts_view words.old ++ listed option.now separator.now (map text_view names.now)) }
+    ensures { OnOk result (Adds words.old words.new (listed option.now separator.now (map text_view names.now))) }
 {
     if !names.is_empty() {
         push_word(alloc, words, option)?;
@@ -73,7 +73,7 @@ pub(crate) fn push_all(
     words: &mut Vec<String>,
     others: &[String],
 ) -> Result<(), AllocError>
-    ensures { OnOk result (texts_view words.new ≡ texts_view words.old ++ map text_view others.now) }
+    ensures { OnOk result (Adds words.old words.new (map text_view others.now)) }
 {
     for word in others {
         push_word(alloc, words, word.as_str())?;

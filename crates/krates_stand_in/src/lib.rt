@@ -28,7 +28,8 @@ pub struct Output {
 /// - `--fake=env`: the value on a line, as an error, and status 1; an empty line where there is none.
 /// - any other, or none: the line `a warning`, and then the document on one line.
 pub fn answer(alloc: Global, words: &[String], variable: Option<&str>) -> Result<Output, AllocError>
-    ensures { IfOk result (λ a. answer_view a ≡ answer (map string_bytes words.now) (option_map (λ v. v.now) variable.entry)) }
+    ensures { IfOk result (λ a.
+        answer_view a ≡ answer (map string_bytes words.now) (option_map (λ v. v.now) variable.entry)) }
 {
     match last_word(words) {
         "--fake=fail" => written(alloc, b"", b"no manifest\n", 101),
@@ -58,7 +59,8 @@ fn last_word(words: &[String]) -> &str
 
 /// An answer with copies of these bytes.
 fn written(alloc: Global, stdout: &[u8], stderr: &[u8], status: u8) -> Result<Output, AllocError>
-    ensures { IfOk result (λ a. answer_view a ≡ record { stdout = stdout.now; stderr = stderr.now; status = status }) }
+    ensures { IfOk result (λ a.
+        answer_view a ≡ record { stdout = stdout.now; stderr = stderr.now; status = status }) }
 {
     Ok(Output {
         stdout: Vec::from_slice(alloc, stdout)?,

@@ -2,21 +2,18 @@ use Rattle.krates_cargo.proofs.Walking.{ℕ, [], ◌∷◌, refl, ap, lit<, prov
 use Rattle.krates_cargo.proofs.HandedBack.{Ref, left, Kept, Rests, Answer, ok_val, err_val, lent, returned, handed, given_up, says_both, when_true, when_false}
 use Rattle.krates_cargo.proofs.TextArguments.{texts, texts_vals, texts_laws, texts_tells}
 use Rattle.std.proofs.Common.{Bool}
-use Rattle.std.specs.Prelude.{◌≡◌, ◌++◌, Ok, Err}
+use Rattle.std.specs.Prelude.{◌≡◌, Ok, Err}
 use Rattle.std.specs.Bool.{MatchBool}
 use Rattle.std.proofs.VecSteps.Shapes.{after}
 use Rattle.krates_cm.specs.Document.{texts_view}
 use Rattle.krates_cargo.specs.Options.{OptionsModel}
+use Rattle.krates_cargo.specs.Setters.{with_features}
 use Rattle.krates_cargo.specs.contracts.options.Cmd.{the_row}
 use Rattle.krates_cargo.specs.contracts.options.Cmd.features as f
 use Rattle.krates_cargo.proofs.options.Cmd.features.Statement.{statement}
 use Rattle.krates_cargo.proofs.options.Cmd.features.Code as code
 use Rattle.krates_cargo.specs.contracts.options.Cmd.has_added_features as g
 use Rattle.krates_cargo.proofs.options.Cmd.has_added_features.Met.{met}
-
--- all with more of these
-abbrev changed : OptionsModel → texts.Denot → OptionsModel
-changed o names = record o { features = o.features ++ texts_view names }
 
 abbrev stayed : Stays f.ended.signature.params f.ended.kept
 stayed = (stay_dropped (mut_ref_to (0 ∷ []) tt (plain (λ _. the_row))) no, (stay_dropped _ yes, tt))
@@ -48,7 +45,7 @@ features_spec 𝓤 𝓛 𝓜 𝓡 wired =
     calls_at ! (framed 𝓤 𝓛.H 𝓜 (tables 𝓤 𝓛.H 𝓜 𝓡 𝓡.env)) G (met 𝓤 𝓛 𝓜 𝓡 (code.calls-krates_cargo::options::Cmd::has_added_features 𝓡.env wired)) z
     (and_then ! (get ! refl) (and_then ! (get ! refl) (no_more !))) (λ v.
     use1 𝓛 (later (some (λ (u : Bool). ((‵ (flft (α ∷ []) full_share) ⊛ ‵ ftrue) ⊛ ‵ (bool.own_val u (v ∷ []))) ⊛
-    some (λ (ws : OptionsModel × (Unit {0} × Unit {0})). ‵ (lasts g.ended z.0.0 z.0.3 ws) ⊛ raw (fact 𝓤 (MatchBool u (ws.0 ≡ changed r.now x) (ws.0 ≡ r.now))))))) (id⊢ 𝓤 _) $
+    some (λ (ws : OptionsModel × (Unit {0} × Unit {0})). ‵ (lasts g.ended z.0.0 z.0.3 ws) ⊛ raw (fact 𝓤 (MatchBool u (ws.0 ≡ with_features r.now (texts_view x)) (ws.0 ≡ r.now))))))) (id⊢ 𝓤 _) $
     await ! tt $ pick ! (λ u. split ! $ split ! $ split ! $ move ! (2 ∷ []) $ feq_l ! (λ is_bool.
     lands_as ! (ap only is_bool) refl (tt, tt) $
     move ! (2 ∷ []) $ pick ! (λ ws. split ! $ move ! (1 ∷ []) $ heard ! _ (λ is_set. fsplit ! $ fsplit ! $
