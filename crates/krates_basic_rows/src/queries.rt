@@ -88,8 +88,31 @@ fn names<'a>(alloc: Global, packages: &[&'a Package]) -> Result<Vec<&'a str>, Al
     packages.iter().map(|p| p.name.as_str()).collect(alloc)
 }
 
+/// What is asked of a type.
+trait Asked: FromValue {
+    fn answers(&self, alloc: Global) -> Result<String, AllocError>;
+}
+
+impl Asked for Metadata {
+    fn answers(&self, alloc: Global) -> Result<String, AllocError> {
+        document_answers(alloc, self)
+    }
+}
+
+impl Asked for Package {
+    fn answers(&self, alloc: Global) -> Result<String, AllocError> {
+        files(alloc, self)
+    }
+}
+
+impl Asked for Target {
+    fn answers(&self, alloc: Global) -> Result<String, AllocError> {
+        tests(alloc, self)
+    }
+}
+
 /// What a document answers.
-fn answers(alloc: Global, metadata: &Metadata) -> Result<String, AllocError> {
+fn document_answers(alloc: Global, metadata: &Metadata) -> Result<String, AllocError> {
     let root = metadata.root_package().map(|p| p.name.as_str());
     let members = metadata.workspace_packages(alloc)?;
     let members = names(alloc, members.as_slice())?;
@@ -132,17 +155,12 @@ fn tests(alloc: Global, target: &Target) -> Result<String, AllocError> {
 }
 
 /// Compares what is told of each row, with what stands around it, with what is expected.
-fn hold<T: FromValue>(
-    alloc: Global,
-    around: (&str, &str),
-    rows: &[(&str, &str)],
-    tell: fn(Global, &T) -> Result<String, AllocError>,
-) -> Result<(), Fail> {
+fn hold<T: Asked>(alloc: Global, around: (&str, &str), rows: &[(&str, &str)]) -> Result<(), Fail> {
     let (before, behind) = around;
     for &(row, expected) in rows {
         let json = format!(in alloc; "{before}{row}{behind}")?;
         let value = Value::from_str(alloc, json.as_str())?;
-        let told = tell(alloc, &T::from_value(alloc, &value)?)?;
+        let told = T::from_value(alloc, &value)?.answers(alloc)?;
         if told.as_str() != expected {
             return Err(Fail::new(format_args!("{row}: {told} in place of {expected}")));
         }
@@ -152,21 +170,20 @@ fn hold<T: FromValue>(
 
 #[test]
 fn documents_answer(rt: HostRuntime) -> Result<(), Fail> {
-    hold(rt.alloc(), DOCUMENT, ANSWERS, answers)
+    hold::<Metadata>(rt.alloc(), DOCUMENT, ANSWERS)
 }
 
 #[test]
 fn files_of_packages(rt: HostRuntime) -> Result<(), Fail> {
-    hold(rt.alloc(), PACKAGE, FILES, files)
+    hold::<Package>(rt.alloc(), PACKAGE, FILES)
 }
 
 #[test]
 fn kinds_of_targets(rt: HostRuntime) -> Result<(), Fail> {
-    hold(
+    hold::<Target>(
         rt.alloc(),
         (r#"{"name":"t","src_path":"s","kind":["#, "]}"),
         KINDS,
-        tests,
     )
 }
 

@@ -1,0 +1,84 @@
+#!/usr/bin/env bash
+# Reads each document of a folder, writes it as JSON, reads what was written, and prints the documents for which that isn't
+# the same, field by field, or that aren't read.
+#
+#     scripts/compare_written.sh FOLDER
+#
+# A document is FOLDER/NAME/metadata.json, which may be compressed, as metadata.json.gz. The program that does it is made in a
+# copy of the working tree, where libraries that are built here needn't be built again, and runs unproved.
+#
+# The status is 0 where every document is the same, and there was one, and 1 otherwise.
+
+set -euo pipefail
+
+if [ $# -ne 1 ] || [ ! -d "$1" ]; then
+    echo "usage: scripts/compare_written.sh FOLDER" >&2
+    exit 2
+fi
+
+folder=$(cd "$1" && pwd)
+cd "$(dirname "$0")/.."
+
+room=$(mktemp -d)
+trap 'rm -rf "$room"' EXIT
+
+# What git knows or would add of the crates that the program uses, and their libraries.
+used='krates_text krates_cm krates_cm_write'
+for crate in $used; do
+    git ls-files -z --cached --others --exclude-standard "crates/$crate" | xargs -0 ls -d 2> "$room/gone" | tar -cf - -T - | tar -xf - -C "$room"
+    if [ -d "crates/$crate/out/rlib" ]; then
+        mkdir -p "$room/crates/$crate/out"
+        cp -r "crates/$crate/out/rlib" "$room/crates/$crate/out/rlib"
+    fi
+    grep "^$crate:" crates.txt >> "$room/crates.txt"
+done
+echo "compare_written: $used anyhow" >> "$room/crates.txt"
+
+mkdir -p "$room/crates/compare_written/src"
+cat > "$room/crates/compare_written/src/main.rt" << 'END'
+//! Whether a document that is written is read as it was.
+#![tactic(auto)]
+
+use krates_cm::{Metadata, MetadataCommand};
+use krates_cm_write::ToValue;
+use std::alloc::Global;
+use std::io;
+
+fn fields(alloc: Global, document: &Metadata) -> Result<String, anyhow::Error> {
+    Ok(format!(in alloc; "{document:?}")?)
+}
+
+fn main(rt: HostRuntime) -> Result<(), anyhow::Error> {
+    let alloc = rt.alloc();
+    let text = io::read_to_string(alloc, rt.reader())?;
+    let document = MetadataCommand::parse(alloc, text.as_str())?;
+    let written = document.to_value(alloc)?.to_string(alloc)?;
+    let again = MetadataCommand::parse(alloc, written.as_str())?;
+    let same = fields(alloc, &document)? == fields(alloc, &again)?;
+    println!(rt; "{}", if same { "same" } else { "another" })?;
+    Ok(())
+}
+END
+
+for crate in $used; do
+    (cd "$room/crates/$crate" && rt lib > "$room/$crate.log" 2>&1) || { cat "$room/$crate.log"; exit 1; }
+done
+
+seen=0
+different=0
+for document in "$folder"/*/metadata.json "$folder"/*/metadata.json.gz; do
+    [ -f "$document" ] || continue
+    case $document in
+        *.gz) gzip -dc "$document" > "$room/document.json" ;;
+        *) cp "$document" "$room/document.json" ;;
+    esac
+    seen=$((seen + 1))
+    if ! (cd "$room/crates/compare_written" && rt try < "$room/document.json" > "$room/answer" 2> "$room/errors") \
+        || ! grep -qx same "$room/answer"; then
+        echo "$document: $(tail -n 3 "$room/answer" "$room/errors")"
+        different=$((different + 1))
+    fi
+done
+
+echo "$seen documents, $different that aren't read as they were"
+[ "$seen" -gt 0 ] && [ "$different" -eq 0 ]
