@@ -23,7 +23,7 @@ program None None = codes "cargo"
 abbrev pub value_of : List (Text × Text) → Text → Option Text
 value_of variables name = fold (λ found v. if bytes_eq v.0 name then Some v.1 else found) None variables
 
--- the command sets just these variables of the environment that it inherits
+-- the command sets just these variables, in the environment that it inherits
 abbrev pub SetsJust : List (Text × Text) → Command Global → Type 0
 SetsJust variables c =
     (clears_env c ≡ false) × ((name : Text) → command_var c name ≡ option_map Some (value_of variables name))
@@ -32,10 +32,11 @@ SetsJust variables c =
 abbrev pub IsSomeAnswer : MetadataModel → Type 0
 IsSomeAnswer m = (stdout : Text) × IsAnswer true stdout m
 
--- why a run has no document: cargo couldn't be run, and not for want of memory; or some output of it has none
+-- some output of cargo has no document, for this reason
 abbrev pub IsNotRead : Error → Type 0
 IsNotRead e = (success : Bool) × (stdout : Text) × (stderr : Text) × IsNoAnswer success stdout stderr e
 
+-- why a run has no document: cargo couldn't be run, and not for want of memory, or what it wrote has none
 abbrev pub IsUnrun : Error → Type 0
 IsUnrun (errors.Io cause) = error_kind cause ≢ kinds.OutOfMemory
 IsUnrun e = IsNotRead e
