@@ -1,5 +1,5 @@
 -- One link of all is changed, and what that does to marks and to features that wait.
-use Rattle.std.proofs.Common.{◌≡◌, ◌↔◌, ◌⊎◌, ℕ, zero, suc, ◌<◌, List, [], ◌∷◌, ◌++◌, length, map, get_or, set, true, Some, Vec, Global, Bor, Contains, refl, sym, ap, ◌∙◌, subst, inl, inr, arith}
+use Rattle.std.proofs.Common.{◌≡◌, ◌⊎◌, ℕ, zero, suc, ◌<◌, List, [], ◌∷◌, ◌++◌, length, map, get_or, set, true, Some, Vec, Global, Bor, Contains, refl, sym, ap, ◌∙◌, subst, inl, inr, arith}
 use Rattle.std.proofs.lemmas.Bool.{cases_order}
 use Rattle.std.proofs.lemmas.List.{length-map, map-append}
 use Rattle.std.proofs.lemmas.List.Elements.{Contains-push, Contains-push_cases, Contains-append_left, All-contains}
@@ -8,7 +8,7 @@ use Rattle.std.specs.List.{slice_get, AllZip}
 use Rattle.std.specs.Option.{option_map}
 use Rattle.std.specs.Vec.{with_item}
 use Rattle.krates_cm.specs.Document.{Text, NodeModel}
-use Rattle.krates_resolve.specs.Links.{LinkAt, Waits, HasLink, HasLinks, IsNewLink, AreNewLinks, AreNew, HasMarked, HasWaiter, NotesAsked}
+use Rattle.krates_resolve.specs.Links.{LinkAt, HasLink, HasLinks, IsNewLink, AreNewLinks, AreNew, HasMarked, HasWaiter, NotesAsked}
 use Rattle.krates_rules.specs.Resolved.{Resolved}
 use Rattle.krates_resolve.specs.declared.links.Link.{Link}
 use Rattle.krates_resolve.specs.declared.links.Links.{Links}

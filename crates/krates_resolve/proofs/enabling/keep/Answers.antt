@@ -1,4 +1,4 @@
-use Rattle.std.proofs.Common.{ℕ, ◌<◌, sym, subst, arith}
+use Rattle.std.proofs.Common.{ℕ, ◌<◌, sym, subst}
 use Rattle.std.proofs.lemmas.Option.{slice_get_within}
 use Rattle.krates_cm.specs.Document.{DependencyModel, dep_kind_info_view}
 use Rattle.krates_rules.specs.Facts.{Crate}

@@ -1,4 +1,4 @@
-use Rattle.std.proofs.Common.{◌≡◌, List, None, Some, map, sym, subst, arith}
+use Rattle.std.proofs.Common.{◌≡◌, List, None, Some, map, subst, arith}
 use Rattle.std.specs.List.{slice_get}
 use Rattle.krates_ids.specs.Identity.{Identity}
 use Rattle.krates_resolve.specs.CrateTable.{IsNumberOf}
