@@ -1,8 +1,8 @@
 //! Whole runs of the command line: from a document, or what is none, to the lines, the refusal and the status.
 
+use krates_cli::{Counted, Options, RunError, program, refuse_words, run};
 use krates_samples::documents::document;
 use krates_samples::table::{Question, Row, hold};
-use krates_cli::{Counted, Options, RunError, program, refuse_words, run};
 use std::alloc::Global;
 use std::io::{ErrorKind, Read, Write};
 use std::test::Fail;

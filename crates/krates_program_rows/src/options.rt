@@ -1,8 +1,8 @@
 //! Options of the command line: what they leave out of a document, and which words are none.
 
 use crate::listing::{Listed, USAGE, told, words_of};
-use krates_samples::table::{Question, Row, hold};
 use krates_cli::Counted;
+use krates_samples::table::{Question, Row, hold};
 use std::alloc::Global;
 use std::str;
 use std::test::Fail;

@@ -1,13 +1,13 @@
 //! Runs over readers and writers that give and take little at a time, that fail, and that are interrupted.
 
-use krates_samples::documents::document;
 use crate::listing::told;
-use krates_samples::table::{Question, Row, hold};
 use krates_cli::Counted;
+use krates_samples::documents::document;
+use krates_samples::table::{Question, Row, hold};
 use std::alloc::Global;
+use std::io;
 use std::io::{ErrorKind, Read, Write};
 use std::test::Fail;
-use std::io;
 
 /// What is written of the document.
 const LINES: &str = "+ path+file:///w/a#0.1.0\n+ path+file:///w/b#0.1.0\n";
@@ -127,7 +127,11 @@ impl Course for Reading {
         let mut output = Counted::new(Vec::new(alloc));
         let told = told(alloc, &[], &mut input, &mut output)?;
         let taken = output.get_ref().as_slice();
-        let extent = if taken.is_empty() { "nothing" } else { extent(taken) };
+        let extent = if taken.is_empty() {
+            "nothing"
+        } else {
+            extent(taken)
+        };
         let (told, failed) = (told.as_str().trim_end(), input.failures());
         Ok(format!(in alloc; "{told}, {extent} written, {failed} failed")?)
     }
@@ -194,21 +198,66 @@ fn each_call<C: Course>(
 
 // The buffer of a run has 65,536 bytes; the last call of each reader finds the end.
 const FAILED_READS: &[Row] = &[
-    ("4095 65536 fails", "2 calls: 1 refused: read failed, nothing written, 1 failed"),
-    ("4096 65536 fails", "2 calls: 1 refused: read failed, nothing written, 1 failed"),
-    ("4097 65536 fails", "2 calls: 1 refused: read failed, nothing written, 1 failed"),
-    ("4095 4096 fails", "2 calls: 1 refused: read failed, nothing written, 1 failed"),
-    ("4096 4096 fails", "2 calls: 1 refused: read failed, nothing written, 1 failed"),
-    ("4097 4096 fails", "3 calls: 1 refused: read failed, nothing written, 1 failed"),
-    ("4096 4095 fails", "3 calls: 1 refused: read failed, nothing written, 1 failed"),
-    ("40960 4096 fails", "11 calls: 1 refused: read failed, nothing written, 1 failed"),
-    ("4096 1000 fails", "6 calls: 1 refused: read failed, nothing written, 1 failed"),
-    ("65535 100000 fails", "2 calls: 1 refused: read failed, nothing written, 1 failed"),
-    ("65536 100000 fails", "2 calls: 1 refused: read failed, nothing written, 1 failed"),
-    ("65537 100000 fails", "3 calls: 1 refused: read failed, nothing written, 1 failed"),
-    ("65537 65535 fails", "3 calls: 1 refused: read failed, nothing written, 1 failed"),
-    ("131072 100000 fails", "3 calls: 1 refused: read failed, nothing written, 1 failed"),
-    ("262145 100000 fails", "6 calls: 1 refused: read failed, nothing written, 1 failed"),
+    (
+        "4095 65536 fails",
+        "2 calls: 1 refused: read failed, nothing written, 1 failed",
+    ),
+    (
+        "4096 65536 fails",
+        "2 calls: 1 refused: read failed, nothing written, 1 failed",
+    ),
+    (
+        "4097 65536 fails",
+        "2 calls: 1 refused: read failed, nothing written, 1 failed",
+    ),
+    (
+        "4095 4096 fails",
+        "2 calls: 1 refused: read failed, nothing written, 1 failed",
+    ),
+    (
+        "4096 4096 fails",
+        "2 calls: 1 refused: read failed, nothing written, 1 failed",
+    ),
+    (
+        "4097 4096 fails",
+        "3 calls: 1 refused: read failed, nothing written, 1 failed",
+    ),
+    (
+        "4096 4095 fails",
+        "3 calls: 1 refused: read failed, nothing written, 1 failed",
+    ),
+    (
+        "40960 4096 fails",
+        "11 calls: 1 refused: read failed, nothing written, 1 failed",
+    ),
+    (
+        "4096 1000 fails",
+        "6 calls: 1 refused: read failed, nothing written, 1 failed",
+    ),
+    (
+        "65535 100000 fails",
+        "2 calls: 1 refused: read failed, nothing written, 1 failed",
+    ),
+    (
+        "65536 100000 fails",
+        "2 calls: 1 refused: read failed, nothing written, 1 failed",
+    ),
+    (
+        "65537 100000 fails",
+        "3 calls: 1 refused: read failed, nothing written, 1 failed",
+    ),
+    (
+        "65537 65535 fails",
+        "3 calls: 1 refused: read failed, nothing written, 1 failed",
+    ),
+    (
+        "131072 100000 fails",
+        "3 calls: 1 refused: read failed, nothing written, 1 failed",
+    ),
+    (
+        "262145 100000 fails",
+        "6 calls: 1 refused: read failed, nothing written, 1 failed",
+    ),
 ];
 
 #[test]
@@ -217,21 +266,66 @@ fn refuses_where_any_read_fails(rt: HostRuntime) -> Result<(), Fail> {
 }
 
 const INTERRUPTED_READS: &[Row] = &[
-    ("4095 65536 is interrupted", "2 calls: 0, all written, 1 failed"),
-    ("4096 65536 is interrupted", "2 calls: 0, all written, 1 failed"),
-    ("4097 65536 is interrupted", "2 calls: 0, all written, 1 failed"),
-    ("4095 4096 is interrupted", "2 calls: 0, all written, 1 failed"),
-    ("4096 4096 is interrupted", "2 calls: 0, all written, 1 failed"),
-    ("4097 4096 is interrupted", "3 calls: 0, all written, 1 failed"),
-    ("4096 4095 is interrupted", "3 calls: 0, all written, 1 failed"),
-    ("40960 4096 is interrupted", "11 calls: 0, all written, 1 failed"),
-    ("4096 1000 is interrupted", "6 calls: 0, all written, 1 failed"),
-    ("65535 100000 is interrupted", "2 calls: 0, all written, 1 failed"),
-    ("65536 100000 is interrupted", "2 calls: 0, all written, 1 failed"),
-    ("65537 100000 is interrupted", "3 calls: 0, all written, 1 failed"),
-    ("65537 65535 is interrupted", "3 calls: 0, all written, 1 failed"),
-    ("131072 100000 is interrupted", "3 calls: 0, all written, 1 failed"),
-    ("262145 100000 is interrupted", "6 calls: 0, all written, 1 failed"),
+    (
+        "4095 65536 is interrupted",
+        "2 calls: 0, all written, 1 failed",
+    ),
+    (
+        "4096 65536 is interrupted",
+        "2 calls: 0, all written, 1 failed",
+    ),
+    (
+        "4097 65536 is interrupted",
+        "2 calls: 0, all written, 1 failed",
+    ),
+    (
+        "4095 4096 is interrupted",
+        "2 calls: 0, all written, 1 failed",
+    ),
+    (
+        "4096 4096 is interrupted",
+        "2 calls: 0, all written, 1 failed",
+    ),
+    (
+        "4097 4096 is interrupted",
+        "3 calls: 0, all written, 1 failed",
+    ),
+    (
+        "4096 4095 is interrupted",
+        "3 calls: 0, all written, 1 failed",
+    ),
+    (
+        "40960 4096 is interrupted",
+        "11 calls: 0, all written, 1 failed",
+    ),
+    (
+        "4096 1000 is interrupted",
+        "6 calls: 0, all written, 1 failed",
+    ),
+    (
+        "65535 100000 is interrupted",
+        "2 calls: 0, all written, 1 failed",
+    ),
+    (
+        "65536 100000 is interrupted",
+        "2 calls: 0, all written, 1 failed",
+    ),
+    (
+        "65537 100000 is interrupted",
+        "3 calls: 0, all written, 1 failed",
+    ),
+    (
+        "65537 65535 is interrupted",
+        "3 calls: 0, all written, 1 failed",
+    ),
+    (
+        "131072 100000 is interrupted",
+        "3 calls: 0, all written, 1 failed",
+    ),
+    (
+        "262145 100000 is interrupted",
+        "6 calls: 0, all written, 1 failed",
+    ),
 ];
 
 #[test]
@@ -241,20 +335,50 @@ fn reads_again_where_any_read_is_interrupted(rt: HostRuntime) -> Result<(), Fail
 
 // Fifty bytes are written.
 const WRITES: &[Row] = &[
-    ("0 1 fails", "50 calls: 1 refused: write failed, a beginning written, 1 failed"),
-    ("0 1 takes nothing", "50 calls: 1 refused: write failed, a beginning written, 1 failed"),
+    (
+        "0 1 fails",
+        "50 calls: 1 refused: write failed, a beginning written, 1 failed",
+    ),
+    (
+        "0 1 takes nothing",
+        "50 calls: 1 refused: write failed, a beginning written, 1 failed",
+    ),
     ("0 1 is interrupted", "50 calls: 0, all written, 1 failed"),
-    ("0 7 fails", "8 calls: 1 refused: write failed, a beginning written, 1 failed"),
-    ("0 7 takes nothing", "8 calls: 1 refused: write failed, a beginning written, 1 failed"),
+    (
+        "0 7 fails",
+        "8 calls: 1 refused: write failed, a beginning written, 1 failed",
+    ),
+    (
+        "0 7 takes nothing",
+        "8 calls: 1 refused: write failed, a beginning written, 1 failed",
+    ),
     ("0 7 is interrupted", "8 calls: 0, all written, 1 failed"),
-    ("0 49 fails", "2 calls: 1 refused: write failed, a beginning written, 1 failed"),
-    ("0 49 takes nothing", "2 calls: 1 refused: write failed, a beginning written, 1 failed"),
+    (
+        "0 49 fails",
+        "2 calls: 1 refused: write failed, a beginning written, 1 failed",
+    ),
+    (
+        "0 49 takes nothing",
+        "2 calls: 1 refused: write failed, a beginning written, 1 failed",
+    ),
     ("0 49 is interrupted", "2 calls: 0, all written, 1 failed"),
-    ("0 50 fails", "1 calls: 1 refused: write failed, a beginning written, 1 failed"),
-    ("0 50 takes nothing", "1 calls: 1 refused: write failed, a beginning written, 1 failed"),
+    (
+        "0 50 fails",
+        "1 calls: 1 refused: write failed, a beginning written, 1 failed",
+    ),
+    (
+        "0 50 takes nothing",
+        "1 calls: 1 refused: write failed, a beginning written, 1 failed",
+    ),
     ("0 50 is interrupted", "1 calls: 0, all written, 1 failed"),
-    ("0 51 fails", "1 calls: 1 refused: write failed, a beginning written, 1 failed"),
-    ("0 51 takes nothing", "1 calls: 1 refused: write failed, a beginning written, 1 failed"),
+    (
+        "0 51 fails",
+        "1 calls: 1 refused: write failed, a beginning written, 1 failed",
+    ),
+    (
+        "0 51 takes nothing",
+        "1 calls: 1 refused: write failed, a beginning written, 1 failed",
+    ),
     ("0 51 is interrupted", "1 calls: 0, all written, 1 failed"),
 ];
 

@@ -1,8 +1,8 @@
 //! Which documents are refused before they are resolved, and why.
 
+use krates_resolve::admit;
 use krates_samples::documents::metadata;
 use krates_samples::table::{Question, Row, hold};
-use krates_resolve::admit;
 use std::alloc::Global;
 use std::test::Fail;
 

@@ -1,11 +1,11 @@
 //! What a document and a setting answer to the questions of the rules, asked one by one.
 
-use krates_samples::documents::{kid_of, kind_named, metadata};
 use crate::setters::set_as;
-use krates_samples::table::{Question, Row, hold};
 use krates_cm::DepKindInfo;
 use krates_ids::Kid;
 use krates_resolve::{Document, Setting, admit};
+use krates_samples::documents::{kid_of, kind_named, metadata};
+use krates_samples::table::{Question, Row, hold};
 use std::alloc::Global;
 use std::test::Fail;
 

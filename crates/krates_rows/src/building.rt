@@ -2,11 +2,11 @@
 
 ghost use Rattle.std.specs.Prelude.{◌≡◌, None, ⊤};
 
-use krates_samples::documents::{kid_of, metadata, word_of};
 use crate::setters::build_as;
-use krates_samples::table::{Question, Row, hold};
 use krates::cm::Metadata;
 use krates::{Builder, Error, Krates, NoneFilter, OnFilter, Package};
+use krates_samples::documents::{kid_of, metadata, word_of};
+use krates_samples::table::{Question, Row, hold};
 use std::alloc::{AllocError, Global};
 use std::test::Fail;
 

@@ -1,8 +1,8 @@
 //! Which declared dependency an edge has, where its package declares one several times.
 
 use crate::building::Built;
-use krates_samples::table::{Row, hold};
 use krates_resolve::declared_source::is_path_of;
+use krates_samples::table::{Row, hold};
 use std::test::Fail;
 
 /// Paths, sources, and whether the source is that of the path.

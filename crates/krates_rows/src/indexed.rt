@@ -3,10 +3,10 @@
 ghost use Rattle.std.specs.Prelude.{⊤};
 
 use crate::building::{Reported, told_of};
-use krates_samples::documents::{metadata, section};
-use krates_samples::table::{Question, Row, hold};
 use krates::index::{BuildIndexCache, IndexAnswer, IndexKrate, IndexKrateVersion, PackageNames};
 use krates::{Builder, OnFilter, Package};
+use krates_samples::documents::{metadata, section};
+use krates_samples::table::{Question, Row, hold};
 use semver::Version;
 use std::alloc::Global;
 use std::cell::Cell;

@@ -1,7 +1,5 @@
 //! The names under which the library gives its items: each public path is called once.
 
-use krates_samples::documents::metadata;
-use krates_samples::table::{Question, Row, hold};
 use krates::agenda::Agenda;
 use krates::cfg::{CfgError, Expression, TargetInfo, builtin};
 use krates::cm::DependencyKind;
@@ -16,6 +14,8 @@ use krates::{
     DepKind, EdgeId, Error, Feature, IdError, Kid, NodeId, PackageId, ParsedFeature, PkgSpec,
     Target, laws, path,
 };
+use krates_samples::documents::metadata;
+use krates_samples::table::{Question, Row, hold};
 use std::alloc::Global;
 use std::collections::{BTreeMap, BTreeSet};
 use std::test::Fail;

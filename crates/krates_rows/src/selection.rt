@@ -1,10 +1,10 @@
 //! What is selected of a document: crates, edges with their places, and features, each in order.
 
-use krates_samples::documents::{metadata, word_of};
 use crate::setters::set_as;
-use krates_samples::table::{Question, Row, hold};
 use krates_cm::DependencyKind;
 use krates_resolve::{Selection, Setting, admit, select};
+use krates_samples::documents::{metadata, word_of};
+use krates_samples::table::{Question, Row, hold};
 use std::alloc::Global;
 use std::test::Fail;
 

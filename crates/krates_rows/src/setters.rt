@@ -10,9 +10,9 @@
 
 ghost use Rattle.std.specs.Prelude.{◌≡◌, OnOk};
 
-use krates_samples::documents::kind_named;
 use krates::{Builder, DepKind, PkgSpec, Scope, Target};
 use krates_resolve::Setting;
+use krates_samples::documents::kind_named;
 use std::alloc::Global;
 use std::test::Fail;
 

@@ -1,9 +1,9 @@
 //! What a build keeps and reports under each setting of the builder.
 
 use crate::building::{Built, outcome};
+use krates::{Builder, DepKind, PkgSpec, Scope};
 use krates_samples::documents::metadata;
 use krates_samples::table::{Row, hold};
-use krates::{Builder, DepKind, PkgSpec, Scope};
 use std::test::Fail;
 
 const CRATES_ASKED_FOR: &[Row] = &[
