@@ -1,7 +1,7 @@
 //! Which declared dependency an edge has, where its package declares one several times.
 
 use crate::building::Built;
-use krates_resolve::declared_source::is_path_of;
+use krates_document::declared_source::is_path_of;
 use krates_samples::table::{Row, hold};
 use std::test::Fail;
 
