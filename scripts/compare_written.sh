@@ -5,7 +5,7 @@
 #     scripts/compare_written.sh FOLDER
 #
 # A document is FOLDER/NAME/metadata.json, which may be compressed, as metadata.json.gz. The program that does it is made in a
-# copy of the working tree, where libraries that are built here needn't be built again, and runs unproved.
+# copy of the working tree, where libraries that are built here need not be built again.
 #
 # The status is 0 where every document is the same, and there was one, and 1 otherwise.
 
@@ -42,20 +42,28 @@ cat > "$room/crates/compare_written/src/main.rt" << 'END'
 use krates_cm::{Metadata, MetadataCommand};
 use krates_cm_write::ToValue;
 use std::alloc::Global;
-use std::io;
+use std::{env, fs};
 
 fn fields(alloc: Global, document: &Metadata) -> Result<String, anyhow::Error> {
     Ok(format!(in alloc; "{document:?}")?)
 }
 
-fn main(rt: HostRuntime) -> Result<(), anyhow::Error> {
-    let alloc = rt.alloc();
-    let text = io::read_to_string(alloc, rt.reader())?;
-    let document = MetadataCommand::parse(alloc, text.as_str())?;
+fn is_same(alloc: Global, text: &str) -> Result<bool, anyhow::Error> {
+    let document = MetadataCommand::parse(alloc, text)?;
     let written = document.to_value(alloc)?.to_string(alloc)?;
     let again = MetadataCommand::parse(alloc, written.as_str())?;
-    let same = fields(alloc, &document)? == fields(alloc, &again)?;
-    println!(rt; "{}", if same { "same" } else { "another" })?;
+    Ok(fields(alloc, &document)? == fields(alloc, &again)?)
+}
+
+fn main(rt: HostRuntime) -> Result<(), anyhow::Error> {
+    for name in env::args(&rt)?.skip(1) {
+        let text = fs::read_to_string(&rt, name.as_str())?;
+        match is_same(rt.alloc(), text.as_str()) {
+            Ok(true) => println!(rt; "{name}: same")?,
+            Ok(false) => println!(rt; "{name}: another")?,
+            Err(error) => println!(rt; "{name}: {error}")?,
+        }
+    }
     Ok(())
 }
 END
@@ -64,21 +72,26 @@ for crate in $used; do
     (cd "$room/crates/$crate" && rt lib > "$room/$crate.log" 2>&1) || { cat "$room/$crate.log"; exit 1; }
 done
 
-seen=0
-different=0
+names=()
 for document in "$folder"/*/metadata.json "$folder"/*/metadata.json.gz; do
     [ -f "$document" ] || continue
+    name=$room/$(basename "$(dirname "$document")").json
     case $document in
-        *.gz) gzip -dc "$document" > "$room/document.json" ;;
-        *) cp "$document" "$room/document.json" ;;
+        *.gz) gzip -dc "$document" > "$name" ;;
+        *) cp "$document" "$name" ;;
     esac
-    seen=$((seen + 1))
-    if ! (cd "$room/crates/compare_written" && rt try < "$room/document.json" > "$room/answer" 2> "$room/errors") \
-        || ! grep -qx same "$room/answer"; then
-        echo "$document: $(tail -n 3 "$room/answer" "$room/errors")"
-        different=$((different + 1))
-    fi
+    names+=("$name")
 done
+if [ ${#names[@]} -eq 0 ]; then
+    echo "no document in $folder" >&2
+    exit 1
+fi
 
-echo "$seen documents, $different that aren't read as they were"
-[ "$seen" -gt 0 ] && [ "$different" -eq 0 ]
+if ! (cd "$room/crates/compare_written" && rt run -- "${names[@]}" > "$room/answers" 2> "$room/errors"); then
+    cat "$room/answers" "$room/errors" >&2
+    exit 1
+fi
+same=$(grep -c ': same$' "$room/answers" || true)
+sed -n "s|^$room/\(.*\.json: .*\)|\1|p" "$room/answers" | grep -v ': same$' || true
+echo "$same of ${#names[@]} documents are read as they were"
+[ "$same" -eq ${#names[@]} ]

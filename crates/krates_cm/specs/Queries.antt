@@ -7,6 +7,10 @@ use Rattle.krates_cm.specs.Document.{Text, text_view, id_view}
 use Rattle.krates_cm.specs.declared.metadata.Metadata.{Metadata}
 use Rattle.krates_cm.specs.declared.package.Package.{Package}
 
+-- the source of the packages of crates.io
+abbrev pub crates_io : Text
+crates_io = codes "registry+https://github.com/rust-lang/crates.io-index"
+
 -- the first package of this id
 abbrev pub package_of : List Package → Text → Option Package
 package_of packages id = find (λ p. bytes_eq (id_view p.id) id) packages

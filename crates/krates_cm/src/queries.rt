@@ -1,9 +1,9 @@
 //! What is asked of a document: its root, the packages of its workspace, the files that a package names.
 
-ghost use Rattle.std.specs.Prelude.{◌≡◌, ◌↔◌, Contains, IfOk, IsSome, IsTrue, Some, bytes_eq, codes, map, option_copied, option_map};
+ghost use Rattle.std.specs.Prelude.{◌≡◌, ◌↔◌, Contains, IfOk, IsSome, IsTrue, Some, bytes_eq, map, option_copied, option_map};
 ghost use Rattle.std.specs.List.{list_any};
 ghost use Rattle.krates_cm.specs.Document.{id_view, ids_view, source_view, text_view};
-ghost use Rattle.krates_cm.specs.Queries.{package_of, packages_among, IsBeside, IsManifestIn, IsRootPackage};
+ghost use Rattle.krates_cm.specs.Queries.{crates_io, package_of, packages_among, IsBeside, IsManifestIn, IsRootPackage};
 ghost use Rattle.krates_cm.specs.declared.target.TargetKind.TheVariants as kinds;
 
 use crate::metadata::{Metadata, WorkspaceDefaultMembers};
@@ -18,6 +18,11 @@ impl Metadata {
     /// The package that the document was made for: with a resolved graph the first whose id is that of
     /// the graph's root, and none where it has no root; without one the first whose manifest is `Cargo.toml`
     /// in the workspace's root, paths being compared by components. Time `O(packages)`.
+    ///
+    /// ```text
+    /// let metadata = MetadataCommand::parse(alloc, text)?;
+    /// let name = metadata.root_package().map(|root| root.name.as_str());
+    /// ```
     pub fn root_package(&self) -> Option<&Package>
         ensures { IsRootPackage self.now (option_copied result) }
     {
@@ -60,7 +65,8 @@ impl Metadata {
         alloc: Global,
     ) -> Result<Option<Vec<&Package>>, AllocError>
         ensures { IfOk result (λ o. option_map (λ v. map (λ p. p.now) v.items) o
-            ≡ option_map (λ ids. packages_among self.now.packages.items (ids_view ids)) self.now.workspace_default_members.0) }
+            ≡ option_map (λ ids. packages_among self.now.packages.items (ids_view ids))
+            self.now.workspace_default_members.0) }
     {
         match &self.workspace_default_members.0 {
             Some(ids) => Ok(Some(among(alloc, self.packages.as_slice(), ids.as_slice())?)),
@@ -117,7 +123,7 @@ impl Package {
 impl Source {
     /// Whether this is the registry crates.io.
     pub fn is_crates_io(&self) -> bool
-        ensures { result ≡ bytes_eq (source_view self.now) (codes "registry+https://github.com/rust-lang/crates.io-index") }
+        ensures { result ≡ bytes_eq (source_view self.now) crates_io }
     {
         self.repr.as_str() == "registry+https://github.com/rust-lang/crates.io-index"
     }
@@ -187,7 +193,8 @@ fn among<'a>(
     packages: &'a [Package],
     ids: &[PackageId],
 ) -> Result<Vec<&'a Package>, AllocError>
-    ensures { IfOk result (λ v. map (λ p. p.now) v.items ≡ packages_among packages.now (map id_view ids.now)) }
+    ensures { IfOk result (λ v. map (λ p. p.now) v.items
+        ≡ packages_among packages.now (map id_view ids.now)) }
 {
     let mut found = Vec::new(alloc);
     for pkg in packages {
@@ -221,7 +228,8 @@ fn beside(
     manifest: &str,
     file: &Option<String>,
 ) -> Result<Option<String>, AllocError>
-    ensures { IfOk result (λ path. IsBeside manifest.now (option_map text_view file.now) (option_map text_view path)) }
+    ensures { IfOk result (λ path. IsBeside manifest.now
+        (option_map text_view file.now) (option_map text_view path)) }
 {
     match file {
         Some(name) => {

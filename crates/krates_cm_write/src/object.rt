@@ -13,7 +13,8 @@ pub(crate) fn object_of(
     alloc: Global,
     fields: Vec<(&'static str, Value)>,
 ) -> Result<Value, AllocError>
-    ensures { IfOk result (λ v. data_of v ≡ object (put_all (map (λ f. (f.0.now, data_of f.1)) fields.entry.items) no_members)) }
+    ensures { IfOk result (λ v. data_of v
+        ≡ object (put_all (map (λ f. (f.0.now, data_of f.1)) fields.entry.items) no_members)) }
 {
     let mut members = Map::new(alloc);
     for (key, value) in fields {

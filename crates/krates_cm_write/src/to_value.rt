@@ -18,6 +18,10 @@ pub trait ToValue {
     ghost Writes: { Model → Data → Type 0 };
 
     /// Writes the value. The only error is want of memory. Time `O(size of the value)`.
+    ///
+    /// ```text
+    /// let text = metadata.to_value(alloc)?.to_string(alloc)?;
+    /// ```
     fn to_value(&self, alloc: Global) -> Result<Value, AllocError>
         ensures { IfOk result (λ v. Writes (view self.now) (data_of v)) };
 }

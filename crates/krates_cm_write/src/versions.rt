@@ -38,7 +38,8 @@ impl ToValue for VersionReq {
 
 /// The version of Rust that a package needs, or null.
 pub(crate) fn rust_version(alloc: Global, version: &Option<Version>) -> Result<Value, AllocError>
-    ensures { IfOk result (λ v. OptionWritten RustVersionWritten (option_map parts_of version.now) (data_of v)) }
+    ensures { IfOk result (λ v. OptionWritten RustVersionWritten
+        (option_map parts_of version.now) (data_of v)) }
 {
     match version {
         Some(version) => Ok(Value::String(rust_version_text(alloc, version)?)),
