@@ -25,7 +25,7 @@ trap 'rm -rf "$room"' EXIT
 # What git knows or would add of the crates that the program uses, and their libraries.
 used='krates_text krates_cm krates_cm_write'
 for crate in $used; do
-    git ls-files -z --cached --others --exclude-standard "crates/$crate" | xargs -0 ls -d 2> "$room/gone" | tar -cf - -T - | tar -xf - -C "$room"
+    git ls-files -z --cached --others --exclude-standard "crates/$crate" | { xargs -0 ls -d 2> "$room/gone" || true; } | tar -cf - -T - | tar -xf - -C "$room"
     if [ -d "crates/$crate/out/rlib" ]; then
         mkdir -p "$room/crates/$crate/out"
         cp -r "crates/$crate/out/rlib" "$room/crates/$crate/out/rlib"
