@@ -1,5 +1,5 @@
 -- A copy looks as its original: of each kind of field.
-use Rattle.std.proofs.Common.{◌≡◌, ℕ, List, [], ◌∷◌, map, Option, None, Some, option_map, String, Global, string_bytes, refl, ap}
+use Rattle.std.proofs.Common.{◌≡◌, ℕ, List, [], ◌∷◌, map, Option, None, Some, String, Global, string_bytes, refl, ap}
 use Rattle.std.specs.BTreeMap.{BTreeMap, IsClone}
 use Rattle.std.specs.Global.{Vec}
 use Rattle.std.specs.List.{AllZip}

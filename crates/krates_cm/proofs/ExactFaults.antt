@@ -1,6 +1,6 @@
 -- Some fault is true exactly where nothing is read: of each way to put readings together, and so of each table.
-use Rattle.std.proofs.Common.{◌≡◌, ◌⊎◌, List, Option, Some, None, ℕ, refl, sym, inl, inr, ◌∷◌, []}
-use Rattle.std.specs.Prelude.{codes, ⊤, option_and_then, true, Bool}
+use Rattle.std.proofs.Common.{◌≡◌, ◌⊎◌, List, Option, Some, None, ℕ, refl, inl, inr, ◌∷◌, []}
+use Rattle.std.specs.Prelude.{codes, ⊤, option_and_then, true}
 use Rattle.serde_json.specs.Data.{Data, null, Items, no_items, item, Members, no_members, member}
 use Rattle.serde_json.specs.Find.{get, as_null, as_bool, as_number, as_u64, as_str, as_array, as_object}
 use Rattle.krates_cm.specs.Faults.{Fault, missing, wrong_type, bad_dependency_kind, bad_target_kind, bad_crate_type, bad_edition, bad_version, bad_requirement, bad_rust_version}

@@ -1,5 +1,5 @@
 -- Which value each text of the document stands for, for the types that are written as a text.
-use Rattle.std.specs.Prelude.{ℕ, List, ◌++◌, count_by, ◌==◌, ◌||◌, Bool, Option, Some, None, codes, bytes_eq, if◌then◌else◌}
+use Rattle.std.specs.Prelude.{◌++◌, count_by, ◌==◌, ◌||◌, Bool, Option, Some, None, codes, bytes_eq, if◌then◌else◌}
 use Rattle.std.specs.List.{list_any}
 use Rattle.std.specs.Result.{result_ok}
 use Rattle.semver.specs.Parse.{req_of, version_parts}
