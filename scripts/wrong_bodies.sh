@@ -26,8 +26,10 @@ if [ ${#crates[@]} -eq 0 ]; then
     mapfile -t crates < <(listed)
 fi
 
-# What git knows or would add, and the libraries that are built.
-git ls-files -z --cached --others --exclude-standard | xargs -0 ls -d 2> "$room/gone" | tar -cf - -T - | tar -xf - -C "$room"
+# What git knows or would add and what is there, and the libraries that are built.
+git ls-files -z --cached --others --exclude-standard | while IFS= read -r -d '' file; do
+    [ ! -e "$file" ] || printf '%s\0' "$file"
+done | tar -cf - --null -T - | tar -xf - -C "$room"
 for library in crates/*/out/rlib; do
     [ -d "$library" ] || continue
     mkdir -p "$room/$(dirname "$library")"
@@ -46,11 +48,19 @@ for crate in "${crates[@]}"; do
     fi
 done
 
+# The crates that a crate uses, and those that they use.
+used_by() {
+    for used in $(sed -n "s/^$1: *//p" crates.txt); do
+        if [ -d "crates/$used" ]; then
+            used_by "$used"
+            echo "$used"
+        fi
+    done
+}
+
 # Each library once, before several crates ask for it at the same time.
-for crate in $(listed); do
-    if [ -f "crates/$crate/src/lib.rt" ] && grep -q "^[a-z0-9_]*:.*\b$crate\b" crates.txt; then
-        (cd "crates/$crate" && rt lib > out.log 2>&1) || { cat "crates/$crate/out.log"; exit 1; }
-    fi
+for crate in $(for it in "${tried[@]}"; do used_by "$it"; done | awk '!seen[$0]++'); do
+    (cd "crates/$crate" && rt lib > out.log 2>&1) || { cat "crates/$crate/out.log"; exit 1; }
 done
 
 # The crates with most to try first, so that none is left over at the end.
