@@ -110,7 +110,12 @@ def contract():
     """The clauses of the function, as they stand in the source, and the words in them."""
     text = (ROOT / SOURCE).read_text(encoding="utf-8")
     after = text[text.index("fn " + FUNCTION) :]
-    clauses = [line.strip() for line in after[: after.index("\n    {\n")].split("\n") if re.match(r"\s*(requires|ensures)", line)]
+    clauses = []
+    for line in after[: after.index("\n    {\n")].split("\n"):
+        if re.match(r"\s*(requires|ensures)\b", line):
+            clauses.append(line.strip())
+        elif clauses:
+            clauses[-1] += "\n  " + line.strip()
     return clauses, imports_of(text)
 
 

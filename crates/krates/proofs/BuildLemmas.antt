@@ -14,6 +14,7 @@ use Rattle.krates_ids.specs.Identity.{Identity, empty_identity, Reads, id_cmp}
 use Rattle.krates_ids.specs.declared.error.Error.{Error}
 use Rattle.krates_ids.specs.declared.error.Error.TheVariants as errors
 use Rattle.krates_rules.specs.Admission.{IsAdmitted, package_texts, doubled_package, IdsModel}
+use Rattle.krates_document.proofs.AdmissionLemmas.{twice_texts}
 use Rattle.krates_document.specs.AdmissionSteps.{AreDistinct}
 use Rattle.krates_rules.specs.Facts.{Id, Cause, Crate, Feature, Lost}
 use Rattle.krates_rules.specs.Questions.{Stands, questions}
@@ -23,8 +24,8 @@ use Rattle.krates_rules.specs.Setting.{SettingModel}
 use Rattle.krates.specs.Build.{IsResolvable, IsDerived, KeepsCrate, DropsCrate, IsLost, AreThosePackages, HasTooMany, GraphRefusal, CountRefusal}
 use Rattle.krates.specs.Division.{IsAmong, IsDivision}
 use Rattle.krates.specs.Enabled.{AreEnabledSets}
-use Rattle.krates.specs.Kept.{IsEnabledIn, names_in_each}
-use Rattle.krates.specs.Krate.{krate_ids, krate_packages}
+use Rattle.krates.specs.Kept.{IsEnabledIn, names_in_each, krate_packages}
+use Rattle.krates.specs.Krate.{krate_ids}
 use Rattle.krates.specs.declared.division.Division.{Division}
 use Rattle.krates.proofs.DivisionLemmas.{ReadsOnce}
 use Rattle.krates.proofs.Membership.{Member, member_of, contains_of, mapped_of, member_map}
@@ -41,33 +42,8 @@ texts_of (p ∷ ps) = ap (λ ts. id_view p.id ∷ ts) (texts_of ps)
 pub package_ids : (m : Metadata) (ids : IdsModel) → IsAdmitted (metadata_view m) ids → AllZip Reads (map (λ p. id_view p.id) m.packages.items) ids.packages
 package_ids m ids a = subst (λ ts. AllZip Reads ts ids.packages) (texts_of m.packages.items) a.read.packages
 
-record TextAt (texts : List Text) (place : ℕ) (i : Identity) : Type 0 where
-  text : Text
-  at : slice_get texts place ≡ Some text
-  reads : Reads text i
-
-text_at : (texts : List Text) (ids : List Identity) → AllZip Reads texts ids → (place : ℕ) (i : Identity) → slice_get ids place ≡ Some i → TextAt texts place i
-text_at [] [] h place i e = absurd cc
-text_at [] (j ∷ ids) h place i e = absurd h
-text_at (t ∷ texts) [] h place i e = absurd h
-text_at (t ∷ texts) (j ∷ ids) h zero i e = let same : j ≡ i = cc in record { text = t; at = refl; reads = subst (λ x. Reads t x) same h.0 }
-text_at (t ∷ texts) (j ∷ ids) h (suc place) i e = let w = text_at texts ids h.1 place i e in record { text = w.text; at = w.at; reads = w.reads }
-
 pub ids_distinct : (m : MetadataModel) (ids : IdsModel) → IsAdmitted m ids → AreDistinct ids.packages
-ids_distinct m ids a id t =
-    let one = text_at (package_texts m) ids.packages a.read.packages t.first t.one t.at_first in
-    let other = text_at (package_texts m) ids.packages a.read.packages t.second t.other t.at_second in
-    a.none_doubled id (doubled_package (record {
-      first = t.first;
-      second = t.second;
-      apart = t.apart;
-      one = one.text;
-      other = other.text;
-      at_first = one.at;
-      at_second = other.at;
-      one_reads = record { read = t.one; reads = one.reads; same = t.one_is };
-      other_reads = record { read = t.other; reads = other.reads; same = t.other_is };
-    }))
+ids_distinct m ids a id t = a.none_doubled id (doubled_package (twice_texts (package_texts m) ids.packages id a.read.packages t))
 
 -- ---- those packages
 

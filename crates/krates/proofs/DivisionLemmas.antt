@@ -17,7 +17,8 @@ use Rattle.krates_rules.specs.Facts.{Id}
 use Rattle.krates_rules.specs.Resolved.{id_of}
 use Rattle.krates.specs.Build.{AreThosePackages, HasIdAmong}
 use Rattle.krates.specs.Division.{has_same, is_selected, IsAmong, IsDivision}
-use Rattle.krates.specs.Krate.{krate_cmp, krate_ids, krate_packages, paired}
+use Rattle.krates.specs.Krate.{krate_cmp, krate_ids, paired}
+use Rattle.krates.specs.Kept.{krate_packages}
 use Rattle.krates.specs.declared.division.Division.{Division}
 use Rattle.krates.specs.declared.krate.Krate.{Krate}
 use Rattle.krates.proofs.Membership.{Member, member_of, contains_of, mapped_of, member_map, kept_of, member_filter, map_filter, zip_maps}
@@ -83,8 +84,8 @@ ids_distinct o ids distinct = IsDistinct-from_apart same ids (λ i j d lt within
   other = get_or ids j d;
   at_first = slice_get-get_or ids i d (omega arith);
   at_second = slice_get-get_or ids j d within;
-  one_is = id_of_equal o (get_or ids i d) (get_or ids j d) e;
-  other_is = refl;
+  one_holds = id_of_equal o (get_or ids i d) (get_or ids j d) e;
+  other_holds = refl;
 })))
 
 less_of : (r : Ordering) → is_lt (ordering_reverse r) ≡ false → is_eq r ≡ false → r ≡ Less

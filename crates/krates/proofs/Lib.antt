@@ -5,16 +5,12 @@ pub mod CorrectedAlike
 pub mod CorrectedSoFar
 pub mod DivisionLemmas
 pub mod EnabledLemmas
-pub mod HandedBack
 pub mod ListedAlike
 pub mod Membership
 pub mod MovedLists
 pub mod NamesIn
 pub mod NarrowedBuilds
 pub mod OrderedIds
-pub mod ResultValues
 pub mod SeenLemmas
 pub mod SelectionFacts
 pub mod StandingLaws
-pub mod VecArgument
-pub mod Walking

@@ -7,7 +7,8 @@ use Rattle.krates_ids.specs.Identity.{Identity, id_cmp}
 use Rattle.krates_rules.specs.Facts.{Id}
 use Rattle.krates_rules.specs.Resolved.{id_of}
 use Rattle.krates.specs.Build.{AreThosePackages}
-use Rattle.krates.specs.Krate.{krate_ids, krate_packages}
+use Rattle.krates.specs.Krate.{krate_ids}
+use Rattle.krates.specs.Kept.{krate_packages}
 use Rattle.krates.specs.declared.division.Division.{Division}
 use Rattle.krates.specs.declared.krate.Krate.{Krate}
 

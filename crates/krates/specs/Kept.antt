@@ -8,7 +8,7 @@ use Rattle.krates_cm.specs.declared.package.Package.{Package}
 use Rattle.krates_ids.specs.Identity.{Identity, id_cmp}
 use Rattle.krates_rules.specs.Facts.{Id}
 use Rattle.krates_rules.specs.Resolved.{StandsAt}
-use Rattle.krates.specs.Krate.{krate_ids, krate_packages}
+use Rattle.krates.specs.Krate.{krate_ids}
 use Rattle.krates.specs.declared.krate.Krate.{Krate}
 
 -- the ids of the kept crates, in order, the packages with these ids, the names of the enabled features of each, and the path
@@ -18,6 +18,10 @@ pub record KeptCrates : Type 0 where
   pub packages : List Package
   pub features : List (List Text)
   pub workspace_root : Text
+
+-- the packages of these crates
+abbrev pub krate_packages : List Krate → List Package
+krate_packages krates = map (λ k. k.pkg) krates
 
 -- the ids ascend, each once, and there are not more than can be numbered
 pub record AreOrdered (ids : List Identity) : Type 0 where

@@ -4,7 +4,7 @@ ghost use Rattle.std.specs.Prelude.{◌≡◌, ◌↔◌, ◌<◌, ◌^◌, ◌+
 ghost use Rattle.std.specs.Bool.{MatchBool};
 ghost use Rattle.std.specs.Borrow.{sem};
 ghost use Rattle.krates_cm.specs.Document.{metadata_view};
-ghost use Rattle.krates_ids.specs.SpecificationAnswers.{spec_view};
+ghost use Rattle.krates_ids.specs.PackageSpecification.{spec_view};
 ghost use Rattle.krates_text.specs.AskedTargets.{asked_of};
 ghost use Rattle.krates_rules.specs.Admission.{IsAdmitted};
 ghost use Rattle.krates_document.specs.Ids.{ids_view};

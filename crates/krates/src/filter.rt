@@ -3,7 +3,7 @@
 ghost use Rattle.std.specs.Prelude.{◌≡◌};
 ghost use Rattle.std.specs.List.{FoldsTo};
 ghost use Rattle.krates_cm.specs.declared.package.Package.{Package};
-ghost use Rattle.krates.specs.Krate.{krate_packages};
+ghost use Rattle.krates.specs.Kept.{krate_packages};
 
 use crate::krate::Krate;
 use krates_cm::Package;

@@ -109,7 +109,7 @@ pub struct KratesIter<'a> {
 impl<'a> Model for KratesIter<'a> {
     ghost use Rattle.std.specs.Prelude.{List};
     ghost use Rattle.krates_cm.specs.declared.package.Package.{Package};
-    ghost use Rattle.krates.specs.Krate.{krate_packages};
+    ghost use Rattle.krates.specs.Kept.{krate_packages};
 
     ghost Value = { List Package };
 

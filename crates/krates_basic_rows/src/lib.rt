@@ -5,8 +5,6 @@
 #![tactic(auto)]
 
 #[cfg(test)]
-mod cargo;
-#[cfg(test)]
 mod correction;
 #[cfg(test)]
 mod documents;

@@ -5,4 +5,5 @@ pub mod Variables
 pub mod VariablesSet
 pub mod TextArguments
 pub mod Unrun
+pub mod VecArgument
 pub mod Walking

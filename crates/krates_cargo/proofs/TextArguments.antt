@@ -4,9 +4,8 @@ use Rattle.std.proofs.alloc.Global.TheLaws as Global-laws
 use Rattle.std.specs.contracts.impls.GlobalAllocator.TheImpl as impl
 use Rattle.std.specs.contracts.string.String as String-row
 use Rattle.std.proofs.string.String.TheLaws as String-laws
-use Rattle.std.specs.contracts.vec.Vec as Vec-row
-use Rattle.std.proofs.vec.Vec.TheLaws as Vec-laws
-use mathlib.Core.List.{List, [], ◌∷◌}
+use Rattle.krates_cargo.proofs.VecArgument.{vec, vec_laws, vec_vals, vec_tells}
+use mathlib.Core.List.{List}
 use mir.Val.{Val}
 use denote.RattleType.{RattleType}
 use denote.Laws.{Is, Tells}
@@ -19,14 +18,14 @@ pub text_laws : Laws text
 text_laws = String-laws.the_row_laws Global-row.the_row impl.ghosts Global-laws.the_row_laws
 
 abbrev pub texts : RattleType
-texts = Vec-row.the_row text Global-row.the_row impl.ghosts
+texts = vec text text_laws
 
 abbrev pub texts_laws : Laws texts
-texts_laws = Vec-laws.the_row_laws text Global-row.the_row impl.ghosts text_laws Global-laws.the_row_laws
+texts_laws = vec_laws text text_laws
 
 -- its machine value
 abbrev pub texts_vals : texts.Denot → List Val
-texts_vals x = (Vec-laws.lowers text Global-row.the_row impl.ghosts text_laws Global-laws.the_row_laws Global-laws.the_told).lowered x ∷ []
+texts_vals = vec_vals text text_laws
 
 pub texts_tells : Tells texts (Is texts) texts_vals
-texts_tells x us is = (Vec-laws.lowers text Global-row.the_row impl.ghosts text_laws Global-laws.the_row_laws Global-laws.the_told).val_is x us is
+texts_tells = vec_tells text text_laws

@@ -1,9 +1,11 @@
-//! Runs of cargo by a stand-in, whose answers are known.
+//! The command, and runs of cargo by a stand-in: worked examples whose answers are known.
 //!
 //! A test isn't handed the path of another program, so this test program is its own stand-in: cargo's first word is `metadata`,
 //! and the test of this name does what `fake-cargo` does.
 #![tactic(auto)]
 
+#[cfg(test)]
+mod command;
 #[cfg(test)]
 mod stand_in;
 

@@ -5,7 +5,7 @@ use Rattle.std.specs.declared.alloc.Global.{Global}
 use Rattle.semver.specs.Identifiers.{parts_of, pre_text, build_text}
 use Rattle.semver.specs.declared.Version.{Version}
 use Rattle.semver.specs.contracts.VersionClone.TheImpl.{ghosts as versions}
-use Rattle.krates_ids.specs.SpecificationAnswers.{spec_view}
+use Rattle.krates_ids.specs.PackageSpecification.{spec_view}
 use Rattle.krates_ids.specs.contracts.pkgspec.PkgSpecClone.TheImpl.{ghosts as specs}
 use Rattle.krates_ids.specs.declared.pkgspec.PkgSpec.{PkgSpec}
 

@@ -2,8 +2,7 @@
 use Rattle.std.specs.Prelude.{◌≡◌, List, [], ◌∷◌, Bool, true, false, Option, Some, None, bytes_eq, codes, if◌then◌else◌, map, string_bytes}
 use Rattle.std.specs.List.{list_any}
 use Rattle.krates_cm.specs.Document.{Text}
-use Rattle.krates_ids.specs.PackageSpecification.{Specification, IsSpec}
-use Rattle.krates_ids.specs.SpecificationAnswers.{spec_view}
+use Rattle.krates_ids.specs.PackageSpecification.{Specification, IsSpec, spec_view}
 use Rattle.krates_text.specs.Passing.{Asked}
 use Rattle.krates_text.specs.TargetTable.{target_named}
 use Rattle.krates_rules.specs.Setting.{SettingModel}

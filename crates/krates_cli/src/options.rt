@@ -1,8 +1,7 @@
 //! What is asked of a run: how it is read from words, and what it sets of a builder.
 
 ghost use Rattle.std.specs.Prelude.{◌≡◌, ◌∷◌, IfErr, IfOk, OnOk, map, option_map, string_bytes};
-ghost use Rattle.krates_ids.specs.PackageSpecification.{Specification, IsSpec};
-ghost use Rattle.krates_ids.specs.SpecificationAnswers.{spec_view};
+ghost use Rattle.krates_ids.specs.PackageSpecification.{Specification, IsSpec, spec_view};
 ghost use Rattle.krates_text.specs.AskedTargets.{asked_of};
 ghost use Rattle.krates_rules.specs.PlainSetting.{plain_setting};
 ghost use Rattle.krates_cli.specs.Options.{IsCommandLine, IsUnknown, asked_at, kind_named, options_view, plain_options, setting_of};

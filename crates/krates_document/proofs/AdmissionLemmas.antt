@@ -1,6 +1,8 @@
 -- How the parts of a document's ids make the whole.
 use Rattle.std.proofs.Common.{◌≡◌, ℕ, zero, suc, ◌<◌, List, [], ◌∷◌, length, get_or, Contains, Some, lit<, refl, ap, sym, ◌∙◌, subst, inl, inr, arith, string_bytes, map}
 use Rattle.std.specs.List.{AllZip, AllByRecursion}
+use Rattle.std.specs.Prelude.{String}
+use Rattle.std.specs.declared.alloc.Global.{Global}
 use Rattle.std.proofs.lemmas.Simd.{map-map}
 use Rattle.krates_cm.specs.Document.{Text, NodeModel, ResolveModel, MetadataModel, id_view, node_view, node_dep_view, package_view, resolve_view, metadata_view}
 use Rattle.krates_cm.specs.declared.metadata.Metadata.{Metadata}
@@ -14,7 +16,7 @@ use Rattle.krates_ids.specs.declared.error.Error.{Error}
 use Rattle.krates_ids.specs.declared.error.Error.TheVariants as errors
 use Rattle.krates_rules.specs.Admission.{package_texts, node_texts, dep_texts, StandsForId, of_dep, IsInvalidId, unread, bad_version, AreDepIds, AreIdsOf, IsDoubledIn, IsDoubled, doubled_package, doubled_node, doubled_dep, NoneDoubled, IdsModel}
 use Rattle.krates_rules.specs.AdmissionRefusals.{AdmissionRefusal}
-use Rattle.krates_document.specs.AdmissionSteps.{InvalidIdRefusal, UnreadRefusal, IsBadText, InvalidDepRefusal, InvalidNodeRefusal, IsDoubledAmong, AreDistinct, AreAllDistinct, DoubledRefusal, DoubledInRefusal, IsDoubledWithin, among_packages, among_nodes, among_deps, DoubledWithinRefusal}
+use Rattle.krates_document.specs.AdmissionSteps.{IsInvalidBy, InvalidIdRefusal, IsNoId, UnreadRefusal, IsBadText, InvalidDepRefusal, InvalidNodeRefusal, IsDoubledAmong, AreDistinct, AreAllDistinct, IsDoubledBy, DoubledRefusal, DoubledInRefusal, IsDoubledWithin, among_packages, among_nodes, among_deps, DoubledWithinRefusal}
 use Rattle.krates_rules.specs.Facts.{Id}
 use Rattle.krates_rules.specs.Resolved.{id_of}
 use Rattle.krates_rules.proofs.Readings.{left_of, right_of, ReadsOnce}
@@ -42,94 +44,65 @@ node_texts_of g = map-map (λ n. n.id) node_view g.nodes.items
 pub dep_texts_of : (n : Node) → dep_texts (node_view n) ≡ map (λ (d : NodeDep). id_view d.pkg) n.deps.items
 dep_texts_of n = map-map (λ d. d.pkg) node_dep_view n.deps.items
 
--- a bad dependency of a node is one of the nodes
-pub bad_node : (nodes : List NodeModel) (n : NodeModel) → Contains nodes n → (e : Error) → InvalidDepRefusal (dep_texts n) e → InvalidNodeRefusal nodes e
-bad_node nodes n among (errors.InvalidId t) h = (n, among, h.0, h.1)
-bad_node nodes n among errors.Memory h = tt
-bad_node nodes n among errors.NoResolveGraph h = absurd h
-bad_node nodes n among (errors.Metadata x) h = absurd h
-bad_node nodes n among (errors.InvalidPkgSpec x) h = absurd h
-bad_node nodes n among errors.NoRootKrates h = absurd h
-bad_node nodes n among (errors.Doubled x) h = absurd h
-bad_node nodes n among (errors.Lost x) h = absurd h
-bad_node nodes n among errors.TooMany h = absurd h
+-- ---- a refusal by its class
+
+-- what follows of the text of each invalid id, and of want of memory, follows of the refusal
+invalid_so : (P : Text → Type 0) (R : Error → Type 0) → ((t : String Global) → P (string_bytes t) → R (errors.InvalidId t)) → R errors.Memory → (e : Error) → IsInvalidBy P e → R e
+invalid_so P R so memory (errors.InvalidId t) h = so t h
+invalid_so P R so memory errors.Memory h = memory
+invalid_so P R so memory errors.NoResolveGraph h = absurd h
+invalid_so P R so memory (errors.Metadata x) h = absurd h
+invalid_so P R so memory (errors.InvalidPkgSpec x) h = absurd h
+invalid_so P R so memory errors.NoRootKrates h = absurd h
+invalid_so P R so memory (errors.Doubled x) h = absurd h
+invalid_so P R so memory (errors.Lost x) h = absurd h
+invalid_so P R so memory errors.TooMany h = absurd h
+
+-- and of each doubled id
+doubled_so : (P : Id → Type 0) (R : Error → Type 0) → ((kid : Identity) → P (id_of kid) → R (errors.Doubled kid)) → R errors.Memory → (e : Error) → IsDoubledBy P e → R e
+doubled_so P R so memory (errors.Doubled kid) h = so kid h
+doubled_so P R so memory errors.Memory h = memory
+doubled_so P R so memory errors.NoResolveGraph h = absurd h
+doubled_so P R so memory (errors.Metadata x) h = absurd h
+doubled_so P R so memory (errors.InvalidPkgSpec x) h = absurd h
+doubled_so P R so memory errors.NoRootKrates h = absurd h
+doubled_so P R so memory (errors.InvalidId x) h = absurd h
+doubled_so P R so memory (errors.Lost x) h = absurd h
+doubled_so P R so memory errors.TooMany h = absurd h
 
 -- ---- what is wrong with an id is wrong with the document
 
+-- a bad dependency of a node is one of the nodes
+pub bad_node : (nodes : List NodeModel) (n : NodeModel) → Contains nodes n → (e : Error) → InvalidDepRefusal (dep_texts n) e → InvalidNodeRefusal nodes e
+bad_node nodes n among = invalid_so (λ t. Contains (dep_texts n) t × IsBadText t) (InvalidNodeRefusal nodes) (λ t h. (n, among, h.0, h.1)) tt
+
 pub unread_bad : (m : MetadataModel) (g : ResolveModel) (texts : List Text) → ((t : Text) → Contains texts t → StandsForId m g t) → (e : Error) → UnreadRefusal texts e → InvalidIdRefusal m g e
-unread_bad m g texts stands (errors.InvalidId t) h = unread (stands (string_bytes t) h.0) h.1
-unread_bad m g texts stands (errors.Doubled kid) h = absurd h
-unread_bad m g texts stands errors.Memory h = tt
-unread_bad m g texts stands (errors.Metadata x) h = absurd h
-unread_bad m g texts stands (errors.InvalidPkgSpec x) h = absurd h
-unread_bad m g texts stands errors.NoRootKrates h = absurd h
-unread_bad m g texts stands (errors.Lost x) h = absurd h
-unread_bad m g texts stands errors.TooMany h = absurd h
-unread_bad m g texts stands errors.NoResolveGraph h = absurd h
+unread_bad m g texts stands = invalid_so (λ t. Contains texts t × IsNoId t) (InvalidIdRefusal m g) (λ t h. unread (stands (string_bytes t) h.0) h.1) tt
 
 bad_text : (m : MetadataModel) (g : ResolveModel) (n : NodeModel) (t : Text) → Contains g.nodes n → Contains (dep_texts n) t → IsBadText t → IsInvalidId m g t
 bad_text m g n t among has (inl none) = unread (of_dep n among has) none
 bad_text m g n t among has (inr w) = bad_version n among has w.0 w.1 w.2
 
 pub node_bad : (m : MetadataModel) (g : ResolveModel) (e : Error) → InvalidNodeRefusal g.nodes e → InvalidIdRefusal m g e
-node_bad m g (errors.InvalidId t) h = bad_text m g h.0 (string_bytes t) h.1 h.2 h.3
-node_bad m g (errors.Doubled kid) h = absurd h
-node_bad m g errors.Memory h = tt
-node_bad m g (errors.Metadata x) h = absurd h
-node_bad m g (errors.InvalidPkgSpec x) h = absurd h
-node_bad m g errors.NoRootKrates h = absurd h
-node_bad m g (errors.Lost x) h = absurd h
-node_bad m g errors.TooMany h = absurd h
-node_bad m g errors.NoResolveGraph h = absurd h
+node_bad m g = invalid_so (λ t. (n : NodeModel) × Contains g.nodes n × Contains (dep_texts n) t × IsBadText t) (InvalidIdRefusal m g) (λ t h. bad_text m g h.0 (string_bytes t) h.1 h.2 h.3) tt
 
 -- a document with such an id is refused
 pub bad_refused : (m : MetadataModel) (g : ResolveModel) → m.resolve ≡ Some g → (e : Error) → InvalidIdRefusal m g e → AdmissionRefusal m e
-bad_refused m g is (errors.InvalidId t) h = record { graph = g; has_graph = is; holds = h }
-bad_refused m g is (errors.Doubled kid) h = absurd h
-bad_refused m g is errors.Memory h = tt
-bad_refused m g is (errors.Metadata x) h = absurd h
-bad_refused m g is (errors.InvalidPkgSpec x) h = absurd h
-bad_refused m g is errors.NoRootKrates h = absurd h
-bad_refused m g is (errors.Lost x) h = absurd h
-bad_refused m g is errors.TooMany h = absurd h
-bad_refused m g is errors.NoResolveGraph h = absurd h
+bad_refused m g is = invalid_so (IsInvalidId m g) (AdmissionRefusal m) (λ t h. record { graph = g; has_graph = is; holds = h }) tt
 
 -- ---- what stands twice
 
 pub twice_packages : (ids : IdsModel) (e : Error) → DoubledRefusal ids.packages e → DoubledWithinRefusal ids e
-twice_packages ids (errors.InvalidId t) h = absurd h
-twice_packages ids (errors.Doubled kid) h = among_packages h
-twice_packages ids errors.Memory h = tt
-twice_packages ids (errors.Metadata x) h = absurd h
-twice_packages ids (errors.InvalidPkgSpec x) h = absurd h
-twice_packages ids errors.NoRootKrates h = absurd h
-twice_packages ids (errors.Lost x) h = absurd h
-twice_packages ids errors.TooMany h = absurd h
-twice_packages ids errors.NoResolveGraph h = absurd h
+twice_packages ids = doubled_so (IsDoubledAmong ids.packages) (DoubledWithinRefusal ids) (λ kid h. among_packages h) tt
 
 pub twice_nodes : (ids : IdsModel) (e : Error) → DoubledRefusal ids.nodes e → DoubledWithinRefusal ids e
-twice_nodes ids (errors.InvalidId t) h = absurd h
-twice_nodes ids (errors.Doubled kid) h = among_nodes h
-twice_nodes ids errors.Memory h = tt
-twice_nodes ids (errors.Metadata x) h = absurd h
-twice_nodes ids (errors.InvalidPkgSpec x) h = absurd h
-twice_nodes ids errors.NoRootKrates h = absurd h
-twice_nodes ids (errors.Lost x) h = absurd h
-twice_nodes ids errors.TooMany h = absurd h
-twice_nodes ids errors.NoResolveGraph h = absurd h
+twice_nodes ids = doubled_so (IsDoubledAmong ids.nodes) (DoubledWithinRefusal ids) (λ kid h. among_nodes h) tt
 
 pub twice_deps : (ids : IdsModel) (e : Error) → DoubledInRefusal ids.deps e → DoubledWithinRefusal ids e
-twice_deps ids (errors.InvalidId t) h = absurd h
-twice_deps ids (errors.Doubled kid) h = among_deps h.0 h.1 h.2
-twice_deps ids errors.Memory h = tt
-twice_deps ids (errors.Metadata x) h = absurd h
-twice_deps ids (errors.InvalidPkgSpec x) h = absurd h
-twice_deps ids errors.NoRootKrates h = absurd h
-twice_deps ids (errors.Lost x) h = absurd h
-twice_deps ids errors.TooMany h = absurd h
-twice_deps ids errors.NoResolveGraph h = absurd h
+twice_deps ids = doubled_so (λ id. (list : List Identity) × Contains ids.deps list × IsDoubledAmong list id) (DoubledWithinRefusal ids) (λ kid h. among_deps h.0 h.1 h.2) tt
 
-twice_texts : (texts : List Text) (ids : List Identity) (id : Id) → AllZip Reads texts ids → IsDoubledAmong ids id → IsDoubledIn texts id
+-- an id that is doubled among the ids of texts is doubled in the texts
+pub twice_texts : (texts : List Text) (ids : List Identity) (id : Id) → AllZip Reads texts ids → IsDoubledAmong ids id → IsDoubledIn texts id
 twice_texts texts ids id z t =
     let one = left_of Reads texts ids t.first t.one z t.at_first in
     let other = left_of Reads texts ids t.second t.other z t.at_second in
@@ -141,8 +114,8 @@ twice_texts texts ids id z t =
       other = other.0;
       at_first = one.1;
       at_second = other.1;
-      one_reads = record { read = t.one; reads = one.2; same = t.one_is };
-      other_reads = record { read = t.other; reads = other.2; same = t.other_is };
+      one_holds = record { read = t.one; reads = one.2; same = t.one_holds };
+      other_holds = record { read = t.other; reads = other.2; same = t.other_holds };
     }
 
 texts_twice : ReadsOnce → (texts : List Text) (ids : List Identity) (id : Id) → AllZip Reads texts ids → IsDoubledIn texts id → IsDoubledAmong ids id
@@ -157,8 +130,8 @@ texts_twice once texts ids id z t =
       other = other.0;
       at_first = one.1;
       at_second = other.1;
-      one_is = ap id_of (once t.one one.0 t.one_reads.read one.2 t.one_reads.reads) ∙ t.one_reads.same;
-      other_is = ap id_of (once t.other other.0 t.other_reads.read other.2 t.other_reads.reads) ∙ t.other_reads.same;
+      one_holds = ap id_of (once t.one one.0 t.one_holds.read one.2 t.one_holds.reads) ∙ t.one_holds.same;
+      other_holds = ap id_of (once t.other other.0 t.other_holds.read other.2 t.other_holds.reads) ∙ t.other_holds.same;
     }
 
 -- the dependencies of a node, and their ids
@@ -200,12 +173,4 @@ doubled_of m g ids id are (among_deps list among t) =
 
 -- a document in which an id stands twice is refused
 pub twice_refused : (m : MetadataModel) (g : ResolveModel) (ids : IdsModel) → m.resolve ≡ Some g → AreIdsOf m g ids → (e : Error) → DoubledWithinRefusal ids e → AdmissionRefusal m e
-twice_refused m g ids is are (errors.InvalidId t) h = absurd h
-twice_refused m g ids is are (errors.Doubled kid) h = record { graph = g; has_graph = is; holds = doubled_of m g ids (id_of kid) are h }
-twice_refused m g ids is are errors.Memory h = tt
-twice_refused m g ids is are (errors.Metadata x) h = absurd h
-twice_refused m g ids is are (errors.InvalidPkgSpec x) h = absurd h
-twice_refused m g ids is are errors.NoRootKrates h = absurd h
-twice_refused m g ids is are (errors.Lost x) h = absurd h
-twice_refused m g ids is are errors.TooMany h = absurd h
-twice_refused m g ids is are errors.NoResolveGraph h = absurd h
+twice_refused m g ids is are = doubled_so (IsDoubledWithin ids) (AdmissionRefusal m) (λ kid h. record { graph = g; has_graph = is; holds = doubled_of m g ids (id_of kid) are h }) tt

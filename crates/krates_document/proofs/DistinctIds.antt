@@ -81,13 +81,13 @@ distinct_push tells xs x distinct none id t = elim (cases_lt t.second (length xs
     other = t.other;
     at_first = get_front xs x t.first t.one (omega (arith, t.apart)) t.at_first;
     at_second = get_front xs x t.second t.other lt t.at_second;
-    one_is = t.one_is;
-    other_is = t.other_is;
+    one_holds = t.one_holds;
+    other_holds = t.other_holds;
   })
   | inr le ↦ (
       let w = get_last xs x t.second t.other le t.at_second in
       let lt : t.first < length xs = omega (arith, t.apart, w.0) in
-      let same : IsSameId x t.one = same_of x t.one (ap id_of (sym w.1) ∙ t.other_is ∙ sym t.one_is) in
+      let same : IsSameId x t.one = same_of x t.one (ap id_of (sym w.1) ∙ t.other_holds ∙ sym t.one_holds) in
       let found : has_id xs x ≡ true = has_at xs t.first t.one x (get_front xs x t.first t.one lt t.at_first) ((tells x t.one).1 same) in
       absurd (cc (found, none)))
 ]
@@ -138,8 +138,8 @@ seen_twice tells ids i x lt is has =
       other = x;
       at_first = g.1;
       at_second = slice_get_read ids (length ids) i x refl lt is;
-      one_is = sym (id_of_same x w.there ((tells x w.there).0 w.equal));
-      other_is = refl;
+      one_holds = sym (id_of_same x w.there ((tells x w.there).0 w.equal));
+      other_holds = refl;
     }
 
 pub not_false : (b : Bool) → false ≡ not b → b ≡ true

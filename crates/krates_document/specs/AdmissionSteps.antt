@@ -1,68 +1,64 @@
 -- How a document is found to be admitted or refused, step by step.
-use Rattle.std.specs.Prelude.{string_bytes, ⊤, List, Contains, ◌≡◌, ◌⊎◌, None, ℕ, ◌<◌, Some, slice_get}
+use Rattle.std.specs.Prelude.{string_bytes, ⊤, List, Contains, ◌≡◌, ◌⊎◌, None}
 use Rattle.krates_cm.specs.Document.{ResolveModel, MetadataModel, Text, NodeModel}
 use Rattle.krates_ids.specs.declared.error.Error.{Error}
 use Rattle.krates_ids.specs.declared.error.Error.TheVariants as errors
-use Rattle.krates_rules.specs.Admission.{IsInvalidId, dep_texts, IdsModel}
+use Rattle.krates_rules.specs.Admission.{IsInvalidId, HoldsTwice, dep_texts, IdsModel}
 use Rattle.krates_ids.specs.Identity.{Identity, Reads}
 use Rattle.krates_cm.specs.Names.{version_named}
 use Rattle.krates_rules.specs.Facts.{Id}
 use Rattle.krates_rules.specs.Resolved.{id_of}
 use Rattle.std.specs.List.{AllByRecursion}
 
+-- an id is invalid, and P says so of its text; memory may always run out
+abbrev pub IsInvalidBy : (Text → Type 0) → Error → Type 0
+IsInvalidBy P (errors.InvalidId t) = P (string_bytes t)
+IsInvalidBy P errors.Memory = ⊤
+IsInvalidBy P _ = ⊥
+
 -- an id of the document is invalid
 abbrev pub InvalidIdRefusal : MetadataModel → ResolveModel → Error → Type 0
-InvalidIdRefusal m g (errors.InvalidId t) = IsInvalidId m g (string_bytes t)
-InvalidIdRefusal m g errors.Memory = ⊤
-InvalidIdRefusal m g _ = ⊥
+InvalidIdRefusal m g = IsInvalidBy (IsInvalidId m g)
+
+-- the text is no id
+abbrev pub IsNoId : Text → Type 0
+IsNoId t = (i : Identity) → Reads t i → ⊥
 
 -- one of the texts is no id
 abbrev pub UnreadRefusal : List Text → Error → Type 0
-UnreadRefusal texts (errors.InvalidId t) = Contains texts (string_bytes t) × ((i : Identity) → Reads (string_bytes t) i → ⊥)
-UnreadRefusal texts errors.Memory = ⊤
-UnreadRefusal texts _ = ⊥
+UnreadRefusal texts = IsInvalidBy (λ t. Contains texts t × IsNoId t)
 
 -- the text is no id, or that of a dependency without a semantic version
 abbrev pub IsBadText : Text → Type 0
-IsBadText t = ((i : Identity) → Reads t i → ⊥) ⊎ ((i : Identity) × Reads t i × (version_named i.version ≡ None))
+IsBadText t = IsNoId t ⊎ ((i : Identity) × Reads t i × (version_named i.version ≡ None))
 
 -- one of the texts is bad
 abbrev pub InvalidDepRefusal : List Text → Error → Type 0
-InvalidDepRefusal texts (errors.InvalidId t) = Contains texts (string_bytes t) × IsBadText (string_bytes t)
-InvalidDepRefusal texts errors.Memory = ⊤
-InvalidDepRefusal texts _ = ⊥
+InvalidDepRefusal texts = IsInvalidBy (λ t. Contains texts t × IsBadText t)
 
 -- a dependency of one of the nodes is
 abbrev pub InvalidNodeRefusal : List NodeModel → Error → Type 0
-InvalidNodeRefusal nodes (errors.InvalidId t) = (n : NodeModel) × Contains nodes n × Contains (dep_texts n) (string_bytes t) × IsBadText (string_bytes t)
-InvalidNodeRefusal nodes errors.Memory = ⊤
-InvalidNodeRefusal nodes _ = ⊥
+InvalidNodeRefusal nodes = IsInvalidBy (λ t. (n : NodeModel) × Contains nodes n × Contains (dep_texts n) t × IsBadText t)
 
 -- the id stands at two places of a list of ids
-pub record IsDoubledAmong (ids : List Identity) (id : Id) : Type 0 where
-  pub first : ℕ
-  pub second : ℕ
-  pub apart : first < second
-  pub one : Identity
-  pub other : Identity
-  pub at_first : slice_get ids first ≡ Some one
-  pub at_second : slice_get ids second ≡ Some other
-  pub one_is : id_of one ≡ id
-  pub other_is : id_of other ≡ id
+abbrev pub IsDoubledAmong : List Identity → Id → Type 0
+IsDoubledAmong ids id = HoldsTwice (λ i. id_of i ≡ id) ids
 
 abbrev pub AreDistinct : List Identity → Type 0
 AreDistinct ids = (id : Id) → IsDoubledAmong ids id → ⊥
 
+-- an id is doubled, and P says so of it; memory may always run out
+abbrev pub IsDoubledBy : (Id → Type 0) → Error → Type 0
+IsDoubledBy P (errors.Doubled kid) = P (id_of kid)
+IsDoubledBy P errors.Memory = ⊤
+IsDoubledBy P _ = ⊥
+
 abbrev pub DoubledRefusal : List Identity → Error → Type 0
-DoubledRefusal ids (errors.Doubled kid) = IsDoubledAmong ids (id_of kid)
-DoubledRefusal ids errors.Memory = ⊤
-DoubledRefusal ids _ = ⊥
+DoubledRefusal ids = IsDoubledBy (IsDoubledAmong ids)
 
 -- the id stands twice in one of the lists
 abbrev pub DoubledInRefusal : List (List Identity) → Error → Type 0
-DoubledInRefusal lists (errors.Doubled kid) = (ids : List Identity) × Contains lists ids × IsDoubledAmong ids (id_of kid)
-DoubledInRefusal lists errors.Memory = ⊤
-DoubledInRefusal lists _ = ⊥
+DoubledInRefusal lists = IsDoubledBy (λ id. (ids : List Identity) × Contains lists ids × IsDoubledAmong ids id)
 
 pub record AreAllDistinct (ids : IdsModel) : Type 0 where
   pub packages : AreDistinct ids.packages
@@ -76,6 +72,4 @@ pub data IsDoubledWithin (ids : IdsModel) (id : Id) : Type 0 where
   among_deps : (list : List Identity) → Contains ids.deps list → IsDoubledAmong list id → IsDoubledWithin ids id
 
 abbrev pub DoubledWithinRefusal : IdsModel → Error → Type 0
-DoubledWithinRefusal ids (errors.Doubled kid) = IsDoubledWithin ids (id_of kid)
-DoubledWithinRefusal ids errors.Memory = ⊤
-DoubledWithinRefusal ids _ = ⊥
+DoubledWithinRefusal ids = IsDoubledBy (IsDoubledWithin ids)

@@ -3,7 +3,7 @@
 ghost use Rattle.std.specs.Prelude.{◌≡◌, ◌↔◌, ◌++◌, [], false, IfOk, IsTrue, OnOk, OnErr, map, string_bytes, option_map};
 ghost use Rattle.std.specs.List.{AllZip};
 ghost use Rattle.krates_cm.specs.Document.{package_view, text_view};
-ghost use Rattle.krates_ids.specs.SpecificationAnswers.{spec_view};
+ghost use Rattle.krates_ids.specs.PackageSpecification.{spec_view};
 ghost use Rattle.krates_text.specs.AskedTargets.{asked_of};
 ghost use Rattle.krates_rules.specs.Kind.{kind_of, ignores, IgnoresMore};
 ghost use Rattle.krates_rules.specs.Setting.{SettingModel, IsManifestOf, AsksForPaths, IsExcluded, Passes};

@@ -4,9 +4,9 @@ use Rattle.std.specs.Prelude.{◌⊎◌, Option, Some, None, Result, Ok, Err, If
 use Rattle.std.proofs.lemmas.Bool.{cases_Bool, cases_eq, false≢true}
 use Rattle.krates_cm.specs.Document.{Text}
 use Rattle.krates_text.specs.Cuts.{Lacks, FirstCut, LastCut}
-use Rattle.krates_ids.specs.PackageSpecification.{Specification, Outcome, Checks, checked, SplitAt, IsUnsplit, IsFragment, is_split, is_name_alone, is_version_alone, scheme_end, HasScheme, IsUrl, with_scheme, without_scheme, IsLocated, url_alone, with_fragment, IsText, a_fragment, a_url, a_short_url, Gives, IsSpec, IsSpecFault, begins_with_letter, default_scheme}
+use Rattle.krates_ids.specs.PackageSpecification.{Specification, Outcome, Checks, checked, SplitAt, IsUnsplit, IsFragment, is_split, is_name_alone, is_version_alone, scheme_end, HasScheme, IsUrl, with_scheme, without_scheme, IsLocated, url_alone, with_fragment, IsText, a_fragment, a_url, a_short_url, Gives, IsSpec, IsSpecFault, begins_with_letter, default_scheme, spec_view}
 use Rattle.krates_ids.specs.Separators.{hash_sign, slash, colon, at_sign}
-use Rattle.krates_ids.specs.SpecificationAnswers.{spec_view, IsRefusedBy, Answers}
+use Rattle.krates_ids.specs.SpecificationAnswers.{IsRefusedBy, Answers}
 use Rattle.krates_ids.specs.declared.error.Error.{Error}
 use Rattle.krates_ids.specs.declared.error.Error.TheVariants as errors
 use Rattle.krates_ids.specs.declared.pkgspec.PkgSpec.{PkgSpec}

@@ -1,13 +1,15 @@
 -- Package specifications (Cargo Book, "Package ID Specifications"): which text is which specification, why a text is none,
 -- and which packages a specification fits.
-use Rattle.std.specs.Prelude.{◌≡◌, ℕ, List, [], ◌∷◌, ◌++◌, ◌⊎◌, ◌==◌, ◌||◌, Bool, true, false, not, if◌then◌else◌, Option, Some, None, IfSome, Result, Ok, Err, length, codes}
+use Rattle.std.specs.Prelude.{◌≡◌, ℕ, List, [], ◌∷◌, ◌++◌, ◌⊎◌, ◌==◌, ◌||◌, Bool, true, false, not, if◌then◌else◌, Option, Some, None, IfSome, Result, Ok, Err, length, codes, option_map, string_bytes}
 use Rattle.std.specs.Char.{is_ascii_alphabetic, is_ascii_alphanumeric}
 use Rattle.std.specs.List.{list_all, ends_with}
 use Rattle.std.specs.Option.{is_none}
 use Rattle.std.specs.Str.Iter.{HasSubslice}
+use Rattle.semver.specs.Identifiers.{parts_of}
 use Rattle.krates_cm.specs.Document.{Text, VersionModel, PackageModel}
 use Rattle.krates_cm.specs.Names.{version_named}
 use Rattle.krates_text.specs.Cuts.{Lacks, Has, FirstCut, LastCut}
+use Rattle.krates_ids.specs.declared.pkgspec.PkgSpec.{PkgSpec}
 use Rattle.krates_ids.specs.Separators.{hash_sign, plus_sign, minus_sign, slash, colon, question_mark, at_sign, underscore}
 
 -- a package specification: a name, perhaps a version, and perhaps the url of a source
@@ -18,6 +20,10 @@ pub record Specification : Type 0 where
 
 abbrev pub specification : Text → Option VersionModel → Option Text → Specification
 specification name version url = record { name = name; version = version; url = url }
+
+-- seen by its name's and url's bytes and its version's parts
+abbrev pub spec_view : PkgSpec → Specification
+spec_view s = specification (string_bytes s.name) (option_map parts_of s.version) (option_map string_bytes s.url)
 
 -- what a text gives: a specification, or the text of its refusal
 abbrev pub Outcome : Type 0

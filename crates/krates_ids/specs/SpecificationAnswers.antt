@@ -1,16 +1,10 @@
 -- What the functions that read a package specification answer.
-use Rattle.std.specs.Prelude.{Option, MatchOption, option_map, Some, None, Result, Ok, Err, string_bytes}
+use Rattle.std.specs.Prelude.{Option, MatchOption, option_map, Some, None, Result, Ok, Err}
 use Rattle.std.specs.Borrow.{Bor}
-use Rattle.semver.specs.Identifiers.{parts_of}
 use Rattle.krates_cm.specs.Document.{Text, VersionModel}
-use Rattle.krates_ids.specs.PackageSpecification.{Specification, specification, IsUnsplit, SplitAt, IsUrlOf, bad_version}
+use Rattle.krates_ids.specs.PackageSpecification.{IsUnsplit, SplitAt, IsUrlOf, bad_version}
 use Rattle.krates_ids.specs.declared.error.Error.{Error}
 use Rattle.krates_ids.specs.declared.error.Error.TheVariants as errors
-use Rattle.krates_ids.specs.declared.pkgspec.PkgSpec.{PkgSpec}
-
--- a specification, seen by its name's and url's bytes and its version's parts
-abbrev pub spec_view : PkgSpec → Specification
-spec_view s = specification (string_bytes s.name) (option_map parts_of s.version) (option_map string_bytes s.url)
 
 -- a text that may be missing
 abbrev pub given : Option (Bor Text) → Option Text

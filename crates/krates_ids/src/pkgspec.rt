@@ -6,9 +6,9 @@ ghost use Rattle.krates_cm.specs.Document.{Text, source_view, package_view};
 ghost use Rattle.krates_cm.specs.Names.{version_named};
 ghost use Rattle.krates_ids.specs.Escapes.{Tells};
 ghost use Rattle.krates_ids.specs.PackageSpecification as grammar;
-ghost use Rattle.krates_ids.specs.PackageSpecification.{Specification, specification, GivesChecked, checked, name_check, sides_checks, IsFragment, HasScheme, IsUrl, IsLocated, Gives, IsSpec, IsSpecFault, SpecFits};
+ghost use Rattle.krates_ids.specs.PackageSpecification.{Specification, specification, GivesChecked, checked, name_check, sides_checks, IsFragment, HasScheme, IsUrl, IsLocated, Gives, IsSpec, IsSpecFault, SpecFits, spec_view};
 ghost use Rattle.krates_ids.specs.declared.error.Error.TheVariants.{Memory};
-ghost use Rattle.krates_ids.specs.SpecificationAnswers.{spec_view, given, IsRefusedBy, Answers, version_outcome, Splits, FindsUrl};
+ghost use Rattle.krates_ids.specs.SpecificationAnswers.{given, IsRefusedBy, Answers, version_outcome, Splits, FindsUrl};
 
 use crate::cuts::{cut_first, cut_last, has};
 use crate::error::Error;

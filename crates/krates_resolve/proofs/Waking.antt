@@ -104,8 +104,8 @@ one_dep_place r p c m i n j none a b = (place, index)
     index = elim (cases_order i j) [
       | inl e ↦ e
       | inr r ↦ elim r [
-        | inl lt ↦ absurd (none c (doubled_dep a.node.node among (record { first = i; second = j; apart = lt; one = a.dep.pkg; other = b.dep.pkg; at_first = at_i; at_second = at_j; one_reads = a.id; other_reads = b.id })))
-        | inr lt ↦ absurd (none c (doubled_dep a.node.node among (record { first = j; second = i; apart = lt; one = b.dep.pkg; other = a.dep.pkg; at_first = at_j; at_second = at_i; one_reads = b.id; other_reads = a.id })))
+        | inl lt ↦ absurd (none c (doubled_dep a.node.node among (record { first = i; second = j; apart = lt; one = a.dep.pkg; other = b.dep.pkg; at_first = at_i; at_second = at_j; one_holds = a.id; other_holds = b.id })))
+        | inr lt ↦ absurd (none c (doubled_dep a.node.node among (record { first = j; second = i; apart = lt; one = b.dep.pkg; other = a.dep.pkg; at_first = at_j; at_second = at_i; one_holds = b.id; other_holds = a.id })))
       ]
     ]
 

@@ -105,8 +105,8 @@ twice xs id j k a b lt at_first at_second one other = record {
   other = b;
   at_first = at_first;
   at_second = at_second;
-  one_reads = one;
-  other_reads = other;
+  one_holds = one;
+  other_holds = other;
 }
 
 -- what stands twice still does
@@ -116,7 +116,7 @@ twice_moved xs ys id moved t =
     elim (cases_order s.one s.other) [
       | inl e ↦ absurd (s.apart e)
       | inr r ↦ elim r [
-        | inl lt ↦ twice ys id s.one s.other t.one t.other lt s.at_one s.at_other t.one_reads t.other_reads
-        | inr lt ↦ twice ys id s.other s.one t.other t.one lt s.at_other s.at_one t.other_reads t.one_reads
+        | inl lt ↦ twice ys id s.one s.other t.one t.other lt s.at_one s.at_other t.one_holds t.other_holds
+        | inr lt ↦ twice ys id s.other s.one t.other t.one lt s.at_other s.at_one t.other_holds t.one_holds
       ]
     ]

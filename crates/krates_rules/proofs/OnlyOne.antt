@@ -17,8 +17,8 @@ one_place : (texts : List Text) (i : Id) → (IsDoubledIn texts i → ⊥) → (
 one_place texts i none j k t u a ra b rb = elim (cases_order j k) [
   | inl e ↦ e
   | inr r ↦ elim r [
-    | inl lt ↦ absurd (none (record { first = j; second = k; apart = lt; one = t; other = u; at_first = a; at_second = b; one_reads = ra; other_reads = rb }))
-    | inr lt ↦ absurd (none (record { first = k; second = j; apart = lt; one = u; other = t; at_first = b; at_second = a; one_reads = rb; other_reads = ra }))
+    | inl lt ↦ absurd (none (record { first = j; second = k; apart = lt; one = t; other = u; at_first = a; at_second = b; one_holds = ra; other_holds = rb }))
+    | inr lt ↦ absurd (none (record { first = k; second = j; apart = lt; one = u; other = t; at_first = b; at_second = a; one_holds = rb; other_holds = ra }))
   ]
 ]
 

@@ -70,17 +70,21 @@ pub data IsInvalidId (m : MetadataModel) (g : ResolveModel) (t : Text) : Type 0 
 
 -- ---- ids that stand twice
 
--- the id stands at two places of a list of texts
-pub record IsDoubledIn (texts : List Text) (id : Id) : Type 0 where
+-- P holds of what stands at two places of a list
+pub record HoldsTwice {A : Type 0} (P : A → Type 0) (xs : List A) : Type 0 where
   pub first : ℕ
   pub second : ℕ
   pub apart : first < second
-  pub one : Text
-  pub other : Text
-  pub at_first : slice_get texts first ≡ Some one
-  pub at_second : slice_get texts second ≡ Some other
-  pub one_reads : ReadsAs one id
-  pub other_reads : ReadsAs other id
+  pub one : A
+  pub other : A
+  pub at_first : slice_get xs first ≡ Some one
+  pub at_second : slice_get xs second ≡ Some other
+  pub one_holds : P one
+  pub other_holds : P other
+
+-- two texts of a list read as the id
+abbrev pub IsDoubledIn : List Text → Id → Type 0
+IsDoubledIn texts id = HoldsTwice (λ t. ReadsAs t id) texts
 
 -- two packages, two nodes, or two dependencies of one node have the id; two identical packages count too
 pub data IsDoubled (m : MetadataModel) (g : ResolveModel) (id : Id) : Type 0 where

@@ -4,7 +4,8 @@ use Rattle.krates_cm.specs.Document.{metadata_view}
 use Rattle.krates_document.specs.Ids.{ids_view}
 use Rattle.krates.specs.Build.{CountRefusal}
 use Rattle.krates.specs.Enabled.{AreEnabledSets}
-use Rattle.krates.specs.Krate.{krate_ids, krate_packages}
+use Rattle.krates.specs.Krate.{krate_ids}
+use Rattle.krates.specs.Kept.{krate_packages}
 use Rattle.krates.specs.declared.krate.Krate.{Krate}
 use Rattle.krates.proofs.BuildLemmas.{package_ids, ids_distinct, built, enabled, miscount_refused}
 use Rattle.krates.proofs.builder.build_admitted.Goals as goal

@@ -1,8 +1,7 @@
 use Rattle.std.proofs.Common.{sym, ◌∙◌, inr}
 use Rattle.std.specs.Prelude.{Some}
 use Rattle.semver.specs.Identifiers.{parts_of}
-use Rattle.krates_ids.specs.PackageSpecification.{GivesChecked, IsFragment}
-use Rattle.krates_ids.specs.SpecificationAnswers.{spec_view}
+use Rattle.krates_ids.specs.PackageSpecification.{GivesChecked, IsFragment, spec_view}
 use Rattle.krates_ids.proofs.CheckedLemmas.{Fragment-split, Fragment-name, Fragment-version, Fragment-bad_version}
 use Rattle.krates_ids.proofs.SpecificationLemmas.{Answers-map, Answers-refused}
 use Rattle.krates_ids.proofs.pkgspec.after_url.Goals as goal

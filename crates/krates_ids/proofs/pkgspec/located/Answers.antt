@@ -1,6 +1,5 @@
 use Rattle.std.proofs.Common.{sym, ◌∙◌}
-use Rattle.krates_ids.specs.PackageSpecification.{GivesChecked, IsLocated}
-use Rattle.krates_ids.specs.SpecificationAnswers.{spec_view}
+use Rattle.krates_ids.specs.PackageSpecification.{GivesChecked, IsLocated, spec_view}
 use Rattle.krates_ids.proofs.CheckedLemmas.{Located-refused, Located-alone, Located-empty, Located-bad_url, Located-fragment}
 use Rattle.krates_ids.proofs.SpecificationLemmas.{Answers-map, Answers-refused}
 use Rattle.krates_ids.proofs.pkgspec.located.Goals as goal

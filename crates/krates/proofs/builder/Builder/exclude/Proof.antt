@@ -1,11 +1,11 @@
-use Rattle.krates.proofs.Walking.{ℕ, [], ◌∷◌, refl, ap, lit<, proved, full_share, id⊢, ftrue, flft, named, fact, tables, ‵, raw, ◌⊛◌, some, later, at_ret, ◌$◌, ◌∵◌, !, qed, done, move, keep, use1, use2, use3, split, join, fsplit, feq_l, pick, await, suffices, frame, group, enter, of_opd, addr, lit, stop, no_more, and_then, first, branches, exec, returns, alloc_all, pass_all, free_all, look_at, get, through, sets, sets_last, agg, lands_as, env, bool, mut_vals, mut_Tells, plain, nothing, heard, only, calls_at, lasts, triple_of, framed, Stays, walk_of, stay_dropped, Goes-dropped, Goes-spent_ref, mut_ref_to, ends_at, yes, no}
-use Rattle.krates.proofs.HandedBack.{Ref, left, Kept, Rests, Answer, ok_val, err_val, lent, returned, handed, given_up, says_both, when_true, when_false}
+use Rattle.krates_cargo.proofs.Walking.{ℕ, [], ◌∷◌, refl, ap, lit<, proved, full_share, id⊢, ftrue, flft, named, fact, tables, ‵, raw, ◌⊛◌, some, later, at_ret, ◌$◌, ◌∵◌, !, qed, done, move, keep, use1, use2, use3, split, join, fsplit, feq_l, pick, await, suffices, frame, group, enter, of_opd, addr, lit, stop, no_more, and_then, first, branches, exec, returns, alloc_all, pass_all, free_all, look_at, get, through, sets, sets_last, agg, lands_as, env, bool, mut_vals, mut_Tells, plain, nothing, heard, only, calls_at, lasts, triple_of, framed, Stays, walk_of, stay_dropped, Goes-dropped, Goes-spent_ref, mut_ref_to, ends_at, yes, no}
+use Rattle.krates_cargo.proofs.HandedBack.{Ref, left, Kept, Rests, Answer, ok_val, err_val, lent, returned, handed, given_up, says_both, when_true, when_false}
 use Rattle.std.proofs.Common.{Bool}
 use Rattle.std.specs.Prelude.{◌≡◌, ◌++◌, Ok, Err, map}
 use Rattle.std.specs.Bool.{MatchBool}
-use Rattle.krates.proofs.VecArgument.{vec, vec_laws, vec_vals, vec_tells}
+use Rattle.krates_cargo.proofs.VecArgument.{vec, vec_laws, vec_vals, vec_tells}
 use denote.RattleType.{RattleType}
-use Rattle.krates_ids.specs.SpecificationAnswers.{spec_view}
+use Rattle.krates_ids.specs.PackageSpecification.{spec_view}
 use Rattle.krates_ids.specs.contracts.pkgspec.PkgSpec as Spec-row
 use Rattle.krates_ids.proofs.pkgspec.PkgSpec.TheLaws as Spec-laws
 use Rattle.krates.specs.BuilderModel.{BuilderModel, with_setting}

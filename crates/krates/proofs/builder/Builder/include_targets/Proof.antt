@@ -1,17 +1,13 @@
-use Rattle.krates.proofs.Walking.{ℕ, List, [], ◌∷◌, refl, ap, lit<, proved, full_share, id⊢, ftrue, flft, named, fact, tables, ‵, raw, ◌⊛◌, some, later, at_ret, ◌$◌, ◌∵◌, !, qed, done, move, keep, use1, use2, use3, split, join, fsplit, feq_l, pick, await, suffices, frame, group, enter, of_opd, addr, lit, stop, no_more, and_then, first, branches, exec, returns, alloc_all, pass_all, free_all, look_at, get, through, sets, sets_last, agg, lands_as, env, bool, mut_vals, mut_Tells, plain, nothing, heard, only, calls_at, lasts, triple_of, framed, Stays, walk_of, stay_dropped, Goes-dropped, Goes-spent_ref, mut_ref_to, ends_at, yes, no}
-use Rattle.krates.proofs.HandedBack.{Ref, left, Kept, Rests, Answer, ok_val, err_val, lent, returned, handed, given_up, says_both, when_true, when_false}
+use Rattle.krates_cargo.proofs.Walking.{ℕ, List, [], ◌∷◌, refl, ap, lit<, proved, full_share, id⊢, ftrue, flft, named, fact, tables, ‵, raw, ◌⊛◌, some, later, at_ret, ◌$◌, ◌∵◌, !, qed, done, move, keep, use1, use2, use3, split, join, fsplit, feq_l, pick, await, suffices, frame, group, enter, of_opd, addr, lit, stop, no_more, and_then, first, branches, exec, returns, alloc_all, pass_all, free_all, look_at, get, through, sets, sets_last, agg, lands_as, env, bool, mut_vals, mut_Tells, plain, nothing, heard, only, calls_at, lasts, triple_of, framed, Stays, walk_of, stay_dropped, Goes-dropped, Goes-spent_ref, mut_ref_to, ends_at, yes, no}
+use Rattle.krates_cargo.proofs.HandedBack.{Ref, left, Kept, Rests, Answer, ok_val, err_val, lent, returned, handed, given_up, says_both, when_true, when_false}
 use Rattle.std.proofs.Common.{Bool}
 use Rattle.std.specs.Prelude.{◌≡◌, ◌++◌, Ok, Err, map}
 use Rattle.std.specs.Bool.{MatchBool}
-use Rattle.krates.proofs.VecArgument.{vec, vec_laws, vec_vals, vec_tells}
+use Rattle.krates_cargo.proofs.TextArguments.{texts, texts_laws}
+use Rattle.krates_cargo.proofs.VecArgument.{vec, vec_laws, vec_vals, vec_tells}
 use denote.RattleType.{RattleType}
 use denote.Param.Laws.{Laws}
 use denote.Struct.Tuple.{TupleAt, laws_at}
-use Rattle.std.specs.contracts.alloc.Global as Global-row
-use Rattle.std.proofs.alloc.Global.TheLaws as Global-laws
-use Rattle.std.specs.contracts.impls.GlobalAllocator.TheImpl as impl
-use Rattle.std.specs.contracts.string.String as String-row
-use Rattle.std.proofs.string.String.TheLaws as String-laws
 use Rattle.krates_text.specs.AskedTargets.{asked_of}
 use Rattle.krates_text.specs.contracts.target.Target as Target-row
 use Rattle.krates_text.proofs.target.Target.TheLaws as Target-laws
@@ -32,21 +28,15 @@ use Rattle.krates.proofs.builder.Builder.include_targets.Code as code
 use Rattle.krates.specs.contracts.builder.Builder.has_included_targets as g
 use Rattle.krates.proofs.builder.Builder.has_included_targets.Met.{met}
 
-abbrev Text : RattleType
-Text = String-row.the_row Global-row.the_row impl.ghosts
-
-text-laws : Laws Text
-text-laws = String-laws.the_row_laws Global-row.the_row impl.ghosts Global-laws.the_row_laws
-
 abbrev parts : List RattleType
-parts = Target-row.the_row ∷ vec Text text-laws ∷ []
+parts = Target-row.the_row ∷ texts ∷ []
 
 -- a target with its features
 abbrev Asked : RattleType
 Asked = TupleAt (40 ∷ 44 ∷ 41 ∷ []) parts
 
 asked-laws : Laws Asked
-asked-laws = laws_at (40 ∷ 44 ∷ 41 ∷ []) parts (Target-laws.the_row_laws, (vec_laws Text text-laws, tt))
+asked-laws = laws_at (40 ∷ 44 ∷ 41 ∷ []) parts (Target-laws.the_row_laws, (texts_laws, tt))
 
 -- the type of the argument
 abbrev V : RattleType

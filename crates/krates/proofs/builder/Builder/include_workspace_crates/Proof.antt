@@ -1,5 +1,5 @@
-use Rattle.krates.proofs.Walking.{ℕ, [], ◌∷◌, refl, ap, lit<, proved, full_share, id⊢, ftrue, flft, named, fact, tables, ‵, raw, ◌⊛◌, some, later, at_ret, ◌$◌, ◌∵◌, !, qed, done, move, keep, use1, use2, use3, split, join, fsplit, feq_l, pick, await, suffices, frame, group, enter, of_opd, addr, lit, stop, no_more, and_then, first, branches, exec, returns, alloc_all, pass_all, free_all, look_at, get, through, sets, sets_last, agg, lands_as, env, bool, mut_vals, mut_Tells, plain, nothing, heard, only, calls_at, lasts, triple_of, framed, Stays, walk_of, stay_dropped, Goes-dropped, Goes-spent_ref, mut_ref_to, ends_at, yes, no}
-use Rattle.krates.proofs.HandedBack.{Ref, left, Kept, Rests, Answer, ok_val, err_val, lent, returned, handed, given_up, says_both, when_true, when_false}
+use Rattle.krates_cargo.proofs.Walking.{ℕ, [], ◌∷◌, refl, ap, lit<, proved, full_share, id⊢, ftrue, flft, named, fact, tables, ‵, raw, ◌⊛◌, some, later, at_ret, ◌$◌, ◌∵◌, !, qed, done, move, keep, use1, use2, use3, split, join, fsplit, feq_l, pick, await, suffices, frame, group, enter, of_opd, addr, lit, stop, no_more, and_then, first, branches, exec, returns, alloc_all, pass_all, free_all, look_at, get, through, sets, sets_last, agg, lands_as, env, bool, mut_vals, mut_Tells, plain, nothing, heard, only, calls_at, lasts, triple_of, framed, Stays, walk_of, stay_dropped, Goes-dropped, Goes-spent_ref, mut_ref_to, ends_at, yes, no}
+use Rattle.krates_cargo.proofs.HandedBack.{Ref, left, Kept, Rests, Answer, ok_val, err_val, lent, returned, handed, given_up, says_both, when_true, when_false}
 use Rattle.std.proofs.Common.{Bool}
 use Rattle.std.specs.Prelude.{◌≡◌, Ok, Err}
 use Rattle.std.specs.Bool.{MatchBool}

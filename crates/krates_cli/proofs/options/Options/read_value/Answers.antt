@@ -1,7 +1,7 @@
 use Rattle.std.proofs.Common.{[], ◌∷◌, ◌++◌, ◌∙◌, map, string_bytes, ap}
 use Rattle.std.proofs.lemmas.List.{map_push}
 use Rattle.std.proofs.lemmas.Result.{err_from_is_err_and}
-use Rattle.krates_ids.specs.SpecificationAnswers.{spec_view}
+use Rattle.krates_ids.specs.PackageSpecification.{spec_view}
 use Rattle.krates_cli.specs.Options.{options_view}
 use Rattle.krates_cli.proofs.OptionsLemmas.{kind_read, target_read, spec_read, spec_refused}
 use Rattle.krates_cli.proofs.options.Options.read_value.Goals as goal

@@ -1,5 +1,4 @@
-use Rattle.krates_ids.specs.PackageSpecification.{Gives}
-use Rattle.krates_ids.specs.SpecificationAnswers.{spec_view}
+use Rattle.krates_ids.specs.PackageSpecification.{Gives, spec_view}
 use Rattle.krates_ids.proofs.SpecificationLemmas.{Answers-ok, Answers-err}
 use Rattle.krates_ids.proofs.SpecificationLawLemmas.{Answers-spec, Answers-fault}
 use Rattle.krates_ids.proofs.pkgspec.PkgSpec.from_str.Goals as goal
