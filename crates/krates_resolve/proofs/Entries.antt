@@ -77,11 +77,11 @@ placed r s x k e place d h first is at first_of_kind =
     record { dependency = d; declared = here.0; place = here.1 }
 
 -- a listed edge is listed by the entry's own dependency
-own_dep : (r : Resolved) (s : SettingModel) (x : NodeEntry) (k : DepKindInfoModel) (dep : NodeDepModel) → NoneDoubled r.metadata r.graph → IsEntry r x → IsConsidered r s (edge_for x k) dep → dep ≡ node_dep_view x.dep.now
+pub own_dep : (r : Resolved) (s : SettingModel) (x : NodeEntry) (k : DepKindInfoModel) (dep : NodeDepModel) → NoneDoubled r.metadata r.graph → IsEntry r x → IsConsidered r s (edge_for x k) dep → dep ≡ node_dep_view x.dep.now
 own_dep r s x k dep none h l = one_dep r (parent_of x) (child_of x) l.lists.node h.node dep (node_dep_view x.dep.now) none l.lists.has_node h.has_node l.lists.has_dep h.has_dep
 
 -- the edge is wanted for one declared dependency alone
-wanted_one : (r : Resolved) (s : SettingModel) (x : NodeEntry) (k : DepKindInfoModel) (place : ℕ) (d e : DependencyModel) → NoneDoubled r.metadata r.graph → IsEntry r x
+pub wanted_one : (r : Resolved) (s : SettingModel) (x : NodeEntry) (k : DepKindInfoModel) (place : ℕ) (d e : DependencyModel) → NoneDoubled r.metadata r.graph → IsEntry r x
     → IsDeclared (declared_in x) (entry_of x) k place d → IsWanted r s (edge_for x k) e → e ≡ d
 wanted_one r s x k place d e none h first w =
     let at = w.declared in
@@ -92,7 +92,7 @@ wanted_one r s x k place d e none h first w =
     (declared_once (declared_in x) (entry_of x) k w.place place e d there first).1
 
 -- and then it isn't loose
-not_loose : (r : Resolved) (s : SettingModel) (x : NodeEntry) (k : DepKindInfoModel) (place : ℕ) (d : DependencyModel) → NoneDoubled r.metadata r.graph → IsEntry r x
+pub not_loose : (r : Resolved) (s : SettingModel) (x : NodeEntry) (k : DepKindInfoModel) (place : ℕ) (d : DependencyModel) → NoneDoubled r.metadata r.graph → IsEntry r x
     → IsDeclared (declared_in x) (entry_of x) k place d → IsLoose r s (edge_for x k) → ⊥
 not_loose r s x k place d none h first loose =
     let same = own_dep r s x k loose.dep none h loose.listed in

@@ -12,6 +12,7 @@ pub mod Heedings
 pub mod LeastReferents
 pub mod LinkLemmas
 pub mod Lookups
+pub mod Needs
 pub mod NodeParts
 pub mod NumberedPlaces
 pub mod Referents

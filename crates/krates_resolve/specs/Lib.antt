@@ -10,8 +10,10 @@ pub mod Links
 pub mod ListedFeatures
 pub mod LookedUp
 pub mod Lookup
+pub mod Need
 pub mod NodeEntry
 pub mod Numbering
+pub mod Presence
 pub mod ReferentPlace
 pub mod RootChoice
 pub mod RootOrder

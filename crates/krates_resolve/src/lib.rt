@@ -2,7 +2,9 @@
 #![tactic(auto)]
 
 mod basis;
+pub mod crate_questions;
 mod crate_table;
+pub mod dependency_questions;
 mod enabling;
 mod expansion;
 mod feature_table;
@@ -21,6 +23,8 @@ pub mod selection;
 mod sorted;
 mod standing;
 
+pub use crate_questions::Presence;
+pub use dependency_questions::Need;
 pub use krates_document::{Ids, Setting, admit};
 pub use krates_rules::{DepKind, Scope, laws};
 pub use questions::Document;

@@ -39,7 +39,7 @@ use std::marker::Model;
 /// take one walk over the members.
 #[derive(Drop)]
 pub struct Document<'a> {
-    lookup: Lookup<'a>,
+    pub(crate) lookup: Lookup<'a>,
 }
 
 impl<'a> Model for Document<'a> {
@@ -151,7 +151,7 @@ impl<'a> Document<'a> {
 }
 
 /// What a name means in a reference of a crate.
-fn referent_in<'a>(lookup: &Lookup<'a>, krate: &Kid, name: &str) -> Option<&'a Kid>
+pub(crate) fn referent_in<'a>(lookup: &Lookup<'a>, krate: &Kid, name: &str) -> Option<&'a Kid>
     requires { IsLookup lookup.now }
     ensures { TellsChild (resolved_view lookup.now) (id_of krate.now) name.now result }
 {
@@ -165,7 +165,7 @@ fn referent_in<'a>(lookup: &Lookup<'a>, krate: &Kid, name: &str) -> Option<&'a K
 }
 
 /// The node of a crate, taken apart; none where it has no node.
-fn parts_for<'a>(lookup: &Lookup<'a>, krate: &Kid) -> Option<NodeParts<'a>>
+pub(crate) fn parts_for<'a>(lookup: &Lookup<'a>, krate: &Kid) -> Option<NodeParts<'a>>
     requires { IsLookup lookup.now }
     ensures { TellsParts (resolved_view lookup.now) (id_of krate.now) result }
 {
@@ -184,7 +184,7 @@ fn place_among(ids: &[Kid], id: &Kid) -> Option<usize>
 }
 
 /// Whether two ids are the same.
-fn is_same(one: &Kid, other: &Kid) -> bool
+pub(crate) fn is_same(one: &Kid, other: &Kid) -> bool
     ensures { IsTrue result ↔ (id_of one.now ≡ id_of other.now) }
 {
     laws::comparison();
@@ -259,7 +259,7 @@ fn declared_in<'a>(
 }
 
 /// The dependency of a crate's node on another crate; none where there is none.
-fn entry_between<'a>(lookup: &Lookup<'a>, parent: &Kid, child: &Kid) -> Option<NodeEntry<'a>>
+pub(crate) fn entry_between<'a>(lookup: &Lookup<'a>, parent: &Kid, child: &Kid) -> Option<NodeEntry<'a>>
     requires { IsLookup lookup.now }
     ensures { TellsEntry (resolved_view lookup.now) (id_of parent.now) (id_of child.now) result }
 {
@@ -274,7 +274,7 @@ fn entry_between<'a>(lookup: &Lookup<'a>, parent: &Kid, child: &Kid) -> Option<N
 }
 
 /// The place of the declared dependency of an entry, for a purpose and target that it lists.
-fn declared_for<'a>(
+pub(crate) fn declared_for<'a>(
     alloc: Global,
     entry: &NodeEntry<'a>,
     info: &DepKindInfo,
@@ -292,7 +292,7 @@ fn declared_for<'a>(
 }
 
 /// Whether the dependency of a node lists this purpose and target.
-fn lists(dep: &NodeDep, info: &DepKindInfo) -> bool
+pub(crate) fn lists(dep: &NodeDep, info: &DepKindInfo) -> bool
     ensures { IsTrue result ↔ Contains (node_dep_view dep.now).dep_kinds (dep_kind_info_view info.now) }
 {
     for other in dep.dep_kinds.as_slice() {

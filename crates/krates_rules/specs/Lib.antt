@@ -1,5 +1,6 @@
 pub mod Admission
 pub mod AdmissionRefusals
+pub mod Checks
 pub mod DeclaredDependency
 pub mod DeclaredSource
 pub mod DependencyName
@@ -18,3 +19,5 @@ pub mod Roots
 pub mod Rules
 pub mod SelectionRefusals
 pub mod Setting
+pub mod StepParts
+pub mod Steps

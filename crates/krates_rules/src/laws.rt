@@ -1,4 +1,5 @@
 //! Laws of resolution, for all documents and settings. Each is the contract of a function that does nothing.
+ghost use Rattle.krates_rules.specs.Checks.{AreComplete, AreSound, GivenIsDerivable, GivenIsPut, GivenStays, LastIsDerivable, PartsFollow};
 ghost use Rattle.krates_rules.specs.Narrowing.{IsNarrowing};
 ghost use Rattle.krates_rules.specs.Reordering.{IsOrderFree};
 
@@ -14,4 +15,28 @@ pub fn reordering()
 /// left, or for want of memory.
 pub fn narrowing()
     ensures { IsNarrowing }
+{}
+
+/// The fact of each step of an accepted list of steps is derivable, and so the one that the list ends in.
+pub fn accepted_lists()
+    ensures each { AreSound }
+    ensures last { LastIsDerivable }
+{}
+
+/// A closed list of facts has every fact that is derivable: a crate that it lacks can't be kept.
+pub fn closed_lists()
+    ensures { AreComplete }
+{}
+
+/// What follows from the facts of a list of steps is derivable, may be put at the list's end as a step, and follows
+/// from the list still when that has grown.
+pub fn lists_grow()
+    ensures derivable { GivenIsDerivable }
+    ensures put { GivenIsPut }
+    ensures stays { GivenStays }
+{}
+
+/// Where the steps of a list follow, so do those of a part of it that has what its steps use, numbered anew.
+pub fn parts_follow()
+    ensures { PartsFollow }
 {}

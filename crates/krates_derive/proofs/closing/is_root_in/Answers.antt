@@ -1,0 +1,21 @@
+use Rattle.std.proofs.Common.{refl}
+use Rattle.krates_derive.proofs.closing.is_root_in.Goals as goal
+
+pub returns-in-Stands : goal.returns-in-Stands
+returns-in-Stands c =
+    let stands = c.in-Stands.ensures in (
+      λ t. (
+          let w = c.is_stock_in.ensures.0 t in
+          record {
+            kept = λ there. w.0;
+            enabled = λ there f lists. w.1 f lists;
+            has_package = λ none. none stands.included.pkg stands.included.has_package;
+            has_node = λ lost. lost.no_node stands.node stands.has_node;
+          }),
+      λ h. c.is_stock_in.ensures.1 (h.kept stands, h.enabled stands),
+    )
+
+pub returns-in-Excluded : goal.returns-in-Excluded
+returns-in-Excluded c =
+    let h = c.in-Excluded.ensures in
+    (λ t. record { kept = λ s. absurd (h.excluded s.included); enabled = λ s f l. absurd (h.excluded s.included); has_package = h.has_package; has_node = λ lost. h.excluded lost.included }, λ x. refl)

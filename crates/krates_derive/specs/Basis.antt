@@ -1,0 +1,12 @@
+-- What a check goes by.
+use Rattle.krates_derive.specs.declared.basis.Basis.{Basis}
+use Rattle.krates_resolve.specs.DocumentModel.{as_resolved}
+use Rattle.krates_rules.specs.Questions.{questions}
+use Rattle.krates_rules.specs.Resolved.{Resolved}
+use Rattle.krates_rules.specs.Rules.{Questions}
+
+abbrev pub document_of : Basis → Resolved
+document_of b = as_resolved b.document.now
+
+abbrev pub rules_of : Basis → Questions
+rules_of b = questions (document_of b) b.setting.now

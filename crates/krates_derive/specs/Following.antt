@@ -1,0 +1,69 @@
+-- What a document and a setting say of single facts, as the rows of the rules ask it.
+use Rattle.std.specs.Prelude.{◌≡◌, ◌⊎◌, ℕ, Bool, IsTrue, Contains, true, false}
+use Rattle.krates_cm.specs.Document.{Text, DependencyModel}
+use Rattle.krates_derive.specs.Referring.{Asks, Toggles}
+use Rattle.krates_rules.specs.Facts.{Id, Edge}
+use Rattle.krates_rules.specs.Features.{HasReference, ListsFeature}
+use Rattle.krates_rules.specs.Questions.{IsDeclaredAs, IsWanted, Stands}
+use Rattle.krates_rules.specs.Referent.{IsReferent}
+use Rattle.krates_rules.specs.Resolved.{Resolved}
+use Rattle.krates_rules.specs.Roots.{IsRoot}
+use Rattle.krates_rules.specs.Rules.{default_name}
+use Rattle.krates_rules.specs.Setting.{SettingModel}
+use Rattle.krates_text.specs.FeatureReference.{simple}
+
+-- the crate is a root that stands
+abbrev pub IsRooted : Resolved → SettingModel → ℕ → Id → Type 0
+IsRooted r s rule p = (rule ≡ 1) × IsRoot r s p × Stands r s p
+
+-- and lists the feature
+abbrev pub IsRootedFeature : Resolved → SettingModel → ℕ → Id → Text → Type 0
+IsRootedFeature r s rule p f = (rule ≡ 1) × IsRoot r s p × Stands r s p × ListsFeature r p f
+
+-- the feature of the first crate names that of the other, which is the same crate and lists it
+abbrev pub IsNamedBy : Resolved → ℕ → Id → Text → Id → Text → Type 0
+IsNamedBy r rule p f c g = (rule ≡ 3) × (p ≡ c) × HasReference r p f (simple g) × ListsFeature r p g
+
+-- a feature of the crate asks for the edge
+abbrev pub IsAskedBy : Resolved → ℕ → Id → Text → Edge → Type 0
+IsAskedBy r rule p f e = (rule ≡ 4) × (p ≡ e.parent) × Asks r e.parent f e.child
+
+-- the edge goes to the crate, which lists the feature
+abbrev pub IsChildWith : Resolved → ℕ → Edge → Id → Text → Type 0
+IsChildWith r rule e c g = (rule ≡ 6) × (e.child ≡ c) × ListsFeature r e.child g
+
+-- the edge may be kept
+pub record MayKeep (r : Resolved) (s : SettingModel) (e : Edge) : Type 0 where
+  pub dependency : DependencyModel
+  pub wanted : IsWanted r s e dependency
+  pub stands : Stands r s e.child
+
+-- and it isn't optional
+pub record MustKeep (r : Resolved) (s : SettingModel) (e : Edge) : Type 0 where
+  pub dependency : DependencyModel
+  pub wanted : IsWanted r s e dependency
+  pub required : dependency.optional ≡ false
+  pub stands : Stands r s e.child
+
+-- the dependency asks for the feature by default
+abbrev pub AsksDefault : DependencyModel → Text → Type 0
+AsksDefault d g = (d.uses_default_features ≡ true) × (g ≡ default_name)
+
+-- by its list or by default
+abbrev pub AsksFeature : DependencyModel → Text → Type 0
+AsksFeature d g = Contains d.features g ⊎ AsksDefault d g
+
+-- the edge is declared as a dependency that asks for the feature
+pub record AsksForFeature (r : Resolved) (e : Edge) (g : Text) : Type 0 where
+  pub dependency : DependencyModel
+  pub declared : IsDeclaredAs r e dependency
+  pub asks : AsksFeature dependency g
+
+-- the form is right, the feature is the one that is toggled, and the name means the child
+abbrev pub IsToggleOf : Resolved → Bool → Id → Text → Text → Id → Text → Type 0
+IsToggleOf r is_form p dep g child name = IsTrue is_form × (g ≡ name) × IsReferent r p dep child
+
+-- a feature of the edge's parent toggles a feature of its child, weakly or strongly
+abbrev pub TogglesOver : Resolved → Bool → Id → Text → Edge → Id → Id → Text → Type 0
+TogglesOver r weakly p f e a c g =
+    (p ≡ e.parent) × (e.parent ≡ a) × (e.child ≡ c) × Toggles r e.parent weakly f e.child g × ListsFeature r e.child g

@@ -1,0 +1,9 @@
+pub mod Basis
+pub mod Claim
+pub mod FactSet
+pub mod Following
+pub mod Giving
+pub mod Referring
+pub mod Refusals
+pub mod SeenThrough
+pub mod Told

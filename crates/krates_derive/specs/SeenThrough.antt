@@ -1,0 +1,34 @@
+-- The document that is looked at: the given one, or with an index that with each package corrected by what the index answers.
+use Rattle.std.specs.Prelude.{◌≡◌, Option, Some, None, option_map}
+use Rattle.std.specs.Borrow.{Bor}
+use Rattle.std.specs.List.{AllZip}
+use Rattle.krates_cm.specs.Document.{MetadataModel, package_view}
+use Rattle.krates_cm.specs.declared.package.Package.{Package}
+use Rattle.krates_ids.specs.Correction.{IndexModel, IsCorrected, index_view}
+use Rattle.krates_ids.specs.declared.correction.CachingIndex.{CachingIndex}
+use Rattle.krates_ids.specs.declared.index.IndexAnswer.{IndexAnswer}
+
+-- what the index answers that is handed in
+abbrev pub answer_of : Option (Bor CachingIndex) → Option IndexModel
+answer_of index = option_map (λ i. index_view i.now.answer) index
+
+-- each package is corrected by this index, and nothing else of the document is changed
+pub record IsCorrectedBy (index : IndexModel) (given seen : MetadataModel) : Type 0 where
+  pub packages : AllZip (IsCorrected index) given.packages seen.packages
+  pub nothing_else : seen ≡ record given { packages = seen.packages }
+
+-- without an index the document is looked at as it is, and else as it is corrected
+abbrev pub IsSeenThrough : Option IndexModel → MetadataModel → MetadataModel → Type 0
+IsSeenThrough None given seen = seen ≡ given
+IsSeenThrough (Some index) given seen = IsCorrectedBy index given seen
+
+-- of the document that is looked at this holds
+pub record SeesThrough (index : Option IndexModel) (given : MetadataModel) (P : MetadataModel → Type 0) : Type 0 where
+  pub seen : MetadataModel
+  pub is_seen : IsSeenThrough index given seen
+  pub holds : P seen
+
+-- the package is corrected by this answer, and nothing of it but its features is changed
+pub record IsCorrectedPackage (answer : IndexAnswer) (before after : Package) : Type 0 where
+  pub corrected : IsCorrected (index_view answer) (package_view before) (package_view after)
+  pub nothing_else : after ≡ record before { features = after.features }

@@ -1,0 +1,16 @@
+//! What a check goes by.
+
+use krates_document::Setting;
+use krates_resolve::Document;
+use std::alloc::Global;
+
+/// What a check goes by: a document and a setting.
+#[derive(Clone, Copy)]
+pub(crate) struct Basis<'a, 's> {
+    /// What memory comes from.
+    pub alloc: Global,
+    /// The document.
+    pub document: &'s Document<'a>,
+    /// What the caller asks for.
+    pub setting: &'s Setting,
+}

@@ -1,0 +1,388 @@
+//! Whether a list has all that follows from it by one rule.
+//!
+//! For each fact there is one question: whether all that it gives stands in the list. What two facts give is asked of the
+//! feature among them, with the edges that the list has.
+
+ghost use Rattle.std.specs.Prelude.{◌↔◌, IfOk, IsTrue, map};
+ghost use Rattle.krates_cm.specs.Document.{dependency_view, text_view};
+ghost use Rattle.krates_derive.specs.Basis.{rules_of};
+ghost use Rattle.krates_derive.specs.Claim.{document_in, facts_in};
+ghost use Rattle.krates_derive.specs.Giving.{AllIn, AskedIn, AskedOf, ChildIn, CrateIn, DefaultIn, DepIn, EdgeIn, EdgesIn, FactIn, FeatureIn, FeaturesIn, IsTaken, KeptIn, MeantIn, NamedIn, NamesIn, RootIn, StockIn, TheseRootsIn, ToggledIn, UsedIn, ValueIn, ValuesIn};
+ghost use Rattle.krates_derive.specs.Told.{fact_view, facts_view, told_edge};
+ghost use Rattle.krates_resolve.specs.LookedUp.{lent_ids};
+ghost use Rattle.krates_rules.specs.Derivation.{IsClosed};
+ghost use Rattle.krates_rules.specs.Resolved.{id_of};
+
+use crate::basis::Basis;
+use crate::derivation::Fact;
+use crate::fact_set::{FactRef, FactSet, fact_set, has, has_between};
+use crate::following::{declaration_of, need_of};
+use crate::referring::asks;
+use crate::told::{ToldEdge, edge_for};
+use krates_cm::Dependency;
+use krates_document::Setting;
+use krates_ids::Kid;
+use krates_resolve::{Document, Need, Presence};
+use krates_text::{features, laws};
+use std::alloc::{AllocError, Global};
+
+/// What the check of a list of facts goes by: a document, a setting, and the list.
+#[derive(Clone, Copy)]
+pub(crate) struct Claim<'a, 's> {
+    /// What memory comes from.
+    pub alloc: Global,
+    /// The document.
+    pub document: &'s Document<'a>,
+    /// What the caller asks for.
+    pub setting: &'s Setting,
+    /// The list.
+    pub facts: &'s FactSet<'a>,
+}
+
+/// Whether a list is closed.
+pub(crate) fn is_closed<'a>(basis: &Basis<'a, '_>, facts: &'a [Fact]) -> Result<bool, AllocError>
+    ensures { IfOk result (λ b. IsTrue b ↔ IsClosed (rules_of basis.now) (facts_view facts.now)) }
+{
+    let set = fact_set(basis.alloc, facts)?;
+    let roots = basis.document.roots(basis.alloc, basis.setting)?;
+    let claim = Claim {
+        alloc: basis.alloc,
+        document: basis.document,
+        setting: basis.setting,
+        facts: &set,
+    };
+    if !are_roots_in(&claim, &roots) {
+        return Ok(false);
+    }
+    are_facts_in(&claim, facts)
+}
+
+// ---- roots
+
+/// Whether all that these roots give stands in the list.
+fn are_roots_in<'a>(claim: &Claim<'a, '_>, roots: &[&'a Kid]) -> bool
+    ensures { IsTrue result ↔ TheseRootsIn (document_in claim.now) claim.now.setting.now (facts_in claim.now) (lent_ids roots.now) }
+{
+    for root in roots {
+        if !is_root_in(claim, root) {
+            return false;
+        }
+    }
+    true
+}
+
+/// Whether all that a root gives stands in the list.
+fn is_root_in<'a>(claim: &Claim<'a, '_>, krate: &'a Kid) -> bool
+    ensures { IsTrue result ↔ RootIn (document_in claim.now) claim.now.setting.now (facts_in claim.now) (id_of krate.now) }
+{
+    match claim.document.presence(claim.setting, krate) {
+        Presence::Stands => is_stock_in(claim, krate),
+        Presence::NoPackage => false,
+        Presence::NoNode => false,
+        Presence::Excluded => true,
+    }
+}
+
+/// Whether a root that stands is in the list with its features.
+fn is_stock_in<'a>(claim: &Claim<'a, '_>, krate: &'a Kid) -> bool
+    ensures { IsTrue result ↔ StockIn (document_in claim.now) (facts_in claim.now) (id_of krate.now) }
+{
+    has(claim.facts, &FactRef::Crate(krate)) && are_features_in(claim, krate)
+}
+
+/// Whether the features of a root stand in the list.
+fn are_features_in<'a>(claim: &Claim<'a, '_>, krate: &'a Kid) -> bool
+    ensures { IsTrue result ↔ FeaturesIn (document_in claim.now) (facts_in claim.now) (id_of krate.now) }
+{
+    for name in claim.document.features(krate) {
+        if !has(claim.facts, &FactRef::Feature(krate, name.as_str())) {
+            return false;
+        }
+    }
+    true
+}
+
+// ---- facts
+
+/// Whether all that these facts give stands in the list.
+fn are_facts_in<'a>(claim: &Claim<'a, '_>, facts: &'a [Fact]) -> Result<bool, AllocError>
+    ensures { IfOk result (λ b. IsTrue b ↔ AllIn (document_in claim.now) claim.now.setting.now (facts_in claim.now) (facts_view facts.now)) }
+{
+    for fact in facts {
+        if !is_fact_in(claim, fact)? {
+            return Ok(false);
+        }
+    }
+    Ok(true)
+}
+
+/// Whether all that a fact gives stands in the list.
+fn is_fact_in<'a>(claim: &Claim<'a, '_>, fact: &'a Fact) -> Result<bool, AllocError>
+    ensures { IfOk result (λ b. IsTrue b ↔ FactIn (document_in claim.now) claim.now.setting.now (facts_in claim.now) (fact_view fact.now)) }
+{
+    match fact {
+        Fact::Crate(krate) => is_crate_in(claim, krate),
+        Fact::Feature { krate, name } => is_feature_in(claim, krate, name.as_str()),
+        Fact::Kept {
+            parent,
+            child,
+            kind,
+            cfg,
+        } => {
+            let edge = ToldEdge {
+                parent,
+                child,
+                kind: *kind,
+                cfg,
+            };
+            is_kept_in(claim, &edge)
+        }
+        Fact::Toggled { child, name, .. } => {
+            Ok(has(claim.facts, &FactRef::Feature(child, name.as_str())))
+        }
+    }
+}
+
+/// Whether all that a crate gives by its edges stands in the list.
+fn is_crate_in<'a>(claim: &Claim<'a, '_>, krate: &'a Kid) -> Result<bool, AllocError>
+    ensures { IfOk result (λ b. IsTrue b ↔ CrateIn (document_in claim.now) claim.now.setting.now (facts_in claim.now) (id_of krate.now)) }
+{
+    for child in claim.document.children(krate) {
+        if !are_edges_in(claim, krate, child, false)? {
+            return Ok(false);
+        }
+    }
+    Ok(true)
+}
+
+/// Whether all that a feature gives stands in the list.
+fn is_feature_in<'a>(
+    claim: &Claim<'a, '_>,
+    krate: &'a Kid,
+    feature: &'a str,
+) -> Result<bool, AllocError>
+    ensures { IfOk result (λ b. IsTrue b ↔ FeatureIn (document_in claim.now) claim.now.setting.now (facts_in claim.now) (id_of krate.now) feature.now) }
+{
+    if !has(claim.facts, &FactRef::Crate(krate)) {
+        return Ok(false);
+    }
+    if !are_values_in(claim, krate, claim.document.values(krate, feature)) {
+        return Ok(false);
+    }
+    are_asked_in(claim, krate, feature)
+}
+
+/// Whether all that an edge of the list gives stands in it.
+fn is_kept_in<'a>(claim: &Claim<'a, '_>, edge: &ToldEdge<'a>) -> Result<bool, AllocError>
+    ensures { IfOk result (λ b. IsTrue b ↔ KeptIn (document_in claim.now) (facts_in claim.now) (told_edge edge.now)) }
+{
+    if !has(claim.facts, &FactRef::Crate(edge.child)) {
+        return Ok(false);
+    }
+    match declaration_of(claim.alloc, claim.document, edge)? {
+        Some(dependency) => Ok(is_used_in(claim, edge.child, dependency)),
+        None => Ok(true),
+    }
+}
+
+// ---- edges
+
+/// Whether all that the edges from one crate to another give stands in the list.
+fn are_edges_in<'a>(
+    claim: &Claim<'a, '_>,
+    krate: &'a Kid,
+    child: &'a Kid,
+    asked: bool,
+) -> Result<bool, AllocError>
+    ensures { IfOk result (λ b. IsTrue b ↔ EdgesIn (document_in claim.now) claim.now.setting.now (facts_in claim.now) (id_of krate.now) (id_of child.now) asked) }
+{
+    for info in claim.document.kinds(krate, child) {
+        let edge = edge_for(krate, child, info);
+        if !is_edge_in(claim, &edge, asked)? {
+            return Ok(false);
+        }
+    }
+    Ok(true)
+}
+
+/// Whether all that an edge gives stands in the list, where it is asked for, or by its parent.
+fn is_edge_in<'a>(
+    claim: &Claim<'a, '_>,
+    edge: &ToldEdge<'a>,
+    asked: bool,
+) -> Result<bool, AllocError>
+    ensures { IfOk result (λ b. IsTrue b ↔ EdgeIn (document_in claim.now) claim.now.setting.now (facts_in claim.now) (told_edge edge.now) asked) }
+{
+    match need_of(claim.alloc, claim.document, claim.setting, edge)? {
+        Need::Nothing => Ok(true),
+        Need::Undeclared => Ok(asked),
+        Need::Wanted(dependency) => {
+            if is_taken(asked, dependency) {
+                return Ok(is_child_in(claim, edge));
+            }
+            Ok(true)
+        }
+    }
+}
+
+/// Whether a dependency is taken: where it is asked for, or isn't optional.
+fn is_taken(asked: bool, dependency: &Dependency) -> bool
+    ensures { IsTrue result ↔ IsTaken asked (dependency_view dependency.now) }
+{
+    asked || !dependency.optional
+}
+
+/// Whether a wanted edge stands in the list where its child stands, and nothing is lost.
+fn is_child_in<'a>(claim: &Claim<'a, '_>, edge: &ToldEdge<'a>) -> bool
+    ensures { IsTrue result ↔ ChildIn (document_in claim.now) claim.now.setting.now (facts_in claim.now) (told_edge edge.now) }
+{
+    match claim.document.presence(claim.setting, edge.child) {
+        Presence::Stands => has(claim.facts, &FactRef::Kept(*edge)),
+        Presence::NoPackage => false,
+        Presence::NoNode => false,
+        Presence::Excluded => true,
+    }
+}
+
+/// Whether all edges that a feature asks for stand in the list.
+fn are_asked_in<'a>(
+    claim: &Claim<'a, '_>,
+    krate: &'a Kid,
+    feature: &str,
+) -> Result<bool, AllocError>
+    ensures { IfOk result (λ b. IsTrue b ↔ AskedIn (document_in claim.now) claim.now.setting.now (facts_in claim.now) (id_of krate.now) feature.now) }
+{
+    for child in claim.document.children(krate) {
+        if !is_asked_in(claim, krate, feature, child)? {
+            return Ok(false);
+        }
+    }
+    Ok(true)
+}
+
+/// Whether all edges to a crate stand in the list, where a feature asks for them.
+fn is_asked_in<'a>(
+    claim: &Claim<'a, '_>,
+    krate: &'a Kid,
+    feature: &str,
+    child: &'a Kid,
+) -> Result<bool, AllocError>
+    ensures { IfOk result (λ b. IsTrue b ↔ AskedOf (document_in claim.now) claim.now.setting.now (facts_in claim.now) (id_of krate.now) feature.now (id_of child.now)) }
+{
+    if !asks(claim.document, krate, feature, child) {
+        return Ok(true);
+    }
+    are_edges_in(claim, krate, child, true)
+}
+
+// ---- references
+
+/// Whether what each reference of a feature names or toggles stands in the list.
+fn are_values_in<'a>(claim: &Claim<'a, '_>, krate: &'a Kid, values: &'a [String]) -> bool
+    ensures { let texts = map text_view values.now in
+        IsTrue result ↔ ValuesIn (document_in claim.now) (facts_in claim.now) (id_of krate.now) texts }
+{
+    for value in values {
+        if !is_value_in(claim, krate, value.as_str()) {
+            return false;
+        }
+    }
+    true
+}
+
+/// Whether what a reference of a feature names or toggles stands in the list.
+fn is_value_in<'a>(claim: &Claim<'a, '_>, krate: &'a Kid, text: &'a str) -> bool
+    ensures { IsTrue result ↔ ValueIn (document_in claim.now) (facts_in claim.now) (id_of krate.now) text.now }
+{
+    laws::one_reference();
+    match features::ParsedFeature::from(text).feat() {
+        features::Feature::Simple(name) => is_named_in(claim, krate, name),
+        features::Feature::Krate(_) => true,
+        features::Feature::Strong {
+            krate: dep,
+            feature,
+        } => is_dep_in(claim, krate, dep, feature),
+        features::Feature::Weak {
+            krate: dep,
+            feature,
+        } => is_dep_in(claim, krate, dep, feature),
+    }
+}
+
+/// Whether a feature of what a name means is toggled, where the list has an edge there.
+fn is_dep_in<'a>(claim: &Claim<'a, '_>, krate: &'a Kid, dep: &str, name: &'a str) -> bool
+    ensures { IsTrue result ↔ DepIn (document_in claim.now) (facts_in claim.now) (id_of krate.now) dep.now name.now }
+{
+    match claim.document.meant(krate, dep) {
+        Some(child) => is_meant_in(claim, krate, child, name),
+        None => true,
+    }
+}
+
+/// Whether a feature of a crate is toggled, where the list has an edge there.
+fn is_meant_in<'a>(claim: &Claim<'a, '_>, krate: &'a Kid, child: &'a Kid, name: &'a str) -> bool
+    ensures { IsTrue result ↔ MeantIn (document_in claim.now) (facts_in claim.now) (id_of krate.now) (id_of child.now) name.now }
+{
+    if !has_between(claim.facts, krate, child) {
+        return true;
+    }
+    is_toggled_in(claim, krate, child, name)
+}
+
+// ---- features
+
+/// Whether a toggled feature stands in the list where its crate lists it, and isn't lost.
+fn is_toggled_in<'a>(claim: &Claim<'a, '_>, by: &'a Kid, krate: &'a Kid, name: &'a str) -> bool
+    ensures { IsTrue result ↔ ToggledIn (document_in claim.now) (facts_in claim.now) (id_of by.now) (id_of krate.now) name.now }
+{
+    if !claim.document.lists(krate, name) {
+        return false;
+    }
+    has(claim.facts, &FactRef::Toggled(by, krate, name))
+}
+
+/// Whether a feature stands in the list where its crate lists it, and isn't lost.
+fn is_named_in<'a>(claim: &Claim<'a, '_>, krate: &'a Kid, name: &'a str) -> bool
+    ensures { IsTrue result ↔ NamedIn (document_in claim.now) (facts_in claim.now) (id_of krate.now) name.now }
+{
+    if !claim.document.lists(krate, name) {
+        return false;
+    }
+    has(claim.facts, &FactRef::Feature(krate, name))
+}
+
+/// Whether all that a declared dependency asks for stands in the list.
+fn is_used_in<'a>(claim: &Claim<'a, '_>, krate: &'a Kid, dependency: &'a Dependency) -> bool
+    ensures { IsTrue result ↔ UsedIn (document_in claim.now) (facts_in claim.now) (id_of krate.now) (dependency_view dependency.now) }
+{
+    if !are_names_in(claim, krate, &dependency.features) {
+        return false;
+    }
+    is_default_in(claim, krate, dependency.uses_default_features)
+}
+
+/// Whether the features that a declared dependency lists stand in the list.
+fn are_names_in<'a>(claim: &Claim<'a, '_>, krate: &'a Kid, names: &'a [String]) -> bool
+    ensures { let texts = map text_view names.now in
+        IsTrue result ↔ NamesIn (document_in claim.now) (facts_in claim.now) (id_of krate.now) texts }
+{
+    for name in names {
+        if !is_named_in(claim, krate, name.as_str()) {
+            return false;
+        }
+    }
+    true
+}
+
+/// Whether the default feature stands in the list, where a declared dependency uses it.
+fn is_default_in<'a>(claim: &Claim<'a, '_>, krate: &'a Kid, uses: bool) -> bool
+    ensures { IsTrue result ↔ DefaultIn (document_in claim.now) (facts_in claim.now) (id_of krate.now) uses }
+{
+    if !uses {
+        return true;
+    }
+    if !claim.document.lists(krate, "default") {
+        return true;
+    }
+    has(claim.facts, &FactRef::Feature(krate, "default"))
+}

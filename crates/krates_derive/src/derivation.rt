@@ -1,0 +1,90 @@
+//! Facts, and lists of steps by which they follow.
+
+ghost use Rattle.std.specs.Prelude.{◌≡◌};
+
+use krates_ids::Kid;
+use krates_rules::DepKind;
+use std::alloc::AllocError;
+use thiserror::Error;
+
+/// A fact about crates, features and edges that the rules of resolution derive.
+#[derive(Debug, Drop)]
+pub enum Fact {
+    /// The crate is kept.
+    Crate(Kid),
+    /// The feature of the crate is enabled.
+    Feature {
+        /// The crate.
+        krate: Kid,
+        /// The name of the feature.
+        name: String,
+    },
+    /// The edge is kept.
+    Kept {
+        /// The crate that has the dependency.
+        parent: Kid,
+        /// The crate that it depends on.
+        child: Kid,
+        /// For what it is needed.
+        kind: DepKind,
+        /// The target that it is needed for, as the document writes it.
+        cfg: Option<String>,
+    },
+    /// A feature of a crate enables a feature of another.
+    Toggled {
+        /// The crate whose feature enables it.
+        parent: Kid,
+        /// The crate whose feature it is.
+        child: Kid,
+        /// The name of the feature.
+        name: String,
+    },
+}
+
+/// A step of a derivation: a fact that follows by a rule from the facts of earlier steps.
+#[derive(Debug, Drop)]
+pub struct Step {
+    /// The number of the rule.
+    pub rule: u8,
+    /// What follows.
+    pub fact: Fact,
+    /// The numbers of the steps from whose facts it follows, in the order of the rule.
+    pub uses: Vec<usize>,
+}
+
+/// A list of steps, numbered from 0.
+#[derive(Debug, Drop)]
+pub struct Derivation {
+    /// The steps.
+    pub steps: Vec<Step>,
+}
+
+/// Why a list of steps or of facts isn't accepted.
+#[derive(Clone, Copy, Debug, PartialEq, Eq, Error)]
+pub enum CheckError {
+    /// The document isn't admitted: it has no resolved graph, an id that isn't read, or a doubled one.
+    #[error("the document isn't admitted")]
+    Document,
+    /// There is no step.
+    #[error("no step")]
+    Empty,
+    /// The first step that doesn't follow.
+    #[error("step {0} doesn't follow")]
+    Step(usize),
+    /// Memory ran out.
+    #[error("out of memory")]
+    Memory,
+    /// A fact that follows from the list isn't in it.
+    #[error("a fact that follows isn't in the list")]
+    Open,
+}
+
+impl From<AllocError> for CheckError {
+    ghost use Rattle.krates_derive.specs.declared.derivation.CheckError.TheVariants.{Memory};
+
+    ghost from_gives = { λ _ error. error ≡ Memory };
+
+    fn from(_: AllocError) -> CheckError {
+        CheckError::Memory
+    }
+}

@@ -1,0 +1,564 @@
+//! Whether a fact follows from others by one rule, row by row.
+
+ghost use Rattle.std.specs.Prelude.{◌≡◌, ◌↔◌, ◌∷◌, [], Contains, IfOk, IsTrue, map};
+ghost use Rattle.krates_cm.specs.Document.{dependency_view, text_view};
+ghost use Rattle.krates_derive.specs.Basis.{document_of, rules_of};
+ghost use Rattle.krates_derive.specs.Following.{AsksDefault, AsksFeature, AsksForFeature, IsAskedBy, IsChildWith, IsNamedBy, IsRooted, IsRootedFeature, MayKeep, MustKeep, TogglesOver};
+ghost use Rattle.krates_derive.specs.Told.{fact_view, told_edge, told_feature, told_toggle};
+ghost use Rattle.krates_resolve.specs.DocumentModel.{as_resolved};
+ghost use Rattle.krates_resolve.specs.Need.{TellsDeclaration, TellsNeed};
+ghost use Rattle.krates_rules.specs.Facts.{Crate, Feature, Kept};
+ghost use Rattle.krates_rules.specs.Resolved.{id_of};
+ghost use Rattle.krates_rules.specs.Rules.{Rule};
+
+use crate::basis::Basis;
+use crate::derivation::Fact;
+use crate::referring::{asks, names, toggles};
+use crate::told::{ToldEdge, ToldFeature, ToldToggle, info_of, is_same};
+use krates_cm::Dependency;
+use krates_document::Setting;
+use krates_ids::Kid;
+use krates_resolve::{Document, Need};
+use std::alloc::{AllocError, Global};
+
+// ---- edges
+
+/// What there is for an edge.
+pub(crate) fn need_of<'a>(
+    alloc: Global,
+    document: &Document<'a>,
+    setting: &Setting,
+    edge: &ToldEdge<'a>,
+) -> Result<Need<'a>, AllocError>
+    ensures { IfOk result (TellsNeed (as_resolved document.now) setting.now (told_edge edge.now)) }
+{
+    let info = info_of(edge)?;
+    document.need(alloc, setting, edge.parent, edge.child, &info)
+}
+
+/// As what an edge is declared.
+pub(crate) fn declaration_of<'a>(
+    alloc: Global,
+    document: &Document<'a>,
+    edge: &ToldEdge<'a>,
+) -> Result<Option<&'a Dependency>, AllocError>
+    ensures { IfOk result (TellsDeclaration (as_resolved document.now) (told_edge edge.now)) }
+{
+    let info = info_of(edge)?;
+    document.declaration(alloc, edge.parent, edge.child, &info)
+}
+
+/// Whether an edge may be kept.
+fn may_keep<'a>(basis: &Basis<'a, '_>, edge: &ToldEdge<'a>) -> Result<bool, AllocError>
+    ensures { IfOk result (λ b. IsTrue b ↔ MayKeep (document_of basis.now) basis.now.setting.now (told_edge edge.now)) }
+{
+    match need_of(basis.alloc, basis.document, basis.setting, edge)? {
+        Need::Wanted(_) => Ok(basis.document.stands(basis.setting, edge.child)),
+        Need::Undeclared => Ok(false),
+        Need::Nothing => Ok(false),
+    }
+}
+
+/// Whether an edge has to be kept where its parent is.
+fn must_keep<'a>(basis: &Basis<'a, '_>, edge: &ToldEdge<'a>) -> Result<bool, AllocError>
+    ensures { IfOk result (λ b. IsTrue b ↔ MustKeep (document_of basis.now) basis.now.setting.now (told_edge edge.now)) }
+{
+    match need_of(basis.alloc, basis.document, basis.setting, edge)? {
+        Need::Wanted(dependency) => {
+            if dependency.optional {
+                return Ok(false);
+            }
+            Ok(basis.document.stands(basis.setting, edge.child))
+        }
+        Need::Undeclared => Ok(false),
+        Need::Nothing => Ok(false),
+    }
+}
+
+/// Whether an edge asks for a feature of its child.
+fn asks_for_feature<'a>(
+    alloc: Global,
+    document: &Document<'a>,
+    edge: &ToldEdge<'a>,
+    name: &str,
+) -> Result<bool, AllocError>
+    ensures { IfOk result (λ b. IsTrue b ↔ AsksForFeature (as_resolved document.now) (told_edge edge.now) name.now) }
+{
+    match declaration_of(alloc, document, edge)? {
+        Some(dependency) => Ok(asks_feature(dependency, name)),
+        None => Ok(false),
+    }
+}
+
+/// Whether a declared dependency asks for a feature.
+fn asks_feature(dependency: &Dependency, name: &str) -> bool
+    ensures { IsTrue result ↔ AsksFeature (dependency_view dependency.now) name.now }
+{
+    has_text(&dependency.features, name) || asks_default(dependency, name)
+}
+
+/// Whether a declared dependency asks for the feature by default.
+fn asks_default(dependency: &Dependency, name: &str) -> bool
+    ensures { IsTrue result ↔ AsksDefault (dependency_view dependency.now) name.now }
+{
+    dependency.uses_default_features && name == "default"
+}
+
+/// Whether a list has a text.
+fn has_text(texts: &[String], text: &str) -> bool
+    ensures { IsTrue result ↔ Contains (map text_view texts.now) text.now }
+{
+    for other in texts {
+        if other.as_str() == text {
+            return true;
+        }
+    }
+    false
+}
+
+// ---- the rows
+
+/// Whether a crate is a root that stands.
+fn is_rooted<'a>(basis: &Basis<'a, '_>, rule: u8, krate: &'a Kid) -> bool
+    ensures { IsTrue result ↔ IsRooted (document_of basis.now) basis.now.setting.now rule (id_of krate.now) }
+{
+    if rule != 1 {
+        return false;
+    }
+    if !basis.document.is_root(basis.setting, krate) {
+        return false;
+    }
+    basis.document.stands(basis.setting, krate)
+}
+
+/// Whether a crate is a root that stands and lists a feature.
+fn is_rooted_feature<'a>(basis: &Basis<'a, '_>, rule: u8, krate: &'a Kid, name: &'a str) -> bool
+    ensures { IsTrue result ↔ IsRootedFeature (document_of basis.now) basis.now.setting.now rule (id_of krate.now) name.now }
+{
+    if !is_rooted(basis, rule, krate) {
+        return false;
+    }
+    basis.document.lists(krate, name)
+}
+
+/// Whether the rule has the number, and the crates are the same.
+fn is_same_by(rule: u8, number: u8, one: &Kid, other: &Kid) -> bool
+    ensures { IsTrue result ↔ ((rule ≡ number) × (id_of one.now ≡ id_of other.now)) }
+{
+    rule == number && is_same(one, other)
+}
+
+/// Whether a toggled feature is enabled: the crates and the names are the same.
+fn is_enabled(rule: u8, toggle: &ToldToggle<'_>, feature: &ToldFeature<'_>) -> bool
+    ensures { let t = toggle.now in
+        let f = feature.now in
+        IsTrue result ↔ ((rule ≡ 7) × (id_of t.krate.now ≡ id_of f.krate.now) × (t.name.now ≡ f.name.now)) }
+{
+    rule == 7 && is_same(toggle.krate, feature.krate) && toggle.name == feature.name
+}
+
+/// Whether a feature of a crate refers to a listed feature of it.
+fn is_named<'a>(
+    document: &Document<'a>,
+    rule: u8,
+    feature: &ToldFeature<'a>,
+    other: &ToldFeature<'a>,
+) -> bool
+    ensures { let f = feature.now in
+        let g = other.now in
+        IsTrue result ↔ IsNamedBy (as_resolved document.now) rule (id_of f.krate.now) f.name.now (id_of g.krate.now) g.name.now }
+{
+    rule == 3
+        && is_same(feature.krate, other.krate)
+        && names(document, feature.krate, feature.name, other.name)
+        && document.lists(feature.krate, other.name)
+}
+
+/// Whether a feature of a crate asks for an edge.
+fn is_asked<'a>(
+    document: &Document<'a>,
+    rule: u8,
+    feature: &ToldFeature<'a>,
+    edge: &ToldEdge<'a>,
+) -> bool
+    ensures { let f = feature.now in
+        IsTrue result ↔ IsAskedBy (as_resolved document.now) rule (id_of f.krate.now) f.name.now (told_edge edge.now) }
+{
+    rule == 4
+        && is_same(feature.krate, edge.parent)
+        && asks(document, edge.parent, feature.name, edge.child)
+}
+
+/// Whether an edge follows from a feature.
+fn is_kept_by_feature<'a>(
+    basis: &Basis<'a, '_>,
+    rule: u8,
+    feature: &ToldFeature<'a>,
+    edge: &ToldEdge<'a>,
+) -> Result<bool, AllocError>
+    ensures { IfOk result (λ b. IsTrue b ↔ Rule (rules_of basis.now) rule (told_feature feature.now ∷ []) (Kept (told_edge edge.now))) }
+{
+    if !is_asked(basis.document, rule, feature, edge) {
+        return Ok(false);
+    }
+    may_keep(basis, edge)
+}
+
+/// Whether an edge follows from its parent.
+fn is_kept_by_crate<'a>(
+    basis: &Basis<'a, '_>,
+    rule: u8,
+    krate: &Kid,
+    edge: &ToldEdge<'a>,
+) -> Result<bool, AllocError>
+    ensures { IfOk result (λ b. IsTrue b ↔ Rule (rules_of basis.now) rule (Crate (id_of krate.now) ∷ []) (Kept (told_edge edge.now))) }
+{
+    if !is_same_by(rule, 5, krate, edge.parent) {
+        return Ok(false);
+    }
+    must_keep(basis, edge)
+}
+
+/// Whether a crate is the child of an edge and lists a feature.
+fn is_child<'a>(
+    document: &Document<'a>,
+    rule: u8,
+    edge: &ToldEdge<'a>,
+    feature: &ToldFeature<'a>,
+) -> bool
+    ensures { let f = feature.now in
+        IsTrue result ↔ IsChildWith (as_resolved document.now) rule (told_edge edge.now) (id_of f.krate.now) f.name.now }
+{
+    rule == 6 && is_same(edge.child, feature.krate) && document.lists(edge.child, feature.name)
+}
+
+/// Whether a feature follows from an edge.
+fn is_declared<'a>(
+    basis: &Basis<'a, '_>,
+    rule: u8,
+    edge: &ToldEdge<'a>,
+    feature: &ToldFeature<'a>,
+) -> Result<bool, AllocError>
+    ensures { IfOk result (λ b. IsTrue b ↔ Rule (rules_of basis.now) rule (Kept (told_edge edge.now) ∷ []) (told_feature feature.now)) }
+{
+    if !is_child(basis.document, rule, edge, feature) {
+        return Ok(false);
+    }
+    asks_for_feature(basis.alloc, basis.document, edge, feature.name)
+}
+
+/// Whether a feature is toggled over an edge, by weak references or by strong ones.
+fn toggles_over<'a>(
+    document: &Document<'a>,
+    weakly: bool,
+    feature: &ToldFeature<'a>,
+    edge: &ToldEdge<'a>,
+    toggle: &ToldToggle<'a>,
+) -> bool
+    ensures { let r = as_resolved document.now in
+        let f = feature.now in
+        let t = toggle.now in
+        IsTrue result ↔ TogglesOver r weakly (id_of f.krate.now) f.name.now (told_edge edge.now) (id_of t.by.now) (id_of t.krate.now) t.name.now }
+{
+    if !is_between(feature.krate, edge, toggle) {
+        return false;
+    }
+    let by = ToldFeature {
+        krate: edge.parent,
+        name: feature.name,
+    };
+    let toggled = ToldFeature {
+        krate: edge.child,
+        name: toggle.name,
+    };
+    if !toggles(document, weakly, &by, &toggled) {
+        return false;
+    }
+    document.lists(edge.child, toggle.name)
+}
+
+/// Whether the edge goes from the crate, which toggles, to that whose feature is toggled.
+fn is_between(krate: &Kid, edge: &ToldEdge<'_>, toggle: &ToldToggle<'_>) -> bool
+    ensures { let e = edge.now in
+        let t = toggle.now in
+        IsTrue result ↔ ((id_of krate.now ≡ id_of e.parent.now) × (id_of e.parent.now ≡ id_of t.by.now) × (id_of e.child.now ≡ id_of t.krate.now)) }
+{
+    is_same(krate, edge.parent)
+        && is_same(edge.parent, toggle.by)
+        && is_same(edge.child, toggle.krate)
+}
+
+/// Whether a toggled feature follows from a feature and an edge.
+fn is_toggled<'a>(
+    basis: &Basis<'a, '_>,
+    rule: u8,
+    feature: &ToldFeature<'a>,
+    edge: &ToldEdge<'a>,
+    toggle: &ToldToggle<'a>,
+) -> bool
+    ensures { let premises = told_feature feature.now ∷ Kept (told_edge edge.now) ∷ [] in
+        IsTrue result ↔ Rule (rules_of basis.now) rule premises (told_toggle toggle.now) }
+{
+    if rule == 4 {
+        return toggles_over(basis.document, false, feature, edge, toggle);
+    }
+    if rule == 7 {
+        return toggles_over(basis.document, true, feature, edge, toggle);
+    }
+    false
+}
+
+// ---- by the number of premises
+
+/// Whether a fact follows by the rule from nothing.
+pub(crate) fn from_nothing<'a>(basis: &Basis<'a, '_>, rule: u8, fact: &'a Fact) -> bool
+    ensures { IsTrue result ↔ Rule (rules_of basis.now) rule [] (fact_view fact.now) }
+{
+    match fact {
+        Fact::Crate(krate) => is_rooted(basis, rule, krate),
+        Fact::Feature { krate, name } => is_rooted_feature(basis, rule, krate, name.as_str()),
+        Fact::Kept { .. } => false,
+        Fact::Toggled { .. } => false,
+    }
+}
+
+/// Whether a fact follows by the rule from a crate.
+fn from_crate<'a>(
+    basis: &Basis<'a, '_>,
+    rule: u8,
+    krate: &Kid,
+    fact: &'a Fact,
+) -> Result<bool, AllocError>
+    ensures { IfOk result (λ b. IsTrue b ↔ Rule (rules_of basis.now) rule (Crate (id_of krate.now) ∷ []) (fact_view fact.now)) }
+{
+    match fact {
+        Fact::Crate(_) => Ok(false),
+        Fact::Feature { .. } => Ok(false),
+        Fact::Kept {
+            parent,
+            child,
+            kind,
+            cfg,
+        } => {
+            let edge = ToldEdge {
+                parent,
+                child,
+                kind: *kind,
+                cfg,
+            };
+            is_kept_by_crate(basis, rule, krate, &edge)
+        }
+        Fact::Toggled { .. } => Ok(false),
+    }
+}
+
+/// Whether a fact follows by the rule from a feature.
+fn from_feature<'a>(
+    basis: &Basis<'a, '_>,
+    rule: u8,
+    feature: &ToldFeature<'a>,
+    fact: &'a Fact,
+) -> Result<bool, AllocError>
+    ensures { IfOk result (λ b. IsTrue b ↔ Rule (rules_of basis.now) rule (told_feature feature.now ∷ []) (fact_view fact.now)) }
+{
+    match fact {
+        Fact::Crate(other) => Ok(is_same_by(rule, 2, feature.krate, other)),
+        Fact::Feature { krate, name } => {
+            let other = ToldFeature {
+                krate,
+                name: name.as_str(),
+            };
+            Ok(is_named(basis.document, rule, feature, &other))
+        }
+        Fact::Kept {
+            parent,
+            child,
+            kind,
+            cfg,
+        } => {
+            let edge = ToldEdge {
+                parent,
+                child,
+                kind: *kind,
+                cfg,
+            };
+            is_kept_by_feature(basis, rule, feature, &edge)
+        }
+        Fact::Toggled { .. } => Ok(false),
+    }
+}
+
+/// Whether a fact follows by the rule from an edge.
+fn from_edge<'a>(
+    basis: &Basis<'a, '_>,
+    rule: u8,
+    edge: &ToldEdge<'a>,
+    fact: &'a Fact,
+) -> Result<bool, AllocError>
+    ensures { IfOk result (λ b. IsTrue b ↔ Rule (rules_of basis.now) rule (Kept (told_edge edge.now) ∷ []) (fact_view fact.now)) }
+{
+    match fact {
+        Fact::Crate(krate) => Ok(is_same_by(rule, 5, edge.child, krate)),
+        Fact::Feature { krate, name } => {
+            let feature = ToldFeature {
+                krate,
+                name: name.as_str(),
+            };
+            is_declared(basis, rule, edge, &feature)
+        }
+        Fact::Kept { .. } => Ok(false),
+        Fact::Toggled { .. } => Ok(false),
+    }
+}
+
+/// Whether a fact follows by the rule from a toggled feature.
+fn from_toggle<'a>(basis: &Basis<'a, '_>, rule: u8, toggle: &ToldToggle<'a>, fact: &'a Fact) -> bool
+    ensures { IsTrue result ↔ Rule (rules_of basis.now) rule (told_toggle toggle.now ∷ []) (fact_view fact.now) }
+{
+    match fact {
+        Fact::Crate(_) => false,
+        Fact::Feature { krate, name } => {
+            let feature = ToldFeature {
+                krate,
+                name: name.as_str(),
+            };
+            is_enabled(rule, toggle, &feature)
+        }
+        Fact::Kept { .. } => false,
+        Fact::Toggled { .. } => false,
+    }
+}
+
+/// Whether a fact follows by the rule from another.
+pub(crate) fn from_one<'a>(
+    basis: &Basis<'a, '_>,
+    rule: u8,
+    premise: &'a Fact,
+    fact: &'a Fact,
+) -> Result<bool, AllocError>
+    ensures { IfOk result (λ b. IsTrue b ↔ Rule (rules_of basis.now) rule (fact_view premise.now ∷ []) (fact_view fact.now)) }
+{
+    match premise {
+        Fact::Crate(krate) => from_crate(basis, rule, krate, fact),
+        Fact::Feature { krate, name } => {
+            let feature = ToldFeature {
+                krate,
+                name: name.as_str(),
+            };
+            from_feature(basis, rule, &feature, fact)
+        }
+        Fact::Kept {
+            parent,
+            child,
+            kind,
+            cfg,
+        } => {
+            let edge = ToldEdge {
+                parent,
+                child,
+                kind: *kind,
+                cfg,
+            };
+            from_edge(basis, rule, &edge, fact)
+        }
+        Fact::Toggled {
+            parent,
+            child,
+            name,
+        } => {
+            let toggle = ToldToggle {
+                by: parent,
+                krate: child,
+                name: name.as_str(),
+            };
+            Ok(from_toggle(basis, rule, &toggle, fact))
+        }
+    }
+}
+
+/// Whether a toggled feature follows by the rule from a feature and another fact.
+fn toggle_from_feature<'a>(
+    basis: &Basis<'a, '_>,
+    rule: u8,
+    feature: &ToldFeature<'a>,
+    second: &'a Fact,
+    toggle: &ToldToggle<'a>,
+) -> bool
+    ensures { let premises = told_feature feature.now ∷ fact_view second.now ∷ [] in
+        IsTrue result ↔ Rule (rules_of basis.now) rule premises (told_toggle toggle.now) }
+{
+    match second {
+        Fact::Crate(_) => false,
+        Fact::Feature { .. } => false,
+        Fact::Kept {
+            parent,
+            child,
+            kind,
+            cfg,
+        } => {
+            let edge = ToldEdge {
+                parent,
+                child,
+                kind: *kind,
+                cfg,
+            };
+            is_toggled(basis, rule, feature, &edge, toggle)
+        }
+        Fact::Toggled { .. } => false,
+    }
+}
+
+/// Whether a toggled feature follows by the rule from two facts.
+fn toggle_from_two<'a>(
+    basis: &Basis<'a, '_>,
+    rule: u8,
+    first: &'a Fact,
+    second: &'a Fact,
+    toggle: &ToldToggle<'a>,
+) -> bool
+    ensures { let premises = fact_view first.now ∷ fact_view second.now ∷ [] in
+        IsTrue result ↔ Rule (rules_of basis.now) rule premises (told_toggle toggle.now) }
+{
+    match first {
+        Fact::Crate(_) => false,
+        Fact::Feature { krate, name } => {
+            let feature = ToldFeature {
+                krate,
+                name: name.as_str(),
+            };
+            toggle_from_feature(basis, rule, &feature, second, toggle)
+        }
+        Fact::Kept { .. } => false,
+        Fact::Toggled { .. } => false,
+    }
+}
+
+/// Whether a fact follows by the rule from two others.
+pub(crate) fn from_two<'a>(
+    basis: &Basis<'a, '_>,
+    rule: u8,
+    first: &'a Fact,
+    second: &'a Fact,
+    fact: &'a Fact,
+) -> bool
+    ensures { let premises = fact_view first.now ∷ fact_view second.now ∷ [] in
+        IsTrue result ↔ Rule (rules_of basis.now) rule premises (fact_view fact.now) }
+{
+    match fact {
+        Fact::Crate(_) => false,
+        Fact::Feature { .. } => false,
+        Fact::Kept { .. } => false,
+        Fact::Toggled {
+            parent,
+            child,
+            name,
+        } => {
+            let toggle = ToldToggle {
+                by: parent,
+                krate: child,
+                name: name.as_str(),
+            };
+            toggle_from_two(basis, rule, first, second, &toggle)
+        }
+    }
+}
