@@ -15,6 +15,5 @@ pub mod OrderedIds
 pub mod ResultValues
 pub mod SeenLemmas
 pub mod SelectionFacts
-pub mod StandingLaws
 pub mod VecArgument
 pub mod Walking

@@ -20,9 +20,11 @@ mod saturation;
 pub mod selection;
 mod sorted;
 mod standing;
+pub mod work;
 
 pub use krates_document::{Ids, Setting, admit};
 pub use krates_rules::{DepKind, Scope, laws};
 pub use questions::Document;
 pub use resolution::select;
 pub use selection::{EnabledFeature, KeptEdge, Selection, ToggledFeature};
+pub use work::Work;
