@@ -31,7 +31,7 @@ use Rattle.krates.proofs.DivisionLemmas.{ReadsOnce}
 use Rattle.krates.proofs.Membership.{Member, member_of, contains_of, mapped_of, member_map}
 use Rattle.krates.proofs.OrderedIds.{Compares, not_earlier}
 use Rattle.krates.proofs.SelectionFacts.{Selects, derived_at, derived_of, kept_among, enabled_among, none_lost}
-use Rattle.krates.proofs.StandingLaws.{derivable_stands}
+use Rattle.krates_resolve.proofs.StandingLaws.{derivable_stands}
 
 -- ---- an admitted document
 

@@ -13,4 +13,3 @@ pub mod NarrowedBuilds
 pub mod OrderedIds
 pub mod SeenLemmas
 pub mod SelectionFacts
-pub mod StandingLaws

@@ -19,6 +19,8 @@ use Rattle.krates_rules.specs.Resolved.{HasGraphWith, ReadsAs, id_of, resolved}
 use Rattle.krates_rules.specs.Rules.{Questions}
 use Rattle.krates_rules.specs.SelectionRefusals.{SelectionRefusal}
 use Rattle.krates_rules.specs.Setting.{SettingModel}
+use Rattle.krates_resolve.specs.Selection.{IsSelectionOf}
+use Rattle.krates_resolve.specs.declared.selection.Selection.{Selection}
 use Rattle.krates.specs.Indexed.{Answering, Sees}
 use Rattle.krates.specs.Kept.{KeptCrates, HasEnabled}
 
@@ -82,6 +84,8 @@ pub record IsBuilt {F : Type 0} (filters : F → Package → F → Type 0) (m : 
   -- of the kept crates the features with a derivation are enabled, and no others
   pub enabled : (i : Id) (f : Text) → IsDerived (metadata_view m) s (Feature i f) ↔ HasEnabled k i f
   pub root : k.workspace_root ≡ text_view m.workspace_root
+  -- the work is that of the document's selection, in which each crate, each feature and each reference is counted once
+  pub work : (x : Selection) × IsSelectionOf (metadata_view m) s x × (k.work ≡ x.work)
   pub reported : IsReported filters m s before after
 
 -- ---- refusals

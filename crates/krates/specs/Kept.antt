@@ -8,16 +8,18 @@ use Rattle.krates_cm.specs.declared.package.Package.{Package}
 use Rattle.krates_ids.specs.Identity.{Identity, id_cmp}
 use Rattle.krates_rules.specs.Facts.{Id}
 use Rattle.krates_rules.specs.Resolved.{StandsAt}
+use Rattle.krates_resolve.specs.declared.work.Work.{Work}
 use Rattle.krates.specs.Krate.{krate_ids}
 use Rattle.krates.specs.declared.krate.Krate.{Krate}
 
--- the ids of the kept crates, in order, the packages with these ids, the names of the enabled features of each, and the path
--- of the workspace
+-- the ids of the kept crates, in order, the packages with these ids, the names of the enabled features of each, the path of the
+-- workspace, and how much work it was
 pub record KeptCrates : Type 0 where
   pub ids : List Identity
   pub packages : List Package
   pub features : List (List Text)
   pub workspace_root : Text
+  pub work : Work
 
 -- the packages of these crates
 abbrev pub krate_packages : List Krate → List Package
@@ -61,6 +63,12 @@ HasEnabled k id name = IsEnabledIn k.ids k.features id name
 
 -- ---- the view
 
--- those of these crates, with these sets of features
-abbrev pub kept_crates : List Krate → List (BTreeSet (String Global)) → Text → KeptCrates
-kept_crates krates sets root = record { ids = krate_ids krates; packages = krate_packages krates; features = names_in_each sets; workspace_root = root }
+-- those of these crates, with these sets of features and this work
+abbrev pub kept_crates : List Krate → List (BTreeSet (String Global)) → Text → Work → KeptCrates
+kept_crates krates sets root work = record {
+  ids = krate_ids krates;
+  packages = krate_packages krates;
+  features = names_in_each sets;
+  workspace_root = root;
+  work = work;
+}

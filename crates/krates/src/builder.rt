@@ -225,7 +225,12 @@ fn build_admitted<F: OnFilter>(
     expect_numbered(&division.kept)?;
     let features = enabled_of(alloc, &division.kept, selection.features)?;
     report(division.others, filter);
-    Ok(Krates::new(division.kept, features, metadata.workspace_root))
+    Ok(Krates::new(
+        division.kept,
+        features,
+        metadata.workspace_root,
+        selection.work,
+    ))
 }
 
 /// Refuses more crates than can be numbered.

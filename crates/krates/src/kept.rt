@@ -10,6 +10,7 @@ use crate::krate::{Krate, place_of};
 use krates_cm::Package;
 use krates_graph::graph::NodeId;
 use krates_ids::Kid;
+use krates_resolve::Work;
 use std::marker::Model;
 
 /// The crates that a build keeps: their ids, their packages and their enabled features in the order of the ids, and the path of
@@ -21,6 +22,7 @@ pub struct Krates {
     kept: Vec<Krate>,
     features: Vec<EnabledFeatures>,
     workspace_root: String,
+    work: Work,
 }
 
 impl Model for Krates {
@@ -34,25 +36,27 @@ impl Model for Krates {
 
     ghost coded = { Prim.hlevel (codes, packages.the_row.coded) };
 
-    ghost view = { λ k. kept_crates k.kept.items k.features.items (string_bytes k.workspace_root) };
+    ghost view = { λ k. kept_crates k.kept.items k.features.items (string_bytes k.workspace_root) k.work };
 
     ghost invariant = { λ k. AreKept k.kept.items k.features.items };
 }
 
 impl Krates {
-    /// These crates, with these enabled features, of a workspace at this path.
+    /// These crates, with these enabled features, of a workspace at this path, found by this work.
     pub(crate) fn new(
         kept: Vec<Krate>,
         features: Vec<EnabledFeatures>,
         workspace_root: String,
+        work: Work,
     ) -> Krates
         requires { AreKept kept.items features.items }
-        ensures { result ≡ kept_crates kept.items features.items (string_bytes workspace_root) }
+        ensures { result ≡ kept_crates kept.items features.items (string_bytes workspace_root) work }
     {
         Krates {
             kept,
             features,
             workspace_root,
+            work,
         }
     }
 
@@ -90,6 +94,14 @@ impl Krates {
     {
         let place = self.nid_for_kid(kid)?.index();
         Some(&self.features[place])
+    }
+
+    /// How much work it was to find them: how many crates are kept, how many features are enabled, and how many references
+    /// these have. Each count stays at its greatest value.
+    pub fn work(&self) -> Work
+        ensures { result ≡ self.now.work }
+    {
+        self.work
     }
 
     /// The path of the workspace, as the document writes it.

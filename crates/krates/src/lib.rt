@@ -22,7 +22,7 @@ pub use krates_cm::{Metadata, Package, PackageId};
 pub use krates_graph::graph::{EdgeId, NodeId};
 pub use krates_graph::{agenda, graph};
 pub use krates_ids::{Error, IdError, Kid, Lost, PkgSpec};
-pub use krates_resolve::{DepKind, Scope};
+pub use krates_resolve::{DepKind, Scope, Work};
 pub use krates_text::features::{Feature, ParsedFeature};
 pub use krates_text::target::Target;
 pub use krates_text::{path, target};
@@ -56,6 +56,7 @@ pub mod index {
 /// Which documents can be resolved, what is kept of them, and what they answer to the questions of the rules.
 pub mod resolve {
     pub use krates_resolve::{
-        Document, EnabledFeature, Ids, KeptEdge, Selection, Setting, ToggledFeature, admit, select,
+        Document, EnabledFeature, Ids, KeptEdge, Selection, Setting, ToggledFeature, Work, admit,
+        select,
     };
 }

@@ -74,6 +74,7 @@ edge_advances r s x v e edge sound more is placed reached used marked d =
         sound = record {
           krates_size = sound.krates_size;
           features_size = sound.features_size;
+          own = sound.own;
           has_links = sound.has_links;
           derivable = λ f h. edge_derivable r s x v e f sound more (subst (λ (z : Edge). Derivable (questions r s) (Kept z)) back d) h;
           placed = subst (All (IsPlaced r s)) (sym more) (All-push (IsPlaced r s) x.edges.items e sound.placed placed);

@@ -5,13 +5,14 @@ use Rattle.std.proofs.lemmas.Option.{none-some, same_Some}
 use Rattle.std.specs.BTreeMap.{is_at, get_by_text}
 use Rattle.std.specs.Cmp.Lexicographic.{slice_cmp}
 use Rattle.std.specs.Map.{lookup}
+use Rattle.std.specs.Option.{unwrap_or}
 use Rattle.std.specs.Str.{bytes_eq}
 use Rattle.krates_cm.specs.Document.{Text, PackageModel, text_view, texts_view, package_view}
 use Rattle.krates_cm.specs.declared.package.Package.{Package}
 use Rattle.krates_ids.specs.Correction.{named}
 use Rattle.krates_rules.specs.Admission.{NoneDoubled}
 use Rattle.krates_rules.specs.Facts.{Id}
-use Rattle.krates_resolve.specs.FeatureValues.{AreValuesOf}
+use Rattle.krates_resolve.specs.FeatureValues.{AreNamed, AreValuesOf}
 use Rattle.krates_rules.specs.Resolved.{Resolved, HasPackage, NoPackage}
 use Rattle.krates_rules.proofs.OnlyOne.{one_package}
 
@@ -50,3 +51,7 @@ lacks_values r i f p none has is =
 -- there is no such package
 pub no_package_values : (r : Resolved) (i : Id) (f : Text) → NoPackage r i → AreValuesOf r i f []
 no_package_values r i f lacks = no_values r i f (λ p values h there. lacks p h)
+
+-- what stands under the name in the one package with the id
+pub are_named : (r : Resolved) (i : Id) (f : Text) (p : PackageModel) (values : List Text) → NoneDoubled r.metadata r.graph → HasPackage r i p → unwrap_or (named p.features f) [] ≡ values → AreNamed r i f values
+are_named r i f p values none has is q h = ap (λ (o : PackageModel). unwrap_or (named o.features f) []) (one_package r i q p none h has) ∙ is

@@ -17,7 +17,7 @@ use Rattle.krates_resolve.specs.FeatureTable.{IsNumberOf, listed_view}
 use Rattle.krates_rules.specs.Features.{ListsFeature, LacksFeature}
 use Rattle.krates_resolve.specs.ListedFeatures.{features_from, features_of_node, listed_features}
 use Rattle.krates_rules.specs.Resolved.{NodeAt, Resolved, HasNode}
-use Rattle.krates_resolve.specs.Numbering.{FeatureAt}
+use Rattle.krates_resolve.specs.Numbering.{FeatureAt, TellsOwn}
 use Rattle.krates_resolve.specs.declared.feature_table.ListedFeature.{ListedFeature}
 use Rattle.krates_rules.proofs.OnlyOne.{place_in, one_node}
 use Rattle.krates_rules.proofs.Standings.{contains_at}
@@ -52,9 +52,14 @@ listed_of a b e = sym (listed_ties a b) ∙ same_listed_of a b e
 
 -- ---- the table, filled number by number
 
--- a number below one of the feature, or none where it has no such number
+-- the feature stands at the number, and at no greater one below this
+pub record IsLastBelow (all : List (ℕ × Text)) (x : ℕ × Text) (i n : ℕ) : Type 0 where
+  pub at : slice_get all n ≡ Some x
+  pub last : (m : ℕ) → m < i → slice_get all m ≡ Some x → m ≤ n
+
+-- the greatest number of the feature below one, or none where it has no such number
 abbrev pub IsNumberBelow : List (ℕ × Text) → ℕ × Text → ℕ → Option ℕ → Type 0
-IsNumberBelow all x i answer = MatchOption answer ((n : ℕ) → n < i → slice_get all n ≡ Some x → ⊥) (λ n. slice_get all n ≡ Some x)
+IsNumberBelow all x i answer = MatchOption answer ((n : ℕ) → n < i → slice_get all n ≡ Some x → ⊥) (IsLastBelow all x i)
 
 abbrev pub AreNumberedBelow : List ListedFeature → ℕ → BTreeMap ListedFeature ℕ → Type 0
 AreNumberedBelow xs i m = (q : ListedFeature) → IsNumberBelow (map listed_view xs) (listed_view q) i (get listed_cmp m q)
@@ -62,8 +67,17 @@ AreNumberedBelow xs i m = (q : ListedFeature) → IsNumberBelow (map listed_view
 -- what the map answers for a feature, where the new one is the same or another
 number_step : (all : List (ℕ × Text)) (i : ℕ) (k q : ℕ × Text) (o : Option ℕ) (b : Bool) → slice_get all i ≡ Some k → (b ≡ true → k ≡ q) → (k ≡ q → b ≡ true) → IsNumberBelow all q i o
     → IsNumberBelow all q (i + 1) (cond b (Some i) o)
-number_step all i k q o true here there back h = here ∙ ap (λ (x : ℕ × Text). Some x) (there refl)
-number_step all i k q (Some n) false here there back h = h
+number_step all i k q o true here there back h = record { at = here ∙ ap (λ (x : ℕ × Text). Some x) (there refl); last = λ m lt s. omega (arith, lt) }
+number_step all i k q (Some n) false here there back h = record {
+  at = h.at;
+  last = λ m lt s. elim (cases_order m i) [
+    | inl e ↦ (
+        let at : slice_get all i ≡ Some q = subst (λ (m : ℕ). slice_get all m ≡ Some q) e s in
+        let yes : false ≡ true = back (same_Some k q (sym here ∙ at)) in
+        absurd cc)
+    | inr r ↦ elim r [ inl l ↦ h.last m l s | inr l ↦ absurd (omega arith) ]
+  ];
+}
 number_step all i k q None false here there back h = λ n lt s. elim (cases_order n i) [
   | inl e ↦ (
       let at : slice_get all i ≡ Some q = subst (λ (m : ℕ). slice_get all m ≡ Some q) e s in
@@ -82,7 +96,7 @@ numbers_more xs i k old new lt is grown h q =
 
 number_whole : (all : List (ℕ × Text)) (x : ℕ × Text) (i : ℕ) (o : Option ℕ) → length all ≤ i → IsNumberBelow all x i o → IsNumberOf all x o
 number_whole all x i None le h = λ n s. h n (omega (arith, slice_get_within all n x s)) s
-number_whole all x i (Some n) le h = h
+number_whole all x i (Some n) le h = record { at = h.at; last = λ m s. h.last m (omega (arith, le, slice_get_within all m x s)) s }
 
 pub numbers_whole : (xs ys : List ListedFeature) (i : ℕ) (m : BTreeMap ListedFeature ℕ) → xs ≡ ys → length xs ≤ i → AreNumberedBelow xs i m → (q : ListedFeature) → IsNumberOf (map listed_view ys) (listed_view q) (get listed_cmp m q)
 numbers_whole xs ys i m same le h q =
@@ -183,4 +197,9 @@ number_answer r i f place None distinct a none = λ lists.
     let c = subst (λ (n : NodeModel). Contains n.features f) same lists.among in
     let w = place_in (listed_features r) (0 + place, f) (to_listed 0 r.graph.nodes place a.node f a.at c) in
     none w.0 (w.1 ∙ ap (λ (k : ℕ). Some (k, f)) sum)
-number_answer r i f place (Some n) distinct a at = record { place = place; at = at; node = a }
+number_answer r i f place (Some n) distinct a own = record { place = place; at = own.at; node = a }
+
+-- and what it answers is the feature's own number
+pub own_answer : (r : Resolved) (x : ℕ × Text) (o : Option ℕ) → IsNumberOf (listed_features r) x o → TellsOwn r o
+own_answer r x None none = tt
+own_answer r x (Some n) own = λ m y at other. own.last m (other ∙ sym at ∙ own.at)

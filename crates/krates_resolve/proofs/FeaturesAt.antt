@@ -23,16 +23,20 @@ use Rattle.krates_resolve.proofs.Lookups.{at_place}
 use Rattle.krates_rules.proofs.OnlyOne.{place_in}
 use Rattle.krates_rules.proofs.Standings.{contains_at}
 
+abbrev pub itself : ℕ → ℕ
+itself n = n
+
 -- the feature has the number
 abbrev pub HasNumber : Resolved → ℕ → EnabledFeature → Type 0
 HasNumber r number x = FeatureAt r (id_of x.krate) (text_view x.name) number
 
-abbrev pub itself : ℕ → ℕ
-itself n = n
+-- the numbers are written as they are, or as images of themselves
+pub as_they_are : (r : Resolved) (numbers : List ℕ) (list : List EnabledFeature) → AllZip (HasNumber r) (map itself numbers) list → AllZip (HasNumber r) numbers list
+as_they_are r numbers list z = subst (λ (ns : List ℕ). AllZip (HasNumber r) ns list) (map-id numbers) z
 
--- each feature has the number at its place
-abbrev pub HaveNumbers : Resolved → List ℕ → List EnabledFeature → Type 0
-HaveNumbers r numbers list = AllZip (HasNumber r) (map itself numbers) list
+-- each feature has the number at its place, written as its image
+abbrev pub HaveImages : Resolved → List ℕ → List EnabledFeature → Type 0
+HaveImages r numbers list = AllZip (HasNumber r) (map itself numbers) list
 
 -- one node has one id
 same_id_at : ReadsOnce → (r : Resolved) (i j : Id) (place other : ℕ) → NodeAt r i place → NodeAt r j other → place ≡ other → i ≡ j
@@ -42,7 +46,7 @@ same_id_at once r i j place other a b same =
     sym a.id.same ∙ ap id_of (once b.node.id a.id.read b.id.read (subst (λ t. Reads t a.id.read) (sym text) a.id.reads) b.id.reads) ∙ b.id.same
 
 -- what they are is what is enabled
-pub enabled_told : ReadsOnce → (r : Resolved) (numbers : List ℕ) (list : List EnabledFeature) → HaveNumbers r numbers list → (i : Id) (f : Text) → IsEnabled r numbers i f ↔ Contains (map feature_fact list) (Feature i f)
+pub enabled_told : ReadsOnce → (r : Resolved) (numbers : List ℕ) (list : List EnabledFeature) → HaveImages r numbers list → (i : Id) (f : Text) → IsEnabled r numbers i f ↔ Contains (map feature_fact list) (Feature i f)
 enabled_told once r numbers list z i f = (
   λ e. (
       let at = place_in numbers e.number e.among in

@@ -14,7 +14,7 @@ use Rattle.krates_resolve.specs.Found.{HasFound, HasUsed, IsAny, IsEnabledBySome
 use Rattle.krates_rules.specs.Resolved.{DepAt, NodeAt, Resolved, id_of, ReadsAs}
 use Rattle.krates_resolve.specs.Links.{IsMarked, NotesAsked, Waits, HasMarked, HasWaiter}
 use Rattle.krates_rules.specs.Questions.{edge_between, questions}
-use Rattle.krates_resolve.specs.Numbering.{FeatureAt}
+use Rattle.krates_resolve.specs.Numbering.{FeatureAt, IsOwn}
 use Rattle.krates_resolve.specs.Selection.{toggled_fact}
 use Rattle.krates_rules.specs.Setting.{SettingModel}
 use Rattle.krates_resolve.specs.declared.found.Found.{Found}
@@ -115,6 +115,7 @@ crate_advances once r s x a place i sound p n d =
         sound = record {
           krates_size = (put_taken x.krates a place p).1 ∙ sound.krates_size;
           features_size = sound.features_size;
+          own = sound.own;
           has_links = sound.has_links;
           derivable = λ f h. crate_derivable once r s x a place i f sound p n d h;
           placed = sound.placed;
@@ -176,15 +177,19 @@ feature_grows r x a number p = record {
 }
 
 -- the feature of a kept crate whose number was put
-pub feature_advances : ReadsOnce → (r : Resolved) (s : SettingModel) (x : Found) (a : PutNumbers) (number : ℕ) (i : Id) (f : Text) → IsSound r s x → HasPut x.features a number → FeatureAt r i f number
+pub feature_advances : ReadsOnce → (r : Resolved) (s : SettingModel) (x : Found) (a : PutNumbers) (number : ℕ) (i : Id) (f : Text) → IsSound r s x → HasPut x.features a number → FeatureAt r i f number → IsOwn r number
     → HasFound r x (Crate i) → Derivable (questions r s) (Feature i f) → Advances r s x (record x { features = a }) × HasFound r (record x { features = a }) (Feature i f)
-feature_advances once r s x a number i f sound p at kept d =
+feature_advances once r s x a number i f sound p at own kept d =
     let y = WithFeatures x a in
     let g = feature_grows r x a number p in (
       record {
         sound = record {
           krates_size = sound.krates_size;
           features_size = (put_taken x.features a number p).1 ∙ sound.features_size;
+          own = λ n c. elim (put_from x.features a number n p c) [
+            | inl o ↦ sound.own n o
+            | inr e ↦ subst (IsOwn r) e own
+          ];
           has_links = sound.has_links;
           derivable = λ z h. feature_derivable once r s x a number i f z sound p at d h;
           placed = sound.placed;
@@ -255,6 +260,7 @@ toggled_advances r s x v t p c g sound more is enabled d =
         sound = record {
           krates_size = sound.krates_size;
           features_size = sound.features_size;
+          own = sound.own;
           has_links = sound.has_links;
           derivable = λ f h. toggled_derivable r s x v t f sound more (subst (Derivable (questions r s)) (sym is) d) h;
           placed = sound.placed;
@@ -317,6 +323,7 @@ waiter_advances r s x l place index g sound more asked unmarked =
       sound = record {
         krates_size = sound.krates_size;
         features_size = sound.features_size;
+        own = sound.own;
         has_links = λ p c k i at. more.links k i (sound.has_links p c k i at);
         derivable = λ f h. sound.derivable f (links_back r x l f h);
         placed = sound.placed;
@@ -351,6 +358,7 @@ asked_advances r s x l place index sound more now_tried =
       sound = record {
         krates_size = sound.krates_size;
         features_size = sound.features_size;
+        own = sound.own;
         has_links = λ p c k i at. more.links k i (sound.has_links p c k i at);
         derivable = λ f h. sound.derivable f (links_back r x l f h);
         placed = sound.placed;
@@ -390,6 +398,7 @@ pub mark_sound : (r : Resolved) (s : SettingModel) (x : Found) (l : Links) (plac
 mark_sound r s x l place index names sound more arrived kept = record {
   krates_size = sound.krates_size;
   features_size = sound.features_size;
+  own = sound.own;
   has_links = λ p c k i at. more.links k i (sound.has_links p c k i at);
   derivable = λ f h. sound.derivable f (links_back r x l f h);
   placed = sound.placed;

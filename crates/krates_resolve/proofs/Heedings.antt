@@ -14,7 +14,7 @@ use Rattle.krates_rules.specs.Admission.{NoneDoubled}
 use Rattle.krates_rules.specs.Derivation.{Derivable, follows, Among}
 use Rattle.krates_rules.specs.Facts.{Id, Edge, Fact, Crate, Feature, Kept}
 use Rattle.krates_resolve.specs.FeatureTable.{listed_view}
-use Rattle.krates_resolve.specs.FeatureValues.{AreValuesOf}
+use Rattle.krates_resolve.specs.FeatureValues.{AreNamed, AreValuesOf}
 use Rattle.krates_resolve.specs.Found.{HasFound, IsToggledIn, IsAsked, IsAskedWeakly, IsToggledStrongly, IsWaiting, WaitsOrIsToggled, IsFollowed, IsHeeded, IsValueOfEnabled, IsSound, Advances, AreTried, IsTried, IsAny, MayTry, MayName, MayToggle}
 use Rattle.krates_resolve.specs.Heeding.{IsAskedAt, MayAsk, MayAskAt, HasEnabledReference}
 use Rattle.krates_rules.specs.Resolved.{DepAt, NodeAt, Resolved, NoNode, HasNode, HasDep, id_of}
@@ -23,11 +23,13 @@ use Rattle.krates_resolve.specs.ListedFeatures.{listed_features}
 use Rattle.krates_resolve.specs.Lookup.{IsLookup, resolved_view}
 use Rattle.krates_resolve.specs.NodeEntry.{AreParts, IsEntry, IsEntryOf, parent_of, child_of}
 use Rattle.krates_resolve.specs.Numbering.{FeatureAt}
-use Rattle.krates_rules.specs.Questions.{edge_between, questions}
+use Rattle.krates_rules.specs.Questions.{Stands, edge_between, questions}
 use Rattle.krates_rules.specs.Referent.{IsReferent, id_order}
 use Rattle.krates_rules.specs.Rules.{Questions, IsAskedFor, feature_crate, named, lost_named, asked, toggled_strongly, lost_asked_package, lost_asked_node, lost_toggled_strongly, toggled_weakly, lost_toggled_weakly}
 use Rattle.krates_rules.specs.Setting.{SettingModel}
+use Rattle.krates_resolve.specs.Work.{HasReferences}
 use Rattle.krates_resolve.specs.declared.feature_table.ListedFeature.{ListedFeature}
+use Rattle.krates_resolve.proofs.StandingLaws.{derivable_stands}
 use Rattle.krates_resolve.specs.declared.found.Found.{Found}
 use Rattle.krates_resolve.specs.declared.links.Links.{Links}
 use Rattle.krates_resolve.specs.declared.lookup.Lookup.{Lookup}
@@ -256,3 +258,11 @@ pub one_feature : ReadsOnce → (r : Resolved) (i j : Id) (place number : ℕ) (
 one_feature once r i j place number f g node at there =
     let same = same_Some (place, f) (there.place, g) (sym at ∙ there.at) in
     (one_id once r i j place node (subst (λ (n : ℕ). NodeAt r j n) (sym (ap (λ (w : ℕ × Text). w.0) same)) there.node), ap (λ (w : ℕ × Text). w.1) same)
+
+-- an enabled feature has as many references as its list has values
+pub references_here : (r : Resolved) (s : SettingModel) (i : Id) (f : Text) (values : List Text) (n : ℕ) → Derivable (questions r s) (Feature i f) → AreNamed r i f values → n ≡ length values → HasReferences r i f n
+unfolding questions
+references_here r s i f values n enabled are long =
+    let stands : Stands r s i = derivable_stands (questions r s) enabled in
+    let kept = stands.included in
+    record { pkg = kept.pkg; has_package = kept.has_package; count = long ∙ sym (ap length (are kept.pkg kept.has_package)) }

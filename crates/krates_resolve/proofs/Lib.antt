@@ -1,5 +1,8 @@
 pub mod Asked
+pub mod Counted
+pub mod CountedSelection
 pub mod Declared
+pub mod Distinct
 pub mod EdgeGrowth
 pub mod Enabled
 pub mod Entries
@@ -21,5 +24,6 @@ pub mod Saturated
 pub mod Searches
 pub mod SeenInOrder
 pub mod Selected
+pub mod StandingLaws
 pub mod Taken
 pub mod Waking

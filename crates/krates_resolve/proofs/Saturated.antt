@@ -205,6 +205,7 @@ pub sound_start : (r : Resolved) (s : SettingModel) (x : Found) → x.krates.siz
 sound_start r s x krates features links new none = record {
   krates_size = krates;
   features_size = features;
+  own = λ n c. absurd (no_element n (subst (λ (ns : List ℕ). Contains ns n) none.features c));
   has_links = links;
   derivable = λ f h. absurd (nothing_found r x none f h);
   placed = subst (All (IsPlaced r s)) (sym none.edges) (λ k d lt. absurd (omega (arith, lt)));

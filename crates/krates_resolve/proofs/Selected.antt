@@ -17,6 +17,7 @@ use Rattle.krates_resolve.specs.Found.{HasFound, IsEnabled}
 use Rattle.krates_rules.specs.Questions.{edge_between, kind_info_of, questions}
 use Rattle.krates_rules.specs.Resolved.{Resolved, id_of, HasNode, HasDep}
 use Rattle.krates_resolve.specs.Selection.{edge_view, crate_fact, edge_fact, feature_fact, toggled_fact, facts_of, IsPlaced, IsSelection}
+use Rattle.krates_resolve.specs.Work.{CountsEach}
 use Rattle.krates_resolve.specs.SelectionOrder.{same_place, place_cmp, same_text, same_feature, feature_cmp, same_toggled, toggled_cmp}
 use Rattle.krates_resolve.specs.declared.found.Found.{Found}
 use Rattle.krates_resolve.specs.declared.selection.EnabledFeature.{EnabledFeature}
@@ -79,7 +80,7 @@ place_of_kid ids places kids kid same c =
 abbrev pub EqualityTellsSame : Type 0
 EqualityTellsSame = (a b : Identity) → (same_id a b ≡ true) ↔ IsSameId a b
 
-both : (p q : Bool) → (p && q) ≡ true → (p ≡ true) × (q ≡ true)
+pub both : (p q : Bool) → (p && q) ≡ true → (p ≡ true) × (q ≡ true)
 both true q h = (refl, h)
 both false q h = absurd cc
 
@@ -102,7 +103,7 @@ one_edge tells r s a b none x y same =
 
 -- ---- features that compare as equal are one
 
-same_name : (a b : String Global) → same_text a b ≡ true → text_view a ≡ text_view b
+pub same_name : (a b : String Global) → same_text a b ≡ true → text_view a ≡ text_view b
 same_name a b same = equal_texts (text_view a) (text_view b) (sym same)
 
 one_feature : EqualityTellsSame → (a b : EnabledFeature) → same_feature a b ≡ true → feature_fact b ≡ feature_fact a
@@ -178,8 +179,8 @@ pub record IsInOrder (found : Found) (kids : List Identity) (enabled : List Enab
   pub toggled_rise : IsStrictlySortedBy toggled_cmp x.toggled.items
 
 pub selected : ReadsOnce → EqualityTellsSame → (r : Resolved) (s : SettingModel) (ids : List Identity) (found : Found) (kids : List Identity) (enabled : List EnabledFeature) (x : Selection)
-    → IsWhole r s ids found kids enabled → IsInOrder found kids enabled x → IsSelection r s x
-selected once tells r s ids found kids enabled x whole order = record {
+    → IsWhole r s ids found kids enabled → IsInOrder found kids enabled x → CountsEach r (length x.krates.items) x.features.items x.work → IsSelection r s x
+selected once tells r s ids found kids enabled x whole order counts = record {
   facts = λ f. (forth f, back f);
   some = root;
   krates = order.krates_rise;
@@ -187,6 +188,7 @@ selected once tells r s ids found kids enabled x whole order = record {
   placed = λ k d lt. here (get_or x.edges.items k d) (contains_or x.edges.items k d lt);
   features = order.features_rise;
   toggled = order.toggled_rise;
+  work = counts;
 }
   where
     -- the crate at the first place

@@ -60,6 +60,7 @@ pub sound_taken : (r : Resolved) (s : SettingModel) (x : Found) (n m : ℕ) → 
 sound_taken r s x n m h = record {
   krates_size = h.krates_size;
   features_size = h.features_size;
+  own = h.own;
   has_links = h.has_links;
   derivable = h.derivable;
   placed = h.placed;

@@ -3,6 +3,7 @@ use Rattle.krates_cm.specs.Document.{DependencyModel, NodeDepModel, Text, dep_ki
 use Rattle.krates_cm.specs.declared.dependency.Dependency.{Dependency}
 use Rattle.krates_ids.specs.Identity.{Identity}
 use Rattle.krates_ids.specs.declared.error.Error.{Error}
+use Rattle.krates_resolve.specs.Counting.{AreCounted, NumberHasReferences}
 use Rattle.krates_resolve.specs.Found.{Advances, AreTried, HasFound, HasRoots, HasUsed, IsAsked, IsEnabledBySome, IsExpanded, IsFollowed, IsHeeded, IsRooted, IsSound, IsToggledIn, IsToggledStrongly, IsTried, IsValueOfEnabled, IsWaiting, MayName, MayToggle, MayTry, MayUse}
 use Rattle.krates_resolve.specs.Heeding.{HasEnabledReference, IsAskedAt, MayAsk, MayAskAt}
 use Rattle.krates_resolve.specs.Lookup.{resolved_view}
@@ -16,6 +17,7 @@ use Rattle.krates_resolve.specs.declared.found.Found.{Found}
 use Rattle.krates_resolve.specs.declared.node_entry.EntryEdge.{EntryEdge}
 use Rattle.krates_resolve.specs.declared.node_entry.NodeEntry.{NodeEntry}
 use Rattle.krates_resolve.specs.declared.node_entry.NodeParts.{NodeParts}
+use Rattle.krates_resolve.specs.declared.work.Work.{Work}
 use Rattle.krates_rules.specs.DeclaredDependency.{IsDeclared}
 use Rattle.krates_rules.specs.Derivation.{Derivable}
 use Rattle.krates_rules.specs.Facts.{Edge, Fact, Feature, Id}
@@ -221,6 +223,14 @@ HasExpandedTaken b x taken = (krate : Id) → IsNodeAt b krate taken → HasExpa
 
 abbrev pub HasHeededTaken : Basis → Found → ℕ → Type 0
 HasHeededTaken b x taken = (krate : Id) (f : Text) → IsFeatureAt b krate f taken → HasHeeded b x krate f
+
+-- the feature that was taken has so many references
+abbrev pub TakenHasReferences : Basis → ℕ → ℕ → Type 0
+TakenHasReferences b = NumberHasReferences (document_of b)
+
+-- what was taken is counted
+abbrev pub HasCounted : Basis → Found → Work → Type 0
+HasCounted b = AreCounted (document_of b)
 
 -- whatever reference the text is, it has been followed
 abbrev pub HasFollowedText : Basis → Found → Id → Text → Type 0

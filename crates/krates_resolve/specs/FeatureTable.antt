@@ -1,6 +1,6 @@
 -- The listed features by their numbers, and the numbers by the features.
 use Rattle.std.specs.BTreeMap.{get}
-use Rattle.std.specs.Prelude.{◌≡◌, ◌++◌, String, ℕ, List, Option, Some, MatchOption, map, slice_get}
+use Rattle.std.specs.Prelude.{◌≡◌, ◌≤◌, ◌++◌, String, ℕ, List, Option, Some, MatchOption, map, slice_get}
 use Rattle.krates_cm.specs.Document.{Text, text_view}
 use Rattle.std.specs.declared.alloc.Global.{Global}
 use Rattle.krates_resolve.specs.ListedFeatures.{features_of_node}
@@ -14,9 +14,14 @@ listed_view x = (x.place, x.name.now)
 abbrev pub listed_in : FeatureTable → List (ℕ × Text)
 listed_in t = map listed_view t.listed.items
 
--- a number of the feature, or none where it isn't listed
+-- the feature stands at the number, and at no greater one
+pub record IsLastAt (all : List (ℕ × Text)) (x : ℕ × Text) (n : ℕ) : Type 0 where
+  pub at : slice_get all n ≡ Some x
+  pub last : (m : ℕ) → slice_get all m ≡ Some x → m ≤ n
+
+-- the greatest number of the feature, or none where it isn't listed
 abbrev pub IsNumberOf : List (ℕ × Text) → ℕ × Text → Option ℕ → Type 0
-IsNumberOf all x answer = MatchOption answer ((n : ℕ) → slice_get all n ≡ Some x → ⊥) (λ n. slice_get all n ≡ Some x)
+IsNumberOf all x answer = MatchOption answer ((n : ℕ) → slice_get all n ≡ Some x → ⊥) (IsLastAt all x)
 
 -- the table has a number of each feature that it lists, and of no other
 abbrev pub AreNumbered : FeatureTable → Type 0

@@ -1,10 +1,12 @@
 -- The references that a feature of a crate has.
-use Rattle.std.specs.Prelude.{◌↔◌, List, Contains}
-use Rattle.krates_cm.specs.Document.{Text}
+use Rattle.std.specs.Prelude.{◌≡◌, ◌↔◌, List, [], Contains}
+use Rattle.std.specs.Option.{unwrap_or}
+use Rattle.krates_cm.specs.Document.{Text, PackageModel}
+use Rattle.krates_ids.specs.Correction.{named}
 use Rattle.krates_text.specs.FeatureReference.{Reference, IsReference}
 use Rattle.krates_rules.specs.Facts.{Id}
 use Rattle.krates_rules.specs.Features.{HasReference}
-use Rattle.krates_rules.specs.Resolved.{Resolved}
+use Rattle.krates_rules.specs.Resolved.{Resolved, HasPackage}
 
 -- one of the texts is this reference
 pub record IsAmongValues (values : List Text) (reference : Reference) : Type 0 where
@@ -15,3 +17,7 @@ pub record IsAmongValues (values : List Text) (reference : Reference) : Type 0 w
 -- the references of the feature are those that these texts are
 abbrev pub AreValuesOf : Resolved → Id → Text → List Text → Type 0
 AreValuesOf r i f values = (reference : Reference) → HasReference r i f reference ↔ IsAmongValues values reference
+
+-- these are the values that the crate's package has under the feature's name; none where it lacks that
+abbrev pub AreNamed : Resolved → Id → Text → List Text → Type 0
+AreNamed r i f values = (pkg : PackageModel) → HasPackage r i pkg → unwrap_or (named pkg.features f) [] ≡ values

@@ -1,16 +1,17 @@
 -- What has been found of a selection while it is looked for.
 use Rattle.std.specs.Prelude.{◌≡◌, ◌↔◌, ℕ, ◌<◌, Bool, List, [], ◌∷◌, ◌++◌, ◌⊎◌, All, Some, false, true, Contains, length, map, slice_get, ⊤}
 use Rattle.krates_graph.specs.Agenda.{PutNumbers}
-use Rattle.krates_cm.specs.Document.{Text, DependencyModel, DepKindInfoModel, NodeDepModel}
+use Rattle.std.specs.List.{AllZip}
+use Rattle.krates_cm.specs.Document.{Text, DependencyModel, DepKindInfoModel, NodeDepModel, text_view}
 use Rattle.krates_text.specs.FeatureReference.{Reference, krate, weak, strong, simple, IsReference}
 use Rattle.krates_rules.specs.Derivation.{Derivable}
 use Rattle.krates_rules.specs.Facts.{Id, Edge, LostPackage, LostNode, LostFeature, Undeclared, Fact, Crate, Feature, Kept, Toggled, Lost}
 use Rattle.krates_rules.specs.Features.{ListsFeature, LacksFeature, HasReference}
-use Rattle.krates_rules.specs.Resolved.{DepAt, NodeAt, Resolved, NoPackage}
+use Rattle.krates_rules.specs.Resolved.{DepAt, NodeAt, Resolved, NoPackage, id_of}
 use Rattle.krates_resolve.specs.Links.{HasLinks, IsMarked, Waits, WasAsked}
 use Rattle.krates_rules.specs.Questions.{edge_between, Stands, LacksNode, IsWanted, IsLoose, questions}
 use Rattle.krates_resolve.specs.ListedFeatures.{listed_features}
-use Rattle.krates_resolve.specs.Numbering.{FeatureAt}
+use Rattle.krates_resolve.specs.Numbering.{FeatureAt, IsOwn}
 use Rattle.krates_rules.specs.Referent.{IsReferent}
 use Rattle.krates_rules.specs.Roots.{IsRoot}
 use Rattle.krates_rules.specs.Rules.{default_name}
@@ -177,6 +178,8 @@ pub record IsSound (r : Resolved) (s : SettingModel) (x : Found) : Type 0 where
   -- there is room for each node, each feature and each dependency
   pub krates_size : x.krates.size ≡ length r.graph.nodes
   pub features_size : x.features.size ≡ length (listed_features r)
+  -- a feature goes by one number
+  pub own : (number : ℕ) → Contains x.features.put number → IsOwn r number
   pub has_links : HasLinks r x.links
   pub derivable : (f : Fact) → HasFound r x f → Derivable (questions r s) f
   pub placed : All (IsPlaced r s) x.edges.items
@@ -235,6 +238,10 @@ AreExpanded r s x n = (k place : ℕ) (i : Id) → k < n → slice_get x.krates.
 -- and the features of the first numbers
 abbrev pub AreHeeded : Resolved → SettingModel → Found → ℕ → Type 0
 AreHeeded r s x n = (k number : ℕ) (i : Id) (f : Text) → k < n → slice_get x.features.put k ≡ Some number → FeatureAt r i f number → IsHeeded r s x i f
+
+-- each feature has the number at its place
+abbrev pub HaveNumbers : Resolved → List ℕ → List EnabledFeature → Type 0
+HaveNumbers r numbers list = AllZip (λ number x. FeatureAt r (id_of x.krate) (text_view x.name) number) numbers list
 
 -- these are the features of the numbers
 abbrev pub HasEach : Resolved → List ℕ → List EnabledFeature → Type 0

@@ -1,4 +1,5 @@
 pub mod Basis
+pub mod Counting
 pub mod CrateTable
 pub mod DocumentModel
 pub mod FeatureOrder
@@ -21,3 +22,4 @@ pub mod Saturation
 pub mod Selection
 pub mod SelectionOrder
 pub mod Standing
+pub mod Work

@@ -1,19 +1,22 @@
 -- What a selection says, and when it is that of a document and a setting.
-use Rattle.std.specs.Prelude.{◌≡◌, ◌↔◌, ◌++◌, List, All, Contains, map, option_map}
+use Rattle.std.specs.Prelude.{◌≡◌, ◌↔◌, ◌++◌, List, All, Contains, length, map, option_map}
 use Rattle.std.specs.List.Sorted.{IsStrictlySortedBy}
-use Rattle.krates_cm.specs.Document.{DependencyModel, text_view}
+use Rattle.krates_cm.specs.Document.{DependencyModel, MetadataModel, text_view}
 use Rattle.krates_ids.specs.Identity.{Identity, id_cmp}
+use Rattle.krates_ids.specs.declared.error.Error.{Error}
 use Rattle.krates_rules.specs.DeclaredDependency.{FirstAt}
 use Rattle.krates_rules.specs.Derivation.{Derivable}
 use Rattle.krates_rules.specs.Facts.{Id, Edge, Fact, Crate, Kept, Feature, Toggled}
 use Rattle.krates_rules.specs.Questions.{IsDeclaredAt, kind_info_of, questions}
-use Rattle.krates_rules.specs.Resolved.{Resolved, id_of}
+use Rattle.krates_rules.specs.Resolved.{HasGraphWith, Resolved, id_of, resolved}
 use Rattle.krates_resolve.specs.SelectionOrder.{place_cmp, feature_cmp, toggled_cmp}
 use Rattle.krates_resolve.specs.declared.selection.EnabledFeature.{EnabledFeature}
 use Rattle.krates_resolve.specs.declared.selection.KeptEdge.{KeptEdge}
 use Rattle.krates_resolve.specs.declared.selection.Selection.{Selection}
 use Rattle.krates_resolve.specs.declared.selection.ToggledFeature.{ToggledFeature}
+use Rattle.krates_rules.specs.SelectionRefusals.{SelectionRefusal}
 use Rattle.krates_rules.specs.Setting.{SettingModel}
+use Rattle.krates_resolve.specs.Work.{CountsEach}
 
 -- ---- the facts of a selection
 
@@ -43,7 +46,8 @@ pub record IsPlaced (r : Resolved) (s : SettingModel) (e : KeptEdge) : Type 0 wh
   pub declared : IsDeclaredAt r s (edge_view e) e.declared dependency
   pub place : FirstAt (λ k. k ≡ kind_info_of (edge_view e)) declared.dep.dep_kinds e.place (kind_info_of (edge_view e))
 
--- The selection has exactly the derivable facts, a crate among them, each list in order and without doubles.
+-- The selection has exactly the derivable facts, a crate among them, each list in order and without doubles; and each crate,
+-- each feature and each reference of these is counted once.
 pub record IsSelection (r : Resolved) (s : SettingModel) (x : Selection) : Type 0 where
   pub facts : (f : Fact) → Derivable (questions r s) f ↔ Contains (facts_of x) f
   pub some : (i : Id) × Derivable (questions r s) (Crate i)
@@ -52,3 +56,12 @@ pub record IsSelection (r : Resolved) (s : SettingModel) (x : Selection) : Type 
   pub placed : All (IsPlaced r s) x.edges.items
   pub features : IsStrictlySortedBy feature_cmp x.features.items
   pub toggled : IsStrictlySortedBy toggled_cmp x.toggled.items
+  pub work : CountsEach r (length x.krates.items) x.features.items x.work
+
+-- it is that of the document under the setting
+abbrev pub IsSelectionOf : MetadataModel → SettingModel → Selection → Type 0
+IsSelectionOf m s x = HasGraphWith m (λ g. IsSelection (resolved m g) s x)
+
+-- why nothing is selected of the document under the setting
+abbrev pub RefusesSelection : MetadataModel → SettingModel → Error → Type 0
+RefusesSelection m s e = HasGraphWith m (λ g. SelectionRefusal (questions (resolved m g) s) e)

@@ -2,19 +2,20 @@
 
 ghost use Rattle.std.specs.Prelude.{map};
 ghost use Rattle.krates_cm.specs.Document.{text_view};
-ghost use Rattle.krates_resolve.specs.FeatureValues.{AreValuesOf};
+ghost use Rattle.krates_resolve.specs.FeatureValues.{AreNamed, AreValuesOf};
 ghost use Rattle.krates_resolve.specs.Lookup.{IsLookup, resolved_view};
 ghost use Rattle.krates_rules.specs.Resolved.{id_of};
-ghost use Rattle.krates_resolve.specs.Numbering.{TellsNumber};
+ghost use Rattle.krates_resolve.specs.Numbering.{TellsNumber, TellsOwn};
 
 use crate::feature_table::ListedFeature;
 use crate::lookup::{Lookup, package_of};
 use krates_ids::{Kid, laws};
 
-/// A number of a feature of the node at this place; none where the node doesn't list it.
+/// The number of a feature of the node at this place; none where the node doesn't list it.
 pub(crate) fn feature_number<'a>(lookup: &Lookup<'a>, place: usize, name: &'a str) -> Option<usize>
     requires { IsLookup lookup.now }
-    ensures { TellsNumber (resolved_view lookup.now) place name.now result }
+    ensures number { TellsNumber (resolved_view lookup.now) place name.now result }
+    ensures own { TellsOwn (resolved_view lookup.now) result }
 {
     lookup
         .features
@@ -26,7 +27,10 @@ pub(crate) fn feature_number<'a>(lookup: &Lookup<'a>, place: usize, name: &'a st
 /// What a feature of a crate enables, as the crate's package has it; nothing where it lacks the feature.
 pub(crate) fn feature_values<'a>(lookup: &Lookup<'a>, krate: &'a Kid, name: &str) -> &'a [String]
     requires { IsLookup lookup.now }
-    ensures { AreValuesOf (resolved_view lookup.now) (id_of krate.now) name.now (map text_view result.now) }
+    ensures values { AreValuesOf (resolved_view lookup.now) (id_of krate.now) name.now
+        (map text_view result.now) }
+    ensures named { AreNamed (resolved_view lookup.now) (id_of krate.now) name.now
+        (map text_view result.now) }
 {
     laws::one_reading();
     let Some(pkg) = package_of(lookup, krate) else {

@@ -1,8 +1,8 @@
 //! What the references of an enabled feature give.
 
 ghost use Rattle.krates_resolve.specs.NodeEntry.{krate_of};
-ghost use Rattle.krates_resolve.specs.Basis.{Has, HasAsked, HasAskedDep, HasFollowedText, HasHeededTaken, HasParts, HasToggledAt, HasToggledKept, IsRight, LetsWait, MayAskFor, MayAskForDep, MayFollow, MayFollowText, MayToggleAt, Moves, Refuses};
-ghost use Rattle.std.specs.Prelude.{◌≡◌, ◌<◌, Contains, IfErr, OnOk, length};
+ghost use Rattle.krates_resolve.specs.Basis.{Has, HasAsked, HasAskedDep, HasFollowedText, HasHeededTaken, HasParts, HasToggledAt, HasToggledKept, IsRight, LetsWait, MayAskFor, MayAskForDep, MayFollow, MayFollowText, MayToggleAt, Moves, Refuses, TakenHasReferences};
+ghost use Rattle.std.specs.Prelude.{◌≡◌, ◌<◌, Contains, IfErr, IfOk, OnOk, length};
 ghost use Rattle.krates_text.specs.FeatureReference.{krate, strong, weak};
 ghost use Rattle.krates_rules.specs.Facts.{Crate, Feature};
 ghost use Rattle.krates_resolve.specs.Links.{IsMarked};
@@ -22,27 +22,29 @@ use krates_text::features::{Feature, ParsedFeature};
 
 /// Follows each reference of an enabled feature.
 ///
-/// It is handed the feature as it was taken, so that each is heeded once.
+/// It is handed the feature as it was taken, so that each is heeded once, and answers how many references it has.
 pub(crate) fn heed<'a>(
     basis: &Basis<'a, '_>,
     taken: Taken,
     found: &mut Found<'a>,
-) -> Result<(), Error>
+) -> Result<usize, Error>
     requires lookup { IsLookup basis.now.lookup.now }
     requires sound { IsRight basis.now found.old }
     requires put { Contains found.old.features.put taken }
     requires within { taken < found.old.features.size }
     ensures advanced { OnOk result (Moves basis.now found.old found.new) }
     ensures heeded { OnOk result (HasHeededTaken basis.now found.new taken) }
+    ensures counted { IfOk result (TakenHasReferences basis.now taken) }
     ensures refused { IfErr result (Refuses basis.now) }
 {
     laws::one_reading();
     let feature = basis.lookup.features.listed[taken.number()];
     let parts = parts_of(basis.lookup, feature.place);
-    for text in feature_values(basis.lookup, parts.parent, feature.name) {
+    let values = feature_values(basis.lookup, parts.parent, feature.name);
+    for text in values {
         follow(basis, &parts, text.as_str(), found)?;
     }
-    Ok(())
+    Ok(values.len())
 }
 
 /// Follows a reference of an enabled feature of a kept crate.

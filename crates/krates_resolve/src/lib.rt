@@ -22,6 +22,7 @@ mod saturation;
 pub mod selection;
 mod sorted;
 mod standing;
+pub mod work;
 
 pub use crate_questions::Presence;
 pub use dependency_questions::Need;
@@ -30,3 +31,4 @@ pub use krates_rules::{DepKind, Scope, laws};
 pub use questions::Document;
 pub use resolution::select;
 pub use selection::{EnabledFeature, KeptEdge, Selection, ToggledFeature};
+pub use work::Work;

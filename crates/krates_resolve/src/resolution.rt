@@ -4,20 +4,18 @@ ghost use Rattle.std.proofs.Common.{rules};
 ghost use Rattle.std.specs.Prelude.{◌≡◌, ◌<◌, All, IfOk, IfErr, Some, length, map, slice_get};
 ghost use Rattle.krates_cm.specs.Document.{metadata_view};
 ghost use Rattle.krates_rules.specs.Admission.{IsAdmitted};
-ghost use Rattle.krates_resolve.specs.Found.{HasEach};
+ghost use Rattle.krates_resolve.specs.Found.{HasEach, HaveNumbers};
 ghost use Rattle.krates_document.specs.Ids.{ids_view};
 ghost use Rattle.krates_resolve.specs.ListedFeatures.{listed_features};
 ghost use Rattle.krates_resolve.specs.Lookup.{IsLookup, resolved_view};
-ghost use Rattle.krates_rules.specs.Questions.{questions};
-ghost use Rattle.krates_rules.specs.Resolved.{HasGraphWith, resolved};
-ghost use Rattle.krates_resolve.specs.Selection.{IsSelection};
-ghost use Rattle.krates_rules.specs.SelectionRefusals.{SelectionRefusal};
+ghost use Rattle.krates_resolve.specs.Selection.{IsSelectionOf, RefusesSelection};
 
 use crate::found::Found;
 use crate::lookup::{Lookup, lookup_of};
 use crate::saturation::saturate;
 use crate::selection::{EnabledFeature, Selection};
 use crate::sorted::in_order;
+use crate::work::Work;
 use krates_cm::Metadata;
 use krates_document::ids::Ids;
 use krates_document::setting::Setting;
@@ -35,8 +33,8 @@ pub fn select(
     setting: &Setting,
 ) -> Result<Selection, Error>
     requires { IsAdmitted (metadata_view metadata.now) (ids_view ids.now) }
-    ensures selected { IfOk result (λ selection. HasGraphWith (metadata_view metadata.now) (λ g. IsSelection (resolved (metadata_view metadata.now) g) setting.now selection)) }
-    ensures refused { IfErr result (λ error. HasGraphWith (metadata_view metadata.now) (λ g. SelectionRefusal (questions (resolved (metadata_view metadata.now) g) setting.now) error)) }
+    ensures selected { IfOk result (IsSelectionOf (metadata_view metadata.now) setting.now) }
+    ensures refused { IfErr result (RefusesSelection (metadata_view metadata.now) setting.now) }
 {
     laws::one_reading();
     laws::comparison();
@@ -44,7 +42,8 @@ pub fn select(
         unreachable!()
     };
     let lookup = lookup_of(alloc, metadata, resolve, ids)?;
-    let found = saturate(alloc, &lookup, setting)?;
+    let mut work = Work::new();
+    let found = saturate(alloc, &lookup, setting, &mut work)?;
     if found.krates.numbers().is_empty() {
         return Err(Error::NoRootKrates);
     }
@@ -56,6 +55,7 @@ pub fn select(
         edges: in_order(edges)?,
         features,
         toggled: in_order(toggled)?,
+        work,
     })
 }
 
@@ -67,7 +67,8 @@ fn features_at<'a>(
 ) -> Result<Vec<EnabledFeature>, AllocError>
     requires lookup { IsLookup lookup.now }
     requires within { All (λ n. n < length (listed_features (resolved_view lookup.now))) numbers.now }
-    ensures { IfOk result (λ list. HasEach (resolved_view lookup.now) numbers.now list.items) }
+    ensures each { IfOk result (λ list. HasEach (resolved_view lookup.now) numbers.now list.items) }
+    ensures numbers { IfOk result (λ list. HaveNumbers (resolved_view lookup.now) numbers.now list.items) }
 {
     laws::one_reading();
     let mut list = Vec::new(alloc);

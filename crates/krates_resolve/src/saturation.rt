@@ -1,7 +1,8 @@
 //! All that is kept of a document.
 
-ghost use Rattle.krates_resolve.specs.Basis.{HasDone, Refuses, TakesOne};
-ghost use Rattle.std.specs.Prelude.{IfErr, IfOk};
+ghost use Rattle.krates_resolve.specs.Basis.{HasCounted, HasDone, Refuses, TakesOne};
+ghost use Rattle.std.specs.Prelude.{IfErr, IfOk, OnOk};
+ghost use Rattle.krates_resolve.specs.Counting.{HasCountedAll, IsFresh};
 ghost use Rattle.krates_resolve.specs.Found.{IsSound};
 ghost use Rattle.krates_resolve.specs.Saturation.{HasExactly};
 ghost use Rattle.krates_resolve.specs.Lookup.{IsLookup, resolved_view};
@@ -15,12 +16,13 @@ use crate::heeding::heed;
 use crate::links::links_of;
 use crate::lookup::Lookup;
 use crate::roots::put_roots;
+use crate::work::Work;
 use krates_document::setting::Setting;
 use krates_graph::agenda::Agenda;
 use krates_ids::Error;
 use std::alloc::Global;
 
-/// All that is kept of a document: exactly what has a derivation from the roots by the rules.
+/// All that is kept of a document: exactly what has a derivation from the roots by the rules. The work is counted.
 ///
 /// The roots and their features are put into the agendas. Each crate that is taken is expanded once, and each feature is heeded
 /// once, which keeps edges and puts crates and features, until none is left. Crates are numbered by the places of their nodes,
@@ -29,10 +31,13 @@ pub(crate) fn saturate<'a>(
     alloc: Global,
     lookup: &Lookup<'a>,
     setting: &Setting,
+    work: &mut Work,
 ) -> Result<Found<'a>, Error>
-    requires { IsLookup lookup.now }
+    requires lookup { IsLookup lookup.now }
+    requires fresh { IsFresh work.old }
     ensures exact { IfOk result (HasExactly (resolved_view lookup.now) setting.now) }
     ensures sound { IfOk result (λ found. IsSound (resolved_view lookup.now) setting.now found) }
+    ensures counted { IfOk result (λ found. HasCountedAll (resolved_view lookup.now) found work.new) }
     ensures refused { IfErr result (SelectionRefusal (questions (resolved_view lookup.now) setting.now)) }
 {
     let mut found = Found {
@@ -48,24 +53,32 @@ pub(crate) fn saturate<'a>(
         setting,
     };
     put_roots(&basis, &mut found)?;
-    while take_next(&basis, &mut found)? {}
+    while take_next(&basis, &mut found, work)? {}
     Ok(found)
 }
 
-/// Takes the next crate and expands it, or else the next feature and heeds it; whether there was one.
-fn take_next<'a>(basis: &Basis<'a, '_>, found: &mut Found<'a>) -> Result<bool, Error>
+/// Takes the next crate and expands it, or else the next feature and heeds it, and counts that; whether there was one.
+fn take_next<'a>(
+    basis: &Basis<'a, '_>,
+    found: &mut Found<'a>,
+    work: &mut Work,
+) -> Result<bool, Error>
     requires lookup { IsLookup basis.now.lookup.now }
     requires done { HasDone basis.now found.old }
+    requires counted { HasCounted basis.now found.old work.old }
     ensures taken { IfOk result (λ more. TakesOne basis.now found.old found.new more) }
+    ensures counted { OnOk result (HasCounted basis.now found.new work.new) }
     ensures refused { IfErr result (Refuses basis.now) }
 {
     if let Some(taken) = found.krates.take() {
         expand(basis, taken, found)?;
+        work.count_krate();
         return Ok(true);
     }
     let Some(taken) = found.features.take() else {
         return Ok(false);
     };
-    heed(basis, taken, found)?;
+    let references = heed(basis, taken, found)?;
+    work.count_feature(references);
     Ok(true)
 }

@@ -1,5 +1,6 @@
 //! The selection of a document under a setting.
 
+use crate::work::Work;
 use krates_cm::DependencyKind;
 use krates_ids::Kid;
 
@@ -14,6 +15,8 @@ pub struct Selection {
     pub features: Vec<EnabledFeature>,
     /// The features that another crate's features enable, by that crate, the crate and the name.
     pub toggled: Vec<ToggledFeature>,
+    /// How much work it was.
+    pub work: Work,
 }
 
 /// A kept edge: one dependency of a kept crate, for one purpose and one target.

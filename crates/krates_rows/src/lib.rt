@@ -26,3 +26,5 @@ mod selection;
 mod setters;
 #[cfg(test)]
 mod settings;
+#[cfg(test)]
+mod work;

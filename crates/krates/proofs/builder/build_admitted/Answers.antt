@@ -36,5 +36,6 @@ returns-clause-built g c =
       packages = b.packages;
       enabled = enabled c.args.metadata c.args.setting.now c.in_ok-selection.selection c.in_ok-division.division sets c.in_ok-selection.ensures.selected b so;
       root = refl;
+      work = (c.in_ok-selection.selection, c.in_ok-selection.ensures.selected, refl);
       reported = record { ids = krate_ids c.in_ok-division.division.others.items; others = krate_packages c.in_ok-division.division.others.items; not_kept = b.others; run = c.report.ensures.run };
     })

@@ -1,14 +1,16 @@
-use Rattle.std.proofs.Common.{ℕ, String, Global, map, refl, sym, subst, arith, string_bytes}
+use Rattle.std.proofs.Common.{ℕ, String, Global, length, map, refl, sym, subst, arith, string_bytes}
+use Rattle.std.proofs.lemmas.List.{length-map}
 use Rattle.krates_cm.specs.Document.{Text, text_view}
 use Rattle.krates_text.specs.FeatureReference.{Reference, IsReference}
 use Rattle.krates_rules.specs.Facts.{Id, Crate, Feature}
 use Rattle.krates_resolve.specs.Found.{IsFollowed, IsHeeded, IsValueOfEnabled}
 use Rattle.krates_resolve.specs.Lookup.{resolved_view}
 use Rattle.krates_resolve.specs.Numbering.{FeatureAt}
+use Rattle.krates_resolve.specs.Work.{HasReferences}
 use Rattle.krates_rules.specs.Resolved.{id_of}
 use Rattle.krates_resolve.proofs.Growing.{advances_refl, advances_trans, followed_grows}
 use Rattle.krates_resolve.proofs.FeatureNumbers.{listed_place}
-use Rattle.krates_resolve.proofs.Heedings.{listed_here, listed_found, one_feature, value_at, value_of_enabled, heeded_here}
+use Rattle.krates_resolve.proofs.Heedings.{listed_here, listed_found, one_feature, value_at, value_of_enabled, heeded_here, references_here}
 use Rattle.krates_document.proofs.Seen.{seen_more, each_seen}
 use Rattle.krates_resolve.proofs.heeding.heed.Goals as goal
 
@@ -46,10 +48,10 @@ follow-requires-clause-value c =
     let i = id_of c.parts_of-parts.result.parent.now in
     let at = listed_here c.args.basis.now.lookup.now s x c.args.taken c.number.result feature c.requires.lookup c.requires.sound c.requires.within c.number.ensures c.index-feature.ensures in
     let enabled = listed_found r x c.args.taken c.number.result i feature.place f c.requires.put c.number.ensures at c.parts_of-parts.ensures.at in
-    let texts = c.feature_values-text-items.result.now in
+    let texts = c.feature_values-values.result.now in
     let among = value_at texts c.loop-text.text-index c.text-item.result c.loop-text-test.true c.text-item.is in
     subst (λ (t : Text). IsValueOfEnabled r s i t) (sym c.as_str.ensures.value)
-    (value_of_enabled r s i f (map text_view texts) (string_bytes c.text-item.result) (c.requires.sound.derivable (Feature i f) enabled) c.feature_values-text-items.ensures among)
+    (value_of_enabled r s i f (map text_view texts) (string_bytes c.text-item.result) (c.requires.sound.derivable (Feature i f) enabled) c.feature_values-values.ensures.values among)
 
 pub loop-text-preserved : goal.loop-text-preserved
 loop-text-preserved c =
@@ -62,7 +64,7 @@ loop-text-preserved c =
     let step = c.in_ok-follow.ensures in
     let followed = subst (λ (t : Text). (reference : Reference) → IsReference t reference → IsFollowed r s y i reference) c.as_str.ensures.value step.followed in (
       advances_trans r s c.args.found.now x y inv.0 step.advanced,
-      seen_more (λ (text : String Global). (reference : Reference) → IsReference (string_bytes text) reference → IsFollowed r s y i reference) c.feature_values-text-items.result.now c.loop-text.text-index c.text-item.result c.loop-text-test.true
+      seen_more (λ (text : String Global). (reference : Reference) → IsReference (string_bytes text) reference → IsFollowed r s y i reference) c.feature_values-values.result.now c.loop-text.text-index c.text-item.result c.loop-text-test.true
           c.text-item.is (λ k d lt reference is. followed_grows r s x y i reference step.advanced.grows (inv.1 k d lt reference is)) followed,
     )
 
@@ -79,7 +81,23 @@ returns-clause-heeded c krate f there =
     let i = id_of c.parts_of-parts.result.parent.now in
     let at = listed_here c.args.basis.now.lookup.now s c.args.found.now c.args.taken number feature c.requires.lookup c.requires.sound c.requires.within c.number.ensures c.index-feature.ensures in
     let same = one_feature c.one_reading.ensures.once r i krate feature.place number feature.name.now f c.parts_of-parts.ensures.at at (subst (λ (n : ℕ). FeatureAt r krate f n) (sym c.number.ensures) there) in
-    let texts = c.feature_values-text-items.result.now in
+    let texts = c.feature_values-values.result.now in
     let each = each_seen text_view (λ (t : Text). (reference : Reference) → IsReference t reference → IsFollowed r s x i reference) texts texts c.loop-text.text-index refl (omega arith) c.loop-text.invariant.1 in
-    let heeded : IsHeeded r s x i feature.name.now = heeded_here r s x i feature.name.now (map text_view texts) c.feature_values-text-items.ensures each in
+    let heeded : IsHeeded r s x i feature.name.now = heeded_here r s x i feature.name.now (map text_view texts) c.feature_values-values.ensures.values each in
     subst (λ (j : Id). IsHeeded r s x j f) same.0 (subst (λ (g : Text). IsHeeded r s x i g) same.1 heeded)
+
+pub returns-clause-counted : goal.returns-clause-counted
+returns-clause-counted c krate f there =
+    let r = resolved_view c.args.basis.now.lookup.now in
+    let s = c.args.basis.now.setting.now in
+    let x = c.args.found.now in
+    let number = c.number.result in
+    let feature = c.index-feature.result.now in
+    let i = id_of c.parts_of-parts.result.parent.now in
+    let at = listed_here c.args.basis.now.lookup.now s x c.args.taken number feature c.requires.lookup c.requires.sound c.requires.within c.number.ensures c.index-feature.ensures in
+    let enabled = listed_found r x c.args.taken number i feature.place feature.name.now c.requires.put c.number.ensures at c.parts_of-parts.ensures.at in
+    let same = one_feature c.one_reading.ensures.once r i krate feature.place number feature.name.now f c.parts_of-parts.ensures.at at (subst (λ (k : ℕ). FeatureAt r krate f k) (sym c.number.ensures) there) in
+    let texts = c.feature_values-values.result.now in
+    let n = length texts in
+    let here = references_here r s i feature.name.now (map text_view texts) n (c.requires.sound.derivable (Feature i feature.name.now) enabled) c.feature_values-values.ensures.named (sym (length-map texts text_view)) in
+    subst (λ (j : Id). HasReferences r j f n) same.0 (subst (λ (g : Text). HasReferences r i g n) same.1 here)

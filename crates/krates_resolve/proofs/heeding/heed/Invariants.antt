@@ -10,4 +10,4 @@ use Rattle.krates_resolve.proofs.heeding.heed.Given as goal
 abbrev pub invariant-loop-text : goal.invariant-loop-text
 invariant-loop-text l =
     Advances (resolved_view l.basis.lookup.now) l.basis.setting.now l.fn.found l.found
-    × SeenBelow (λ (text : String Global). (reference : Reference) → IsReference (string_bytes text) reference → IsFollowed (resolved_view l.basis.lookup.now) l.basis.setting.now l.found (id_of l.parts.parent.now) reference) l.text-items l.text-index
+    × SeenBelow (λ (text : String Global). (reference : Reference) → IsReference (string_bytes text) reference → IsFollowed (resolved_view l.basis.lookup.now) l.basis.setting.now l.found (id_of l.parts.parent.now) reference) l.values l.text-index

@@ -4,7 +4,7 @@ use Rattle.std.specs.List.{slice_get}
 use Rattle.krates_cm.specs.Document.{text_view}
 use Rattle.krates_resolve.specs.Lookup.{resolved_view}
 use Rattle.krates_resolve.specs.declared.selection.EnabledFeature.{EnabledFeature}
-use Rattle.krates_resolve.proofs.FeaturesAt.{HasNumber, HaveNumbers, itself, enabled_told, listed_long, place_within, numbered_here}
+use Rattle.krates_resolve.proofs.FeaturesAt.{HasNumber, HaveImages, as_they_are, itself, enabled_told, listed_long, place_within, numbered_here}
 use Rattle.krates_resolve.proofs.NodeParts.{nodes_long, within_vec}
 use Rattle.krates_document.proofs.Zips.{zip_read, zip_all}
 use Rattle.krates_resolve.proofs.resolution.features_at.Goals as goal
@@ -35,10 +35,16 @@ loop-number-preserved c =
     let name : text_view y.name ≡ x.name.now = search rules in
     let here : HasNumber r number y = numbered_here d number x c.index.result.now y c.requires.lookup below c.index-feature.ensures at c.in_ok-clone.ensures.cases name in
     let pushed : c.push.new.self.items ≡ old ++ y ∷ [] = search rules in
-    subst (HaveNumbers r (take (i + 1) numbers)) (sym pushed) (zip_read (HasNumber r) itself numbers i 0 old y c.loop-number-test.true here c.loop-number.invariant)
+    subst (HaveImages r (take (i + 1) numbers)) (sym pushed) (zip_read (HasNumber r) itself numbers i 0 old y c.loop-number-test.true here c.loop-number.invariant)
 
-pub returns : goal.returns
-returns c =
+pub returns-clause-each : goal.returns-clause-each
+returns-clause-each c =
     let r = resolved_view c.args.lookup.now in
     let numbers = c.args.numbers.now in
     enabled_told c.one_reading.ensures.once r numbers c.loop-number.list.items (zip_all (HasNumber r) itself numbers c.loop-number.number-index c.loop-number.list.items (omega arith) c.loop-number.invariant)
+
+pub returns-clause-numbers : goal.returns-clause-numbers
+returns-clause-numbers c =
+    let r = resolved_view c.args.lookup.now in
+    let numbers = c.args.numbers.now in
+    as_they_are r numbers c.loop-number.list.items (zip_all (HasNumber r) itself numbers c.loop-number.number-index c.loop-number.list.items (omega arith) c.loop-number.invariant)

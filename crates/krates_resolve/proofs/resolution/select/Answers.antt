@@ -6,13 +6,14 @@ use Rattle.krates_cm.specs.declared.resolve.Resolve.{Resolve}
 use Rattle.krates_ids.specs.Identity.{Identity}
 use Rattle.krates_rules.specs.Admission.{NoneDoubled}
 use Rattle.krates_rules.specs.Facts.{Id, Feature}
-use Rattle.krates_resolve.specs.Found.{IsEnabled}
+use Rattle.krates_resolve.specs.Found.{HaveNumbers, IsEnabled}
 use Rattle.krates_resolve.specs.ListedFeatures.{listed_features}
 use Rattle.krates_resolve.specs.Lookup.{resolved_view}
 use Rattle.krates_rules.specs.Resolved.{Resolved, resolved}
 use Rattle.krates_resolve.specs.Selection.{IsSelection, feature_fact}
 use Rattle.krates_document.specs.declared.ids.Ids.{Ids}
 use Rattle.krates_resolve.specs.declared.selection.Selection.{Selection}
+use Rattle.krates_resolve.proofs.CountedSelection.{AreMoved, IsCountedWhole, counts_each}
 use Rattle.krates_resolve.proofs.NodeParts.{nodes_long}
 use Rattle.krates_resolve.proofs.Selected.{AreAt, IsWhole, IsInOrder, has_element, selected}
 use Rattle.krates_resolve.proofs.resolution.select.Goals as goal
@@ -51,10 +52,10 @@ returns-clause-selected c =
     let ids = look.ids.now.nodes.items in
     let kids = c.in_ok-kids_at.field-0.items in
     let enabled = c.in_ok-features_at.field-0.items in
-    let x : Selection = record { krates = c.in_ok-krates.krates; edges = c.in_ok-in_order.field-0; features = c.in_ok-features.features; toggled = c.in_ok-in_order-2.field-0 } in
+    let x : Selection = record { krates = c.in_ok-krates.krates; edges = c.in_ok-in_order.field-0; features = c.in_ok-features.features; toggled = c.in_ok-in_order-2.field-0; work = c.saturate.new.work } in
     let nodes : c.deref.result.now ≡ ids = c.deref.ensures.value ∙ ap (λ (i : Ids). i.nodes.items) (sym of.2) in
     let at_nodes = subst (λ (is : List Identity). AreAt is c.numbers-2.result.now kids) nodes c.in_ok-kids_at.ensures in
-    let features_there = subst (λ (ns : List ℕ). (i : Id) (f : Text) → IsEnabled r ns i f ↔ Contains (map feature_fact enabled) (Feature i f)) c.numbers-3.ensures.put c.in_ok-features_at.ensures in
+    let features_there = subst (λ (ns : List ℕ). (i : Id) (f : Text) → IsEnabled r ns i f ↔ Contains (map feature_fact enabled) (Feature i f)) c.numbers-3.ensures.put c.in_ok-features_at.ensures.each in
     let whole : IsWhole r s ids found kids enabled = record {
       none_doubled = h.distinct;
       reads = h.ids.nodes;
@@ -74,6 +75,19 @@ returns-clause-selected c =
       toggled = record { from = c.in_ok-in_order-2.ensures.from; kept = c.in_ok-in_order-2.ensures.kept };
       toggled_rise = c.in_ok-in_order-2.ensures.ascending;
     } in
-    let here = selected c.one_reading.ensures.once c.comparison.ensures.equality r s ids found kids enabled x whole order in
+    let numbered = subst (λ (ns : List ℕ). HaveNumbers r ns enabled) c.numbers-3.ensures.put c.in_ok-features_at.ensures.numbers in
+    let counted : IsCountedWhole r ids found kids enabled x.work = record {
+      none_doubled = h.distinct;
+      reads = h.ids.nodes;
+      krates = whole.krates;
+      krates_once = c.numbers-2.ensures.orderly.distinct;
+      features = numbered;
+      features_once = c.numbers-3.ensures.orderly.distinct;
+      own = c.in_ok-found.ensures.sound.own;
+      counted = c.in_ok-found.ensures.counted;
+    } in
+    let moved : AreMoved kids x.krates.items enabled x.features.items = record { krates_moved = c.in_ok-krates.ensures.whole; features_moved = c.in_ok-features.ensures.whole } in
+    let counts = counts_each c.comparison.ensures.equality r ids found kids x.krates.items enabled x.features.items x.work counted moved in
+    let here = selected c.one_reading.ensures.once c.comparison.ensures.equality r s ids found kids enabled x whole order counts in
     let same : r ≡ resolved m g = ap (λ (d : Metadata). resolved (metadata_view d) (resolve_view look.resolve.now)) of.0 ∙ ap (λ (d : Resolve). resolved m (resolve_view d)) of.1 in
     record { graph = g; has_graph = ap (option_map resolve_view) c.in-Some.is; holds = subst (λ (r : Resolved). IsSelection r s x) same here }

@@ -4,6 +4,8 @@ use Rattle.krates_resolve.specs.Lookup.{resolved_view}
 use Rattle.krates_resolve.specs.Saturation.{AreDone}
 use Rattle.krates_resolve.specs.declared.found.Found.{Found}
 use Rattle.krates_resolve.proofs.Taken.{sound_taken, taken_put, taken_below, has_room, unchanged, same_agendas, crate_done, feature_done, none_done}
+use Rattle.krates_resolve.specs.Counting.{AreCounted}
+use Rattle.krates_resolve.proofs.Counted.{crate_counted, feature_counted}
 use Rattle.krates_resolve.proofs.saturation.take_next.Goals as goal
 
 pub expand-requires-clause-sound : goal.expand-requires-clause-sound
@@ -76,5 +78,40 @@ returns-clause-taken c =
     let e = c.in-Some-take.ensures.counted in
     let still = unchanged x.krates c.take.new.self (x.krates.taken + 0) c.in_default.ensures.counted (omega arith) in
     let same = same_agendas x c.take.new.self c.take-2.new.self x.krates (record x.features { taken = m }) still e in
-    let step = subst (λ (y : Found). Advances r s y z) same c.in_ok-heed.ensures.advanced in
-    feature_done r s x z c.in-Some-take.taken c.requires.done step (has_room x.features c.take-2.new.self m e c.take-2.ensures.orderly) (sym c.take-2.ensures.first ∙ c.in-Some-take.is) c.in_ok-heed.ensures.heeded
+    let step = subst (λ (y : Found). Advances r s y z) same c.in_ok-references.ensures.advanced in
+    feature_done r s x z c.in-Some-take.taken c.requires.done step (has_room x.features c.take-2.new.self m e c.take-2.ensures.orderly) (sym c.take-2.ensures.first ∙ c.in-Some-take.is) c.in_ok-references.ensures.heeded
+
+pub returns-in-Some-clause-counted : goal.returns-in-Some-clause-counted
+returns-in-Some-clause-counted c =
+    let r = resolved_view c.args.basis.now.lookup.now in
+    let s = c.args.basis.now.setting.now in
+    let x = c.args.found.now in
+    let z = c.expand.new.found in
+    let n = x.krates.taken + 1 in
+    let same = same_agendas x c.take.new.self x.features (record x.krates { taken = n }) x.features c.in-Some.ensures.counted refl in
+    let step = subst (λ (y : Found). Advances r s y z) same c.in_ok-expand.ensures.advanced in
+    crate_counted r x z c.args.work.now c.count_krate.new.self c.requires.counted step.grows c.requires.done.features_within c.count_krate.ensures
+
+pub returns-in_default-take-clause-counted : goal.returns-in_default-take-clause-counted
+returns-in_default-take-clause-counted c =
+    let r = resolved_view c.args.basis.now.lookup.now in
+    let x = c.args.found.now in
+    let still = unchanged x.krates c.take.new.self (x.krates.taken + 0) c.in_default.ensures.counted (omega arith) in
+    let also = unchanged x.features c.take-2.new.self (x.features.taken + 0) c.in_default-take.ensures.counted (omega arith) in
+    let same = same_agendas x c.take.new.self c.take-2.new.self x.krates x.features still also in
+    subst (λ (y : Found). AreCounted r y c.args.work.now) (sym same) c.requires.counted
+
+pub returns-clause-counted : goal.returns-clause-counted
+returns-clause-counted c =
+    let r = resolved_view c.args.basis.now.lookup.now in
+    let s = c.args.basis.now.setting.now in
+    let x = c.args.found.now in
+    let z = c.heed.new.found in
+    let m = x.features.taken + 1 in
+    let e = c.in-Some-take.ensures.counted in
+    let still = unchanged x.krates c.take.new.self (x.krates.taken + 0) c.in_default.ensures.counted (omega arith) in
+    let same = same_agendas x c.take.new.self c.take-2.new.self x.krates (record x.features { taken = m }) still e in
+    let step = subst (λ (y : Found). Advances r s y z) same c.in_ok-references.ensures.advanced in
+    let counts = c.count_feature.ensures in
+    feature_counted r x z c.args.work.now c.count_feature.new.self c.in-Some-take.taken c.in_ok-references.references c.requires.counted step.grows c.requires.done.features_within (sym c.take-2.ensures.first ∙ c.in-Some-take.is)
+    c.in_ok-references.ensures.counted counts.same counts.features counts.references

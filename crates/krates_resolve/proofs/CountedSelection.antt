@@ -1,0 +1,133 @@
+-- The counts of a search are those of the selection.
+use Rattle.std.proofs.Common.{◌≡◌, ◌≢◌, ℕ, zero, suc, ◌<◌, ◌≤◌, List, [], ◌∷◌, length, get_or, Bool, true, false, Some, Contains, option_map, refl, sym, ap, ◌∙◌, subst, arith}
+use Rattle.std.proofs.lemmas.List.{length-map}
+use Rattle.std.proofs.lemmas.List.Sorted.{length_permutation}
+use Rattle.std.proofs.lemmas.Option.{slice_get-get_or, slice_get-map, slice_get_within, same_Some}
+use Rattle.std.specs.List.{AllPairs, AllZip, IsDistinct, slice_get}
+use Rattle.std.specs.List.Sorted.{IsPermutation}
+use Rattle.krates_cm.specs.Document.{Text, text_view}
+use Rattle.krates_ids.specs.Identity.{Identity, Reads, same_id}
+use Rattle.krates_rules.specs.Admission.{NoneDoubled, node_texts}
+use Rattle.krates_rules.specs.Facts.{Id}
+use Rattle.krates_rules.specs.Resolved.{NodeAt, Resolved, id_of}
+use Rattle.krates_resolve.specs.Counting.{HasCountedAll}
+use Rattle.krates_resolve.specs.Found.{HaveNumbers}
+use Rattle.krates_resolve.specs.ListedFeatures.{listed_features}
+use Rattle.krates_resolve.specs.Numbering.{FeatureAt, IsOwn}
+use Rattle.krates_resolve.specs.SelectionOrder.{same_feature}
+use Rattle.krates_resolve.specs.Work.{CountsEach, HasReferences, counted}
+use Rattle.krates_resolve.specs.declared.found.Found.{Found}
+use Rattle.krates_resolve.specs.declared.selection.EnabledFeature.{EnabledFeature}
+use Rattle.krates_resolve.specs.declared.work.Work.{Work}
+use Rattle.krates_document.proofs.DistinctIds.{id_of_same}
+use Rattle.krates_document.proofs.FirstPlaces.{seen_at}
+use Rattle.krates_rules.proofs.OnlyOne.{one_node_place}
+use Rattle.krates_rules.proofs.Readings.{left_of}
+use Rattle.krates_rules.proofs.Standings.{contains_at}
+use Rattle.krates_resolve.proofs.Distinct.{distinct_from, zip_shuffled}
+use Rattle.krates_resolve.proofs.NodeParts.{node_here}
+use Rattle.krates_resolve.proofs.Selected.{AreAt, EqualityTellsSame, both, same_name}
+
+-- what would be true is false
+is_false : (b : Bool) → (b ≡ true → ⊥) → b ≡ false
+is_false true h = absurd (h refl)
+is_false false h = refl
+
+-- numbers that were put once differ by their places
+apart : (xs : List ℕ) (j k n : ℕ) → AllPairs (λ a b. a ≢ b) xs → j < k → slice_get xs j ≡ Some n → slice_get xs k ≡ Some n → ⊥
+apart xs j k n distinct lt a b =
+    let long = slice_get_within xs k n b in
+    let first = same_Some n (get_or xs j n) (sym a ∙ slice_get-get_or xs j n (omega (arith, lt, long))) in
+    let second = same_Some n (get_or xs k n) (sym b ∙ slice_get-get_or xs k n long) in
+    distinct j k n lt long (sym first ∙ second)
+
+-- the place whose id stands there
+place_of : (ids : List Identity) (places : List ℕ) (kids : List Identity) (j : ℕ) (kid : Identity) → AreAt ids places kids → slice_get kids j ≡ Some kid → (p : ℕ) × (slice_get places j ≡ Some p) × (slice_get ids p ≡ Some kid)
+place_of ids places kids j kid same at =
+    let here = ap (λ xs. slice_get xs j) same ∙ slice_get-map (λ (k : Identity). Some k) kids j ∙ ap (option_map (λ (k : Identity). Some k)) at in
+    let s = seen_at (slice_get ids) places j (Some kid) here in
+    (get_or places j s.0, slice_get-get_or places j s.0 s.1, s.2)
+
+-- no crate is put twice
+distinct_kids : EqualityTellsSame → (r : Resolved) (ids : List Identity) (places : List ℕ) (kids : List Identity) → NoneDoubled r.metadata r.graph → AllZip Reads (node_texts r.graph) ids → AllPairs (λ a b. a ≢ b) places → AreAt ids places kids
+    → IsDistinct same_id kids
+distinct_kids tells r ids places kids none reads distinct at = distinct_from same_id kids (λ j k a b lt x y. is_false (same_id a b) (λ same.
+    (let p = place_of ids places kids j a at x in
+    let q = place_of ids places kids k b at y in
+    let one : id_of a ≡ id_of b = id_of_same a b ((tells a b).0 same) in
+    let e : p.0 ≡ q.0 = one_node_place r (id_of b) p.0 q.0 none (subst (λ (i : Id). NodeAt r i p.0) one (node_here r ids p.0 a reads p.2)) (node_here r ids q.0 b reads q.2) in
+    apart places j k q.0 distinct lt (subst (λ (n : ℕ). slice_get places j ≡ Some n) e p.1) q.1)))
+
+neither_less : (n m : ℕ) → m ≤ n → n ≤ m → n ≡ m
+neither_less n m low high = omega (arith, low, high)
+
+-- a feature goes by one number
+one_number : (r : Resolved) (i j : Id) (f g : Text) (n m : ℕ) → NoneDoubled r.metadata r.graph → IsOwn r n → IsOwn r m → FeatureAt r i f n → FeatureAt r j g m → i ≡ j → f ≡ g → n ≡ m
+one_number r i j f g n m none a b x y krate name =
+    let place : x.place ≡ y.place = one_node_place r j x.place y.place none (subst (λ (k : Id). NodeAt r k x.place) krate x.node) y.node in
+    let same : (x.place, f) ≡ (y.place, g) = ap (λ (p : ℕ). (p, f)) place ∙ ap (λ (t : Text). (y.place, t)) name in
+    let here : slice_get (listed_features r) n ≡ Some (y.place, g) = x.at ∙ ap (λ (p : ℕ × Text). Some p) same in
+    neither_less n m (a m (y.place, g) here y.at) (b n (y.place, g) y.at here)
+
+-- no feature is put twice
+distinct_enabled : EqualityTellsSame → (r : Resolved) (numbers : List ℕ) (enabled : List EnabledFeature) → NoneDoubled r.metadata r.graph → ((n : ℕ) → Contains numbers n → IsOwn r n) → AllPairs (λ a b. a ≢ b) numbers
+    → HaveNumbers r numbers enabled → IsDistinct same_feature enabled
+distinct_enabled tells r numbers enabled none own distinct zip = distinct_from same_feature enabled (λ j k a b lt x y. is_false (same_feature a b) (λ same.
+    (let n = left_of (λ n x. FeatureAt r (id_of x.krate) (text_view x.name) n) numbers enabled j a zip x in
+    let m = left_of (λ n x. FeatureAt r (id_of x.krate) (text_view x.name) n) numbers enabled k b zip y in
+    let parts = both (same_id a.krate b.krate) _ same in
+    let krate : id_of a.krate ≡ id_of b.krate = id_of_same a.krate b.krate ((tells a.krate b.krate).0 parts.0) in
+    let e : n.0 ≡ m.0 = one_number r (id_of a.krate) (id_of b.krate) (text_view a.name) (text_view b.name) n.0 m.0 none (own n.0 (contains_at numbers j n.0 n.1)) (own m.0 (contains_at numbers k m.0 m.1)) n.2 m.2 krate (same_name a.name b.name parts.1) in
+    apart numbers j k m.0 distinct lt (subst (λ (i : ℕ). slice_get numbers j ≡ Some i) e n.1) m.1)))
+
+-- place by place
+zip_from : {A : Type 0} (R : A → ℕ → Type 0) (xs : List A) (ns : List ℕ) → length ns ≡ length xs → ((k : ℕ) (x : A) (n : ℕ) → slice_get xs k ≡ Some x → slice_get ns k ≡ Some n → R x n) → AllZip R xs ns
+zip_from R [] [] long each = tt
+zip_from R [] (n ∷ ns) long each = absurd (omega (arith, long))
+zip_from R (x ∷ xs) [] long each = absurd (omega (arith, long))
+zip_from R (x ∷ xs) (n ∷ ns) long each = (each zero x n refl refl, zip_from R xs ns (omega (arith, long)) (λ k y m a b. each (suc k) y m a b))
+
+-- the numbers are as many as the features
+numbers_long : (r : Resolved) (numbers : List ℕ) (enabled : List EnabledFeature) → HaveNumbers r numbers enabled → length enabled ≡ length numbers
+numbers_long r [] [] z = refl
+numbers_long r [] (x ∷ xs) z = absurd z
+numbers_long r (n ∷ ns) [] z = absurd z
+numbers_long r (n ∷ ns) (x ∷ xs) z = ap suc (numbers_long r ns xs z.1)
+
+-- what has been found, and counted
+pub record IsCountedWhole (r : Resolved) (ids : List Identity) (found : Found) (kids : List Identity) (enabled : List EnabledFeature) (work : Work) : Type 0 where
+  pub none_doubled : NoneDoubled r.metadata r.graph
+  pub reads : AllZip Reads (node_texts r.graph) ids
+  pub krates : AreAt ids found.krates.put kids
+  pub krates_once : AllPairs (λ a b. a ≢ b) found.krates.put
+  pub features : HaveNumbers r found.features.put enabled
+  pub features_once : AllPairs (λ a b. a ≢ b) found.features.put
+  pub own : (n : ℕ) → Contains found.features.put n → IsOwn r n
+  pub counted : HasCountedAll r found work
+
+-- its crates and features stand in another order, where none of them stands twice
+pub record AreMoved (kids others : List Identity) (enabled features : List EnabledFeature) : Type 0 where
+  pub krates_moved : IsDistinct same_id kids → IsPermutation kids others
+  pub features_moved : IsDistinct same_feature enabled → IsPermutation enabled features
+
+pub counts_each : EqualityTellsSame → (r : Resolved) (ids : List Identity) (found : Found) (kids others : List Identity) (enabled features : List EnabledFeature) (work : Work) → IsCountedWhole r ids found kids enabled work → AreMoved kids others enabled features
+    → CountsEach r (length others) features work
+counts_each tells r ids found kids others enabled features work whole moved =
+    let refers : EnabledFeature → ℕ → Type 0 = λ f k. HasReferences r (id_of f.krate) (text_view f.name) k in
+    let c = whole.counted in
+    let t = c.counted.references.1 in
+    let p = moved.krates_moved (distinct_kids tells r ids found.krates.put kids whole.none_doubled whole.reads whole.krates_once whole.krates) in
+    let q = moved.features_moved (distinct_enabled tells r found.features.put enabled whole.none_doubled whole.own whole.features_once whole.features) in
+    let kids_long : length kids ≡ length found.krates.put = sym (length-map kids (λ (k : Identity). Some k)) ∙ ap length (sym whole.krates) ∙ length-map found.krates.put (slice_get ids) in
+    let krates : found.krates.taken ≡ length others = c.krates ∙ sym kids_long ∙ sym (length_permutation kids others p) in
+    let enabled_long = numbers_long r found.features.put enabled whole.features in
+    let taken : found.features.taken ≡ length features = c.features ∙ sym enabled_long ∙ sym (length_permutation enabled features q) in
+    let zip : AllZip refers enabled t.counts = zip_from refers enabled t.counts (t.long ∙ c.features ∙ sym enabled_long) (λ k x n at count.
+    (let w = left_of (λ n x. FeatureAt r (id_of x.krate) (text_view x.name) n) found.features.put enabled k x whole.features at in
+    t.each k w.0 n w.1 count (id_of x.krate) (text_view x.name) w.2)) in
+    let z = zip_shuffled refers enabled features t.counts q zip in
+    record {
+      krates = c.counted.krates ∙ ap counted krates;
+      features_once = c.counted.features ∙ ap counted taken;
+      references = (c.counted.references.0, record { counts = z.0; each = z.1; total = t.total ∙ sym z.2 }, c.counted.references.2);
+    }

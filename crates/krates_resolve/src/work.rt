@@ -1,0 +1,48 @@
+//! How much work a selection was.
+
+ghost use Rattle.std.specs.Prelude.{◌≡◌, ◌+◌};
+ghost use Rattle.krates_resolve.specs.Counting.{IsFresh};
+ghost use Rattle.krates_resolve.specs.Work.{counted};
+
+/// How much work a selection was: how many crates and features were taken, each once, and how many references these features have.
+///
+/// Each count stays at its greatest value.
+#[derive(Debug, Drop, Clone, Copy, PartialEq, Eq)]
+pub struct Work {
+    /// The kept crates.
+    pub krates: u64,
+    /// The enabled features.
+    pub features: u64,
+    /// The references of the enabled features.
+    pub references: u64,
+}
+
+impl Work {
+    /// Nothing was taken yet.
+    pub(crate) fn new() -> Work
+        ensures { IsFresh result }
+    {
+        Work {
+            krates: 0,
+            features: 0,
+            references: 0,
+        }
+    }
+
+    /// Counts a crate.
+    pub(crate) fn count_krate(&mut self)
+        ensures { self.new ≡ record self.old { krates = counted (self.old.krates + 1) } }
+    {
+        self.krates = self.krates.saturating_add(1);
+    }
+
+    /// Counts a feature and its references.
+    pub(crate) fn count_feature(&mut self, references: usize)
+        ensures features { self.new.features ≡ counted (self.old.features + 1) }
+        ensures references { self.new.references ≡ counted (self.old.references + references) }
+        ensures same { self.new.krates ≡ self.old.krates }
+    {
+        self.features = self.features.saturating_add(1);
+        self.references = self.references.saturating_add(references as u64);
+    }
+}

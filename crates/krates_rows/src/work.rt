@@ -1,0 +1,37 @@
+//! How much work a build was: how many crates, features and references were looked at.
+
+use krates::{Builder, NoneFilter};
+use krates_samples::documents::metadata;
+use krates_samples::table::{Question, Row, hold};
+use std::alloc::Global;
+use std::test::Fail;
+
+/// How many crates, features and references a build of the document counted.
+struct Worked;
+
+impl Question for Worked {
+    fn told(alloc: Global, line: &str) -> Result<String, Fail> {
+        let metadata = metadata(alloc, line)?;
+        let krates = Builder::new(alloc).build_with_metadata(metadata, &mut NoneFilter)?;
+        let work = krates.work();
+        Ok(format!(in alloc; "{}, {}, {}", work.krates, work.features, work.references)?)
+    }
+}
+
+const COUNTED: &[Row] = &[
+    // `b` is asked for, and `w` enables its feature `j`, which has no references
+    ("a b?;b=dep:b w=b?/j|b;j=", "2, 3, 2"),
+    // the reference of `w` is counted, though the edge that it waits for isn't kept
+    ("a b?;b=dep:b w=b?/j|b;j= / nodes a b;w|b;j", "1, 1, 1"),
+    // a circle, in which each crate is looked at once
+    ("a b|b a", "2, 0, 0"),
+    // two features ask for one dependency, and one has the same reference twice
+    ("a b?;x=dep:b y=dep:b,dep:b|b", "2, 2, 3"),
+    // a node that lists a feature twice, and a feature that the manifest lacks
+    ("a;x=y y= / nodes a;x y x z", "1, 3, 1"),
+];
+
+#[test]
+fn counted_work(rt: HostRuntime) -> Result<(), Fail> {
+    hold::<Worked>(rt.alloc(), COUNTED)
+}
