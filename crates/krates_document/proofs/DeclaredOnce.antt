@@ -7,7 +7,7 @@ use Rattle.krates_cm.specs.Document.{DependencyModel, DepKindInfoModel}
 use Rattle.krates_rules.specs.DeclaredDependency.{DependencyEntry, FirstAt, Fits, FitsBySource, SeveralFit, IsFirstPlace, IsDeclared, IsUndeclared}
 
 -- the first element is one, and so is its place
-one_first : {A : Type 0} (P : A → Type 0) (xs : List A) (j k : ℕ) (x y : A) → FirstAt P xs j x → FirstAt P xs k y → (j ≡ k) × (x ≡ y)
+pub one_first : {A : Type 0} (P : A → Type 0) (xs : List A) (j k : ℕ) (x y : A) → FirstAt P xs j x → FirstAt P xs k y → (j ≡ k) × (x ≡ y)
 one_first P xs j k x y a b = elim (cases_order j k) [
   | inl e ↦ (e, same_Some x y (sym a.here ∙ ap (λ n. slice_get xs n) e ∙ b.here))
   | inr r ↦ elim r [ inl lt ↦ absurd (b.before j x lt a.here a.holds) | inr lt ↦ absurd (a.before k y lt b.here b.holds) ]

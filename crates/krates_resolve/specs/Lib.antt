@@ -1,4 +1,5 @@
 pub mod Basis
+pub mod Contents
 pub mod Counting
 pub mod CrateTable
 pub mod DocumentModel

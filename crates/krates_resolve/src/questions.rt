@@ -19,6 +19,8 @@ ghost use Rattle.krates_rules.specs.Roots.{IsRoot};
 ghost use Rattle.krates_rules.specs.Rules.{Open};
 ghost use Rattle.krates_resolve.specs.CrateTable.{IsPlaceOf};
 
+mod contents;
+
 use crate::basis::Basis;
 use crate::lookup::{Lookup, lookup_of, node_place};
 use crate::node_entry::{NodeEntry, NodeParts, entry_at, is_same_info, parts_of};

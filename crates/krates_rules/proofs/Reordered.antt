@@ -9,14 +9,14 @@ use Rattle.krates_ids.specs.PackageSpecification.{SpecFits}
 use Rattle.krates_ids.specs.declared.error.Error.{Error}
 use Rattle.krates_ids.specs.declared.error.Error.TheVariants as errors
 use Rattle.krates_text.specs.Path.{components}
-use Rattle.krates_rules.specs.Admission.{package_texts, node_texts, dep_texts, StandsForId, of_package, of_member, of_root, of_node, of_dep, IsInvalidId, unread, bad_version, IsDoubled, doubled_package, doubled_node, doubled_dep}
+use Rattle.krates_rules.specs.Admission.{NoneDoubled, package_texts, node_texts, dep_texts, StandsForId, of_package, of_member, of_root, of_node, of_dep, IsInvalidId, unread, bad_version, IsDoubled, doubled_package, doubled_node, doubled_dep}
 use Rattle.krates_rules.specs.AdmissionRefusals.{AdmissionRefusal}
 use Rattle.krates_rules.specs.DeclaredDependency.{dependency_entry, IsDeclared, IsUndeclared}
 use Rattle.krates_rules.specs.Derivation.{Derivable}
 use Rattle.krates_rules.specs.Facts.{Id, Edge}
 use Rattle.krates_rules.specs.Questions.{IsIncluded, ListsEdge, IsConsidered, kind_info_of, questions}
-use Rattle.krates_rules.specs.Referent.{IsLibraryRename, AnswersTo, by_name, by_library, AnswersIn}
-use Rattle.krates_rules.specs.Reordering.{ReordersPackage, ReordersPackages, ReordersNode, ReordersGraph, ReordersResolve, Reorders, HasInvalidId, HasDoubledId, IsOrderFree}
+use Rattle.krates_rules.specs.Referent.{IsLibraryRename, AnswersTo, by_name, by_library, AnswersIn, IsReferent}
+use Rattle.krates_rules.specs.Reordering.{SayAlike, ReordersPackage, ReordersPackages, ReordersNode, ReordersGraph, ReordersResolve, Reorders, HasInvalidId, HasDoubledId, IsOrderFree}
 use Rattle.krates_rules.specs.Resolved.{Resolved, resolved, id_of, ReadsAs, HasGraphWith, HasPackage, HasNode, HasDep, IsMember}
 use Rattle.krates_rules.specs.Roots.{AsksForWorkspace, AsksForMembers, by_setting, without_root, by_manifest, HasManifest, IsRoot, of_graph, of_workspace, of_manifests}
 use Rattle.krates_rules.specs.SelectionRefusals.{SelectionRefusal}
@@ -25,7 +25,7 @@ use Rattle.krates_rules.specs.Setting.{SettingModel, IsExcluded, IsIgnored}
 use Rattle.krates_rules.proofs.Readings.{left_of, right_of}
 use Rattle.krates_rules.proofs.DerivationLaws.{Within, derivable_within}
 use Rattle.krates_rules.proofs.Moved.{twice_moved}
-use Rattle.krates_rules.proofs.OnlyOne.{place_in}
+use Rattle.krates_rules.proofs.OnlyOne.{place_in, one_package, one_node, one_dep}
 use Rattle.krates_rules.proofs.Standings.{contains_at}
 
 -- ---- documents that say the same
@@ -175,6 +175,12 @@ named_same r t i name c w x =
       answers = answers_same r t c x.dep name w x.answers;
     }
 
+referent_same : (r t : Resolved) (i : Id) (name : Text) (c : Id) → SaySame r t → IsReferent r i name c → IsReferent t i name c
+referent_same r t i name c w x = record {
+  is_named = named_same r t i name c w x.is_named;
+  least = λ other y. x.least other (named_same t r i name other (swapped r t w) y);
+}
+
 -- ---- edges
 
 edge_same : (r t : Resolved) (e : Edge) (d : NodeDepModel) → SaySame r t → ListsEdge r e d → ListsEdge t e d
@@ -231,10 +237,7 @@ same_within r t s w = record {
   refers = λ i f reference x.
       let q = package_same r t i x.pkg w x.has_package in
       record { pkg = q.pkg; has_package = q.has_package; values = x.values; feature = sym (q.same.features f) ∙ x.feature; text = x.text; among = x.among; is = x.is };
-  referent = λ i name c x. record {
-    is_named = named_same r t i name c w x.is_named;
-    least = λ other y. x.least other (named_same t r i name other (swapped r t w) y);
-  };
+  referent = λ i name c x. referent_same r t i name c w x;
   declared = λ e d x.
       let y = x.1 in
       let q = package_same r t e.parent y.pkg w y.has_package in (
@@ -446,6 +449,28 @@ refused_same m n w errors.NoRootKrates = (λ h. h, λ h. h)
 refused_same m n w (errors.Lost x) = (λ h. h, λ h. h)
 refused_same m n w errors.TooMany = (λ h. h, λ h. h)
 
+-- where no id is doubled, what is said of each crate, edge and name is the same
+say_alike : (r t : Resolved) → SaySame r t → NoneDoubled t.metadata t.graph → SayAlike r t
+say_alike r t w none = record {
+  packages = λ i p q a b.
+      let x = package_same r t i p w a in
+      subst (λ z. ReordersPackage p z) (one_package t i x.pkg q none x.has_package b) x.same;
+  features = λ i n o a b f.
+      let x = twin r t i n w a in
+      let same = subst (λ z. SameNode n z) (one_node t i x.node o none x.has_node b) x.same in
+      (λ h. feature_same n o f same h, λ h. feature_back n o f same h);
+  deps = λ e d c a b.
+      let x = edge_same r t e d w a in
+      one_dep t e.parent e.child x.node b.node d c none x.has_node b.has_node x.has_dep b.has_dep;
+  referents = λ i name c. (λ x. referent_same r t i name c w x, λ x. referent_same t r i name c (swapped r t w) x);
+}
+
+says_both : (m n : MetadataModel) → Reorders m n → (g h : ResolveModel) → m.resolve ≡ Some g → n.resolve ≡ Some h → NoneDoubled n h → SayAlike (resolved m g) (resolved n h)
+says_both m n w g h has_g has_h none =
+    let x = graph_there m.resolve n.resolve g w.resolve has_g in
+    let same : x.0 ≡ h = same_Some x.0 h (sym x.1 ∙ has_h) in
+    say_alike (resolved m g) (resolved n h) (say_same m n g h w (subst (ReordersGraph g) same x.2)) none
+
 pub order_free : IsOrderFree
 order_free m n w = record {
   facts = λ s f. both m n w (λ r. Derivable (questions r s) f) (λ r t same d. derivable_within (same_within r t s same) d);
@@ -454,4 +479,5 @@ order_free m n w = record {
   doubled = doubled_both m n w;
   refused = refused_same m n w;
   unselected = λ s e. both m n w (λ r. SelectionRefusal (questions r s) e) (λ r t same x. unselected_same r t s e same x);
+  says = says_both m n w;
 }

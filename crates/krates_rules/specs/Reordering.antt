@@ -1,15 +1,16 @@
 -- Documents that differ in the order of their lists alone, and what doesn't depend on it.
-use Rattle.std.specs.Prelude.{◌≡◌, ◌↔◌, List, Option, None, MatchOption, IsSomeAnd, IsPermutation}
+use Rattle.std.specs.Prelude.{◌≡◌, ◌↔◌, List, Option, Some, None, MatchOption, Contains, IsSomeAnd, IsPermutation}
 use Rattle.std.specs.List.{AllZip}
-use Rattle.krates_cm.specs.Document.{Text, PackageModel, NodeModel, ResolveModel, MetadataModel}
+use Rattle.krates_cm.specs.Document.{Text, PackageModel, NodeDepModel, NodeModel, ResolveModel, MetadataModel}
 use Rattle.krates_ids.specs.Correction.{named, with_features}
 use Rattle.krates_ids.specs.declared.error.Error.{Error}
-use Rattle.krates_rules.specs.Admission.{IsInvalidId, IsDoubled}
+use Rattle.krates_rules.specs.Admission.{IsInvalidId, IsDoubled, NoneDoubled}
 use Rattle.krates_rules.specs.AdmissionRefusals.{AdmissionRefusal}
 use Rattle.krates_rules.specs.Derivation.{Derivable}
-use Rattle.krates_rules.specs.Facts.{Id, Fact}
-use Rattle.krates_rules.specs.Questions.{questions}
-use Rattle.krates_rules.specs.Resolved.{resolved, HasGraphWith}
+use Rattle.krates_rules.specs.Facts.{Id, Edge, Fact}
+use Rattle.krates_rules.specs.Questions.{ListsEdge, questions}
+use Rattle.krates_rules.specs.Referent.{IsReferent}
+use Rattle.krates_rules.specs.Resolved.{Resolved, HasPackage, HasNode, HasGraphWith, resolved}
 use Rattle.krates_rules.specs.SelectionRefusals.{SelectionRefusal}
 use Rattle.krates_rules.specs.Setting.{SettingModel}
 
@@ -72,6 +73,17 @@ HasDoubledId m id = HasGraphWith m (λ g. IsDoubled m g id)
 abbrev pub HasNoSelection : MetadataModel → SettingModel → Error → Type 0
 HasNoSelection m s e = HasGraphWith m (λ g. SelectionRefusal (questions (resolved m g) s) e)
 
+-- the documents say the same of each crate, of each edge and of each name
+pub record SayAlike (r t : Resolved) : Type 0 where
+  -- the packages of an id differ in the order of their features alone
+  pub packages : (i : Id) (p q : PackageModel) → HasPackage r i p → HasPackage t i q → ReordersPackage p q
+  -- the nodes of an id list the same features
+  pub features : (i : Id) (n o : NodeModel) → HasNode r i n → HasNode t i o → (f : Text) → Contains n.features f ↔ Contains o.features f
+  -- one dependency lists an edge
+  pub deps : (e : Edge) (d c : NodeDepModel) → ListsEdge r e d → ListsEdge t e c → d ≡ c
+  -- a name means the same crate in the references of a crate
+  pub referents : (i : Id) (name : Text) (c : Id) → IsReferent r i name c ↔ IsReferent t i name c
+
 -- what is resolved of one document is resolved of the other, and what refuses one refuses the other
 pub record ResolveAlike (m n : MetadataModel) : Type 0 where
   -- the same facts have derivations, those of what is lost included
@@ -86,6 +98,8 @@ pub record ResolveAlike (m n : MetadataModel) : Type 0 where
   pub refused : (e : Error) → AdmissionRefusal m e ↔ AdmissionRefusal n e
   -- and in resolution
   pub unselected : (s : SettingModel) (e : Error) → HasNoSelection m s e ↔ HasNoSelection n s e
+  -- where no id is doubled, both say the same of each crate, edge and name
+  pub says : (g h : ResolveModel) → m.resolve ≡ Some g → n.resolve ≡ Some h → NoneDoubled n h → SayAlike (resolved m g) (resolved n h)
 
 -- documents that differ in order alone resolve alike
 abbrev pub IsOrderFree : Type 0

@@ -1,0 +1,68 @@
+-- What documents that differ in order alone say of crates, edges and names under a setting.
+use Rattle.std.proofs.Common.{◌≡◌, ◌↔◌, ℕ, Contains, Some, sym, ap, ◌∙◌, subst}
+use Rattle.std.proofs.lemmas.Option.{same_Some}
+use Rattle.krates_cm.specs.Document.{Text, DependencyModel, DepKindInfoModel, PackageModel, NodeDepModel, NodeModel, ResolveModel, MetadataModel}
+use Rattle.krates_rules.specs.Admission.{NoneDoubled}
+use Rattle.krates_rules.specs.DeclaredDependency.{FirstAt, IsDeclared, dependency_entry}
+use Rattle.krates_rules.specs.Derivation.{Derivable}
+use Rattle.krates_rules.specs.Facts.{Id, Edge, Fact}
+use Rattle.krates_rules.specs.Questions.{ListsEdge, IsDeclaredAt, kind_info_of, questions}
+use Rattle.krates_rules.specs.Referent.{IsReferent}
+use Rattle.krates_rules.specs.Reordering.{ReordersPackage, HasDerivation, SayAlike, ResolveAlike}
+use Rattle.krates_rules.specs.Resolved.{Resolved, HasPackage, HasNode, resolved}
+use Rattle.krates_rules.specs.Setting.{SettingModel}
+use Rattle.krates_resolve.specs.Selection.{edge_view, IsPlaced}
+use Rattle.krates_resolve.specs.declared.selection.KeptEdge.{KeptEdge}
+use Rattle.krates_document.proofs.DeclaredOnce.{one_first, declared_once}
+
+-- the same is said of each fact, package, node, edge and name
+pub record SaidAlike (r u : Resolved) (s : SettingModel) : Type 0 where
+  pub facts : (f : Fact) → Derivable (questions r s) f ↔ Derivable (questions u s) f
+  pub packages : (i : Id) (p q : PackageModel) → HasPackage r i p → HasPackage u i q → ReordersPackage p q
+  pub features : (i : Id) (n o : NodeModel) → HasNode r i n → HasNode u i o → (f : Text) → Contains n.features f ↔ Contains o.features f
+  pub declared : (e : Edge) (j k : ℕ) (d c : DependencyModel) → IsDeclaredAt r s e j d → IsDeclaredAt u s e k c → (j ≡ k) × (d ≡ c)
+  pub place : (a b : KeptEdge) → edge_view a ≡ edge_view b → IsPlaced r s a → IsPlaced u s b → a.place ≡ b.place
+  pub referents : (i : Id) (name : Text) (c : Id) → IsReferent r i name c ↔ IsReferent u i name c
+
+-- ---- the declared dependency
+
+-- packages that differ in the order of their features declare the same
+pub dependencies_same : (p q : PackageModel) → ReordersPackage p q → p.dependencies ≡ q.dependencies
+dependencies_same p q w = sym (ap (λ (x : PackageModel). x.dependencies) w.rest)
+
+declared_alike : (r u : Resolved) (s : SettingModel) → SayAlike r u → (e : Edge) (j k : ℕ) (d c : DependencyModel) → IsDeclaredAt r s e j d → IsDeclaredAt u s e k c → (j ≡ k) × (d ≡ c)
+declared_alike r u s w e j k d c a b =
+    let declares = dependencies_same a.pkg b.pkg (w.packages e.parent a.pkg b.pkg a.has_package b.has_package) in
+    let dep = w.deps e a.dep b.dep a.listed.lists b.listed.lists in
+    let there = subst (λ ds. IsDeclared ds (dependency_entry e.child a.dep) (kind_info_of e) j d) declares a.declared in
+    let here = subst (λ (z : NodeDepModel). IsDeclared b.pkg.dependencies (dependency_entry e.child z) (kind_info_of e) j d) dep there in
+    declared_once b.pkg.dependencies (dependency_entry e.child b.dep) (kind_info_of e) j k d c here b.declared
+
+place_alike : (r u : Resolved) (s : SettingModel) → SayAlike r u → (a b : KeptEdge) → edge_view a ≡ edge_view b → IsPlaced r s a → IsPlaced u s b → a.place ≡ b.place
+place_alike r u s w a b same p q =
+    let lists = subst (λ e. ListsEdge r e p.declared.dep) same p.declared.listed.lists in
+    let dep = w.deps (edge_view b) p.declared.dep q.declared.dep lists q.declared.listed.lists in
+    let there = subst (λ (z : NodeDepModel). FirstAt (λ k. k ≡ kind_info_of (edge_view a)) z.dep_kinds a.place (kind_info_of (edge_view a))) dep p.place in
+    let here = subst (λ (e : Edge). FirstAt (λ k. k ≡ kind_info_of e) q.declared.dep.dep_kinds a.place (kind_info_of e)) same there in
+    (one_first (λ (k : DepKindInfoModel). k ≡ kind_info_of (edge_view b)) q.declared.dep.dep_kinds a.place b.place (kind_info_of (edge_view b)) (kind_info_of (edge_view b)) here q.place).0
+
+-- ---- the whole
+
+-- what has a derivation from the document has one from its graph
+derived : (m : MetadataModel) (g : ResolveModel) (s : SettingModel) (f : Fact) → m.resolve ≡ Some g → HasDerivation m s f → Derivable (questions (resolved m g) s) f
+derived m g s f has x = subst (λ z. Derivable (questions (resolved m z) s) f) (same_Some x.graph g (sym x.has_graph ∙ has)) x.holds
+
+pub said_alike : (m n : MetadataModel) (g h : ResolveModel) (s : SettingModel) → ResolveAlike m n → m.resolve ≡ Some g → n.resolve ≡ Some h → NoneDoubled n h → SaidAlike (resolved m g) (resolved n h) s
+said_alike m n g h s w has_g has_h none =
+    let say = w.says g h has_g has_h none in
+    record {
+      facts = λ f. (
+        λ d. derived n h s f has_h ((w.facts s f).0 (record { graph = g; has_graph = has_g; holds = d })),
+        λ d. derived m g s f has_g ((w.facts s f).1 (record { graph = h; has_graph = has_h; holds = d })),
+      );
+      packages = say.packages;
+      features = say.features;
+      declared = declared_alike (resolved m g) (resolved n h) s say;
+      place = place_alike (resolved m g) (resolved n h) s say;
+      referents = say.referents;
+    }

@@ -1,0 +1,24 @@
+-- The ends of all drawn edges are nodes.
+use Rattle.std.proofs.Common.{List, [], ◌∷◌, length, inl, inr, refl, subst}
+use Rattle.std.proofs.lemmas.List.Elements.{All-from_recursion}
+use Rattle.std.specs.List.{AllByRecursion}
+use Rattle.krates_drawing.specs.Drawing.{Line, lines, spots}
+use Rattle.krates_drawing.specs.Ends.{HasEnds, EndsStand}
+use Rattle.krates_drawing.proofs.Arrows.{drawn_of}
+use Rattle.krates_drawing.proofs.Closed.{ends_stand}
+use Rattle.krates_drawing.proofs.Holding.{holds}
+use Rattle.krates_drawing.proofs.Members.{Member}
+use Rattle.krates_drawing.proofs.NodeNumbers.{number_below}
+
+each : {A : Type 0} (P : A → Type 0) (xs : List A) → ((x : A) → Member xs x → P x) → AllByRecursion P xs
+each P [] h = tt
+each P (x ∷ xs) h = (h x (inl refl), each P xs (λ y m. h y (inr m)))
+
+pub all_stand : EndsStand
+all_stand r s x selected t sheet = All-from_recursion (HasEnds (length (spots t))) (lines t) (each (HasEnds (length (spots t))) (lines t) stands)
+  where
+    stands : (l : Line) → Member (lines t) l → HasEnds (length (spots t)) l
+    stands l m =
+        let d = drawn_of t l m in
+        let k = ends_stand r s t d.from d.to d.tie (holds r s x t selected sheet) d.arrow in
+        subst (HasEnds (length (spots t))) d.is (number_below t d.from k.0, number_below t d.to k.1)

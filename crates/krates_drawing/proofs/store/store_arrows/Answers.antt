@@ -1,0 +1,23 @@
+use Rattle.std.proofs.Common.{◌∙◌, ◌+◌, length, ap, sym, subst}
+use Rattle.std.proofs.lemmas.List.{length_push}
+use Rattle.krates_drawing.specs.Ends.{HasEnds}
+use Rattle.krates_drawing.specs.Stored.{IsStoredAs, Appends}
+use Rattle.krates_drawing.specs.Views.{arrow_view}
+use Rattle.krates_drawing.proofs.Zips.{zip_more, seen_at}
+use Rattle.krates_drawing.proofs.store.store_arrows.Goals as goal
+
+pub loop-x-preserved : goal.loop-x-preserved
+loop-x-preserved g c =
+    let i = c.loop-x.invariant in
+    let a : Appends g.E.FromEdge.made_from_edge c.loop-x.graph.edges c.store_arrow.new.graph.edges (arrow_view c.x-item.result) = c.in_ok-store_arrow.ensures.drawn in
+    record {
+      drawn = zip_more arrow_view (IsStoredAs g.E.FromEdge.made_from_edge) c.args.arrows.now c.loop-x.x-index c.x-item.result c.loop-x.graph.edges c.store_arrow.new.graph.edges a.stored c.loop-x-test.true c.x-item.is i.drawn a.is a.appended;
+      count = ap length a.appended ∙ length_push c.loop-x.graph.edges a.stored ∙ ap (λ n. n + 1) i.count;
+      nodes = c.in_ok-store_arrow.ensures.nodes ∙ i.nodes;
+      limit = c.in_ok-store_arrow.ensures.limit ∙ i.limit;
+    }
+
+pub store_arrow-requires-clause-stands : goal.store_arrow-requires-clause-stands
+store_arrow-requires-clause-stands g c =
+    let here = seen_at (HasEnds (length c.args.graph.now.nodes)) arrow_view c.args.arrows.now c.loop-x.x-index c.x-item.result c.requires.stand c.loop-x-test.true c.x-item.is in
+    subst (λ ns. HasEnds (length ns) (arrow_view c.x-item.result)) (sym c.loop-x.invariant.nodes) here

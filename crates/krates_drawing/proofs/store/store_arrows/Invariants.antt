@@ -1,0 +1,13 @@
+use Rattle.std.proofs.Common.{◌≡◌, length, map, take}
+use Rattle.std.specs.List.{AllZip}
+use Rattle.krates_drawing.specs.Stored.{IsStoredAs}
+use Rattle.krates_drawing.specs.Views.{arrow_view}
+use Rattle.krates_drawing.proofs.store.store_arrows.Given as goal
+
+abbrev pub invariant-loop-x : goal.invariant-loop-x
+invariant-loop-x g l = record {
+  drawn : AllZip (IsStoredAs g.E.FromEdge.made_from_edge) (map arrow_view (take l.x-index l.arrows)) l.graph.edges;
+  count : length l.graph.edges ≡ l.x-index;
+  nodes : l.graph.nodes ≡ l.fn.graph.nodes;
+  limit : l.graph.edge_limit ≡ l.fn.graph.edge_limit;
+}

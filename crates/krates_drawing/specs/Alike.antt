@@ -1,0 +1,23 @@
+-- The graphs that are drawn of documents that differ in order alone.
+use Rattle.std.specs.Prelude.{◌≡◌, Some}
+use Rattle.krates_cm.specs.Document.{ResolveModel, MetadataModel}
+use Rattle.krates_rules.specs.Admission.{NoneDoubled}
+use Rattle.krates_rules.specs.Reordering.{Reorders}
+use Rattle.krates_rules.specs.Resolved.{resolved}
+use Rattle.krates_resolve.specs.Selection.{IsSelection}
+use Rattle.krates_rules.specs.Setting.{SettingModel}
+use Rattle.krates_resolve.specs.declared.selection.Selection.{Selection}
+use Rattle.krates_drawing.specs.Drawing.{lines, spots}
+use Rattle.krates_drawing.specs.Sheet.{Sheet, IsSheet}
+
+-- the graphs have the same nodes with the same numbers and mappings, and the same edges
+pub record DrawAlike (t v : Sheet) : Type 0 where
+  pub sheet : t ≡ v
+  pub nodes : spots t ≡ spots v
+  pub edges : lines t ≡ lines v
+
+-- documents that differ in order alone are drawn alike
+abbrev pub IsDrawnAlike : Type 0
+IsDrawnAlike = (m n : MetadataModel) → Reorders m n → (g h : ResolveModel) → m.resolve ≡ Some g → n.resolve ≡ Some h → NoneDoubled n h → (s : SettingModel)
+    → (x y : Selection) → IsSelection (resolved m g) s x → IsSelection (resolved n h) s y → (t v : Sheet) → IsSheet (resolved m g) s x t → IsSheet (resolved n h) s y v
+    → DrawAlike t v

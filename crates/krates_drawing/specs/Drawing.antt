@@ -1,0 +1,158 @@
+-- The graph of a selection: its nodes, each crate's mapping, and its edges.
+use Rattle.std.specs.Prelude.{ℕ, ◌+◌, suc, Bool, ◌&&◌, if◌then◌else◌, List, [], ◌∷◌, ◌++◌, map, length, filter, flat_map, Option, Some, None, ◌==◌}
+use Rattle.std.specs.List.{list_any, range_with_len}
+use Rattle.std.specs.Option.{option_map}
+use Rattle.std.specs.Str.{bytes_eq}
+use Rattle.krates_cm.specs.Document.{Text}
+use Rattle.krates_rules.specs.Facts.{Id}
+use Rattle.krates_rules.specs.Kind.{kind_of}
+use Rattle.krates_rules.specs.declared.kind.DepKind.{DepKind}
+use Rattle.krates_drawing.specs.Sheet.{Krate, Link, Meaning, OwnFeature, Crates, FeatureOf, Named, Toggle, Sheet}
+
+abbrev pub id_eq : Id → Id → Bool
+id_eq a b = bytes_eq a.name b.name && (bytes_eq a.version b.version && bytes_eq a.source b.source)
+
+-- the place of the first element that passes; past the end where none does
+abbrev pub place_of : {A : Type 0} → (A → Bool) → List A → ℕ
+place_of p [] = 0
+place_of p (x ∷ xs) = if p x then 0 else suc (place_of p xs)
+
+-- ---- nodes
+
+-- a node: a kept crate, or an enabled feature of one
+pub data End : Type 0 where
+  AtCrate : (id : Id) → End
+  AtFeature : (krate : Id) (name : Text) → End
+
+abbrev pub is_crate : Id → Krate → Bool
+is_crate q k = id_eq k.id q
+
+abbrev pub is_feature : Id → Text → Named → Bool
+is_feature q f n = id_eq n.krate q && bytes_eq n.name f
+
+abbrev pub crate_number : Sheet → Id → ℕ
+crate_number t q = place_of (is_crate q) t.krates
+
+abbrev pub feature_number : Sheet → Id → Text → ℕ
+feature_number t q f = length t.krates + place_of (is_feature q f) t.features
+
+-- kept crates in the order of their ids, then the enabled features, by crate and then by name
+abbrev pub number : Sheet → End → ℕ
+number t (AtCrate q) = crate_number t q
+number t (AtFeature q f) = feature_number t q f
+
+-- ---- edges
+
+-- what an edge of the graph says
+pub data Tie : Type 0 where
+  Dep : (kind : DepKind) (cfg : Option Text) → Tie
+  Feature : Tie
+  DepFeature : (kind : DepKind) (cfg : Option Text) → Tie
+
+-- an edge of the graph, from number to number
+pub record Line : Type 0 where
+  pub source : ℕ
+  pub target : ℕ
+  pub tie : Tie
+
+abbrev pub line : Sheet → End → End → Tie → Line
+line t from to tie = record { source = number t from; target = number t to; tie = tie }
+
+-- ---- first part: what each crate uses
+
+-- a `Dep` where the kept edge gives no feature, else a `DepFeature` for each that it gives
+unfoldable pub uses : Sheet → Link → List Text → List Line
+uses t l [] = line t (AtCrate l.edge.parent) (AtCrate l.edge.child) (Dep (kind_of l.edge.kind) l.edge.cfg) ∷ []
+uses t l (f ∷ fs) = map (λ g. line t (AtCrate l.edge.parent) (AtFeature l.edge.child g) (DepFeature (kind_of l.edge.kind) l.edge.cfg)) (f ∷ fs)
+
+abbrev pub is_from : Id → Link → Bool
+is_from p l = id_eq l.edge.parent p
+
+abbrev pub is_to : Id → Link → Bool
+is_to q l = id_eq l.edge.child q
+
+abbrev pub is_between : Id → Id → Toggle → Bool
+is_between p q t = id_eq t.by p && id_eq t.krate q
+
+-- the kept edges from p
+abbrev pub from_crate : Sheet → Id → List Link
+from_crate t p = filter (is_from p) t.links
+
+-- of the kept edges `mine` from p those to q, then the features of q that p toggles
+unfoldable pub pair_lines : Sheet → Id → List Link → Krate → List Line
+pair_lines t p mine q =
+    flat_map (λ l. uses t l l.given) (filter (is_to q.id) mine)
+    ++ map (λ g. line t (AtCrate p) (AtFeature q.id g.name) Feature) (filter (is_between p q.id) t.toggled)
+
+-- an edge leads to q
+abbrev pub leads_to : List Link → Id → Bool
+leads_to mine q = list_any (is_to q) mine
+
+-- to each crate with a kept edge from p, in id order
+unfoldable pub children_lines : Sheet → Id → List Link → List Line
+children_lines t p mine = flat_map (pair_lines t p mine) (filter (λ q. leads_to mine q.id) t.krates)
+
+unfoldable pub crate_lines : Sheet → Krate → List Line
+crate_lines t p = children_lines t p.id (from_crate t p.id)
+
+-- ---- second part: what each feature leads to
+
+-- what a reference of a feature of p names, over the kept edges `mine` from p
+abbrev pub targets : List Link → Id → Meaning → List End
+targets mine p (OwnFeature g) = AtFeature p g ∷ []
+targets mine p (Crates ids) = map AtCrate (filter (leads_to mine) ids)
+targets mine p (FeatureOf ids g) = map (λ q. AtFeature q g) (filter (leads_to mine) ids)
+
+unfoldable pub meaning_lines : Sheet → Named → List Link → Meaning → List Line
+meaning_lines t n mine m = map (λ e. line t (AtFeature n.krate n.name) e Feature) (targets mine n.krate m)
+
+-- to its crate, then to what its references name
+unfoldable pub feature_lines : Sheet → Named → List Line
+feature_lines t n =
+    line t (AtFeature n.krate n.name) (AtCrate n.krate) Feature
+    ∷ flat_map (meaning_lines t n (from_crate t n.krate)) n.meanings
+
+-- ---- all edges
+
+unfoldable pub lines : Sheet → List Line
+lines t = flat_map (crate_lines t) t.krates ++ flat_map (feature_lines t) t.features
+
+-- ---- the mapping of a crate
+
+abbrev pub last_from : {A : Type 0} → Option A → List A → Option A
+last_from o [] = o
+last_from o (x ∷ xs) = last_from (Some x) xs
+
+abbrev pub claims_at : ℕ → Id → Link → Bool
+claims_at k q l = is_to q l && (l.place == k)
+
+-- one of the edges leads to q and has the declared dependency at k as its own
+abbrev pub claims : List Link → ℕ → Krate → Bool
+claims mine k q = list_any (claims_at k q.id) mine
+
+-- the greatest crate that claims the declared dependency at k: the last one in id order
+abbrev pub claimant : Sheet → List Link → ℕ → Option Krate
+claimant t mine k = last_from None (filter (claims mine k) t.krates)
+
+abbrev pub mapped : Sheet → List Link → ℕ → Option ℕ
+mapped t mine k = option_map (λ q. crate_number t q.id) (claimant t mine k)
+
+-- one entry for each declared dependency of the package
+unfoldable pub mapping : Sheet → Krate → List (Option ℕ)
+mapping t p = map (mapped t (from_crate t p.id)) (range_with_len 0 p.declared)
+
+-- ---- nodes with what they hold
+
+pub data Spot : Type 0 where
+  CrateSpot : (id : Id) (mapping : List (Option ℕ)) → Spot
+  FeatureSpot : (krate : ℕ) (name : Text) → Spot
+
+abbrev pub crate_spot : Sheet → Krate → Spot
+crate_spot t p = CrateSpot p.id (mapping t p)
+
+abbrev pub feature_spot : Sheet → Named → Spot
+feature_spot t n = FeatureSpot (crate_number t n.krate) n.name
+
+-- kept crates in the order of their ids, then one node for each enabled feature, by crate and then by name
+abbrev pub spots : Sheet → List Spot
+spots t = map (crate_spot t) t.krates ++ map (feature_spot t) t.features

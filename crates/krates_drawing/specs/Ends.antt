@@ -1,0 +1,16 @@
+-- The ends of the drawn edges.
+use Rattle.std.specs.Prelude.{ℕ, ◌<◌, All, length}
+use Rattle.krates_rules.specs.Resolved.{Resolved}
+use Rattle.krates_resolve.specs.Selection.{IsSelection}
+use Rattle.krates_rules.specs.Setting.{SettingModel}
+use Rattle.krates_resolve.specs.declared.selection.Selection.{Selection}
+use Rattle.krates_drawing.specs.Drawing.{Line, lines, spots}
+use Rattle.krates_drawing.specs.Sheet.{Sheet, IsSheet}
+
+-- both ends are among the first n numbers
+abbrev pub HasEnds : ℕ → Line → Type 0
+HasEnds n l = (l.source < n) × (l.target < n)
+
+-- each drawn edge leads from a node to a node
+abbrev pub EndsStand : Type 0
+EndsStand = (r : Resolved) (s : SettingModel) (x : Selection) → IsSelection r s x → (t : Sheet) → IsSheet r s x t → All (HasEnds (length (spots t))) (lines t)

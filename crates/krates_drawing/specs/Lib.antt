@@ -1,0 +1,11 @@
+pub mod Agreement
+pub mod Alike
+pub mod Drawing
+pub mod Ends
+pub mod Gathered
+pub mod Paths
+pub mod Rebuilding
+pub mod Sheet
+pub mod SheetOrder
+pub mod Stored
+pub mod Views

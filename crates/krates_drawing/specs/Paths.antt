@@ -1,0 +1,36 @@
+-- Which crates kept members reach.
+use Rattle.std.specs.Prelude.{◌≡◌, ℕ, List, Contains, ⊤}
+use Rattle.krates_rules.specs.Facts.{Id}
+use Rattle.krates_rules.specs.Resolved.{Resolved, IsMember}
+use Rattle.krates_rules.specs.declared.kind.DepKind.{DepKind}
+use Rattle.krates_drawing.specs.Drawing.{Tie, Dep, Feature, DepFeature, Line, crate_number, lines}
+use Rattle.krates_drawing.specs.Sheet.{Krate, Sheet}
+
+-- the edge has no kind, or another
+abbrev pub Passes : DepKind → Tie → Type 0
+Passes k (Dep kind cfg) = kind ≡ k → ⊥
+Passes k (DepFeature kind cfg) = kind ≡ k → ⊥
+Passes k Feature = ⊤
+
+-- the number at the end of a path that begins at a start and whose edges pass
+pub data Reaches (k : DepKind) (edges : List Line) (Start : ℕ → Type 0) : ℕ → Type 0 where
+  begins : {n : ℕ} → Start n → Reaches k edges Start n
+  goes_on : {l : Line} → Reaches k edges Start l.source → Contains edges l → Passes k l.tie → Reaches k edges Start l.target
+
+-- the crate is kept
+pub record IsDrawn (t : Sheet) (p : Id) : Type 0 where
+  pub krate : Krate
+  pub among : Contains t.krates krate
+  pub id : krate.id ≡ p
+
+-- the number of a kept member
+pub record IsMemberNumber (r : Resolved) (t : Sheet) (n : ℕ) : Type 0 where
+  pub member : Id
+  pub kept : IsDrawn t member
+  pub is_member : IsMember r member
+  pub number : n ≡ crate_number t member
+
+-- the kept crate stands at the end of a path from a kept member over edges without this kind
+pub record IsFiltered (r : Resolved) (t : Sheet) (k : DepKind) (p : Id) : Type 0 where
+  pub kept : IsDrawn t p
+  pub reached : Reaches k (lines t) (IsMemberNumber r t) (crate_number t p)

@@ -1,0 +1,121 @@
+-- A selection with what drawing has to know of it: beside each crate, edge and feature what the document says of it.
+use Rattle.std.specs.Prelude.{◌≡◌, ◌↔◌, ℕ, Bool, List, [], ◌∷◌, ◌++◌, Contains, filter, length, map, unwrap_or, if◌then◌else◌}
+use Rattle.std.specs.List.{AllZip, list_any}
+use Rattle.std.specs.List.Sorted.{IsStrictlySortedBy}
+use Rattle.std.specs.Str.{bytes_eq}
+use Rattle.krates_cm.specs.Document.{Text, text_view, DependencyModel, PackageModel, NodeModel, FeaturesModel}
+use Rattle.krates_ids.specs.Correction.{named}
+use Rattle.krates_ids.specs.Identity.{Identity}
+use Rattle.krates_text.specs.FeatureReference.{Reference, IsReference}
+use Rattle.krates_text.specs.FeatureReference as references
+use Rattle.krates_rules.specs.Facts.{Id, Edge}
+use Rattle.krates_rules.specs.Questions.{IsDeclaredAt}
+use Rattle.krates_rules.specs.Referent.{IsReferent, id_order}
+use Rattle.krates_rules.specs.Resolved.{Resolved, id_of, HasPackage, HasNode}
+use Rattle.krates_rules.specs.Rules.{default_name}
+use Rattle.krates_resolve.specs.Selection.{edge_view}
+use Rattle.krates_rules.specs.Setting.{SettingModel}
+use Rattle.krates_resolve.specs.declared.selection.EnabledFeature.{EnabledFeature}
+use Rattle.krates_resolve.specs.declared.selection.KeptEdge.{KeptEdge}
+use Rattle.krates_resolve.specs.declared.selection.Selection.{Selection}
+use Rattle.krates_resolve.specs.declared.selection.ToggledFeature.{ToggledFeature}
+
+-- ---- what is drawn from
+
+-- a kept crate, with the number of its declared dependencies
+pub record Krate : Type 0 where
+  pub id : Id
+  pub declared : ℕ
+
+-- a kept edge, with the place of its declared dependency and the features that it gives
+pub record Link : Type 0 where
+  pub edge : Edge
+  pub place : ℕ
+  pub given : List Text
+
+-- what a reference names: a feature of its own crate, crates, or a feature of crates
+pub data Meaning : Type 0 where
+  OwnFeature : (name : Text) → Meaning
+  Crates : (ids : List Id) → Meaning
+  FeatureOf : (ids : List Id) (name : Text) → Meaning
+
+-- an enabled feature, with what its references name
+pub record Named : Type 0 where
+  pub krate : Id
+  pub name : Text
+  pub meanings : List Meaning
+
+-- a feature that a feature of another crate enables
+pub record Toggle : Type 0 where
+  pub by : Id
+  pub krate : Id
+  pub name : Text
+
+pub record Sheet : Type 0 where
+  pub krates : List Krate
+  pub links : List Link
+  pub features : List Named
+  pub toggled : List Toggle
+
+-- ---- what the document says
+
+pub record IsKrate (r : Resolved) (i : Identity) (k : Krate) : Type 0 where
+  pub id : k.id ≡ id_of i
+  pub pkg : PackageModel
+  pub has_package : HasPackage r k.id pkg
+  pub declared : k.declared ≡ length pkg.dependencies
+
+-- the features that a declared dependency asks for: those that it names, in order, then `default` by use
+abbrev pub asked_by : DependencyModel → List Text
+asked_by d = d.features ++ (if d.uses_default_features then default_name ∷ [] else [])
+
+abbrev pub has_text : List Text → Text → Bool
+has_text texts t = list_any (bytes_eq t) texts
+
+-- Of the features that its declared dependency asks for, the edge gives those that the child's node lists.
+pub record IsLink (r : Resolved) (s : SettingModel) (e : KeptEdge) (l : Link) : Type 0 where
+  pub edge : l.edge ≡ edge_view e
+  pub place : l.place ≡ e.declared
+  pub dependency : DependencyModel
+  pub declared : IsDeclaredAt r s l.edge l.place dependency
+  pub node : NodeModel
+  pub has_node : HasNode r l.edge.child node
+  pub given : l.given ≡ filter (has_text node.features) (asked_by dependency)
+
+-- the crates that a dependency's name means in a reference, in the order of their ids
+pub record AreReferents (r : Resolved) (i : Id) (name : Text) (ids : List Id) : Type 0 where
+  pub exactly : (c : Id) → Contains ids c ↔ IsReferent r i name c
+  pub ascending : IsStrictlySortedBy id_order ids
+
+abbrev pub Names : Resolved → Id → Reference → Meaning → Type 0
+Names r i (references.simple g) (OwnFeature name) = name ≡ g
+Names r i (references.krate d) (Crates ids) = AreReferents r i d ids
+Names r i (references.strong d g) (FeatureOf ids name) = AreReferents r i d ids × (name ≡ g)
+Names r i (references.weak d g) (FeatureOf ids name) = AreReferents r i d ids × (name ≡ g)
+Names r i _ _ = ⊥
+
+pub record IsMeaning (r : Resolved) (i : Id) (text : Text) (m : Meaning) : Type 0 where
+  pub reference : Reference
+  pub is : IsReference text reference
+  pub names : Names r i reference m
+
+-- the values of the feature, none where there is no such feature
+abbrev pub values_of : FeaturesModel → Text → List Text
+values_of features name = unwrap_or (named features name) []
+
+pub record IsNamed (r : Resolved) (f : EnabledFeature) (n : Named) : Type 0 where
+  pub krate : n.krate ≡ id_of f.krate
+  pub name : n.name ≡ text_view f.name
+  pub pkg : PackageModel
+  pub has_package : HasPackage r n.krate pkg
+  pub meanings : AllZip (IsMeaning r n.krate) (values_of pkg.features n.name) n.meanings
+
+abbrev pub toggle_of : ToggledFeature → Toggle
+toggle_of t = record { by = id_of t.by; krate = id_of t.krate; name = text_view t.name }
+
+-- the sheet is that of the selection
+pub record IsSheet (r : Resolved) (s : SettingModel) (x : Selection) (t : Sheet) : Type 0 where
+  pub krates : AllZip (IsKrate r) x.krates.items t.krates
+  pub links : AllZip (IsLink r s) x.edges.items t.links
+  pub features : AllZip (IsNamed r) x.features.items t.features
+  pub toggled : t.toggled ≡ map toggle_of x.toggled.items

@@ -1,0 +1,71 @@
+-- The sheet and the planned edges of the program, as clauses see them.
+use Rattle.std.specs.Prelude.{◌≡◌, ◌+◌, ◌<◌, ◌^◌, List, [], ◌∷◌, ◌++◌, Option, Some, None, map, length}
+use Rattle.std.specs.Option.{option_map}
+use Rattle.std.specs.Global.{Vec}
+use Rattle.krates_cm.specs.Document.{text_view}
+use Rattle.krates_rules.specs.Resolved.{id_of}
+use Rattle.krates_resolve.specs.Selection.{edge_view}
+use Rattle.krates_drawing.specs.Drawing.{Tie, Dep, Feature, DepFeature, Line, Spot, CrateSpot, FeatureSpot}
+use Rattle.krates_drawing.specs.Sheet as model
+use Rattle.krates_drawing.specs.Sheet.{OwnFeature, Crates, FeatureOf, toggle_of}
+use Rattle.krates_drawing.specs.declared.edge.Arrow.{Arrow}
+use Rattle.krates_drawing.specs.declared.edge.Edge.{Edge}
+use Rattle.krates_drawing.specs.declared.edge.Edge.TheVariants as edge
+use Rattle.krates_drawing.specs.declared.nodes.Spot as drawn
+use Rattle.krates_drawing.specs.declared.nodes.Spot.TheVariants as spot
+use Rattle.krates_drawing.specs.declared.sheet.Krate.{Krate}
+use Rattle.krates_drawing.specs.declared.sheet.Link.{Link}
+use Rattle.krates_drawing.specs.declared.sheet.Meaning.{Meaning}
+use Rattle.krates_drawing.specs.declared.sheet.Meaning.TheVariants as meaning
+use Rattle.krates_drawing.specs.declared.sheet.Named.{Named}
+use Rattle.krates_drawing.specs.declared.sheet.Sheet.{Sheet}
+
+abbrev pub krate_view : Krate → model.Krate
+krate_view k = record { id = id_of k.id; declared = k.declared }
+
+abbrev pub link_view : Link → model.Link
+link_view l = record { edge = edge_view l.edge; place = l.edge.declared; given = map text_view l.given.items }
+
+abbrev pub meaning_view : Meaning → model.Meaning
+meaning_view (meaning.OwnFeature name) = OwnFeature (text_view name)
+meaning_view (meaning.Crates krates) = Crates (map id_of krates.items)
+meaning_view (meaning.FeatureOf krates name) = FeatureOf (map id_of krates.items) (text_view name)
+
+abbrev pub meanings_view : Vec Meaning → List model.Meaning
+meanings_view v = map meaning_view v.items
+
+abbrev pub named_view : Named → model.Named
+named_view n = record { krate = id_of n.feature.krate; name = text_view n.feature.name; meanings = map meaning_view n.meanings.items }
+
+abbrev pub sheet_view : Sheet → model.Sheet
+sheet_view t = record {
+  krates = map krate_view t.krates.items;
+  links = map link_view t.links.items;
+  features = map named_view t.features.items;
+  toggled = map toggle_of t.toggled.items;
+}
+
+abbrev pub tie_view : Edge → Tie
+tie_view (edge.Dep kind cfg) = Dep kind (option_map text_view cfg)
+tie_view edge.Feature = Feature
+tie_view (edge.DepFeature kind cfg) = DepFeature kind (option_map text_view cfg)
+
+abbrev pub arrow_view : Arrow → Line
+arrow_view a = record { source = a.source; target = a.target; tie = tie_view a.edge }
+
+-- these lines were appended
+abbrev pub Draws : Vec Arrow → Vec Arrow → List Line → Type 0
+Draws old new ls = map arrow_view new.items ≡ map arrow_view old.items ++ ls
+
+-- there are few enough nodes
+abbrev pub IsFew : Sheet → Type 0
+IsFew t = length t.krates.items + length t.features.items < 2 ^ 32
+
+abbrev pub spot_view : drawn.Spot → Spot
+spot_view (spot.Krate id mapping) = CrateSpot (id_of id) mapping.items
+spot_view (spot.Feature krate_index name) = FeatureSpot krate_index (text_view name)
+
+-- what there is, as a list
+abbrev pub listed : {A : Type 0} → Option A → List A
+listed None = []
+listed (Some x) = x ∷ []

@@ -1,0 +1,14 @@
+//! The graph of a selection, drawn: what its nodes and edges are, as whole lists with their laws, and how they come into a stored graph.
+#![tactic(auto)]
+
+mod crate_edges;
+pub mod edge;
+mod feature_edges;
+pub mod gather;
+pub mod laws;
+mod meanings;
+pub mod nodes;
+mod numbers;
+pub mod plan;
+pub mod sheet;
+pub mod store;

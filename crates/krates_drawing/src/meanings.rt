@@ -1,0 +1,126 @@
+//! What the references of a feature name, and what a kept edge gives.
+ghost use Rattle.std.specs.Prelude.{◌≡◌, ◌++◌, ◌∷◌, [], map, filter, IfOk, OnOk};
+ghost use Rattle.std.specs.List.{AllZip};
+ghost use Rattle.std.specs.Option.{option_map};
+ghost use Rattle.krates_cm.specs.Document.{node_view, dependency_view, text_view};
+ghost use Rattle.krates_resolve.specs.DocumentModel.{as_resolved};
+ghost use Rattle.krates_rules.specs.Resolved.{id_of};
+ghost use Rattle.krates_drawing.specs.Sheet.{AreReferents, IsMeaning, asked_by, has_text as has};
+ghost use Rattle.krates_drawing.specs.Views.{meaning_view};
+
+use crate::sheet::Meaning;
+use krates_cm::{Dependency, Node};
+use krates_ids::{Kid, laws};
+use krates_resolve::Document;
+use krates_text::features::{Feature, ParsedFeature};
+use std::alloc::{AllocError, Global};
+
+/// The crates that a dependency's name means in a reference of a crate.
+fn referents_of<'a>(
+    alloc: Global,
+    document: &Document<'a>,
+    krate: &Kid,
+    name: &str,
+) -> Result<Vec<Kid>, AllocError>
+    ensures { IfOk result (λ ids. AreReferents (as_resolved document.now) (id_of krate.now) name.now (map id_of ids.items)) }
+{
+    laws::comparison();
+    match document.referent(krate, name) {
+        Some(child) => alone(alloc, child),
+        None => Ok(Vec::new(alloc)),
+    }
+}
+
+/// A copy of the id, in a list.
+fn alone(alloc: Global, id: &Kid) -> Result<Vec<Kid>, AllocError>
+    ensures { IfOk result (λ ids. map id_of ids.items ≡ id_of id.now ∷ []) }
+{
+    let mut ids = Vec::new(alloc);
+    ids.push(id.clone()?)?;
+    Ok(ids)
+}
+
+/// What a reference names.
+pub fn meaning_of<'a>(
+    alloc: Global,
+    document: &Document<'a>,
+    krate: &Kid,
+    text: &str,
+) -> Result<Meaning, AllocError>
+    ensures { IfOk result (λ meaning. IsMeaning (as_resolved document.now) (id_of krate.now) text.now (meaning_view meaning)) }
+{
+    match ParsedFeature::from(text).feat() {
+        Feature::Simple(name) => Ok(Meaning::OwnFeature(String::from_str(alloc, name)?)),
+        Feature::Krate(name) => Ok(Meaning::Crates(referents_of(alloc, document, krate, name)?)),
+        Feature::Weak {
+            krate: name,
+            feature,
+        } => Ok(Meaning::FeatureOf {
+            krates: referents_of(alloc, document, krate, name)?,
+            name: String::from_str(alloc, feature)?,
+        }),
+        Feature::Strong {
+            krate: name,
+            feature,
+        } => Ok(Meaning::FeatureOf {
+            krates: referents_of(alloc, document, krate, name)?,
+            name: String::from_str(alloc, feature)?,
+        }),
+    }
+}
+
+/// What the references of a feature name.
+pub fn meanings_of<'a>(
+    alloc: Global,
+    document: &Document<'a>,
+    krate: &Kid,
+    values: &[String],
+) -> Result<Vec<Meaning>, AllocError>
+    ensures { IfOk result (λ meanings. AllZip (IsMeaning (as_resolved document.now) (id_of krate.now)) (map text_view values.now) (map meaning_view meanings.items)) }
+{
+    let mut meanings = Vec::new(alloc);
+    for text in values {
+        meanings.push(meaning_of(alloc, document, krate, text.as_str())?)?;
+    }
+    Ok(meanings)
+}
+
+/// Whether the text is in the list.
+fn has_text(texts: &[String], text: &str) -> bool
+    ensures { result ≡ has (map text_view texts.now) text.now }
+{
+    for x in texts {
+        if text == x.as_str() {
+            return true;
+        }
+    }
+    false
+}
+
+/// Those of the features that the node lists.
+fn push_listed(node: &Node, features: &[String], given: &mut Vec<String>) -> Result<(), AllocError>
+    ensures { OnOk result (map text_view given.new.items ≡ map text_view given.old.items ++ filter (has (node_view node.now).features) (map text_view features.now)) }
+{
+    for x in features {
+        if has_text(&node.features, x.as_str()) {
+            given.push(x.clone()?)?;
+        }
+    }
+    Ok(())
+}
+
+/// The features that an edge gives, which is declared as this dependency and leads to the crate of this node.
+pub fn given_of(
+    alloc: Global,
+    dependency: &Dependency,
+    node: &Node,
+) -> Result<Vec<String>, AllocError>
+    ensures { IfOk result (λ given. map text_view given.items ≡ filter (has (node_view node.now).features) (asked_by (dependency_view dependency.now))) }
+{
+    let mut given = Vec::new(alloc);
+    push_listed(node, &dependency.features, &mut given)?;
+    if dependency.uses_default_features && has_text(&node.features, "default") {
+        given.push(String::from_str(alloc, "default")?)?;
+    }
+    Ok(given)
+}

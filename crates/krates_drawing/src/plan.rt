@@ -1,0 +1,24 @@
+//! All edges of a selection's graph, by number.
+ghost use Rattle.std.specs.Prelude.{◌≡◌, map, IfOk};
+ghost use Rattle.krates_drawing.specs.Drawing.{lines};
+ghost use Rattle.krates_drawing.specs.SheetOrder.{IsOrdered};
+ghost use Rattle.krates_drawing.specs.Views.{sheet_view, arrow_view, IsFew};
+
+use crate::crate_edges::draw_crates;
+use crate::edge::Arrow;
+use crate::feature_edges::draw_features;
+use crate::sheet::Sheet;
+use std::alloc::{AllocError, Global};
+
+/// All edges of the selection's graph.
+#[tactic(auto, unfolding(crate::specs::Drawing::lines))]
+pub fn plan(alloc: Global, sheet: &Sheet) -> Result<Vec<Arrow>, AllocError>
+    requires few { IsFew sheet.now }
+    requires ordered { IsOrdered sheet.now }
+    ensures { IfOk result (λ v. map arrow_view v.items ≡ lines (sheet_view sheet.now)) }
+{
+    let mut out = Vec::new(alloc);
+    draw_crates(alloc, sheet, &mut out)?;
+    draw_features(alloc, sheet, &mut out)?;
+    Ok(out)
+}

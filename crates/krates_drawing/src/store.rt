@@ -1,0 +1,101 @@
+//! The planned edges, put into a graph.
+ghost use Rattle.std.specs.Prelude.{◌≡◌, ◌<◌, ◌≤◌, ◌^◌, [], map, length, All, IfOk, OnOk, IfErr};
+ghost use Rattle.std.specs.List.{AllZip};
+ghost use Rattle.krates_drawing.specs.Ends.{HasEnds};
+ghost use Rattle.krates_drawing.specs.Stored.{IsStoredAs, Appends};
+ghost use Rattle.krates_drawing.specs.Views.{arrow_view, tie_view};
+ghost use Rattle.krates_drawing.specs.declared.edge.Edge.{Edge};
+ghost use Rattle.krates_drawing.specs.declared.store.StoreError.TheVariants.{TooMany};
+
+use crate::edge::{Arrow, Edge};
+use krates_graph::graph::{Graph, GraphError, NodeId};
+use std::alloc::{AllocError, Global};
+
+/// A value that is made of an edge.
+pub trait FromEdge {
+    ghost made_from_edge: { Edge → Self → Type 0 };
+
+    fn from_edge(alloc: Global, edge: Edge) -> Result<Self, AllocError>
+    where
+        Self: Sized,
+        ensures { IfOk result (made_from_edge edge) };
+}
+
+/// Why the edges aren't stored.
+#[derive(Debug, PartialEq, Eq, Drop)]
+pub enum StoreError {
+    TooMany,
+    Memory,
+}
+
+fn copy_edge(edge: &Edge) -> Result<Edge, AllocError>
+    ensures { IfOk result (λ e. tie_view e ≡ tie_view edge.now) }
+{
+    match edge {
+        Edge::Dep { kind, cfg } => Ok(Edge::Dep {
+            kind: *kind,
+            cfg: cfg.clone()?,
+        }),
+        Edge::DepFeature { kind, cfg } => Ok(Edge::DepFeature {
+            kind: *kind,
+            cfg: cfg.clone()?,
+        }),
+        Edge::Feature => Ok(Edge::Feature),
+    }
+}
+
+fn weight_of<E: FromEdge>(alloc: Global, edge: &Edge) -> Result<E, StoreError>
+    ensures made { IfOk result (λ w. (e : Edge) × (tie_view e ≡ tie_view edge.now) × E.made_from_edge e w) }
+    ensures refused { IfErr result (λ e. e ≡ TooMany → ⊥) }
+{
+    match copy_edge(edge) {
+        Ok(edge) => match E::from_edge(alloc, edge) {
+            Ok(weight) => Ok(weight),
+            Err(_) => Err(StoreError::Memory),
+        },
+        Err(_) => Err(StoreError::Memory),
+    }
+}
+
+fn store_arrow<N, E: FromEdge + Drop>(
+    alloc: Global,
+    arrow: &Arrow,
+    graph: &mut Graph<N, E>,
+) -> Result<(), StoreError>
+    requires stands { HasEnds (length graph.old.nodes) (arrow_view arrow.now) }
+    requires few { length graph.old.nodes < 2 ^ 32 }
+    ensures drawn { OnOk result (Appends E.made_from_edge graph.old.edges graph.new.edges (arrow_view arrow.now)) }
+    ensures nodes { graph.new.nodes ≡ graph.old.nodes }
+    ensures limit { graph.new.edge_limit ≡ graph.old.edge_limit }
+    ensures refused { IfErr result (λ e. e ≡ TooMany → graph.old.edge_limit ≤ length graph.old.edges) }
+{
+    let source = NodeId::new(arrow.source as u32);
+    let target = NodeId::new(arrow.target as u32);
+    match weight_of(alloc, &arrow.edge) {
+        Ok(weight) => match graph.add_edge(source, target, weight) {
+            Ok(_) => Ok(()),
+            Err(GraphError::Full(_)) => Err(StoreError::TooMany),
+            Err(GraphError::Memory(_)) => Err(StoreError::Memory),
+        },
+        Err(error) => Err(error),
+    }
+}
+
+/// Puts the planned edges into a graph that has the nodes and no edge yet.
+pub fn store_arrows<N, E: FromEdge + Drop>(
+    alloc: Global,
+    arrows: &[Arrow],
+    graph: &mut Graph<N, E>,
+) -> Result<(), StoreError>
+    requires stand { All (HasEnds (length graph.old.nodes)) (map arrow_view arrows.now) }
+    requires few { length graph.old.nodes < 2 ^ 32 }
+    requires empty { graph.old.edges ≡ [] }
+    ensures drawn { OnOk result (AllZip (IsStoredAs E.made_from_edge) (map arrow_view arrows.now) graph.new.edges) }
+    ensures nodes { graph.new.nodes ≡ graph.old.nodes }
+    ensures refused { IfErr result (λ e. e ≡ TooMany → graph.old.edge_limit < length arrows.now) }
+{
+    for x in arrows {
+        store_arrow(alloc, x, graph)?;
+    }
+    Ok(())
+}
