@@ -31,7 +31,7 @@ SECONDS = 60
 REFUSALS = [
     r"failed to interpret `cargo metadata`'s json: .*",
     r"no resolution graph was provided",
-    r"invalid package id: bad (opaque id|stable id|escape): .*",
+    r"invalid package id: .*",
     r"doubled id: .*",
     r"lost (package|node): .*",
     r"lost feature: .* of .*",
