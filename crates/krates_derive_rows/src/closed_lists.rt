@@ -1,0 +1,183 @@
+//! Lists of facts: each is closed as it was written, and open without any one of its facts.
+
+use crate::facts::{fact_of, setting_of, told};
+use krates_cm::Metadata;
+use krates_derive::{Fact, check_closed};
+use krates_document::Setting;
+use krates_samples::documents::{metadata, section};
+use krates_samples::table::{Question, Row, hold};
+use std::alloc::Global;
+use std::test::Fail;
+
+/// The facts of the words, but for the one at this place.
+fn facts_but(alloc: Global, text: &str, left_out: usize) -> Result<Vec<Fact>, Fail> {
+    let mut facts = Vec::new(alloc);
+    for (place, word) in text.split_whitespace().enumerate() {
+        if place != left_out {
+            facts.push(fact_of(alloc, word)?)?;
+        }
+    }
+    Ok(facts)
+}
+
+/// What the check answers of the words, but for the one at this place.
+fn answer(
+    alloc: Global,
+    metadata: &Metadata,
+    setting: &Setting,
+    text: &str,
+    left_out: usize,
+) -> Result<String, Fail> {
+    let facts = facts_but(alloc, text, left_out)?;
+    told(alloc, check_closed(alloc, metadata, setting, None, &facts))
+}
+
+/// What the check of a list of facts answers.
+struct Closed;
+
+impl Question for Closed {
+    fn told(alloc: Global, line: &str) -> Result<String, Fail> {
+        let metadata = metadata(alloc, line)?;
+        let setting = setting_of(alloc, line)?;
+        let text = section(line, "facts").unwrap_or("");
+        answer(alloc, &metadata, &setting, text, usize::MAX)
+    }
+}
+
+/// What it answers of the whole list, and behind it what it answers without each of its facts.
+struct EachNeeded;
+
+impl Question for EachNeeded {
+    fn told(alloc: Global, line: &str) -> Result<String, Fail> {
+        let metadata = metadata(alloc, line)?;
+        let setting = setting_of(alloc, line)?;
+        let text = section(line, "facts").unwrap_or("");
+        let mut all = answer(alloc, &metadata, &setting, text, usize::MAX)?;
+        for (place, _) in text.split_whitespace().enumerate() {
+            let without = answer(alloc, &metadata, &setting, text, place)?;
+            write!(all, " {without}")?;
+        }
+        Ok(all)
+    }
+}
+
+const NEEDED: &[Row] = &[
+    ("a b&dev|b / facts +a a>b:dev +b", "yes open open open"),
+    (
+        "a b?;b=dep:b w=b?/j|b;j= / facts +a a/b a/w a>b +b a>b/j b/j",
+        "yes open open open open open open open",
+    ),
+    (
+        "a b?;b=dep:b w=b?/j|b;j= / nodes a b;w|b;j / facts +a a/w",
+        "yes open open",
+    ),
+    (
+        "a b!&with=default|b / nodes a b|b;default / facts +a a>b +b b/default",
+        "yes open open open open",
+    ),
+    ("a b;x=b/nope|b / without b / facts +a a/x", "yes open open"),
+    (
+        "a b&dev;x=b/y|b;y= / facts +a a/x a>b:dev +b a>b/y b/y",
+        "yes open open open open open open",
+    ),
+    (
+        "a d|d@0.9.0|d@0.10.0 / nodes a d@0.9.0 d@0.10.0|d@0.9.0|d@0.10.0 / facts +a a>d@0.9.0 a>d@0.10.0 +d@0.9.0 +d@0.10.0",
+        "yes open open open open open",
+    ),
+    (
+        "a b? b&dev;w=b?/j|b;j= / nodes a b&normal&dev;w|b;j / facts +a a/w a>b:dev +b a>b/j b/j",
+        "yes open open open open open open",
+    ),
+    (
+        "a b?;s=b/k w=b?/j|b;j= k= / facts +a a/s a/w a>b +b a>b/j b/j a>b/k b/k",
+        "yes open open open open open open open open open",
+    ),
+    ("a;x=nope/y / facts +a a/x", "yes open open"),
+    ("a b!|b / facts +a a>b +b", "yes open open open"),
+    (
+        "a md-5?;x=md-5/std|md-5&lib=md5;std= / nodes a md-5&as=md5;x|md-5;std / facts +a a/x a>md-5 +md-5 a>md-5/std md-5/std",
+        "yes open open open open open open",
+    ),
+    (
+        "a real?&as=alias;x=dep:alias|real / facts +a a/x a>real +real",
+        "yes open open open open",
+    ),
+    // every crate needs the other
+    ("a b|b a / facts +a a>b +b b>a", "yes open open open open"),
+];
+
+#[test]
+fn each_fact_is_needed(rt: HostRuntime) -> Result<(), Fail> {
+    hold::<EachNeeded>(rt.alloc(), NEEDED)
+}
+
+const ADDED: &[Row] = &[
+    // a fact that drags others, which aren't there, or are
+    (
+        "a b?;b=dep:b w=b?/j|b;j= / nodes a b;w|b;j / facts +a a/w +b",
+        "yes",
+    ),
+    (
+        "a b?;b=dep:b w=b?/j|b;j= / nodes a b;w|b;j / facts +a a/w a>b",
+        "open",
+    ),
+    (
+        "a b?;b=dep:b w=b?/j|b;j= / nodes a b;w|b;j / facts +a a/w a>b +b",
+        "open",
+    ),
+    (
+        "a b?;b=dep:b w=b?/j|b;j= / nodes a b;w|b;j / facts +a a/w a>b +b a>b/j",
+        "open",
+    ),
+    (
+        "a b?;b=dep:b w=b?/j|b;j= / nodes a b;w|b;j / facts +a a/w a>b +b a>b/j b/j",
+        "yes",
+    ),
+    ("a b|b|c a / facts +a a>b +b", "yes"),
+    ("a b|b|c a / facts +a a>b +b +c", "open"),
+    ("a b|b|c a / facts +a a>b +b +c c>a", "yes"),
+    // facts that can't be derived: what an edge of an ignored kind declares is asked for too
+    ("a b&dev&with=y|b;y= / ignore dev / facts +a", "yes"),
+    (
+        "a b&dev&with=y|b;y= / ignore dev / facts +a a>b:dev",
+        "open",
+    ),
+    (
+        "a b&dev&with=y|b;y= / ignore dev / facts +a a>b:dev +b",
+        "open",
+    ),
+    (
+        "a b&dev&with=y|b;y= / ignore dev / facts +a a>b:dev +b b/y",
+        "yes",
+    ),
+    // an edge that no node lists gives its crate alone
+    ("a|b / facts +a a>b", "open"),
+    ("a|b / facts +a a>b +b", "yes"),
+];
+
+#[test]
+fn facts_that_are_added(rt: HostRuntime) -> Result<(), Fail> {
+    hold::<Closed>(rt.alloc(), ADDED)
+}
+
+const LOST: &[Row] = &[
+    // what is lost keeps each list open: a feature, a package, a node, a dependency that isn't declared
+    ("a b;x=b/nope|b / facts +a a/x a>b +b", "open"),
+    ("a;x=y / nodes a;x / facts +a a/x", "open"),
+    ("a b&with=z|b / facts +a a>b +b", "open"),
+    ("a b / facts +a a>b +b", "open"),
+    ("a b|b / nodes a b / facts +a a>b +b", "open"),
+    ("a|b / nodes a b|b / facts +a a>b +b", "open"),
+    ("a b|b / nodes / facts +a", "open"),
+    // but for the default feature by use, and what is excluded
+    ("a b|b / nodes a b / without b / facts +a", "yes"),
+    ("a b|b / without a / facts", "yes"),
+    // the document isn't admitted
+    ("a b|b / no graph / facts +a a>b +b", "document"),
+    ("a b|b|b / facts +a a>b +b", "document"),
+];
+
+#[test]
+fn what_is_lost(rt: HostRuntime) -> Result<(), Fail> {
+    hold::<Closed>(rt.alloc(), LOST)
+}

@@ -1,0 +1,12 @@
+//! Worked examples of the two checkers: lists of steps and lists of facts, written by hand, whose answers are known.
+//!
+//! They stand apart from the crate that they test, since a crate with tests is proved twice. An example is a row of a table: a
+//! line in two small languages, of documents and of facts, and the word that answers it.
+#![tactic(auto)]
+
+#[cfg(test)]
+mod closed_lists;
+#[cfg(test)]
+mod derivations;
+#[cfg(test)]
+mod facts;
