@@ -1,5 +1,6 @@
 pub mod Basis
 pub mod CrateTable
+pub mod DocumentAnswers
 pub mod DocumentModel
 pub mod FeatureOrder
 pub mod FeatureTable

@@ -9,7 +9,8 @@ use std::alloc::AllocError;
 pub(crate) fn in_order<T: Ord + Drop>(mut items: Vec<T>) -> Result<Vec<T>, AllocError>
     ensures ascending { IfOk result (λ sorted. IsStrictlySortedBy T.cmp sorted.items) }
     ensures from { IfOk result (λ sorted. (x : T) → Contains sorted.items x → Contains items.items x) }
-    ensures kept { IfOk result (λ all. (x : T) → Contains items.items x → (y : T) × Contains all.items y × (T.eq x y ≡ true)) }
+    ensures kept { IfOk result (λ all. (x : T) → Contains items.items x
+        → (y : T) × Contains all.items y × (T.eq x y ≡ true)) }
 {
     items.sort()?;
     items.dedup();
