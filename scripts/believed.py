@@ -19,9 +19,13 @@ HEAD = """# The headline, and all that has to be believed of it
 
 Written by `scripts/believed.py` from the contract of `Builder::build_with_metadata`
 ([builder.rt](../{source})), and compared with it by each run of the gate. The proofs need not be read: they are checked.
-What has to be read, to know what is proved, are the contract and the {count} definitions that it reaches, {lines} lines in {files} files.
-Of these, {fields} lines say nothing new: they list the fields of a document and of what an index answers, as clauses see them.
-They stand here so that each is explained before it is used, each with the sentence that stands above it in its file.
+What has to be read, to know what is proved, are the contract and the {count} definitions that it reaches: {lines} lines in {files} files.
+
+- {meaning} lines mean something. The mark that this page keeps to is 900.
+- {fields} lines are beyond that mark, and say nothing new: they list the fields of a document, of what an index answers, of a setting
+  and of a document's ids, as clauses see them. Every other definition names such fields, so they stand here too.
+
+Each definition is explained before it is used, with the sentence that stands above it in its file.
 
 ```
 {contract}
@@ -160,7 +164,7 @@ def page():
             files.append(definition.file)
     lines = sum(len(definition.text.split("\n")) for definition in order)
     fields = sum(len(definition.text.split("\n")) for definition in order if definition.name.endswith(("_view", "Model")))
-    out = [HEAD.format(source=SOURCE, count=len(order), lines=lines, fields=fields, files=len(files), contract="\n".join(clauses))]
+    out = [HEAD.format(source=SOURCE, count=len(order), lines=lines, meaning=lines - fields, fields=fields, files=len(files), contract="\n".join(clauses))]
     for file in files:
         place = file.path.relative_to(ROOT)
         out.append(f"## {file.title.split('. ')[0].rstrip('.')}\n\n[{place.parts[1]}, {place.stem}](../{place})\n")

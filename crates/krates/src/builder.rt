@@ -1,19 +1,16 @@
 //! The build: from a document to the crates that are kept of it.
 
-ghost use Rattle.std.specs.Prelude.{◌≡◌, ◌↔◌, ◌<◌, ◌^◌, ◌++◌, Contains, None, MatchOption, IfOk, IfErr, OnOk, OnErr, length, map};
+ghost use Rattle.std.specs.Prelude.{◌≡◌, ◌↔◌, ◌<◌, ◌^◌, Contains, None, MatchOption, IfOk, IfErr, OnOk, OnErr, length};
 ghost use Rattle.std.specs.Bool.{MatchBool};
 ghost use Rattle.std.specs.Borrow.{sem};
 ghost use Rattle.krates_cm.specs.Document.{metadata_view};
-ghost use Rattle.krates_ids.specs.PackageSpecification.{spec_view};
-ghost use Rattle.krates_text.specs.AskedTargets.{asked_of};
 ghost use Rattle.krates_rules.specs.Admission.{IsAdmitted};
 ghost use Rattle.krates_document.specs.Ids.{ids_view};
 ghost use Rattle.krates_rules.specs.Kind.{IgnoresMore};
 ghost use Rattle.krates_rules.specs.PlainSetting.{plain_setting};
-ghost use Rattle.krates_rules.specs.Setting.{AsksForPaths};
 ghost use Rattle.krates.specs.Build.{IsResolvable, IsBuilt, GraphRefusal, BuildRefusal, CountRefusal};
 ghost use Rattle.krates.specs.Builder.{RestsUnchanged};
-ghost use Rattle.krates.specs.BuilderModel.{with_setting};
+ghost use Rattle.krates.specs.BuilderModel.{AsksForCrates, at_targets, excluding, ignoring, with_setting};
 ghost use Rattle.krates.specs.Indexed.{IsAskable, Sees};
 
 use crate::division::divide;
@@ -56,7 +53,7 @@ impl<S: Drop + 'static> Builder<S> {
     /// Ignores the dependencies for this purpose of the crates of the scope, beside those that are ignored already.
     pub fn ignore_kind(&mut self, kind: DepKind, scope: Scope) -> &mut Self
         ensures ignored { IgnoresMore self.old.setting.ignored result.now.setting.ignored kind scope }
-        ensures rest { result.now ≡ with_setting self.old (record (self.old.setting) { ignored = result.now.setting.ignored }) }
+        ensures rest { result.now ≡ ignoring self.old result.now.setting.ignored }
         ensures same_reference { result.ghost_name ≡ self.entry.ghost_name }
     {
         self.setting.ignore_kind(kind, scope);
@@ -76,7 +73,7 @@ impl<S: Drop + 'static> Builder<S> {
     /// the builder is as it was.
     pub fn exclude(&mut self, specs: Vec<PkgSpec>) -> Result<&mut Self, AllocError>
         ensures* refused { sem 𝓛 (RestsUnchanged S.row self.entry result) }
-        ensures appended { IfOk result (λ b. b.now ≡ with_setting self.old (record (self.old.setting) { exclusions = self.old.setting.exclusions ++ map spec_view specs.items })) }
+        ensures appended { IfOk result (λ b. b.now ≡ excluding self.old specs.items) }
         ensures same_reference { IfOk result (λ b. b.ghost_name ≡ self.entry.ghost_name) }
     {
         if self.has_excluded(specs) {
@@ -88,7 +85,7 @@ impl<S: Drop + 'static> Builder<S> {
 
     /// Leaves out more packages; whether it could.
     fn has_excluded(&mut self, specs: Vec<PkgSpec>) -> bool
-        ensures { MatchBool result (self.new ≡ with_setting self.old (record (self.old.setting) { exclusions = self.old.setting.exclusions ++ map spec_view specs.items })) (self.new ≡ self.old) }
+        ensures { MatchBool result (self.new ≡ excluding self.old specs.items) (self.new ≡ self.old) }
     {
         self.setting.exclude(specs).is_ok()
     }
@@ -97,7 +94,7 @@ impl<S: Drop + 'static> Builder<S> {
     /// `Cargo.toml` means the manifest in that directory. After a refusal the builder is as it was.
     pub fn include_workspace_crates(&mut self, paths: &[&str]) -> Result<&mut Self, AllocError>
         ensures* refused { sem 𝓛 (RestsUnchanged S.row self.entry result) }
-        ensures appended { IfOk result (λ b. AsksForPaths self.old.setting b.now.setting paths.now × (b.now.index ≡ self.old.index)) }
+        ensures appended { IfOk result (λ b. AsksForCrates self.old b.now paths.now) }
         ensures same_reference { IfOk result (λ b. b.ghost_name ≡ self.entry.ghost_name) }
     {
         if self.has_included_crates(paths) {
@@ -109,7 +106,7 @@ impl<S: Drop + 'static> Builder<S> {
 
     /// Asks for more crates; whether it could.
     fn has_included_crates(&mut self, paths: &[&str]) -> bool
-        ensures { MatchBool result (AsksForPaths self.old.setting self.new.setting paths.now × (self.new.index ≡ self.old.index)) (self.new ≡ self.old) }
+        ensures { MatchBool result (AsksForCrates self.old self.new paths.now) (self.new ≡ self.old) }
     {
         self.setting
             .include_workspace_crates(self.alloc, paths)
@@ -123,7 +120,7 @@ impl<S: Drop + 'static> Builder<S> {
         targets: Vec<(Target, Vec<String>)>,
     ) -> Result<&mut Self, AllocError>
         ensures* refused { sem 𝓛 (RestsUnchanged S.row self.entry result) }
-        ensures appended { IfOk result (λ b. b.now ≡ with_setting self.old (record (self.old.setting) { targets = self.old.setting.targets ++ map asked_of targets.items })) }
+        ensures appended { IfOk result (λ b. b.now ≡ at_targets self.old targets.items) }
         ensures same_reference { IfOk result (λ b. b.ghost_name ≡ self.entry.ghost_name) }
     {
         if self.has_included_targets(targets) {
@@ -135,7 +132,7 @@ impl<S: Drop + 'static> Builder<S> {
 
     /// Keeps dependencies for more targets; whether it could.
     fn has_included_targets(&mut self, targets: Vec<(Target, Vec<String>)>) -> bool
-        ensures { MatchBool result (self.new ≡ with_setting self.old (record (self.old.setting) { targets = self.old.setting.targets ++ map asked_of targets.items })) (self.new ≡ self.old) }
+        ensures { MatchBool result (self.new ≡ at_targets self.old targets.items) (self.new ≡ self.old) }
     {
         self.setting.include_targets(targets).is_ok()
     }

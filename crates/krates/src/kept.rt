@@ -90,7 +90,8 @@ impl Krates {
     /// The enabled features of a crate, in the order of their names as bytes: `Some` exactly for a kept crate. A kept crate may have
     /// none, and then the set is empty.
     pub fn get_enabled_features(&self, kid: &Kid) -> Option<&EnabledFeatures>
-        ensures { MatchOption result ((n : ℕ) → StandsAt self.now.ids (id_of kid.now) n → ⊥) (λ features. HasFeatures self.now.ids self.now.features (id_of kid.now) (names_in features.now)) }
+        ensures { MatchOption result ((n : ℕ) → StandsAt self.now.ids (id_of kid.now) n → ⊥)
+            (λ features. HasFeatures self.now.ids self.now.features (id_of kid.now) (names_in features.now)) }
     {
         let place = self.nid_for_kid(kid)?.index();
         Some(&self.features[place])

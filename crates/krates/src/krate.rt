@@ -54,7 +54,8 @@ impl Ord for Krate {
 impl PartialOrd for Krate {
     ghost partial_cmp = { as_partial_cmp krate_cmp };
 
-    ghost laws = { partial_order_from_own_ties (Prim.search (comparing, rules) depth 9) (Prim.search (comparing, rules) depth 9) };
+    ghost laws = { partial_order_from_own_ties
+        (Prim.search (comparing, rules) depth 9) (Prim.search (comparing, rules) depth 9) };
 
     fn partial_cmp(&self, other: &Krate) -> Option<Ordering> {
         Some(self.cmp(other))

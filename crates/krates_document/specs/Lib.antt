@@ -1,2 +1,3 @@
 pub mod AdmissionSteps
 pub mod Ids
+pub mod Setters

@@ -62,8 +62,10 @@ fn are_names(path: &str, directory: &str) -> bool
 
 /// Whether the next component is this name.
 fn next_is(left: &mut Components<'_>, name: &str) -> bool
-    ensures matches { IsTrue result → components_remaining left.old ≡ name.now ∷ components_remaining left.new }
-    ensures differs { (rest : List (List ℕ)) → components_remaining left.old ≡ name.now ∷ rest → IsTrue result }
+    ensures matches { IsTrue result
+        → components_remaining left.old ≡ name.now ∷ components_remaining left.new }
+    ensures differs { (rest : List (List ℕ))
+        → components_remaining left.old ≡ name.now ∷ rest → IsTrue result }
 {
     match left.next() {
         Some(component) => component.as_os_str() == name,

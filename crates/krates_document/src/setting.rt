@@ -1,6 +1,6 @@
 //! The caller's setting.
 
-ghost use Rattle.std.specs.Prelude.{◌≡◌, ◌↔◌, ◌++◌, [], false, IfOk, IsTrue, OnOk, OnErr, map, string_bytes, option_map};
+ghost use Rattle.std.specs.Prelude.{◌≡◌, ◌↔◌, [], false, IfOk, IsTrue, OnOk, OnErr, map, string_bytes, option_map};
 ghost use Rattle.std.specs.List.{AllZip};
 ghost use Rattle.krates_cm.specs.Document.{package_view, text_view};
 ghost use Rattle.krates_ids.specs.PackageSpecification.{spec_view};
@@ -8,6 +8,7 @@ ghost use Rattle.krates_text.specs.AskedTargets.{asked_of};
 ghost use Rattle.krates_rules.specs.Kind.{kind_of, ignores, IgnoresMore};
 ghost use Rattle.krates_rules.specs.Setting.{SettingModel, IsManifestOf, AsksForPaths, IsExcluded, Passes};
 ghost use Rattle.krates_rules.specs.PlainSetting.{plain_setting};
+ghost use Rattle.krates_document.specs.Setters.{with_exclusions, with_targets};
 
 use krates_cm::{DependencyKind, Package};
 use krates_ids::PkgSpec;
@@ -75,7 +76,7 @@ impl Setting {
     /// Leaves out the packages that one of the specifications fits, beside those that are left out already. After a refusal
     /// the setting is as it was.
     pub fn exclude(&mut self, mut specs: Vec<PkgSpec>) -> Result<(), AllocError>
-        ensures appended { OnOk result (self.new ≡ record self.old { exclusions = self.old.exclusions ++ map spec_view specs.items }) }
+        ensures appended { OnOk result (self.new ≡ with_exclusions self.old (map spec_view specs.items)) }
         ensures refused { OnErr result (self.new ≡ self.old) }
     {
         self.exclusions.append(&mut specs)
@@ -87,7 +88,7 @@ impl Setting {
         &mut self,
         mut targets: Vec<(Target, Vec<String>)>,
     ) -> Result<(), AllocError>
-        ensures appended { OnOk result (self.new ≡ record self.old { targets = self.old.targets ++ map asked_of targets.items }) }
+        ensures appended { OnOk result (self.new ≡ with_targets self.old (map asked_of targets.items)) }
         ensures refused { OnErr result (self.new ≡ self.old) }
     {
         self.targets.append(&mut targets)
@@ -160,7 +161,8 @@ impl Setting {
 
 /// The manifests that these paths mean.
 fn manifests_of(alloc: Global, paths: &[&str]) -> Result<Vec<String>, AllocError>
-    ensures { IfOk result (λ manifests. AllZip IsManifestOf (map (λ path. path.now) paths.now) (map text_view manifests.items)) }
+    ensures { IfOk result (λ manifests.
+        AllZip IsManifestOf (map (λ path. path.now) paths.now) (map text_view manifests.items)) }
 {
     let mut manifests = Vec::new(alloc);
     for &path in paths {

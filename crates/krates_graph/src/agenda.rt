@@ -70,7 +70,9 @@ impl Agenda {
     /// Takes the number that was put first among those that were not taken yet; none where all were.
     pub fn take(&mut self) -> Option<Taken>
         ensures first { result ≡ slice_get self.old.put self.old.taken }
-        ensures counted { self.new ≡ record self.old { taken = self.old.taken + (if is_some result then 1 else 0) } }
+        ensures counted { self.new ≡ record self.old {
+          taken = self.old.taken + (if is_some result then 1 else 0);
+        } }
         ensures orderly { IsOrderly self.new }
     {
         let number = *self.numbers.get(self.next)?;

@@ -40,9 +40,15 @@ impl<N, E> Model for Graph<N, E> {
 
     ghost Value = { StoredGraph N E };
 
-    ghost view = { λ g. record { nodes = g.nodes.items; edges = g.edges.items; node_limit = g.node_limit; edge_limit = g.edge_limit } };
+    ghost view = { λ g. record {
+      nodes = g.nodes.items;
+      edges = g.edges.items;
+      node_limit = g.node_limit;
+      edge_limit = g.edge_limit;
+    } };
 
-    ghost invariant = { λ g. IsIndexed g.nodes.items g.edges.items g.node_limit g.edge_limit (lists_of g.outgoing) (lists_of g.incoming) };
+    ghost invariant = { λ g.
+        IsIndexed g.nodes.items g.edges.items g.node_limit g.edge_limit (lists_of g.outgoing) (lists_of g.incoming) };
 }
 
 impl<N, E> Graph<N, E> {
@@ -64,7 +70,8 @@ impl<N, E> Graph<N, E> {
     /// where there was no room; each hands the value back and leaves the graph as it was.
     pub fn add_node(&mut self, value: N) -> Result<NodeId, GraphError<N>>
         ensures number { IfOk result (λ id. id ≡ length self.old.nodes) }
-        ensures added { IfOk result (λ _. self.new ≡ record self.old { nodes = self.old.nodes ++ value ∷ [] }) }
+        ensures added { IfOk result (λ _.
+            self.new ≡ record self.old { nodes = self.old.nodes ++ value ∷ [] }) }
         ensures full { IsFull result ↔ (length self.old.nodes ≡ self.old.node_limit) }
         ensures value_returned { IfErr result (λ error. value_in error ≡ value) }
         ensures unchanged { OnErr result (self.new ≡ self.old) }
@@ -97,7 +104,9 @@ impl<N, E> Graph<N, E> {
         requires source_stands { source < length self.old.nodes }
         requires target_stands { target < length self.old.nodes }
         ensures number { IfOk result (λ id. id ≡ length self.old.edges) }
-        ensures added { IfOk result (λ _. self.new ≡ record self.old { edges = self.old.edges ++ record { source = source; target = target; weight = weight } ∷ [] }) }
+        ensures added { IfOk result (λ _. self.new ≡ record self.old {
+          edges = self.old.edges ++ record { source = source; target = target; weight = weight } ∷ [];
+        }) }
         ensures full { IsFull result ↔ (length self.old.edges ≡ self.old.edge_limit) }
         ensures value_returned { IfErr result (λ error. value_in error ≡ weight) }
         ensures unchanged { OnErr result (self.new ≡ self.old) }

@@ -17,7 +17,8 @@ pub(crate) fn corrected_features(
     manifest: &FeaturesMap,
     index: &FeaturesMap,
 ) -> Result<FeaturesMap, AllocError>
-    ensures { IfOk result (λ corrected. IsCorrection (features_view manifest.now) (features_view index.now) (features_view corrected)) }
+    ensures { IfOk result (λ corrected.
+        IsCorrection (features_view manifest.now) (features_view index.now) (features_view corrected)) }
 {
     let mut corrected = BTreeMap::new(alloc);
     add_absent(alloc, &mut corrected, manifest)?;
@@ -74,7 +75,8 @@ fn add_referred(
     values: &[String],
     names: &mut Vec<String>,
 ) -> Result<(), AllocError>
-    ensures { OnOk result ((name : Text) → Contains (texts_view names.new) name ↔ (Contains (texts_view names.old) name
+    ensures { OnOk result ((name : Text)
+        → Contains (texts_view names.new) name ↔ (Contains (texts_view names.old) name
         ⊎ (Contains (map text_view values.now) name × IsReference name (simple name) × (named (features_view features.now) name ≡ None)))) }
 {
     for value in values {
@@ -87,7 +89,8 @@ fn add_referred(
 
 /// Whether the text is a simple reference to a name that is no feature.
 fn is_absent_reference(features: &FeaturesMap, value: &str) -> bool
-    ensures { IsTrue result ↔ (IsReference value.now (simple value.now) × (named (features_view features.now) value.now ≡ None)) }
+    ensures { IsTrue result ↔ (IsReference value.now (simple value.now)
+        × (named (features_view features.now) value.now ≡ None)) }
 {
     krates_text::laws::one_reference();
     match ParsedFeature::from(value).feat() {

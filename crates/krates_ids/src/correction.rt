@@ -21,7 +21,7 @@ pub struct CachingIndex {
 }
 
 impl CachingIndex {
-    /// Asks the index for these names, and keeps what it answers.
+    /// Asks the index for these names, once, and keeps what it answers.
     pub fn new(build: BuildIndexCache, names: PackageNames) -> CachingIndex
         requires { BuildIndexCache.pre build names }
         ensures { BuildIndexCache.post build names result.answer }
@@ -35,9 +35,10 @@ impl CachingIndex {
     /// package is left as it is.
     ///
     /// Features are only added, and those of the manifest keep their values. To correct twice is to correct once.
-    /// Errs where memory is wanted, and then the package is unchanged.
+    /// Fails only when out of memory, and then the package is unchanged. Time O(v log f) for f features with v values.
     pub fn correct(&self, alloc: Global, pkg: &mut Package) -> Result<(), AllocError>
-        ensures corrected { OnOk result (IsCorrected (index_view self.now.answer) (package_view pkg.old) (package_view pkg.new)) }
+        ensures corrected { OnOk result
+            (IsCorrected (index_view self.now.answer) (package_view pkg.old) (package_view pkg.new)) }
         ensures nothing_else { OnOk result (pkg.new ≡ record pkg.old { features = pkg.new.features }) }
         ensures refused { OnErr result (pkg.new ≡ pkg.old) }
     {
@@ -52,7 +53,8 @@ impl CachingIndex {
 /// The features that the index has of a package of crates.io, where it has its version.
 fn indexed_features<'a>(answer: &'a IndexAnswer, pkg: &Package) -> Option<&'a FeaturesMap>
     ensures { let index = index_view answer.now in let model = package_view pkg.now in
-        MatchOption result ((features : FeaturesModel) → IsIndexed index model features → ⊥) (λ features. IsIndexed index model (features_view features.now)) }
+        MatchOption result ((features : FeaturesModel) → IsIndexed index model features → ⊥)
+        (λ features. IsIndexed index model (features_view features.now)) }
 {
     if !is_of_crates_io(pkg) {
         return None;

@@ -59,7 +59,7 @@ impl TryFrom<PackageId> for Kid {
     /// `SOURCE#NAME@VERSION`, or `SOURCE#VERSION` where the name is the last piece of the source. The query of a git source
     /// is decoded (RFC 3986, section 2.1), which alone takes memory, and only where it has an escape.
     ///
-    /// A refusal hands the id back unchanged.
+    /// A refusal hands the id back unchanged. Time O(length).
     fn try_from(id: PackageId) -> Result<Kid, IdError> {
         if !has(id.repr.as_str(), ' ') {
             return read_stable(id);
@@ -210,7 +210,8 @@ impl Ord for Kid {
 impl PartialOrd for Kid {
     ghost partial_cmp = { as_partial_cmp id_cmp };
 
-    ghost laws = { partial_order_from_own_ties (Prim.search (comparing, rules) depth 9) (Prim.search (comparing, rules) depth 9) };
+    ghost laws = { partial_order_from_own_ties
+        (Prim.search (comparing, rules) depth 9) (Prim.search (comparing, rules) depth 9) };
 
     fn partial_cmp(&self, other: &Kid) -> Option<Ordering> {
         Some(self.cmp(other))

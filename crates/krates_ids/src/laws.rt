@@ -32,7 +32,8 @@ pub fn comparison()
 /// Each text is a package specification or has a refusal, never both; it is at most one specification, and has at most one
 /// refusal.
 pub fn one_specification()
-    ensures either { (t : Text) → ((a : Specification) × IsSpec t a.name a.version a.url) ⊎ ((refusal : Text) × IsSpecFault t refusal) }
+    ensures either { (t : Text)
+        → ((a : Specification) × IsSpec t a.name a.version a.url) ⊎ ((refusal : Text) × IsSpecFault t refusal) }
     ensures never_both { (t : Text) (a : Specification) (refusal : Text)
         → IsSpec t a.name a.version a.url → IsSpecFault t refusal → ⊥ }
     ensures one { (t : Text) (a b : Specification)
@@ -43,13 +44,15 @@ pub fn one_specification()
 
 /// A package that is corrected again by the same answer keeps all features as they are.
 pub fn correcting_twice()
-    ensures { (index : IndexModel) (before once again : PackageModel) → IsCorrected index before once → IsCorrected index once again
+    ensures { (index : IndexModel) (before once again : PackageModel)
+        → IsCorrected index before once → IsCorrected index once again
         → (name : Text) → named again.features name ≡ named once.features name }
 {}
 
 /// A package has one correction by an answer, but for the order in which features are listed: two have the same values under each
 /// name, and are equal in all else.
 pub fn one_correction()
-    ensures { (index : IndexModel) (before a b : PackageModel) → IsCorrected index before a → IsCorrected index before b
+    ensures { (index : IndexModel) (before a b : PackageModel)
+        → IsCorrected index before a → IsCorrected index before b
         → (b ≡ with_features a b.features) × ((name : Text) → named a.features name ≡ named b.features name) }
 {}

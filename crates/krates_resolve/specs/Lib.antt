@@ -2,6 +2,7 @@ pub mod Basis
 pub mod Contents
 pub mod Counting
 pub mod CrateTable
+pub mod DocumentAnswers
 pub mod DocumentModel
 pub mod FeatureOrder
 pub mod FeatureTable

@@ -1,19 +1,16 @@
 -- What the look-ups behind one question answer.
-use Rattle.std.specs.Prelude.{◌≡◌, ◌↔◌, ℕ, List, Option, MatchOption, Contains, map}
+use Rattle.std.specs.Prelude.{◌≡◌, ℕ, List, Option, MatchOption, Contains, map}
 use Rattle.std.specs.Borrow.{Bor}
 use Rattle.std.specs.Global.{Vec}
-use Rattle.krates_cm.specs.Document.{DependencyModel, DepKindInfoModel, NodeDepModel, NodeModel, Text, dep_kind_info_view, node_dep_view}
-use Rattle.krates_cm.specs.declared.resolve.DepKindInfo.{DepKindInfo}
+use Rattle.krates_cm.specs.Document.{DependencyModel, DepKindInfoModel, NodeDepModel, NodeModel, node_dep_view}
 use Rattle.krates_ids.specs.Identity.{Identity}
 use Rattle.krates_rules.specs.Admission.{HasVersion}
 use Rattle.krates_rules.specs.DeclaredDependency.{IsDeclared, IsUndeclared}
-use Rattle.krates_rules.specs.Facts.{Edge, Id}
-use Rattle.krates_rules.specs.Questions.{Declares, edge_between, questions}
-use Rattle.krates_rules.specs.Referent.{IsReferent}
+use Rattle.krates_rules.specs.Facts.{Id}
 use Rattle.krates_rules.specs.Roots.{IsRoot}
-use Rattle.krates_rules.specs.Rules.{Open}
 use Rattle.krates_rules.specs.Setting.{SettingModel}
-use Rattle.krates_resolve.specs.RootOrder.{AreInOrder, ArePicked}
+use Rattle.krates_resolve.specs.DocumentAnswers.{lent_ids}
+use Rattle.krates_resolve.specs.RootOrder.{ArePicked}
 use Rattle.krates_resolve.specs.NodeEntry.{AreParts, IsEntry, parent_of, child_of, declared_in, entry_of}
 use Rattle.krates_rules.specs.Resolved.{Resolved, id_of, NoNode, HasNode, HasDep}
 use Rattle.krates_resolve.specs.declared.node_entry.NodeEntry.{NodeEntry}
@@ -54,37 +51,8 @@ abbrev pub TellsDeclared : NodeEntry → DepKindInfoModel → Option ℕ → Typ
 TellsDeclared x k answer =
     MatchOption answer (Contains (node_dep_view x.dep.now).dep_kinds k → IsUndeclared (declared_in x) (entry_of x) k) (IsDeclaredFor x k)
 
--- ---- the questions, of what is looked up
+-- ---- the roots
 
--- the ids that are lent
-abbrev pub lent_ids : List (Bor Identity) → List Id
-lent_ids ids = map (λ root. id_of root.now) ids
-
--- what the name means, or none where it means nothing
-abbrev pub TellsChild : Resolved → Id → Text → Option (Bor Identity) → Type 0
-TellsChild r i name answer =
-    MatchOption answer ((child : Id) → IsReferent r i name child → ⊥) (λ child. IsReferent r i name (id_of child.now))
-
--- these are the roots
-abbrev pub AreRoots : Resolved → SettingModel → Vec (Bor Identity) → Type 0
-AreRoots r s roots = (i : Id) → IsRoot r s i ↔ Contains (lent_ids roots.items) i
-
-abbrev pub AreRootsInOrder : Resolved → SettingModel → Vec (Bor Identity) → Type 0
-AreRootsInOrder r s roots = AreInOrder r s (lent_ids roots.items)
-
--- and those among the members, in their order
+-- those of these members that are roots, in their order
 abbrev pub PicksRoots : Resolved → SettingModel → List Identity → Vec (Bor Identity) → Type 0
 PicksRoots r s members roots = ArePicked (IsRoot r s) (map id_of members) (lent_ids roots.items)
-
--- the edge that is asked about
-abbrev pub edge_asked : Identity → Identity → DepKindInfo → Edge
-edge_asked parent child info = edge_between (id_of parent) (id_of child) (dep_kind_info_view info)
-
--- the place of its declared dependency, or none where it has none
-abbrev pub TellsDeclaredPlace : Resolved → Edge → Option ℕ → Type 0
-TellsDeclaredPlace r e answer =
-    MatchOption answer ((place : ℕ) (d : DependencyModel) → Declares r e place d → ⊥) (λ place. (d : DependencyModel) × Declares r e place d)
-
--- it may be kept, as some declared dependency
-abbrev pub IsOpenAs : Resolved → SettingModel → Edge → Type 0
-IsOpenAs r s e = (d : DependencyModel) × Open (questions r s) e d

@@ -1,22 +1,18 @@
 //! What the rules of resolution ask of a document, asked one by one.
 
-ghost use Rattle.std.specs.Prelude.{◌≡◌, ℕ, ◌↔◌, ◌∷◌, [], All, Contains, IfOk, IsTrue, MatchOption, map};
+ghost use Rattle.std.specs.Prelude.{◌≡◌, ◌↔◌, ◌∷◌, [], All, Contains, IfOk, IsTrue, map};
 ghost use Rattle.krates_resolve.specs.Basis.{document_of};
-ghost use Rattle.krates_cm.specs.Document.{DependencyModel, dep_kind_info_view, metadata_view, node_dep_view};
+ghost use Rattle.krates_cm.specs.Document.{dep_kind_info_view, metadata_view, node_dep_view};
 ghost use Rattle.krates_rules.specs.Admission.{HasVersion, IsAdmitted};
-ghost use Rattle.krates_resolve.specs.DocumentModel.{as_resolved};
-ghost use Rattle.krates_rules.specs.Facts.{Id};
+ghost use Rattle.krates_resolve.specs.DocumentModel.{IsDocumentOf, as_resolved};
 ghost use Rattle.krates_document.specs.Ids.{ids_view};
-ghost use Rattle.krates_resolve.specs.LookedUp.{AreRoots, AreRootsInOrder, IsOpenAs, PicksRoots, TellsChild, TellsDeclaredPlace, edge_asked, TellsDeclared, TellsEntry, TellsParts};
+ghost use Rattle.krates_resolve.specs.DocumentAnswers.{AreRoots, AreRootsInOrder, IsOpenAs, TellsDeclaredPlace, TellsReferent, edge_asked};
+ghost use Rattle.krates_resolve.specs.LookedUp.{PicksRoots, TellsDeclared, TellsEntry, TellsParts};
 ghost use Rattle.krates_resolve.specs.Lookup.{IsLookup, resolved_view};
 ghost use Rattle.krates_resolve.specs.NodeEntry.{IsEntry, edge_for};
-ghost use Rattle.krates_rules.specs.Questions.{edge_between, Declares, Stands, questions};
-ghost use Rattle.krates_rules.specs.Referent.{IsReferent};
-ghost use Rattle.krates_rules.specs.Resolved.{HasGraphWith, IsMember, id_of, resolved};
+ghost use Rattle.krates_rules.specs.Questions.{Stands};
+ghost use Rattle.krates_rules.specs.Resolved.{IsMember, id_of};
 ghost use Rattle.krates_resolve.specs.RootChoice.{AsksFor};
-ghost use Rattle.krates_resolve.specs.RootOrder.{AreInOrder};
-ghost use Rattle.krates_rules.specs.Roots.{IsRoot};
-ghost use Rattle.krates_rules.specs.Rules.{Open};
 ghost use Rattle.krates_resolve.specs.CrateTable.{IsPlaceOf};
 
 mod contents;
@@ -71,7 +67,7 @@ impl<'a> Document<'a> {
         ids: &'a Ids,
     ) -> Result<Document<'a>, AllocError>
         requires { IsAdmitted (metadata_view metadata.now) (ids_view ids.now) }
-        ensures { IfOk result (λ document. HasGraphWith (metadata_view metadata.now) (λ g. as_resolved document ≡ resolved (metadata_view metadata.now) g)) }
+        ensures { IfOk result (IsDocumentOf (metadata_view metadata.now)) }
     {
         let Some(resolve) = &metadata.resolve else {
             unreachable!()
@@ -86,7 +82,7 @@ impl<'a> Document<'a> {
     /// A dependency answers to its own name, and to that of its package where its own is the package's library. In its
     /// own name `_` may stand for `-`. None where no dependency answers.
     pub fn referent(&self, krate: &Kid, name: &str) -> Option<&'a Kid>
-        ensures { MatchOption result ((child : Id) → IsReferent (as_resolved self.now) (id_of krate.now) name.now child → ⊥) (λ child. IsReferent (as_resolved self.now) (id_of krate.now) name.now (id_of child.now)) }
+        ensures { TellsReferent (as_resolved self.now) (id_of krate.now) name.now result }
     {
         referent_in(&self.lookup, krate, name)
     }
@@ -100,8 +96,8 @@ impl<'a> Document<'a> {
     ///
     /// The only error is want of memory.
     pub fn roots(&self, alloc: Global, setting: &Setting) -> Result<Vec<&'a Kid>, AllocError>
-        ensures each { IfOk result (λ roots. (i : Id) → IsRoot (as_resolved self.now) setting.now i ↔ Contains (map (λ root. id_of root.now) roots.items) i) }
-        ensures order { IfOk result (λ roots. AreInOrder (as_resolved self.now) setting.now (map (λ root. id_of root.now) roots.items)) }
+        ensures each { IfOk result (AreRoots (as_resolved self.now) setting.now) }
+        ensures order { IfOk result (AreRootsInOrder (as_resolved self.now) setting.now) }
     {
         roots_in(alloc, &self.lookup, setting)
     }
@@ -121,8 +117,8 @@ impl<'a> Document<'a> {
         child: &Kid,
         info: &DepKindInfo,
     ) -> Result<Option<usize>, AllocError>
-        ensures { let edge = edge_between (id_of parent.now) (id_of child.now) (dep_kind_info_view info.now) in
-            IfOk result (λ answer. MatchOption answer ((place : ℕ) (d : DependencyModel) → Declares (as_resolved self.now) edge place d → ⊥) (λ place. (d : DependencyModel) × Declares (as_resolved self.now) edge place d)) }
+        ensures { let edge = edge_asked parent.now child.now info.now in
+            IfOk result (TellsDeclaredPlace (as_resolved self.now) edge) }
     {
         declared_in(alloc, &self.lookup, parent, child, info)
     }
@@ -140,8 +136,8 @@ impl<'a> Document<'a> {
         child: &Kid,
         info: &DepKindInfo,
     ) -> Result<bool, AllocError>
-        ensures { let edge = edge_between (id_of parent.now) (id_of child.now) (dep_kind_info_view info.now) in
-            IfOk result (λ b. IsTrue b ↔ ((d : DependencyModel) × Open (questions (as_resolved self.now) setting.now) edge d)) }
+        ensures { let edge = edge_asked parent.now child.now info.now in
+            IfOk result (λ b. IsTrue b ↔ IsOpenAs (as_resolved self.now) setting.now edge) }
     {
         let basis = Basis {
             alloc,
@@ -155,7 +151,7 @@ impl<'a> Document<'a> {
 /// What a name means in a reference of a crate.
 pub(crate) fn referent_in<'a>(lookup: &Lookup<'a>, krate: &Kid, name: &str) -> Option<&'a Kid>
     requires { IsLookup lookup.now }
-    ensures { TellsChild (resolved_view lookup.now) (id_of krate.now) name.now result }
+    ensures { TellsReferent (resolved_view lookup.now) (id_of krate.now) name.now result }
 {
     let Some(parts) = parts_for(lookup, krate) else {
         return None;

@@ -10,9 +10,19 @@ pub enum Feature<'f> {
     /// `dep:<crate>`: an optional dependency, without a feature of that name.
     Krate(&'f str),
     /// `<crate>?/<feature>`: a feature of a dependency, if something else enables that dependency.
-    Weak { krate: &'f str, feature: &'f str },
+    Weak {
+        /// The name of the dependency.
+        krate: &'f str,
+        /// The feature of it.
+        feature: &'f str,
+    },
     /// `<crate>/<feature>`: a feature of a dependency, which it also enables.
-    Strong { krate: &'f str, feature: &'f str },
+    Strong {
+        /// The name of the dependency.
+        krate: &'f str,
+        /// The feature of it.
+        feature: &'f str,
+    },
     /// A feature of the same crate.
     Simple(&'f str),
 }
@@ -27,6 +37,7 @@ pub struct ParsedFeature<'f> {
 impl<'f> From<&'f str> for ParsedFeature<'f> {
     ghost from_gives = { λ text parsed. parsed.text.now ≡ text.now };
 
+    /// The reference that is written so; `feat` says what it enables. Time O(1).
     fn from(text: &'f str) -> Self {
         ParsedFeature { text }
     }
@@ -34,7 +45,7 @@ impl<'f> From<&'f str> for ParsedFeature<'f> {
 
 impl<'f> ParsedFeature<'f> {
     /// The reference that the text is: what follows `dep:` at its start; else what stands on the two sides of its
-    /// first `?/`; else of its first `/`; else all of it, which may be empty.
+    /// first `?/`; else of its first `/`; else all of it, which may be empty. Time O(length).
     pub fn feat(&self) -> Feature<'f>
         ensures { IsReference self.now.text.now (reference_of result) }
     {

@@ -9,7 +9,7 @@ use std::alloc::{AllocError, Global};
 use std::path::{Components, Path};
 
 /// The components of a path, in order: `/` where it begins with one, and then its pieces between `/`, without empty
-/// ones and without `.`, except a `.` that comes first in a path that doesn't begin with `/`.
+/// ones and without `.`, except a `.` that comes first in a path that doesn't begin with `/`. Time O(length) for all of them.
 pub fn components(path: &str) -> Components<'_>
     ensures { components_remaining result ≡ components path.now }
 {
@@ -17,7 +17,7 @@ pub fn components(path: &str) -> Components<'_>
 }
 
 /// The path up to the end of its last component but one: `/` where only the root stands before the last, the empty
-/// text where nothing does. `None` for a path without a component and for the root alone.
+/// text where nothing does. `None` for a path without a component and for the root alone. Time O(length).
 pub fn parent(path: &str) -> Option<&str>
     ensures { MatchOption result (HasNoParent path.now) (λ p. IsParent path.now p.now) }
 {
@@ -30,21 +30,21 @@ pub fn parent(path: &str) -> Option<&str>
 }
 
 /// The path `path` as it is meant at `base`: itself where it begins with `/`, and else the two with a `/` between
-/// unless the base is empty or ends with one. The only error is want of memory.
+/// unless the base is empty or ends with one. The only error is being out of memory. Time O(length of both).
 pub fn join(alloc: Global, base: &str, path: &str) -> Result<String, AllocError>
     ensures { IfOk result (λ s. string_bytes s ≡ path_join base.now path.now) }
 {
     Ok(Path::new(base).join(alloc, path)?.into_string())
 }
 
-/// Whether the components of `end` are the last ones of `path`.
+/// Whether the components of `end` are the last ones of `path`. Time O(length of both).
 pub fn ends_with(path: &str, end: &str) -> bool
     ensures { IsTrue result ↔ EndsWithPath path.now end.now }
 {
     Path::new(path).ends_with(end)
 }
 
-/// Whether two paths have equal components.
+/// Whether two paths have equal components. Time O(length of both).
 pub fn same(a: &str, b: &str) -> bool
     ensures { IsTrue result ↔ (components a.now ≡ components b.now) }
 {

@@ -162,7 +162,8 @@ fn find_row<'r>(rows: &'r [Row], triple: &str) -> Option<&'r Row>
 
 /// The same, told by what the rows describe.
 fn described_row<'r>(rows: &'r [Row], triple: &str) -> Option<&'r Row>
-    ensures { option_map (λ row. described row.now) result ≡ find (λ d. bytes_eq d.triple triple.now) (map described rows.now) }
+    ensures { option_map (λ row. described row.now) result
+        ≡ find (λ d. bytes_eq d.triple triple.now) (map described rows.now) }
 {
     find_row(rows, triple)
 }
@@ -204,7 +205,8 @@ fn strings(alloc: Global, texts: &[&str]) -> Result<Vec<String>, AllocError>
     Ok(all)
 }
 
-/// The description of the target with this triple, where the table has it. The only error is want of memory.
+/// The description of the target with this triple, where the table of seven has it, in time O(1). The only error is being out
+/// of memory.
 pub fn builtin(alloc: Global, triple: &str) -> Result<Option<TargetInfo>, AllocError>
     ensures { IfOk result (λ info. option_map description_of info ≡ row_of triple.now) }
 {
@@ -216,7 +218,7 @@ pub fn builtin(alloc: Global, triple: &str) -> Result<Option<TargetInfo>, AllocE
 
 impl Target {
     /// The target that a text names: described where it is a triple of the table, and unknown otherwise. The only
-    /// error is want of memory.
+    /// error is being out of memory. Time O(length).
     pub fn new(alloc: Global, text: &str) -> Result<Target, AllocError>
         ensures { IfOk result (λ target. target_of target ≡ target_named text.now) }
     {
@@ -226,7 +228,7 @@ impl Target {
         }
     }
 
-    /// The triple, or the unknown text.
+    /// The triple, or the unknown text. Time O(1).
     pub fn as_str(&self) -> &str
         ensures { result.now ≡ printed (target_of self.now) }
     {

@@ -52,7 +52,8 @@ impl Adjacency {
     pub(super) fn add_edge(&mut self, node: usize, edge: EdgeId)
         requires within { node < length (lists_of self.old) }
         requires room { HasEdgeRoom self.old node }
-        ensures { lists_of self.new ≡ slice_set (lists_of self.old) node (slice_index_or (lists_of self.old) node [] ++ edge ∷ []) }
+        ensures { lists_of self.new
+            ≡ slice_set (lists_of self.old) node (slice_index_or (lists_of self.old) node [] ++ edge ∷ []) }
     {
         let _ = self.lists[node].push(edge);
     }

@@ -24,7 +24,8 @@ impl Expression {
     ghost use Rattle.krates_text.specs.TargetTable.{target_of};
 
     /// The expression that a text is. `TooDeep` comes where a beginning of the text opens a 128th form in the forms
-    /// that it has opened, with no fault before; `Syntax` for every other text outside the grammar.
+    /// that it has opened, with no fault before; `Syntax` for every other text outside the grammar. Any call may instead
+    /// return `Memory`. Time O(length), without recursion.
     pub fn parse(alloc: Global, text: &str) -> Result<Expression, CfgError>
         ensures found { IfOk result (λ e. IsExpression text.now (tree e)) }
         ensures fault { IfErr result (λ e. IsFault text.now e) }
@@ -36,14 +37,14 @@ impl Expression {
         Ok(Expression { predicate })
     }
 
-    /// How many words and pairs the expression has; `true` and `false` are none.
+    /// How many words and pairs the expression has; `true` and `false` are none. Time O(size).
     pub fn predicates(&self) -> usize
         ensures { result ≡ count (tree self.now) }
     {
         predicate::count(&self.predicate)
     }
 
-    /// Whether the expression is true at a target that has these features.
+    /// Whether the expression is true at a target that has these features. Time O(size × features).
     pub fn eval(&self, target: &Target, features: &[String]) -> bool
         ensures { result ≡ value (target_of target.now) (map string_bytes features.now) (tree self.now) }
     {

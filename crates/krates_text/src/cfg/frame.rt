@@ -40,7 +40,8 @@ pub(crate) fn depth(frames: &Vec<Frame>) -> usize
 
 /// Opens a form in the others.
 pub(crate) fn push(frames: &mut Vec<Frame>, frame: Frame) -> Result<(), CfgError>
-    ensures { MatchResult result (λ _. stack frames.new.items ≡ frame_of frame ∷ stack frames.old.items) (λ e. e ≡ Memory) }
+    ensures { MatchResult result (λ _. stack frames.new.items ≡ frame_of frame ∷ stack frames.old.items)
+        (λ e. e ≡ Memory) }
 {
     frames.push(frame)?;
     Ok(())
@@ -48,7 +49,8 @@ pub(crate) fn push(frames: &mut Vec<Frame>, frame: Frame) -> Result<(), CfgError
 
 /// Takes the innermost form out.
 pub(crate) fn pop(frames: &mut Vec<Frame>) -> Option<Frame>
-    ensures { MatchOption result ((stack frames.old.items ≡ []) × (stack frames.new.items ≡ [])) (λ f. stack frames.old.items ≡ frame_of f ∷ stack frames.new.items) }
+    ensures { MatchOption result ((stack frames.old.items ≡ []) × (stack frames.new.items ≡ []))
+        (λ f. stack frames.old.items ≡ frame_of f ∷ stack frames.new.items) }
 {
     frames.pop()
 }
@@ -58,7 +60,8 @@ pub(crate) fn with_last(
     mut predicates: Vec<Predicate>,
     last: Predicate,
 ) -> Result<Vec<Predicate>, CfgError>
-    ensures { MatchResult result (λ v. trees_of v.items ≡ added (trees_of predicates.items) (tree_of last)) (λ e. e ≡ Memory) }
+    ensures { MatchResult result (λ v. trees_of v.items ≡ added (trees_of predicates.items) (tree_of last))
+        (λ e. e ≡ Memory) }
 {
     predicates.push(last)?;
     Ok(predicates)

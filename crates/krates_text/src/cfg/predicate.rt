@@ -65,7 +65,8 @@ pub(crate) fn eval(predicate: &Predicate, target: &Target, features: &[String]) 
 
 #[cycle(eval)]
 fn all_hold(predicates: &[Predicate], target: &Target, features: &[String]) -> bool
-    ensures { result ≡ all_true (target_of target.now) (map string_bytes features.now) (trees_of predicates.now) }
+    ensures { result
+        ≡ all_true (target_of target.now) (map string_bytes features.now) (trees_of predicates.now) }
 {
     for predicate in predicates {
         if !eval(predicate, target, features) {
@@ -77,7 +78,8 @@ fn all_hold(predicates: &[Predicate], target: &Target, features: &[String]) -> b
 
 #[cycle(eval)]
 fn any_holds(predicates: &[Predicate], target: &Target, features: &[String]) -> bool
-    ensures { result ≡ some_true (target_of target.now) (map string_bytes features.now) (trees_of predicates.now) }
+    ensures { result
+        ≡ some_true (target_of target.now) (map string_bytes features.now) (trees_of predicates.now) }
 {
     for predicate in predicates {
         if eval(predicate, target, features) {
@@ -157,7 +159,8 @@ pub(crate) fn count(predicate: &Predicate) -> usize
 
 #[cycle(count)]
 fn count_among(predicates: &[Predicate]) -> usize
-    ensures { count_among (trees_of predicates.now) < 2 ^ 64 → result ≡ count_among (trees_of predicates.now) }
+    ensures { count_among (trees_of predicates.now) < 2 ^ 64
+        → result ≡ count_among (trees_of predicates.now) }
 {
     let mut total = 0usize;
     for predicate in predicates {

@@ -105,7 +105,8 @@ fn step_letter(
     mut word: String,
     c: char,
 ) -> Result<Place, CfgError>
-    ensures { GivesPlace frames.new.items result (step_at (stack frames.old.items) (in_word (string_bytes word)) c) }
+    ensures { GivesPlace frames.new.items result
+        (step_at (stack frames.old.items) (in_word (string_bytes word)) c) }
 {
     if is_word_part(c) {
         word.push(c)?;

@@ -1,14 +1,13 @@
 use Rattle.krates_cargo.proofs.Walking.{ℕ, [], ◌∷◌, refl, ap, lit<, proved, full_share, id⊢, ftrue, flft, named, fact, tables, ‵, raw, ◌⊛◌, some, later, at_ret, ◌$◌, ◌∵◌, !, qed, done, move, keep, use1, use2, use3, split, join, fsplit, feq_l, pick, await, suffices, frame, group, enter, of_opd, addr, lit, stop, no_more, and_then, first, branches, exec, returns, alloc_all, pass_all, free_all, look_at, get, through, sets, sets_last, agg, lands_as, env, bool, mut_vals, mut_Tells, plain, nothing, heard, only, calls_at, lasts, triple_of, framed, Stays, walk_of, stay_dropped, Goes-dropped, Goes-spent_ref, mut_ref_to, ends_at, yes, no}
 use Rattle.krates_cargo.proofs.HandedBack.{Ref, left, Kept, Rests, Answer, ok_val, err_val, lent, returned, handed, given_up, says_both, when_true, when_false}
 use Rattle.std.proofs.Common.{Bool}
-use Rattle.std.specs.Prelude.{◌≡◌, ◌++◌, Ok, Err, map}
+use Rattle.std.specs.Prelude.{◌≡◌, Ok, Err}
 use Rattle.std.specs.Bool.{MatchBool}
 use Rattle.krates_cargo.proofs.VecArgument.{vec, vec_laws, vec_vals, vec_tells}
 use denote.RattleType.{RattleType}
-use Rattle.krates_ids.specs.PackageSpecification.{spec_view}
 use Rattle.krates_ids.specs.contracts.pkgspec.PkgSpec as Spec-row
 use Rattle.krates_ids.proofs.pkgspec.PkgSpec.TheLaws as Spec-laws
-use Rattle.krates.specs.BuilderModel.{BuilderModel, with_setting}
+use Rattle.krates.specs.BuilderModel.{BuilderModel, excluding}
 use Rattle.std.proofs.VecSteps.Shapes.{after}
 use base.Fml.{Incl}
 use base.Logic.{emp}
@@ -28,10 +27,6 @@ use Rattle.krates.proofs.builder.Builder.has_excluded.Met.{met}
 -- the type of the argument
 abbrev V : RattleType
 V = vec Spec-row.the_row Spec-laws.the_row_laws
-
--- the builder with the more that is asked for
-abbrev changed : {S : Type 0} → BuilderModel S → V.Denot → BuilderModel S
-changed b specs = with_setting b (record (b.setting) { exclusions = b.setting.exclusions ++ map spec_view specs.items })
 
 abbrev stayed : (S : RattleType) (d : Dict) → Stays (f.ended S d).signature.params (f.ended S d).kept
 stayed S d = (stay_dropped (mut_ref_to (0 ∷ []) tt (plain (λ _. the_row (f.S-row S)))) no, (stay_dropped _ yes, tt))
@@ -66,7 +61,7 @@ exclude_spec 𝓤 𝓛 𝓜 𝓡 wired S laws d glue =
     calls_at ! (framed 𝓤 𝓛.H 𝓜 (tables 𝓤 𝓛.H 𝓜 𝓡 𝓡.env)) G (met 𝓤 𝓛 𝓜 𝓡 (code.calls-krates::builder::Builder::has_excluded 𝓡.env wired) S laws d glue) z
     (and_then ! (get ! refl) (and_then ! (get ! refl) (no_more !))) (λ v.
     use1 𝓛 (later (some (λ (u : Bool). ((‵ (flft (α ∷ []) full_share) ⊛ ‵ (flft [] full_share) ⊛ ‵ ftrue) ⊛ ‵ (bool.own_val u (v ∷ []))) ⊛
-    some (λ (ws : BuilderModel S.Denot × (Unit {0} × Unit {0})). ‵ (lasts (g.ended S d) z.0.0 z.0.3 ws) ⊛ raw (fact 𝓤 (MatchBool u (ws.0 ≡ changed r.now x) (ws.0 ≡ r.now))))))) (id⊢ 𝓤 _) $
+    some (λ (ws : BuilderModel S.Denot × (Unit {0} × Unit {0})). ‵ (lasts (g.ended S d) z.0.0 z.0.3 ws) ⊛ raw (fact 𝓤 (MatchBool u (ws.0 ≡ excluding r.now x.items) (ws.0 ≡ r.now))))))) (id⊢ 𝓤 _) $
     await ! tt $ pick ! (λ u. split ! $ split ! $ split ! $ move ! (2 ∷ []) $ feq_l ! (λ is_bool.
     lands_as ! (ap only is_bool) refl (tt, tt) $
     move ! (2 ∷ []) $ pick ! (λ ws. split ! $ move ! (1 ∷ []) $ heard ! _ (λ is_set. fsplit ! $ fsplit ! $

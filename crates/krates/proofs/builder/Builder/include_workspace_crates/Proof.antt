@@ -6,8 +6,7 @@ use Rattle.std.specs.Bool.{MatchBool}
 use denote.Signature.{Slot, shr_slice_of}
 use denote.Slice.{shr_slice_vals, shr_slice_Tells, shr_slice_Lawful}
 use denote.Text.{StrRefOf}
-use Rattle.krates_rules.specs.Setting.{AsksForPaths}
-use Rattle.krates.specs.BuilderModel.{BuilderModel}
+use Rattle.krates.specs.BuilderModel.{BuilderModel, AsksForCrates}
 use Rattle.std.proofs.VecSteps.Shapes.{after}
 use base.Fml.{Incl}
 use base.Logic.{emp}
@@ -64,7 +63,7 @@ include_workspace_crates_spec 𝓤 𝓛 𝓜 𝓡 wired S laws d glue =
     calls_at ! (framed 𝓤 𝓛.H 𝓜 (tables 𝓤 𝓛.H 𝓜 𝓡 𝓡.env)) G (met 𝓤 𝓛 𝓜 𝓡 (code.calls-krates::builder::Builder::has_included_crates 𝓡.env wired) S laws d glue) z
     (and_then ! (get ! refl) (and_then ! (get ! refl) (no_more !))) (λ v.
     use1 𝓛 (later (some (λ (u : Bool). ((‵ (flft (α ∷ []) full_share) ⊛ of_paths ⊛ of_texts ⊛ ‵ (flft [] full_share) ⊛ ‵ ftrue) ⊛ ‵ (bool.own_val u (v ∷ []))) ⊛
-    some (λ (ws : BuilderModel S.Denot × (Unit {0} × Unit {0})). ‵ (lasts (g.ended S d) z.0.0 z.0.3 ws) ⊛ raw (fact 𝓤 (MatchBool u (AsksForPaths r.now.setting ws.0.setting x.now × (ws.0.index ≡ r.now.index)) (ws.0 ≡ r.now))))))) (id⊢ 𝓤 _) $
+    some (λ (ws : BuilderModel S.Denot × (Unit {0} × Unit {0})). ‵ (lasts (g.ended S d) z.0.0 z.0.3 ws) ⊛ raw (fact 𝓤 (MatchBool u (AsksForCrates r.now ws.0 x.now) (ws.0 ≡ r.now))))))) (id⊢ 𝓤 _) $
     await ! tt $ pick ! (λ u. split ! $ split ! $ split ! $ move ! (2 ∷ []) $ feq_l ! (λ is_bool.
     lands_as ! (ap only is_bool) refl (tt, tt) $
     move ! (2 ∷ []) $ pick ! (λ ws. split ! $ move ! (1 ∷ []) $ heard ! _ (λ is_set. fsplit ! $ fsplit ! $
