@@ -1,2 +1,5 @@
 pub mod AdmissionSteps
+pub mod DeclaredPlaces
+pub mod FoldedNames
 pub mod Ids
+pub mod NamedPlaces

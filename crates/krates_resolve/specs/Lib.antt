@@ -10,6 +10,7 @@ pub mod Links
 pub mod ListedFeatures
 pub mod LookedUp
 pub mod Lookup
+pub mod NameIndex
 pub mod NodeEntry
 pub mod Numbering
 pub mod ReferentPlace
