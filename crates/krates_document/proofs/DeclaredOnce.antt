@@ -1,6 +1,5 @@
 -- At most one dependency is the declared one, and where it is found.
-use Rattle.std.proofs.Common.{◌≡◌, ℕ, zero, suc, ◌+◌, ◌-◌, ◌<◌, List, [], ◌∷◌, drop, slice_get, Option, Some, None, true, false, MatchOption, refl, sym, ap, ◌∙◌, arith, inl, inr}
-use Rattle.std.specs.Option.{is_some}
+use Rattle.std.proofs.Common.{◌≡◌, ℕ, ◌<◌, List, slice_get, Option, Some, None, MatchOption, sym, ap, ◌∙◌, arith, inl, inr}
 use Rattle.std.proofs.lemmas.Bool.{cases_order}
 use Rattle.std.proofs.lemmas.Option.{same_Some}
 use Rattle.krates_cm.specs.Document.{DependencyModel, DepKindInfoModel}
@@ -27,48 +26,34 @@ declared_stands ds n k place d (inr a) = a.1.here
 
 -- ---- how it is found
 
--- what stands behind a place
-behind : {A : Type 0} (xs : List A) (n k m : ℕ) → n + k ≡ m → slice_get (drop n xs) k ≡ slice_get xs m
-behind xs zero k m e = ap (λ j. slice_get xs j) (omega arith)
-behind [] (suc n) k m e = refl
-behind (x ∷ xs) (suc n) k zero e = absurd (omega arith)
-behind (x ∷ xs) (suc n) k (suc m) e = behind xs n k m (omega arith)
-
 -- where none fits, none is declared
 pub none_fits : (ds : List DependencyModel) (n : DependencyEntry) (k : DepKindInfoModel) → ((place : ℕ) (d : DependencyModel) → slice_get ds place ≡ Some d → Fits n k d → ⊥) → IsUndeclared ds n k
 none_fits ds n k none place d (inl a) = none place d a.1.here a.1.holds
 none_fits ds n k none place d (inr a) = none place d a.1.here a.1.holds.fits
 
 -- where none fits behind the first, the first is declared
-pub one_fits : (ds rest : List DependencyModel) (n : DependencyEntry) (k : DepKindInfoModel) (place : ℕ) (d : DependencyModel) (r : Option ℕ) → FirstAt (Fits n k) ds place d → rest ≡ drop (place + 1) ds
-    → IsFirstPlace (Fits n k) rest r → is_some r ≡ false → IsDeclared ds n k place d
-one_fits ds rest n k place d (Some j) first is found e = absurd cc
-one_fits ds rest n k place d None first is none e =
-    let not_behind : (s : SeveralFit ds n k) → place < s.second → ⊥ = λ s lt.
-    let j = s.second - (place + 1) in
-    none j s.other (ap (λ l. slice_get l j) is ∙ behind ds (place + 1) j s.second (omega arith) ∙ s.at_second) s.other_fits in
-    inl (
-      λ s. elim (cases_order s.first place) [
-        | inl e ↦ not_behind s (omega (arith, s.apart))
-        | inr r ↦ elim r [ inl lt ↦ first.before s.first s.one lt s.at_first s.one_fits | inr lt ↦ not_behind s (omega (arith, s.apart)) ]
-      ],
-      first,
-    )
+pub one_fits : (ds : List DependencyModel) (n : DependencyEntry) (k : DepKindInfoModel) (place : ℕ) (d : DependencyModel) → FirstAt (Fits n k) ds place d
+    → ((j : ℕ) (e : DependencyModel) → place < j → slice_get ds j ≡ Some e → Fits n k e → ⊥) → IsDeclared ds n k place d
+one_fits ds n k place d first none = inl (
+  λ s. elim (cases_order s.first place) [
+    | inl e ↦ none s.second s.other (omega (arith, e, s.apart)) s.at_second s.other_fits
+    | inr r ↦ elim r [ inl lt ↦ first.before s.first s.one lt s.at_first s.one_fits | inr lt ↦ none s.second s.other (omega (arith, s.apart, lt)) s.at_second s.other_fits ]
+  ],
+  first,
+)
 
 -- where another fits behind the first, several fit
-pub several_fit : (ds rest : List DependencyModel) (n : DependencyEntry) (k : DepKindInfoModel) (place : ℕ) (d : DependencyModel) (r : Option ℕ) → FirstAt (Fits n k) ds place d → rest ≡ drop (place + 1) ds
-    → IsFirstPlace (Fits n k) rest r → is_some r ≡ true → SeveralFit ds n k
-several_fit ds rest n k place d None first is none e = absurd cc
-several_fit ds rest n k place d (Some j) first is found e = record {
+pub several_fit : (ds : List DependencyModel) (n : DependencyEntry) (k : DepKindInfoModel) (place j : ℕ) (d e : DependencyModel) → FirstAt (Fits n k) ds place d → place < j → slice_get ds j ≡ Some e → Fits n k e → SeveralFit ds n k
+several_fit ds n k place j d e first apart at fits = record {
   first = place;
-  second = place + 1 + j;
-  apart = omega arith;
+  second = j;
+  apart = apart;
   one = d;
-  other = found.0;
+  other = e;
   at_first = first.here;
-  at_second = sym (behind ds (place + 1) j (place + 1 + j) refl) ∙ ap (λ l. slice_get l j) (sym is) ∙ found.1.here;
+  at_second = at;
   one_fits = first.holds;
-  other_fits = found.1.holds;
+  other_fits = fits;
 }
 
 -- where several fit, the first of them that has the source is declared

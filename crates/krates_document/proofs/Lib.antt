@@ -2,6 +2,9 @@ pub mod AdmissionLemmas
 pub mod DeclaredOnce
 pub mod DistinctIds
 pub mod FirstPlaces
+pub mod FoldedNames
+pub mod LeastFitting
+pub mod NamedPlaces
 pub mod Passing
 pub mod Seen
 pub mod Zips

@@ -1,3 +1,6 @@
 pub mod AdmissionSteps
+pub mod DeclaredPlaces
+pub mod FoldedNames
 pub mod Ids
+pub mod NamedPlaces
 pub mod Setters

@@ -5,7 +5,9 @@ pub mod admission;
 pub mod declared_dependency;
 pub mod declared_source;
 pub mod dependency_name;
+pub mod folded_name;
 pub mod ids;
+pub mod named_places;
 pub mod setting;
 
 pub use admission::admit;

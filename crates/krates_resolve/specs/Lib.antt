@@ -13,6 +13,7 @@ pub mod Links
 pub mod ListedFeatures
 pub mod LookedUp
 pub mod Lookup
+pub mod NameIndex
 pub mod Need
 pub mod NodeEntry
 pub mod Numbering

@@ -13,18 +13,20 @@ use Rattle.krates_document.specs.Ids.{ids_view}
 use Rattle.krates_resolve.specs.ListedFeatures.{features_from}
 use Rattle.krates_rules.specs.Resolved.{Resolved, HasPackage, NoPackage, NoNode, IsMember, NodeAt, PackageAt}
 use Rattle.krates_resolve.specs.CrateTable.{IsTable}
+use Rattle.krates_resolve.specs.NameIndex.{IsNameIndex}
 use Rattle.krates_resolve.specs.declared.lookup.Lookup.{Lookup}
 
 abbrev pub resolved_view : Lookup → Resolved
 resolved_view d = record { metadata = metadata_view d.metadata.now; graph = resolve_view d.resolve.now }
 
--- the ids are those of the document, none is doubled, and the table answers as they do
+-- the ids are those of the document, none is doubled, and the tables answer as they do
 pub record IsLookup (d : Lookup) : Type 0 where
   pub ids : AreIdsOf (metadata_view d.metadata.now) (resolve_view d.resolve.now) (ids_view d.ids.now)
   pub distinct : NoneDoubled (metadata_view d.metadata.now) (resolve_view d.resolve.now)
   pub table : IsTable (ids_view d.ids.now) d.table
   pub features : listed_in d.features ≡ features_from 0 (map node_view d.resolve.now.nodes.items)
   pub numbered : AreNumbered d.features
+  pub names : IsNameIndex (metadata_view d.metadata.now).packages (resolve_view d.resolve.now).nodes (ids_view d.ids.now).deps d.names
 
 -- whether the crate is a member of the workspace
 abbrev pub TellsMember : Resolved → Id → Bool → Type 0

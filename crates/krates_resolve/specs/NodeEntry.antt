@@ -4,6 +4,8 @@ use Rattle.semver.specs.Identifiers.{parts_of}
 use Rattle.krates_cm.specs.Names.{version_named}
 use Rattle.krates_cm.specs.Document.{DependencyModel, DepKindInfoModel, NodeModel, PackageModel, dep_kind_info_view, node_dep_view, dependency_view}
 use Rattle.krates_cm.specs.declared.resolve.DepKindInfo.{DepKindInfo}
+use Rattle.krates_document.specs.DeclaredPlaces.{AreDeclaredPlaces}
+use Rattle.krates_document.specs.declared.named_places.NamedPlace.{NamedPlace}
 use Rattle.krates_rules.specs.Admission.{AreDepIds}
 use Rattle.krates_rules.specs.Facts.{Id, Edge}
 use Rattle.krates_rules.specs.Resolved.{DepAt, NodeAt, Resolved, id_of, HasPackage, HasNode, HasDep}
@@ -74,6 +76,14 @@ edge_of x = edge_for x.entry.now (dep_kind_info_view x.info.now)
 -- the version is that of the crate that is depended on
 abbrev pub HasItsVersion : EntryEdge → Type 0
 HasItsVersion x = version_named x.entry.now.child.now.version ≡ Some (parts_of x.version.now)
+
+-- what the package of the crate declares stands there by name
+abbrev pub TellsDeclaredPlaces : Resolved → Id → List NamedPlace → Type 0
+TellsDeclaredPlaces r i places = (ds : List DependencyModel) → AreDeclaredBy r i ds → AreDeclaredPlaces ds places
+
+-- the places are those of what the package of the kept crate declares
+abbrev pub HasItsPlaces : EntryEdge → Type 0
+HasItsPlaces x = AreDeclaredPlaces (declared_in x.entry.now) x.places.now
 
 -- the dependency lists this purpose and target
 abbrev pub ListsInfo : NodeEntry → DepKindInfo → Type 0

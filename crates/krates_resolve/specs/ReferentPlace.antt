@@ -1,7 +1,7 @@
 -- The place of a referent among the dependencies of a node.
-use Rattle.std.specs.Prelude.{◌≡◌, ℕ, List, Option, Some, MatchOption, Contains, slice_get, ⊤}
-use Rattle.std.specs.declared.cmp.Ordering.TheVariants.{Less}
-use Rattle.krates_cm.specs.Document.{Text, TargetModel, PackageModel, node_dep_view}
+use Rattle.std.specs.Prelude.{◌≡◌, ◌≢◌, ◌++◌, ℕ, List, Option, Some, MatchOption, Contains, map, slice_get, ⊤}
+use Rattle.std.specs.declared.cmp.Ordering.TheVariants.{Greater, Less}
+use Rattle.krates_cm.specs.Document.{Text, TargetModel, NodeDepModel, PackageModel, node_dep_view}
 use Rattle.krates_cm.specs.declared.resolve.NodeDep.{NodeDep}
 use Rattle.krates_cm.specs.declared.target.TargetKind.TheVariants.{Lib}
 use Rattle.krates_ids.specs.Identity.{Identity, id_cmp}
@@ -36,3 +36,31 @@ TellsReferent r parts name answer =
 -- the dependency on this crate answers to the name
 abbrev pub AnswersAs : Resolved → Identity → NodeDep → Text → Type 0
 AnswersAs r child dep name = AnswersTo r (id_of child) (node_dep_view dep) name
+
+-- ---- how it is found
+
+-- the dependency at this place of the node, which has this id, answers to the name
+pub record AnswersAt (r : Resolved) (parts : NodeParts) (name : Text) (k : ℕ) (child : Identity) : Type 0 where
+  pub at : slice_get parts.children.now k ≡ Some child
+  pub dep : NodeDepModel
+  pub here : slice_get (map node_dep_view parts.deps.now) k ≡ Some dep
+  pub answers : AnswersTo r (id_of child) dep name
+
+-- and its id comes before the one at a place
+abbrev pub AnswersBefore : Resolved → NodeParts → Text → ℕ → Option ℕ → Type 0
+AnswersBefore r parts name k place = (child : Identity) × AnswersAt r parts name k child × IsBefore parts.children.now child place
+
+-- it is the least of these that answer
+pub record IsLeastAt (r : Resolved) (parts : NodeParts) (name : Text) (these : List ℕ) (k : ℕ) : Type 0 where
+  pub child : Identity
+  pub answers : AnswersAt r parts name k child
+  pub least : (j : ℕ) (other : Identity) → Contains these j → AnswersAt r parts name j other → id_cmp child other ≢ Greater
+
+-- the least of these, or none of them answers
+abbrev pub IsLeastOf : Resolved → NodeParts → Text → List ℕ → Option ℕ → Type 0
+IsLeastOf r parts name these least =
+    MatchOption least ((j : ℕ) (other : Identity) → Contains these j → AnswersAt r parts name j other → ⊥) (IsLeastAt r parts name these)
+
+-- what was the least of some is now that of those and these
+abbrev pub GoesOn : Resolved → NodeParts → Text → List ℕ → Option ℕ → Option ℕ → Type 0
+GoesOn r parts name these before least = (some : List ℕ) → IsLeastOf r parts name some before → IsLeastOf r parts name (some ++ these) least

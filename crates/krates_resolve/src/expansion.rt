@@ -1,7 +1,7 @@
 //! What the rules give from each kept crate.
 
 ghost use Rattle.krates_resolve.specs.Basis.{HasEntry, HasExpandedTaken, HasTried, HasTriedEntry, IsRight, MayKeep, Moves, Refuses};
-ghost use Rattle.krates_resolve.specs.NodeEntry.{HasItsVersion, IsListedEdge, edge_for, edge_of};
+ghost use Rattle.krates_resolve.specs.NodeEntry.{HasItsPlaces, HasItsVersion, IsListedEdge, edge_for, edge_of};
 ghost use Rattle.std.specs.Prelude.{◌<◌, IfErr, OnOk, Some, Contains};
 ghost use Rattle.semver.specs.Identifiers.{parts_of};
 ghost use Rattle.krates_cm.specs.Document.{DepKindInfoModel};
@@ -12,9 +12,9 @@ ghost use Rattle.krates_resolve.specs.Lookup.{IsLookup};
 use crate::basis::Basis;
 use crate::enabling::keep;
 use crate::found::Found;
-use crate::node_entry::{EntryEdge, NodeEntry, entry_at, parts_of};
+use crate::node_entry::{EntryEdge, NodeEntry, declared_places, entry_at, parts_of};
 use crate::standing::{Standing, standing_of};
-use krates_document::declared_dependency::{declared_of, version_of};
+use krates_document::declared_dependency::{Sought, declared_of, version_of};
 use krates_graph::agenda::Taken;
 use krates_ids::{Error, Lost, laws};
 
@@ -62,11 +62,13 @@ pub(crate) fn expand_entry<'a>(
     let Some(version) = version_of(basis.alloc, entry.child)? else {
         unreachable!()
     };
+    let places = declared_places(basis.lookup, entry.parent);
     for info in entry.dep.dep_kinds.as_slice() {
         let edge = EntryEdge {
             entry,
             info,
             version: &version,
+            places,
         };
         expand_edge(basis, &edge, asked, found)?;
     }
@@ -83,6 +85,7 @@ fn expand_edge<'a>(
     requires lookup { IsLookup basis.now.lookup.now }
     requires entry { HasEntry basis.now edge.now.entry.now }
     requires version { HasItsVersion edge.now }
+    requires places { HasItsPlaces edge.now }
     requires listed { IsListedEdge edge.now }
     requires sound { IsRight basis.now found.old }
     requires may { MayKeep basis.now (edge_of edge.now) (TakenWhen asked) }
@@ -95,8 +98,13 @@ fn expand_edge<'a>(
     if basis.setting.ignores(info.kind, entry.is_member) {
         return Ok(());
     }
-    let Some(declared) = declared_of(entry.declared, entry.dep, entry.child, edge.version, info)
-    else {
+    let sought = Sought {
+        dep: entry.dep,
+        kid: entry.child,
+        version: edge.version,
+        info,
+    };
+    let Some(declared) = declared_of(entry.declared, edge.places, &sought) else {
         return Err(Error::Lost(Lost::Undeclared {
             krate: entry.parent.clone()?,
             dep: entry.child.clone()?,

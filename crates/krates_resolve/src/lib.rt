@@ -13,6 +13,7 @@ mod found;
 mod heeding;
 mod links;
 mod lookup;
+mod name_index;
 mod node_entry;
 pub mod questions;
 mod referent;

@@ -9,12 +9,13 @@ ghost use Rattle.krates_rules.specs.Resolved.{id_of};
 
 use crate::crate_table::{CrateTable, crate_table, number_of};
 use crate::feature_table::{FeatureTable, feature_table};
+use crate::name_index::{NameIndex, name_index};
 use krates_cm::{Metadata, Package, Resolve};
 use krates_document::ids::Ids;
 use krates_ids::{Kid, laws};
 use std::alloc::{AllocError, Global};
 
-/// A document with its ids, its crates by number, and its features by number.
+/// A document with its ids, its crates by number, its features by number, and its dependencies by name.
 #[derive(Drop)]
 pub(crate) struct Lookup<'a> {
     pub metadata: &'a Metadata,
@@ -22,6 +23,7 @@ pub(crate) struct Lookup<'a> {
     pub ids: &'a Ids,
     pub table: CrateTable,
     pub features: FeatureTable<'a>,
+    pub names: NameIndex<'a>,
 }
 
 /// The document, ready to be looked up.
@@ -38,12 +40,14 @@ pub(crate) fn lookup_of<'a>(
 {
     let table = crate_table(alloc, ids)?;
     let features = feature_table(alloc, &resolve.nodes)?;
+    let names = name_index(alloc, &metadata.packages, &resolve.nodes, &ids.deps)?;
     Ok(Lookup {
         metadata,
         resolve,
         ids,
         table,
         features,
+        names,
     })
 }
 
@@ -57,7 +61,7 @@ pub(crate) fn package_of<'a>(lookup: &Lookup<'a>, id: &Kid) -> Option<&'a Packag
 }
 
 /// The place of the package with the id.
-fn package_place(lookup: &Lookup<'_>, id: &Kid) -> Option<usize>
+pub(crate) fn package_place(lookup: &Lookup<'_>, id: &Kid) -> Option<usize>
     requires { IsLookup lookup.now }
     ensures { IsPackagePlace (resolved_view lookup.now) (id_of id.now) result }
 {

@@ -3,13 +3,14 @@
 ghost use Rattle.std.specs.Prelude.{◌≡◌, ◌<◌, ◌↔◌, Contains, IfOk, IsTrue, length, map, Some, slice_get};
 ghost use Rattle.krates_cm.specs.Document.{dependency_view, dep_kind_info_view};
 ghost use Rattle.krates_resolve.specs.Lookup.{IsLookup, resolved_view};
-ghost use Rattle.krates_resolve.specs.NodeEntry.{AreDeclaredBy, AreParts, IsEntryOf, IsFirstInfo, ListsInfo, edge_for};
+ghost use Rattle.krates_resolve.specs.NodeEntry.{AreDeclaredBy, AreParts, IsEntryOf, IsFirstInfo, ListsInfo, TellsDeclaredPlaces, edge_for};
 ghost use Rattle.krates_rules.specs.Resolved.{id_of};
 ghost use Rattle.krates_resolve.specs.Selection.{edge_view};
 
-use crate::lookup::{Lookup, is_member, package_of};
+use crate::lookup::{Lookup, is_member, package_of, package_place};
 use crate::selection::KeptEdge;
 use krates_cm::{DepKindInfo, Dependency, NodeDep};
+use krates_document::named_places::NamedPlace;
 use krates_ids::Kid;
 use semver::Version;
 use std::alloc::AllocError;
@@ -42,6 +43,8 @@ pub(crate) struct EntryEdge<'a, 's> {
     pub info: &'s DepKindInfo,
     /// The version of the crate that is depended on.
     pub version: &'s Version,
+    /// Where what the package of the kept crate declares stands by name.
+    pub places: &'s [NamedPlace<'a>],
 }
 
 /// The node of a kept crate, taken apart.
@@ -110,6 +113,17 @@ pub(crate) fn declared_by<'a>(lookup: &Lookup<'a>, krate: &'a Kid) -> &'a [Depen
 {
     match package_of(lookup, krate) {
         Some(pkg) => &pkg.dependencies,
+        None => &[],
+    }
+}
+
+/// Where what the package of a crate declares stands by name.
+pub(crate) fn declared_places<'a, 's>(lookup: &'s Lookup<'a>, krate: &Kid) -> &'s [NamedPlace<'a>]
+    requires { IsLookup lookup.now }
+    ensures { TellsDeclaredPlaces (resolved_view lookup.now) (id_of krate.now) result.now }
+{
+    match package_place(lookup, krate) {
+        Some(place) => &lookup.names.declared[place],
         None => &[],
     }
 }

@@ -19,12 +19,12 @@ mod contents;
 
 use crate::basis::Basis;
 use crate::lookup::{Lookup, lookup_of, node_place};
-use crate::node_entry::{NodeEntry, NodeParts, entry_at, is_same_info, parts_of};
+use crate::node_entry::{NodeEntry, NodeParts, declared_places, entry_at, is_same_info, parts_of};
 use crate::referent::referent_of;
 use crate::roots::{RootChoice, choice_of, is_root};
 use crate::standing::{Standing, standing_of};
 use krates_cm::{DepKindInfo, Metadata, NodeDep};
-use krates_document::declared_dependency::{declared_of, version_of};
+use krates_document::declared_dependency::{Sought, declared_of, version_of};
 use krates_document::ids::Ids;
 use krates_document::setting::Setting;
 use krates_ids::{Kid, laws};
@@ -251,7 +251,7 @@ fn declared_in<'a>(
         IfOk result (TellsDeclaredPlace (resolved_view lookup.now) edge) }
 {
     match entry_between(lookup, parent, child) {
-        Some(entry) => declared_for(alloc, &entry, info),
+        Some(entry) => declared_for(alloc, lookup, &entry, info),
         None => Ok(None),
     }
 }
@@ -274,10 +274,13 @@ pub(crate) fn entry_between<'a>(lookup: &Lookup<'a>, parent: &Kid, child: &Kid) 
 /// The place of the declared dependency of an entry, for a purpose and target that it lists.
 pub(crate) fn declared_for<'a>(
     alloc: Global,
+    lookup: &Lookup<'a>,
     entry: &NodeEntry<'a>,
     info: &DepKindInfo,
 ) -> Result<Option<usize>, AllocError>
-    requires { HasVersion entry.now.child.now }
+    requires lookup { IsLookup lookup.now }
+    requires entry { IsEntry (resolved_view lookup.now) entry.now }
+    requires version { HasVersion entry.now.child.now }
     ensures { IfOk result (TellsDeclared entry.now (dep_kind_info_view info.now)) }
 {
     if !lists(entry.dep, info) {
@@ -286,7 +289,14 @@ pub(crate) fn declared_for<'a>(
     let Some(version) = version_of(alloc, entry.child)? else {
         unreachable!()
     };
-    Ok(declared_of(entry.declared, entry.dep, entry.child, &version, info))
+    let sought = Sought {
+        dep: entry.dep,
+        kid: entry.child,
+        version: &version,
+        info,
+    };
+    let places = declared_places(lookup, entry.parent);
+    Ok(declared_of(entry.declared, places, &sought))
 }
 
 /// Whether the dependency of a node lists this purpose and target.
@@ -335,7 +345,7 @@ fn is_entry_open<'a>(
     if setting.ignores(info.kind, entry.is_member) {
         return Ok(false);
     }
-    let declared = declared_for(alloc, entry, info)?;
+    let declared = declared_for(alloc, lookup, entry, info)?;
     let Some(_) = declared else {
         return Ok(false);
     };

@@ -3,13 +3,16 @@ use Rattle.krates_cm.specs.Document.{dep_kind_info_view}
 use Rattle.krates_cm.specs.declared.resolve.DepKindInfo.{DepKindInfo}
 use Rattle.krates_resolve.specs.Found.{IsTried, TakenWhen}
 use Rattle.krates_resolve.specs.Lookup.{resolved_view}
-use Rattle.krates_resolve.specs.NodeEntry.{edge_for}
+use Rattle.krates_resolve.specs.NodeEntry.{declared_in, edge_for}
 use Rattle.krates_resolve.proofs.Growing.{advances_refl, advances_trans, tried_grows}
 use Rattle.krates_document.proofs.Seen.{seen_more, each_seen}
 use Rattle.krates_resolve.proofs.expansion.expand_entry.Goals as goal
 
 pub loop-info-init : goal.loop-info-init
 loop-info-init c = (advances_refl (resolved_view c.args.basis.now.lookup.now) c.args.basis.now.setting.now c.args.found.now c.requires.sound, λ k d lt. absurd (omega (arith, lt)))
+
+pub expand_edge-requires-clause-places : goal.expand_edge-requires-clause-places
+expand_edge-requires-clause-places c = c.declared_places-places.ensures (declared_in c.args.entry.now) c.requires.entry.declares
 
 pub expand_edge-requires-clause-sound : goal.expand_edge-requires-clause-sound
 expand_edge-requires-clause-sound c = c.loop-info.invariant.0.sound

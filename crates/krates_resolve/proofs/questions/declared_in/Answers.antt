@@ -8,6 +8,9 @@ use Rattle.krates_rules.specs.Resolved.{id_of}
 use Rattle.krates_resolve.proofs.Asked.{between, declared_told, undeclared_without}
 use Rattle.krates_resolve.proofs.questions.declared_in.Goals as goal
 
+pub declared_for-requires-clause-entry : goal.declared_for-requires-clause-entry
+declared_for-requires-clause-entry c = c.in-Some.ensures.entry
+
 pub returns-in-Some : goal.returns-in-Some
 returns-in-Some c =
     let r = resolved_view c.args.lookup.now in

@@ -1,62 +1,62 @@
-use Rattle.std.proofs.Common.{◌≡◌, ◌↔◌, ◌+◌, ◌<◌, IsTrue, length, map, Some, option_map, refl, sym, ap, ◌∙◌, subst, arith}
-use Rattle.std.proofs.lemmas.Option.{slice_get-map, slice_get_read}
-use Rattle.std.specs.List.{slice_get}
-use Rattle.krates_cm.specs.Document.{node_dep_view}
-use Rattle.krates_cm.specs.declared.resolve.NodeDep.{NodeDep}
+use Rattle.std.proofs.Common.{List, [], sym, subst}
+use Rattle.krates_document.specs.Ids.{ids_view}
+use Rattle.krates_document.specs.NamedPlaces.{AreInOrder, StandsUnder, no_target, places_in}
+use Rattle.krates_document.specs.declared.named_places.NamedPlace.{NamedPlace}
 use Rattle.krates_resolve.specs.Lookup.{resolved_view}
-use Rattle.krates_resolve.specs.ReferentPlace.{IsBefore}
-use Rattle.krates_rules.specs.Referent.{AnswersTo}
-use Rattle.krates_rules.specs.Resolved.{id_of}
-use Rattle.krates_resolve.proofs.LeastReferents.{least_put, least_stays, least_passed, answers_here, not_here, least_within, referent_told, IsLeastBelow}
-use Rattle.krates_resolve.proofs.NodeParts.{deps_long}
+use Rattle.krates_resolve.specs.NameIndex.{AreDepsOf, AreIdsNamed}
+use Rattle.krates_rules.specs.Admission.{AreDepIds}
+use Rattle.krates_rules.proofs.Readings.{right_of}
+use Rattle.krates_resolve.proofs.LeastReferents.{AreLookedAt, least_within, names_at, names_within, none_of_none, referent_told}
 use Rattle.krates_resolve.proofs.referent.referent_of.Goals as goal
-use Rattle.krates_resolve.proofs.referent.referent_of.Goals.{then-answers_to+then-is_before, else-answers_to, else-answers_to-via-then-answers_to+else-is_before, else-answers_to-via-else-answers_to}
 
-pub loop-index-init : goal.loop-index-init
-loop-index-init c = λ j other lt a. absurd (omega (arith, lt))
+pub index-requires : goal.index-requires
+index-requires c =
+    let d = c.args.lookup.now in
+    let p = c.requires.parts in
+    names_within AreDepsOf (resolved_view d).graph.nodes d.names.deps c.args.parts.now.place p.at.node c.requires.lookup.names.deps p.at.at
 
-pub bounds-parts-index : goal.bounds-parts-index
-bounds-parts-index c =
-    let parts = c.args.parts.now in
-    subst (λ n. c.loop-index.index < n) (deps_long (resolved_view c.args.lookup.now) parts.place parts c.requires.parts) c.loop-index-test.true
+pub places_under-own-requires : goal.places_under-own-requires
+places_under-own-requires c =
+    let d = c.args.lookup.now in
+    let p = c.requires.parts in
+    let own = names_at AreDepsOf (resolved_view d).graph.nodes d.names.deps c.args.parts.now.place p.at.node c.index.result.now c.requires.lookup.names.deps p.at.at c.index.ensures in
+    subst AreInOrder (sym c.deref.ensures.value) own.sorted
 
-pub is_before-requires : goal.is_before-requires
-is_before-requires c = least_within (resolved_view c.args.lookup.now) c.args.parts.now c.args.name.now c.loop-index.index c.loop-index.least c.loop-index.invariant
+pub index-requires-2 : goal.index-requires-2
+index-requires-2 c =
+    let d = c.args.lookup.now in
+    let p = c.requires.parts in
+    let kids = right_of AreDepIds (resolved_view d).graph.nodes (ids_view d.ids.now).deps c.args.parts.now.place p.at.node c.requires.lookup.ids.deps p.at.at in
+    names_within AreIdsNamed (ids_view d.ids.now).deps d.names.children c.args.parts.now.place kids.0 c.requires.lookup.names.children kids.1
 
-pub loop-index-preserved : goal.loop-index-preserved
-loop-index-preserved c =
+pub places_under-of_package-requires : goal.places_under-of_package-requires
+places_under-of_package-requires c =
+    let d = c.args.lookup.now in
+    let p = c.requires.parts in
+    let kids = right_of AreDepIds (resolved_view d).graph.nodes (ids_view d.ids.now).deps c.args.parts.now.place p.at.node c.requires.lookup.ids.deps p.at.at in
+    let children = names_at AreIdsNamed (ids_view d.ids.now).deps d.names.children c.args.parts.now.place kids.0 c.index-2.result.now c.requires.lookup.names.children kids.1 c.index-2.ensures in
+    subst AreInOrder (sym c.deref-2.ensures.value) children.sorted
+
+pub least_of-requires-clause-before : goal.least_of-requires-clause-before
+least_of-requires-clause-before c =
     let r = resolved_view c.args.lookup.now in
     let parts = c.args.parts.now in
     let name = c.args.name.now in
-    let i = c.loop-index.index in
-    let old = c.loop-index.least in
-    let child = c.child-item.result in
-    let d = node_dep_view c.index-parts-index.result in
-    let total = c.comparison.ensures.total in
-    let tells = c.comparison.ensures.order in
-    let at : slice_get parts.children.now i ≡ Some child = slice_get_read parts.children.now (length parts.children.now) i child refl c.loop-index-test.true c.child-item.is in
-    let within : i < length parts.deps.now = subst (λ n. i < n) (deps_long r parts.place parts c.requires.parts) c.loop-index-test.true in
-    let here : slice_get (map node_dep_view parts.deps.now) i ≡ Some d = slice_get-map node_dep_view parts.deps.now i ∙ ap (option_map node_dep_view) (slice_get_read parts.deps.now (length parts.deps.now) i c.index-parts-index.result refl within c.index-parts-index.is) in
-    let told = subst (λ (x : NodeDep). IsTrue c.answers_to.result ↔ AnswersTo r (id_of child) (node_dep_view x) name) (sym c.index-parts-index.is) c.answers_to.ensures in
-    elim c.if-answers_to.branch [
-      | then-answers_to+then-is_before w ↦ (
-          let answers : AnswersTo r (id_of child) d name = told.0 w.if-answers_to.true in
-          let before : IsBefore parts.children.now child old = w.is_before.ensures.0 w.if-is_before.true in
-          subst (IsLeastBelow r parts name (i + 1)) (sym w.least-is) (least_put total tells r parts name i child old (answers_here r parts name i child d at here answers) before c.loop-index.invariant))
-      | else-answers_to w ↦ (
-          let passed : IsLeastBelow r parts name (i + 1) old = elim w.else-answers_to.branch [
-            | else-answers_to-via-then-answers_to+else-is_before v ↦ (
-                let answers : AnswersTo r (id_of child) d name = told.0 v.if-answers_to.true in
-                let after : IsBefore parts.children.now child old → ⊥ = λ b. absurd (cc (v.is_before.ensures.1 b, v.if-is_before.false)) in
-                least_stays total r parts name i child old (answers_here r parts name i child d at here answers) after c.loop-index.invariant)
-            | else-answers_to-via-else-answers_to v ↦ (
-                let other : AnswersTo r (id_of child) d name → ⊥ = λ a. absurd (cc (told.1 a, v.if-answers_to.false)) in
-                least_passed r parts name i old (not_here r parts name i child d at here other) c.loop-index.invariant)
-          ] in
-          subst (IsLeastBelow r parts name (i + 1)) (sym w.least-is) passed)
-    ]
+    least_within r parts name (places_in c.places_under-own.result.now) c.least_of-least.result (c.least_of-least.ensures [] (none_of_none r parts name))
 
 pub returns : goal.returns
 returns c =
+    let d = c.args.lookup.now in
+    let r = resolved_view d in
     let parts = c.args.parts.now in
-    referent_told c.one_reading.ensures.once (resolved_view c.args.lookup.now) parts c.args.name.now c.loop-index.index c.loop-index.least c.requires.lookup.distinct c.requires.parts c.loop-index-test.false c.loop-index.invariant
+    let name = c.args.name.now in
+    let p = c.requires.parts in
+    let own = names_at AreDepsOf r.graph.nodes d.names.deps parts.place p.at.node c.index.result.now c.requires.lookup.names.deps p.at.at c.index.ensures in
+    let kids = right_of AreDepIds r.graph.nodes (ids_view d.ids.now).deps parts.place p.at.node c.requires.lookup.ids.deps p.at.at in
+    let children = names_at AreIdsNamed (ids_view d.ids.now).deps d.names.children parts.place kids.0 c.index-2.result.now c.requires.lookup.names.children kids.1 c.index-2.ensures in
+    let these = places_in c.places_under-own.result.now in
+    let those = places_in c.places_under-of_package.result.now in
+    let seen : AreLookedAt name c.index.result.now.items these = record { each = λ k s. c.places_under-own.ensures k (subst (λ (all : List NamedPlace). StandsUnder all name no_target k) (sym c.deref.ensures.value) s) } in
+    let shown : AreLookedAt name c.index-2.result.now.items those = record { each = λ k s. c.places_under-of_package.ensures k (subst (λ (all : List NamedPlace). StandsUnder all name no_target k) (sym c.deref-2.ensures.value) s) } in
+    let first = c.least_of-least.ensures [] (none_of_none r parts name) in
+    referent_told c.one_reading.ensures.once r parts name kids.0 c.index.result.now.items c.index-2.result.now.items these those c.least_of.result c.requires.lookup.distinct p kids.2 own children seen shown (c.least_of.ensures these first)

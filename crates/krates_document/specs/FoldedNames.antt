@@ -1,0 +1,26 @@
+-- Names in an order in which '-' and '_' are one character.
+use Rattle.std.specs.Prelude.{◌==◌, ℕ, Bool, cond, map}
+use Rattle.std.specs.declared.cmp.Ordering.{Ordering}
+use Rattle.std.specs.Cmp.Lexicographic.{slice_cmp}
+use Rattle.std.specs.Ordering.{nat_cmp, on, eq_by_cmp}
+use Rattle.krates_cm.specs.Document.{Text}
+use Rattle.krates_rules.specs.DependencyName.{hyphen, underscore}
+use Rattle.krates_document.specs.declared.folded_name.FoldedName.{FoldedName}
+
+-- the byte, '-' as '_'
+abbrev pub folded_byte : ℕ → ℕ
+folded_byte byte = cond (byte == hyphen) underscore byte
+
+-- each byte of the name so
+abbrev pub folded : Text → Text
+folded name = map folded_byte name
+
+-- how two names compare by their bytes, where '-' is '_'
+abbrev pub folded_order : Text → Text → Ordering
+folded_order = on folded (slice_cmp nat_cmp)
+
+abbrev pub name_cmp : FoldedName → FoldedName → Ordering
+name_cmp = on (λ n. n.text.now) folded_order
+
+abbrev pub same_name : FoldedName → FoldedName → Bool
+same_name = eq_by_cmp name_cmp
