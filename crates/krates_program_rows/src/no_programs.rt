@@ -6,6 +6,7 @@ use std::io::ErrorKind;
 use std::process::{Child, Command, ExitStatus, OpenProcess, Processes, Stdio};
 
 /// Programs of which none is found.
+#[derive(Drop)]
 pub(crate) struct NoPrograms;
 
 /// A program that was started: there is none.
