@@ -1,6 +1,7 @@
 pub mod AdmittedAlike
 pub mod BuildLemmas
 pub mod BuildsAlike
+pub mod CargoLemmas
 pub mod CorrectedAlike
 pub mod CorrectedSoFar
 pub mod DivisionLemmas

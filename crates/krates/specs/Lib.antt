@@ -2,6 +2,7 @@ pub mod Build
 pub mod BuildLaws
 pub mod Builder
 pub mod BuilderModel
+pub mod Cargo
 pub mod Division
 pub mod Enabled
 pub mod Indexed

@@ -4,6 +4,7 @@
 #![tactic(auto)]
 
 mod builder;
+mod cargo;
 mod division;
 mod enabled;
 mod filter;

@@ -5,6 +5,8 @@
 #![tactic(auto)]
 
 #[cfg(test)]
+mod building;
+#[cfg(test)]
 mod command;
 #[cfg(test)]
 mod stand_in;

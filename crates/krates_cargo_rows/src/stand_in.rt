@@ -56,7 +56,7 @@ pub(crate) fn run(rt: &HostRuntime) -> Result<u8, Fail> {
 }
 
 /// A command that this program runs in cargo's place, with this last word.
-fn command(rt: &HostRuntime, last: &str) -> Result<MetadataCommand, Fail> {
+pub(crate) fn command(rt: &HostRuntime, last: &str) -> Result<MetadataCommand, Fail> {
     let alloc = rt.alloc();
     let program = std::env::current_exe(rt)?;
     let mut options = Vec::new(alloc);

@@ -1,5 +1,5 @@
 -- A text that has a listing is refused for nothing that is said of it.
-use Rattle.std.proofs.Common.{◌≡◌, ℕ, zero, suc, ◌<◌, List, [], ◌∷◌, length, get_or, Contains, Option, Some, None, IsUtf8, refl, ap, sym, ◌∙◌, subst, inl, inr, arith, string_bytes}
+use Rattle.std.proofs.Common.{◌≡◌, ℕ, zero, suc, ◌<◌, List, [], ◌∷◌, length, get_or, Contains, Option, Some, None, IsSome, IsUtf8, refl, ap, sym, ◌∙◌, subst, inl, inr, arith, string_bytes}
 use Rattle.std.proofs.lemmas.Option.{none-some, same_Some}
 use Rattle.std.specs.List.{AllZip, AllByRecursion}
 use Rattle.krates_cm.specs.Document.{Text, MetadataModel, NodeModel, ResolveModel, metadata_view}
@@ -19,7 +19,7 @@ use Rattle.krates_rules.specs.Resolved.{HasGraphWith, id_of, resolved}
 use Rattle.krates_rules.specs.SelectionRefusals.{HasNoRoot, SelectionRefusal, cause_of}
 use Rattle.krates_rules.specs.Setting.{SettingModel}
 use Rattle.krates.specs.Build.{Answers, BuildRefusalAsGiven}
-use Rattle.krates_cli.specs.CommandLine.{AskForListing, IsCause}
+use Rattle.krates_cli.specs.CommandLine.{AskForListing, AskForProgram, IsCause, LinesRefusal}
 use Rattle.krates_cli.specs.Listing.{IsListing, IsSplit}
 use Rattle.krates_cli.specs.ListingRefusals.{IsOutside, RunRefusal}
 use Rattle.krates_cli.specs.Options.{OptionsModel, IsCommandLine, setting_of}
@@ -130,7 +130,7 @@ listed_refused once s bytes lines (errors.Parse cause) utf8 listing (_, refused)
     absurd (refused.not_memory (document_refused bytes (metadata_view listing.metadata) cause listing.document refused.refused))
 listed_refused once s bytes lines (errors.Build cause) utf8 listing (_, refused) =
     let same = one_document bytes (metadata_view refused.metadata) (metadata_view listing.metadata) refused.document listing.document in
-    divided_refused once s listing.metadata refused.metadata listing.kept listing.others cause same listing.split refused.refused refused.not_memory
+    divided_refused once s listing.metadata refused.metadata listing.lists.kept listing.lists.others cause same listing.lists.split refused.unbuilt.refused refused.unbuilt.not_memory
 listed_refused once s bytes lines errors.Write utf8 listing refused = tt
 listed_refused once s bytes lines errors.Memory utf8 listing refused = tt
 
@@ -138,10 +138,20 @@ listed_refused once s bytes lines errors.Memory utf8 listing refused = tt
 abbrev pub AskOnce : Type 0
 AskOnce = (words : List Text) (a b : OptionsModel) → IsCommandLine words a → IsCommandLine words b → a ≡ b
 
+-- what refuses lines that are read refuses a run
+read_refused : (cargo : Option Text) (s : SettingModel) (bytes : Text) (cause : RunError) → cargo ≡ None → LinesRefusal cargo s (Some bytes) cause → RunRefusal s bytes cause
+read_refused None s bytes cause none refused = refused
+read_refused (Some program) s bytes cause none refused = absurd (none-some program (sym none))
+
 -- the same of the words and of what is to be read
 pub asked_refused : ReadsOnce → AskOnce → (words : List Text) (remaining : Option Text) (cause : RunError) → AskForListing words remaining → IsCause words remaining cause → IsOutside cause
 asked_refused once alone words remaining cause listed (inl memory) = subst IsOutside (sym memory) tt
-asked_refused once alone words None cause listed (inr asked) = absurd listed.2
+asked_refused once alone words None cause listed (inr asked) = absurd listed.2.1
 asked_refused once alone words (Some bytes) cause listed (inr asked) =
     let same = alone words asked.0 listed.0 asked.1 listed.1 in
-    listed_refused once (setting_of listed.0) bytes listed.2.1.0 cause listed.2.0 listed.2.1.1 (subst (λ (o : OptionsModel). RunRefusal (setting_of o) bytes cause) same asked.2)
+    let refused = subst (λ (o : OptionsModel). LinesRefusal o.cargo (setting_of o) (Some bytes) cause) same asked.2 in
+    listed_refused once (setting_of listed.0) bytes listed.2.1.1.0 cause listed.2.1.0 listed.2.1.1.1 (read_refused listed.0.cargo (setting_of listed.0) bytes cause listed.2.0 refused)
+
+-- what holds where a program is asked for, of the words that ask for this
+pub where_program : AskOnce → (words : List Text) (o : OptionsModel) (P : Type 0) → IsCommandLine words o → (IsSome o.cargo → P) → AskForProgram words → P
+where_program alone words o P line h asked = h (subst (λ (a : OptionsModel). IsSome a.cargo) (alone words asked.0 o asked.1 line) asked.2)

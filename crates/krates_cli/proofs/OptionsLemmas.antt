@@ -5,7 +5,7 @@ use Rattle.std.proofs.lemmas.Bool.{false≢true}
 use Rattle.krates_cm.specs.Document.{Text}
 use Rattle.krates_ids.specs.PackageSpecification.{Specification, IsSpec}
 use Rattle.krates_rules.specs.declared.kind.DepKind.{DepKind}
-use Rattle.krates_cli.specs.Options.{OptionsModel, plain_options, Wish, every_member, without_kind, at_target, without_package, with_wish, kind_named, AsksWith, ignore_kind, target, exclude, AsksFirst, workspace, valued, IsCommandLine, no_words, one_more, IsUnknown}
+use Rattle.krates_cli.specs.Options.{OptionsModel, plain_options, Wish, every_member, without_kind, at_target, without_package, by_program, later, with_wish, kind_named, AsksWith, ignore_kind, target, exclude, cargo, AsksFirst, workspace, valued, IsCommandLine, no_words, one_more, IsUnknown}
 use Rattle.krates_cli.specs.OptionsReading.{and_wish, AddsValue, AddsFirst, BeginsUnknown, IsNoValue, IsUnread}
 use Rattle.krates_cli.specs.declared.options.OptionsError.{OptionsError}
 use Rattle.krates_cli.specs.declared.options.OptionsError.TheVariants as errors
@@ -18,11 +18,13 @@ IsAsked option value every_member = ⊥
 IsAsked option value (without_kind kind) = (option ≡ codes "--ignore-kind") × (kind_named value ≡ Some kind)
 IsAsked option value (at_target triple) = (option ≡ codes "--target") × (value ≡ triple)
 IsAsked option value (without_package spec) = (option ≡ codes "--exclude") × IsSpec value spec.name spec.version spec.url
+IsAsked option value (by_program program) = (option ≡ codes "--cargo") × (value ≡ program)
 
 pub asked : (option value : Text) (wish : Wish) → AsksWith option value wish → IsAsked option value wish
 asked option value wish (ignore_kind h) = (refl, h)
 asked option value wish target = (refl, refl)
 asked option value wish (exclude h) = (refl, h)
+asked option value wish cargo = (refl, refl)
 
 -- two names of options differ
 differ : {A : Type 0} (option a b : Text) → option ≡ a → option ≡ b → bytes_eq a b ≡ false → bytes_eq b b ≡ true → A
@@ -33,17 +35,20 @@ no_flag : (option value : Text) (wish : Wish) → AsksWith option value wish →
 no_flag option value wish (ignore_kind h) e = differ option (codes "--ignore-kind") (codes "--workspace") refl e refl refl
 no_flag option value wish target e = differ option (codes "--target") (codes "--workspace") refl e refl refl
 no_flag option value wish (exclude h) e = differ option (codes "--exclude") (codes "--workspace") refl e refl refl
+no_flag option value wish cargo e = differ option (codes "--cargo") (codes "--workspace") refl e refl refl
 
 -- an option of another name asks for nothing
-pub no_value : (option value : Text) → (option ≡ codes "--ignore-kind" → ⊥) → (option ≡ codes "--target" → ⊥) → (option ≡ codes "--exclude" → ⊥) → IsNoValue option value
-no_value option value no_kind no_target no_spec wish (ignore_kind h) = no_kind refl
-no_value option value no_kind no_target no_spec wish target = no_target refl
-no_value option value no_kind no_target no_spec wish (exclude h) = no_spec refl
+pub no_value : (option value : Text) → (option ≡ codes "--ignore-kind" → ⊥) → (option ≡ codes "--target" → ⊥) → (option ≡ codes "--exclude" → ⊥) → (option ≡ codes "--cargo" → ⊥) → IsNoValue option value
+no_value option value no_kind no_target no_spec no_cargo wish (ignore_kind h) = no_kind refl
+no_value option value no_kind no_target no_spec no_cargo wish target = no_target refl
+no_value option value no_kind no_target no_spec no_cargo wish (exclude h) = no_spec refl
+no_value option value no_kind no_target no_spec no_cargo wish cargo = no_cargo refl
 
 pub no_spec_value : (option value : Text) → option ≡ codes "--exclude" → ((spec : Specification) → IsSpec value spec.name spec.version spec.url → ⊥) → IsNoValue option value
 no_spec_value option value is none wish (ignore_kind h) = differ option (codes "--ignore-kind") (codes "--exclude") refl is refl refl
 no_spec_value option value is none wish target = differ option (codes "--target") (codes "--exclude") refl is refl refl
 no_spec_value option value is none wish (exclude {spec = spec} h) = none spec h
+no_spec_value option value is none wish cargo = differ option (codes "--cargo") (codes "--exclude") refl is refl refl
 
 -- a value that is no specification is refused, and want of memory stays that
 pub spec_refused : (option value : Text) (why same : OptionsError) → option ≡ codes "--exclude" → IsUnread ((spec : Specification) → IsSpec value spec.name spec.version spec.url → ⊥) why
@@ -73,6 +78,14 @@ spec_read option value old spec specs is named pushed = record {
   wish = without_package spec;
   asks = subst (λ o. AsksWith o value (without_package spec)) (sym is) (exclude named);
   added = ap (λ l. record old { exclusions = l }) pushed;
+}
+
+pub program_read : (option value : Text) (old : OptionsModel) (program : Option Text) → option ≡ codes "--cargo"
+    → program ≡ Some value → AddsValue option value old (record old { cargo = program })
+program_read option value old program is set = record {
+  wish = by_program value;
+  asks = subst (λ o. AsksWith o value (by_program value)) (sym is) cargo;
+  added = ap (λ p. record old { cargo = p }) set;
 }
 
 -- ---- the first words
@@ -109,7 +122,12 @@ joined a b = record {
   ignored = a.ignored ++ b.ignored;
   targets = a.targets ++ b.targets;
   exclusions = a.exclusions ++ b.exclusions;
+  cargo = later a.cargo b.cargo;
 }
+
+later_still : (first : Option Text) (program : Text) (last : Option Text) → later (Some program) last ≡ later first (later (Some program) last)
+later_still first program None = refl
+later_still first program (Some other) = refl
 
 -- a wish at the end of the first stands before the second
 moves_over : (a b : OptionsModel) (wish : Wish) → joined (and_wish a wish) b ≡ joined a (with_wish wish b)
@@ -117,6 +135,20 @@ moves_over a b every_member = ap (λ x. record (joined a b) { workspace = x }) (
 moves_over a b (without_kind kind) = ap (λ x. record (joined a b) { ignored = x }) (append_assoc a.ignored (kind ∷ []) b.ignored)
 moves_over a b (at_target triple) = ap (λ x. record (joined a b) { targets = x }) (append_assoc a.targets (triple ∷ []) b.targets)
 moves_over a b (without_package spec) = ap (λ x. record (joined a b) { exclusions = x }) (append_assoc a.exclusions (spec ∷ []) b.exclusions)
+moves_over a b (by_program program) = ap (λ x. record (joined a b) { cargo = x }) (later_still a.cargo program b.cargo)
+
+later_alone : (last : Option Text) → later None last ≡ last
+later_alone None = refl
+later_alone (Some program) = refl
+
+plain_joined : (o : OptionsModel) → o ≡ joined plain_options o
+plain_joined o = λ i. record {
+  workspace = o.workspace;
+  ignored = o.ignored;
+  targets = o.targets;
+  exclusions = o.exclusions;
+  cargo = sym (later_alone o.cargo) i;
+}
 
 joined_plain : (a : OptionsModel) → joined a plain_options ≡ a
 joined_plain a = λ i. record {
@@ -124,6 +156,7 @@ joined_plain a = λ i. record {
   ignored = append-nil a.ignored i;
   targets = append-nil a.targets i;
   exclusions = append-nil a.exclusions i;
+  cargo = a.cargo;
 }
 
 -- So far this is asked, and these words are left: they are a command line exactly where all words are.
@@ -133,7 +166,7 @@ pub record AreReadTo (all : List Text) (asked : OptionsModel) (left : List Text)
 
 pub none_read : (all : List Text) (asked : OptionsModel) → asked ≡ plain_options → AreReadTo all asked all
 none_read all asked plain = record {
-  whole = λ o line. subst (λ a. IsCommandLine all (joined a o)) (sym plain) line;
+  whole = λ o line. subst (λ a. IsCommandLine all (joined a o)) (sym plain) (subst (IsCommandLine all) (plain_joined o) line);
   back = λ o line. (o, line);
 }
 
@@ -220,15 +253,23 @@ same_asked one option value every_member b p q = absurd p
 same_asked one option value (without_kind k) every_member p q = absurd q
 same_asked one option value (without_kind k) (without_kind j) p q = ap (λ x. without_kind (kind_or k x)) (sym p.1 ∙ q.1)
 same_asked one option value (without_kind k) (at_target u) p q = differ option (codes "--ignore-kind") (codes "--target") p.0 q.0 refl refl
+same_asked one option value (without_kind k) (by_program c) p q = differ option (codes "--ignore-kind") (codes "--cargo") p.0 q.0 refl refl
 same_asked one option value (without_kind k) (without_package s) p q = differ option (codes "--ignore-kind") (codes "--exclude") p.0 q.0 refl refl
 same_asked one option value (at_target t) every_member p q = absurd q
 same_asked one option value (at_target t) (without_kind k) p q = differ option (codes "--target") (codes "--ignore-kind") p.0 q.0 refl refl
 same_asked one option value (at_target t) (at_target u) p q = ap at_target (sym p.1 ∙ q.1)
 same_asked one option value (at_target t) (without_package s) p q = differ option (codes "--target") (codes "--exclude") p.0 q.0 refl refl
+same_asked one option value (at_target t) (by_program c) p q = differ option (codes "--target") (codes "--cargo") p.0 q.0 refl refl
 same_asked one option value (without_package r) every_member p q = absurd q
 same_asked one option value (without_package r) (without_kind k) p q = differ option (codes "--exclude") (codes "--ignore-kind") p.0 q.0 refl refl
 same_asked one option value (without_package r) (at_target u) p q = differ option (codes "--exclude") (codes "--target") p.0 q.0 refl refl
 same_asked one option value (without_package r) (without_package s) p q = ap without_package (one value r s p.1 q.1)
+same_asked one option value (without_package r) (by_program c) p q = differ option (codes "--exclude") (codes "--cargo") p.0 q.0 refl refl
+same_asked one option value (by_program c) every_member p q = absurd q
+same_asked one option value (by_program c) (without_kind k) p q = differ option (codes "--cargo") (codes "--ignore-kind") p.0 q.0 refl refl
+same_asked one option value (by_program c) (at_target t) p q = differ option (codes "--cargo") (codes "--target") p.0 q.0 refl refl
+same_asked one option value (by_program c) (without_package s) p q = differ option (codes "--cargo") (codes "--exclude") p.0 q.0 refl refl
+same_asked one option value (by_program c) (by_program d) p q = ap by_program (sym p.1 ∙ q.1)
 
 wishes : OneReading → (words : List Text) (a b : Wish) (rest left : List Text) → Begins words a rest → Begins words b left → a ≡ b
 wishes one words a b rest left (inl p) (inl q) = p.1 ∙ sym q.1

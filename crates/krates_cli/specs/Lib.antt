@@ -1,3 +1,4 @@
+pub mod CargoListing
 pub mod CommandLine
 pub mod Counted
 pub mod FailedCall

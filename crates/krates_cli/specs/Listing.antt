@@ -25,14 +25,18 @@ pub record IsSplit (s : SettingModel) (m : Metadata) (kept others : List Package
   pub other_ids : List Identity
   pub others_are : AreThosePackages m.packages.items (DropsCrate (metadata_view m) s) other_ids others
 
+-- These are the lines of a document's packages.
+pub record IsListingOf (s : SettingModel) (m : Metadata) (lines : Text) : Type 0 where
+  pub kept : List Package
+  pub others : List Package
+  pub split : IsSplit s m kept others
+  pub written : lines ≡ lines_of kept others
+
 -- The text is a document, and these are the lines of its packages.
 pub record IsListing (s : SettingModel) (text lines : Text) : Type 0 where
   pub metadata : Metadata
   pub document : IsDocument text (metadata_view metadata)
-  pub kept : List Package
-  pub others : List Package
-  pub split : IsSplit s metadata kept others
-  pub written : lines ≡ lines_of kept others
+  pub lists : IsListingOf s metadata lines
 
 -- The bytes are a text, and its listing is what was added to the known bytes of a writer.
 pub record WritesListing (s : SettingModel) (bytes : Text) (old new : Option Text) : Type 0 where

@@ -18,12 +18,22 @@ pub record ParseRefusal (text : Text) (cause : cm.Error) : Type 0 where
   pub refused : IsRefusal text cause
   pub not_memory : cause ≡ cm_errors.Memory → ⊥
 
--- the text is a document that has no graph of crates under the setting, for this reason and not for want of memory
+-- the document has no graph of crates under the setting, for this reason and not for want of memory
+pub record IsUnbuilt (s : SettingModel) (m : Metadata) (cause : build.Error) : Type 0 where
+  pub refused : BuildRefusalAsGiven m s cause
+  pub not_memory : cause ≡ build_errors.Memory → ⊥
+
+-- why a document has no listing
+abbrev pub IsUnlisted : SettingModel → Metadata → RunError → Type 0
+IsUnlisted s m (errors.Build cause) = IsUnbuilt s m cause
+IsUnlisted s m errors.Memory = ⊤
+IsUnlisted s m _ = ⊥
+
+-- the text is a document that is unbuilt for this reason
 pub record BuildCause (s : SettingModel) (text : Text) (cause : build.Error) : Type 0 where
   pub metadata : Metadata
   pub document : IsDocument text (metadata_view metadata)
-  pub refused : BuildRefusalAsGiven metadata s cause
-  pub not_memory : cause ≡ build_errors.Memory → ⊥
+  pub unbuilt : IsUnbuilt s metadata cause
 
 -- why a text has no listing under a setting
 abbrev pub ListingRefusal : SettingModel → Text → RunError → Type 0

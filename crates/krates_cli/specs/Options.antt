@@ -1,5 +1,5 @@
 -- What is asked of a run: which words ask for what, and the setting that is meant.
-use Rattle.std.specs.Prelude.{◌≡◌, List, [], ◌∷◌, Bool, true, false, Option, Some, None, bytes_eq, codes, if◌then◌else◌, map, string_bytes}
+use Rattle.std.specs.Prelude.{◌≡◌, List, [], ◌∷◌, Bool, true, false, Option, Some, None, bytes_eq, codes, if◌then◌else◌, map, option_map, string_bytes}
 use Rattle.std.specs.List.{list_any}
 use Rattle.krates_cm.specs.Document.{Text}
 use Rattle.krates_ids.specs.PackageSpecification.{Specification, IsSpec, spec_view}
@@ -22,10 +22,12 @@ pub record OptionsModel : Type 0 where
   pub targets : List Text
   -- the packages that are left out
   pub exclusions : List Specification
+  -- the program whose output is the document, where one is asked for
+  pub cargo : Option Text
 
 -- nothing is asked
 abbrev pub plain_options : OptionsModel
-plain_options = record { workspace = false; ignored = []; targets = []; exclusions = [] }
+plain_options = record { workspace = false; ignored = []; targets = []; exclusions = []; cargo = None }
 
 -- options, seen by the bytes of their texts
 abbrev pub options_view : Options → OptionsModel
@@ -34,6 +36,7 @@ options_view o = record {
   ignored = o.ignored.items;
   targets = map string_bytes o.targets.items;
   exclusions = map spec_view o.exclusions.items;
+  cargo = option_map string_bytes o.cargo;
 }
 
 -- ---- words
@@ -44,6 +47,12 @@ pub data Wish : Type 0 where
   without_kind : DepKind → Wish
   at_target : Text → Wish
   without_package : Specification → Wish
+  by_program : Text → Wish
+
+-- of two programs the one that is asked for later
+abbrev pub later : Option Text → Option Text → Option Text
+later first None = first
+later first (Some last) = Some last
 
 -- what is asked where this wish comes first
 abbrev pub with_wish : Wish → OptionsModel → OptionsModel
@@ -51,6 +60,7 @@ with_wish every_member o = record o { workspace = true }
 with_wish (without_kind kind) o = record o { ignored = kind ∷ o.ignored }
 with_wish (at_target triple) o = record o { targets = triple ∷ o.targets }
 with_wish (without_package spec) o = record o { exclusions = spec ∷ o.exclusions }
+with_wish (by_program cargo) o = record o { cargo = later (Some cargo) o.cargo }
 
 -- the purpose that a word means
 abbrev pub kind_named : Text → Option DepKind
@@ -65,6 +75,7 @@ pub data AsksWith : Text → Text → Wish → Type 0 where
   ignore_kind : {value : Text} {kind : DepKind} → kind_named value ≡ Some kind → AsksWith (codes "--ignore-kind") value (without_kind kind)
   target : {value : Text} → AsksWith (codes "--target") value (at_target value)
   exclude : {value : Text} {spec : Specification} → IsSpec value spec.name spec.version spec.url → AsksWith (codes "--exclude") value (without_package spec)
+  cargo : {value : Text} → AsksWith (codes "--cargo") value (by_program value)
 
 -- The words begin with an option that asks for this, and these words follow. A value is the next word, whatever it is.
 pub data AsksFirst : List Text → Wish → List Text → Type 0 where
@@ -114,3 +125,7 @@ setting_of o = record {
 -- the setting that these options mean
 abbrev pub meant_setting : Options → SettingModel
 meant_setting options = setting_of (options_view options)
+
+-- the program that these options ask for
+abbrev pub asked_program : Options → Option Text
+asked_program options = (options_view options).cargo

@@ -1,11 +1,11 @@
 -- How options are read from the front of words, and how purposes are set one by one. Cited by private functions alone.
-use Rattle.std.specs.Prelude.{◌≡◌, ◌++◌, List, [], ◌∷◌, true, ⊤}
+use Rattle.std.specs.Prelude.{◌≡◌, ◌++◌, List, [], ◌∷◌, Some, true, ⊤}
 use Rattle.krates_cm.specs.Document.{Text}
 use Rattle.krates_rules.specs.declared.kind.DepKind.{DepKind}
 use Rattle.krates_rules.specs.declared.kind.DepKind.TheVariants as kinds
 use Rattle.krates_rules.specs.declared.kind.IgnoredKinds.{IgnoredKinds}
 use Rattle.krates_rules.specs.declared.kind.KindSet.{KindSet}
-use Rattle.krates_cli.specs.Options.{OptionsModel, Wish, every_member, without_kind, at_target, without_package, AsksWith, AsksFirst}
+use Rattle.krates_cli.specs.Options.{OptionsModel, Wish, every_member, without_kind, at_target, without_package, by_program, AsksWith, AsksFirst}
 use Rattle.krates_cli.specs.declared.options.OptionsError.{OptionsError}
 use Rattle.krates_cli.specs.declared.options.OptionsError.TheVariants as errors
 
@@ -15,6 +15,7 @@ and_wish o every_member = record o { workspace = true }
 and_wish o (without_kind kind) = record o { ignored = o.ignored ++ kind ∷ [] }
 and_wish o (at_target triple) = record o { targets = o.targets ++ triple ∷ [] }
 and_wish o (without_package spec) = record o { exclusions = o.exclusions ++ spec ∷ [] }
+and_wish o (by_program cargo) = record o { cargo = Some cargo }
 
 -- the option and its value ask for something, which is added
 pub record AddsValue (option value : Text) (old new : OptionsModel) : Type 0 where

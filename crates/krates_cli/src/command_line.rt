@@ -1,23 +1,26 @@
 //! All that the program does, over any reader and writers: words, run, refusal and status.
 
-ghost use Rattle.std.specs.Prelude.{◌≡◌, ◌≢◌, ◌≤◌, ◌⊎◌, IfOk, IfSome, map, string_bytes};
+ghost use Rattle.std.specs.Prelude.{◌≡◌, ◌≢◌, ◌≤◌, ◌⊎◌, IfErr, IfOk, IfSome, IsSome, OnOk, map, string_bytes};
 ghost use Rattle.std.specs.IoError.{error_kind};
 ghost use Rattle.krates_cm.specs.Document.{Text};
-ghost use Rattle.krates_cli.specs.CommandLine.{Asking, IsCause, IsTold, LeavesEnds, TellsCause, no_memory_line, refusal_line, usage_line};
+ghost use Rattle.krates_cli.specs.CommandLine.{AskForProgram, Asking, IsCause, IsTold, LeavesEnds, LinesRefusal, TellsCause, WritesFront, WritesLines, no_memory_line, refusal_line, usage_line};
 ghost use Rattle.krates_cli.specs.Counted.{inner_of};
-ghost use Rattle.krates_cli.specs.Listing.{WritesBeginning, WritesListing};
-ghost use Rattle.krates_cli.specs.Options.{IsUnknown, setting_of};
+ghost use Rattle.krates_cli.specs.Options.{IsUnknown, asked_program, meant_setting, setting_of};
 ghost use Rattle.krates_cli.specs.RunError.{run_error_text};
 ghost use Rattle.krates_cli.specs.declared.options.OptionsError.TheVariants as options_errors;
 ghost use Rattle.krates_cli.specs.declared.run_error.RunError.{RunError};
+ghost use Rattle.krates_cli.specs.declared.run_error.RunError.TheVariants as causes;
 
 use crate::counted::Counted;
-use crate::listing::run;
-use crate::options::{OptionsError, options_of};
-use std::alloc::{AllocError, Global};
+use crate::laws;
+use crate::listing::{run, run_by_cargo};
+use crate::options::{Options, OptionsError, options_of};
+use crate::run_error::RunError;
+use std::alloc::{AllocError, AllocGlobal, Global};
 use std::fmt::Display;
 use std::io;
 use std::io::{ErrorKind, Read, Write};
+use std::process::Processes;
 
 const USAGE_LINE: &str =
     "usage: krates-list [--workspace] [--ignore-kind KIND] [--target TRIPLE] [--exclude SPEC] [--cargo PROGRAM]\n";
@@ -34,40 +37,69 @@ const UNKNOWN_WORD: u8 = 2;
 /// the lines were written; 1 where it is refused, with what is printed of the cause in a line on `errors`; 2 where the words
 /// aren't options, with the usage line on `errors`. Where memory runs out for the line of a cause, it says that instead.
 ///
-/// All words are read before any input; where memory runs out meanwhile, the status is 1 and nothing was read.
+/// All words are read before any input; where memory runs out meanwhile, the status is 1 and nothing was read. Where the words
+/// ask for a program, `host` runs it as cargo, its document is listed, and no input is read.
+///
 /// `laws::listed_or_refused` says that a cause is the text's only where there is no listing.
 pub fn program<R: Read, W: Write, E: Write>(
-    alloc: Global,
     words: &[String],
     input: &mut Counted<R>,
     output: &mut Counted<W>,
     errors: &mut Counted<E>,
+    host: &(impl Processes + AllocGlobal),
 ) -> u8
     ensures status { result ≤ 2 }
     ensures known_words { result ≡ 2 → IsUnknown (map string_bytes words.now) × IsTold E.contents errors.old errors.new usage_line }
     ensures unknown_word { IsUnknown (map string_bytes words.now) → (result ≡ 2)
         ⊎ ((result ≡ 1) × IsTold E.contents errors.old errors.new no_memory_line × (input.new ≡ input.old) × (output.new ≡ output.old)) }
     ensures unread { result ≡ 2 → (input.new ≡ input.old) × (output.new ≡ output.old) }
-    ensures listed { result ≡ 0 → Asking (map string_bytes words.now) (λ o. IfSome (R.remaining (inner_of input.old)) (λ bytes. WritesListing (setting_of o) bytes (W.contents (inner_of output.old)) (W.contents (inner_of output.new)))) }
+    ensures by_program { AskForProgram (map string_bytes words.now) → input.new ≡ input.old }
+    ensures listed { result ≡ 0 → Asking (map string_bytes words.now)
+        (λ o. WritesLines o.cargo (setting_of o) (R.remaining (inner_of input.old))
+        (W.contents (inner_of output.old)) (W.contents (inner_of output.new))) }
     ensures silent { result ≡ 0 → errors.new ≡ errors.old }
     ensures refused { result ≡ 1 → (cause : RunError)
         × IsCause (map string_bytes words.now) (R.remaining (inner_of input.old)) cause
         × LeavesEnds input.old input.new output.old output.new cause
         × TellsCause E.contents errors.old errors.new (run_error_text cause) }
-    ensures beginning { result ≡ 1 → (output.new ≡ output.old)
-        ⊎ Asking (map string_bytes words.now) (λ o. IfSome (R.remaining (inner_of input.old))
-        (λ bytes. WritesBeginning (setting_of o) bytes (W.contents (inner_of output.old)) (W.contents (inner_of output.new)))) }
+    ensures beginning { result ≡ 1 → (output.new ≡ output.old) ⊎ Asking (map string_bytes words.now)
+        (λ o. WritesFront o.cargo (setting_of o) (R.remaining (inner_of input.old))
+        (W.contents (inner_of output.old)) (W.contents (inner_of output.new))) }
 {
-    let options = match options_of(alloc, words) {
+    laws::one_command_line();
+    let options = match options_of(host.alloc(), words) {
         Ok(options) => options,
         Err(error) => return refuse_options(&error, errors),
     };
-    match run(alloc, &options, input, output) {
+    match list(&options, input, output, host) {
         Ok(()) => DONE,
         Err(error) => {
-            refuse(alloc, &error, errors);
+            refuse(host.alloc(), &error, errors);
             REFUSED
         }
+    }
+}
+
+/// Writes the lines that are asked for: of the document that is read, or of that of the program that is asked for.
+fn list<R: Read, W: Write>(
+    options: &Options,
+    input: &mut Counted<R>,
+    output: &mut Counted<W>,
+    host: &(impl Processes + AllocGlobal),
+) -> Result<(), RunError>
+    ensures written { OnOk result (WritesLines (asked_program options.now) (meant_setting options.now) (R.remaining (inner_of input.old))
+        (W.contents (inner_of output.old)) (W.contents (inner_of output.new))) }
+    ensures refused { IfErr result
+        (LinesRefusal (asked_program options.now) (meant_setting options.now) (R.remaining (inner_of input.old))) }
+    ensures ends { IfErr result (LeavesEnds input.old input.new output.old output.new) }
+    ensures beginning { result ≡ Err causes.Write
+        → WritesFront (asked_program options.now) (meant_setting options.now) (R.remaining (inner_of input.old))
+        (W.contents (inner_of output.old)) (W.contents (inner_of output.new)) }
+    ensures by_program { IsSome (asked_program options.now) → input.new ≡ input.old }
+{
+    match &options.cargo {
+        Some(cargo) => run_by_cargo(host.alloc(), options, cargo.as_str(), host, output),
+        None => run(host.alloc(), options, input, output),
     }
 }
 

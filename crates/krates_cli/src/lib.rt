@@ -13,6 +13,6 @@ pub mod run_error;
 
 pub use command_line::{program, refuse_words};
 pub use counted::Counted;
-pub use listing::run;
+pub use listing::{run, run_by_cargo};
 pub use options::{Options, OptionsError, options_of, set_options};
 pub use run_error::RunError;

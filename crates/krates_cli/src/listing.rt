@@ -1,9 +1,10 @@
 //! The run of `krates-list`: from the bytes that come in to the bytes that go out.
 
 ghost use Rattle.std.specs.Prelude.{◌≡◌, ◌≢◌, IfErr, IfOk, IfSome, OnOk, string_bytes};
+ghost use Rattle.krates_cli.specs.CargoListing.{CargoRefusal, IsCargoListing, WritesCargoBeginning, WritesCargoListing};
 ghost use Rattle.krates_cli.specs.Counted.{HasFailed, inner_of};
-ghost use Rattle.krates_cli.specs.Listing.{IsListing, WritesBeginning, WritesListing};
-ghost use Rattle.krates_cli.specs.ListingRefusals.{ListingRefusal, RunRefusal};
+ghost use Rattle.krates_cli.specs.Listing.{IsListing, IsListingOf, WritesBeginning, WritesListing};
+ghost use Rattle.krates_cli.specs.ListingRefusals.{IsUnlisted, ListingRefusal, RunRefusal};
 ghost use Rattle.krates_cli.specs.Options.{meant_setting};
 ghost use Rattle.krates_cli.specs.declared.run_error.RunError.TheVariants as errors;
 
@@ -12,18 +13,27 @@ use crate::lines::all_lines;
 use crate::options::{Options, set_options};
 use crate::reported::Reported;
 use crate::run_error::RunError;
-use krates::Builder;
 use krates::cm::MetadataCommand;
+use krates::{Builder, Metadata};
 use std::alloc::Global;
 use std::io::{Read, Write};
+use std::process::Processes;
 
-/// The lines of a document under the options: those of the kept packages, then those of the others. It is refused as `Parse`, `Build` or
-/// `Memory`.
+/// The lines of a text's document under the options. It is refused as `Parse`, `Build` or `Memory`.
 fn listing(alloc: Global, options: &Options, text: &str) -> Result<String, RunError>
     ensures listed { IfOk result (λ lines. IsListing (meant_setting options.now) text.now (string_bytes lines)) }
     ensures refused { IfErr result (ListingRefusal (meant_setting options.now) text.now) }
 {
     let metadata = MetadataCommand::parse(alloc, text)?;
+    listing_of(alloc, options, metadata)
+}
+
+/// The lines of a document under the options: those of the kept packages, then those of the others. It is refused as `Build`
+/// or `Memory`.
+fn listing_of(alloc: Global, options: &Options, metadata: Metadata) -> Result<String, RunError>
+    ensures listed { IfOk result (λ lines. IsListingOf (meant_setting options.now) metadata (string_bytes lines)) }
+    ensures refused { IfErr result (IsUnlisted (meant_setting options.now) metadata) }
+{
     let mut reported = Reported::new(alloc);
     let mut builder = Builder::new(alloc);
     set_options(alloc, options, &mut builder)?;
@@ -38,6 +48,8 @@ fn listing(alloc: Global, options: &Options, text: &str) -> Result<String, RunEr
 /// It is refused as `Read`, `Utf8`, `Parse`, `Build` or `Write`, in this order and only where that is true of the reader, of
 /// what was read, or of the writer; `Memory` may stand in place of any answer. The whole text is made before the first byte is
 /// written, so after each refusal but `Write` nothing was written, and after `Write` a beginning of it. What was read is gone.
+///
+/// The input is read whether or not the options ask for a program; `run_by_cargo` runs that in place of reading.
 pub fn run<R: Read, W: Write>(
     alloc: Global,
     options: &Options,
@@ -58,4 +70,44 @@ pub fn run<R: Read, W: Write>(
     };
     let lines = listing(alloc, options, text.as_str())?;
     output.write_all(lines.as_bytes())
+}
+
+/// Runs the program as cargo, in place of reading a document, builds of the document that it writes under the options, and
+/// writes the lines that `run` writes of it.
+///
+/// It is refused as `Parse` where the run has no document, else as `Build` or `Write`, each only where that is true; `Memory`
+/// may stand in place of any answer. After each refusal but `Write` nothing was written, and after `Write` a beginning.
+pub fn run_by_cargo<W: Write>(
+    alloc: Global,
+    options: &Options,
+    cargo: &str,
+    processes: &impl Processes,
+    output: &mut Counted<W>,
+) -> Result<(), RunError>
+    ensures written { OnOk result (WritesCargoListing (meant_setting options.now)
+        (W.contents (inner_of output.old)) (W.contents (inner_of output.new))) }
+    ensures refused { IfErr result (CargoRefusal (meant_setting options.now)) }
+    ensures write { result ≡ Err errors.Write → HasFailed output.old output.new }
+    ensures beginning { result ≡ Err errors.Write → WritesCargoBeginning (meant_setting options.now)
+        (W.contents (inner_of output.old)) (W.contents (inner_of output.new)) }
+    ensures unwritten { IfErr result (λ e. e ≢ errors.Write → output.new ≡ output.old) }
+{
+    let lines = listing_by_cargo(alloc, options, cargo, processes)?;
+    output.write_all(lines.as_bytes())
+}
+
+/// The lines of the document that the program writes. It is refused as `Parse`, `Build` or `Memory`.
+fn listing_by_cargo(
+    alloc: Global,
+    options: &Options,
+    cargo: &str,
+    processes: &impl Processes,
+) -> Result<String, RunError>
+    ensures listed { IfOk result (λ lines. IsCargoListing (meant_setting options.now) (string_bytes lines)) }
+    ensures refused { IfErr result (λ e. CargoRefusal (meant_setting options.now) e × (e ≢ errors.Write)) }
+{
+    let mut command = MetadataCommand::new(alloc);
+    command.cargo_path(String::from_str(alloc, cargo)?);
+    let metadata = command.exec(None, processes)?;
+    listing_of(alloc, options, metadata)
 }

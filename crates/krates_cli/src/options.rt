@@ -24,6 +24,8 @@ pub struct Options {
     pub targets: Vec<String>,
     /// The packages that one of these fits are left out: `--exclude`.
     pub exclusions: Vec<PkgSpec>,
+    /// The program that is run as cargo for the document, in place of reading it: `--cargo`. The last one counts.
+    pub cargo: Option<String>,
 }
 
 /// Why words aren't read as options.
@@ -61,6 +63,7 @@ impl Options {
             ignored: Vec::new(alloc),
             targets: Vec::new(alloc),
             exclusions: Vec::new(alloc),
+            cargo: None,
         }
     }
 
@@ -94,6 +97,7 @@ impl Options {
             "--ignore-kind" => self.ignored.push(dep_kind(value)?)?,
             "--target" => self.targets.push(String::from_str(alloc, value)?)?,
             "--exclude" => self.exclusions.push(pkg_spec(alloc, value)?)?,
+            "--cargo" => self.cargo = Some(String::from_str(alloc, value)?),
             _ => return Err(OptionsError::Unknown),
         }
         Ok(())
@@ -127,9 +131,10 @@ fn pkg_spec(alloc: Global, word: &str) -> Result<PkgSpec, OptionsError>
 
 /// Reads options from words, which may come in any order and more than once. A value is the next word, whatever it is.
 ///
-/// The options are `--workspace`; `--ignore-kind KIND`, where KIND is `normal`, `build` or `dev`; `--target TRIPLE`, and
-/// `--exclude SPEC`, where SPEC is a package specification. What is asked stands in the order of the words. It is refused as
-/// `Unknown` where the words are no such options, and only there; `Memory` may stand in place of any answer.
+/// The options are `--workspace`; `--ignore-kind KIND`, where KIND is `normal`, `build` or `dev`; `--target TRIPLE`;
+/// `--exclude SPEC`, where SPEC is a package specification; and `--cargo PROGRAM`. What is asked stands in the order of the
+/// words, and of several programs the last counts. It is refused as `Unknown` where the words are no such options, and only
+/// there; `Memory` may stand in place of any answer.
 pub fn options_of(alloc: Global, words: &[String]) -> Result<Options, OptionsError>
     ensures read { IfOk result (λ options. IsCommandLine (map string_bytes words.now) (options_view options)) }
     ensures refused { IfErr result (IsUnread (IsUnknown (map string_bytes words.now))) }

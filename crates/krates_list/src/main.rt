@@ -1,5 +1,5 @@
-//! `krates-list`: reads the document of `cargo metadata --format-version 1` from standard input, and writes a line for each
-//! package: `+ ` and its id where it is kept, `- ` and its id where nothing needs it.
+//! `krates-list`: reads the document of `cargo metadata --format-version 1` from standard input, or runs cargo for it, and writes
+//! a line for each package: `+ ` and its id where it is kept, `- ` and its id where nothing needs it.
 #![tactic(auto)]
 
 use krates_cli::{Counted, program, refuse_words};
@@ -21,13 +21,7 @@ fn main(rt: HostRuntime) -> ExitCode {
     let mut output = Counted::new(rt.stdout());
     let mut errors = Counted::new(rt.stderr());
     let status = match words_of(&rt) {
-        Ok(words) => program(
-            rt.alloc(),
-            words.as_slice(),
-            &mut input,
-            &mut output,
-            &mut errors,
-        ),
+        Ok(words) => program(words.as_slice(), &mut input, &mut output, &mut errors, &rt),
         Err(error) => refuse_words(&error, &mut errors),
     };
     ExitCode::from(status)

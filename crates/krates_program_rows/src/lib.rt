@@ -6,6 +6,8 @@
 #[cfg(test)]
 mod listing;
 #[cfg(test)]
+mod no_programs;
+#[cfg(test)]
 mod options;
 #[cfg(test)]
 mod streams;

@@ -1,5 +1,6 @@
 //! Whole runs of the command line: from a document, or what is none, to the lines, the refusal and the status.
 
+use crate::no_programs::NoPrograms;
 use krates_cli::{Counted, Options, RunError, program, refuse_words, run};
 use krates_samples::documents::document;
 use krates_samples::table::{Question, Row, hold};
@@ -25,7 +26,7 @@ pub(crate) fn told<R: Read, W: Write>(
     output: &mut Counted<W>,
 ) -> Result<String, Fail> {
     let mut errors = Counted::new(Vec::new(alloc));
-    let status = program(alloc, words, input, output, &mut errors);
+    let status = program(words, input, output, &mut errors, &(NoPrograms, alloc));
     let text = str::from_utf8(errors.get_ref().as_slice())?;
     Ok(format!(in alloc; "{status} {text}")?)
 }

@@ -89,10 +89,44 @@ const NO_OPTIONS: &[Row] = &[
     ("--exclude", "2 usage, 2 left|"),
     ("--exclude a@", "2 usage, 2 left|"),
     ("--target", "2 usage, 2 left|"),
-    ("--cargo x", "2 usage, 2 left|"),
+    ("--cargo", "2 usage, 2 left|"),
+    ("--cargo x --nope", "2 usage, 2 left|"),
 ];
 
 #[test]
 fn reads_nothing_where_words_are_no_options(rt: HostRuntime) -> Result<(), Fail> {
     hold::<Unread>(rt.alloc(), NO_OPTIONS)
+}
+
+/// How a run with these words, none of whose programs is found, begins to tell of it, how many of two bytes it leaves unread, and
+/// what it writes.
+struct NotFound;
+
+impl Question for NotFound {
+    fn told(alloc: Global, line: &str) -> Result<String, Fail> {
+        let words = words_of(alloc, line)?;
+        let mut input = Counted::new(b"{}".as_slice());
+        let mut output = Counted::new(Vec::new(alloc));
+        let told = told(alloc, words.as_slice(), &mut input, &mut output)?;
+        let written = str::from_utf8(output.get_ref().as_slice())?;
+        let (told, _cause) = told.as_str().split_once("`: ").unwrap_or(("", ""));
+        Ok(format!(in alloc; "{told}`, {} left|{written}", input.get_ref().len())?)
+    }
+}
+
+const NO_PROGRAMS: &[Row] = &[
+    (
+        "--cargo x",
+        "1 refused: failed to start `cargo metadata`, 2 left|",
+    ),
+    // the word behind an option is its value, whatever it is
+    (
+        "--workspace --cargo --cargo",
+        "1 refused: failed to start `cargo metadata`, 2 left|",
+    ),
+];
+
+#[test]
+fn reads_nothing_where_a_program_is_asked_for(rt: HostRuntime) -> Result<(), Fail> {
+    hold::<NotFound>(rt.alloc(), NO_PROGRAMS)
 }

@@ -1,0 +1,33 @@
+-- What a build of a document is, where cargo may have written the document.
+use Rattle.std.proofs.Common.{Option, Result, Ok, Err, IfOk, IfErr, OnOk}
+use Rattle.krates_cm.specs.Document.{metadata_view}
+use Rattle.krates_cm.specs.declared.metadata.Metadata.{Metadata}
+use Rattle.krates_cargo.specs.Running.{IsSomeAnswer}
+use Rattle.krates_ids.specs.declared.error.Error.{Error}
+use Rattle.krates_ids.specs.declared.error.Error.TheVariants as errors
+use Rattle.krates_rules.specs.Setting.{SettingModel}
+use Rattle.krates.specs.Build.{BuildRefusal, IsResolvable}
+use Rattle.krates.specs.Cargo.{CargoBuildRefusal, IsWritten}
+use Rattle.krates.specs.Indexed.{Answering}
+
+pub built_written : {A E : Type 0} (P : Metadata → A → Type 0) (m : Metadata) (r : Result A E) → IsSomeAnswer (metadata_view m) → OnOk r (IsResolvable (metadata_view m)) → IfOk r (P m)
+    → IfOk r (λ a. IsWritten (λ m. IsResolvable (metadata_view m) × P m a))
+built_written P m (Ok a) written resolvable holds = record { metadata = m; written = written; holds = (resolvable, holds) }
+built_written P m (Err e) written resolvable holds = holds
+
+refused : {S : Type 0} (may_answer : Answering S) (index : Option S) (m : Metadata) (s : SettingModel) (e : Error) → IsSomeAnswer (metadata_view m) → BuildRefusal may_answer index m s e
+    → CargoBuildRefusal may_answer index s e
+refused may_answer index m s (errors.Metadata cause) written h = absurd h
+refused may_answer index m s errors.Memory written h = tt
+refused may_answer index m s errors.NoResolveGraph written h = record { metadata = m; written = written; holds = h }
+refused may_answer index m s (errors.InvalidPkgSpec what) written h = absurd h
+refused may_answer index m s errors.NoRootKrates written h = record { metadata = m; written = written; holds = h }
+refused may_answer index m s (errors.InvalidId id) written h = record { metadata = m; written = written; holds = h }
+refused may_answer index m s (errors.Doubled id) written h = record { metadata = m; written = written; holds = h }
+refused may_answer index m s (errors.Lost what) written h = record { metadata = m; written = written; holds = h }
+refused may_answer index m s errors.TooMany written h = record { metadata = m; written = written; holds = h }
+
+pub refused_written : {A S : Type 0} (may_answer : Answering S) (index : Option S) (m : Metadata) (s : SettingModel) (r : Result A Error) → IsSomeAnswer (metadata_view m)
+    → IfErr r (BuildRefusal may_answer index m s) → IfErr r (CargoBuildRefusal may_answer index s)
+refused_written may_answer index m s (Ok a) written h = h
+refused_written may_answer index m s (Err e) written h = refused may_answer index m s e written h

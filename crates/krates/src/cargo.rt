@@ -1,0 +1,47 @@
+//! The build of the document that cargo writes.
+
+ghost use Rattle.std.specs.Prelude.{◌≡◌, IfOk, IfErr, OnErr};
+ghost use Rattle.krates_cm.specs.Document.{metadata_view};
+ghost use Rattle.krates_cargo.specs.Running.{IsSomeAnswer};
+ghost use Rattle.krates_cm.specs.declared.metadata.Metadata.{Metadata};
+ghost use Rattle.krates.specs.Build.{IsBuilt, IsResolvable};
+ghost use Rattle.krates.specs.Cargo.{CargoBuildRefusal, IsWritten};
+ghost use Rattle.krates.specs.Indexed.{IsAskable, Sees};
+
+use crate::builder::Builder;
+use crate::filter::OnFilter;
+use crate::kept::Krates;
+use krates_cargo::MetadataCommand;
+use krates_ids::{BuildIndexCache, Error};
+use std::process::Processes;
+
+impl Builder {
+    /// Runs the command, and builds of the document that cargo writes what `build_with_metadata` builds of it. The program is
+    /// the one that the command sets, else the one that is handed in, as from the variable `CARGO`, else `cargo`.
+    ///
+    /// It is refused as `Metadata` where there is no document, for the reason that `MetadataCommand::exec` has; else as the
+    /// build of the document is. `Memory` may stand in place of any answer. After each refusal the filter is as it was.
+    ///
+    /// An index has to be callable on the names of each document that cargo may write.
+    pub fn build<F: OnFilter>(
+        self,
+        command: MetadataCommand,
+        cargo: Option<&str>,
+        processes: &impl Processes,
+        filter: &mut F,
+    ) -> Result<Krates, Error>
+        requires askable { (m : Metadata) → IsSomeAnswer (metadata_view m) → IsResolvable (metadata_view m)
+            → IsAskable (λ source. BuildIndexCache.pre source.build) self.index m }
+        requires callable { F.can_filter filter.old }
+        ensures built { IfOk result (λ krates. IsWritten (λ m. IsResolvable (metadata_view m)
+            × Sees (λ source. BuildIndexCache.post source.build) self.index m
+            (λ seen. IsBuilt F.filters seen self.setting filter.old filter.new krates))) }
+        ensures callable { F.can_filter filter.new }
+        ensures refused { IfErr result
+            (CargoBuildRefusal (λ source. BuildIndexCache.post source.build) self.index self.setting) }
+        ensures unchanged { OnErr result (filter.new ≡ filter.old) }
+    {
+        let metadata = command.exec(cargo, processes)?;
+        self.build_with_metadata(metadata, filter)
+    }
+}

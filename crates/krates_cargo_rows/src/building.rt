@@ -1,0 +1,138 @@
+//! Builds, and runs of the program, over the document that a stand-in for cargo writes.
+
+ghost use Rattle.std.specs.Prelude.{⊤};
+
+use crate::stand_in::command;
+use krates::{Builder, OnFilter, Package};
+use krates_cli::{Counted, program};
+use std::alloc::Global;
+use std::str;
+use std::test::Fail;
+
+/// Counts the packages that aren't kept.
+struct Count {
+    packages: u32,
+}
+
+impl OnFilter for Count {
+    ghost filters = { λ _ _ _. ⊤ };
+
+    fn filtered(&mut self, pkg: Package) {
+        self.packages = self.packages.saturating_add(1);
+        drop(pkg);
+    }
+}
+
+/// The last word of a run of cargo, and how what is told of its build begins, with how many packages the filter was called.
+const BUILDS: &[(&str, &str)] = &[
+    ("x", "0 reported, 2 kept"),
+    (
+        "--fake=fail",
+        "0 reported, `cargo metadata` exited with an error: no manifest\n",
+    ),
+    (
+        "--fake=badout",
+        "0 reported, cannot convert the stdout of `cargo metadata`: ",
+    ),
+    (
+        "--fake=baderr",
+        "0 reported, cannot convert the stderr of `cargo metadata`: ",
+    ),
+    (
+        "--fake=nojson",
+        "0 reported, could not find any json in the output of `cargo metadata`",
+    ),
+];
+
+/// What is told of a build by this command, or else by this program.
+fn told(rt: &HostRuntime, last: &str) -> Result<String, Fail> {
+    let alloc = rt.alloc();
+    let mut count = Count { packages: 0 };
+    let built = Builder::new(alloc).build(command(rt, last)?, None, rt, &mut count);
+    match built {
+        Ok(krates) => {
+            Ok(format!(in alloc; "{} reported, {} kept", count.packages, krates.len())?)
+        }
+        Err(error) => Ok(format!(in alloc; "{} reported, {error}", count.packages)?),
+    }
+}
+
+#[test]
+fn builds(rt: HostRuntime) -> Result<(), Fail> {
+    for &(last, begins) in BUILDS {
+        let told = told(&rt, last)?;
+        if !told.starts_with(begins) {
+            return Err(Fail::new(format_args!("{last}: {told} in place of {begins}")));
+        }
+    }
+    Ok(())
+}
+
+/// The words of a run of the program, `SELF` being the stand-in, and the status, what it tells and what it lists; of what is told
+/// only the beginning up to the mark.
+const LISTINGS: &[(&str, &str)] = &[
+    (
+        "--cargo SELF",
+        "0 |+ path+file:///w/a#0.1.0\n+ path+file:///w/b#0.1.0\n",
+    ),
+    (
+        "--ignore-kind dev --cargo SELF",
+        "0 |+ path+file:///w/a#0.1.0\n- path+file:///w/b#0.1.0\n",
+    ),
+    // the last program counts
+    (
+        "--cargo /no/such/program --cargo SELF",
+        "0 |+ path+file:///w/a#0.1.0\n+ path+file:///w/b#0.1.0\n",
+    ),
+    (
+        "--exclude a --cargo SELF",
+        "1 refused: no root crates available\n|",
+    ),
+];
+
+/// The words, with the path of this program where it is meant.
+fn words_of(rt: &HostRuntime, line: &str) -> Result<Vec<String>, Fail> {
+    let mut words = Vec::new(rt.alloc());
+    for word in line.split_whitespace() {
+        if word == "SELF" {
+            words.push(String::from_str(rt.alloc(), std::env::current_exe(rt)?.as_str())?)?;
+        } else {
+            words.push(String::from_str(rt.alloc(), word)?)?;
+        }
+    }
+    Ok(words)
+}
+
+/// The status and what goes to standard error, a bar, and what goes to standard output; nothing is read.
+fn listed(rt: &HostRuntime, line: &str) -> Result<String, Fail> {
+    let mut input = Counted::new(b"{}".as_slice());
+    let mut output = Counted::new(Vec::new(rt.alloc()));
+    let mut errors = Counted::new(Vec::new(rt.alloc()));
+    let words = words_of(rt, line)?;
+    let status = program(words.as_slice(), &mut input, &mut output, &mut errors, rt);
+    assert_eq!(rt; input.get_ref().len(), 2, "{line}");
+    let told = str::from_utf8(errors.get_ref().as_slice())?;
+    let lines = str::from_utf8(output.get_ref().as_slice())?;
+    Ok(format!(in rt.alloc(); "{status} {told}|{lines}")?)
+}
+
+#[test]
+fn listings(rt: HostRuntime) -> Result<(), Fail> {
+    for &(line, want) in LISTINGS {
+        let told = listed(&rt, line)?;
+        if told.as_str() != want {
+            return Err(Fail::new(format_args!("{line}: {told} in place of {want}")));
+        }
+    }
+    Ok(())
+}
+
+#[test]
+fn no_listing_without_a_program(rt: HostRuntime) -> Result<(), Fail> {
+    let told = listed(&rt, "--cargo /no/such/program")?;
+    assert!(rt;
+        told.starts_with("1 refused: failed to start `cargo metadata`: ") && told.ends_with("\n|"),
+        "{told}"
+    );
+    Ok(())
+}

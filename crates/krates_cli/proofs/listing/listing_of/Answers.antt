@@ -1,0 +1,22 @@
+use Rattle.std.proofs.Common.{string_bytes, ◌∙◌}
+use Rattle.std.proofs.lemmas.Result.{err_from_is_err_and}
+use Rattle.krates_cli.specs.Options.{meant_setting}
+use Rattle.krates_cli.proofs.ListingLemmas.{listed, refused_as_given, unbuilt}
+use Rattle.krates_cli.proofs.listing.listing_of.Goals as goal
+
+pub returns-in_err-krates-clause-refused : goal.returns-in_err-krates-clause-refused
+returns-in_err-krates-clause-refused c =
+    let m = c.args.metadata in
+    let cause = c.in_err-krates.field-0.0 in
+    let p = err_from_is_err_and c.from_residual-in_err-krates.result c.from_residual-in_err-krates.ensures.1 in
+    let unindexed = rw (c.in_ok-set_options.ensures.index, c.new-builder.ensures.index) at c.in_err-krates.ensures.refused in
+    let why = rw c.in_ok-set_options.ensures.setting at (refused_as_given _ m c.set_options.new.builder.setting cause unindexed) in
+    rw p.1 (unbuilt (meant_setting c.args.options.now) m cause p.0 why p.2)
+
+pub returns-clause-listed : goal.returns-clause-listed
+returns-clause-listed c =
+    let b = c.set_options.new.builder in
+    let e = c.in_ok-set_options.ensures in
+    listed _ b.index b.setting (meant_setting c.args.options.now) (string_bytes c.in_ok-all_lines.field-0) c.as_str.result.now c.args.metadata c.in_ok-krates.krates c.new-reported.result
+    c.build_with_metadata.new.filter (e.index ∙ c.new-builder.ensures.index) e.setting c.in_ok-krates.ensures.admitted c.in_ok-krates.ensures.built c.new-reported.ensures.none c.in_ok-reported.ensures.0
+    (c.as_str.ensures.value ∙ c.in_ok-reported.ensures.1) c.in_ok-all_lines.ensures
