@@ -1,5 +1,4 @@
 pub mod CountedLemmas
-pub mod ExclusionLemmas
 pub mod IgnoredLemmas
 pub mod ListedLemmas
 pub mod ListingLemmas

@@ -1,3 +1,4 @@
 pub mod Adjacency
 pub mod Agenda
 pub mod Graph
+pub mod GraphErrorText

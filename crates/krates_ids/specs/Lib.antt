@@ -1,4 +1,5 @@
 pub mod Correction
+pub mod ErrorTexts
 pub mod Escapes
 pub mod Identity
 pub mod MetadataError

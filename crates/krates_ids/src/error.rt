@@ -1,55 +1,45 @@
 //! Why there is no graph of crates.
 
-ghost use Rattle.std.specs.Prelude.{◌≡◌};
+ghost use Rattle.std.specs.Prelude.{◌≡◌, Some};
+ghost use Rattle.krates_ids.specs.ErrorTexts.{error_text, lost_text};
 ghost use Rattle.krates_ids.specs.declared.error.Error.TheVariants.{Memory};
 
 use crate::kid::Kid;
 use std::alloc::{AllocError, AllocFailed};
+use std::fmt;
 
 /// Why a build has no graph. The first class of refusals that is true of a document counts: no graph, then ids that
 /// aren't read or stand twice, then what is lost, then no root.
-#[derive(Debug, Drop, thiserror::Error)]
+#[derive(Debug, Drop)]
 pub enum Error {
     /// The document has no resolved graph.
-    #[error("no resolution graph was provided")]
     NoResolveGraph,
     /// There is no document.
-    #[error("{0}")]
     Metadata(krates_cm::Error),
     /// A text is no package specification.
-    #[error("package spec was invalid: {0}")]
     InvalidPkgSpec(&'static str),
     /// No root is left to begin with.
-    #[error("no root crates available")]
     NoRootKrates,
     /// A text of the document has to be an id and isn't read, or is the id of a dependency without a semantic version.
-    #[error("invalid package id: {0}")]
     InvalidId(String),
     /// Two packages, two nodes or two dependencies of one node have this id.
-    #[error("doubled id: {0}")]
     Doubled(Kid),
     /// The document lacks what its graph asks for.
-    #[error("{0}")]
     Lost(Lost),
     /// The graph has more nodes or edges than can be numbered.
-    #[error("too many nodes or edges")]
     TooMany,
     /// Memory ran out.
-    #[error("out of memory")]
     Memory,
 }
 
 /// What a document lacks.
-#[derive(Debug, Drop, thiserror::Error)]
+#[derive(Debug, Drop)]
 pub enum Lost {
     /// A root or a dependency that is needed has no package.
-    #[error("lost package: {0}")]
     Package(Kid),
     /// A root or a dependency that is needed has a package and no node.
-    #[error("lost node: {0}")]
     Node(Kid),
     /// A feature is asked for that the crate's node doesn't list.
-    #[error("lost feature: {name} of {krate}")]
     Feature {
         /// The crate that lacks it.
         krate: Kid,
@@ -57,7 +47,6 @@ pub enum Lost {
         name: String,
     },
     /// A dependency of a kept crate's node is declared nowhere in its package.
-    #[error("undeclared dependency: {dep} of {krate}")]
     Undeclared {
         /// The crate whose package lacks the declaration.
         krate: Kid,
@@ -65,6 +54,43 @@ pub enum Lost {
         dep: Kid,
     },
 }
+
+impl fmt::Display for Error {
+    ghost output = { error_text };
+
+    fn fmt<W: fmt::Write>(&self, f: &mut fmt::Formatter<W>) -> fmt::Result {
+        match self {
+            Error::NoResolveGraph => f.write_str("no resolution graph was provided"),
+            Error::Metadata(cause) => write!(f, "{cause}"),
+            Error::InvalidPkgSpec(what) => write!(f, "package spec was invalid: {what}"),
+            Error::NoRootKrates => f.write_str("no root crates available"),
+            Error::InvalidId(id) => write!(f, "invalid package id: {id}"),
+            Error::Doubled(id) => write!(f, "doubled id: {id}"),
+            Error::Lost(what) => write!(f, "{what}"),
+            Error::TooMany => f.write_str("too many nodes or edges"),
+            Error::Memory => f.write_str("out of memory"),
+        }
+    }
+}
+
+impl std::error::Error for Error {}
+
+impl fmt::Display for Lost {
+    ghost output = { λ lost. Some (lost_text lost) };
+
+    fn fmt<W: fmt::Write>(&self, f: &mut fmt::Formatter<W>) -> fmt::Result {
+        match self {
+            Lost::Package(id) => write!(f, "lost package: {id}"),
+            Lost::Node(id) => write!(f, "lost node: {id}"),
+            Lost::Feature { krate, name } => write!(f, "lost feature: {name} of {krate}"),
+            Lost::Undeclared { krate, dep } => {
+                write!(f, "undeclared dependency: {dep} of {krate}")
+            }
+        }
+    }
+}
+
+impl std::error::Error for Lost {}
 
 impl From<krates_cm::Error> for Error {
     ghost use Rattle.krates_ids.specs.MetadataError.{MetadataErrorBecomes};

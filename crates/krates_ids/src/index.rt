@@ -3,7 +3,11 @@
 //! The manifest of a published package may lack features that the index has, and the features that its optional
 //! dependencies are. Source: the Cargo Book, "Features", and "Registry Index".
 
+ghost use Rattle.std.specs.Prelude.{◌≡◌};
+ghost use Rattle.krates_ids.specs.Correction.{index_krate_view, index_version_view};
+
 use semver::Version;
+use std::alloc::AllocError;
 use std::collections::{BTreeMap, BTreeSet};
 
 /// The features of a package, each with what it enables.
@@ -18,11 +22,34 @@ pub struct IndexKrateVersion {
     pub features: FeaturesMap,
 }
 
+impl Clone for IndexKrateVersion {
+    ghost is_clone = { λ version copy. index_version_view copy ≡ index_version_view version };
+
+    /// A copy that is equal in its version and its features.
+    fn clone(&self) -> Result<IndexKrateVersion, AllocError> {
+        Ok(IndexKrateVersion {
+            version: self.version.clone()?,
+            features: self.features.clone()?,
+        })
+    }
+}
+
 /// What an index knows of a crate.
 #[derive(Drop)]
 pub struct IndexKrate {
     /// Its versions, in the order of the index.
     pub versions: Vec<IndexKrateVersion>,
+}
+
+impl Clone for IndexKrate {
+    ghost is_clone = { λ krate copy. index_krate_view copy ≡ index_krate_view krate };
+
+    /// A copy with equal versions in the same order.
+    fn clone(&self) -> Result<IndexKrate, AllocError> {
+        Ok(IndexKrate {
+            versions: self.versions.clone()?,
+        })
+    }
 }
 
 /// The names of the packages that an index is asked for.

@@ -17,7 +17,7 @@ use semver::Version;
 use std::alloc::{AllocError, Global};
 
 /// Which packages are meant: those of a name, and perhaps of a version and from a url.
-#[derive(Clone, Debug, Drop)]
+#[derive(Debug, Drop)]
 pub struct PkgSpec {
     /// The name of the packages.
     pub name: String,
@@ -25,6 +25,19 @@ pub struct PkgSpec {
     pub version: Option<Version>,
     /// The url of their source, where only one is meant.
     pub url: Option<String>,
+}
+
+impl Clone for PkgSpec {
+    ghost is_clone = { λ spec copy. spec_view copy ≡ spec_view spec };
+
+    /// A copy that is equal in its name, version and url.
+    fn clone(&self) -> Result<PkgSpec, AllocError> {
+        Ok(PkgSpec {
+            name: self.name.clone()?,
+            version: self.version.clone()?,
+            url: self.url.clone()?,
+        })
+    }
 }
 
 impl PkgSpec {

@@ -1,5 +1,9 @@
 //! Why nothing was added.
 
+ghost use Rattle.std.specs.Prelude.{Some};
+
+use std::fmt;
+
 /// Why a node or an edge was not added. Either hands the value back.
 #[derive(Debug, PartialEq, Eq, Drop)]
 pub enum GraphError<T> {
@@ -7,4 +11,17 @@ pub enum GraphError<T> {
     Full(T),
     /// There was no memory for one more.
     Memory(T),
+}
+
+impl<T> fmt::Display for GraphError<T> {
+    ghost use Rattle.krates_graph.specs.GraphErrorText.{graph_error_text};
+
+    ghost output = { λ error. Some (graph_error_text error) };
+
+    fn fmt<W: fmt::Write>(&self, f: &mut fmt::Formatter<W>) -> fmt::Result {
+        f.write_str(match self {
+            GraphError::Full(_) => "too many nodes or edges",
+            GraphError::Memory(_) => "out of memory",
+        })
+    }
 }
