@@ -1,12 +1,16 @@
 pub mod Agreed
 pub mod Answered
 pub mod Arrows
+pub mod Children
 pub mod Closed
 pub mod Derivations
 pub mod Drawn
 pub mod Gathering
+pub mod Halves
 pub mod Holding
 pub mod Ignoring
+pub mod Joined
+pub mod Mapped
 pub mod Members
 pub mod NodeNumbers
 pub mod OneReferent
@@ -16,4 +20,5 @@ pub mod Rebuilt
 pub mod SaidAlike
 pub mod Standing
 pub mod Storing
+pub mod Tests
 pub mod Zips

@@ -185,7 +185,7 @@ krates_same r u s w a b k l same p q =
     let pkg = w.packages k.id p.pkg q.pkg p.has_package (subst (λ i. HasPackage u i q.pkg) (sym id) q.has_package) in
     krate_same k.id l.id k.declared l.declared id (p.declared ∙ (ap length (dependencies_same p.pkg q.pkg pkg) ∙ sym q.declared))
 
-bools_same : (a b : Bool) → (a ≡ true → b ≡ true) → (b ≡ true → a ≡ true) → a ≡ b
+pub bools_same : (a b : Bool) → (a ≡ true → b ≡ true) → (b ≡ true → a ≡ true) → a ≡ b
 bools_same true b f g = sym (f refl)
 bools_same false true f g = g refl
 bools_same false false f g = refl
@@ -193,7 +193,7 @@ bools_same false false f g = refl
 filter_step : {A : Type 0} (b c : Bool) (x : A) (xs ys : List A) → b ≡ c → xs ≡ ys → cond b (x ∷ xs) xs ≡ cond c (x ∷ ys) ys
 filter_step b c x xs ys e h = ap (λ z. cond z (x ∷ xs) xs) e ∙ ap (λ zs. cond c (x ∷ zs) zs) h
 
-filter_same : {A : Type 0} (p q : A → Bool) (xs : List A) → ((x : A) → p x ≡ q x) → filter p xs ≡ filter q xs
+pub filter_same : {A : Type 0} (p q : A → Bool) (xs : List A) → ((x : A) → p x ≡ q x) → filter p xs ≡ filter q xs
 filter_same p q [] h = refl
 filter_same p q (x ∷ xs) h = filter_step (p x) (q x) x (filter p xs) (filter q xs) (h x) (filter_same p q xs h)
 

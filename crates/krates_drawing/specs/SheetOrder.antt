@@ -1,8 +1,18 @@
 -- The order of the lists of a sheet.
-use Rattle.std.specs.Prelude.{map}
+use Rattle.std.specs.Prelude.{◌≡◌, ◌≢◌, ℕ, ◌==◌, Bool, List, Option, AllPairs, if◌then◌else◌, filter, map, not, take, slice_index_or}
+use Rattle.std.specs.Borrow.{Bor}
+use Rattle.std.specs.Global.{Vec}
+use Rattle.std.specs.declared.cmp.Ordering.TheVariants.{Greater}
 use Rattle.std.specs.List.Sorted.{IsStrictlySortedBy}
 use Rattle.krates_ids.specs.Identity.{id_cmp}
 use Rattle.krates_resolve.specs.SelectionOrder.{place_cmp, feature_cmp, toggled_cmp}
+use Rattle.krates_rules.specs.Resolved.{id_of}
+use Rattle.krates_rules.specs.Facts.{Id}
+use Rattle.krates_drawing.specs.Drawing.{crate_number, is_crate, last_from, leads_to}
+use Rattle.krates_drawing.specs.Sheet as model
+use Rattle.krates_drawing.specs.Views.{krate_view, link_view}
+use Rattle.krates_drawing.specs.declared.sheet.Krate.{Krate}
+use Rattle.krates_drawing.specs.declared.sheet.Link.{Link}
 use Rattle.krates_drawing.specs.declared.sheet.Sheet.{Sheet}
 
 -- each list is in the order of the selection's, without doubles
@@ -11,3 +21,24 @@ pub record IsOrdered (t : Sheet) : Type 0 where
   pub links : IsStrictlySortedBy place_cmp (map (λ l. l.edge) t.links.items)
   pub features : IsStrictlySortedBy feature_cmp (map (λ n. n.feature) t.features.items)
   pub toggled : IsStrictlySortedBy toggled_cmp t.toggled.items
+
+-- no edge leads to a crate that comes before that of an earlier edge
+abbrev pub AreByChild : List Link → Type 0
+AreByChild links = AllPairs (λ a b. id_cmp a.edge.child b.edge.child ≢ Greater) links
+
+-- no edge before this place leads to the same crate, or one does
+abbrev pub IsFirstTo : List Link → ℕ → Bool → Type 0
+IsFirstTo links place answer = (d : Link) → leads_to (map link_view (take place links)) (id_of (slice_index_or links place d).edge.child) ≡ not answer
+
+-- these are the crates of the sheet to which the edges lead, in their order
+abbrev pub AreChildren : Sheet → List Link → Vec (Bor Krate) → Type 0
+AreChildren t links children =
+    map (λ k. krate_view k.now) children.items ≡ filter (λ q. leads_to (map link_view links) q.id) (map krate_view t.krates.items)
+
+-- the number of the crate where it is kept, else what was found before
+abbrev pub number_of : model.Sheet → Id → Option ℕ → Option ℕ
+number_of t c found = last_from found (map (λ k. crate_number t k.id) (filter (is_crate c) t.krates))
+
+-- the same, where the edge has this declared dependency as its own
+abbrev pub claimed_of : model.Sheet → model.Link → ℕ → Option ℕ → Option ℕ
+claimed_of t l place found = if l.place == place then number_of t l.edge.child found else found

@@ -1,20 +1,24 @@
 //! The edges from crates.
-ghost use Rattle.std.specs.Prelude.{◌≡◌, ℕ, List, ◌&&◌, ◌+◌, ◌<◌, ◌^◌, ◌++◌, map, length, filter, flat_map, IfOk, OnOk};
+ghost use Rattle.std.specs.Prelude.{option_map, slice_get, ◌≡◌, ◌+◌, ◌<◌, ◌++◌, not, map, length, take, filter, flat_map, IfOk, OnOk};
 ghost use Rattle.krates_rules.specs.Resolved.{id_of};
-ghost use Rattle.krates_drawing.specs.Drawing.{AtCrate, AtFeature, Feature, uses, from_crate as from, is_to, is_from, is_between, pair_lines, children_lines, crate_lines, line};
+ghost use Rattle.krates_drawing.specs.Drawing.{AtCrate, AtFeature, Feature, crate_lines, from_crate, id_eq, is_crate, line, pair_lines, uses};
+ghost use Rattle.krates_drawing.specs.Sheet.{toggle_of};
+ghost use Rattle.krates_drawing.specs.SheetOrder.{AreByChild, AreChildren, IsFirstTo, IsOrdered};
 ghost use Rattle.krates_drawing.specs.Views.{krate_view, link_view, sheet_view, Draws, IsFew};
 
 use crate::edge::{Arrow, Edge};
-use crate::numbers::{crate_number, feature_number, leads_to};
+use crate::numbers::{crate_number, feature_number};
 use crate::sheet::{Krate, Link, Sheet};
-use krates_ids::Kid;
-use krates_resolve::DepKind;
+use crate::stretches::{links_between, links_from, toggled_between};
+use krates_ids::{Kid, laws};
+use krates_resolve::{DepKind, ToggledFeature};
 use std::alloc::{AllocError, Global};
 
 /// Draws what the kept edge gives.
 #[tactic(auto, unfolding(crate::specs::Drawing::uses))]
 fn draw_uses(sheet: &Sheet, link: &Link, out: &mut Vec<Arrow>) -> Result<(), AllocError>
-    requires { IsFew sheet.now }
+    requires few { IsFew sheet.now }
+    requires ordered { IsOrdered sheet.now }
     ensures { OnOk result (Draws out.old out.new (uses (sheet_view sheet.now) (link_view link.now) (link_view link.now).given)) }
 {
     let edge = &link.edge;
@@ -47,37 +51,14 @@ fn draw_uses(sheet: &Sheet, link: &Link, out: &mut Vec<Arrow>) -> Result<(), All
     Ok(())
 }
 
-/// The kept edges from a crate.
-pub fn from_crate<'a>(
-    alloc: Global,
-    sheet: &'a Sheet,
-    id: &Kid,
-) -> Result<Vec<&'a Link>, AllocError>
-    ensures { IfOk result (λ v. map (λ l. link_view l.now) v.items ≡ from (sheet_view sheet.now) (id_of id.now)) }
+/// Draws the kept edges.
+fn draw_kept(sheet: &Sheet, links: &[Link], out: &mut Vec<Arrow>) -> Result<(), AllocError>
+    requires few { IsFew sheet.now }
+    requires ordered { IsOrdered sheet.now }
+    ensures { OnOk result (Draws out.old out.new (flat_map (λ l. uses (sheet_view sheet.now) l l.given) (map link_view links.now))) }
 {
-    let mut out = Vec::new(alloc);
-    for x in &sheet.links {
-        if x.edge.parent == *id {
-            out.push(x)?;
-        }
-    }
-    Ok(out)
-}
-
-/// Draws the kept edges to a crate.
-fn draw_kept(
-    sheet: &Sheet,
-    child: &Kid,
-    mine: &[&Link],
-    out: &mut Vec<Arrow>,
-) -> Result<(), AllocError>
-    requires { IsFew sheet.now }
-    ensures { OnOk result (Draws out.old out.new (flat_map (λ l. uses (sheet_view sheet.now) l l.given) (filter (is_to (id_of child.now)) (map (λ l. link_view l.now) mine.now)))) }
-{
-    for x in mine {
-        if x.edge.child == *child {
-            draw_uses(sheet, x, out)?;
-        }
+    for x in links {
+        draw_uses(sheet, x, out)?;
     }
     Ok(())
 }
@@ -87,21 +68,21 @@ fn draw_toggled(
     sheet: &Sheet,
     parent: &Kid,
     child: &Kid,
+    toggled: &[ToggledFeature],
     out: &mut Vec<Arrow>,
 ) -> Result<(), AllocError>
-    requires { IsFew sheet.now }
-    ensures { OnOk result (Draws out.old out.new (map (λ g. line (sheet_view sheet.now) (AtCrate (id_of parent.now)) (AtFeature (id_of child.now) g.name) Feature) (filter (is_between (id_of parent.now) (id_of child.now)) (sheet_view sheet.now).toggled))) }
+    requires few { IsFew sheet.now }
+    requires ordered { IsOrdered sheet.now }
+    ensures { OnOk result (Draws out.old out.new (map (λ g. line (sheet_view sheet.now) (AtCrate (id_of parent.now)) (AtFeature (id_of child.now) g.name) Feature) (map toggle_of toggled.now))) }
 {
     let source = crate_number(sheet, parent);
-    for x in &sheet.toggled {
-        if x.by == *parent && x.krate == *child {
-            let target = feature_number(sheet, child, x.name.as_str());
-            out.push(Arrow {
-                source,
-                target,
-                edge: Edge::Feature,
-            })?;
-        }
+    for x in toggled {
+        let target = feature_number(sheet, child, x.name.as_str());
+        out.push(Arrow {
+            source,
+            target,
+            edge: Edge::Feature,
+        })?;
     }
     Ok(())
 }
@@ -112,53 +93,130 @@ fn draw_pair(
     sheet: &Sheet,
     parent: &Kid,
     child: &Krate,
-    mine: &[&Link],
     out: &mut Vec<Arrow>,
 ) -> Result<(), AllocError>
-    requires { IsFew sheet.now }
-    ensures { OnOk result (Draws out.old out.new (pair_lines (sheet_view sheet.now) (id_of parent.now) (map (λ l. link_view l.now) mine.now) (krate_view child.now))) }
+    requires few { IsFew sheet.now }
+    requires ordered { IsOrdered sheet.now }
+    ensures { OnOk result (Draws out.old out.new (pair_lines (sheet_view sheet.now) (id_of parent.now) (from_crate (sheet_view sheet.now) (id_of parent.now)) (krate_view child.now))) }
 {
-    draw_kept(sheet, &child.id, mine, out)?;
-    draw_toggled(sheet, parent, &child.id, out)
+    draw_kept(sheet, links_between(sheet, parent, &child.id), out)?;
+    let toggled = toggled_between(sheet, parent, &child.id);
+    draw_toggled(sheet, parent, &child.id, toggled, out)?;
+    Ok(())
 }
 
-/// Draws the edges from a crate to all others.
-#[tactic(auto, unfolding(crate::specs::Drawing::children_lines))]
+/// Draws the edges from a crate to others.
 fn draw_children(
     sheet: &Sheet,
     parent: &Kid,
-    mine: &[&Link],
+    children: &[&Krate],
     out: &mut Vec<Arrow>,
 ) -> Result<(), AllocError>
-    requires { IsFew sheet.now }
-    ensures { OnOk result (Draws out.old out.new (children_lines (sheet_view sheet.now) (id_of parent.now) (map (λ l. link_view l.now) mine.now))) }
+    requires few { IsFew sheet.now }
+    requires ordered { IsOrdered sheet.now }
+    ensures { OnOk result (Draws out.old out.new (flat_map (pair_lines (sheet_view sheet.now) (id_of parent.now) (from_crate (sheet_view sheet.now) (id_of parent.now))) (map (λ k. krate_view k.now) children.now))) }
 {
-    for x in &sheet.krates {
-        if leads_to(mine, &x.id) {
-            draw_pair(sheet, parent, x, mine, out)?;
-        }
+    for x in children {
+        draw_pair(sheet, parent, x, out)?;
     }
     Ok(())
 }
 
+/// Whether two edges lead to different crates.
+fn leads_elsewhere(one: &Link, other: &Link) -> bool
+    ensures { result ≡ not (id_eq (id_of one.now.edge.child) (id_of other.now.edge.child)) }
+{
+    one.edge.child != other.edge.child
+}
+
+/// Whether no edge before this place leads to the same crate.
+fn is_first(mine: &[Link], place: usize) -> bool
+    requires by_child { AreByChild mine.now }
+    requires within { place < length mine.now }
+    ensures { IsFirstTo mine.now place result }
+{
+    laws::comparison();
+    place == 0 || leads_elsewhere(&mine[place - 1], &mine[place])
+}
+
+/// The crate at a place, where there is one.
+fn krate_at(krates: &[Krate], place: usize) -> Option<&Krate>
+    ensures { option_map (λ krate. krate.now) result ≡ slice_get krates.now place }
+{
+    krates.get(place)
+}
+
+/// Adds the crate, where it is kept.
+fn add_crate<'a>(sheet: &'a Sheet, id: &Kid, krates: &mut Vec<&'a Krate>) -> Result<(), AllocError>
+    requires { IsOrdered sheet.now }
+    ensures { OnOk result (map (λ k. krate_view k.now) krates.new.items ≡ map (λ k. krate_view k.now) krates.old.items ++ filter (is_crate (id_of id.now)) (sheet_view sheet.now).krates) }
+{
+    if let Some(krate) = krate_at(&sheet.krates, crate_number(sheet, id)) {
+        krates.push(krate)?;
+    }
+    Ok(())
+}
+
+/// Adds the crate to which the edge at a place leads, where no edge before leads to it.
+fn add_child<'a>(
+    sheet: &'a Sheet,
+    mine: &[Link],
+    place: usize,
+    children: &mut Vec<&'a Krate>,
+) -> Result<(), AllocError>
+    requires ordered { IsOrdered sheet.now }
+    requires by_child { AreByChild mine.now }
+    requires within { place < length mine.now }
+    ensures { OnOk result (AreChildren sheet.now (take place mine.now) children.old → AreChildren sheet.now (take (place + 1) mine.now) children.new) }
+{
+    if is_first(mine, place) {
+        add_crate(sheet, &mine[place].edge.child, children)?;
+    }
+    Ok(())
+}
+
+/// The crates to which the edges lead, by id, each once.
+fn children_of<'a>(
+    alloc: Global,
+    sheet: &'a Sheet,
+    mine: &[Link],
+) -> Result<Vec<&'a Krate>, AllocError>
+    requires ordered { IsOrdered sheet.now }
+    requires by_child { AreByChild mine.now }
+    ensures { IfOk result (AreChildren sheet.now mine.now) }
+{
+    let mut children = Vec::new(alloc);
+    for place in 0..mine.len() {
+        add_child(sheet, mine, place, &mut children)?;
+    }
+    Ok(children)
+}
+
 /// Draws the edges from a crate.
-#[tactic(auto, unfolding(crate::specs::Drawing::crate_lines))]
+#[tactic(auto, unfolding(crate::specs::Drawing::crate_lines, crate::specs::Drawing::children_lines))]
 fn draw_crate(
     alloc: Global,
     sheet: &Sheet,
     parent: &Krate,
     out: &mut Vec<Arrow>,
 ) -> Result<(), AllocError>
-    requires { IsFew sheet.now }
+    requires few { IsFew sheet.now }
+    requires ordered { IsOrdered sheet.now }
     ensures { OnOk result (Draws out.old out.new (crate_lines (sheet_view sheet.now) (krate_view parent.now))) }
 {
-    let mine = from_crate(alloc, sheet, &parent.id)?;
-    draw_children(sheet, &parent.id, &mine, out)
+    let mine = links_from(sheet, &parent.id);
+    let children = children_of(alloc, sheet, mine)?;
+    draw_children(sheet, &parent.id, &children, out)
 }
 
-/// Draws what all crates use.
-pub fn draw_crates(alloc: Global, sheet: &Sheet, out: &mut Vec<Arrow>) -> Result<(), AllocError>
-    requires { IsFew sheet.now }
+/// Draws the edges from all crates.
+pub(crate) fn draw_crates(
+    alloc: Global,
+    sheet: &Sheet,
+    out: &mut Vec<Arrow>,
+) -> Result<(), AllocError>
+    requires few { IsFew sheet.now }
+    requires ordered { IsOrdered sheet.now }
     ensures { OnOk result (Draws out.old out.new (flat_map (crate_lines (sheet_view sheet.now)) (sheet_view sheet.now).krates)) }
 {
     for x in &sheet.krates {

@@ -12,3 +12,4 @@ mod numbers;
 pub mod plan;
 pub mod sheet;
 pub mod store;
+mod stretches;

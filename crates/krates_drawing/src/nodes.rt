@@ -1,15 +1,14 @@
 //! The nodes, with the mappings of the crates.
-ghost use Rattle.std.specs.Prelude.{◌≡◌, None, ◌&&◌, ◌==◌, ◌++◌, map, filter, IfOk, OnOk};
-ghost use Rattle.std.specs.List.{list_any, range_with_len};
-ghost use Rattle.std.specs.Option.{option_map};
+ghost use Rattle.std.specs.Prelude.{◌≡◌, ◌++◌, map, IfOk, OnOk};
+ghost use Rattle.std.specs.List.{range_with_len};
 ghost use Rattle.krates_rules.specs.Resolved.{id_of};
-ghost use Rattle.krates_drawing.specs.Drawing.{claims as claims_by, claimant as claimant_of, mapped as mapped_to, mapping as mapping_of, last_from, crate_spot, feature_spot, spots};
-ghost use Rattle.krates_drawing.specs.SheetOrder.{IsOrdered};
+ghost use Rattle.krates_drawing.specs.Drawing.{crate_spot, feature_spot, mapped as mapped_to, mapping as mapping_of, spots};
+ghost use Rattle.krates_drawing.specs.SheetOrder.{AreByChild, IsOrdered, claimed_of, number_of};
 ghost use Rattle.krates_drawing.specs.Views.{krate_view, link_view, spot_view, sheet_view};
 
-use crate::crate_edges::from_crate;
 use crate::numbers::crate_number;
 use crate::sheet::{Krate, Link, Sheet};
+use crate::stretches::links_from;
 use krates_ids::Kid;
 use std::alloc::{AllocError, Global};
 
@@ -28,47 +27,54 @@ pub enum Spot {
     },
 }
 
-/// Whether an edge leads to the crate and has the declared dependency.
-fn claims(mine: &[&Link], place: usize, krate: &Krate) -> bool
-    ensures { result ≡ claims_by (map (λ l. link_view l.now) mine.now) place (krate_view krate.now) }
-{
-    for x in mine {
-        if x.edge.child == krate.id && x.edge.declared == place {
-            return true;
-        }
-    }
-    false
-}
-
-/// The greatest crate that claims the declared dependency.
-fn claimant<'a>(sheet: &'a Sheet, mine: &[&Link], place: usize) -> Option<&'a Krate>
-    ensures { option_map (λ q. krate_view q.now) result ≡ claimant_of (sheet_view sheet.now) (map (λ l. link_view l.now) mine.now) place }
+/// The number of the greatest crate to which an edge leads that has the declared dependency as its own.
+fn mapped(sheet: &Sheet, mine: &[Link], place: usize) -> Option<usize>
+    requires ordered { IsOrdered sheet.now }
+    requires by_child { AreByChild mine.now }
+    ensures { result ≡ mapped_to (sheet_view sheet.now) (map link_view mine.now) place }
 {
     let mut found = None;
-    for x in &sheet.krates {
-        if claims(mine, place, x) {
-            found = Some(x);
-        }
+    for link in mine {
+        found = claimed(sheet, link, place, found);
     }
     found
 }
 
-fn mapped(sheet: &Sheet, mine: &[&Link], place: usize) -> Option<usize>
-    ensures { result ≡ mapped_to (sheet_view sheet.now) (map (λ l. link_view l.now) mine.now) place }
+/// The number of the crate to which the edge leads, where it has the declared dependency as its own, or what was found before.
+fn claimed(sheet: &Sheet, link: &Link, place: usize, found: Option<usize>) -> Option<usize>
+    requires { IsOrdered sheet.now }
+    ensures { result ≡ claimed_of (sheet_view sheet.now) (link_view link.now) place found }
 {
-    match claimant(sheet, mine, place) {
-        Some(krate) => Some(crate_number(sheet, &krate.id)),
-        None => None,
+    if link.edge.declared == place {
+        number_or(sheet, &link.edge.child, found)
+    } else {
+        found
     }
 }
 
+/// The number of the crate, where it is kept, or what was found before.
+fn number_or(sheet: &Sheet, id: &Kid, found: Option<usize>) -> Option<usize>
+    requires { IsOrdered sheet.now }
+    ensures { result ≡ number_of (sheet_view sheet.now) (id_of id.now) found }
+{
+    let number = crate_number(sheet, id);
+    if number < sheet.krates.len() {
+        Some(number)
+    } else {
+        found
+    }
+}
+
+/// For each declared dependency, what it is mapped to.
 fn mapping_over(
     alloc: Global,
     sheet: &Sheet,
-    mine: &[&Link],
+    mine: &[Link],
     count: usize,
 ) -> Result<Vec<Option<usize>>, AllocError>
-    ensures { IfOk result (λ v. v.items ≡ map (mapped_to (sheet_view sheet.now) (map (λ l. link_view l.now) mine.now)) (range_with_len 0 count)) }
+    requires ordered { IsOrdered sheet.now }
+    requires by_child { AreByChild mine.now }
+    ensures { IfOk result (λ v. v.items ≡ map (mapped_to (sheet_view sheet.now) (map link_view mine.now)) (range_with_len 0 count)) }
 {
     let mut out = Vec::new(alloc);
     for place in 0..count {
@@ -79,18 +85,15 @@ fn mapping_over(
 
 /// The mapping of a crate.
 #[tactic(auto, unfolding(crate::specs::Drawing::mapping))]
-pub fn mapping(
-    alloc: Global,
-    sheet: &Sheet,
-    krate: &Krate,
-) -> Result<Vec<Option<usize>>, AllocError>
+fn mapping(alloc: Global, sheet: &Sheet, krate: &Krate) -> Result<Vec<Option<usize>>, AllocError>
+    requires { IsOrdered sheet.now }
     ensures { IfOk result (λ v. v.items ≡ mapping_of (sheet_view sheet.now) (krate_view krate.now)) }
 {
-    let mine = from_crate(alloc, sheet, &krate.id)?;
-    mapping_over(alloc, sheet, &mine, krate.declared)
+    mapping_over(alloc, sheet, links_from(sheet, &krate.id), krate.declared)
 }
 
 fn push_crates(alloc: Global, sheet: &Sheet, out: &mut Vec<Spot>) -> Result<(), AllocError>
+    requires { IsOrdered sheet.now }
     ensures { OnOk result (map spot_view out.new.items ≡ map spot_view out.old.items ++ map (crate_spot (sheet_view sheet.now)) (sheet_view sheet.now).krates) }
 {
     for x in &sheet.krates {
@@ -103,6 +106,7 @@ fn push_crates(alloc: Global, sheet: &Sheet, out: &mut Vec<Spot>) -> Result<(), 
 }
 
 fn push_features(sheet: &Sheet, out: &mut Vec<Spot>) -> Result<(), AllocError>
+    requires { IsOrdered sheet.now }
     ensures { OnOk result (map spot_view out.new.items ≡ map spot_view out.old.items ++ map (feature_spot (sheet_view sheet.now)) (sheet_view sheet.now).features) }
 {
     for x in &sheet.features {

@@ -1,69 +1,68 @@
-//! The numbers of nodes: their places among the crates, then among the features.
-ghost use Rattle.std.specs.Prelude.{◌≡◌, ◌≤◌, map, length};
-ghost use Rattle.std.specs.List.{list_any};
+//! The numbers of nodes: their places among the crates, then among the features. They are found by halves.
+ghost use Rattle.std.specs.Prelude.{◌≡◌, ◌≤◌, length, map};
+ghost use Rattle.std.specs.Cmp.Lexicographic.{slice_cmp};
+ghost use Rattle.std.specs.List.Sorted.{IsStrictlySortedBy};
+ghost use Rattle.std.specs.Ordering.{nat_cmp, ordering_then};
 ghost use Rattle.krates_cm.specs.Document.{text_view};
+ghost use Rattle.krates_ids.specs.Identity.{id_cmp};
+ghost use Rattle.krates_resolve.specs.SelectionOrder.{feature_cmp};
 ghost use Rattle.krates_rules.specs.Resolved.{id_of};
-ghost use Rattle.krates_drawing.specs.Drawing.{crate_number as number_of_crate, feature_number as number_of_feature, is_crate, is_feature, is_to, place_of};
-ghost use Rattle.krates_drawing.specs.Views.{IsFew, krate_view, link_view, named_view, sheet_view};
+ghost use Rattle.krates_drawing.specs.Drawing.{crate_number as number_of_crate, feature_number as number_of_feature, is_crate, is_feature, place_of};
+ghost use Rattle.krates_drawing.specs.SheetOrder.{IsOrdered};
+ghost use Rattle.krates_drawing.specs.Views.{IsFew, krate_view, named_view, sheet_view};
 
-use crate::sheet::{Krate, Link, Named, Sheet};
-use krates_ids::Kid;
+use crate::sheet::{Krate, Named, Sheet};
+use krates_ids::{Kid, laws};
+use std::cmp::Ordering;
 
-/// The place of the crate, or the number of crates.
-pub fn place_of_crate(krates: &[Krate], id: &Kid) -> usize
-    ensures { result ≡ place_of (is_crate (id_of id.now)) (map krate_view krates.now) }
-{
-    for (i, x) in krates.iter().enumerate() {
-        if x.id == *id {
-            return i;
-        }
-    }
-    krates.len()
-}
-
-/// Whether this is the feature.
-pub fn is_that(named: &Named, id: &Kid, name: &str) -> bool
-    ensures { result ≡ is_feature (id_of id.now) name.now (named_view named.now) }
-{
-    named.feature.krate == *id && named.feature.name.as_str() == name
-}
-
-/// The place of the feature, or the number of features.
-pub fn place_of_feature(features: &[Named], id: &Kid, name: &str) -> usize
-    ensures place { result ≡ place_of (is_feature (id_of id.now) name.now) (map named_view features.now) }
-    ensures within { result ≤ length features.now }
-{
-    for (i, x) in features.iter().enumerate() {
-        if is_that(x, id, name) {
-            return i;
-        }
-    }
-    features.len()
-}
-
-/// Whether one of the edges leads to the crate.
-pub fn leads_to(links: &[&Link], id: &Kid) -> bool
-    ensures { result ≡ list_any (is_to (id_of id.now)) (map (λ l. link_view l.now) links.now) }
-{
-    for x in links {
-        if x.edge.child == *id {
-            return true;
-        }
-    }
-    false
-}
-
-/// The number of the crate's node.
-pub fn crate_number(sheet: &Sheet, id: &Kid) -> usize
+/// The number of the crate's node, or the number of crates where it isn't kept.
+pub(crate) fn crate_number(sheet: &Sheet, id: &Kid) -> usize
+    requires { IsOrdered sheet.now }
     ensures { result ≡ number_of_crate (sheet_view sheet.now) (id_of id.now) }
 {
     place_of_crate(&sheet.krates, id)
 }
 
-/// The number of the feature's node.
-pub fn feature_number(sheet: &Sheet, id: &Kid, name: &str) -> usize
-    requires { IsFew sheet.now }
+/// The number of the feature's node, or the number of nodes where it isn't enabled.
+pub(crate) fn feature_number(sheet: &Sheet, id: &Kid, name: &str) -> usize
+    requires few { IsFew sheet.now }
+    requires ordered { IsOrdered sheet.now }
     ensures { result ≡ number_of_feature (sheet_view sheet.now) (id_of id.now) name.now }
 {
     sheet.krates.len() + place_of_feature(&sheet.features, id, name)
+}
+
+/// The place of the crate, or the number of crates.
+fn place_of_crate(krates: &[Krate], id: &Kid) -> usize
+    requires { IsStrictlySortedBy id_cmp (map (λ k. k.id) krates.now) }
+    ensures { result ≡ place_of (is_crate (id_of id.now)) (map krate_view krates.now) }
+{
+    laws::comparison();
+    match krates.binary_search_by(|krate| krate.id.cmp(id)) {
+        Ok(place) => place,
+        Err(_) => krates.len(),
+    }
+}
+
+/// The place of the feature, or the number of features.
+fn place_of_feature(features: &[Named], id: &Kid, name: &str) -> usize
+    requires { IsStrictlySortedBy feature_cmp (map (λ n. n.feature) features.now) }
+    ensures place { result ≡ place_of (is_feature (id_of id.now) name.now) (map named_view features.now) }
+    ensures within { result ≤ length features.now }
+{
+    laws::comparison();
+    match features.binary_search_by(|named| feature_against(named, id, name)) {
+        Ok(place) => place,
+        Err(_) => features.len(),
+    }
+}
+
+/// How an enabled feature compares with that of this crate and name.
+fn feature_against(named: &Named, id: &Kid, name: &str) -> Ordering
+    ensures { result ≡ ordering_then (id_cmp named.now.feature.krate id.now) (slice_cmp nat_cmp (text_view named.now.feature.name) name.now) }
+{
+    match named.feature.krate.cmp(id) {
+        Ordering::Equal => named.feature.name.as_str().cmp(name),
+        unequal => unequal,
+    }
 }

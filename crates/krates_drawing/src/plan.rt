@@ -19,6 +19,6 @@ pub fn plan(alloc: Global, sheet: &Sheet) -> Result<Vec<Arrow>, AllocError>
 {
     let mut out = Vec::new(alloc);
     draw_crates(alloc, sheet, &mut out)?;
-    draw_features(alloc, sheet, &mut out)?;
+    draw_features(sheet, &mut out)?;
     Ok(out)
 }

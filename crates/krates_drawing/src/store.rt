@@ -28,27 +28,20 @@ pub enum StoreError {
     Memory,
 }
 
-fn copy_edge(edge: &Edge) -> Result<Edge, AllocError>
-    ensures { IfOk result (λ e. tie_view e ≡ tie_view edge.now) }
-{
-    match edge {
-        Edge::Dep { kind, cfg } => Ok(Edge::Dep {
-            kind: *kind,
-            cfg: cfg.clone()?,
-        }),
-        Edge::DepFeature { kind, cfg } => Ok(Edge::DepFeature {
-            kind: *kind,
-            cfg: cfg.clone()?,
-        }),
-        Edge::Feature => Ok(Edge::Feature),
+impl FromEdge for Edge {
+    ghost made_from_edge = { λ edge made. made ≡ edge };
+
+    fn from_edge(_alloc: Global, edge: Edge) -> Result<Edge, AllocError> {
+        Ok(edge)
     }
 }
 
+/// What is made of a copy of the edge.
 fn weight_of<E: FromEdge>(alloc: Global, edge: &Edge) -> Result<E, StoreError>
     ensures made { IfOk result (λ w. (e : Edge) × (tie_view e ≡ tie_view edge.now) × E.made_from_edge e w) }
     ensures refused { IfErr result (λ e. e ≡ TooMany → ⊥) }
 {
-    match copy_edge(edge) {
+    match edge.clone() {
         Ok(edge) => match E::from_edge(alloc, edge) {
             Ok(weight) => Ok(weight),
             Err(_) => Err(StoreError::Memory),

@@ -5,4 +5,4 @@ use Rattle.krates_drawing.specs.Views.{link_view, sheet_view}
 use Rattle.krates_drawing.proofs.nodes.mapping_over.Given as goal
 
 abbrev pub invariant-loop-place : goal.invariant-loop-place
-invariant-loop-place l = l.out.items ≡ map (mapped (sheet_view l.sheet) (map (λ k. link_view k.now) l.mine)) (range_with_len 0 l.place)
+invariant-loop-place l = l.out.items ≡ map (mapped (sheet_view l.sheet) (map link_view l.mine)) (range_with_len 0 l.place)

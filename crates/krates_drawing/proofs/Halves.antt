@@ -1,0 +1,233 @@
+-- Stretches of lists in order, and what a search by halves finds in them.
+use Rattle.std.proofs.Common.{◌≡◌, ℕ, zero, suc, ◌+◌, ◌<◌, ◌≤◌, Bool, true, false, List, [], ◌∷◌, length, get_or, take, drop, map, filter, cond, Result, Ok, Err, Ordering, Less, Equal, Greater, refl, sym, ap, ◌∙◌, subst, inl, inr, arith}
+use Rattle.std.proofs.lemmas.Bool.{cases_lt}
+use Rattle.std.proofs.lemmas.Map.Keys.{Less-from_sorted}
+use Rattle.std.proofs.lemmas.List.{get_or-map, length-map}
+use Rattle.std.specs.Cmp.{IsTotalOrder}
+use Rattle.std.specs.List.Sorted.{IsBinarySearchResult, IsNonDecreasingBy, IsPartitionedBy, IsPartitionPoint, IsSearchInRange, IsStrictlySortedBy}
+use Rattle.std.specs.Ordering.{is_eq, is_lt, ordering_index, ordering_reverse}
+use Rattle.krates_drawing.specs.Drawing.{place_of}
+
+-- ---- a stretch
+
+pub none_before : {A : Type 0} (p : A → Bool) (xs : List A) (n : ℕ) → ((k : ℕ) (d : A) → k < n → k < length xs → p (get_or xs k d) ≡ false) → filter p xs ≡ filter p (drop n xs)
+none_before p xs zero h = refl
+none_before p [] (suc n) h = refl
+none_before p (x ∷ xs) (suc n) h =
+    ap (λ b. cond b (x ∷ filter p xs) (filter p xs)) (h zero x (omega arith) (omega arith)) ∙ none_before p xs n (λ k d lt within. h (suc k) d (omega (arith, lt)) (omega (arith, within)))
+
+pub all_front : {A : Type 0} (p : A → Bool) (xs : List A) (n : ℕ) → ((k : ℕ) (d : A) → k < n → k < length xs → p (get_or xs k d) ≡ true) → ((k : ℕ) (d : A) → n ≤ k → k < length xs → p (get_or xs k d) ≡ false) → filter p xs ≡ take n xs
+all_front p [] zero front back = refl
+all_front p [] (suc n) front back = refl
+all_front p (x ∷ xs) zero front back =
+    ap (λ b. cond b (x ∷ filter p xs) (filter p xs)) (back zero x (omega arith) (omega arith)) ∙ all_front p xs zero (λ k d lt within. absurd (omega (arith, lt))) (λ k d le within. back (suc k) d (omega arith) (omega (arith, within)))
+all_front p (x ∷ xs) (suc n) front back =
+    ap (λ b. cond b (x ∷ filter p xs) (filter p xs)) (front zero x (omega arith) (omega arith)) ∙ ap (λ ys. x ∷ ys) (all_front p xs n (λ k d lt within. front (suc k) d (omega (arith, lt)) (omega (arith, within))) (λ k d le within. back (suc k) d (omega (arith, le)) (omega (arith, within))))
+
+get_drop : {A : Type 0} (xs : List A) (n k : ℕ) (d : A) → get_or (drop n xs) k d ≡ get_or xs (n + k) d
+get_drop xs zero k d = let e : k ≡ 0 + k = omega arith in ap (λ j. get_or xs j d) e
+get_drop [] (suc n) k d = refl
+get_drop (x ∷ xs) (suc n) k d = let e : suc (n + k) ≡ suc n + k = omega arith in get_drop xs n k d ∙ ap (λ j. get_or (x ∷ xs) j d) e
+
+drop_within : {A : Type 0} (xs : List A) (n k : ℕ) → k < length (drop n xs) → n + k < length xs
+drop_within xs zero k lt = omega (arith, lt)
+drop_within [] (suc n) k lt = absurd (omega (arith, lt))
+drop_within (x ∷ xs) (suc n) k lt = let m = drop_within xs n k lt in omega (arith, m)
+
+-- ---- how elements compare with what is looked for
+
+-- an element that isn't below, of which a later one is equal, is equal
+equal_between : (r s : Ordering) → ordering_index r ≤ ordering_index s → is_lt r ≡ false → is_eq s ≡ true → is_eq r ≡ true
+equal_between Less s le a b = absurd cc
+equal_between Equal s le a b = refl
+equal_between Greater Less le a b = absurd cc
+equal_between Greater Equal le a b = absurd (omega (arith, le))
+equal_between Greater Greater le a b = absurd cc
+
+below_between : (r s : Ordering) → ordering_index r ≤ ordering_index s → is_lt s ≡ true → is_lt r ≡ true
+below_between Less s le a = refl
+below_between Equal Less le a = absurd (omega (arith, le))
+below_between Equal Equal le a = absurd cc
+below_between Equal Greater le a = absurd cc
+below_between Greater Less le a = absurd (omega (arith, le))
+below_between Greater Equal le a = absurd cc
+below_between Greater Greater le a = absurd cc
+
+below_unequal : (r : Ordering) → is_lt r ≡ true → is_eq r ≡ false
+below_unequal Less e = refl
+below_unequal Equal e = absurd cc
+below_unequal Greater e = refl
+
+-- what is below comes first
+pub below_first : {A : Type 0} (ord : A → Ordering) (xs : List A) → IsNonDecreasingBy (λ y. ordering_index (ord y)) xs → IsPartitionedBy (λ y. is_lt (ord y)) xs
+below_first ord xs rises i j d le lt e = below_between (ord (get_or xs i d)) (ord (get_or xs j d)) (rises i j d le lt) e
+
+-- behind it, what is equal comes first
+pub equal_first : {A : Type 0} (ord : A → Ordering) (xs : List A) (n : ℕ) → IsNonDecreasingBy (λ y. ordering_index (ord y)) xs → IsPartitionPoint (λ y. is_lt (ord y) ≡ true) (λ y. is_lt (ord y) ≡ false) xs n → IsPartitionedBy (λ y. is_eq (ord y)) (drop n xs)
+equal_first ord xs n rises parted i j d le lt e =
+    let within : n + j < length xs = drop_within xs n j lt in
+    let here : is_lt (ord (get_or xs (n + i) d)) ≡ false = parted.1 (n + i) d (omega arith) (omega (arith, le, within)) in
+    let there : is_eq (ord (get_or xs (n + j) d)) ≡ true = ap (λ z. is_eq (ord z)) (sym (get_drop xs n j d)) ∙ e in
+    ap (λ z. is_eq (ord z)) (get_drop xs n i d) ∙ equal_between (ord (get_or xs (n + i) d)) (ord (get_or xs (n + j) d)) (rises (n + i) (n + j) d (omega (arith, le)) within) here there
+
+-- those that are equal are one stretch
+pub stretch : {A : Type 0} (ord : A → Ordering) (xs : List A) (n m : ℕ) → IsPartitionPoint (λ y. is_lt (ord y) ≡ true) (λ y. is_lt (ord y) ≡ false) xs n
+    → IsPartitionPoint (λ y. is_eq (ord y) ≡ true) (λ y. is_eq (ord y) ≡ false) (drop n xs) m → filter (λ y. is_eq (ord y)) xs ≡ take m (drop n xs)
+stretch ord xs n m low high =
+    none_before (λ y. is_eq (ord y)) xs n (λ k d lt within. below_unequal (ord (get_or xs k d)) (low.0 k d (omega arith) lt))
+    ∙ all_front (λ y. is_eq (ord y)) (drop n xs) m (λ k d lt within. high.0 k d (omega arith) lt) (λ k d le within. high.1 k d le within)
+
+-- ---- the order of a list, beside what is looked for
+
+module _ {K : Type 0} {R : K → K → Ordering} (o : IsTotalOrder R) where
+  step : (x y q : K) (r s : Ordering) → R x q ≡ r → R y q ≡ s → R x y ≡ Less → ordering_index r ≤ ordering_index s
+  step x y q Less Less a b h = omega arith
+  step x y q Less Equal a b h = omega arith
+  step x y q Less Greater a b h = omega arith
+  step x y q Equal Less a b h =
+      let other : R x y ≡ Greater = o.congr x q y a ∙ o.antisymm q y ∙ ap ordering_reverse b in
+      absurd (cc (h, other))
+  step x y q Equal Equal a b h = omega arith
+  step x y q Equal Greater a b h = omega arith
+  step x y q Greater s a b h =
+      let below : R q y ≡ Less = o.trans q x y (o.antisymm q x ∙ ap ordering_reverse a) h in
+      let above : Greater ≡ s = sym (o.antisymm y q ∙ ap ordering_reverse below) ∙ b in
+      subst (λ t. 2 ≤ ordering_index t) above (omega arith)
+
+  pub rises : {A : Type 0} (key : A → K) (xs : List A) (q : K) → IsStrictlySortedBy R (map key xs) → IsNonDecreasingBy (λ y. ordering_index (R (key y) q)) xs
+  rises key xs q sorted i j d le lt = elim (cases_lt i j) [
+    | inl l ↦ (
+        let later = Less-from_sorted R (map key xs) i j (key d) sorted l (rw length-map lt) in
+        let x = get_or-map key xs i d (key d) (omega (arith, l, lt)) in
+        let y = get_or-map key xs j d (key d) lt in
+        let less : R (key (get_or xs i d)) (key (get_or xs j d)) ≡ Less = ap (λ z. R z (key (get_or xs j d))) (sym x) ∙ ap (λ z. R (get_or (map key xs) i (key d)) z) (sym y) ∙ later in
+        step (key (get_or xs i d)) (key (get_or xs j d)) q (R (key (get_or xs i d)) q) (R (key (get_or xs j d)) q) refl refl less)
+    | inr ge ↦ (
+        let e : i ≡ j = omega (arith, le, ge) in
+        subst (λ k. ordering_index (R (key (get_or xs i d)) q) ≤ ordering_index (R (key (get_or xs k d)) q)) e (omega arith))
+  ]
+
+  -- what isn't above compares no higher
+  pub weakly : (x y q : K) (r : Ordering) → R x y ≡ r → (r ≡ Greater → ⊥) → ordering_index (R x q) ≤ ordering_index (R y q)
+  weakly x y q Less e low = step x y q (R x q) (R y q) refl refl e
+  weakly x y q Equal e low = let same : R x q ≡ R y q = o.congr x y q e in subst (λ r. ordering_index (R x q) ≤ ordering_index r) same (omega arith)
+  weakly x y q Greater e low = absurd (low refl)
+
+  pub rises_weakly : {A : Type 0} (key : A → K) (xs : List A) (q : K) → ((i j : ℕ) (d : A) → i < j → j < length xs → R (key (get_or xs i d)) (key (get_or xs j d)) ≡ Greater → ⊥) → IsNonDecreasingBy (λ y. ordering_index (R (key y) q)) xs
+  rises_weakly key xs q low i j d le lt = elim (cases_lt i j) [
+    | inl l ↦ weakly (key (get_or xs i d)) (key (get_or xs j d)) q _ refl (low i j d l lt)
+    | inr ge ↦ (
+        let e : i ≡ j = omega (arith, le, ge) in
+        subst (λ k. ordering_index (R (key (get_or xs i d)) q) ≤ ordering_index (R (key (get_or xs k d)) q)) e (omega arith))
+  ]
+
+-- in a list in order, one element is below another
+pub below_later : {A K : Type 0} (R : K → K → Ordering) (key : A → K) (xs : List A) (i j : ℕ) (d : A) → IsStrictlySortedBy R (map key xs) → i < j → j < length xs → R (key (get_or xs i d)) (key (get_or xs j d)) ≡ Less
+below_later R key xs i j d sorted l lt =
+    let later = Less-from_sorted R (map key xs) i j (key d) sorted l (rw length-map lt) in
+    let x = get_or-map key xs i d (key d) (omega (arith, l, lt)) in
+    let y = get_or-map key xs j d (key d) lt in
+    ap (λ z. R z (key (get_or xs j d))) (sym x) ∙ ap (λ z. R (get_or (map key xs) i (key d)) z) (sym y) ∙ later
+
+-- ---- a stretch, as it is cut out
+
+pub get_take : {A : Type 0} (xs : List A) (m k : ℕ) (d : A) → k < m → get_or (take m xs) k d ≡ get_or xs k d
+get_take xs zero k d lt = absurd (omega (arith, lt))
+get_take [] (suc m) k d lt = refl
+get_take (x ∷ xs) (suc m) zero d lt = refl
+get_take (x ∷ xs) (suc m) (suc k) d lt = get_take xs m k d (omega (arith, lt))
+
+take_within : {A : Type 0} (xs : List A) (m k : ℕ) → k < length (take m xs) → (k < m) × (k < length xs)
+take_within xs zero k lt = absurd (omega (arith, lt))
+take_within [] (suc m) k lt = absurd (omega (arith, lt))
+take_within (x ∷ xs) (suc m) zero lt = (omega arith, omega arith)
+take_within (x ∷ xs) (suc m) (suc k) lt = let w = take_within xs m k (omega (arith, lt)) in (omega (arith, w.0), omega (arith, w.1))
+
+-- a stretch of a list, cut out by two searches
+pub record IsCut {A : Type 0} (ord : A → Ordering) (xs mine : List A) : Type 0 where
+  pub n : ℕ
+  pub m : ℕ
+  pub low : IsPartitionPoint (λ y. is_lt (ord y) ≡ true) (λ y. is_lt (ord y) ≡ false) xs n
+  pub high : IsPartitionPoint (λ y. is_eq (ord y) ≡ true) (λ y. is_eq (ord y) ≡ false) (drop n xs) m
+  pub is : mine ≡ take m (drop n xs)
+
+pub cut : {A : Type 0} (ord : A → Ordering) (xs one two rest mine : List A) (n m : ℕ) → one ≡ xs → two ≡ xs → rest ≡ drop n two → mine ≡ take m rest → IsNonDecreasingBy (λ y. ordering_index (ord y)) xs
+    → (IsPartitionedBy (λ y. is_lt (ord y)) one → IsPartitionPoint (λ y. is_lt (ord y) ≡ true) (λ y. is_lt (ord y) ≡ false) one n)
+    → (IsPartitionedBy (λ y. is_eq (ord y)) rest → IsPartitionPoint (λ y. is_eq (ord y) ≡ true) (λ y. is_eq (ord y) ≡ false) rest m)
+    → IsCut ord xs mine
+cut ord xs one two rest mine n m first second back front rises low high =
+    let lower = subst (λ l. IsPartitionPoint (λ y. is_lt (ord y) ≡ true) (λ y. is_lt (ord y) ≡ false) l n) first (low (subst (λ l. IsPartitionedBy (λ y. is_lt (ord y)) l) (sym first) (below_first ord xs rises))) in
+    let behind : rest ≡ drop n xs = back ∙ ap (drop n) second in
+    let higher = subst (λ l. IsPartitionPoint (λ y. is_eq (ord y) ≡ true) (λ y. is_eq (ord y) ≡ false) l m) behind (high (subst (λ l. IsPartitionedBy (λ y. is_eq (ord y)) l) (sym behind) (equal_first ord xs n rises lower))) in
+    record { n = n; m = m; low = lower; high = higher; is = front ∙ ap (take m) behind }
+
+-- it has what is equal
+pub cut_is : {A : Type 0} (ord : A → Ordering) (xs mine : List A) → IsCut ord xs mine → mine ≡ filter (λ y. is_eq (ord y)) xs
+cut_is ord xs mine w = w.is ∙ sym (stretch ord xs w.n w.m w.low w.high)
+
+-- where an element of the stretch stands
+pub record StandsIn {A : Type 0} (ord : A → Ordering) (xs mine : List A) (from k : ℕ) (d : A) : Type 0 where
+  pub within : from + k < length xs
+  pub same : get_or mine k d ≡ get_or xs (from + k) d
+  pub equal : is_eq (ord (get_or xs (from + k) d)) ≡ true
+
+pub stands_in : {A : Type 0} (ord : A → Ordering) (xs mine : List A) (w : IsCut ord xs mine) (k : ℕ) (d : A) → k < length mine → StandsIn ord xs mine w.n k d
+stands_in ord xs mine w k d lt =
+    let there = take_within (drop w.n xs) w.m k (subst (λ l. k < length l) w.is lt) in
+    let same : get_or (drop w.n xs) k d ≡ get_or xs (w.n + k) d = get_drop xs w.n k d in
+    record {
+      within = drop_within xs w.n k there.1;
+      same = ap (λ l. get_or l k d) w.is ∙ get_take (drop w.n xs) w.m k d there.0 ∙ same;
+      equal = ap (λ z. is_eq (ord z)) (sym same) ∙ w.high.0 k d (omega arith) there.0;
+    }
+
+-- ---- a place
+
+-- the place that a search answers, or the length
+abbrev pub place_in : ℕ → Result ℕ ℕ → ℕ
+place_in n (Ok i) = i
+place_in n (Err i) = n
+
+first_place : {A : Type 0} (p : A → Bool) (xs : List A) (n : ℕ) (d : A) → n < length xs → p (get_or xs n d) ≡ true → ((k : ℕ) → k < n → p (get_or xs k d) ≡ false) → place_of p xs ≡ n
+first_place p [] n d lt e h = absurd (omega (arith, lt))
+first_place p (x ∷ xs) zero d lt e h = ap (λ b. cond b 0 (suc (place_of p xs))) e
+first_place p (x ∷ xs) (suc n) d lt e h =
+    ap (λ b. cond b 0 (suc (place_of p xs))) (h zero (omega arith)) ∙ ap suc (first_place p xs n d (omega (arith, lt)) e (λ k l. h (suc k) (omega (arith, l))))
+
+no_place : {A : Type 0} (p : A → Bool) (xs : List A) → ((k : ℕ) (d : A) → k < length xs → p (get_or xs k d) ≡ false) → place_of p xs ≡ length xs
+no_place p [] h = refl
+no_place p (x ∷ xs) h = ap (λ b. cond b 0 (suc (place_of p xs))) (h zero x (omega arith)) ∙ ap suc (no_place p xs (λ k d lt. h (suc k) d (omega (arith, lt))))
+
+unequal : (r : Ordering) → (r ≡ Equal → ⊥) → is_eq r ≡ false
+unequal Less h = refl
+unequal Equal h = absurd (h refl)
+unequal Greater h = refl
+
+head_of : {A : Type 0} (xs : List A) (n : ℕ) → n < length xs → A
+head_of [] n lt = absurd (omega (arith, lt))
+head_of (x ∷ xs) n lt = x
+
+module _ {K : Type 0} {R : K → K → Ordering} (o : IsTotalOrder R) where
+  earlier : {A : Type 0} (key : A → K) (xs : List A) (q : K) (n k : ℕ) (d : A) → IsStrictlySortedBy R (map key xs) → n < length xs → R (key (get_or xs n d)) q ≡ Equal → k < n → is_eq (R (key (get_or xs k d)) q) ≡ false
+  earlier key xs q n k d sorted lt e l =
+      let later = Less-from_sorted R (map key xs) k n (key d) sorted l (rw length-map lt) in
+      let x = get_or-map key xs k d (key d) (omega (arith, l, lt)) in
+      let y = get_or-map key xs n d (key d) lt in
+      let less : R (key (get_or xs k d)) (key (get_or xs n d)) ≡ Less = ap (λ z. R z (key (get_or xs n d))) (sym x) ∙ ap (λ z. R (get_or (map key xs) k (key d)) z) (sym y) ∙ later in
+      unequal _ (λ same. (
+      let other : R (key (get_or xs k d)) (key (get_or xs n d)) ≡ R q (key (get_or xs n d)) = o.congr (key (get_or xs k d)) q (key (get_or xs n d)) same in
+      let turned : R q (key (get_or xs n d)) ≡ Equal = o.antisymm q (key (get_or xs n d)) ∙ ap ordering_reverse e in
+      cc (less, other, turned)))
+
+  -- the place of the first that is equal, as a search by halves finds it
+  pub searched : {A : Type 0} (key : A → K) (xs : List A) (q : K) (r : Result ℕ ℕ) → IsStrictlySortedBy R (map key xs) → IsSearchInRange r (length xs) → IsBinarySearchResult (λ y. R (key y) q) xs r
+      → place_of (λ y. is_eq (R (key y) q)) xs ≡ place_in (length xs) r
+  searched key xs q (Ok n) sorted lt h =
+      let d = head_of xs n lt in
+      first_place (λ y. is_eq (R (key y) q)) xs n d lt (ap is_eq (h d)) (λ k l. earlier key xs q n k d sorted lt (h d) l)
+  searched key xs q (Err n) sorted le h =
+      let parted = h (rises o key xs q sorted) in
+      no_place (λ y. is_eq (R (key y) q)) xs (λ k d lt. unequal _ (λ same. elim (cases_lt k n) [
+        | inl l ↦ (let less = parted.0 k d (omega arith) l in cc (less, same))
+        | inr g ↦ (let greater = parted.1 k d g lt in cc (greater, same))
+      ]))

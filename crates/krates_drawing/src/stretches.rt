@@ -1,0 +1,89 @@
+//! Stretches of the lists of a sheet, found by halves.
+ghost use Rattle.std.specs.Prelude.{◌≡◌, filter, map};
+ghost use Rattle.std.specs.Ordering.{ordering_then};
+ghost use Rattle.krates_ids.specs.Identity.{id_cmp};
+ghost use Rattle.krates_resolve.specs.Selection.{edge_view};
+ghost use Rattle.krates_rules.specs.Resolved.{id_of};
+ghost use Rattle.krates_drawing.specs.Drawing.{from_crate, is_between, is_to, leads_to as leads};
+ghost use Rattle.krates_drawing.specs.Sheet.{toggle_of};
+ghost use Rattle.krates_drawing.specs.SheetOrder.{AreByChild, IsOrdered};
+ghost use Rattle.krates_drawing.specs.Views.{link_view, sheet_view};
+
+use crate::sheet::{Link, Sheet};
+use krates_ids::{Kid, laws};
+use krates_resolve::ToggledFeature;
+use std::cmp::Ordering;
+
+/// The kept edges from a crate, by child.
+pub(crate) fn links_from<'a>(sheet: &'a Sheet, parent: &Kid) -> &'a [Link]
+    requires { IsOrdered sheet.now }
+    ensures links { map link_view result.now ≡ from_crate (sheet_view sheet.now) (id_of parent.now) }
+    ensures by_child { AreByChild result.now }
+{
+    laws::comparison();
+    let below = sheet
+        .links
+        .partition_point(|link| link.edge.parent.cmp(parent).is_lt());
+    let (_, rest) = sheet.links.split_at(below);
+    let count = rest.partition_point(|link| link.edge.parent.cmp(parent).is_eq());
+    let (mine, _) = rest.split_at(count);
+    mine
+}
+
+/// The kept edges from a crate to another.
+pub(crate) fn links_between<'a>(sheet: &'a Sheet, parent: &Kid, child: &Kid) -> &'a [Link]
+    requires { IsOrdered sheet.now }
+    ensures { map link_view result.now ≡ filter (is_to (id_of child.now)) (from_crate (sheet_view sheet.now) (id_of parent.now)) }
+{
+    laws::comparison();
+    let below = sheet
+        .links
+        .partition_point(|link| link_against(link, parent, child).is_lt());
+    let (_, rest) = sheet.links.split_at(below);
+    let count = rest.partition_point(|link| link_against(link, parent, child).is_eq());
+    let (mine, _) = rest.split_at(count);
+    mine
+}
+
+/// Whether an edge from a crate to another is kept.
+pub(crate) fn leads_to(sheet: &Sheet, parent: &Kid, child: &Kid) -> bool
+    requires { IsOrdered sheet.now }
+    ensures { result ≡ leads (from_crate (sheet_view sheet.now) (id_of parent.now)) (id_of child.now) }
+{
+    !links_between(sheet, parent, child).is_empty()
+}
+
+/// The features of a crate that another toggles, by name.
+pub(crate) fn toggled_between<'a>(sheet: &'a Sheet, by: &Kid, krate: &Kid) -> &'a [ToggledFeature]
+    requires { IsOrdered sheet.now }
+    ensures { map toggle_of result.now ≡ filter (is_between (id_of by.now) (id_of krate.now)) (sheet_view sheet.now).toggled }
+{
+    laws::comparison();
+    let below = sheet
+        .toggled
+        .partition_point(|toggled| toggled_against(toggled, by, krate).is_lt());
+    let (_, rest) = sheet.toggled.split_at(below);
+    let count = rest.partition_point(|toggled| toggled_against(toggled, by, krate).is_eq());
+    let (mine, _) = rest.split_at(count);
+    mine
+}
+
+/// How a kept edge compares with those between these crates.
+fn link_against(link: &Link, parent: &Kid, child: &Kid) -> Ordering
+    ensures { result ≡ ordering_then (id_cmp link.now.edge.parent parent.now) (id_cmp link.now.edge.child child.now) }
+{
+    match link.edge.parent.cmp(parent) {
+        Ordering::Equal => link.edge.child.cmp(child),
+        unequal => unequal,
+    }
+}
+
+/// How a toggled feature compares with those between these crates.
+fn toggled_against(toggled: &ToggledFeature, by: &Kid, krate: &Kid) -> Ordering
+    ensures { result ≡ ordering_then (id_cmp toggled.now.by by.now) (id_cmp toggled.now.krate krate.now) }
+{
+    match toggled.by.cmp(by) {
+        Ordering::Equal => toggled.krate.cmp(krate),
+        unequal => unequal,
+    }
+}
