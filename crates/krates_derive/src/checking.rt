@@ -58,8 +58,7 @@ pub fn check(
 ///
 /// It is refused as `Document`, or else as `Open`. `Memory` may stand in place of any answer.
 ///
-/// Time: O((n + d) log (n + d)) for n facts and a document of d crates, features and dependencies, and for each fact the
-/// dependencies of the node, and the references of the feature, that it speaks of.
+/// Time: O(n * n) for n facts, since the list is gone over for each fact that is looked for in it.
 pub fn check_closed(
     alloc: Global,
     metadata: &Metadata,
