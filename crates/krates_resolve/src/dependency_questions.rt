@@ -186,7 +186,7 @@ fn entry_need<'a>(
     if setting.ignores(info.kind, entry.is_member) {
         return Ok(Need::Nothing);
     }
-    let declared = declared_for(alloc, entry, info)?;
+    let declared = declared_for(alloc, lookup, entry, info)?;
     let Some(place) = declared else {
         return Ok(Need::Undeclared);
     };
@@ -227,7 +227,7 @@ fn entry_declaration<'a>(
     requires version { HasVersion entry.now.child.now }
     ensures { IfOk result (TellsDeclaration (resolved_view lookup.now) (edge_for entry.now (dep_kind_info_view info.now))) }
 {
-    let declared = declared_for(alloc, entry, info)?;
+    let declared = declared_for(alloc, lookup, entry, info)?;
     let Some(place) = declared else {
         return Ok(None);
     };
