@@ -12,7 +12,8 @@ use Rattle.krates_rules.specs.Questions.{Declares, IsDeclaredAs, IsLeftOut, IsWa
 use Rattle.krates_rules.specs.Referent.{IsReferent}
 use Rattle.krates_rules.specs.Resolved.{Resolved, HasNode, HasDep, id_of}
 use Rattle.krates_rules.specs.Setting.{SettingModel, IsIgnored, Passes}
-use Rattle.krates_resolve.specs.LookedUp.{ArePartsOf, NoDep, IsEntryBetween, TellsChild, TellsDeclared}
+use Rattle.krates_resolve.specs.DocumentAnswers.{TellsReferent}
+use Rattle.krates_resolve.specs.LookedUp.{ArePartsOf, NoDep, IsEntryBetween, TellsDeclared}
 use Rattle.krates_resolve.specs.Need.{HasChild, ListsKind, IsDeclaredOnly, IsWantedAs, NotWanted, TellsNeed}
 use Rattle.krates_resolve.specs.NodeEntry.{IsEntry, parent_of, child_of, declared_in, entry_of, edge_for}
 use Rattle.krates_resolve.specs.Presence.{IsExcludedOnly}
@@ -162,7 +163,7 @@ kinds_told r p child k x none b =
     )
 
 -- a name means one crate
-pub meant_told : (r : Resolved) (p : Id) (name : Text) (child : Id) (answer : Option (Bor Identity)) → TellsChild r p name answer
+pub meant_told : (r : Resolved) (p : Id) (name : Text) (child : Id) (answer : Option (Bor Identity)) → TellsReferent r p name answer
     → IsReferent r p name child ↔ (option_map (λ (k : Bor Identity). id_of k.now) answer ≡ Some child)
 meant_told r p name child None none = (λ h. absurd (none child h), λ e. absurd cc)
 meant_told r p name child (Some k) h = (

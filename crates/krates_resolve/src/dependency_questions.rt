@@ -4,7 +4,7 @@ ghost use Rattle.std.specs.Prelude.{◌≡◌, ◌↔◌, Contains, IfOk, IsTrue
 ghost use Rattle.krates_cm.specs.Document.{DepKindInfoModel, dep_kind_info_view};
 ghost use Rattle.krates_resolve.specs.Basis.{document_of};
 ghost use Rattle.krates_resolve.specs.DocumentModel.{as_resolved};
-ghost use Rattle.krates_resolve.specs.LookedUp.{edge_asked};
+ghost use Rattle.krates_resolve.specs.DocumentAnswers.{edge_asked};
 ghost use Rattle.krates_resolve.specs.Lookup.{IsLookup, resolved_view};
 ghost use Rattle.krates_resolve.specs.Need.{HasChild, ListsKind, TellsDeclaration, TellsNeed};
 ghost use Rattle.krates_resolve.specs.NodeEntry.{IsEntry, edge_for};

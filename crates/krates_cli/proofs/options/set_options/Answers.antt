@@ -1,6 +1,6 @@
 use Rattle.std.proofs.Common.{◌≡◌, rules}
 use Rattle.krates_cm.proofs.CopyLemmas.{same_list}
-use Rattle.krates_ids.specs.SpecificationAnswers.{spec_view}
+use Rattle.krates_ids.specs.PackageSpecification.{spec_view}
 use Rattle.krates_cli.proofs.IgnoredLemmas.{ignored_alone}
 use Rattle.krates_cli.proofs.options.set_options.Goals as goal
 
