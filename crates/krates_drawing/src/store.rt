@@ -21,6 +21,15 @@ pub trait FromEdge {
         ensures { IfOk result (made_from_edge edge) };
 }
 
+/// An edge is held as it is.
+impl FromEdge for Edge {
+    ghost made_from_edge = { λ edge value. value ≡ edge };
+
+    fn from_edge(_alloc: Global, edge: Edge) -> Result<Edge, AllocError> {
+        Ok(edge)
+    }
+}
+
 /// Why the edges aren't stored.
 #[derive(Debug, PartialEq, Eq, Drop)]
 pub enum StoreError {
