@@ -4,13 +4,16 @@ pub mod BuildsAlike
 pub mod CorrectedAlike
 pub mod CorrectedSoFar
 pub mod DivisionLemmas
+pub mod DrawnLemmas
 pub mod EnabledLemmas
 pub mod HandedBack
 pub mod ListedAlike
+pub mod MadeLemmas
 pub mod Membership
 pub mod MovedLists
 pub mod NamesIn
 pub mod NarrowedBuilds
+pub mod NodeLemmas
 pub mod OrderedIds
 pub mod ResultValues
 pub mod SeenLemmas

@@ -3,7 +3,12 @@ pub mod BuildLaws
 pub mod Builder
 pub mod BuilderModel
 pub mod Division
+pub mod Drawn
 pub mod Enabled
 pub mod Indexed
 pub mod Kept
+pub mod KeptGraph
 pub mod Krate
+pub mod MadeNodes
+pub mod Node
+pub mod NodeOrder

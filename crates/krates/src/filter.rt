@@ -35,6 +35,22 @@ impl OnFilter for NoneFilter {
     }
 }
 
+/// A filter that calls this closure with each package.
+///
+/// The closure has to be callable again and again, which a build asks for.
+#[derive(Drop)]
+pub struct FilterFn<F>(pub F);
+
+impl<F: FnMut(Package)> OnFilter for FilterFn<F> {
+    ghost can_filter = { λ filter. F.IsAlwaysCallable filter.0 };
+
+    ghost filters = { λ old pkg new. F.step old.0 pkg tt new.0 };
+
+    fn filtered(&mut self, pkg: Package) {
+        (self.0)(pkg)
+    }
+}
+
 /// Hands each package to the filter, in their order.
 pub(crate) fn report<F: OnFilter>(krates: Vec<Krate>, filter: &mut F)
     requires { F.can_filter filter.old }

@@ -12,8 +12,8 @@ use crate::lines::all_lines;
 use crate::options::{Options, set_options};
 use crate::reported::Reported;
 use crate::run_error::RunError;
-use krates::Builder;
 use krates::cm::MetadataCommand;
+use krates::{Builder, Krates};
 use std::alloc::Global;
 use std::io::{Read, Write};
 
@@ -27,7 +27,7 @@ fn listing(alloc: Global, options: &Options, text: &str) -> Result<String, RunEr
     let mut reported = Reported::new(alloc);
     let mut builder = Builder::new(alloc);
     set_options(alloc, options, &mut builder)?;
-    let krates = builder.build_with_metadata(metadata, &mut reported)?;
+    let krates: Krates = builder.build_with_metadata(metadata, &mut reported)?;
     let reported = reported.into_lines()?;
     Ok(all_lines(alloc, &krates, reported.as_str())?)
 }

@@ -1,0 +1,19 @@
+use Rattle.krates_cm.specs.Document.{metadata_view}
+use Rattle.krates_document.specs.Ids.{ids_view}
+use Rattle.krates_drawing.specs.Views.{sheet_view}
+use Rattle.krates_resolve.specs.DocumentModel.{as_resolved}
+use Rattle.krates.proofs.DrawnLemmas.{none_doubled_in, selected_in, sheet_told}
+use Rattle.krates.proofs.drawn.sheet_for.Goals as goal
+
+pub sheet_of-requires : goal.sheet_of-requires
+sheet_of-requires c = record { distinct = none_doubled_in (metadata_view c.args.metadata.now) (ids_view c.args.ids.now) (as_resolved c.in_ok-document.document) c.requires.admitted c.in_ok-document.ensures }
+
+pub returns-clause-sheet : goal.returns-clause-sheet
+returns-clause-sheet c =
+    sheet_told (metadata_view c.args.metadata.now) c.args.setting.now c.in_ok-selection.selection (as_resolved c.in_ok-document.document) (sheet_view c.in_ok-sheet_of.field-0)
+    c.in_ok-selection.ensures.selected c.in_ok-document.ensures c.in_ok-sheet_of.ensures.sheet
+
+pub returns-clause-ordered : goal.returns-clause-ordered
+returns-clause-ordered c =
+    c.in_ok-sheet_of.ensures.ordered c.args.setting.now
+    (selected_in (metadata_view c.args.metadata.now) c.args.setting.now c.in_ok-selection.selection (as_resolved c.in_ok-document.document) c.in_ok-selection.ensures.selected c.in_ok-document.ensures)
