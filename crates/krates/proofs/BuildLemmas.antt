@@ -2,11 +2,8 @@
 use Rattle.std.proofs.Common.{◌≡◌, ◌≢◌, ◌↔◌, ℕ, zero, suc, ◌<◌, ◌≤◌, ◌^◌, List, [], ◌∷◌, length, get_or, map, AllPairs, Some, slice_get, Contains, refl, sym, ap, ◌∙◌, subst, inl, inr, arith}
 use Rattle.std.proofs.lemmas.List.{get_or-map, length-map}
 use Rattle.std.proofs.lemmas.List.Elements.{Contains-get_or}
-use Rattle.std.specs.BTreeSet.{BTreeSet}
 use Rattle.std.specs.List.{AllZip}
 use Rattle.std.specs.List.Sorted.{IsStrictlySortedBy}
-use Rattle.std.specs.Prelude.{String}
-use Rattle.std.specs.declared.alloc.Global.{Global}
 use Rattle.krates_cm.specs.Document.{Text, MetadataModel, ResolveModel, PackageModel, id_view, package_view, metadata_view}
 use Rattle.krates_cm.specs.declared.metadata.Metadata.{Metadata}
 use Rattle.krates_cm.specs.declared.package.Package.{Package}
@@ -16,16 +13,15 @@ use Rattle.krates_ids.specs.declared.error.Error.TheVariants as errors
 use Rattle.krates_rules.specs.Admission.{IsAdmitted, package_texts, doubled_package, IdsModel}
 use Rattle.krates_document.proofs.AdmissionLemmas.{twice_texts}
 use Rattle.krates_document.specs.AdmissionSteps.{AreDistinct}
-use Rattle.krates_rules.specs.Facts.{Id, Cause, Crate, Feature, Lost}
+use Rattle.krates_rules.specs.Facts.{Id, Cause, Fact, Crate, Feature, Lost}
 use Rattle.krates_rules.specs.Questions.{Stands, questions}
 use Rattle.krates_rules.specs.Resolved.{ReadsAs, resolved, id_of}
+use Rattle.krates_resolve.specs.Selection.{feature_fact}
 use Rattle.krates_resolve.specs.declared.selection.Selection.{Selection}
 use Rattle.krates_rules.specs.Setting.{SettingModel}
 use Rattle.krates.specs.Build.{IsResolvable, IsDerived, KeepsCrate, DropsCrate, IsLost, AreThosePackages, HasTooMany, GraphRefusal, CountRefusal}
 use Rattle.krates.specs.Division.{IsAmong, IsDivision}
-use Rattle.krates.specs.Enabled.{AreEnabledSets}
-use Rattle.krates.specs.Kept.{IsEnabledIn, names_in_each, krate_packages}
-use Rattle.krates.specs.Krate.{krate_ids}
+use Rattle.krates.specs.Krate.{krate_ids, krate_packages}
 use Rattle.krates.specs.declared.division.Division.{Division}
 use Rattle.krates.proofs.DivisionLemmas.{ReadsOnce}
 use Rattle.krates.proofs.Membership.{Member, member_of, contains_of, mapped_of, member_map}
@@ -119,36 +115,38 @@ pub record Builds (m : Metadata) (s : SettingModel) (d : Division) : Type 0 wher
   pub packages : AreThosePackages m.packages.items (KeepsCrate (metadata_view m) s) (krate_ids d.kept.items) (krate_packages d.kept.items)
   pub others : AreThosePackages m.packages.items (DropsCrate (metadata_view m) s) (krate_ids d.others.items) (krate_packages d.others.items)
 
-flip_iff : (P Q : Type 0) → P ↔ Q → Q ↔ P
-flip_iff P Q h = (h.1, h.0)
-
 not_iff : (P Q : Type 0) → P ↔ Q → (P → ⊥) ↔ (Q → ⊥)
 not_iff P Q h = (λ n q. n (h.1 q), λ n p. n (h.0 p))
 
-pub builds : ReadsOnce → (m : Metadata) (s : SettingModel) (x : Selection) (d : Division) → Selects (metadata_view m) s x → IsDivision m.packages.items x.krates.items d → Builds m s d
-builds once m s x d sel div =
-    let iff : (i : Id) → IsAmong x.krates.items i ↔ KeepsCrate (metadata_view m) s i = λ i. flip_iff _ _ (kept_among (metadata_view m) s x sel i) in
-    let packages = those_same m.packages.items (IsAmong x.krates.items) (KeepsCrate (metadata_view m) s) (krate_ids d.kept.items) (krate_packages d.kept.items) iff div.kept in
+among_same : (is js : List Identity) → map id_of is ≡ map id_of js → (i : Id) → IsAmong is i ↔ IsAmong js i
+among_same is js e i = (λ h. subst (λ ids. Contains ids i) e h, λ h. subst (λ ids. Contains ids i) (sym e) h)
+
+both_iff : (P Q R : Type 0) → P ↔ Q → R ↔ Q → P ↔ R
+both_iff P Q R a b = (λ p. b.1 (a.0 p), λ r. a.1 (b.0 r))
+
+pub builds : ReadsOnce → (m : Metadata) (s : SettingModel) (x : Selection) (selected : List Identity) (d : Division) → map id_of selected ≡ map id_of x.krates.items → Selects (metadata_view m) s x
+    → IsDivision m.packages.items selected d → Builds m s d
+builds once m s x selected d those sel div =
+    let iff : (i : Id) → IsAmong selected i ↔ KeepsCrate (metadata_view m) s i = λ i.
+    both_iff _ _ _ (among_same selected x.krates.items those i) (kept_among (metadata_view m) s x sel i) in
+    let packages = those_same m.packages.items (IsAmong selected) (KeepsCrate (metadata_view m) s) (krate_ids d.kept.items) (krate_packages d.kept.items) iff div.kept in
     record {
       kept = exactly_those once m.packages.items (KeepsCrate (metadata_view m) s) (krate_ids d.kept.items) (krate_packages d.kept.items) packages (has_package m s);
       some = (sel.holds.some.0, record { graph = sel.graph; has_graph = sel.has_graph; holds = sel.holds.some.1 });
       none_lost = none_lost (metadata_view m) s x sel;
       packages = packages;
-      others = those_same m.packages.items (λ i. IsAmong x.krates.items i → ⊥) (DropsCrate (metadata_view m) s) (krate_ids d.others.items) (krate_packages d.others.items) (λ i. not_iff _ _ (iff i)) div.others;
+      others = those_same m.packages.items (λ i. IsAmong selected i → ⊥) (DropsCrate (metadata_view m) s) (krate_ids d.others.items) (krate_packages d.others.items) (λ i. not_iff _ _ (iff i)) div.others;
     }
 
--- the same, of what the body has in hand
-pub built : ReadsOnce → (m : Metadata) (s t : SettingModel) (x : Selection) (selected : List Identity) (d : Division) → t ≡ s → selected ≡ x.krates.items → Selects (metadata_view m) t x → IsDivision m.packages.items selected d → Builds m s d
-built once m s t x selected d same those sel div =
-    builds once m s x d (subst (λ z. Selects (metadata_view m) z x) same sel) (subst (λ ids. IsDivision m.packages.items ids d) those div)
-
--- the features of the selection, sorted into sets, are the enabled ones
-pub enabled : (m : Metadata) (s : SettingModel) (x : Selection) (d : Division) (sets : List (BTreeSet (String Global))) → Selects (metadata_view m) s x → Builds m s d
-    → AreEnabledSets (krate_ids d.kept.items) x.features.items sets → (i : Id) (f : Text) → IsDerived (metadata_view m) s (Feature i f) ↔ IsEnabledIn (krate_ids d.kept.items) (names_in_each sets) i f
-enabled m s x d sets sel b so i f =
-    let told = enabled_among (metadata_view m) s x sel i f in (
-      λ h. (let both = told.0 h in (so i f).1 ((b.kept i).0 both.0, both.1)),
-      λ h. (let both = (so i f).0 h in told.1 ((b.kept i).1 both.0, both.1)),
+-- the features that are the selection's are the enabled ones
+pub enabled : (m : Metadata) (s : SettingModel) (x : Selection) (d : Division) (P : Id → Text → Type 0) (facts : List Fact) → Selects (metadata_view m) s x → Builds m s d
+    → map feature_fact x.features.items ≡ facts → ((i : Id) (f : Text) → P i f ↔ (IsAmong (krate_ids d.kept.items) i × Contains facts (Feature i f)))
+    → (i : Id) (f : Text) → IsDerived (metadata_view m) s (Feature i f) ↔ P i f
+enabled m s x d P facts sel b same so i f =
+    let told = enabled_among (metadata_view m) s x sel i f in
+    let fact : Fact = Feature i f in (
+      λ h. (let both = told.0 h in (so i f).1 ((b.kept i).0 both.0, subst (λ fs. Contains fs fact) same both.1)),
+      λ h. (let both = (so i f).0 h in told.1 ((b.kept i).1 both.0, subst (λ fs. Contains fs fact) (sym same) both.1)),
     )
 
 -- ---- too many

@@ -18,7 +18,7 @@ use Rattle.krates_rules.specs.Resolved.{id_of}
 use Rattle.krates.specs.Build.{AreThosePackages, HasIdAmong}
 use Rattle.krates.specs.Division.{has_same, is_selected, IsAmong, IsDivision}
 use Rattle.krates.specs.Krate.{krate_cmp, krate_ids, paired}
-use Rattle.krates.specs.Kept.{krate_packages}
+use Rattle.krates.specs.Krate.{krate_packages}
 use Rattle.krates.specs.declared.division.Division.{Division}
 use Rattle.krates.specs.declared.krate.Krate.{Krate}
 use Rattle.krates.proofs.Membership.{Member, member_of, contains_of, mapped_of, member_map, kept_of, member_filter, map_filter, zip_maps}

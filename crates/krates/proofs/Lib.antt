@@ -5,12 +5,15 @@ pub mod CargoLemmas
 pub mod CorrectedAlike
 pub mod CorrectedSoFar
 pub mod DivisionLemmas
+pub mod DrawnLemmas
 pub mod EnabledLemmas
 pub mod ListedAlike
+pub mod MadeLemmas
 pub mod Membership
 pub mod MovedLists
 pub mod NamesIn
 pub mod NarrowedBuilds
+pub mod NodeLemmas
 pub mod OrderedIds
 pub mod SeenLemmas
 pub mod SelectionFacts

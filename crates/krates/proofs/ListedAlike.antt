@@ -14,6 +14,7 @@ use Rattle.krates_rules.specs.Resolved.{ReadsAs}
 use Rattle.krates.specs.Build.{HasIdAmong, AreThosePackages}
 use Rattle.krates.specs.BuildLaws.{IsSamePackage, ListAlike}
 use Rattle.krates.proofs.DivisionLemmas.{ReadsOnce}
+use Rattle.krates.proofs.OrderedIds.{never_less}
 use Rattle.krates.proofs.Membership.{Member, member_of, contains_of, mapped_of, member_map}
 
 -- ---- lists in strict order
@@ -40,9 +41,6 @@ record LikeBack (y : Listed) (xs : List Listed) : Type 0 where
 abbrev Ascends : List Listed → Type 0
 Ascends [] = Unit {0}
 Ascends (x ∷ xs) = ((z : Listed) → Member xs z → id_cmp x.1 z.1 ≡ Less) × Ascends xs
-
-never_less : IsTotalOrder id_cmp → (a b : Identity) → id_cmp a b ≡ Less → id_cmp b a ≡ Less → ⊥
-never_less o a b l m = let e = o.antisymm a b in cc (e, l, m)
 
 first_alike : IsTotalOrder id_cmp → (x y : Listed) (xs ys : List Listed) → Ascends (x ∷ xs) → Ascends (y ∷ ys) → Like x (y ∷ ys) → LikeBack y (x ∷ xs) → IsAlike x y
 first_alike o x y xs ys hx hy p q = elim p.member [

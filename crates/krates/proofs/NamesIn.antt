@@ -11,7 +11,7 @@ use Rattle.std.specs.Prelude.{String}
 use Rattle.std.specs.Str.{bytes_eq}
 use Rattle.std.specs.declared.alloc.Global.{Global}
 use Rattle.krates_cm.specs.Document.{Text, text_view}
-use Rattle.krates.specs.Kept.{names_in}
+use Rattle.krates.specs.Node.{names_in}
 use Rattle.krates.proofs.Membership.{Member}
 
 -- whether one of the keys has these bytes

@@ -1,5 +1,5 @@
 -- Lists of ids in order: what a search finds, and which lists are in strict order.
-use Rattle.std.proofs.Common.{◌≡◌, ◌↔◌, ℕ, ◌+◌, ◌<◌, List, [], ◌∷◌, length, get_or, map, true, false, ◌||◌, Result, Ok, Err, is_ok, refl, sym, ap, ◌∙◌, subst, inl, inr, arith, HoldsAt, Ordering, Less, Equal, Greater}
+use Rattle.std.proofs.Common.{◌≡◌, ◌↔◌, ℕ, ◌+◌, ◌<◌, List, [], ◌∷◌, length, get_or, map, true, false, ◌||◌, refl, sym, ap, ◌∙◌, subst, inl, inr, arith, HoldsAt, Ordering, Less, Equal, Greater}
 use Rattle.std.proofs.Math.Bool.{or_comm}
 use Rattle.std.proofs.lemmas.Bool.{cases_lt, cases_order}
 use Rattle.std.proofs.lemmas.List.{get_or-map, length-map}
@@ -8,10 +8,12 @@ use Rattle.std.proofs.lemmas.List.Sorted.{searchable_from_sorted}
 use Rattle.std.proofs.lemmas.Map.Keys.{Less-from_sorted}
 use Rattle.std.proofs.lemmas.Option.{slice_get-get_or, get_or_from_slice_get, slice_get_within, slice_get_cases}
 use Rattle.std.specs.Cmp.{IsTotalOrder}
-use Rattle.std.specs.List.Sorted.{IsStrictlySortedBy, IsSorted, IsSortedBy, IsBinarySearchResult, IsSearchInRange, IsPartitionPoint, IsNonDecreasingBy}
+use Rattle.std.specs.List.{AllByRecursion}
+use Rattle.std.specs.List.Sorted.{IsStrictlySortedBy, IsSorted, IsSortedBy, IsPartitionPoint, IsNonDecreasingBy}
 use Rattle.std.specs.Ordering.{is_eq, is_lt, ordering_index, ordering_reverse}
 use Rattle.krates_ids.specs.Identity.{Identity, IsSameId, id_cmp}
 use Rattle.krates_rules.specs.Facts.{Id}
+use Rattle.krates_rules.specs.Referent.{id_order}
 use Rattle.krates_rules.specs.Resolved.{id_of, StandsAt}
 use Rattle.krates.specs.Division.{has_same, IsAmong}
 use Rattle.krates.specs.Krate.{krate_ids}
@@ -45,11 +47,11 @@ sorted_weakly o ids s k d low lt =
     let less : id_cmp (get_or ids k d) (get_or ids (k + 1) d) ≡ Less = Less-from_sorted id_cmp ids k (k + 1) d s (omega arith) lt in
     ap is_lt (o.total.antisymm (get_or ids (k + 1) d) (get_or ids k d)) ∙ not_less _ less
 
-krates_weakly : (krates : List Krate) → IsSorted id_cmp (krate_ids krates) → IsSortedBy (λ a b. is_lt (id_cmp a.id b.id)) krates
-krates_weakly krates s k d low lt =
-    let at = s k d.id low (rw length-map lt) in
-    let here = get_or-map (λ (x : Krate). x.id) krates k d d.id (omega arith) in
-    let next = get_or-map (λ (x : Krate). x.id) krates (k + 1) d d.id lt in
+weakly_by : {X : Type 0} (key : X → Identity) (xs : List X) → IsSorted id_cmp (map key xs) → IsSortedBy (λ a b. is_lt (id_cmp (key a) (key b))) xs
+weakly_by key xs s k d low lt =
+    let at = s k (key d) low (rw length-map lt) in
+    let here = get_or-map key xs k d (key d) (omega arith) in
+    let next = get_or-map key xs (k + 1) d (key d) lt in
     rw (here, next) at at
 
 -- nothing compares as equal where the search found nothing
@@ -65,12 +67,26 @@ unequal Less h = refl
 unequal Equal h = absurd (h refl)
 unequal Greater h = refl
 
-pub found : Compares → (ids : List Identity) (x : Identity) (r : Result ℕ ℕ) → IsStrictlySortedBy id_cmp ids → IsSearchInRange r (length ids)
-    → IsBinarySearchResult (λ y. id_cmp y x) ids r → is_ok r ≡ has_same ids x
-found o ids x (Ok i) s lt at = sym (list_any_at (λ y. is_eq (id_cmp y x)) ids i x lt (ap is_eq (at x)))
-found o ids x (Err i) s le at =
-    let rises : IsNonDecreasingBy (λ y. ordering_index (id_cmp y x)) ids = searchable_from_sorted o.total (λ (y : Identity). y) ids x (sorted_weakly o ids s) in
-    sym (list_any_none (λ y. is_eq (id_cmp y x)) ids (λ k d lt. unequal _ (none_equal (λ y. id_cmp y x) ids i (at rises) k d lt)))
+not_at : Compares → {X : Type 0} (key : X → Identity) (xs : List X) (x : Identity) (i : ℕ) → IsPartitionPoint (λ y. id_cmp (key y) x ≡ Less) (λ y. id_cmp (key y) x ≡ Greater) xs i
+    → (k : ℕ) (d : Identity) → k < length xs → id_cmp (get_or (map key xs) k d) x ≡ Equal → ⊥
+not_at o key xs x i p k d lt e = elim (slice_get_cases xs k).1 [
+  | inl (y, low, got, is) ↦ none_equal (λ z. id_cmp (key z) x) xs i p k y lt (ap (λ z. id_cmp z x) (sym (get_or-map key xs k y d lt)) ∙ e)
+  | inr past ↦ absurd (omega (arith, past.0))
+]
+
+-- what a search by ids finds is among them
+pub has_found : Compares → {X : Type 0} (key : X → Identity) (xs : List X) (x : Identity) (i : ℕ) → i < length xs → HoldsAt (λ y. id_cmp (key y) x ≡ Equal) xs i → true ≡ has_same (map key xs) x
+has_found o key xs x i lt at = elim (slice_get_cases xs i).1 [
+  | inl (d, low, got, is) ↦ sym (list_any_at (λ y. is_eq (id_cmp y x)) (map key xs) i x (rw length-map lt) (ap (λ y. is_eq (id_cmp y x)) (get_or-map key xs i d x lt) ∙ ap is_eq (at d)))
+  | inr past ↦ absurd (omega (arith, past.0))
+]
+
+-- where it finds none, the id isn't among them
+pub has_none : Compares → {X : Type 0} (key : X → Identity) (xs : List X) (x : Identity) (i : ℕ) → IsStrictlySortedBy id_cmp (map key xs)
+    → (IsNonDecreasingBy (λ y. ordering_index (id_cmp (key y) x)) xs → IsPartitionPoint (λ y. id_cmp (key y) x ≡ Less) (λ y. id_cmp (key y) x ≡ Greater) xs i) → false ≡ has_same (map key xs) x
+has_none o key xs x i s parts =
+    let rises : IsNonDecreasingBy (λ y. ordering_index (id_cmp (key y) x)) xs = searchable_from_sorted o.total key xs x (weakly_by key xs (sorted_weakly o (map key xs) s)) in
+    sym (list_any_none (λ y. is_eq (id_cmp y x)) (map key xs) (λ k d lt. unequal _ (not_at o key xs x i (parts rises) k d (simp length-map at lt))))
 
 -- ---- places in strict order
 
@@ -137,7 +153,7 @@ pub no_number : Compares → (krates : List Krate) (kid : Identity) (place : ℕ
     → (n : ℕ) → StandsAt (krate_ids krates) (id_of kid) n → ⊥
 no_number o krates kid place s parts n h =
     let lt : n < length krates = simp length-map at (stands_within _ _ n h) in
-    let rises : IsNonDecreasingBy (λ k. ordering_index (id_cmp k.id kid)) krates = searchable_from_sorted o.total (λ (k : Krate). k.id) krates kid (krates_weakly krates (sorted_weakly o (krate_ids krates) s)) in
+    let rises : IsNonDecreasingBy (λ k. ordering_index (id_cmp k.id kid)) krates = searchable_from_sorted o.total (λ (k : Krate). k.id) krates kid (weakly_by (λ (k : Krate). k.id) krates (sorted_weakly o (krate_ids krates) s)) in
     elim (slice_get_cases krates n).1 [
       | inl (k, low, got, is) ↦ (
           let same : id_of (get_or krates n k).id ≡ id_of kid = sym (ap id_of (get_or-map (λ (x : Krate). x.id) krates n k kid lt)) ∙ stands_same _ _ n kid h in
@@ -145,3 +161,52 @@ no_number o krates kid place s parts n h =
           )
       | inr past ↦ absurd (omega (arith, past.0))
     ]
+
+-- ---- two lists in strict order
+
+pub never_less : IsTotalOrder id_cmp → (a b : Identity) → id_cmp a b ≡ Less → id_cmp b a ≡ Less → ⊥
+never_less o a b l m = let e = o.antisymm a b in cc (e, l, m)
+
+-- each id of the first is one of the second
+abbrev pub HasLike : List Identity → List Identity → Type 0
+HasLike is js = (i : Id) → Member (map id_of is) i → Member (map id_of js) i
+
+-- an id behind another
+record Behind (i : Identity) (z : Id) : Type 0 where
+  id : Identity
+  is : id_of id ≡ z
+  less : id_cmp i id ≡ Less
+
+behind : (i : Identity) (is : List Identity) (z : Id) → AllByRecursion (λ k. id_cmp i k ≡ Less) is → Member (map id_of is) z → Behind i z
+behind i [] z h m = absurd m
+behind i (k ∷ is) z h (inl e) = record { id = k; is = e; less = h.0 }
+behind i (k ∷ is) z h (inr m) = behind i is z h.1 m
+
+less_as : (i j k : Identity) → id_of j ≡ id_of k → id_cmp i j ≡ Less → id_cmp i k ≡ Less
+less_as i j k e l = let order : id_order (id_of i) (id_of j) ≡ Less = l in subst (λ z. id_order (id_of i) z ≡ Less) e order
+
+first_same : IsTotalOrder id_cmp → (i j : Identity) (is js : List Identity) → AllByRecursion (λ k. id_cmp i k ≡ Less) is → AllByRecursion (λ k. id_cmp j k ≡ Less) js
+    → Member (map id_of (j ∷ js)) (id_of i) → Member (map id_of (i ∷ is)) (id_of j) → id_of i ≡ id_of j
+first_same o i j is js s u (inl e) back = sym e
+first_same o i j is js s u (inr m) (inl e) = e
+first_same o i j is js s u (inr m) (inr n) =
+    let a = behind j js (id_of i) u m in
+    let b = behind i is (id_of j) s n in
+    absurd (never_less o i j (less_as i b.id j b.is b.less) (less_as j a.id i a.is a.less))
+
+later_like : IsTotalOrder id_cmp → (i j : Identity) (is js : List Identity) → AllByRecursion (λ k. id_cmp i k ≡ Less) is → id_of i ≡ id_of j → HasLike (i ∷ is) (j ∷ js) → HasLike is js
+later_like o i j is js s same there z m = elim (there z (inr m)) [
+  | inl e ↦ (let a = behind i is z s m in let l = less_as i a.id i (a.is ∙ sym e ∙ sym same) a.less in absurd (never_less o i i l l))
+  | inr n ↦ n
+]
+
+-- lists in strict order with the same ids have them at the same places
+pub one_order : IsTotalOrder id_cmp → (is js : List Identity) → IsStrictlySortedBy id_cmp is → IsStrictlySortedBy id_cmp js → HasLike is js → HasLike js is → map id_of is ≡ map id_of js
+unfolding IsStrictlySortedBy
+one_order o [] [] s u there back = refl
+one_order o [] (j ∷ js) s u there back = absurd (back (id_of j) (inl refl))
+one_order o (i ∷ is) [] s u there back = absurd (there (id_of i) (inl refl))
+one_order o (i ∷ is) (j ∷ js) s u there back =
+    let head = first_same o i j is js s.0 u.0 (there (id_of i) (inl refl)) (back (id_of j) (inl refl)) in
+    let rest = one_order o is js s.1 u.1 (later_like o i j is js s.0 head there) (later_like o j i js is u.0 (sym head) back) in
+    ap (λ x. x ∷ map id_of is) head ∙ ap (λ xs. id_of j ∷ xs) rest

@@ -4,6 +4,7 @@ use Rattle.std.specs.List.{AllZip}
 use Rattle.krates_cm.specs.Document.{MetadataModel, ResolveModel, PackageModel, id_view, package_view, metadata_view}
 use Rattle.krates_cm.specs.declared.metadata.Metadata.{Metadata}
 use Rattle.krates_cm.specs.declared.package.Package.{Package}
+use Rattle.krates_drawing.specs.declared.edge.Edge.{Edge}
 use Rattle.krates_ids.specs.Identity.{Reads}
 use Rattle.krates_ids.specs.declared.index.IndexAnswer.{IndexAnswer}
 use Rattle.krates_rules.specs.Admission.{IsAdmitted, IsDoubled, IsDoubledIn, package_texts, doubled_package, doubled_node, doubled_dep, IdsModel}
@@ -13,8 +14,8 @@ use Rattle.krates_ids.specs.declared.error.Error.{Error}
 use Rattle.krates_ids.specs.declared.error.Error.TheVariants as errors
 use Rattle.krates_rules.specs.Setting.{SettingModel}
 use Rattle.krates.specs.Build.{IsResolvable, IsBuilt, GraphRefusal, BuildRefusal}
-use Rattle.krates.specs.Indexed.{Answering, IsCorrectedPackage, IsCorrectedDocument, IsSeen, Sees}
 use Rattle.krates.specs.Kept.{KeptCrates}
+use Rattle.krates.specs.Indexed.{Answering, IsCorrectedPackage, IsCorrectedDocument, IsSeen, Sees}
 
 -- the texts of the ids are those that they were
 same_texts : (answer : IndexAnswer) (xs ys : List Package) → AllZip (IsCorrectedPackage answer) xs ys
@@ -59,11 +60,11 @@ admitted_seen may_answer (Some source) given seen ids is_seen a = admitted_corre
 
 -- ---- what is said of the document that is looked at
 
-pub sees_built : {S F : Type 0} (may_answer : Answering S) (index : Option S) (given seen : Metadata) (s : SettingModel) (filters : F → Package → F → Type 0) (before after : F)
-    (result : Result KeptCrates Error) → IsSeen may_answer index given seen → IfOk result (λ k. IsBuilt filters seen s before after k)
-    → IfOk result (λ k. Sees may_answer index given (λ m. IsBuilt filters m s before after k))
-sees_built may_answer index given seen s filters before after (Ok k) is_seen b = record { seen = seen; is_seen = is_seen; holds = b }
-sees_built may_answer index given seen s filters before after (Err e) is_seen b = tt
+pub sees_built : {S F N E : Type 0} (may_answer : Answering S) (index : Option S) (given seen : Metadata) (s : SettingModel) (filters : F → Package → F → Type 0) (made : Package → N → Type 0)
+    (made_edge : Edge → E → Type 0) (before after : F) (result : Result (KeptCrates N E) Error) → IsSeen may_answer index given seen → IfOk result (IsBuilt filters made made_edge seen s before after)
+    → IfOk result (λ k. Sees may_answer index given (λ m. IsBuilt filters made made_edge m s before after k))
+sees_built may_answer index given seen s filters made made_edge before after (Ok k) is_seen b = record { seen = seen; is_seen = is_seen; holds = b }
+sees_built may_answer index given seen s filters made made_edge before after (Err e) is_seen b = tt
 
 refused_as : {S : Type 0} (may_answer : Answering S) (index : Option S) (given seen : Metadata) (s : SettingModel) → IsResolvable (metadata_view given) → IsSeen may_answer index given seen
     → (e : Error) → GraphRefusal (metadata_view seen) s e → BuildRefusal may_answer index given s e
@@ -77,7 +78,7 @@ refused_as may_answer index given seen s r is_seen (errors.Lost what) h = (r, re
 refused_as may_answer index given seen s r is_seen errors.TooMany h = (r, record { seen = seen; is_seen = is_seen; holds = h })
 refused_as may_answer index given seen s r is_seen errors.Memory h = tt
 
-pub sees_refused : {S : Type 0} (may_answer : Answering S) (index : Option S) (given seen : Metadata) (s : SettingModel) (ids : IdsModel) (result : Result KeptCrates Error)
+pub sees_refused : {S : Type 0} (may_answer : Answering S) (index : Option S) (given seen : Metadata) (s : SettingModel) (ids : IdsModel) {K : Type 0} (result : Result K Error)
     → IsAdmitted (metadata_view given) ids → IsSeen may_answer index given seen → IfErr result (GraphRefusal (metadata_view seen) s) → IfErr result (BuildRefusal may_answer index given s)
 sees_refused may_answer index given seen s ids (Ok k) a is_seen h = tt
 sees_refused may_answer index given seen s ids (Err e) a is_seen h = refused_as may_answer index given seen s (record { ids = ids; admitted = a }) is_seen e h

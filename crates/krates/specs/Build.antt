@@ -7,6 +7,7 @@ use Rattle.std.specs.List.Sorted.{IsStrictlySortedBy}
 use Rattle.krates_cm.specs.Document.{MetadataModel, Text, id_view, metadata_view, text_view}
 use Rattle.krates_cm.specs.declared.metadata.Metadata.{Metadata}
 use Rattle.krates_cm.specs.declared.package.Package.{Package}
+use Rattle.krates_drawing.specs.declared.edge.Edge.{Edge}
 use Rattle.krates_ids.specs.Identity.{Identity, Reads, id_cmp}
 use Rattle.krates_ids.specs.declared.error.Error.{Error}
 use Rattle.krates_ids.specs.declared.error.Error.TheVariants as errors
@@ -22,7 +23,8 @@ use Rattle.krates_rules.specs.Setting.{SettingModel}
 use Rattle.krates_resolve.specs.Selection.{IsSelectionOf}
 use Rattle.krates_resolve.specs.declared.selection.Selection.{Selection}
 use Rattle.krates.specs.Indexed.{Answering, Sees}
-use Rattle.krates.specs.Kept.{KeptCrates, HasEnabled}
+use Rattle.krates.specs.Drawn.{IsDrawn}
+use Rattle.krates.specs.Kept.{KeptCrates, HasEnabled, ids_of, values_of}
 
 -- ---- the document
 
@@ -74,15 +76,23 @@ pub record IsReported {F : Type 0} (filters : F → Package → F → Type 0) (m
   pub not_kept : AreThosePackages m.packages.items (DropsCrate (metadata_view m) s) ids others
   pub run : FoldsTo filters before others after
 
+-- The values are made, place by place, of exactly the packages whose id is one of those.
+pub record AreMadeOfThose {N : Type 0} (made : Package → N → Type 0) (all : List Package) (P : Id → Type 0) (ids : List Identity) (values : List N) : Type 0 where
+  pub packages : List Package
+  pub those : AreThosePackages all P ids packages
+  pub made_of : AllZip made packages values
+
 -- All that is true of what a build keeps of a document, and of what it reports.
-pub record IsBuilt {F : Type 0} (filters : F → Package → F → Type 0) (m : Metadata) (s : SettingModel) (before after : F) (k : KeptCrates) : Type 0 where
+pub record IsBuilt {F N E : Type 0} (filters : F → Package → F → Type 0) (made : Package → N → Type 0) (made_edge : Edge → E → Type 0) (m : Metadata) (s : SettingModel) (before after : F) (k : KeptCrates N E) : Type 0 where
   -- the crates with a derivation are kept, and no others
-  pub kept : (i : Id) → KeepsCrate (metadata_view m) s i ↔ Contains (map id_of k.ids) i
+  pub kept : (i : Id) → KeepsCrate (metadata_view m) s i ↔ Contains (map id_of (ids_of k)) i
   pub some : (i : Id) × KeepsCrate (metadata_view m) s i
   pub none_lost : (c : Cause) → IsLost (metadata_view m) s c → ⊥
-  pub packages : AreThosePackages m.packages.items (KeepsCrate (metadata_view m) s) k.ids k.packages
+  pub values : AreMadeOfThose made m.packages.items (KeepsCrate (metadata_view m) s) (ids_of k) (values_of k)
   -- of the kept crates the features with a derivation are enabled, and no others
   pub enabled : (i : Id) (f : Text) → IsDerived (metadata_view m) s (Feature i f) ↔ HasEnabled k i f
+  -- the graph is the drawing of what is kept, number by number
+  pub drawn : IsDrawn made_edge (metadata_view m) s k.graph
   pub root : k.workspace_root ≡ text_view m.workspace_root
   -- the work is that of the document's selection, in which each crate, each feature and each reference is counted once
   pub work : (x : Selection) × IsSelectionOf (metadata_view m) s x × (k.work ≡ x.work)

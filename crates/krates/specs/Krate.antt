@@ -18,6 +18,10 @@ krate_cmp = on (λ k. k.id) id_cmp
 abbrev pub krate_ids : List Krate → List Identity
 krate_ids krates = map (λ k. k.id) krates
 
+-- the packages of these crates
+abbrev pub krate_packages : List Krate → List Package
+krate_packages krates = map (λ k. k.pkg) krates
+
 -- each package with the id at its place
 abbrev pub paired : List Package → List Identity → List Krate
 paired packages ids = map (λ pair. record { id = pair.1; pkg = pair.0 }) (zip packages ids)

@@ -4,7 +4,12 @@ pub mod Builder
 pub mod BuilderModel
 pub mod Cargo
 pub mod Division
+pub mod Drawn
 pub mod Enabled
 pub mod Indexed
 pub mod Kept
+pub mod KeptGraph
 pub mod Krate
+pub mod MadeNodes
+pub mod Node
+pub mod NodeOrder

@@ -14,12 +14,15 @@ ghost use Rattle.krates.specs.BuilderModel.{AsksForCrates, at_targets, excluding
 ghost use Rattle.krates.specs.Indexed.{IsAskable, Sees};
 
 use crate::division::divide;
-use crate::enabled::enabled_of;
+use crate::drawn::{graph_of, sheet_for};
 use crate::filter::{OnFilter, report};
+use crate::from_package::FromPackage;
 use crate::indexed::{IndexSource, seen_through};
 use crate::kept::Krates;
 use crate::krate::Krate;
 use krates_cm::Metadata;
+use krates_drawing::laws as drawing_laws;
+use krates_drawing::store::FromEdge;
 use krates_ids::{BuildIndexCache, Error, PkgSpec, laws};
 use krates_resolve::{DepKind, Ids, Scope, Setting, admit, select};
 use krates_text::target::Target;
@@ -165,8 +168,9 @@ impl Builder {
         self
     }
 
-    /// Keeps exactly the crates of the document that have a derivation from the roots by the rules, and hands every other
-    /// package to the filter, once, in the order of their ids.
+    /// Keeps exactly the crates, the enabled features and the dependency edges of the document that have a derivation from the
+    /// roots by the rules, and draws exactly their graph, with what `N` makes of each package and `E` of each edge. When the
+    /// graph is finished, it hands every other package to the filter, once, in the order of their ids.
     ///
     /// With an index, all of this is meant of the document whose packages are corrected by what the index answers; only
     /// whether the document can be resolved is asked of it as it is given, and does not depend on the correction.
@@ -175,16 +179,16 @@ impl Builder {
     /// resolved, as `Lost` where it lacks what some derivation asks for, as `NoRootKrates` where no crate would be kept,
     /// and as `TooMany` where more crates would be kept than can be numbered. `Memory` may stand in place of any answer. After
     /// each refusal the filter is as it was.
-    pub fn build_with_metadata<F: OnFilter>(
+    pub fn build_with_metadata<N: FromPackage + Drop, E: FromEdge + Drop, F: OnFilter>(
         self,
         metadata: Metadata,
         filter: &mut F,
-    ) -> Result<Krates, Error>
+    ) -> Result<Krates<N, E>, Error>
         requires askable { IsResolvable (metadata_view metadata)
             → IsAskable (λ source. BuildIndexCache.pre source.build) self.index metadata }
         requires callable { F.can_filter filter.old }
         ensures admitted { OnOk result (IsResolvable (metadata_view metadata)) }
-        ensures built { IfOk result (λ krates. Sees (λ source. BuildIndexCache.post source.build) self.index metadata (λ seen. IsBuilt F.filters seen self.setting filter.old filter.new krates)) }
+        ensures built { IfOk result (λ krates. Sees (λ source. BuildIndexCache.post source.build) self.index metadata (λ seen. IsBuilt F.filters N.made_from E.made_from_edge seen self.setting filter.old filter.new krates)) }
         ensures callable { F.can_filter filter.new }
         ensures refused { IfErr result (BuildRefusal (λ source. BuildIndexCache.post source.build) self.index metadata self.setting) }
         ensures unchanged { OnErr result (filter.new ≡ filter.old) }
@@ -201,42 +205,41 @@ impl Builder {
 }
 
 /// Builds of a document that was admitted with these ids.
-fn build_admitted<F: OnFilter>(
+fn build_admitted<N: FromPackage + Drop, E: FromEdge + Drop, F: OnFilter>(
     alloc: Global,
     setting: &Setting,
     metadata: Metadata,
     ids: Ids,
     filter: &mut F,
-) -> Result<Krates, Error>
+) -> Result<Krates<N, E>, Error>
     requires admitted { IsAdmitted (metadata_view metadata) (ids_view ids) }
     requires callable { F.can_filter filter.old }
-    ensures built { IfOk result (IsBuilt F.filters metadata setting.now filter.old filter.new) }
+    ensures built { IfOk result (IsBuilt F.filters N.made_from E.made_from_edge metadata setting.now filter.old filter.new) }
     ensures callable { F.can_filter filter.new }
     ensures refused { IfErr result (GraphRefusal (metadata_view metadata) setting.now) }
     ensures unchanged { OnErr result (filter.new ≡ filter.old) }
 {
     laws::one_reading();
     laws::comparison();
+    drawing_laws::ends_stand();
     let selection = select(alloc, &metadata, &ids, setting)?;
-    let division = divide(alloc, metadata.packages, ids.packages, &selection.krates)?;
-    expect_numbered(&division.kept)?;
-    let features = enabled_of(alloc, &division.kept, selection.features)?;
+    let work = selection.work;
+    let sheet = sheet_for(alloc, &metadata, &ids, selection)?;
+    let division = divide(alloc, metadata.packages, ids.packages, &sheet.krates)?;
+    let count = numbered(&division.kept)?;
+    let graph = graph_of(alloc, sheet, division.kept)?;
     report(division.others, filter);
-    Ok(Krates::new(
-        division.kept,
-        features,
-        metadata.workspace_root,
-        selection.work,
-    ))
+    Ok(Krates::new(graph, count, metadata.workspace_root, work))
 }
 
-/// Refuses more crates than can be numbered.
-fn expect_numbered(kept: &[Krate]) -> Result<(), Error>
-    ensures numbered { OnOk result (length kept.now < 2 ^ 32) }
+/// How many crates there are. More than can be numbered are refused.
+fn numbered(kept: &[Krate]) -> Result<usize, Error>
+    ensures counted { IfOk result (λ count. (count ≡ length kept.now) × (count < 2 ^ 32)) }
     ensures refused { IfErr result (CountRefusal (length kept.now)) }
 {
-    if kept.len() > u32::MAX as usize {
+    let count = kept.len();
+    if count > u32::MAX as usize {
         return Err(Error::TooMany);
     }
-    Ok(())
+    Ok(count)
 }

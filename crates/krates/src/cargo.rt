@@ -10,8 +10,10 @@ ghost use Rattle.krates.specs.Indexed.{IsAskable, Sees};
 
 use crate::builder::Builder;
 use crate::filter::OnFilter;
+use crate::from_package::FromPackage;
 use crate::kept::Krates;
 use krates_cargo::MetadataCommand;
+use krates_drawing::store::FromEdge;
 use krates_ids::{BuildIndexCache, Error};
 use std::process::Processes;
 
@@ -23,19 +25,19 @@ impl Builder {
     /// build of the document is. `Memory` may stand in place of any answer. After each refusal the filter is as it was.
     ///
     /// An index has to be callable on the names of each document that cargo may write.
-    pub fn build<F: OnFilter>(
+    pub fn build<N: FromPackage + Drop, E: FromEdge + Drop, F: OnFilter>(
         self,
         command: MetadataCommand,
         cargo: Option<&str>,
         processes: &impl Processes,
         filter: &mut F,
-    ) -> Result<Krates, Error>
+    ) -> Result<Krates<N, E>, Error>
         requires askable { (m : Metadata) → IsSomeAnswer (metadata_view m) → IsResolvable (metadata_view m)
             → IsAskable (λ source. BuildIndexCache.pre source.build) self.index m }
         requires callable { F.can_filter filter.old }
         ensures built { IfOk result (λ krates. IsWritten (λ m. IsResolvable (metadata_view m)
             × Sees (λ source. BuildIndexCache.post source.build) self.index m
-            (λ seen. IsBuilt F.filters seen self.setting filter.old filter.new krates))) }
+            (λ seen. IsBuilt F.filters N.made_from E.made_from_edge seen self.setting filter.old filter.new krates))) }
         ensures callable { F.can_filter filter.new }
         ensures refused { IfErr result
             (CargoBuildRefusal (λ source. BuildIndexCache.post source.build) self.index self.setting) }

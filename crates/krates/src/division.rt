@@ -6,11 +6,12 @@ ghost use Rattle.std.specs.List.Sorted.{IsStrictlySortedBy};
 ghost use Rattle.krates_cm.specs.Document.{id_view};
 ghost use Rattle.krates_ids.specs.Identity.{Reads, id_cmp};
 ghost use Rattle.krates_document.specs.AdmissionSteps.{AreDistinct};
-ghost use Rattle.krates.specs.Division.{IsDivision, has_same, is_selected};
+ghost use Rattle.krates.specs.Division.{IsDivision, has_same, is_selected, sheet_ids};
 ghost use Rattle.krates.specs.Krate.{paired};
 
 use crate::krate::Krate;
 use krates_cm::Package;
+use krates_drawing::sheet;
 use krates_ids::{Kid, laws};
 use std::alloc::{AllocError, Global};
 
@@ -28,12 +29,12 @@ pub(crate) fn divide(
     alloc: Global,
     packages: Vec<Package>,
     ids: Vec<Kid>,
-    selected: &[Kid],
+    selected: &[sheet::Krate],
 ) -> Result<Division, AllocError>
     requires read { AllZip Reads (map (λ p. id_view p.id) packages.items) ids.items }
     requires distinct { AreDistinct ids.items }
-    requires ascending { IsStrictlySortedBy id_cmp selected.now }
-    ensures { IfOk result (IsDivision packages.items selected.now) }
+    requires ascending { IsStrictlySortedBy id_cmp (sheet_ids selected.now) }
+    ensures { IfOk result (IsDivision packages.items (sheet_ids selected.now)) }
 {
     laws::one_reading();
     laws::comparison();
@@ -54,10 +55,14 @@ fn with_ids(alloc: Global, packages: Vec<Package>, ids: Vec<Kid>) -> Result<Vec<
 }
 
 /// Divides crates, and leaves them in their order.
-fn divided(alloc: Global, krates: Vec<Krate>, selected: &[Kid]) -> Result<Division, AllocError>
-    requires { IsStrictlySortedBy id_cmp selected.now }
-    ensures kept { IfOk result (λ d. d.kept.items ≡ filter (is_selected selected.now) krates.items) }
-    ensures others { IfOk result (λ d. d.others.items ≡ filter (λ k. not (is_selected selected.now k)) krates.items) }
+fn divided(
+    alloc: Global,
+    krates: Vec<Krate>,
+    selected: &[sheet::Krate],
+) -> Result<Division, AllocError>
+    requires { IsStrictlySortedBy id_cmp (sheet_ids selected.now) }
+    ensures kept { IfOk result (λ d. d.kept.items ≡ filter (is_selected (sheet_ids selected.now)) krates.items) }
+    ensures others { IfOk result (λ d. d.others.items ≡ filter (λ k. not (is_selected (sheet_ids selected.now) k)) krates.items) }
 {
     let mut kept = Vec::new(alloc);
     let mut others = Vec::new(alloc);
@@ -71,11 +76,14 @@ fn divided(alloc: Global, krates: Vec<Krate>, selected: &[Kid]) -> Result<Divisi
     Ok(Division { kept, others })
 }
 
-/// Whether an id is one of a list in order.
-fn has(ids: &[Kid], id: &Kid) -> bool
-    requires { IsStrictlySortedBy id_cmp ids.now }
-    ensures { result ≡ has_same ids.now id.now }
+/// Whether an id is that of a crate, among crates in the order of their ids.
+fn has(krates: &[sheet::Krate], id: &Kid) -> bool
+    requires { IsStrictlySortedBy id_cmp (sheet_ids krates.now) }
+    ensures { result ≡ has_same (sheet_ids krates.now) id.now }
 {
     laws::comparison();
-    ids.binary_search(id).is_ok()
+    match krates.binary_search_by(|krate| krate.id.cmp(id)) {
+        Ok(_) => true,
+        Err(_) => false,
+    }
 }

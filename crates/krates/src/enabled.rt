@@ -8,12 +8,10 @@ ghost use Rattle.krates.specs.Enabled.{AreEnabledSets, IsPut};
 ghost use Rattle.krates.specs.Krate.{krate_ids};
 
 use crate::krate::{Krate, place_of};
+use crate::node::EnabledFeatures;
 use krates_resolve::EnabledFeature;
 use std::alloc::{AllocError, Global};
 use std::collections::BTreeSet;
-
-/// The enabled features of a crate, in the order of their names as bytes.
-pub type EnabledFeatures = BTreeSet<String>;
 
 /// The enabled features of each of these crates, in the order of the crates. Features of other crates are left out.
 pub(crate) fn enabled_of(

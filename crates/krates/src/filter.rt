@@ -3,7 +3,7 @@
 ghost use Rattle.std.specs.Prelude.{◌≡◌};
 ghost use Rattle.std.specs.List.{FoldsTo};
 ghost use Rattle.krates_cm.specs.declared.package.Package.{Package};
-ghost use Rattle.krates.specs.Kept.{krate_packages};
+ghost use Rattle.krates.specs.Krate.{krate_packages};
 
 use crate::krate::Krate;
 use krates_cm::Package;
@@ -32,6 +32,22 @@ impl OnFilter for NoneFilter {
 
     fn filtered(&mut self, pkg: Package) {
         drop(pkg);
+    }
+}
+
+/// A filter that calls this closure with each package.
+///
+/// The closure has to be callable again and again, which a build asks for.
+#[derive(Drop)]
+pub struct FilterFn<F>(pub F);
+
+impl<F: FnMut(Package)> OnFilter for FilterFn<F> {
+    ghost can_filter = { λ filter. F.IsAlwaysCallable filter.0 };
+
+    ghost filters = { λ old pkg new. F.step old.0 pkg tt new.0 };
+
+    fn filtered(&mut self, pkg: Package) {
+        (self.0)(pkg)
     }
 }
 

@@ -1,60 +1,59 @@
 //! The crates that a build keeps.
 
-ghost use Rattle.std.specs.Prelude.{◌≡◌, ◌↔◌, ℕ, ◌<◌, ◌^◌, List, MatchOption, Some, length, string_bytes};
+ghost use Rattle.std.specs.Prelude.{◌≡◌, ◌↔◌, ℕ, ◌<◌, ◌^◌, MatchOption, Some, length, string_bytes};
 ghost use Rattle.std.specs.Iterator.{YieldsFirstRef, item_count};
 ghost use Rattle.krates_rules.specs.Resolved.{id_of, StandsAt};
-ghost use Rattle.krates.specs.Kept.{AreOrdered, AreKept, HasFeatures, kept_crates, names_in};
+ghost use Rattle.krates.specs.Kept.{AreNodes, AreOrdered, HasFeatures, features_of, ids_of, values_of};
+ghost use Rattle.krates.specs.Node.{CratesFirst, crate_ids, names_in};
 
-use crate::enabled::EnabledFeatures;
-use crate::krate::{Krate, place_of};
+use crate::node::{EnabledFeatures, Node};
+use crate::numbers::{features_at, number_of};
 use krates_cm::Package;
-use krates_graph::graph::NodeId;
+use krates_drawing::edge::Edge;
+use krates_graph::graph::{Graph, NodeId};
 use krates_ids::Kid;
 use krates_resolve::Work;
 use std::marker::Model;
 
-/// The crates that a build keeps: their ids, their packages and their enabled features in the order of the ids, and the path of
-/// the workspace.
+/// The graph of the crates that a build keeps, and the path of the workspace.
 ///
-/// The crates are numbered from 0 in this order.
+/// The nodes of the crates come first, numbered from 0 in the order of their ids; then one for each enabled feature, in the
+/// order of the crates and then of the names. `N` stands for the packages of the crates, and `E` for the edges.
 #[derive(Debug, Drop)]
-pub struct Krates {
-    kept: Vec<Krate>,
-    features: Vec<EnabledFeatures>,
+pub struct Krates<N = Package, E = Edge> {
+    graph: Graph<Node<N>, E>,
+    count: usize,
     workspace_root: String,
     work: Work,
 }
 
-impl Model for Krates {
-    ghost use Rattle.std.specs.Prelude.{string_bytes};
-    ghost use Rattle.krates.specs.Kept.{KeptCrates, AreKept, kept_crates};
+impl<N, E> Model for Krates<N, E> {
+    ghost use Rattle.std.specs.Prelude.{◌≡◌, length, string_bytes};
+    ghost use Rattle.krates.specs.Kept.{AreNodes, KeptCrates};
+    ghost use Rattle.krates.specs.Node.{crate_ids};
 
-    ghost Value = { KeptCrates };
+    ghost Value = { KeptCrates N E };
 
-    ghost use Rattle.std.specs.Coded.{codes};
-    ghost use Rattle.krates_cm.specs.contracts.package.Package as packages;
+    ghost view = { λ k. record { graph = k.graph; workspace_root = string_bytes k.workspace_root; work = k.work } };
 
-    ghost coded = { Prim.hlevel (codes, packages.the_row.coded) };
-
-    ghost view = { λ k. kept_crates k.kept.items k.features.items (string_bytes k.workspace_root) k.work };
-
-    ghost invariant = { λ k. AreKept k.kept.items k.features.items };
+    ghost invariant = { λ k. AreNodes k.graph.nodes × (k.count ≡ length (crate_ids k.graph.nodes)) };
 }
 
-impl Krates {
-    /// These crates, with these enabled features, of a workspace at this path, found by this work.
+impl<N, E> Krates<N, E> {
+    /// This graph, with so many crates, of a workspace at this path, found by this work.
     pub(crate) fn new(
-        kept: Vec<Krate>,
-        features: Vec<EnabledFeatures>,
+        graph: Graph<Node<N>, E>,
+        count: usize,
         workspace_root: String,
         work: Work,
-    ) -> Krates
-        requires { AreKept kept.items features.items }
-        ensures { result ≡ kept_crates kept.items features.items (string_bytes workspace_root) work }
+    ) -> Krates<N, E>
+        requires nodes { AreNodes graph.nodes }
+        requires counted { count ≡ length (crate_ids graph.nodes) }
+        ensures { result ≡ record { graph = graph; workspace_root = string_bytes workspace_root; work = work } }
     {
         Krates {
-            kept,
-            features,
+            graph,
+            count,
             workspace_root,
             work,
         }
@@ -62,39 +61,52 @@ impl Krates {
 
     /// How many crates are kept: at most 4,294,967,295.
     pub fn len(&self) -> usize
-        ensures count { result ≡ length self.now.ids }
+        ensures count { result ≡ length (ids_of self.now) }
         ensures numbered { result < 2 ^ 32 }
     {
-        self.kept.len()
+        self.count
     }
 
-    /// The packages of the kept crates, by increasing id.
-    pub fn krates(&self) -> KratesIter<'_>
-        ensures packages { result ≡ self.now.packages }
-        ensures ordered { AreOrdered self.now.ids }
-        ensures matched { length self.now.packages ≡ length self.now.ids }
+    /// The graph: its nodes and its edges, each at its number.
+    pub fn graph(&self) -> &Graph<Node<N>, E>
+        ensures graph { result.now ≡ self.now.graph }
+        ensures first { CratesFirst result.now.nodes }
+    {
+        &self.graph
+    }
+
+    /// What stands for the packages of the kept crates, by increasing id.
+    pub fn krates(&self) -> KratesIter<'_, N>
+        ensures values { result ≡ values_of self.now }
+        ensures ordered { AreOrdered (ids_of self.now) }
+        ensures matched { length (values_of self.now) ≡ length (ids_of self.now) }
     {
         KratesIter {
-            left: self.kept.as_slice(),
+            left: self.graph.raw_nodes(),
         }
     }
 
     /// The number of a crate: `Some` exactly for a kept crate, with its place in the order of the ids.
     pub fn nid_for_kid(&self, kid: &Kid) -> Option<NodeId>
-        ensures { (n : ℕ) → (result ≡ Some n) ↔ StandsAt self.now.ids (id_of kid.now) n }
+        ensures { (n : ℕ) → (result ≡ Some n) ↔ StandsAt (ids_of self.now) (id_of kid.now) n }
     {
-        let place = place_of(&self.kept, kid)?;
-        Some(NodeId::new(place as u32))
+        match number_of(self.graph.raw_nodes(), kid) {
+            Some(number) => Some(NodeId::new(number as u32)),
+            None => None,
+        }
     }
 
     /// The enabled features of a crate, in the order of their names as bytes: `Some` exactly for a kept crate. A kept crate may have
     /// none, and then the set is empty.
     pub fn get_enabled_features(&self, kid: &Kid) -> Option<&EnabledFeatures>
-        ensures { MatchOption result ((n : ℕ) → StandsAt self.now.ids (id_of kid.now) n → ⊥)
-            (λ features. HasFeatures self.now.ids self.now.features (id_of kid.now) (names_in features.now)) }
+        ensures { MatchOption result ((n : ℕ) → StandsAt (ids_of self.now) (id_of kid.now) n → ⊥)
+            (λ features. HasFeatures (ids_of self.now) (features_of self.now) (id_of kid.now) (names_in features.now)) }
     {
-        let place = self.nid_for_kid(kid)?.index();
-        Some(&self.features[place])
+        let nodes = self.graph.raw_nodes();
+        match number_of(nodes, kid) {
+            Some(number) => features_at(nodes, number),
+            None => None,
+        }
     }
 
     /// How much work it was to find them: how many crates are kept, how many features are enabled, and how many references
@@ -113,39 +125,35 @@ impl Krates {
     }
 }
 
-/// The packages of the kept crates, by increasing id.
+/// What stands for the packages of the kept crates, by increasing id.
 #[derive(Debug, Drop)]
-pub struct KratesIter<'a> {
-    left: &'a [Krate],
+pub struct KratesIter<'a, N> {
+    left: &'a [Node<N>],
 }
 
-impl<'a> Model for KratesIter<'a> {
+impl<'a, N> Model for KratesIter<'a, N> {
     ghost use Rattle.std.specs.Prelude.{List};
-    ghost use Rattle.krates_cm.specs.declared.package.Package.{Package};
-    ghost use Rattle.krates.specs.Kept.{krate_packages};
+    ghost use Rattle.krates.specs.Node.{crate_values};
 
-    ghost Value = { List Package };
+    ghost Value = { List N };
 
-    ghost use Rattle.std.specs.Coded.{codes};
-    ghost use Rattle.krates_cm.specs.contracts.package.Package as packages;
-
-    ghost coded = { Prim.hlevel (codes, packages.the_row.coded) };
-
-    ghost view = { λ iter. krate_packages iter.left.now };
+    ghost view = { λ iter. crate_values iter.left.now };
 }
 
-impl<'a> Iterator for KratesIter<'a> {
-    type Item = &'a Package;
+impl<'a, N> Iterator for KratesIter<'a, N> {
+    type Item = &'a N;
 
     ghost next_gives = { YieldsFirstRef (λ left. left) };
 
     ghost remaining = { item_count (λ left. left) };
 
-    fn next(&mut self) -> Option<&'a Package> {
-        let Some((first, rest)) = self.left.split_first() else {
-            return None;
-        };
-        self.left = rest;
-        Some(&first.pkg)
+    fn next(&mut self) -> Option<&'a N> {
+        while let Some((first, rest)) = self.left.split_first() {
+            self.left = rest;
+            if let Node::Krate { krate, .. } = first {
+                return Some(krate);
+            }
+        }
+        None
     }
 }

@@ -6,20 +6,27 @@
 mod builder;
 mod cargo;
 mod division;
+mod drawn;
 mod enabled;
 mod filter;
+mod from_package;
 mod indexed;
 mod kept;
 mod krate;
 pub mod laws;
+mod node;
+mod nodes;
+mod numbers;
 
 pub use builder::Builder;
-pub use enabled::EnabledFeatures;
-pub use filter::{NoneFilter, OnFilter};
+pub use filter::{FilterFn, NoneFilter, OnFilter};
+pub use from_package::{FromPackage, KrateDetails};
 pub use indexed::IndexSource;
 pub use kept::{Krates, KratesIter};
 pub use krates_cargo::{Cmd, LockOptions};
 pub use krates_cm::{Metadata, Package, PackageId};
+pub use krates_drawing::edge::Edge;
+pub use krates_drawing::store::FromEdge;
 pub use krates_graph::graph::{EdgeId, NodeId};
 pub use krates_graph::{agenda, graph};
 pub use krates_ids::{Error, IdError, Kid, Lost, PkgSpec};
@@ -27,6 +34,7 @@ pub use krates_resolve::{DepKind, Scope, Work};
 pub use krates_text::features::{Feature, ParsedFeature};
 pub use krates_text::target::Target;
 pub use krates_text::{path, target};
+pub use node::{EnabledFeatures, Node};
 pub use semver;
 
 /// The document of `cargo metadata`, and the command whose output it is.

@@ -1,19 +1,22 @@
 -- What a refused build says of a text.
-use Rattle.std.proofs.Common.{◌≡◌, ◌++◌, [], true, Option, None, Some, IfSome, IsUtf8, Result, Ok, Err, IfOk, IfErr, String, Global, string_bytes, sym, ap, subst, ◌∙◌}
+use Rattle.std.proofs.Common.{◌≡◌, ◌∷◌, ◌++◌, List, [], true, Option, None, Some, IfSome, IsUtf8, Result, Ok, Err, IfOk, IfErr, String, Global, string_bytes, refl, sym, ap, subst, ◌∙◌}
+use Rattle.std.specs.List.{AllZip}
 use Rattle.std.specs.Prelude.{⊤}
 use Rattle.krates_cm.specs.Document.{Text, metadata_view}
 use Rattle.krates_cm.specs.Parsing.{IsDocument}
 use Rattle.krates_cm.specs.declared.error.Error as cm
 use Rattle.krates_cm.specs.declared.metadata.Metadata.{Metadata}
+use Rattle.krates_cm.specs.declared.package.Package.{Package}
 use Rattle.krates_cargo.specs.Running.{IsSomeAnswer, IsUnrun}
+use Rattle.krates_drawing.specs.declared.edge.Edge.{Edge}
 use Rattle.krates_ids.specs.declared.error.Error as build
 use Rattle.krates_rules.specs.Setting.{SettingModel}
 use Rattle.krates_ids.specs.declared.error.Error.TheVariants as causes
-use Rattle.krates.specs.Build.{BuildRefusal, IsBuilt, BuildRefusalAsGiven, GraphRefusal, IsResolvable}
+use Rattle.krates.specs.Build.{AreThosePackages, BuildRefusal, KeepsCrate, IsBuilt, BuildRefusalAsGiven, GraphRefusal, IsResolvable}
 use Rattle.krates.specs.Indexed.{Answering, Sees}
 use Rattle.krates_cli.specs.declared.run_error.RunError.{RunError}
 use Rattle.krates_cli.specs.declared.run_error.RunError.TheVariants as errors
-use Rattle.krates.specs.Kept.{KeptCrates}
+use Rattle.krates.specs.Kept.{KeptCrates, ids_of, values_of}
 use Rattle.krates_cli.specs.CargoListing.{CargoRefusal, IsCargoListing}
 use Rattle.krates_cli.specs.Counted.{AppendsFront}
 use Rattle.krates_cli.specs.Lines.{kept_lines, reported_lines}
@@ -106,29 +109,39 @@ cargo_unrun s cause errors.Utf8 unrun becomes = absurd becomes
 cargo_unrun s cause (errors.Build same) unrun becomes = absurd becomes
 cargo_unrun s cause errors.Write unrun becomes = absurd becomes
 
+-- a package stands for itself
+abbrev pub IsItself : Package → Package → Type 0
+IsItself pkg value = value ≡ pkg
+
+itself : (xs ys : List Package) → AllZip IsItself xs ys → xs ≡ ys
+itself [] [] h = refl
+itself [] (y ∷ ys) h = absurd h
+itself (x ∷ xs) [] h = absurd h
+itself (x ∷ xs) (y ∷ ys) h = ap (λ (p : Package). p ∷ xs) (sym h.0) ∙ ap (λ ps. y ∷ ps) (itself xs ys h.1)
+
 -- what a build without an index keeps and reports of a document is its listing
-pub listed : {S : Type 0} (may_answer : Answering S) (index : Option S) (s meant : SettingModel) (lines told : Text) (m : Metadata) (kept : KeptCrates) (before after : Reported) → index ≡ None → s ≡ meant
-    → IsResolvable (metadata_view m) → Sees may_answer index m (λ seen. IsBuilt Reports seen s before after kept) → lines_in before ≡ [] → is_whole after ≡ true → told ≡ lines_in after
-    → lines ≡ kept_lines kept.packages ++ told → IsListingOf meant m lines
-listed may_answer index s meant lines told m kept before after none same resolvable sees empty whole told_is written =
-    let built : IsBuilt Reports m s before after kept = as_given may_answer m (λ seen. IsBuilt Reports seen s before after kept) (subst (λ i. Sees may_answer i m (λ seen. IsBuilt Reports seen s before after kept)) none sees) in
+pub listed : {S : Type 0} (may_answer : Answering S) (index : Option S) (s meant : SettingModel) (lines told : Text) (m : Metadata) (made_edge : Edge → Edge → Type 0) (kept : KeptCrates Package Edge) (before after : Reported) → index ≡ None → s ≡ meant
+    → IsResolvable (metadata_view m) → Sees may_answer index m (λ seen. IsBuilt Reports IsItself made_edge seen s before after kept) → lines_in before ≡ [] → is_whole after ≡ true → told ≡ lines_in after
+    → lines ≡ kept_lines (values_of kept) ++ told → IsListingOf meant m lines
+listed may_answer index s meant lines told m made_edge kept before after none same resolvable sees empty whole told_is written =
+    let built : IsBuilt Reports IsItself made_edge m s before after kept = as_given may_answer m (λ seen. IsBuilt Reports IsItself made_edge seen s before after kept) (subst (λ i. Sees may_answer i m (λ seen. IsBuilt Reports IsItself made_edge seen s before after kept)) none sees) in
     let reported = built.reported in
     let collected = all_reported before reported.others after reported.run whole in
     let others : told ≡ reported_lines reported.others = told_is ∙ collected.1 ∙ ap (λ ls. ls ++ reported_lines reported.others) empty in
     subst (λ t. IsListingOf t m lines) same (record {
-      kept = kept.packages;
+      kept = values_of kept;
       others = reported.others;
       split = record {
         resolvable = resolvable;
         none_lost = built.none_lost;
         some = built.some;
-        kept_ids = kept.ids;
+        kept_ids = ids_of kept;
         every = built.kept;
-        kept_are = built.packages;
+        kept_are = subst (AreThosePackages m.packages.items (KeepsCrate (metadata_view m) s) (ids_of kept)) (itself built.values.packages (values_of kept) built.values.made_of) built.values.those;
         other_ids = reported.ids;
         others_are = reported.not_kept;
       };
-      written = written ∙ ap (λ ls. kept_lines kept.packages ++ ls) others;
+      written = written ∙ ap (λ ls. kept_lines (values_of kept) ++ ls) others;
     })
 
 -- a beginning of the listing of what was read is written

@@ -1,6 +1,7 @@
 //! The lines that are written.
 
 ghost use Rattle.std.specs.Prelude.{◌≡◌, ◌++◌, IfOk, OnOk, string_bytes};
+ghost use Rattle.krates.specs.Kept.{values_of};
 ghost use Rattle.krates_cli.specs.Lines.{kept_lines, line};
 
 use krates::{Krates, Package};
@@ -21,7 +22,7 @@ pub(crate) fn all_lines(
     krates: &Krates,
     reported: &str,
 ) -> Result<String, AllocError>
-    ensures { IfOk result (λ lines. string_bytes lines ≡ kept_lines krates.now.packages ++ reported.now) }
+    ensures { IfOk result (λ lines. string_bytes lines ≡ kept_lines (values_of krates.now) ++ reported.now) }
 {
     let mut lines = String::new(alloc);
     for pkg in krates.krates() {

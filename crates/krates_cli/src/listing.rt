@@ -14,7 +14,7 @@ use crate::options::{Options, set_options};
 use crate::reported::Reported;
 use crate::run_error::RunError;
 use krates::cm::MetadataCommand;
-use krates::{Builder, Metadata};
+use krates::{Builder, Krates, Metadata};
 use std::alloc::Global;
 use std::io::{Read, Write};
 use std::process::Processes;
@@ -37,7 +37,7 @@ fn listing_of(alloc: Global, options: &Options, metadata: Metadata) -> Result<St
     let mut reported = Reported::new(alloc);
     let mut builder = Builder::new(alloc);
     set_options(alloc, options, &mut builder)?;
-    let krates = builder.build_with_metadata(metadata, &mut reported)?;
+    let krates: Krates = builder.build_with_metadata(metadata, &mut reported)?;
     let reported = reported.into_lines()?;
     Ok(all_lines(alloc, &krates, reported.as_str())?)
 }

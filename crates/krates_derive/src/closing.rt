@@ -9,7 +9,7 @@ ghost use Rattle.krates_derive.specs.Basis.{rules_of};
 ghost use Rattle.krates_derive.specs.Claim.{document_in, facts_in};
 ghost use Rattle.krates_derive.specs.Giving.{AllIn, AskedIn, AskedOf, ChildIn, CrateIn, DefaultIn, DepIn, EdgeIn, EdgesIn, FactIn, FeatureIn, FeaturesIn, IsTaken, KeptIn, MeantIn, NamedIn, NamesIn, RootIn, StockIn, TheseRootsIn, ToggledIn, UsedIn, ValueIn, ValuesIn};
 ghost use Rattle.krates_derive.specs.Told.{fact_view, facts_view, told_edge};
-ghost use Rattle.krates_resolve.specs.LookedUp.{lent_ids};
+ghost use Rattle.krates_resolve.specs.DocumentAnswers.{lent_ids};
 ghost use Rattle.krates_rules.specs.Derivation.{IsClosed};
 ghost use Rattle.krates_rules.specs.Resolved.{id_of};
 

@@ -182,6 +182,7 @@ pub fn sheet_of<'a>(
         edges,
         features,
         toggled,
+        work: _,
     } = selection;
     let counts = counts_of(alloc, document, &krates)?;
     let givens = givens_of(alloc, document, &edges)?;

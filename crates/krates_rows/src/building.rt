@@ -79,7 +79,7 @@ pub(crate) fn outcome(alloc: Global, builder: Builder, metadata: Metadata) -> Re
     requires no_index { builder.index ≡ None }
 {
     let mut reported = Reported::new(alloc);
-    let built = builder.build_with_metadata(metadata, &mut reported);
+    let built: Result<Krates, Error> = builder.build_with_metadata(metadata, &mut reported);
     told_of(alloc, built, &reported)
 }
 
@@ -158,7 +158,7 @@ struct Queried;
 impl Question for Queried {
     fn told(alloc: Global, line: &str) -> Result<String, Fail> {
         let metadata = metadata(alloc, line)?;
-        let krates = Builder::new(alloc).build_with_metadata(metadata, &mut NoneFilter)?;
+        let krates: Krates = Builder::new(alloc).build_with_metadata(metadata, &mut NoneFilter)?;
         let mut text = format!(in alloc; "{} of {}", krates.len(), krates.workspace_root())?;
         for name in ["a", "b", "c"] {
             push_answers(&mut text, alloc, &krates, name)?;

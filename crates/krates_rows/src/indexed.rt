@@ -4,7 +4,7 @@ ghost use Rattle.std.specs.Prelude.{⊤};
 
 use crate::building::{Reported, told_of};
 use krates::index::{BuildIndexCache, IndexAnswer, IndexKrate, IndexKrateVersion, PackageNames};
-use krates::{Builder, OnFilter, Package};
+use krates::{Builder, Error, Krates, OnFilter, Package};
 use krates_samples::documents::{metadata, section};
 use krates_samples::table::{Question, Row, hold};
 use semver::Version;
@@ -38,7 +38,7 @@ impl Question for AskedFor {
         let mut builder = Builder::new(alloc);
         builder.with_crates_io_index(build);
         let mut reported = Reported::new(alloc);
-        let built = builder.build_with_metadata(metadata, &mut reported);
+        let built: Result<Krates, Error> = builder.build_with_metadata(metadata, &mut reported);
         let told = told_of(alloc, built, &reported)?;
         Ok(format!(in alloc; "{told}, asked {}", calls.get())?)
     }
@@ -135,7 +135,8 @@ impl Question for Corrected {
         let mut builder = Builder::new(alloc);
         builder.with_crates_io_index(build);
         let mut reported = Features { count: 0 };
-        let answer = match builder.build_with_metadata(metadata, &mut reported) {
+        let built: Result<Krates, Error> = builder.build_with_metadata(metadata, &mut reported);
+        let answer = match built {
             Ok(krates) => format!(in alloc; "{} kept", krates.len())?,
             Err(error) => format!(in alloc; "{error}")?,
         };

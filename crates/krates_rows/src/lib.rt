@@ -13,9 +13,13 @@ mod building;
 #[cfg(test)]
 mod declared;
 #[cfg(test)]
+mod drawing;
+#[cfg(test)]
 mod enabled;
 #[cfg(test)]
 mod indexed;
+#[cfg(test)]
+mod own_types;
 #[cfg(test)]
 mod public_names;
 #[cfg(test)]

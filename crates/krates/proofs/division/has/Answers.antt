@@ -1,6 +1,18 @@
-use Rattle.std.proofs.Common.{◌∙◌}
-use Rattle.krates.proofs.OrderedIds.{found}
+use Rattle.std.proofs.Common.{rules}
+use Rattle.std.proofs.lemmas.Fn.{always_returns_same}
+use Rattle.krates_drawing.specs.declared.sheet.Krate.{Krate}
+use Rattle.krates_ids.specs.Identity.{id_cmp}
+use Rattle.krates.proofs.OrderedIds.{Compares, has_found, has_none}
 use Rattle.krates.proofs.division.has.Goals as goal
 
-pub returns : goal.returns
-returns c = c.is_ok.ensures.value ∙ found (record { total = c.comparison.ensures.total; tells = c.comparison.ensures.order }) c.args.ids.now c.args.id.now _ c.requires c.binary_search.ensures.bound c.binary_search.ensures.position
+pub returns-in-Ok : goal.returns-in-Ok
+returns-in-Ok c =
+    let o : Compares = record { total = c.comparison.ensures.total; tells = c.comparison.ensures.order } in
+    let at = c.in-Ok.ensures.position (λ (k : Krate). id_cmp k.id c.args.id.now) (always_returns_same _ _ _ (λ a r q called. search rules)) in
+    has_found o (λ (k : Krate). k.id) c.args.krates.now c.args.id.now c.in-Ok.field-0 c.in-Ok.ensures.bound at
+
+pub returns-in-Err : goal.returns-in-Err
+returns-in-Err c =
+    let o : Compares = record { total = c.comparison.ensures.total; tells = c.comparison.ensures.order } in
+    let parts = c.in-Err.ensures.position (λ (k : Krate). id_cmp k.id c.args.id.now) (always_returns_same _ _ _ (λ a r q called. search rules)) in
+    has_none o (λ (k : Krate). k.id) c.args.krates.now c.args.id.now c.in-Err.field-0 c.requires parts

@@ -1,5 +1,5 @@
 use Rattle.std.specs.List.{FoldsTo}
-use Rattle.krates.specs.Kept.{krate_packages}
+use Rattle.krates.specs.Krate.{krate_packages}
 use Rattle.krates.proofs.filter.report.Given as goal
 
 abbrev pub invariant-loop-krate : goal.invariant-loop-krate

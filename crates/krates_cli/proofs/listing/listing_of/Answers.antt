@@ -17,6 +17,6 @@ pub returns-clause-listed : goal.returns-clause-listed
 returns-clause-listed c =
     let b = c.set_options.new.builder in
     let e = c.in_ok-set_options.ensures in
-    listed _ b.index b.setting (meant_setting c.args.options.now) (string_bytes c.in_ok-all_lines.field-0) c.as_str.result.now c.args.metadata c.in_ok-krates.krates c.new-reported.result
+    listed _ b.index b.setting (meant_setting c.args.options.now) (string_bytes c.in_ok-all_lines.field-0) c.as_str.result.now c.args.metadata _ c.in_ok-krates.krates c.new-reported.result
     c.build_with_metadata.new.filter (e.index ∙ c.new-builder.ensures.index) e.setting c.in_ok-krates.ensures.admitted c.in_ok-krates.ensures.built c.new-reported.ensures.none c.in_ok-reported.ensures.0
     (c.as_str.ensures.value ∙ c.in_ok-reported.ensures.1) c.in_ok-all_lines.ensures

@@ -4,7 +4,7 @@ use Rattle.krates_derive.specs.Basis.{document_of}
 use Rattle.krates_derive.specs.Giving.{AllIn, TheseRootsIn}
 use Rattle.krates_derive.specs.Told.{facts_view}
 use Rattle.krates_ids.specs.Identity.{Identity}
-use Rattle.krates_resolve.specs.LookedUp.{lent_ids}
+use Rattle.krates_resolve.specs.DocumentAnswers.{lent_ids}
 use Rattle.krates_rules.specs.Facts.{Fact}
 use Rattle.krates_derive.proofs.Givings.{closed_told}
 use Rattle.krates_derive.proofs.closing.is_closed.Goals as goal

@@ -6,7 +6,7 @@ pub build_admitted-requires-clause-admitted : goal.build_admitted-requires-claus
 build_admitted-requires-clause-admitted g c = admitted_seen _ _ c.args.metadata c.in_ok-metadata.metadata (ids_view c.in_ok-ids.ids) c.in_ok-metadata.ensures.seen c.in_ok-ids.ensures.admitted
 
 pub returns-clause-built : goal.returns-clause-built
-returns-clause-built g c = rw (← c.self.view_is) (sees_built _ _ c.args.metadata c.in_ok-metadata.metadata _ _ _ _ _ c.in_ok-metadata.ensures.seen c.build_admitted.ensures.built)
+returns-clause-built g c = rw (← c.self.view_is) (sees_built _ _ c.args.metadata c.in_ok-metadata.metadata _ _ _ _ _ _ _ c.in_ok-metadata.ensures.seen c.build_admitted.ensures.built)
 
 pub returns-clause-refused : goal.returns-clause-refused
 returns-clause-refused g c = rw (← c.self.view_is) (sees_refused _ _ c.args.metadata c.in_ok-metadata.metadata _ (ids_view c.in_ok-ids.ids) _ c.in_ok-ids.ensures.admitted c.in_ok-metadata.ensures.seen c.build_admitted.ensures.refused)

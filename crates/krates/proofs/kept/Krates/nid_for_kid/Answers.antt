@@ -1,34 +1,29 @@
-use Rattle.std.proofs.Common.{rules, ◌≡◌, ◌<◌, ◌^◌, ◌∙◌, ℕ, List, None, Some, length, arith, sym, ap, subst}
-use Rattle.krates_ids.specs.Identity.{Identity}
+use Rattle.std.proofs.Common.{◌≡◌, ◌<◌, ◌^◌, ◌∙◌, ℕ, Some, length, arith, refl, sym, ap}
 use Rattle.krates_rules.specs.Resolved.{id_of, StandsAt}
 use Rattle.krates.specs.Kept.{KeptCrates}
-use Rattle.krates.specs.Krate.{krate_ids}
+use Rattle.krates.specs.Node.{crate_ids}
 use Rattle.krates.proofs.OrderedIds.{stands_within}
 use Rattle.krates.proofs.kept.Krates.nid_for_kid.Goals as goal
 
-pub place_of-requires : goal.place_of-requires
-place_of-requires c = rw c.deref.ensures.value c.self.invariant.ordered.ascending
-
-pub overflow_cast-place : goal.overflow_cast-place
-overflow_cast-place c =
-    let stands = (c.place_of.ensures c.in_ok-place.place).0 c.in_ok-place.was in
-    let within : c.in_ok-place.place < length (krate_ids c.deref.result.now) = stands_within (krate_ids c.deref.result.now) (id_of c.args.kid.now) c.in_ok-place.place stands in
-    let numbered : length (krate_ids c.deref.result.now) < 2 ^ 32 = rw c.deref.ensures.value c.self.invariant.ordered.numbered in
+pub overflow_cast-number : goal.overflow_cast-number
+overflow_cast-number g c =
+    let nodes = c.raw_nodes.result.now in
+    let within : c.in-Some.number < length (crate_ids nodes) = stands_within (crate_ids nodes) (id_of c.args.kid.now) c.in-Some.number ((c.in-Some.ensures c.in-Some.number).0 refl) in
+    let numbered : length (crate_ids nodes) < 2 ^ 32 = rw c.raw_nodes.ensures.nodes c.self.invariant.0.ordered.numbered in
     omega (arith, within, numbered)
 
-pub returns-in_err-place : goal.returns-in_err-place
-returns-in_err-place c n =
-    let same : krate_ids c.deref.result.now ≡ c.args.self.now.ids = ap krate_ids c.deref.ensures.value ∙ ap (λ (v : KeptCrates). v.ids) c.self.view_is in
-    let none : c.place_of.result ≡ None = c.in_err-place.was in
-    let answer : c.from_residual.result ≡ None = search rules in (
-      λ e. absurd (cc (e, answer)),
-      λ h. (let is = (c.place_of.ensures n).1 (subst (λ (ids : List Identity). StandsAt ids (id_of c.args.kid.now) n) (sym same) h) in absurd (cc (is, none))),
+pub returns-in-Some : goal.returns-in-Some
+returns-in-Some g c n =
+    let nodes = c.raw_nodes.result.now in
+    let same : nodes ≡ c.args.self.now.graph.nodes = c.raw_nodes.ensures.nodes ∙ ap (λ (k : KeptCrates g.row.N.Denot g.row.E.Denot). k.graph.nodes) c.self.view_is in (
+      λ e. (let is : c.in-Some.number ≡ n = cc (e, c.new.ensures) in rw (← same) ((c.in-Some.ensures n).0 (ap (λ (k : ℕ). Some k) is))),
+      λ h. (let is = (c.in-Some.ensures n).1 (rw same h) in cc (is, c.new.ensures)),
     )
 
-pub returns : goal.returns
-returns c n =
-    let same : krate_ids c.deref.result.now ≡ c.args.self.now.ids = ap krate_ids c.deref.ensures.value ∙ ap (λ (v : KeptCrates). v.ids) c.self.view_is in
-    let place : c.place_of.result ≡ Some c.in_ok-place.place = c.in_ok-place.was in (
-      λ e. (let is : c.in_ok-place.place ≡ n = cc (e, c.new.ensures) in subst (λ (ids : List Identity). StandsAt ids (id_of c.args.kid.now) n) same ((c.place_of.ensures n).0 (place ∙ ap (λ (k : ℕ). Some k) is))),
-      λ h. (let is = (c.place_of.ensures n).1 (subst (λ (ids : List Identity). StandsAt ids (id_of c.args.kid.now) n) (sym same) h) in cc (is, place, c.new.ensures)),
+pub returns-in-None : goal.returns-in-None
+returns-in-None g c n =
+    let nodes = c.raw_nodes.result.now in
+    let same : nodes ≡ c.args.self.now.graph.nodes = c.raw_nodes.ensures.nodes ∙ ap (λ (k : KeptCrates g.row.N.Denot g.row.E.Denot). k.graph.nodes) c.self.view_is in (
+      λ e. absurd cc,
+      λ h. (let is = (c.in-None.ensures n).1 (rw same h) in absurd cc),
     )

@@ -1,0 +1,207 @@
+-- The graph of what is kept, put together.
+use Rattle.std.proofs.Common.{◌≡◌, ◌↔◌, ◌∙◌, ℕ, ◌<◌, ◌^◌, List, [], ◌∷◌, All, Contains, Some, Result, Ok, Err, IfOk, length, map, refl, sym, ap, subst, inl, inr, Less, Equal}
+use Rattle.std.proofs.lemmas.List.{length-map}
+use Rattle.std.specs.BTreeSet.{BTreeSet}
+use Rattle.std.specs.List.{AllZip, FoldsTo}
+use Rattle.std.specs.List.Sorted.{IsStrictlySortedBy}
+use Rattle.std.specs.Prelude.{String}
+use Rattle.std.specs.declared.alloc.Global.{Global}
+use Rattle.krates_cm.specs.Document.{MetadataModel, Text, text_view, metadata_view}
+use Rattle.krates_cm.specs.declared.metadata.Metadata.{Metadata}
+use Rattle.krates_cm.specs.declared.package.Package.{Package}
+use Rattle.krates_drawing.specs.Drawing.{Line, lines, spots}
+use Rattle.krates_drawing.specs.Ends.{EndsStand, HasEnds}
+use Rattle.krates_drawing.specs.Sheet as model
+use Rattle.krates_drawing.specs.Sheet.{IsKrate, IsNamed, IsSheet}
+use Rattle.krates_drawing.specs.SheetOrder.{IsOrdered}
+use Rattle.krates_drawing.specs.Stored.{IsStoredAs}
+use Rattle.krates_drawing.specs.Views.{krate_view, named_view, sheet_view}
+use Rattle.krates_drawing.specs.declared.edge.Edge.{Edge}
+use Rattle.krates_drawing.specs.declared.sheet.Krate.{Krate as SheetKrate}
+use Rattle.krates_drawing.specs.declared.sheet.Named.{Named}
+use Rattle.krates_drawing.specs.declared.sheet.Sheet.{Sheet}
+use Rattle.krates_graph.specs.Graph.{StoredGraph}
+use Rattle.krates_ids.specs.Identity.{Identity, id_cmp}
+use Rattle.krates_resolve.specs.Selection.{IsSelection, feature_fact}
+use Rattle.krates_resolve.specs.declared.selection.EnabledFeature.{EnabledFeature}
+use Rattle.krates_resolve.specs.declared.selection.Selection.{Selection}
+use Rattle.krates_rules.specs.Admission.{IsAdmitted, IdsModel, NoneDoubled}
+use Rattle.krates_rules.specs.Facts.{Id, Fact, Feature}
+use Rattle.krates_rules.specs.Resolved.{HasGraphWith, Resolved, id_of, resolved}
+use Rattle.krates_rules.specs.Setting.{SettingModel}
+use Rattle.krates.specs.Build.{AreThosePackages, IsBuilt, KeepsCrate}
+use Rattle.krates.specs.Division.{IsAmong, IsDivision, sheet_ids}
+use Rattle.krates.specs.Drawn.{IsSheetFor}
+use Rattle.krates.specs.Enabled.{AreEnabledSets}
+use Rattle.krates.specs.Kept.{AreNodes, IsEnabledIn, names_in_each}
+use Rattle.krates.specs.KeptGraph.{IsGraphOf, named_fact}
+use Rattle.krates.specs.Krate.{krate_ids, krate_packages}
+use Rattle.krates.specs.MadeNodes.{IsMade}
+use Rattle.krates.specs.Node.{crate_ids, crate_values, crate_features, CratesFirst}
+use Rattle.krates.specs.declared.division.Division.{Division}
+use Rattle.krates.specs.declared.krate.Krate.{Krate}
+use Rattle.krates.specs.declared.node.Node.{Node}
+use Rattle.krates.proofs.BuildLemmas.{Builds, builds, enabled}
+use Rattle.krates.proofs.MadeLemmas.{AreDrawnNodes, alike, first_alike, mapped_length}
+use Rattle.krates.proofs.Membership.{member_of, contains_of}
+use Rattle.krates.proofs.DivisionLemmas.{ReadsOnce}
+use Rattle.krates.proofs.OrderedIds.{Compares, HasLike, one_order}
+use Rattle.krates.proofs.SelectionFacts.{Selects, kept_among}
+
+-- ---- the sheet
+
+pub none_doubled_in : (m : MetadataModel) (ids : IdsModel) (r : Resolved) → IsAdmitted m ids → HasGraphWith m (λ g. r ≡ resolved m g) → NoneDoubled r.metadata r.graph
+none_doubled_in m ids r a h =
+    let same : a.graph ≡ h.graph = cc (a.has_graph, h.has_graph) in
+    rw h.holds (subst (λ g. NoneDoubled m g) same a.none_doubled)
+
+-- the document's graph is one
+pub selected_in : (m : MetadataModel) (s : SettingModel) (x : Selection) (r : Resolved) → Selects m s x → HasGraphWith m (λ g. r ≡ resolved m g) → IsSelection r s x
+selected_in m s x r sel h =
+    let same : sel.graph ≡ h.graph = cc (sel.has_graph, h.has_graph) in
+    rw h.holds (subst (λ g. IsSelection (resolved m g) s x) same sel.holds)
+
+pub sheet_told : (m : MetadataModel) (s : SettingModel) (x : Selection) (r : Resolved) (t : model.Sheet) → Selects m s x → HasGraphWith m (λ g. r ≡ resolved m g)
+    → ((s : SettingModel) → IsSelection r s x → IsSheet r s x t) → IsSheetFor m s t
+sheet_told m s x r t sel h f =
+    let selected = selected_in m s x r sel h in
+    record {
+      graph = h.graph;
+      has_graph = h.has_graph;
+      holds = record { selection = x; selected = rw (← h.holds) selected; is_sheet = rw (← h.holds) (f s selected) };
+    }
+
+-- of a call that may refuse
+pub if_sheet_told : {E : Type 0} (m : MetadataModel) (x : Selection) (r : Resolved) (result : Result Sheet E) → HasGraphWith m (λ g. r ≡ resolved m g)
+    → IfOk result (λ t. (s : SettingModel) → IsSelection r s x → IsSheet r s x (sheet_view t)) → IfOk result (λ t. (s : SettingModel) → Selects m s x → IsSheetFor m s (sheet_view t))
+if_sheet_told m x r (Ok t) h f = λ s sel. sheet_told m s x r (sheet_view t) sel h f
+if_sheet_told m x r (Err e) h f = tt
+
+pub if_ordered : {E : Type 0} (m : MetadataModel) (x : Selection) (r : Resolved) (result : Result Sheet E) → HasGraphWith m (λ g. r ≡ resolved m g)
+    → IfOk result (λ t. (s : SettingModel) → IsSelection r s x → IsOrdered t) → IfOk result (λ t. (s : SettingModel) → Selects m s x → IsOrdered t)
+if_ordered m x r (Ok t) h f = λ s sel. f s (selected_in m s x r sel h)
+if_ordered m x r (Err e) h f = tt
+
+-- the ids of the sheet are those of the selection
+ids_same : (r : Resolved) (is : List Identity) (ks : List model.Krate) → AllZip (IsKrate r) is ks → map id_of is ≡ map (λ (k : model.Krate). k.id) ks
+ids_same r [] [] h = refl
+ids_same r [] (k ∷ ks) h = absurd h
+ids_same r (i ∷ is) [] h = absurd h
+ids_same r (i ∷ is) (k ∷ ks) h = ap (λ js. id_of i ∷ js) (ids_same r is ks h.1) ∙ ap (λ j. j ∷ map (λ (x : model.Krate). x.id) ks) (sym h.0.id)
+
+viewed_ids : (ks : List SheetKrate) → map id_of (sheet_ids ks) ≡ map (λ (k : model.Krate). k.id) (map krate_view ks)
+viewed_ids [] = refl
+viewed_ids (k ∷ ks) = ap (λ js. id_of k.id ∷ js) (viewed_ids ks)
+
+-- ---- the features of the sheet
+
+pub facts_in : (ns : List Named) → map feature_fact (map (λ (n : Named). n.feature) ns) ≡ map named_fact (map named_view ns)
+facts_in [] = refl
+facts_in (n ∷ ns) = ap (λ fs. feature_fact n.feature ∷ fs) (facts_in ns)
+
+facts_same : (r : Resolved) (fs : List EnabledFeature) (ns : List model.Named) → AllZip (IsNamed r) fs ns → map feature_fact fs ≡ map named_fact ns
+facts_same r [] [] h = refl
+facts_same r [] (n ∷ ns) h = absurd h
+facts_same r (f ∷ fs) [] h = absurd h
+facts_same r (f ∷ fs) (n ∷ ns) h =
+    ap (λ gs. feature_fact f ∷ gs) (facts_same r fs ns h.1) ∙ ap (λ i. Feature i (text_view f.name) ∷ map named_fact ns) (sym h.0.krate) ∙ ap (λ t. Feature n.krate t ∷ map named_fact ns) (sym h.0.name)
+
+-- ---- the graph of the sheet
+
+pub graph_is : {N E : Type 0} (made : Package → N → Type 0) (made_edge : Edge → E → Type 0) (t : model.Sheet) (krates : List Krate) (sets : List (BTreeSet (String Global))) (features : List EnabledFeature)
+    (nodes : List (Node Package)) (arrows : List Line) → AreDrawnNodes t krates sets nodes → AreEnabledSets (krate_ids krates) features sets → map feature_fact features ≡ map named_fact t.features
+    → arrows ≡ lines t → (g : StoredGraph (Node N) E) → AllZip (IsMade made) nodes g.nodes → AllZip (IsStoredAs made_edge) arrows g.edges → IsGraphOf made made_edge t krates g
+graph_is made made_edge t krates sets features nodes arrows d so facts e g stored edges =
+    let w = alike made nodes g.nodes stored in
+    let ids : crate_ids g.nodes ≡ krate_ids krates = w.ids ∙ d.made.ids in
+    let names : crate_features g.nodes ≡ names_in_each sets = w.features ∙ d.made.features in
+    record {
+      drawing = record { nodes = w.spots_are ∙ d.spots_are; edges = subst (λ ls. AllZip (IsStoredAs made_edge) ls g.edges) e edges };
+      ids = ids;
+      values = subst (λ ps. AllZip made ps (crate_values g.nodes)) d.made.values w.values;
+      enabled = λ i f. rw (ids, names, ← facts) (so i f);
+      first = first_alike made nodes g.nodes stored d.made.first;
+    }
+
+pub if_graph : {N E X : Type 0} (made : Package → N → Type 0) (made_edge : Edge → E → Type 0) (t : model.Sheet) (krates : List Krate) (sets : List (BTreeSet (String Global))) (features : List EnabledFeature)
+    (nodes : List (Node Package)) (arrows : List Line) (result : Result (StoredGraph (Node N) E) X) → AreDrawnNodes t krates sets nodes → AreEnabledSets (krate_ids krates) features sets
+    → map feature_fact features ≡ map named_fact t.features → arrows ≡ lines t → IfOk result (λ g. AllZip (IsMade made) nodes g.nodes) → IfOk result (λ g. AllZip (IsStoredAs made_edge) arrows g.edges)
+    → IfOk result (IsGraphOf made made_edge t krates)
+if_graph made made_edge t krates sets features nodes arrows (Ok g) d so facts e stored edges = graph_is made made_edge t krates sets features nodes arrows d so facts e g stored edges
+if_graph made made_edge t krates sets features nodes arrows (Err x) d so facts e stored edges = tt
+
+-- ---- the nodes of a graph
+
+pub counted : {N : Type 0} (krates : List Krate) (nodes : List (Node N)) → crate_ids nodes ≡ krate_ids krates → length krates ≡ length (crate_ids nodes)
+counted krates nodes e = sym (ap (λ (is : List Identity). length is) e ∙ mapped_length krates)
+
+pub are_nodes : {N : Type 0} (krates : List Krate) (nodes : List (Node N)) → crate_ids nodes ≡ krate_ids krates → CratesFirst nodes → IsStrictlySortedBy id_cmp (krate_ids krates) → length krates < 2 ^ 32 → AreNodes nodes
+are_nodes krates nodes e first s few =
+    let same : length krates ≡ length (crate_ids nodes) = counted krates nodes e in
+    record {
+      ordered = record { ascending = subst (λ ids. IsStrictlySortedBy id_cmp ids) (sym e) s; numbered = subst (λ n. n < 2 ^ 32) same few };
+      first = first;
+    }
+
+-- ends that stand, said of other lists of the same lengths
+pub stand_there : (n m : ℕ) (ls ks : List Line) → All (HasEnds n) ls → n ≡ m → ls ≡ ks → All (HasEnds m) ks
+stand_there n m ls ks h e f = subst (λ xs. All (HasEnds m) xs) f (subst (λ x. All (HasEnds x) ls) e h)
+
+-- ---- what a build has in hand
+
+-- the ids of the sheet are those of the selection
+selected_ids : (m : MetadataModel) (s : SettingModel) (t : Sheet) → (h : IsSheetFor m s (sheet_view t)) → map id_of (sheet_ids t.krates.items) ≡ map id_of h.holds.selection.krates.items
+selected_ids m s t h = viewed_ids t.krates.items ∙ sym (ids_same (resolved m h.graph) h.holds.selection.krates.items (map krate_view t.krates.items) h.holds.is_sheet.krates)
+
+selects : (m : MetadataModel) (s : SettingModel) (t : model.Sheet) → (h : IsSheetFor m s t) → Selects m s h.holds.selection
+selects m s t h = record { graph = h.graph; has_graph = h.has_graph; holds = h.holds.selected }
+
+-- the division of a sheet divides into what has to be kept and the rest
+pub builds_sheet : ReadsOnce → (m : Metadata) (s : SettingModel) (t : Sheet) (d : Division) → IsSheetFor (metadata_view m) s (sheet_view t)
+    → IsDivision m.packages.items (sheet_ids t.krates.items) d → Builds m s d
+builds_sheet once m s t d h div = builds once m s h.holds.selection (sheet_ids t.krates.items) d (selected_ids (metadata_view m) s t h) (selects (metadata_view m) s (sheet_view t) h) div
+
+-- the ids of the kept packages are those of the sheet, place by place
+pub kept_ids : Compares → (m : Metadata) (s : SettingModel) (t : Sheet) (d : Division) → IsSheetFor (metadata_view m) s (sheet_view t) → IsOrdered t → Builds m s d
+    → map id_of (krate_ids d.kept.items) ≡ map (λ (k : model.Krate). k.id) (sheet_view t).krates
+kept_ids o m s t d h ordered b =
+    let x = h.holds.selection in
+    let ids : List Identity = krate_ids d.kept.items in
+    let drawn : List Identity = sheet_ids t.krates.items in
+    let same = selected_ids (metadata_view m) s t h in
+    let sel = selects (metadata_view m) s (sheet_view t) h in
+    let there : HasLike ids drawn = λ i z.
+    (let k = (kept_among (metadata_view m) s x sel i).0 ((b.kept i).1 (contains_of (map id_of ids) i z)) in
+    member_of (map id_of drawn) i (subst (λ js. Contains js i) (sym same) k)) in
+    let back : HasLike drawn ids = λ i z.
+    (let k = subst (λ js. Contains js i) same (contains_of (map id_of drawn) i z) in
+    member_of (map id_of ids) i ((b.kept i).0 ((kept_among (metadata_view m) s x sel i).1 k))) in
+    one_order o.total ids drawn b.packages.ascending ordered.krates there back ∙ viewed_ids t.krates.items
+
+-- the ends of the edges of a sheet stand
+pub sheet_stands : EndsStand → (m : MetadataModel) (s : SettingModel) (t : model.Sheet) → IsSheetFor m s t → All (HasEnds (length (spots t))) (lines t)
+sheet_stands stand m s t h = stand (resolved m h.graph) s h.holds.selection h.holds.selected t h.holds.is_sheet
+
+-- all that a build says of what it keeps and reports
+pub is_built : {F N E : Type 0} (filters : F → Package → F → Type 0) (made : Package → N → Type 0) (made_edge : Edge → E → Type 0) (m : Metadata) (s : SettingModel) (t : Sheet) (d : Division)
+    (g : StoredGraph (Node N) E) (before after : F) (found : Selection) → IsSheetFor (metadata_view m) s (sheet_view t) → Builds m s d → IsGraphOf made made_edge (sheet_view t) d.kept.items g
+    → FoldsTo filters before (krate_packages d.others.items) after → Selects (metadata_view m) s found
+    → IsBuilt filters made made_edge m s before after (record { graph = g; workspace_root = text_view m.workspace_root; work = found.work })
+is_built filters made made_edge m s t d g before after found h b w run selected =
+    let x = h.holds.selection in
+    let facts = facts_same (resolved (metadata_view m) h.graph) x.features.items (sheet_view t).features h.holds.is_sheet.features in
+    record {
+      kept = λ i. subst (λ ids. KeepsCrate (metadata_view m) s i ↔ Contains (map id_of ids) i) (sym w.ids) (b.kept i);
+      some = b.some;
+      none_lost = b.none_lost;
+      values = record {
+        packages = krate_packages d.kept.items;
+        those = subst (λ ids. AreThosePackages m.packages.items (KeepsCrate (metadata_view m) s) ids (krate_packages d.kept.items)) (sym w.ids) b.packages;
+        made_of = w.values;
+      };
+      enabled = enabled m s x d (λ i f. IsEnabledIn (crate_ids g.nodes) (crate_features g.nodes) i f) (map named_fact (sheet_view t).features) (selects (metadata_view m) s (sheet_view t) h) b facts w.enabled;
+      drawn = record { sheet = sheet_view t; is_sheet = h; drawing = w.drawing };
+      root = refl;
+      work = (found, selected, refl);
+      reported = record { ids = krate_ids d.others.items; others = krate_packages d.others.items; not_kept = b.others; run = run };
+    }

@@ -1,0 +1,203 @@
+-- Nodes made of what was drawn and of packages, one by one and as lists.
+use Rattle.std.proofs.Common.{◌≡◌, ◌∙◌, ℕ, suc, List, [], ◌∷◌, ◌++◌, flat_map, length, map, Option, refl, sym, ap, subst}
+use Rattle.std.specs.BTreeSet.{BTreeSet}
+use Rattle.std.specs.Global.{Vec}
+use Rattle.std.specs.List.{AllZip, zip}
+use Rattle.std.specs.Prelude.{String}
+use Rattle.std.specs.declared.alloc.Global.{Global}
+use Rattle.krates_cm.specs.Document.{Text, text_view}
+use Rattle.krates_cm.specs.declared.package.Package.{Package}
+use Rattle.krates_drawing.specs.Drawing as model
+use Rattle.krates_drawing.specs.Drawing.{crate_spot, feature_spot, mapping, spots}
+use Rattle.krates_drawing.specs.Sheet as sheet
+use Rattle.krates_drawing.specs.Sheet.{Sheet}
+use Rattle.krates_drawing.specs.Views.{spot_view}
+use Rattle.krates_drawing.specs.declared.nodes.Spot.{Spot}
+use Rattle.krates_drawing.specs.declared.nodes.Spot.TheVariants as drawn
+use Rattle.krates_ids.specs.Identity.{Identity}
+use Rattle.krates_rules.specs.Facts.{Id}
+use Rattle.krates_rules.specs.Resolved.{id_of}
+use Rattle.krates.specs.Drawn.{node_spot}
+use Rattle.krates.specs.Krate.{krate_ids, krate_packages}
+use Rattle.krates.specs.MadeNodes.{AreNodesWith, IsMade, crate_node, feature_in, mapping_in}
+use Rattle.krates.specs.Node.{crate_ids, crate_values, crate_features, CratesFirst, names_in}
+use Rattle.krates.specs.declared.krate.Krate.{Krate}
+use Rattle.krates.specs.declared.node.Node.{Node}
+use Rattle.krates.specs.declared.node.Node.TheVariants as node
+
+-- one more pair
+pub zip_push : {A B : Type 0} (R : A → B → Type 0) (xs : List A) (ys : List B) (x : A) (y : B) → AllZip R xs ys → R x y → AllZip R (xs ++ x ∷ []) (ys ++ y ∷ [])
+zip_push R [] [] x y h r = (r, tt)
+zip_push R [] (b ∷ ys) x y h r = absurd h
+zip_push R (a ∷ xs) [] x y h r = absurd h
+zip_push R (a ∷ xs) (b ∷ ys) x y h r = (h.0, zip_push R xs ys x y h.1 r)
+
+-- ---- what was drawn, in two lists
+
+abbrev Set : Type 0
+Set = BTreeSet (String Global)
+
+abbrev Mapping : Type 0
+Mapping = Vec (Option ℕ)
+
+record Parted (t : Sheet) (ks : List sheet.Krate) (fs : List sheet.Named) (xs : List Spot) : Type 0 where
+  mappings : flat_map mapping_in xs ≡ map (mapping t) ks
+  features : map node_spot (flat_map feature_in xs) ≡ map (feature_spot t) fs
+
+parted : (t : Sheet) (ks : List sheet.Krate) (fs : List sheet.Named) (xs : List Spot) → map spot_view xs ≡ map (crate_spot t) ks ++ map (feature_spot t) fs → Parted t ks fs xs
+parted t [] [] [] e = record { mappings = refl; features = refl }
+parted t [] [] (x ∷ xs) e = absurd cc
+parted t [] (f ∷ fs) [] e = absurd cc
+parted t [] (f ∷ fs) (drawn.Krate id m ∷ xs) e = absurd cc
+parted t [] (f ∷ fs) (drawn.Feature krate_index name ∷ xs) e =
+    let rest : map spot_view xs ≡ map (feature_spot t) fs = cc in
+    let here : Node Package = node.Feature krate_index name in
+    let head : node_spot here ≡ feature_spot t f = cc in
+    let more = parted t [] fs xs rest in
+    record { mappings = more.mappings; features = ap (λ s. s ∷ map node_spot (flat_map feature_in xs)) head ∙ ap (λ ss. feature_spot t f ∷ ss) more.features }
+parted t (k ∷ ks) fs [] e = absurd cc
+parted t (k ∷ ks) fs (drawn.Feature krate_index name ∷ xs) e = absurd cc
+parted t (k ∷ ks) fs (drawn.Krate id m ∷ xs) e =
+    let rest : map spot_view xs ≡ map (crate_spot t) ks ++ map (feature_spot t) fs = cc in
+    let head : m.items ≡ mapping t k = cc in
+    let more = parted t ks fs xs rest in
+    record { mappings = ap (λ n. n ∷ flat_map mapping_in xs) head ∙ ap (λ ns. mapping t k ∷ ns) more.mappings; features = more.features }
+
+-- ---- nodes that are made of both
+
+-- the features hold no crate
+no_crates : (xs : List Spot) → (crate_ids (flat_map feature_in xs) ≡ []) × (crate_values (flat_map feature_in xs) ≡ []) × (crate_features (flat_map feature_in xs) ≡ []) × CratesFirst (flat_map feature_in xs)
+no_crates [] = (refl, refl, refl, tt)
+no_crates (drawn.Krate id m ∷ xs) = no_crates xs
+no_crates (drawn.Feature krate_index name ∷ xs) = let w = no_crates xs in (w.0, w.1, w.2, w.0)
+
+-- all that is said of the nodes
+pub record AreMadeOf (t : Sheet) (krates : List Krate) (sets : List Set) (nodes : List (Node Package)) : Type 0 where
+  pub ids : crate_ids nodes ≡ krate_ids krates
+  pub values : crate_values nodes ≡ krate_packages krates
+  pub features : crate_features nodes ≡ map names_in sets
+  pub first : CratesFirst nodes
+
+joined : (t : Sheet) (krates : List Krate) (sets : List Set) (maps : List Mapping) (rest : List Spot) → length sets ≡ length krates → length maps ≡ length krates
+    → AreMadeOf t krates sets (map crate_node (zip krates (zip sets maps)) ++ flat_map feature_in rest)
+joined t [] [] [] rest e d = let w = no_crates rest in record { ids = w.0; values = w.1; features = w.2; first = w.3 }
+joined t [] [] (m ∷ maps) rest e d = absurd cc
+joined t [] (s ∷ sets) maps rest e d = absurd cc
+joined t (k ∷ krates) [] maps rest e d = absurd cc
+joined t (k ∷ krates) (s ∷ sets) [] rest e d = absurd cc
+joined t (k ∷ krates) (s ∷ sets) (m ∷ maps) rest e d =
+    let se : length sets ≡ length krates = cc in
+    let de : length maps ≡ length krates = cc in
+    let w = joined t krates sets maps rest se de in
+    record {
+      ids = ap (λ is. k.id ∷ is) w.ids;
+      values = ap (λ ps. k.pkg ∷ ps) w.values;
+      features = ap (λ ls. names_in s ∷ ls) w.features;
+      first = w.first;
+    }
+
+spots_joined : (t : Sheet) (ks : List sheet.Krate) (krates : List Krate) (sets : List Set) (maps : List Mapping) (rest : List (Node Package)) (fs : List model.Spot)
+    → length sets ≡ length krates → map (λ (m : Mapping). m.items) maps ≡ map (mapping t) ks → map id_of (krate_ids krates) ≡ map (λ (k : sheet.Krate). k.id) ks
+    → map node_spot rest ≡ fs → map node_spot (map crate_node (zip krates (zip sets maps)) ++ rest) ≡ map (crate_spot t) ks ++ fs
+spots_joined t [] [] [] [] rest fs e m i r = r
+spots_joined t [] [] [] (n ∷ maps) rest fs e m i r = absurd cc
+spots_joined t [] [] (s ∷ sets) maps rest fs e m i r = absurd cc
+spots_joined t [] (k ∷ krates) sets maps rest fs e m i r = absurd cc
+spots_joined t (k ∷ ks) [] sets maps rest fs e m i r = absurd cc
+spots_joined t (k ∷ ks) (q ∷ krates) [] maps rest fs e m i r = absurd cc
+spots_joined t (k ∷ ks) (q ∷ krates) (s ∷ sets) [] rest fs e m i r = absurd cc
+spots_joined t (k ∷ ks) (q ∷ krates) (s ∷ sets) (n ∷ maps) rest fs e m i r =
+    let se : length sets ≡ length krates = cc in
+    let me : map (λ (x : Mapping). x.items) maps ≡ map (mapping t) ks = cc in
+    let ie : map id_of (krate_ids krates) ≡ map (λ (x : sheet.Krate). x.id) ks = cc in
+    let head : n.items ≡ mapping t k = cc in
+    let id : id_of q.id ≡ k.id = cc in
+    let more = spots_joined t ks krates sets maps rest fs se me ie r in
+    ap (λ ss. model.CrateSpot (id_of q.id) n.items ∷ ss) more ∙ ap (λ (a : Id). model.CrateSpot a n.items ∷ (map (crate_spot t) ks ++ fs)) id ∙ ap (λ b. model.CrateSpot k.id b ∷ (map (crate_spot t) ks ++ fs)) head
+
+same_length : {A B C : Type 0} (f : A → C) (g : B → C) (xs : List A) (ys : List B) → map f xs ≡ map g ys → length xs ≡ length ys
+same_length f g [] [] e = refl
+same_length f g [] (y ∷ ys) e = absurd cc
+same_length f g (x ∷ xs) [] e = absurd cc
+same_length f g (x ∷ xs) (y ∷ ys) e = let rest : map f xs ≡ map g ys = cc in ap suc (same_length f g xs ys rest)
+
+pub mapped_length : (krates : List Krate) → length (krate_ids krates) ≡ length krates
+mapped_length [] = refl
+mapped_length (k ∷ krates) = ap suc (mapped_length krates)
+
+pub record AreDrawnNodes (t : Sheet) (krates : List Krate) (sets : List Set) (nodes : List (Node Package)) : Type 0 where
+  pub made : AreMadeOf t krates sets nodes
+  pub spots_are : map node_spot nodes ≡ spots t
+
+pub drawn_nodes : (t : Sheet) (krates : List Krate) (sets : List Set) (xs : List Spot) (nodes : List (Node Package)) → length sets ≡ length krates → map spot_view xs ≡ spots t
+    → map id_of (krate_ids krates) ≡ map (λ (k : sheet.Krate). k.id) t.krates → AreNodesWith krates sets xs nodes → AreDrawnNodes t krates sets nodes
+drawn_nodes t krates sets xs nodes e d i w =
+    let p = parted t t.krates t.features xs d in
+    let maps : List Mapping = w.mappings in
+    let mapped : map (λ (m : Mapping). m.items) maps ≡ map (mapping t) t.krates = w.drawn ∙ p.mappings in
+    let many : length maps ≡ length t.krates = same_length (λ (m : Mapping). m.items) (mapping t) maps t.krates mapped in
+    let ids : length (krate_ids krates) ≡ length t.krates = same_length id_of (λ (k : sheet.Krate). k.id) (krate_ids krates) t.krates i in
+    let crates : length (krate_ids krates) ≡ length krates = mapped_length krates in
+    let made = joined t krates sets maps xs e (many ∙ sym ids ∙ crates) in
+    let there = spots_joined t t.krates krates sets maps (flat_map feature_in xs) (map (feature_spot t) t.features) e mapped i p.features in
+    record {
+      made = subst (AreMadeOf t krates sets) (sym w.are) made;
+      spots_are = ap (λ (ns : List (Node Package)). map node_spot ns) w.are ∙ there;
+    }
+
+many : {X Y : Type 0} (f : X → Y) (xs : List X) → length xs ≡ length (map f xs)
+many f [] = refl
+many f (x ∷ xs) = ap suc (many f xs)
+
+-- the same, of what a body has in hand
+pub drawn_from : (t : Sheet) (krates : List Krate) (sets : List Set) (xs : List Spot) (maps : List Mapping) (features nodes : List (Node Package)) → length sets ≡ length krates → map spot_view xs ≡ spots t
+    → map id_of (krate_ids krates) ≡ map (λ (k : sheet.Krate). k.id) t.krates → map (λ (m : Mapping). m.items) maps ≡ flat_map mapping_in xs → features ≡ flat_map feature_in xs
+    → nodes ≡ map crate_node (zip krates (zip sets maps)) ++ features → AreDrawnNodes t krates sets nodes
+drawn_from t krates sets xs maps features nodes e d i m f n =
+    drawn_nodes t krates sets xs nodes e d i (record { mappings = maps; drawn = m; are = n ∙ ap (λ (fs : List (Node Package)). map crate_node (zip krates (zip sets maps)) ++ fs) f })
+
+pub count_of : {X Y : Type 0} (f : X → Y) (xs : List X) (ys : List Y) → map f xs ≡ ys → length xs ≡ length ys
+count_of f xs ys e = many f xs ∙ ap length e
+
+-- ---- values in the place of packages
+
+pub record AreAlike {N : Type 0} (made : Package → N → Type 0) (xs : List (Node Package)) (ys : List (Node N)) : Type 0 where
+  pub ids : crate_ids ys ≡ crate_ids xs
+  pub values : AllZip made (crate_values xs) (crate_values ys)
+  pub features : crate_features ys ≡ crate_features xs
+  pub spots_are : map node_spot ys ≡ map node_spot xs
+  pub count : length ys ≡ length xs
+
+pub alike : {N : Type 0} (made : Package → N → Type 0) (xs : List (Node Package)) (ys : List (Node N)) → AllZip (IsMade made) xs ys → AreAlike made xs ys
+alike made [] [] h = record { ids = refl; values = tt; features = refl; spots_are = refl; count = refl }
+alike made [] (y ∷ ys) h = absurd h
+alike made (x ∷ xs) [] h = absurd h
+alike made (node.Krate id pkg fs m ∷ xs) (node.Krate i krate gs n ∷ ys) h =
+    let w = alike made xs ys h.1 in
+    record {
+      ids = ap (λ is. i ∷ is) w.ids ∙ ap (λ j. j ∷ crate_ids xs) h.0.0;
+      values = (h.0.3, w.values);
+      features = ap (λ ls. names_in gs ∷ ls) w.features ∙ ap (λ s. names_in s ∷ crate_features xs) h.0.1;
+      spots_are = ap (λ ss. model.CrateSpot (id_of i) n.items ∷ ss) w.spots_are ∙ ap (λ (j : Identity). model.CrateSpot (id_of j) n.items ∷ map node_spot xs) h.0.0 ∙ ap (λ (k : Mapping). model.CrateSpot (id_of id) k.items ∷ map node_spot xs) h.0.2;
+      count = ap suc w.count;
+    }
+alike made (node.Krate id pkg fs m ∷ xs) (node.Feature k n ∷ ys) h = absurd (h.0)
+alike made (node.Feature krate_index name ∷ xs) (node.Krate i krate gs n ∷ ys) h = absurd (h.0)
+alike made (node.Feature krate_index name ∷ xs) (node.Feature k n ∷ ys) h =
+    let w = alike made xs ys h.1 in
+    record {
+      ids = w.ids;
+      values = w.values;
+      features = w.features;
+      spots_are = ap (λ ss. model.FeatureSpot k (text_view n) ∷ ss) w.spots_are ∙ ap (λ j. model.FeatureSpot j (text_view n) ∷ map node_spot xs) h.0.0 ∙ ap (λ (s : String Global). model.FeatureSpot krate_index (text_view s) ∷ map node_spot xs) h.0.1;
+      count = ap suc w.count;
+    }
+
+pub first_alike : {N : Type 0} (made : Package → N → Type 0) (xs : List (Node Package)) (ys : List (Node N)) → AllZip (IsMade made) xs ys → CratesFirst xs → CratesFirst ys
+first_alike made [] [] h first = tt
+first_alike made [] (y ∷ ys) h first = absurd h
+first_alike made (x ∷ xs) [] h first = absurd h
+first_alike made (node.Krate id pkg fs m ∷ xs) (node.Krate i krate gs n ∷ ys) h first = first_alike made xs ys h.1 first
+first_alike made (node.Krate id pkg fs m ∷ xs) (node.Feature k n ∷ ys) h first = absurd (h.0)
+first_alike made (node.Feature krate_index name ∷ xs) (node.Krate i krate gs n ∷ ys) h first = absurd (h.0)
+first_alike made (node.Feature krate_index name ∷ xs) (node.Feature k n ∷ ys) h first = (alike made xs ys h.1).ids ∙ first

@@ -1,0 +1,38 @@
+use Rattle.std.proofs.Common.{◌≡◌, ◌∙◌, ◌<◌, ◌^◌, List, length, map, sym, ap, subst}
+use Rattle.krates_drawing.specs.Drawing.{Line, lines, spots}
+use Rattle.krates_drawing.specs.Views.{arrow_view, sheet_view}
+use Rattle.krates_drawing.specs.declared.edge.Arrow.{Arrow}
+use Rattle.krates_resolve.specs.Selection.{feature_fact}
+use Rattle.krates_resolve.specs.declared.selection.EnabledFeature.{EnabledFeature}
+use Rattle.krates.specs.Drawn.{node_spot}
+use Rattle.krates.specs.Enabled.{AreEnabledSets}
+use Rattle.krates.specs.Krate.{krate_ids}
+use Rattle.krates.specs.declared.krate.Krate.{Krate}
+use Rattle.krates.proofs.DrawnLemmas.{facts_in, if_graph, stand_there}
+use Rattle.krates.proofs.MadeLemmas.{AreDrawnNodes, count_of, drawn_from}
+use Rattle.krates.proofs.drawn.graph_of.Goals as goal
+
+pub stored-requires-clause-few : goal.stored-requires-clause-few
+stored-requires-clause-few g c =
+    let matched = subst (λ (ks : List Krate). length c.in_ok-sets.sets.items ≡ length ks) c.deref.ensures.value c.in_ok-sets.ensures.matched in
+    let d = drawn_from (sheet_view c.args.sheet) c.args.krates.items c.in_ok-sets.sets.items c.in_ok-plan.plan.spots.items c.in_ok-parts.parts.mappings.items c.in_ok-parts.parts.features.items c.in_ok-nodes.nodes.items matched c.in_ok-plan.ensures.nodes c.requires.ids c.in_ok-parts.ensures.mappings c.in_ok-parts.ensures.features c.in_ok-nodes.ensures in
+    let count = count_of node_spot c.in_ok-nodes.nodes.items (spots (sheet_view c.args.sheet)) d.spots_are in
+    subst (λ n. n < 2 ^ 32) (sym count) c.in_ok-plan.ensures.few
+
+pub stored-requires-clause-stand : goal.stored-requires-clause-stand
+stored-requires-clause-stand g c =
+    let matched = subst (λ (ks : List Krate). length c.in_ok-sets.sets.items ≡ length ks) c.deref.ensures.value c.in_ok-sets.ensures.matched in
+    let d = drawn_from (sheet_view c.args.sheet) c.args.krates.items c.in_ok-sets.sets.items c.in_ok-plan.plan.spots.items c.in_ok-parts.parts.mappings.items c.in_ok-parts.parts.features.items c.in_ok-nodes.nodes.items matched c.in_ok-plan.ensures.nodes c.requires.ids c.in_ok-parts.ensures.mappings c.in_ok-parts.ensures.features c.in_ok-nodes.ensures in
+    let count = count_of node_spot c.in_ok-nodes.nodes.items (spots (sheet_view c.args.sheet)) d.spots_are in
+    let same : map arrow_view c.deref-2.result.now ≡ lines (sheet_view c.args.sheet) = ap (λ (xs : List Arrow). map arrow_view xs) c.deref-2.ensures.value ∙ c.in_ok-plan.ensures.edges in
+    stand_there _ _ _ _ c.requires.stand (sym count) (sym same)
+
+pub returns-clause-graph : goal.returns-clause-graph
+returns-clause-graph g c =
+    let matched = subst (λ (ks : List Krate). length c.in_ok-sets.sets.items ≡ length ks) c.deref.ensures.value c.in_ok-sets.ensures.matched in
+    let d = drawn_from (sheet_view c.args.sheet) c.args.krates.items c.in_ok-sets.sets.items c.in_ok-plan.plan.spots.items c.in_ok-parts.parts.mappings.items c.in_ok-parts.parts.features.items c.in_ok-nodes.nodes.items matched c.in_ok-plan.ensures.nodes c.requires.ids c.in_ok-parts.ensures.mappings c.in_ok-parts.ensures.features c.in_ok-nodes.ensures in
+    let same : map arrow_view c.deref-2.result.now ≡ lines (sheet_view c.args.sheet) = ap (λ (xs : List Arrow). map arrow_view xs) c.deref-2.ensures.value ∙ c.in_ok-plan.ensures.edges in
+    let so = subst (λ (ks : List Krate). AreEnabledSets (krate_ids ks) c.in_ok-features.features.items c.in_ok-sets.sets.items) c.deref.ensures.value c.in_ok-sets.ensures.enabled in
+    let facts = ap (λ (fs : List EnabledFeature). map feature_fact fs) c.in_ok-features.ensures ∙ facts_in c.args.sheet.features.items in
+    if_graph g.N.FromPackage.made_from g.E.FromEdge.made_from_edge (sheet_view c.args.sheet) c.args.krates.items c.in_ok-sets.sets.items c.in_ok-features.features.items c.in_ok-nodes.nodes.items
+    (map arrow_view c.deref-2.result.now) c.stored.result d so facts same c.stored.ensures.nodes c.stored.ensures.edges

@@ -1,0 +1,28 @@
+-- The stored graph of a sheet, with the packages of its crates.
+use Rattle.std.specs.Prelude.{◌≡◌, ◌↔◌, List, Contains, map}
+use Rattle.std.specs.List.{AllZip}
+use Rattle.krates_cm.specs.Document.{Text}
+use Rattle.krates_cm.specs.declared.package.Package.{Package}
+use Rattle.krates_drawing.specs.Sheet.{Named, Sheet}
+use Rattle.krates_drawing.specs.declared.edge.Edge.{Edge}
+use Rattle.krates_graph.specs.Graph.{StoredGraph}
+use Rattle.krates_rules.specs.Facts.{Id, Fact, Feature}
+use Rattle.krates.specs.Division.{IsAmong}
+use Rattle.krates.specs.Drawn.{IsDrawing}
+use Rattle.krates.specs.Kept.{IsEnabledIn}
+use Rattle.krates.specs.Krate.{krate_ids, krate_packages}
+use Rattle.krates.specs.Node.{crate_ids, crate_values, crate_features, CratesFirst}
+use Rattle.krates.specs.declared.krate.Krate.{Krate}
+use Rattle.krates.specs.declared.node.Node.{Node}
+
+abbrev pub named_fact : Named → Fact
+named_fact n = Feature n.krate n.name
+
+-- The graph is the drawing of the sheet; its crates are these, with what is made of their packages, and their enabled features
+-- are those of the sheet.
+pub record IsGraphOf {N E : Type 0} (made : Package → N → Type 0) (made_edge : Edge → E → Type 0) (t : Sheet) (krates : List Krate) (g : StoredGraph (Node N) E) : Type 0 where
+  pub drawing : IsDrawing made_edge t g
+  pub ids : crate_ids g.nodes ≡ krate_ids krates
+  pub values : AllZip made (krate_packages krates) (crate_values g.nodes)
+  pub enabled : (i : Id) (f : Text) → IsEnabledIn (crate_ids g.nodes) (crate_features g.nodes) i f ↔ (IsAmong (krate_ids krates) i × Contains (map named_fact t.features) (Feature i f))
+  pub first : CratesFirst g.nodes

@@ -1,0 +1,50 @@
+-- How nodes are made of what was drawn and of packages.
+use Rattle.std.specs.Prelude.{◌≡◌, ℕ, List, [], ◌∷◌, ◌++◌, Option, String, flat_map, map}
+use Rattle.std.specs.BTreeSet.{BTreeSet}
+use Rattle.std.specs.Global.{Vec}
+use Rattle.std.specs.List.{zip}
+use Rattle.std.specs.declared.alloc.Global.{Global}
+use Rattle.krates_cm.specs.declared.package.Package.{Package}
+use Rattle.krates_drawing.specs.declared.nodes.Spot.{Spot}
+use Rattle.krates_drawing.specs.declared.nodes.Spot.TheVariants as drawn
+use Rattle.krates.specs.declared.krate.Krate.{Krate}
+use Rattle.krates.specs.declared.node.Node.{Node}
+use Rattle.krates.specs.declared.node.Node.TheVariants as node
+
+abbrev Set : Type 0
+Set = BTreeSet (String Global)
+
+abbrev Mapping : Type 0
+Mapping = Vec (Option ℕ)
+
+-- ---- what was drawn
+
+-- the mapping of a drawn crate
+abbrev pub mapping_in : Spot → List (List (Option ℕ))
+mapping_in (drawn.Krate id mapping) = mapping.items ∷ []
+mapping_in (drawn.Feature krate_index name) = []
+
+-- the node of a drawn feature
+abbrev pub feature_in : Spot → List (Node Package)
+feature_in (drawn.Krate id mapping) = []
+feature_in (drawn.Feature krate_index name) = node.Feature krate_index name ∷ []
+
+-- ---- with packages
+
+-- the node of a crate with these features and this mapping
+abbrev pub crate_node : Krate × (Set × Mapping) → Node Package
+crate_node parts = node.Krate parts.0.id parts.0.pkg parts.1.0 parts.1.1
+
+-- the crates with the features and the mappings at their places, then the features
+pub record AreNodesWith (krates : List Krate) (sets : List (BTreeSet (String Global))) (spots : List Spot) (nodes : List (Node Package)) : Type 0 where
+  pub mappings : List (Vec (Option ℕ))
+  pub drawn : map (λ m. m.items) mappings ≡ flat_map mapping_in spots
+  pub are : nodes ≡ map crate_node (zip krates (zip sets mappings)) ++ flat_map feature_in spots
+
+-- ---- with values in the place of packages
+
+-- the node is the same, but for a value that is made of its package
+abbrev pub IsMade : {N : Type 0} → (Package → N → Type 0) → Node Package → Node N → Type 0
+IsMade made (node.Krate id pkg features mapping) (node.Krate i krate fs m) = (i ≡ id) × (fs ≡ features) × (m ≡ mapping) × made pkg krate
+IsMade made (node.Feature krate_index name) (node.Feature k n) = (k ≡ krate_index) × (n ≡ name)
+IsMade made _ _ = ⊥

@@ -1,0 +1,170 @@
+//! The nodes of the graph: packages moved into what was drawn, and that into the graph.
+
+ghost use Rattle.std.specs.Prelude.{◌≡◌, ◌++◌, [], IfErr, IfOk, OnOk, flat_map, map};
+ghost use Rattle.std.specs.List.{AllZip, zip};
+ghost use Rattle.krates_ids.specs.declared.error.Error.TheVariants.{Memory};
+ghost use Rattle.krates.specs.MadeNodes.{IsMade, crate_node, feature_in, mapping_in};
+
+use crate::from_package::FromPackage;
+use crate::krate::Krate;
+use crate::node::{EnabledFeatures, Node};
+use krates_cm::Package;
+use krates_drawing::nodes::Spot;
+use krates_graph::graph::{Graph, NodeId};
+use krates_ids::Error;
+use std::alloc::{AllocError, Global};
+
+/// What was drawn, without the packages: the mappings of the crates, and the nodes of the features.
+#[derive(Drop)]
+pub(crate) struct Parts {
+    /// The mappings of the crates.
+    pub(crate) mappings: Vec<Vec<Option<NodeId>>>,
+    /// The nodes of the features.
+    pub(crate) features: Vec<Node<Package>>,
+}
+
+/// The mappings of the crates and the nodes of the features, each in the order in which they were drawn.
+pub(crate) fn parts_of(alloc: Global, spots: Vec<Spot>) -> Result<Parts, AllocError>
+    ensures mappings { IfOk result (λ parts. map (λ m. m.items) parts.mappings.items ≡ flat_map mapping_in spots.items) }
+    ensures features { IfOk result (λ parts. parts.features.items ≡ flat_map feature_in spots.items) }
+{
+    let mut mappings = Vec::new(alloc);
+    let mut features = Vec::new(alloc);
+    for spot in spots {
+        push_part(alloc, spot, &mut mappings, &mut features)?;
+    }
+    Ok(Parts { mappings, features })
+}
+
+/// Puts a mapping to the mappings, or a feature to the features.
+fn push_part(
+    alloc: Global,
+    spot: Spot,
+    mappings: &mut Vec<Vec<Option<NodeId>>>,
+    features: &mut Vec<Node<Package>>,
+) -> Result<(), AllocError>
+    ensures mappings { OnOk result (map (λ m. m.items) mappings.new.items ≡ map (λ m. m.items) mappings.old.items ++ mapping_in spot) }
+    ensures features { OnOk result (features.new.items ≡ features.old.items ++ feature_in spot) }
+{
+    match spot {
+        Spot::Krate { id, mapping } => {
+            drop(id);
+            mappings.push(as_nodes(alloc, mapping)?)?;
+        }
+        Spot::Feature { krate_index, name } => {
+            let krate_index = as_node(krate_index)?;
+            features.push(Node::Feature { krate_index, name })?;
+        }
+    }
+    Ok(())
+}
+
+/// The numbers of nodes in a mapping.
+fn as_nodes(alloc: Global, mapping: Vec<Option<usize>>) -> Result<Vec<Option<NodeId>>, AllocError>
+    ensures { IfOk result (λ nodes. nodes.items ≡ mapping.items) }
+{
+    let mut nodes = Vec::new(alloc);
+    for number in mapping {
+        nodes.push(as_node_or_none(number)?)?;
+    }
+    Ok(nodes)
+}
+
+/// The number of a node, where there is one.
+fn as_node_or_none(number: Option<usize>) -> Result<Option<NodeId>, AllocError>
+    ensures { IfOk result (λ node. node ≡ number) }
+{
+    match number {
+        Some(number) => Ok(Some(as_node(number)?)),
+        None => Ok(None),
+    }
+}
+
+/// The number of a node. No graph has room for more nodes than can be numbered.
+fn as_node(number: usize) -> Result<NodeId, AllocError>
+    ensures { IfOk result (λ node. node ≡ number) }
+{
+    if number > u32::MAX as usize {
+        return Err(AllocError);
+    }
+    Ok(NodeId::new(number as u32))
+}
+
+/// Each crate with the features and the mapping at its place.
+fn crates_with(
+    alloc: Global,
+    krates: Vec<Krate>,
+    sets: Vec<EnabledFeatures>,
+    mappings: Vec<Vec<Option<NodeId>>>,
+) -> Result<Vec<Node<Package>>, AllocError>
+    ensures { IfOk result (λ nodes. nodes.items ≡ map crate_node (zip krates.items (zip sets.items mappings.items))) }
+{
+    krates
+        .into_iter()
+        .zip(sets.into_iter().zip(mappings))
+        .map(|(krate, (features, dep_mapping))| Node::Krate {
+            id: krate.id,
+            krate: krate.pkg,
+            features,
+            dep_mapping,
+        })
+        .collect(alloc)
+}
+
+/// The nodes that were drawn, with the packages of the crates and their features.
+pub(crate) fn nodes_of(
+    alloc: Global,
+    krates: Vec<Krate>,
+    sets: Vec<EnabledFeatures>,
+    parts: Parts,
+) -> Result<Vec<Node<Package>>, AllocError>
+    ensures { IfOk result (λ nodes. nodes.items ≡ map crate_node (zip krates.items (zip sets.items parts.mappings.items)) ++ parts.features.items) }
+{
+    let Parts {
+        mappings,
+        mut features,
+    } = parts;
+    let mut nodes = crates_with(alloc, krates, sets, mappings)?;
+    nodes.append(&mut features)?;
+    Ok(nodes)
+}
+
+/// The node with a value in the place of its package.
+fn made<N: FromPackage + Drop>(alloc: Global, node: Node<Package>) -> Result<Node<N>, AllocError>
+    ensures { IfOk result (IsMade N.made_from node) }
+{
+    match node {
+        Node::Krate {
+            id,
+            krate,
+            features,
+            dep_mapping,
+        } => Ok(Node::Krate {
+            id,
+            krate: N::from_package(alloc, krate)?,
+            features,
+            dep_mapping,
+        }),
+        Node::Feature { krate_index, name } => Ok(Node::Feature { krate_index, name }),
+    }
+}
+
+/// Adds the nodes to a graph that has none, in their order, with a value in the place of each package.
+pub(crate) fn store_nodes<N: FromPackage + Drop, E: Drop>(
+    alloc: Global,
+    nodes: Vec<Node<Package>>,
+    graph: &mut Graph<Node<N>, E>,
+) -> Result<(), Error>
+    requires empty { graph.old.nodes ≡ [] }
+    ensures stored { OnOk result (AllZip (IsMade N.made_from) nodes.items graph.new.nodes) }
+    ensures rest { graph.new ≡ record graph.old { nodes = graph.new.nodes } }
+    ensures refused { IfErr result (λ e. e ≡ Memory) }
+{
+    for node in nodes {
+        match graph.add_node(made(alloc, node)?) {
+            Ok(_) => {}
+            Err(_) => return Err(Error::Memory),
+        }
+    }
+    Ok(())
+}

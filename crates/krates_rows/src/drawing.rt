@@ -1,0 +1,140 @@
+//! The graph that a build draws: nodes, mappings and edges, number by number.
+//!
+//! An answer has the nodes, each at its number, and behind a bar the edges. A crate is written as its word, and in brackets the
+//! numbers that its declared dependencies mean; a feature as the number of its crate, a slash and its name. An edge is written
+//! as its two numbers: with `>` between them for a dependency, `=` for a dependency on a feature, and `:` for what a feature
+//! enables. Behind it stands the kind of dependency, where it is no normal one.
+
+use crate::setters::build_as;
+use krates::graph::GraphEdge;
+use krates::{Builder, DepKind, Edge, Krates, Node, NodeId, NoneFilter, Package};
+use krates_samples::documents::{metadata, word_of};
+use krates_samples::table::{Question, Row, hold};
+use std::alloc::Global;
+use std::test::Fail;
+
+/// Adds what the declared dependencies of a crate mean.
+fn push_mapping(text: &mut String, mapping: &[Option<NodeId>]) -> Result<(), Fail> {
+    for number in mapping {
+        match number {
+            Some(number) => write!(text, "[{}]", number.index())?,
+            None => text.push_str("[-]")?,
+        }
+    }
+    Ok(())
+}
+
+/// Adds a node.
+fn push_node(text: &mut String, node: &Node<Package>) -> Result<(), Fail> {
+    match node {
+        Node::Krate {
+            id,
+            dep_mapping,
+            ..
+        } => {
+            text.push_str(word_of(id.repr()))?;
+            push_mapping(text, dep_mapping)?;
+        }
+        Node::Feature { krate_index, name } => {
+            write!(text, "{}/{name}", krate_index.index())?;
+        }
+    }
+    text.push_str(" ")?;
+    Ok(())
+}
+
+/// The mark of an edge, and the kind of dependency that it says, where it says one.
+fn mark_of(edge: &Edge) -> (&'static str, DepKind) {
+    match edge {
+        Edge::Dep { kind, .. } => (">", *kind),
+        Edge::DepFeature { kind, .. } => ("=", *kind),
+        Edge::Feature => (":", DepKind::Normal),
+    }
+}
+
+/// Adds an edge.
+fn push_edge(text: &mut String, edge: &GraphEdge<Edge>) -> Result<(), Fail> {
+    let (mark, kind) = mark_of(&edge.weight);
+    write!(
+        text,
+        " {}{mark}{}",
+        edge.source.index(),
+        edge.target.index()
+    )?;
+    if kind != DepKind::Normal {
+        write!(text, "({kind})")?;
+    }
+    Ok(())
+}
+
+/// The whole graph of a document under the setting of its line.
+struct Graphed;
+
+impl Question for Graphed {
+    fn told(alloc: Global, line: &str) -> Result<String, Fail> {
+        let metadata = metadata(alloc, line)?;
+        let mut builder = Builder::new(alloc);
+        build_as(alloc, &mut builder, line)?;
+        let krates: Krates = builder.build_with_metadata(metadata, &mut NoneFilter)?;
+        let mut text = String::new(alloc);
+        for node in krates.graph().raw_nodes() {
+            push_node(&mut text, node)?;
+        }
+        text.push_str("|")?;
+        for edge in krates.graph().raw_edges() {
+            push_edge(&mut text, edge)?;
+        }
+        Ok(text)
+    }
+}
+
+const GRAPHS: &[Row] = &[
+    // two nodes and an edge, and a cycle
+    ("a b|b", "a[1] b | 0>1"),
+    ("a b|b a", "a[1] b[0] | 0>1 1>0"),
+    // an optional dependency that a feature brings, and a weak reference through it
+    (
+        "a b?;b=dep:b w=b?/j|b;j= / nodes a b;b w|b;j",
+        "a[1] b 0/b 0/w 1/j | 0>1 0:4 2:0 2:1 3:0 3:4 4:1",
+    ),
+    // the same, whatever the order of the document
+    (
+        "b;j=|a b?;w=b?/j b=dep:b / nodes b;j|a b;w b",
+        "a[1] b 0/b 0/w 1/j | 0>1 0:4 2:0 2:1 3:0 3:4 4:1",
+    ),
+    // the weak reference alone keeps nothing
+    (
+        "a b?;b=dep:b w=b?/j|b;j= / nodes a b;w|b;j",
+        "a[-] 0/w | 1:0",
+    ),
+    // `default` given twice
+    (
+        "a b!&with=default|b;default= / nodes a b|b;default",
+        "a[1] b 1/default | 0=2 0=2 2:1",
+    ),
+    // a reference over an edge that is pruned draws nothing
+    (
+        "a b;x=b/nope|b / nodes a b;x|b / without b",
+        "a[-] 0/x | 1:0",
+    ),
+    // of two crates that one declared dependency means, the mapping holds the greatest
+    (
+        "a d|d@0.10.0|d@0.9.0 / nodes a d@0.10.0 d@0.9.0|d@0.10.0|d@0.9.0",
+        "a[2] d@0.10.0 d@0.9.0 | 0>1 0>2",
+    ),
+    // a renamed dependency links the crate
+    (
+        "a real?&as=alias;x=dep:alias|real / nodes a real&as=alias;x|real",
+        "a[1] real 0/x | 0>1 2:0 2:1",
+    ),
+    // a dependency that is optional for one purpose, and isn't for another
+    (
+        "a b? b&dev;w=b?/j|b;j= / nodes a b&normal&dev;w|b;j",
+        "a[-][1] b 0/w 1/j | 0>1(dev) 0:3 2:0 2:3 3:1",
+    ),
+];
+
+#[test]
+fn graphs(rt: HostRuntime) -> Result<(), Fail> {
+    hold::<Graphed>(rt.alloc(), GRAPHS)
+}

@@ -1,0 +1,87 @@
+//! Builds with types of a caller's own in the place of packages and edges, and with a closure as the filter.
+
+ghost use Rattle.std.specs.Prelude.{⊤};
+
+use krates::{Builder, Edge, Error, FilterFn, FromEdge, FromPackage, Krates, Package};
+use krates_samples::documents::metadata;
+use krates_samples::table::{Question, Row, hold};
+use std::alloc::{AllocError, Global};
+use std::test::Fail;
+
+/// The name of a package. There is no room for a package `z`.
+#[derive(Drop)]
+struct Named {
+    name: String,
+}
+
+impl FromPackage for Named {
+    ghost made_from = { λ _ _. ⊤ };
+
+    fn from_package(_alloc: Global, pkg: Package) -> Result<Named, AllocError> {
+        if pkg.name.as_str() == "z" {
+            return Err(AllocError);
+        }
+        Ok(Named { name: pkg.name })
+    }
+}
+
+/// Whether an edge says that a crate depends on a crate.
+#[derive(Drop)]
+struct IsDependency {
+    is: bool,
+}
+
+impl FromEdge for IsDependency {
+    ghost made_from_edge = { λ _ _. ⊤ };
+
+    fn from_edge(_alloc: Global, edge: Edge) -> Result<IsDependency, AllocError> {
+        Ok(IsDependency {
+            is: matches!(edge, Edge::Dep { .. }),
+        })
+    }
+}
+
+/// The names of the kept crates, whether each edge is a dependency, or the refusal; and then the names that a closure was handed.
+struct Own;
+
+impl Question for Own {
+    fn told(alloc: Global, line: &str) -> Result<String, Fail> {
+        let metadata = metadata(alloc, line)?;
+        let mut names = String::new(alloc);
+        let mut filter = FilterFn(|pkg: Package| {
+            let _ = names.push_str(pkg.name.as_str());
+        });
+        let built: Result<Krates<Named, IsDependency>, Error> = Builder::new(
+            alloc,
+        ).build_with_metadata(metadata, &mut filter);
+        drop(filter);
+        let mut text = String::new(alloc);
+        match built {
+            Ok(krates) => {
+                for krate in krates.krates() {
+                    text.push_str(krate.name.as_str())?;
+                }
+                for edge in krates.graph().raw_edges() {
+                    text.push_str(if edge.weight.is { ">" } else { ":" })?;
+                }
+            }
+            Err(error) => write!(text, "{error}")?,
+        }
+        write!(text, ", closure {names}")?;
+        Ok(text)
+    }
+}
+
+const OWN: &[Row] = &[
+    ("a b|b|c|d / nodes a b|b|c|d", "ab>, closure cd"),
+    ("a b;x=|b|c / nodes a b;x|b", "ab>:, closure c"),
+    // no room for a kept package: nothing was reported
+    ("a z|c|z", "out of memory, closure "),
+    // no room is needed for a package that isn't kept
+    ("a|z", "a, closure z"),
+];
+
+#[test]
+fn own_types(rt: HostRuntime) -> Result<(), Fail> {
+    hold::<Own>(rt.alloc(), OWN)
+}
