@@ -3,13 +3,14 @@
 ghost use Rattle.std.specs.Prelude.{⊤};
 
 use crate::stand_in::command;
-use krates::{Builder, OnFilter, Package};
+use krates::{Builder, Error, Krates, OnFilter, Package};
 use krates_cli::{Counted, program};
 use std::alloc::Global;
 use std::str;
 use std::test::Fail;
 
 /// Counts the packages that aren't kept.
+#[derive(Drop)]
 struct Count {
     packages: u32,
 }
@@ -48,7 +49,12 @@ const BUILDS: &[(&str, &str)] = &[
 fn told(rt: &HostRuntime, last: &str) -> Result<String, Fail> {
     let alloc = rt.alloc();
     let mut count = Count { packages: 0 };
-    let built = Builder::new(alloc).build(command(rt, last)?, None, rt, &mut count);
+    let built: Result<Krates, Error> = Builder::new(alloc).build(
+        command(rt, last)?,
+        None,
+        rt,
+        &mut count,
+    );
     match built {
         Ok(krates) => {
             Ok(format!(in alloc; "{} reported, {} kept", count.packages, krates.len())?)
@@ -110,7 +116,9 @@ fn listed(rt: &HostRuntime, line: &str) -> Result<String, Fail> {
     let mut errors = Counted::new(Vec::new(rt.alloc()));
     let words = words_of(rt, line)?;
     let status = program(words.as_slice(), &mut input, &mut output, &mut errors, rt);
-    assert_eq!(rt; input.get_ref().len(), 2, "{line}");
+    if input.get_ref().len() != 2 {
+        return Err(Fail::new(format_args!("{line}: something was read")));
+    }
     let told = str::from_utf8(errors.get_ref().as_slice())?;
     let lines = str::from_utf8(output.get_ref().as_slice())?;
     Ok(format!(in rt.alloc(); "{status} {told}|{lines}")?)

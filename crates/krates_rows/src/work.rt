@@ -1,6 +1,6 @@
 //! How much work a build was: how many crates, features and references were looked at.
 
-use krates::{Builder, NoneFilter};
+use krates::{Builder, Krates, NoneFilter};
 use krates_samples::documents::metadata;
 use krates_samples::table::{Question, Row, hold};
 use std::alloc::Global;
@@ -12,7 +12,7 @@ struct Worked;
 impl Question for Worked {
     fn told(alloc: Global, line: &str) -> Result<String, Fail> {
         let metadata = metadata(alloc, line)?;
-        let krates = Builder::new(alloc).build_with_metadata(metadata, &mut NoneFilter)?;
+        let krates: Krates = Builder::new(alloc).build_with_metadata(metadata, &mut NoneFilter)?;
         let work = krates.work();
         Ok(format!(in alloc; "{}, {}, {}", work.krates, work.features, work.references)?)
     }
