@@ -21,9 +21,12 @@ Written by `scripts/believed.py` from the contract of `Builder::build_with_metad
 ([builder.rt](../{source})), and compared with it by each run of the gate. The proofs need not be read: they are checked.
 What has to be read, to know what is proved, are the contract and the {count} definitions that it reaches: {lines} lines in {files} files.
 
-- {meaning} lines mean something. The mark that this page keeps to is 900.
-- {fields} lines are beyond that mark, and say nothing new: they list the fields of a document, of what an index answers, of a setting
-  and of a document's ids, as clauses see them. Every other definition names such fields, so they stand here too.
+- {meaning} lines say what a document, its ids, its references and a setting mean, and what is kept, reported and refused. The mark
+  that this page keeps to is 900; what is more came with a caller's own types, whose values are made of the kept packages.
+- {drawn} lines are beyond that mark, since the headline speaks of the drawn graph too: which nodes, mappings and edges there are, by
+  number, over a selection whose work is counted.
+- {fields} lines are beyond it, and say nothing new: they list the fields of a document, of what an index answers, of a setting and of
+  a document's ids, as clauses see them. Every other definition names such fields, so they stand here too.
 
 Each definition is explained before it is used, with the sentence that stands above it in its file.
 
@@ -156,15 +159,32 @@ def reached():
     return clauses, order
 
 
+def lines_of(definitions):
+    return sum(len(definition.text.split("\n")) for definition in definitions)
+
+
+def lists_fields(definition):
+    return definition.name.endswith(("_view", "Model"))
+
+
+def is_drawn(definition):
+    """Whether the definition speaks of the drawn graph alone, or of the selection that is drawn."""
+    place = definition.file.path.relative_to(ROOT)
+    return place.parts[1] in ("krates_drawing", "krates_graph", "krates_resolve") or (place.parts[1], place.stem) in (("krates", "Node"), ("krates", "Drawn"))
+
+
 def page():
     clauses, order = reached()
     files = []
     for definition in order:
         if definition.file not in files:
             files.append(definition.file)
-    lines = sum(len(definition.text.split("\n")) for definition in order)
-    fields = sum(len(definition.text.split("\n")) for definition in order if definition.name.endswith(("_view", "Model")))
-    out = [HEAD.format(source=SOURCE, count=len(order), lines=lines, meaning=lines - fields, fields=fields, files=len(files), contract="\n".join(clauses))]
+    lines = lines_of(order)
+    fields = lines_of(definition for definition in order if lists_fields(definition))
+    drawn = lines_of(definition for definition in order if is_drawn(definition) and not lists_fields(definition))
+    meaning = lines - drawn - fields
+    head = {"source": SOURCE, "count": len(order), "lines": lines, "meaning": meaning, "drawn": drawn, "fields": fields, "files": len(files)}
+    out = [HEAD.format(contract="\n".join(clauses), **head)]
     for file in files:
         place = file.path.relative_to(ROOT)
         out.append(f"## {file.title.split('. ')[0].rstrip('.')}\n\n[{place.parts[1]}, {place.stem}](../{place})\n")
