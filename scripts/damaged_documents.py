@@ -38,7 +38,7 @@ REFUSALS = [
     r"undeclared dependency: .* of .*",
     r"no root crates available",
     r"too many nodes or edges",
-    r"(could not read the input|input is no text)",
+    r"(read failed|input is not UTF-8|write failed)",
     r"out of memory",
 ]
 REFUSAL = re.compile("refused: (" + "|".join(REFUSALS) + ")\n", re.DOTALL)
