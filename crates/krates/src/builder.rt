@@ -188,9 +188,12 @@ impl Builder {
             → IsAskable (λ source. BuildIndexCache.pre source.build) self.index metadata }
         requires callable { F.can_filter filter.old }
         ensures admitted { OnOk result (IsResolvable (metadata_view metadata)) }
-        ensures built { IfOk result (λ krates. Sees (λ source. BuildIndexCache.post source.build) self.index metadata (λ seen. IsBuilt F.filters N.made_from E.made_from_edge seen self.setting filter.old filter.new krates)) }
+        ensures built { IfOk result (λ krates. Sees (λ source. BuildIndexCache.post source.build) self.index
+            metadata (λ seen. IsBuilt F.filters N.made_from E.made_from_edge seen
+            self.setting filter.old filter.new krates)) }
         ensures callable { F.can_filter filter.new }
-        ensures refused { IfErr result (BuildRefusal (λ source. BuildIndexCache.post source.build) self.index metadata self.setting) }
+        ensures refused { IfErr result
+            (BuildRefusal (λ source. BuildIndexCache.post source.build) self.index metadata self.setting) }
         ensures unchanged { OnErr result (filter.new ≡ filter.old) }
     {
         let Builder {
@@ -214,7 +217,8 @@ fn build_admitted<N: FromPackage + Drop, E: FromEdge + Drop, F: OnFilter>(
 ) -> Result<Krates<N, E>, Error>
     requires admitted { IsAdmitted (metadata_view metadata) (ids_view ids) }
     requires callable { F.can_filter filter.old }
-    ensures built { IfOk result (IsBuilt F.filters N.made_from E.made_from_edge metadata setting.now filter.old filter.new) }
+    ensures built { IfOk result (IsBuilt F.filters N.made_from E.made_from_edge metadata setting.now
+        filter.old filter.new) }
     ensures callable { F.can_filter filter.new }
     ensures refused { IfErr result (GraphRefusal (metadata_view metadata) setting.now) }
     ensures unchanged { OnErr result (filter.new ≡ filter.old) }

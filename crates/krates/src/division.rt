@@ -61,8 +61,10 @@ fn divided(
     selected: &[sheet::Krate],
 ) -> Result<Division, AllocError>
     requires { IsStrictlySortedBy id_cmp (sheet_ids selected.now) }
-    ensures kept { IfOk result (λ d. d.kept.items ≡ filter (is_selected (sheet_ids selected.now)) krates.items) }
-    ensures others { IfOk result (λ d. d.others.items ≡ filter (λ k. not (is_selected (sheet_ids selected.now) k)) krates.items) }
+    ensures kept { IfOk result
+        (λ d. d.kept.items ≡ filter (is_selected (sheet_ids selected.now)) krates.items) }
+    ensures others { IfOk result
+        (λ d. d.others.items ≡ filter (λ k. not (is_selected (sheet_ids selected.now) k)) krates.items) }
 {
     let mut kept = Vec::new(alloc);
     let mut others = Vec::new(alloc);

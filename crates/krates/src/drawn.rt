@@ -47,9 +47,11 @@ pub(crate) fn sheet_for(
     selection: Selection,
 ) -> Result<Sheet, AllocError>
     requires admitted { IsAdmitted (metadata_view metadata.now) (ids_view ids.now) }
-    ensures sheet { IfOk result (λ sheet. (s : SettingModel) → IsSelectionOf (metadata_view metadata.now) s selection
+    ensures sheet { IfOk result (λ sheet. (s : SettingModel)
+        → IsSelectionOf (metadata_view metadata.now) s selection
         → IsSheetFor (metadata_view metadata.now) s (sheet_view sheet)) }
-    ensures ordered { IfOk result (λ sheet. (s : SettingModel) → IsSelectionOf (metadata_view metadata.now) s selection
+    ensures ordered { IfOk result (λ sheet. (s : SettingModel)
+        → IsSelectionOf (metadata_view metadata.now) s selection
         → IsOrdered sheet) }
 {
     let document = Document::new(alloc, metadata, ids)?;
@@ -106,7 +108,8 @@ fn stored<N: FromPackage + Drop, E: FromEdge + Drop>(
     requires few { length nodes.items < 2 ^ 32 }
     requires stand { All (HasEnds (length nodes.items)) (map arrow_view arrows.now) }
     ensures nodes { IfOk result (λ graph. AllZip (IsMade N.made_from) nodes.items graph.nodes) }
-    ensures edges { IfOk result (λ graph. AllZip (IsStoredAs E.made_from_edge) (map arrow_view arrows.now) graph.edges) }
+    ensures edges { IfOk result
+        (λ graph. AllZip (IsStoredAs E.made_from_edge) (map arrow_view arrows.now) graph.edges) }
     ensures refused { IfErr result (λ e. e ≡ Memory) }
 {
     let mut graph = Graph::with_limits(alloc, u32::MAX, u32::MAX);

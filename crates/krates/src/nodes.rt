@@ -25,7 +25,8 @@ pub(crate) struct Parts {
 
 /// The mappings of the crates and the nodes of the features, each in the order in which they were drawn.
 pub(crate) fn parts_of(alloc: Global, spots: Vec<Spot>) -> Result<Parts, AllocError>
-    ensures mappings { IfOk result (λ parts. map (λ m. m.items) parts.mappings.items ≡ flat_map mapping_in spots.items) }
+    ensures mappings { IfOk result
+        (λ parts. map (λ m. m.items) parts.mappings.items ≡ flat_map mapping_in spots.items) }
     ensures features { IfOk result (λ parts. parts.features.items ≡ flat_map feature_in spots.items) }
 {
     let mut mappings = Vec::new(alloc);
@@ -43,7 +44,8 @@ fn push_part(
     mappings: &mut Vec<Vec<Option<NodeId>>>,
     features: &mut Vec<Node<Package>>,
 ) -> Result<(), AllocError>
-    ensures mappings { OnOk result (map (λ m. m.items) mappings.new.items ≡ map (λ m. m.items) mappings.old.items ++ mapping_in spot) }
+    ensures mappings { OnOk result (map (λ m. m.items) mappings.new.items
+        ≡ map (λ m. m.items) mappings.old.items ++ mapping_in spot) }
     ensures features { OnOk result (features.new.items ≡ features.old.items ++ feature_in spot) }
 {
     match spot {
@@ -97,7 +99,8 @@ fn crates_with(
     sets: Vec<EnabledFeatures>,
     mappings: Vec<Vec<Option<NodeId>>>,
 ) -> Result<Vec<Node<Package>>, AllocError>
-    ensures { IfOk result (λ nodes. nodes.items ≡ map crate_node (zip krates.items (zip sets.items mappings.items))) }
+    ensures { IfOk result
+        (λ nodes. nodes.items ≡ map crate_node (zip krates.items (zip sets.items mappings.items))) }
 {
     krates
         .into_iter()
@@ -118,7 +121,9 @@ pub(crate) fn nodes_of(
     sets: Vec<EnabledFeatures>,
     parts: Parts,
 ) -> Result<Vec<Node<Package>>, AllocError>
-    ensures { IfOk result (λ nodes. nodes.items ≡ map crate_node (zip krates.items (zip sets.items parts.mappings.items)) ++ parts.features.items) }
+    ensures { IfOk result
+        (λ nodes. nodes.items ≡ map crate_node (zip krates.items (zip sets.items parts.mappings.items))
+        ++ parts.features.items) }
 {
     let Parts {
         mappings,

@@ -37,10 +37,16 @@ fn known(alloc: Global, version: &str) -> Result<IndexKrate, Fail> {
     })
 }
 
-/// The index that has the package in this version, or lacks it where there is none.
+/// A copy of what is known of the version.
+fn known_copy(alloc: Global, version: &str) -> Result<IndexKrate, Fail> {
+    let known = known(alloc, version)?;
+    Ok(known.clone()?)
+}
+
+/// The index that has the package in this version, as a copy, or lacks it where there is none.
 fn index(alloc: Global, version: Option<&str>) -> Result<CachingIndex, Fail> {
     let known = match version {
-        Some(version) => Some(known(alloc, version)?),
+        Some(version) => Some(known_copy(alloc, version)?),
         None => None,
     };
     let mut krates = BTreeMap::new(alloc);

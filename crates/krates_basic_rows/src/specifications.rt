@@ -130,6 +130,25 @@ fn texts_that_are_specifications(rt: HostRuntime) -> Result<(), Fail> {
     hold(rt.alloc(), READ)
 }
 
+/// The copy of the specification that a text is, or why it is none.
+fn copy_told(alloc: Global, text: &str) -> Result<String, AllocError> {
+    match PkgSpec::from_str(alloc, text) {
+        Ok(spec) => described(alloc, &spec.clone()?),
+        Err(error) => format!(in alloc; "{error}"),
+    }
+}
+
+#[test]
+fn copies_of_specifications(rt: HostRuntime) -> Result<(), Fail> {
+    for &(text, expected) in READ {
+        let told = copy_told(rt.alloc(), text)?;
+        if told.as_str() != expected {
+            return Err(Fail::new(format_args!("{text}: {told} in place of {expected}")));
+        }
+    }
+    Ok(())
+}
+
 #[test]
 fn texts_that_are_no_specification(rt: HostRuntime) -> Result<(), Fail> {
     hold(rt.alloc(), REFUSED)

@@ -49,7 +49,8 @@ pub fn program<R: Read, W: Write, E: Write>(
     host: &(impl Processes + AllocGlobal),
 ) -> u8
     ensures status { result ≤ 2 }
-    ensures known_words { result ≡ 2 → IsUnknown (map string_bytes words.now) × IsTold E.contents errors.old errors.new usage_line }
+    ensures known_words { result ≡ 2 → IsUnknown (map string_bytes words.now)
+        × IsTold E.contents errors.old errors.new usage_line }
     ensures unknown_word { IsUnknown (map string_bytes words.now) → (result ≡ 2)
         ⊎ ((result ≡ 1) × IsTold E.contents errors.old errors.new no_memory_line × (input.new ≡ input.old) × (output.new ≡ output.old)) }
     ensures unread { result ≡ 2 → (input.new ≡ input.old) × (output.new ≡ output.old) }
@@ -87,13 +88,15 @@ fn list<R: Read, W: Write>(
     output: &mut Counted<W>,
     host: &(impl Processes + AllocGlobal),
 ) -> Result<(), RunError>
-    ensures written { OnOk result (WritesLines (asked_program options.now) (meant_setting options.now) (R.remaining (inner_of input.old))
+    ensures written { OnOk result (WritesLines (asked_program options.now) (meant_setting options.now)
+        (R.remaining (inner_of input.old))
         (W.contents (inner_of output.old)) (W.contents (inner_of output.new))) }
     ensures refused { IfErr result
         (LinesRefusal (asked_program options.now) (meant_setting options.now) (R.remaining (inner_of input.old))) }
     ensures ends { IfErr result (LeavesEnds input.old input.new output.old output.new) }
     ensures beginning { result ≡ Err causes.Write
-        → WritesFront (asked_program options.now) (meant_setting options.now) (R.remaining (inner_of input.old))
+        → WritesFront (asked_program options.now) (meant_setting options.now)
+        (R.remaining (inner_of input.old))
         (W.contents (inner_of output.old)) (W.contents (inner_of output.new)) }
     ensures by_program { IsSome (asked_program options.now) → input.new ≡ input.old }
 {
@@ -105,8 +108,10 @@ fn list<R: Read, W: Write>(
 
 /// Answers the exit status where the words aren't read: 2 and the usage line, or 1 and the line that memory ran out.
 fn refuse_options<E: Write>(error: &OptionsError, errors: &mut Counted<E>) -> u8
-    ensures unknown { error.now ≡ options_errors.Unknown → (result ≡ 2) × IsTold E.contents errors.old errors.new usage_line }
-    ensures no_memory { error.now ≡ options_errors.Memory → (result ≡ 1) × IsTold E.contents errors.old errors.new no_memory_line }
+    ensures unknown { error.now ≡ options_errors.Unknown → (result ≡ 2)
+        × IsTold E.contents errors.old errors.new usage_line }
+    ensures no_memory { error.now ≡ options_errors.Memory → (result ≡ 1)
+        × IsTold E.contents errors.old errors.new no_memory_line }
 {
     match error {
         OptionsError::Unknown => {
@@ -123,8 +128,10 @@ fn refuse_options<E: Write>(error: &OptionsError, errors: &mut Counted<E>) -> u8
 /// Answers the exit status where the words couldn't be had: 2 and the usage line where one is no text, which is a word that
 /// isn't known; else 1 and the line that memory ran out.
 pub fn refuse_words<E: Write>(error: &io::Error, errors: &mut Counted<E>) -> u8
-    ensures unknown_word { error_kind error.now ≡ ErrorKind.InvalidData → (result ≡ 2) × IsTold E.contents errors.old errors.new usage_line }
-    ensures no_memory { error_kind error.now ≢ ErrorKind.InvalidData → (result ≡ 1) × IsTold E.contents errors.old errors.new no_memory_line }
+    ensures unknown_word { error_kind error.now ≡ ErrorKind.InvalidData → (result ≡ 2)
+        × IsTold E.contents errors.old errors.new usage_line }
+    ensures no_memory { error_kind error.now ≢ ErrorKind.InvalidData → (result ≡ 1)
+        × IsTold E.contents errors.old errors.new no_memory_line }
 {
     if error.kind() == ErrorKind::InvalidData {
         tell(errors, USAGE_LINE);
@@ -146,7 +153,8 @@ fn refuse<C: Display, E: Write>(alloc: Global, cause: &C, errors: &mut Counted<E
 
 /// `refused: `, what is printed of the cause, and a newline.
 fn line_of<C: Display>(alloc: Global, cause: &C) -> Result<String, AllocError>
-    ensures { IfOk result (λ line. (text : Text) × IfSome (C.output cause.now) (λ stated. text ≡ stated) × (string_bytes line ≡ refusal_line text)) }
+    ensures { IfOk result (λ line. (text : Text) × IfSome (C.output cause.now) (λ stated. text ≡ stated)
+        × (string_bytes line ≡ refusal_line text)) }
 {
     let text = cause.to_string(alloc)?;
     let mut line = String::from_str(alloc, "refused: ")?;

@@ -48,9 +48,11 @@ impl<R: Read> Counted<R> {
     /// One read into the front of the buffer, made again as long as it is interrupted: how many bytes came.
     fn read(&mut self, buffer: &mut [u8]) -> Result<usize, CountedCall>
         ensures bound { IfOk result (λ n. n ≤ length buffer.new) }
-        ensures bytes { ReadConsumes (R.remaining (inner_of self.old)) (R.remaining (inner_of self.new)) result buffer.new }
+        ensures bytes { ReadConsumes (R.remaining (inner_of self.old))
+            (R.remaining (inner_of self.new)) result buffer.new }
         ensures failed { OnErr result (HasFailed self.old self.new) }
-        ensures made_again { IfErr result (λ call. was_interrupted call ≡ true → failures_of self.new ≡ 2 ^ 64 - 1) }
+        ensures made_again { IfErr result (λ call. was_interrupted call ≡ true
+            → failures_of self.new ≡ 2 ^ 64 - 1) }
         ensures grows { failures_of self.old ≤ failures_of self.new }
     {
         let mut turns = 0u64;
@@ -70,7 +72,8 @@ impl<R: Read> Counted<R> {
     ///
     /// It is refused as `Read` where a call failed, or as `Memory`; what was read before is then lost.
     pub fn read_to_end(&mut self, alloc: Global) -> Result<Vec<u8>, RunError>
-        ensures all { IfOk result (λ bytes. IfSome (R.remaining (inner_of self.old)) (λ left. bytes.items ≡ left)) }
+        ensures all { IfOk result
+            (λ bytes. IfSome (R.remaining (inner_of self.old)) (λ left. bytes.items ≡ left)) }
         ensures end { OnOk result (IsAtEnd (R.remaining (inner_of self.new))) }
         ensures failed { IfErr result (IsReadFailure self.old self.new) }
         ensures grows { failures_of self.old ≤ failures_of self.new }
@@ -95,9 +98,11 @@ impl<W: Write> Counted<W> {
     fn write(&mut self, bytes: &[u8]) -> Result<usize, CountedCall>
         requires { 0 < length bytes.now }
         ensures bound { IfOk result (λ n. (0 < n) × (n ≤ length bytes.now)) }
-        ensures bytes { WriteAppends (W.contents (inner_of self.old)) (W.contents (inner_of self.new)) result bytes.now }
+        ensures bytes { WriteAppends (W.contents (inner_of self.old))
+            (W.contents (inner_of self.new)) result bytes.now }
         ensures failed { OnErr result (HasFailed self.old self.new) }
-        ensures made_again { IfErr result (λ call. was_interrupted call ≡ true → failures_of self.new ≡ 2 ^ 64 - 1) }
+        ensures made_again { IfErr result (λ call. was_interrupted call ≡ true
+            → failures_of self.new ≡ 2 ^ 64 - 1) }
         ensures grows { failures_of self.old ≤ failures_of self.new }
     {
         let mut turns = 0u64;
@@ -118,9 +123,11 @@ impl<W: Write> Counted<W> {
     /// It is refused as `Write` where a call failed or took no byte; a beginning of the bytes is written then. Where there are no
     /// bytes, no call is made.
     pub fn write_all(&mut self, bytes: &[u8]) -> Result<(), RunError>
-        ensures written { OnOk result (Appends (W.contents (inner_of self.old)) (W.contents (inner_of self.new)) bytes.now) }
+        ensures written { OnOk result (Appends (W.contents (inner_of self.old))
+            (W.contents (inner_of self.new)) bytes.now) }
         ensures failed { IfErr result (IsWriteFailure self.old self.new) }
-        ensures beginning { OnErr result (AppendsFront (W.contents (inner_of self.old)) (W.contents (inner_of self.new)) bytes.now) }
+        ensures beginning { OnErr result
+            (AppendsFront (W.contents (inner_of self.old)) (W.contents (inner_of self.new)) bytes.now) }
         ensures nothing { bytes.now ≡ [] → self.new ≡ self.old }
         ensures grows { failures_of self.old ≤ failures_of self.new }
     {

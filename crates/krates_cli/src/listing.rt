@@ -21,7 +21,8 @@ use std::process::Processes;
 
 /// The lines of a text's document under the options. It is refused as `Parse`, `Build` or `Memory`.
 fn listing(alloc: Global, options: &Options, text: &str) -> Result<String, RunError>
-    ensures listed { IfOk result (λ lines. IsListing (meant_setting options.now) text.now (string_bytes lines)) }
+    ensures listed { IfOk result
+        (λ lines. IsListing (meant_setting options.now) text.now (string_bytes lines)) }
     ensures refused { IfErr result (ListingRefusal (meant_setting options.now) text.now) }
 {
     let metadata = MetadataCommand::parse(alloc, text)?;
@@ -31,7 +32,8 @@ fn listing(alloc: Global, options: &Options, text: &str) -> Result<String, RunEr
 /// The lines of a document under the options: those of the kept packages, then those of the others. It is refused as `Build`
 /// or `Memory`.
 fn listing_of(alloc: Global, options: &Options, metadata: Metadata) -> Result<String, RunError>
-    ensures listed { IfOk result (λ lines. IsListingOf (meant_setting options.now) metadata (string_bytes lines)) }
+    ensures listed { IfOk result
+        (λ lines. IsListingOf (meant_setting options.now) metadata (string_bytes lines)) }
     ensures refused { IfErr result (IsUnlisted (meant_setting options.now) metadata) }
 {
     let mut reported = Reported::new(alloc);
@@ -56,12 +58,17 @@ pub fn run<R: Read, W: Write>(
     input: &mut Counted<R>,
     output: &mut Counted<W>,
 ) -> Result<(), RunError>
-    ensures written { OnOk result (IfSome (R.remaining (inner_of input.old)) (λ bytes. WritesListing (meant_setting options.now) bytes (W.contents (inner_of output.old)) (W.contents (inner_of output.new)))) }
-    ensures refused { IfErr result (λ e. IfSome (R.remaining (inner_of input.old)) (λ bytes. RunRefusal (meant_setting options.now) bytes e)) }
+    ensures written { OnOk result (IfSome (R.remaining (inner_of input.old))
+        (λ bytes. WritesListing (meant_setting options.now) bytes (W.contents (inner_of output.old))
+        (W.contents (inner_of output.new)))) }
+    ensures refused { IfErr result
+        (λ e. IfSome (R.remaining (inner_of input.old))
+        (λ bytes. RunRefusal (meant_setting options.now) bytes e)) }
     ensures read { result ≡ Err errors.Read → HasFailed input.old input.new }
     ensures write { result ≡ Err errors.Write → HasFailed output.old output.new }
     ensures beginning { result ≡ Err errors.Write → IfSome (R.remaining (inner_of input.old))
-        (λ bytes. WritesBeginning (meant_setting options.now) bytes (W.contents (inner_of output.old)) (W.contents (inner_of output.new))) }
+        (λ bytes. WritesBeginning (meant_setting options.now) bytes (W.contents (inner_of output.old))
+        (W.contents (inner_of output.new))) }
     ensures unwritten { IfErr result (λ e. e ≢ errors.Write → output.new ≡ output.old) }
 {
     let bytes = input.read_to_end(alloc)?;

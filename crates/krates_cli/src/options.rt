@@ -74,7 +74,10 @@ impl Options {
         option: &str,
         values: &'w [String],
     ) -> Result<&'w [String], OptionsError>
-        ensures read { IfOk result (λ rest. AddsFirst (option.now ∷ map string_bytes values.now) (options_view self.old) (options_view self.new) (map string_bytes rest.now)) }
+        ensures read { IfOk result
+            (λ rest. AddsFirst (option.now
+            ∷ map string_bytes values.now) (options_view self.old) (options_view self.new)
+            (map string_bytes rest.now)) }
         ensures refused { IfErr result (IsUnread (BeginsUnknown (option.now ∷ map string_bytes values.now))) }
     {
         if option == "--workspace" {
@@ -90,7 +93,8 @@ impl Options {
 
     /// Adds what the option asks for with this value.
     fn read_value(&mut self, alloc: Global, option: &str, value: &str) -> Result<(), OptionsError>
-        ensures read { OnOk result (AddsValue option.now value.now (options_view self.old) (options_view self.new)) }
+        ensures read { OnOk result (AddsValue option.now value.now (options_view self.old)
+            (options_view self.new)) }
         ensures refused { IfErr result (IsUnread (IsNoValue option.now value.now)) }
     {
         match option {
@@ -119,8 +123,10 @@ fn dep_kind(word: &str) -> Result<DepKind, OptionsError>
 
 /// The package specification that a word is.
 fn pkg_spec(alloc: Global, word: &str) -> Result<PkgSpec, OptionsError>
-    ensures read { IfOk result (λ spec. let view = spec_view spec in IsSpec word.now view.name view.version view.url) }
-    ensures refused { IfErr result (IsUnread ((spec : Specification) → IsSpec word.now spec.name spec.version spec.url → ⊥)) }
+    ensures read { IfOk result
+        (λ spec. let view = spec_view spec in IsSpec word.now view.name view.version view.url) }
+    ensures refused { IfErr result (IsUnread ((spec : Specification)
+        → IsSpec word.now spec.name spec.version spec.url → ⊥)) }
 {
     match PkgSpec::from_str(alloc, word) {
         Ok(spec) => Ok(spec),
@@ -136,7 +142,8 @@ fn pkg_spec(alloc: Global, word: &str) -> Result<PkgSpec, OptionsError>
 /// words, and of several programs the last counts. It is refused as `Unknown` where the words are no such options, and only
 /// there; `Memory` may stand in place of any answer.
 pub fn options_of(alloc: Global, words: &[String]) -> Result<Options, OptionsError>
-    ensures read { IfOk result (λ options. IsCommandLine (map string_bytes words.now) (options_view options)) }
+    ensures read { IfOk result
+        (λ options. IsCommandLine (map string_bytes words.now) (options_view options)) }
     ensures refused { IfErr result (IsUnread (IsUnknown (map string_bytes words.now))) }
 {
     let mut options = Options::new(alloc);
@@ -166,7 +173,8 @@ pub fn set_options<S: Drop + 'static>(
 
 /// Ignores dependencies for these purposes, whichever crate has them.
 fn ignore_kinds<S: Drop + 'static>(builder: &mut Builder<S>, kinds: &[DepKind])
-    ensures setting { builder.new.setting ≡ record (builder.old.setting) { ignored = with_ignored kinds.now builder.old.setting.ignored } }
+    ensures setting { builder.new.setting ≡ record
+        (builder.old.setting) { ignored = with_ignored kinds.now builder.old.setting.ignored } }
     ensures index { builder.new.index ≡ builder.old.index }
 {
     for kind in kinds {
@@ -176,7 +184,8 @@ fn ignore_kinds<S: Drop + 'static>(builder: &mut Builder<S>, kinds: &[DepKind])
 
 /// The targets with these triples, each without features.
 fn targets_of(alloc: Global, triples: &[String]) -> Result<Vec<(Target, Vec<String>)>, AllocError>
-    ensures { IfOk result (λ targets. map asked_of targets.items ≡ map asked_at (map string_bytes triples.now)) }
+    ensures { IfOk result
+        (λ targets. map asked_of targets.items ≡ map asked_at (map string_bytes triples.now)) }
 {
     let mut targets = Vec::new(alloc);
     for triple in triples {

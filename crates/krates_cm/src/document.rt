@@ -14,6 +14,13 @@ use std::alloc::Global;
 ///
 /// The answer is `Json` where the text is no JSON, and `Value` where its value isn't read. `Memory` may stand in place of any
 /// answer.
+///
+/// ```text
+/// let metadata = parse(alloc, text)?;
+/// for package in &metadata.packages {
+///     println!(rt; "{} {}", package.name, package.version)?;
+/// }
+/// ```
 pub fn parse(alloc: Global, text: &str) -> Result<Metadata, Error>
     ensures document { IfOk result (λ m. IsDocument text.now (metadata_view m)) }
     ensures refused { IfErr result (IsRefusal text.now) }

@@ -41,8 +41,10 @@ pub fn check(
     index: Option<&CachingIndex>,
     derivation: &Derivation,
 ) -> Result<(), CheckError>
-    ensures accepted { OnOk result (SeesThrough (answer_of index.entry) (metadata_view metadata.now) (λ m. IsAcceptedFor m setting.now (steps_view derivation.now.steps.items))) }
-    ensures refused { IfErr result (IsRefusedThrough (answer_of index.entry) (metadata_view metadata.now) (λ m. IsCheckRefused m setting.now (steps_view derivation.now.steps.items))) }
+    ensures accepted { OnOk result (SeesThrough (answer_of index.entry) (metadata_view metadata.now)
+        (λ m. IsAcceptedFor m setting.now (steps_view derivation.now.steps.items))) }
+    ensures refused { IfErr result (IsRefusedThrough (answer_of index.entry) (metadata_view metadata.now)
+        (λ m. IsCheckRefused m setting.now (steps_view derivation.now.steps.items))) }
 {
     match index {
         None => check_seen(alloc, metadata, setting, derivation),
@@ -66,8 +68,10 @@ pub fn check_closed(
     index: Option<&CachingIndex>,
     facts: &[Fact],
 ) -> Result<(), CheckError>
-    ensures closed { OnOk result (SeesThrough (answer_of index.entry) (metadata_view metadata.now) (λ m. IsClosedFor m setting.now (facts_view facts.now))) }
-    ensures refused { IfErr result (IsRefusedThrough (answer_of index.entry) (metadata_view metadata.now) (λ m. IsClosedRefused m setting.now (facts_view facts.now))) }
+    ensures closed { OnOk result (SeesThrough (answer_of index.entry) (metadata_view metadata.now)
+        (λ m. IsClosedFor m setting.now (facts_view facts.now))) }
+    ensures refused { IfErr result (IsRefusedThrough (answer_of index.entry) (metadata_view metadata.now)
+        (λ m. IsClosedRefused m setting.now (facts_view facts.now))) }
 {
     match index {
         None => check_closed_seen(alloc, metadata, setting, facts),
@@ -83,8 +87,12 @@ fn check_corrected(
     index: &CachingIndex,
     derivation: &Derivation,
 ) -> Result<(), CheckError>
-    ensures accepted { OnOk result (SeesThrough (Some (index_view index.now.answer)) (metadata_view metadata.now) (λ m. IsAcceptedFor m setting.now (steps_view derivation.now.steps.items))) }
-    ensures refused { IfErr result (IsRefusedThrough (Some (index_view index.now.answer)) (metadata_view metadata.now) (λ m. IsCheckRefused m setting.now (steps_view derivation.now.steps.items))) }
+    ensures accepted { OnOk result (SeesThrough (Some (index_view index.now.answer))
+        (metadata_view metadata.now)
+        (λ m. IsAcceptedFor m setting.now (steps_view derivation.now.steps.items))) }
+    ensures refused { IfErr result (IsRefusedThrough (Some (index_view index.now.answer))
+        (metadata_view metadata.now)
+        (λ m. IsCheckRefused m setting.now (steps_view derivation.now.steps.items))) }
 {
     let seen = seen_through(alloc, index, metadata)?;
     check_seen(alloc, &seen, setting, derivation)
@@ -98,8 +106,10 @@ fn check_closed_corrected(
     index: &CachingIndex,
     facts: &[Fact],
 ) -> Result<(), CheckError>
-    ensures closed { OnOk result (SeesThrough (Some (index_view index.now.answer)) (metadata_view metadata.now) (λ m. IsClosedFor m setting.now (facts_view facts.now))) }
-    ensures refused { IfErr result (IsRefusedThrough (Some (index_view index.now.answer)) (metadata_view metadata.now) (λ m. IsClosedRefused m setting.now (facts_view facts.now))) }
+    ensures closed { OnOk result (SeesThrough (Some (index_view index.now.answer))
+        (metadata_view metadata.now) (λ m. IsClosedFor m setting.now (facts_view facts.now))) }
+    ensures refused { IfErr result (IsRefusedThrough (Some (index_view index.now.answer))
+        (metadata_view metadata.now) (λ m. IsClosedRefused m setting.now (facts_view facts.now))) }
 {
     let seen = seen_through(alloc, index, metadata)?;
     check_closed_seen(alloc, &seen, setting, facts)
@@ -112,8 +122,10 @@ fn check_seen(
     setting: &Setting,
     derivation: &Derivation,
 ) -> Result<(), CheckError>
-    ensures accepted { OnOk result (IsAcceptedFor (metadata_view metadata.now) setting.now (steps_view derivation.now.steps.items)) }
-    ensures refused { IfErr result (IsCheckRefused (metadata_view metadata.now) setting.now (steps_view derivation.now.steps.items)) }
+    ensures accepted { OnOk result (IsAcceptedFor (metadata_view metadata.now) setting.now
+        (steps_view derivation.now.steps.items)) }
+    ensures refused { IfErr result (IsCheckRefused (metadata_view metadata.now) setting.now
+        (steps_view derivation.now.steps.items)) }
 {
     let ids = ids_of(alloc, metadata)?;
     let document = Document::new(alloc, metadata, &ids)?;
@@ -135,8 +147,10 @@ fn check_closed_seen(
     setting: &Setting,
     facts: &[Fact],
 ) -> Result<(), CheckError>
-    ensures closed { OnOk result (IsClosedFor (metadata_view metadata.now) setting.now (facts_view facts.now)) }
-    ensures refused { IfErr result (IsClosedRefused (metadata_view metadata.now) setting.now (facts_view facts.now)) }
+    ensures closed { OnOk result (IsClosedFor (metadata_view metadata.now) setting.now
+        (facts_view facts.now)) }
+    ensures refused { IfErr result (IsClosedRefused (metadata_view metadata.now) setting.now
+        (facts_view facts.now)) }
 {
     let ids = ids_of(alloc, metadata)?;
     let document = Document::new(alloc, metadata, &ids)?;
@@ -184,7 +198,9 @@ fn follows<'a>(
     step: &'a Step,
 ) -> Result<bool, AllocError>
     requires { number < length steps.now }
-    ensures { IfOk result (λ b. IsTrue b ↔ StepFollows (rules_of basis.now) (steps_view steps.now) number (step_view step.now)) }
+    ensures { IfOk result
+        (λ b. IsTrue b ↔ StepFollows (rules_of basis.now) (steps_view steps.now) number
+        (step_view step.now)) }
 {
     match step.uses.as_slice() {
         [] => Ok(from_nothing(basis, step.rule, &step.fact)),

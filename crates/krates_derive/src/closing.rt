@@ -61,7 +61,9 @@ pub(crate) fn is_closed<'a>(basis: &Basis<'a, '_>, facts: &'a [Fact]) -> Result<
 
 /// Whether all that these roots give stands in the list.
 fn are_roots_in<'a>(claim: &Claim<'a, '_>, roots: &[&'a Kid]) -> bool
-    ensures { IsTrue result ↔ TheseRootsIn (document_in claim.now) claim.now.setting.now (facts_in claim.now) (lent_ids roots.now) }
+    ensures { IsTrue result
+        ↔ TheseRootsIn (document_in claim.now) claim.now.setting.now (facts_in claim.now)
+        (lent_ids roots.now) }
 {
     for root in roots {
         if !is_root_in(claim, root) {
@@ -73,7 +75,8 @@ fn are_roots_in<'a>(claim: &Claim<'a, '_>, roots: &[&'a Kid]) -> bool
 
 /// Whether all that a root gives stands in the list.
 fn is_root_in<'a>(claim: &Claim<'a, '_>, krate: &'a Kid) -> bool
-    ensures { IsTrue result ↔ RootIn (document_in claim.now) claim.now.setting.now (facts_in claim.now) (id_of krate.now) }
+    ensures { IsTrue result
+        ↔ RootIn (document_in claim.now) claim.now.setting.now (facts_in claim.now) (id_of krate.now) }
 {
     match claim.document.presence(claim.setting, krate) {
         Presence::Stands => is_stock_in(claim, krate),
@@ -106,7 +109,9 @@ fn are_features_in<'a>(claim: &Claim<'a, '_>, krate: &'a Kid) -> bool
 
 /// Whether all that these facts give stands in the list.
 fn are_facts_in<'a>(claim: &Claim<'a, '_>, facts: &'a [Fact]) -> Result<bool, AllocError>
-    ensures { IfOk result (λ b. IsTrue b ↔ AllIn (document_in claim.now) claim.now.setting.now (facts_in claim.now) (facts_view facts.now)) }
+    ensures { IfOk result
+        (λ b. IsTrue b ↔ AllIn (document_in claim.now) claim.now.setting.now (facts_in claim.now)
+        (facts_view facts.now)) }
 {
     for fact in facts {
         if !is_fact_in(claim, fact)? {
@@ -118,7 +123,9 @@ fn are_facts_in<'a>(claim: &Claim<'a, '_>, facts: &'a [Fact]) -> Result<bool, Al
 
 /// Whether all that a fact gives stands in the list.
 fn is_fact_in<'a>(claim: &Claim<'a, '_>, fact: &'a Fact) -> Result<bool, AllocError>
-    ensures { IfOk result (λ b. IsTrue b ↔ FactIn (document_in claim.now) claim.now.setting.now (facts_in claim.now) (fact_view fact.now)) }
+    ensures { IfOk result
+        (λ b. IsTrue b ↔ FactIn (document_in claim.now) claim.now.setting.now (facts_in claim.now)
+        (fact_view fact.now)) }
 {
     match fact {
         Fact::Crate(krate) => is_crate_in(claim, krate),
@@ -145,7 +152,9 @@ fn is_fact_in<'a>(claim: &Claim<'a, '_>, fact: &'a Fact) -> Result<bool, AllocEr
 
 /// Whether all that a crate gives by its edges stands in the list.
 fn is_crate_in<'a>(claim: &Claim<'a, '_>, krate: &'a Kid) -> Result<bool, AllocError>
-    ensures { IfOk result (λ b. IsTrue b ↔ CrateIn (document_in claim.now) claim.now.setting.now (facts_in claim.now) (id_of krate.now)) }
+    ensures { IfOk result
+        (λ b. IsTrue b ↔ CrateIn (document_in claim.now) claim.now.setting.now (facts_in claim.now)
+        (id_of krate.now)) }
 {
     for child in claim.document.children(krate) {
         if !are_edges_in(claim, krate, child, false)? {
@@ -161,7 +170,9 @@ fn is_feature_in<'a>(
     krate: &'a Kid,
     feature: &'a str,
 ) -> Result<bool, AllocError>
-    ensures { IfOk result (λ b. IsTrue b ↔ FeatureIn (document_in claim.now) claim.now.setting.now (facts_in claim.now) (id_of krate.now) feature.now) }
+    ensures { IfOk result
+        (λ b. IsTrue b ↔ FeatureIn (document_in claim.now) claim.now.setting.now (facts_in claim.now)
+        (id_of krate.now) feature.now) }
 {
     if !has(claim.facts, &FactRef::Crate(krate)) {
         return Ok(false);
@@ -174,7 +185,8 @@ fn is_feature_in<'a>(
 
 /// Whether all that an edge of the list gives stands in it.
 fn is_kept_in<'a>(claim: &Claim<'a, '_>, edge: &ToldEdge<'a>) -> Result<bool, AllocError>
-    ensures { IfOk result (λ b. IsTrue b ↔ KeptIn (document_in claim.now) (facts_in claim.now) (told_edge edge.now)) }
+    ensures { IfOk result
+        (λ b. IsTrue b ↔ KeptIn (document_in claim.now) (facts_in claim.now) (told_edge edge.now)) }
 {
     if !has(claim.facts, &FactRef::Crate(edge.child)) {
         return Ok(false);
@@ -194,7 +206,9 @@ fn are_edges_in<'a>(
     child: &'a Kid,
     asked: bool,
 ) -> Result<bool, AllocError>
-    ensures { IfOk result (λ b. IsTrue b ↔ EdgesIn (document_in claim.now) claim.now.setting.now (facts_in claim.now) (id_of krate.now) (id_of child.now) asked) }
+    ensures { IfOk result
+        (λ b. IsTrue b ↔ EdgesIn (document_in claim.now) claim.now.setting.now (facts_in claim.now)
+        (id_of krate.now) (id_of child.now) asked) }
 {
     for info in claim.document.kinds(krate, child) {
         let edge = edge_for(krate, child, info);
@@ -211,7 +225,9 @@ fn is_edge_in<'a>(
     edge: &ToldEdge<'a>,
     asked: bool,
 ) -> Result<bool, AllocError>
-    ensures { IfOk result (λ b. IsTrue b ↔ EdgeIn (document_in claim.now) claim.now.setting.now (facts_in claim.now) (told_edge edge.now) asked) }
+    ensures { IfOk result
+        (λ b. IsTrue b ↔ EdgeIn (document_in claim.now) claim.now.setting.now (facts_in claim.now)
+        (told_edge edge.now) asked) }
 {
     match need_of(claim.alloc, claim.document, claim.setting, edge)? {
         Need::Nothing => Ok(true),
@@ -234,7 +250,8 @@ fn is_taken(asked: bool, dependency: &Dependency) -> bool
 
 /// Whether a wanted edge stands in the list where its child stands, and nothing is lost.
 fn is_child_in<'a>(claim: &Claim<'a, '_>, edge: &ToldEdge<'a>) -> bool
-    ensures { IsTrue result ↔ ChildIn (document_in claim.now) claim.now.setting.now (facts_in claim.now) (told_edge edge.now) }
+    ensures { IsTrue result
+        ↔ ChildIn (document_in claim.now) claim.now.setting.now (facts_in claim.now) (told_edge edge.now) }
 {
     match claim.document.presence(claim.setting, edge.child) {
         Presence::Stands => has(claim.facts, &FactRef::Kept(*edge)),
@@ -250,7 +267,9 @@ fn are_asked_in<'a>(
     krate: &'a Kid,
     feature: &str,
 ) -> Result<bool, AllocError>
-    ensures { IfOk result (λ b. IsTrue b ↔ AskedIn (document_in claim.now) claim.now.setting.now (facts_in claim.now) (id_of krate.now) feature.now) }
+    ensures { IfOk result
+        (λ b. IsTrue b ↔ AskedIn (document_in claim.now) claim.now.setting.now (facts_in claim.now)
+        (id_of krate.now) feature.now) }
 {
     for child in claim.document.children(krate) {
         if !is_asked_in(claim, krate, feature, child)? {
@@ -267,7 +286,9 @@ fn is_asked_in<'a>(
     feature: &str,
     child: &'a Kid,
 ) -> Result<bool, AllocError>
-    ensures { IfOk result (λ b. IsTrue b ↔ AskedOf (document_in claim.now) claim.now.setting.now (facts_in claim.now) (id_of krate.now) feature.now (id_of child.now)) }
+    ensures { IfOk result
+        (λ b. IsTrue b ↔ AskedOf (document_in claim.now) claim.now.setting.now (facts_in claim.now)
+        (id_of krate.now) feature.now (id_of child.now)) }
 {
     if !asks(claim.document, krate, feature, child) {
         return Ok(true);
@@ -292,7 +313,8 @@ fn are_values_in<'a>(claim: &Claim<'a, '_>, krate: &'a Kid, values: &'a [String]
 
 /// Whether what a reference of a feature names or toggles stands in the list.
 fn is_value_in<'a>(claim: &Claim<'a, '_>, krate: &'a Kid, text: &'a str) -> bool
-    ensures { IsTrue result ↔ ValueIn (document_in claim.now) (facts_in claim.now) (id_of krate.now) text.now }
+    ensures { IsTrue result
+        ↔ ValueIn (document_in claim.now) (facts_in claim.now) (id_of krate.now) text.now }
 {
     laws::one_reference();
     match features::ParsedFeature::from(text).feat() {
@@ -311,7 +333,8 @@ fn is_value_in<'a>(claim: &Claim<'a, '_>, krate: &'a Kid, text: &'a str) -> bool
 
 /// Whether a feature of what a name means is toggled, where the list has an edge there.
 fn is_dep_in<'a>(claim: &Claim<'a, '_>, krate: &'a Kid, dep: &str, name: &'a str) -> bool
-    ensures { IsTrue result ↔ DepIn (document_in claim.now) (facts_in claim.now) (id_of krate.now) dep.now name.now }
+    ensures { IsTrue result
+        ↔ DepIn (document_in claim.now) (facts_in claim.now) (id_of krate.now) dep.now name.now }
 {
     match claim.document.meant(krate, dep) {
         Some(child) => is_meant_in(claim, krate, child, name),
@@ -321,7 +344,8 @@ fn is_dep_in<'a>(claim: &Claim<'a, '_>, krate: &'a Kid, dep: &str, name: &'a str
 
 /// Whether a feature of a crate is toggled, where the list has an edge there.
 fn is_meant_in<'a>(claim: &Claim<'a, '_>, krate: &'a Kid, child: &'a Kid, name: &'a str) -> bool
-    ensures { IsTrue result ↔ MeantIn (document_in claim.now) (facts_in claim.now) (id_of krate.now) (id_of child.now) name.now }
+    ensures { IsTrue result
+        ↔ MeantIn (document_in claim.now) (facts_in claim.now) (id_of krate.now) (id_of child.now) name.now }
 {
     if !has_between(claim.facts, krate, child) {
         return true;
@@ -333,7 +357,8 @@ fn is_meant_in<'a>(claim: &Claim<'a, '_>, krate: &'a Kid, child: &'a Kid, name: 
 
 /// Whether a toggled feature stands in the list where its crate lists it, and isn't lost.
 fn is_toggled_in<'a>(claim: &Claim<'a, '_>, by: &'a Kid, krate: &'a Kid, name: &'a str) -> bool
-    ensures { IsTrue result ↔ ToggledIn (document_in claim.now) (facts_in claim.now) (id_of by.now) (id_of krate.now) name.now }
+    ensures { IsTrue result
+        ↔ ToggledIn (document_in claim.now) (facts_in claim.now) (id_of by.now) (id_of krate.now) name.now }
 {
     if !claim.document.lists(krate, name) {
         return false;
@@ -343,7 +368,8 @@ fn is_toggled_in<'a>(claim: &Claim<'a, '_>, by: &'a Kid, krate: &'a Kid, name: &
 
 /// Whether a feature stands in the list where its crate lists it, and isn't lost.
 fn is_named_in<'a>(claim: &Claim<'a, '_>, krate: &'a Kid, name: &'a str) -> bool
-    ensures { IsTrue result ↔ NamedIn (document_in claim.now) (facts_in claim.now) (id_of krate.now) name.now }
+    ensures { IsTrue result
+        ↔ NamedIn (document_in claim.now) (facts_in claim.now) (id_of krate.now) name.now }
 {
     if !claim.document.lists(krate, name) {
         return false;
@@ -353,7 +379,9 @@ fn is_named_in<'a>(claim: &Claim<'a, '_>, krate: &'a Kid, name: &'a str) -> bool
 
 /// Whether all that a declared dependency asks for stands in the list.
 fn is_used_in<'a>(claim: &Claim<'a, '_>, krate: &'a Kid, dependency: &'a Dependency) -> bool
-    ensures { IsTrue result ↔ UsedIn (document_in claim.now) (facts_in claim.now) (id_of krate.now) (dependency_view dependency.now) }
+    ensures { IsTrue result
+        ↔ UsedIn (document_in claim.now) (facts_in claim.now) (id_of krate.now)
+        (dependency_view dependency.now) }
 {
     if !are_names_in(claim, krate, &dependency.features) {
         return false;

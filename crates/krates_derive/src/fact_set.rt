@@ -158,7 +158,8 @@ fn is_toggled(fact: &Fact, by: &Kid, krate: &Kid, name: &str) -> bool
 
 /// Whether the crates and the names are the same.
 fn is_same_toggle(one: &Kid, other: &Kid, child: &Kid, krate: &Kid, name: &str, named: &str) -> bool
-    ensures { IsTrue result ↔ ((id_of one.now ≡ id_of other.now) × (id_of child.now ≡ id_of krate.now) × (name.now ≡ named.now)) }
+    ensures { IsTrue result ↔ ((id_of one.now ≡ id_of other.now) × (id_of child.now ≡ id_of krate.now)
+        × (name.now ≡ named.now)) }
 {
     is_same(one, other) && is_same(child, krate) && name == named
 }

@@ -50,7 +50,8 @@ pub(crate) fn declaration_of<'a>(
 
 /// Whether an edge may be kept.
 fn may_keep<'a>(basis: &Basis<'a, '_>, edge: &ToldEdge<'a>) -> Result<bool, AllocError>
-    ensures { IfOk result (λ b. IsTrue b ↔ MayKeep (document_of basis.now) basis.now.setting.now (told_edge edge.now)) }
+    ensures { IfOk result
+        (λ b. IsTrue b ↔ MayKeep (document_of basis.now) basis.now.setting.now (told_edge edge.now)) }
 {
     match need_of(basis.alloc, basis.document, basis.setting, edge)? {
         Need::Wanted(_) => Ok(basis.document.stands(basis.setting, edge.child)),
@@ -61,7 +62,8 @@ fn may_keep<'a>(basis: &Basis<'a, '_>, edge: &ToldEdge<'a>) -> Result<bool, Allo
 
 /// Whether an edge has to be kept where its parent is.
 fn must_keep<'a>(basis: &Basis<'a, '_>, edge: &ToldEdge<'a>) -> Result<bool, AllocError>
-    ensures { IfOk result (λ b. IsTrue b ↔ MustKeep (document_of basis.now) basis.now.setting.now (told_edge edge.now)) }
+    ensures { IfOk result
+        (λ b. IsTrue b ↔ MustKeep (document_of basis.now) basis.now.setting.now (told_edge edge.now)) }
 {
     match need_of(basis.alloc, basis.document, basis.setting, edge)? {
         Need::Wanted(dependency) => {
@@ -82,7 +84,8 @@ fn asks_for_feature<'a>(
     edge: &ToldEdge<'a>,
     name: &str,
 ) -> Result<bool, AllocError>
-    ensures { IfOk result (λ b. IsTrue b ↔ AsksForFeature (as_resolved document.now) (told_edge edge.now) name.now) }
+    ensures { IfOk result
+        (λ b. IsTrue b ↔ AsksForFeature (as_resolved document.now) (told_edge edge.now) name.now) }
 {
     match declaration_of(alloc, document, edge)? {
         Some(dependency) => Ok(asks_feature(dependency, name)),
@@ -133,7 +136,8 @@ fn is_rooted<'a>(basis: &Basis<'a, '_>, rule: u8, krate: &'a Kid) -> bool
 
 /// Whether a crate is a root that stands and lists a feature.
 fn is_rooted_feature<'a>(basis: &Basis<'a, '_>, rule: u8, krate: &'a Kid, name: &'a str) -> bool
-    ensures { IsTrue result ↔ IsRootedFeature (document_of basis.now) basis.now.setting.now rule (id_of krate.now) name.now }
+    ensures { IsTrue result ↔ IsRootedFeature (document_of basis.now) basis.now.setting.now rule
+        (id_of krate.now) name.now }
 {
     if !is_rooted(basis, rule, krate) {
         return false;
@@ -196,7 +200,9 @@ fn is_kept_by_feature<'a>(
     feature: &ToldFeature<'a>,
     edge: &ToldEdge<'a>,
 ) -> Result<bool, AllocError>
-    ensures { IfOk result (λ b. IsTrue b ↔ Rule (rules_of basis.now) rule (told_feature feature.now ∷ []) (Kept (told_edge edge.now))) }
+    ensures { IfOk result
+        (λ b. IsTrue b ↔ Rule (rules_of basis.now) rule (told_feature feature.now ∷ [])
+        (Kept (told_edge edge.now))) }
 {
     if !is_asked(basis.document, rule, feature, edge) {
         return Ok(false);
@@ -211,7 +217,9 @@ fn is_kept_by_crate<'a>(
     krate: &Kid,
     edge: &ToldEdge<'a>,
 ) -> Result<bool, AllocError>
-    ensures { IfOk result (λ b. IsTrue b ↔ Rule (rules_of basis.now) rule (Crate (id_of krate.now) ∷ []) (Kept (told_edge edge.now))) }
+    ensures { IfOk result
+        (λ b. IsTrue b ↔ Rule (rules_of basis.now) rule (Crate (id_of krate.now) ∷ [])
+        (Kept (told_edge edge.now))) }
 {
     if !is_same_by(rule, 5, krate, edge.parent) {
         return Ok(false);
@@ -239,7 +247,9 @@ fn is_declared<'a>(
     edge: &ToldEdge<'a>,
     feature: &ToldFeature<'a>,
 ) -> Result<bool, AllocError>
-    ensures { IfOk result (λ b. IsTrue b ↔ Rule (rules_of basis.now) rule (Kept (told_edge edge.now) ∷ []) (told_feature feature.now)) }
+    ensures { IfOk result
+        (λ b. IsTrue b ↔ Rule (rules_of basis.now) rule (Kept (told_edge edge.now) ∷ [])
+        (told_feature feature.now)) }
 {
     if !is_child(basis.document, rule, edge, feature) {
         return Ok(false);
@@ -329,7 +339,8 @@ fn from_crate<'a>(
     krate: &Kid,
     fact: &'a Fact,
 ) -> Result<bool, AllocError>
-    ensures { IfOk result (λ b. IsTrue b ↔ Rule (rules_of basis.now) rule (Crate (id_of krate.now) ∷ []) (fact_view fact.now)) }
+    ensures { IfOk result
+        (λ b. IsTrue b ↔ Rule (rules_of basis.now) rule (Crate (id_of krate.now) ∷ []) (fact_view fact.now)) }
 {
     match fact {
         Fact::Crate(_) => Ok(false),
@@ -359,7 +370,9 @@ fn from_feature<'a>(
     feature: &ToldFeature<'a>,
     fact: &'a Fact,
 ) -> Result<bool, AllocError>
-    ensures { IfOk result (λ b. IsTrue b ↔ Rule (rules_of basis.now) rule (told_feature feature.now ∷ []) (fact_view fact.now)) }
+    ensures { IfOk result
+        (λ b. IsTrue b ↔ Rule (rules_of basis.now) rule (told_feature feature.now ∷ [])
+        (fact_view fact.now)) }
 {
     match fact {
         Fact::Crate(other) => Ok(is_same_by(rule, 2, feature.krate, other)),
@@ -395,7 +408,9 @@ fn from_edge<'a>(
     edge: &ToldEdge<'a>,
     fact: &'a Fact,
 ) -> Result<bool, AllocError>
-    ensures { IfOk result (λ b. IsTrue b ↔ Rule (rules_of basis.now) rule (Kept (told_edge edge.now) ∷ []) (fact_view fact.now)) }
+    ensures { IfOk result
+        (λ b. IsTrue b ↔ Rule (rules_of basis.now) rule (Kept (told_edge edge.now) ∷ [])
+        (fact_view fact.now)) }
 {
     match fact {
         Fact::Crate(krate) => Ok(is_same_by(rule, 5, edge.child, krate)),
@@ -413,7 +428,8 @@ fn from_edge<'a>(
 
 /// Whether a fact follows by the rule from a toggled feature.
 fn from_toggle<'a>(basis: &Basis<'a, '_>, rule: u8, toggle: &ToldToggle<'a>, fact: &'a Fact) -> bool
-    ensures { IsTrue result ↔ Rule (rules_of basis.now) rule (told_toggle toggle.now ∷ []) (fact_view fact.now) }
+    ensures { IsTrue result ↔ Rule (rules_of basis.now) rule (told_toggle toggle.now ∷ [])
+        (fact_view fact.now) }
 {
     match fact {
         Fact::Crate(_) => false,
@@ -436,7 +452,8 @@ pub(crate) fn from_one<'a>(
     premise: &'a Fact,
     fact: &'a Fact,
 ) -> Result<bool, AllocError>
-    ensures { IfOk result (λ b. IsTrue b ↔ Rule (rules_of basis.now) rule (fact_view premise.now ∷ []) (fact_view fact.now)) }
+    ensures { IfOk result
+        (λ b. IsTrue b ↔ Rule (rules_of basis.now) rule (fact_view premise.now ∷ []) (fact_view fact.now)) }
 {
     match premise {
         Fact::Crate(krate) => from_crate(basis, rule, krate, fact),

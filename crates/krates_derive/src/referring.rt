@@ -26,7 +26,8 @@ struct NamedFeature<'t> {
 
 /// Whether a feature of a crate refers to another feature of it.
 pub(crate) fn names<'a>(document: &Document<'a>, krate: &'a Kid, feature: &str, name: &str) -> bool
-    ensures { IsTrue result ↔ HasReference (as_resolved document.now) (id_of krate.now) feature.now (simple name.now) }
+    ensures { IsTrue result
+        ↔ HasReference (as_resolved document.now) (id_of krate.now) feature.now (simple name.now) }
 {
     has_simple(document.values(krate, feature), name)
 }
@@ -58,7 +59,8 @@ fn is_simple(text: &str, name: &str) -> bool
 
 /// Whether a feature of a crate asks for the edges to another crate.
 pub(crate) fn asks<'a>(document: &Document<'a>, krate: &'a Kid, feature: &str, child: &Kid) -> bool
-    ensures { IsTrue result ↔ Asks (as_resolved document.now) (id_of krate.now) feature.now (id_of child.now) }
+    ensures { IsTrue result
+        ↔ Asks (as_resolved document.now) (id_of krate.now) feature.now (id_of child.now) }
 {
     asks_among(document, krate, document.values(krate, feature), child)
 }
@@ -146,13 +148,25 @@ fn toggles_by<'a>(
             krate: dep,
             feature,
         } => {
-            is_toggle(document, !weakly, krate, &NamedFeature { dep, feature }, toggled)
+            is_toggle(
+                document,
+                !weakly,
+                krate,
+                &NamedFeature { dep, feature },
+                toggled,
+            )
         }
         Feature::Weak {
             krate: dep,
             feature,
         } => {
-            is_toggle(document, weakly, krate, &NamedFeature { dep, feature }, toggled)
+            is_toggle(
+                document,
+                weakly,
+                krate,
+                &NamedFeature { dep, feature },
+                toggled,
+            )
         }
     }
 }

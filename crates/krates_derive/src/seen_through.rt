@@ -15,7 +15,9 @@ pub(crate) fn seen_through(
     index: &CachingIndex,
     metadata: &Metadata,
 ) -> Result<Metadata, AllocError>
-    ensures { IfOk result (λ seen. IsCorrectedBy (index_view index.now.answer) (metadata_view metadata.now) (metadata_view seen)) }
+    ensures { IfOk result
+        (λ seen. IsCorrectedBy (index_view index.now.answer) (metadata_view metadata.now)
+        (metadata_view seen)) }
 {
     let copy = metadata.clone()?;
     corrected(alloc, index, copy)
@@ -27,7 +29,8 @@ fn corrected(
     index: &CachingIndex,
     mut metadata: Metadata,
 ) -> Result<Metadata, AllocError>
-    ensures { IfOk result (λ seen. IsCorrectedBy (index_view index.now.answer) (metadata_view metadata) (metadata_view seen)) }
+    ensures { IfOk result
+        (λ seen. IsCorrectedBy (index_view index.now.answer) (metadata_view metadata) (metadata_view seen)) }
 {
     for pkg in metadata.packages.iter_mut() {
         index.correct(alloc, pkg)?;

@@ -75,7 +75,8 @@ pub(crate) fn info_of(edge: &ToldEdge<'_>) -> Result<DepKindInfo, AllocError>
 
 /// The edge between two crates for one purpose and target.
 pub(crate) fn edge_for<'a>(parent: &'a Kid, child: &'a Kid, info: &'a DepKindInfo) -> ToldEdge<'a>
-    ensures { told_edge result ≡ edge_between (id_of parent.now) (id_of child.now) (dep_kind_info_view info.now) }
+    ensures { told_edge result ≡ edge_between (id_of parent.now) (id_of child.now)
+        (dep_kind_info_view info.now) }
 {
     ToldEdge {
         parent,

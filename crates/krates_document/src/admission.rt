@@ -39,8 +39,10 @@ pub fn admit(alloc: Global, metadata: &Metadata) -> Result<Ids, Error>
 
 /// Reads the ids of a document.
 fn ids_of(alloc: Global, metadata: &Metadata, resolve: &Resolve) -> Result<Ids, Error>
-    ensures read { IfOk result (λ ids. AreIdsOf (metadata_view metadata.now) (resolve_view resolve.now) (ids_view ids)) }
-    ensures refused { IfErr result (InvalidIdRefusal (metadata_view metadata.now) (resolve_view resolve.now)) }
+    ensures read { IfOk result
+        (λ ids. AreIdsOf (metadata_view metadata.now) (resolve_view resolve.now) (ids_view ids)) }
+    ensures refused { IfErr result (InvalidIdRefusal (metadata_view metadata.now)
+        (resolve_view resolve.now)) }
 {
     let packages = read_ids(alloc, &metadata.packages)?;
     let members = read_ids(alloc, &metadata.workspace_members)?;
@@ -184,7 +186,8 @@ fn read_dep_ids(alloc: Global, deps: &[NodeDep]) -> Result<Vec<Kid>, Error>
 
 /// Reads the ids of each node's dependencies.
 fn read_deps(alloc: Global, nodes: &[Node]) -> Result<Vec<Vec<Kid>>, Error>
-    ensures read { IfOk result (λ lists. AllZip AreDepIds (map node_view nodes.now) (map (λ kids. kids.items) lists.items)) }
+    ensures read { IfOk result
+        (λ lists. AllZip AreDepIds (map node_view nodes.now) (map (λ kids. kids.items) lists.items)) }
     ensures refused { IfErr result (InvalidNodeRefusal (map node_view nodes.now)) }
 {
     let mut lists = Vec::new(alloc);

@@ -22,7 +22,8 @@ use std::alloc::{AllocError, Global};
 /// A version without pre-release and build metadata takes no memory.
 pub fn version_of(alloc: Global, kid: &Kid) -> Result<Option<Version>, AllocError>
     ensures read { IfOk result (λ version. version_named kid.now.version ≡ option_map parts_of version) }
-    ensures plain { (v : VersionModel) → version_named kid.now.version ≡ Some v → v.3 ≡ [] → v.4 ≡ [] → IsOk result }
+    ensures plain { (v : VersionModel) → version_named kid.now.version ≡ Some v → v.3 ≡ [] → v.4 ≡ []
+        → IsOk result }
 {
     match Version::parse(alloc, kid.version()) {
         Ok(version) => Ok(Some(version)),
@@ -73,7 +74,8 @@ pub fn declared_of(
     requires places { AreDeclaredPlaces (map dependency_view declared.now) places.now }
     ensures within { IfSome result (λ place. place < length declared.now) }
     ensures first { let all = map dependency_view declared.now in let entry = entry_in sought.now in
-        MatchOption result (IsUndeclared all entry (kind_in sought.now)) (λ place. (d : DependencyModel) × IsDeclared all entry (kind_in sought.now) place d) }
+        MatchOption result (IsUndeclared all entry (kind_in sought.now)) (λ place. (d : DependencyModel)
+        × IsDeclared all entry (kind_in sought.now) place d) }
 {
     let candidates = candidates_of(places, sought);
     let mut wanted = Wanted {
@@ -211,7 +213,8 @@ fn fits_as(wanted: &Wanted<'_>, declared: &Dependency) -> bool
 /// Whether the declared dependency fits, and its source is that of the dependency's id.
 fn fits_by_source(sought: &Sought<'_>, declared: &Dependency) -> bool
     requires { HasItsVersion sought.now }
-    ensures { IsTrue result ↔ FitsBySource (entry_in sought.now) (kind_in sought.now) (dependency_view declared.now) }
+    ensures { IsTrue result
+        ↔ FitsBySource (entry_in sought.now) (kind_in sought.now) (dependency_view declared.now) }
 {
     fits(sought, declared)
         && has_source(declared, sought.dep.pkg.repr.as_str(), sought.kid.source())

@@ -19,7 +19,8 @@ use std::alloc::{AllocError, Global};
 fn draw_uses(sheet: &Sheet, link: &Link, out: &mut Vec<Arrow>) -> Result<(), AllocError>
     requires few { IsFew sheet.now }
     requires ordered { IsOrdered sheet.now }
-    ensures { OnOk result (Draws out.old out.new (uses (sheet_view sheet.now) (link_view link.now) (link_view link.now).given)) }
+    ensures { OnOk result (Draws out.old out.new (uses (sheet_view sheet.now) (link_view link.now)
+        (link_view link.now).given)) }
 {
     let edge = &link.edge;
     let source = crate_number(sheet, &edge.parent);
@@ -55,7 +56,8 @@ fn draw_uses(sheet: &Sheet, link: &Link, out: &mut Vec<Arrow>) -> Result<(), All
 fn draw_kept(sheet: &Sheet, links: &[Link], out: &mut Vec<Arrow>) -> Result<(), AllocError>
     requires few { IsFew sheet.now }
     requires ordered { IsOrdered sheet.now }
-    ensures { OnOk result (Draws out.old out.new (flat_map (λ l. uses (sheet_view sheet.now) l l.given) (map link_view links.now))) }
+    ensures { OnOk result (Draws out.old out.new (flat_map (λ l. uses (sheet_view sheet.now) l l.given)
+        (map link_view links.now))) }
 {
     for x in links {
         draw_uses(sheet, x, out)?;
@@ -73,7 +75,10 @@ fn draw_toggled(
 ) -> Result<(), AllocError>
     requires few { IsFew sheet.now }
     requires ordered { IsOrdered sheet.now }
-    ensures { OnOk result (Draws out.old out.new (map (λ g. line (sheet_view sheet.now) (AtCrate (id_of parent.now)) (AtFeature (id_of child.now) g.name) Feature) (map toggle_of toggled.now))) }
+    ensures { OnOk result (Draws out.old out.new
+        (map (λ g. line (sheet_view sheet.now) (AtCrate (id_of parent.now))
+        (AtFeature (id_of child.now) g.name) Feature)
+        (map toggle_of toggled.now))) }
 {
     let source = crate_number(sheet, parent);
     for x in toggled {
@@ -97,7 +102,8 @@ fn draw_pair(
 ) -> Result<(), AllocError>
     requires few { IsFew sheet.now }
     requires ordered { IsOrdered sheet.now }
-    ensures { OnOk result (Draws out.old out.new (pair_lines (sheet_view sheet.now) (id_of parent.now) (from_crate (sheet_view sheet.now) (id_of parent.now)) (krate_view child.now))) }
+    ensures { OnOk result (Draws out.old out.new (pair_lines (sheet_view sheet.now) (id_of parent.now)
+        (from_crate (sheet_view sheet.now) (id_of parent.now)) (krate_view child.now))) }
 {
     draw_kept(sheet, links_between(sheet, parent, &child.id), out)?;
     let toggled = toggled_between(sheet, parent, &child.id);
@@ -114,7 +120,10 @@ fn draw_children(
 ) -> Result<(), AllocError>
     requires few { IsFew sheet.now }
     requires ordered { IsOrdered sheet.now }
-    ensures { OnOk result (Draws out.old out.new (flat_map (pair_lines (sheet_view sheet.now) (id_of parent.now) (from_crate (sheet_view sheet.now) (id_of parent.now))) (map (λ k. krate_view k.now) children.now))) }
+    ensures { OnOk result (Draws out.old out.new
+        (flat_map (pair_lines (sheet_view sheet.now) (id_of parent.now)
+        (from_crate (sheet_view sheet.now) (id_of parent.now)))
+        (map (λ k. krate_view k.now) children.now))) }
 {
     for x in children {
         draw_pair(sheet, parent, x, out)?;
@@ -149,7 +158,9 @@ fn krate_at(krates: &[Krate], place: usize) -> Option<&Krate>
 /// Adds the crate, where it is kept.
 fn add_crate<'a>(sheet: &'a Sheet, id: &Kid, krates: &mut Vec<&'a Krate>) -> Result<(), AllocError>
     requires { IsOrdered sheet.now }
-    ensures { OnOk result (map (λ k. krate_view k.now) krates.new.items ≡ map (λ k. krate_view k.now) krates.old.items ++ filter (is_crate (id_of id.now)) (sheet_view sheet.now).krates) }
+    ensures { OnOk result (map (λ k. krate_view k.now) krates.new.items
+        ≡ map (λ k. krate_view k.now) krates.old.items
+        ++ filter (is_crate (id_of id.now)) (sheet_view sheet.now).krates) }
 {
     if let Some(krate) = krate_at(&sheet.krates, crate_number(sheet, id)) {
         krates.push(krate)?;
@@ -167,7 +178,8 @@ fn add_child<'a>(
     requires ordered { IsOrdered sheet.now }
     requires by_child { AreByChild mine.now }
     requires within { place < length mine.now }
-    ensures { OnOk result (AreChildren sheet.now (take place mine.now) children.old → AreChildren sheet.now (take (place + 1) mine.now) children.new) }
+    ensures { OnOk result (AreChildren sheet.now (take place mine.now) children.old → AreChildren sheet.now
+        (take (place + 1) mine.now) children.new) }
 {
     if is_first(mine, place) {
         add_crate(sheet, &mine[place].edge.child, children)?;
@@ -202,7 +214,8 @@ fn draw_crate(
 ) -> Result<(), AllocError>
     requires few { IsFew sheet.now }
     requires ordered { IsOrdered sheet.now }
-    ensures { OnOk result (Draws out.old out.new (crate_lines (sheet_view sheet.now) (krate_view parent.now))) }
+    ensures { OnOk result (Draws out.old out.new (crate_lines (sheet_view sheet.now)
+        (krate_view parent.now))) }
 {
     let mine = links_from(sheet, &parent.id);
     let children = children_of(alloc, sheet, mine)?;
@@ -217,7 +230,8 @@ pub(crate) fn draw_crates(
 ) -> Result<(), AllocError>
     requires few { IsFew sheet.now }
     requires ordered { IsOrdered sheet.now }
-    ensures { OnOk result (Draws out.old out.new (flat_map (crate_lines (sheet_view sheet.now)) (sheet_view sheet.now).krates)) }
+    ensures { OnOk result (Draws out.old out.new (flat_map (crate_lines (sheet_view sheet.now))
+        (sheet_view sheet.now).krates)) }
 {
     for x in &sheet.krates {
         draw_crate(alloc, sheet, x, out)?;

@@ -22,7 +22,11 @@ fn draw_to_crates(
 ) -> Result<(), AllocError>
     requires few { IsFew sheet.now }
     requires ordered { IsOrdered sheet.now }
-    ensures { OnOk result (Draws out.old out.new (map (λ e. line (sheet_view sheet.now) (AtFeature (id_of from.now.feature.krate) (text_view from.now.feature.name)) e Feature) (map AtCrate (filter (leads (from_crate (sheet_view sheet.now) (id_of from.now.feature.krate))) (map id_of krates.now))))) }
+    ensures { OnOk result (Draws out.old out.new (map
+        (λ e. line (sheet_view sheet.now) (AtFeature (id_of from.now.feature.krate)
+        (text_view from.now.feature.name)) e Feature) (map AtCrate
+        (filter (leads (from_crate (sheet_view sheet.now) (id_of from.now.feature.krate)))
+        (map id_of krates.now))))) }
 {
     let source = feature_number(sheet, &from.feature.krate, from.feature.name.as_str());
     for x in krates {
@@ -48,7 +52,11 @@ fn draw_to_features(
 ) -> Result<(), AllocError>
     requires few { IsFew sheet.now }
     requires ordered { IsOrdered sheet.now }
-    ensures { OnOk result (Draws out.old out.new (map (λ e. line (sheet_view sheet.now) (AtFeature (id_of from.now.feature.krate) (text_view from.now.feature.name)) e Feature) (map (λ q. AtFeature q name.now) (filter (leads (from_crate (sheet_view sheet.now) (id_of from.now.feature.krate))) (map id_of krates.now))))) }
+    ensures { OnOk result (Draws out.old out.new (map
+        (λ e. line (sheet_view sheet.now) (AtFeature (id_of from.now.feature.krate)
+        (text_view from.now.feature.name)) e Feature) (map (λ q. AtFeature q name.now)
+        (filter (leads (from_crate (sheet_view sheet.now) (id_of from.now.feature.krate)))
+        (map id_of krates.now))))) }
 {
     let source = feature_number(sheet, &from.feature.krate, from.feature.name.as_str());
     for x in krates {
@@ -74,7 +82,8 @@ fn draw_meaning(
 ) -> Result<(), AllocError>
     requires few { IsFew sheet.now }
     requires ordered { IsOrdered sheet.now }
-    ensures { OnOk result (Draws out.old out.new (meaning_lines (sheet_view sheet.now) (named_view from.now) (from_crate (sheet_view sheet.now) (id_of from.now.feature.krate)) (meaning_view meaning.now))) }
+    ensures { OnOk result (Draws out.old out.new (meaning_lines (sheet_view sheet.now) (named_view from.now)
+        (from_crate (sheet_view sheet.now) (id_of from.now.feature.krate)) (meaning_view meaning.now))) }
 {
     match meaning {
         Meaning::OwnFeature(name) => {
@@ -103,7 +112,9 @@ fn draw_meanings(
 ) -> Result<(), AllocError>
     requires few { IsFew sheet.now }
     requires ordered { IsOrdered sheet.now }
-    ensures { OnOk result (Draws out.old out.new (flat_map (meaning_lines (sheet_view sheet.now) (named_view from.now) (from_crate (sheet_view sheet.now) (id_of from.now.feature.krate))) (map meaning_view meanings.now))) }
+    ensures { OnOk result (Draws out.old out.new (flat_map
+        (meaning_lines (sheet_view sheet.now) (named_view from.now) (from_crate (sheet_view sheet.now)
+        (id_of from.now.feature.krate))) (map meaning_view meanings.now))) }
 {
     for x in meanings {
         draw_meaning(sheet, from, x, out)?;
@@ -116,7 +127,8 @@ fn draw_meanings(
 fn draw_feature(sheet: &Sheet, from: &Named, out: &mut Vec<Arrow>) -> Result<(), AllocError>
     requires few { IsFew sheet.now }
     requires ordered { IsOrdered sheet.now }
-    ensures { OnOk result (Draws out.old out.new (feature_lines (sheet_view sheet.now) (named_view from.now))) }
+    ensures { OnOk result (Draws out.old out.new (feature_lines (sheet_view sheet.now)
+        (named_view from.now))) }
 {
     let source = feature_number(sheet, &from.feature.krate, from.feature.name.as_str());
     let target = crate_number(sheet, &from.feature.krate);
@@ -132,7 +144,8 @@ fn draw_feature(sheet: &Sheet, from: &Named, out: &mut Vec<Arrow>) -> Result<(),
 pub(crate) fn draw_features(sheet: &Sheet, out: &mut Vec<Arrow>) -> Result<(), AllocError>
     requires few { IsFew sheet.now }
     requires ordered { IsOrdered sheet.now }
-    ensures { OnOk result (Draws out.old out.new (flat_map (feature_lines (sheet_view sheet.now)) (sheet_view sheet.now).features)) }
+    ensures { OnOk result (Draws out.old out.new (flat_map (feature_lines (sheet_view sheet.now))
+        (sheet_view sheet.now).features)) }
 {
     for x in &sheet.features {
         draw_feature(sheet, x, out)?;

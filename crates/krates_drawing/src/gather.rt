@@ -35,7 +35,8 @@ pub fn given_by<'a>(
     document: &Document<'a>,
     edge: &KeptEdge,
 ) -> Result<Vec<String>, AllocError>
-    ensures { IfOk result (λ given. GivenTold (as_resolved document.now) edge.now (map text_view given.items)) }
+    ensures { IfOk result (λ given. GivenTold (as_resolved document.now) edge.now
+        (map text_view given.items)) }
 {
     let Some(pkg) = document.package_of(&edge.parent) else {
         return Ok(Vec::new(alloc));
@@ -51,7 +52,8 @@ pub fn given_by<'a>(
 
 /// The declared dependency at a place.
 fn dependency_at(dependencies: &[Dependency], place: usize) -> Option<&Dependency>
-    ensures { option_map (λ d. dependency_view d.now) result ≡ slice_get (map dependency_view dependencies.now) place }
+    ensures { option_map (λ d. dependency_view d.now) result ≡ slice_get
+        (map dependency_view dependencies.now) place }
 {
     dependencies.get(place)
 }
@@ -69,7 +71,8 @@ pub fn meanings_by<'a>(
     document: &Document<'a>,
     feature: &EnabledFeature,
 ) -> Result<Vec<Meaning>, AllocError>
-    ensures { IfOk result (λ meanings. MeaningsTold (as_resolved document.now) feature.now (map meaning_view meanings.items)) }
+    ensures { IfOk result (λ meanings. MeaningsTold (as_resolved document.now) feature.now
+        (map meaning_view meanings.items)) }
 {
     let values = document.values_of(&feature.krate, feature.name.as_str());
     meanings_of(alloc, document, &feature.krate, values)
@@ -81,7 +84,8 @@ fn counts_of<'a>(
     document: &Document<'a>,
     krates: &[Kid],
 ) -> Result<Vec<usize>, AllocError>
-    ensures { IfOk result (λ counts. AllZip (λ i n. CountTold (as_resolved document.now) (id_of i) n) krates.now counts.items) }
+    ensures { IfOk result (λ counts. AllZip (λ i n. CountTold (as_resolved document.now)
+        (id_of i) n) krates.now counts.items) }
 {
     let mut counts = Vec::new(alloc);
     for krate in krates {
@@ -96,7 +100,8 @@ fn givens_of<'a>(
     document: &Document<'a>,
     edges: &[KeptEdge],
 ) -> Result<Vec<Vec<String>>, AllocError>
-    ensures { IfOk result (λ givens. AllZip (GivenTold (as_resolved document.now)) edges.now (map texts_view givens.items)) }
+    ensures { IfOk result (λ givens. AllZip (GivenTold (as_resolved document.now)) edges.now
+        (map texts_view givens.items)) }
 {
     let mut givens = Vec::new(alloc);
     for edge in edges {
@@ -111,7 +116,8 @@ fn names_of<'a>(
     document: &Document<'a>,
     features: &[EnabledFeature],
 ) -> Result<Vec<Vec<Meaning>>, AllocError>
-    ensures { IfOk result (λ names. AllZip (MeaningsTold (as_resolved document.now)) features.now (map meanings_view names.items)) }
+    ensures { IfOk result (λ names. AllZip (MeaningsTold (as_resolved document.now)) features.now
+        (map meanings_view names.items)) }
 {
     let mut names = Vec::new(alloc);
     for feature in features {
@@ -126,7 +132,8 @@ fn krates_with(
     krates: Vec<Kid>,
     counts: Vec<usize>,
 ) -> Result<Vec<Krate>, AllocError>
-    ensures { IfOk result (λ v. v.items ≡ map (λ pair. record { id = pair.0; declared = pair.1 }) (zip krates.items counts.items)) }
+    ensures { IfOk result (λ v. v.items ≡ map (λ pair. record { id = pair.0; declared = pair.1 })
+        (zip krates.items counts.items)) }
 {
     krates
         .into_iter()
@@ -141,7 +148,8 @@ fn links_with(
     edges: Vec<KeptEdge>,
     givens: Vec<Vec<String>>,
 ) -> Result<Vec<Link>, AllocError>
-    ensures { IfOk result (λ v. v.items ≡ map (λ pair. record { edge = pair.0; given = pair.1 }) (zip edges.items givens.items)) }
+    ensures { IfOk result (λ v. v.items ≡ map (λ pair. record { edge = pair.0; given = pair.1 })
+        (zip edges.items givens.items)) }
 {
     edges
         .into_iter()
@@ -156,7 +164,8 @@ fn features_with(
     features: Vec<EnabledFeature>,
     names: Vec<Vec<Meaning>>,
 ) -> Result<Vec<Named>, AllocError>
-    ensures { IfOk result (λ v. v.items ≡ map (λ pair. record { feature = pair.0; meanings = pair.1 }) (zip features.items names.items)) }
+    ensures { IfOk result (λ v. v.items ≡ map (λ pair. record { feature = pair.0; meanings = pair.1 })
+        (zip features.items names.items)) }
 {
     features
         .into_iter()
@@ -174,8 +183,11 @@ pub fn sheet_of<'a>(
     selection: Selection,
 ) -> Result<Sheet, AllocError>
     requires distinct { NoneDoubled (as_resolved document.now).metadata (as_resolved document.now).graph }
-    ensures sheet { IfOk result (λ sheet. (s : SettingModel) → IsSelection (as_resolved document.now) s selection → IsSheet (as_resolved document.now) s selection (sheet_view sheet)) }
-    ensures ordered { IfOk result (λ sheet. (s : SettingModel) → IsSelection (as_resolved document.now) s selection → IsOrdered sheet) }
+    ensures sheet { IfOk result (λ sheet. (s : SettingModel) → IsSelection
+        (as_resolved document.now) s selection → IsSheet (as_resolved document.now) s selection
+        (sheet_view sheet)) }
+    ensures ordered { IfOk result (λ sheet. (s : SettingModel) → IsSelection
+        (as_resolved document.now) s selection → IsOrdered sheet) }
 {
     let Selection {
         krates,

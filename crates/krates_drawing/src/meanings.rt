@@ -22,7 +22,8 @@ fn referents_of<'a>(
     krate: &Kid,
     name: &str,
 ) -> Result<Vec<Kid>, AllocError>
-    ensures { IfOk result (λ ids. AreReferents (as_resolved document.now) (id_of krate.now) name.now (map id_of ids.items)) }
+    ensures { IfOk result (λ ids. AreReferents (as_resolved document.now) (id_of krate.now) name.now
+        (map id_of ids.items)) }
 {
     laws::comparison();
     match document.referent(krate, name) {
@@ -47,7 +48,8 @@ pub fn meaning_of<'a>(
     krate: &Kid,
     text: &str,
 ) -> Result<Meaning, AllocError>
-    ensures { IfOk result (λ meaning. IsMeaning (as_resolved document.now) (id_of krate.now) text.now (meaning_view meaning)) }
+    ensures { IfOk result (λ meaning. IsMeaning (as_resolved document.now) (id_of krate.now) text.now
+        (meaning_view meaning)) }
 {
     match ParsedFeature::from(text).feat() {
         Feature::Simple(name) => Ok(Meaning::OwnFeature(String::from_str(alloc, name)?)),
@@ -76,7 +78,8 @@ pub fn meanings_of<'a>(
     krate: &Kid,
     values: &[String],
 ) -> Result<Vec<Meaning>, AllocError>
-    ensures { IfOk result (λ meanings. AllZip (IsMeaning (as_resolved document.now) (id_of krate.now)) (map text_view values.now) (map meaning_view meanings.items)) }
+    ensures { IfOk result (λ meanings. AllZip (IsMeaning (as_resolved document.now) (id_of krate.now))
+        (map text_view values.now) (map meaning_view meanings.items)) }
 {
     let mut meanings = Vec::new(alloc);
     for text in values {
@@ -99,7 +102,8 @@ fn has_text(texts: &[String], text: &str) -> bool
 
 /// Those of the features that the node lists.
 fn push_listed(node: &Node, features: &[String], given: &mut Vec<String>) -> Result<(), AllocError>
-    ensures { OnOk result (map text_view given.new.items ≡ map text_view given.old.items ++ filter (has (node_view node.now).features) (map text_view features.now)) }
+    ensures { OnOk result (map text_view given.new.items ≡ map text_view given.old.items ++ filter (has
+        (node_view node.now).features) (map text_view features.now)) }
 {
     for x in features {
         if has_text(&node.features, x.as_str()) {
@@ -115,7 +119,8 @@ pub fn given_of(
     dependency: &Dependency,
     node: &Node,
 ) -> Result<Vec<String>, AllocError>
-    ensures { IfOk result (λ given. map text_view given.items ≡ filter (has (node_view node.now).features) (asked_by (dependency_view dependency.now))) }
+    ensures { IfOk result (λ given. map text_view given.items ≡ filter (has (node_view node.now).features)
+        (asked_by (dependency_view dependency.now))) }
 {
     let mut given = Vec::new(alloc);
     push_listed(node, &dependency.features, &mut given)?;

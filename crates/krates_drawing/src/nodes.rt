@@ -74,7 +74,8 @@ fn mapping_over(
 ) -> Result<Vec<Option<usize>>, AllocError>
     requires ordered { IsOrdered sheet.now }
     requires by_child { AreByChild mine.now }
-    ensures { IfOk result (λ v. v.items ≡ map (mapped_to (sheet_view sheet.now) (map link_view mine.now)) (range_with_len 0 count)) }
+    ensures { IfOk result (λ v. v.items ≡ map (mapped_to (sheet_view sheet.now) (map link_view mine.now))
+        (range_with_len 0 count)) }
 {
     let mut out = Vec::new(alloc);
     for place in 0..count {
@@ -94,7 +95,8 @@ fn mapping(alloc: Global, sheet: &Sheet, krate: &Krate) -> Result<Vec<Option<usi
 
 fn push_crates(alloc: Global, sheet: &Sheet, out: &mut Vec<Spot>) -> Result<(), AllocError>
     requires { IsOrdered sheet.now }
-    ensures { OnOk result (map spot_view out.new.items ≡ map spot_view out.old.items ++ map (crate_spot (sheet_view sheet.now)) (sheet_view sheet.now).krates) }
+    ensures { OnOk result (map spot_view out.new.items ≡ map spot_view out.old.items ++ map (crate_spot
+        (sheet_view sheet.now)) (sheet_view sheet.now).krates) }
 {
     for x in &sheet.krates {
         out.push(Spot::Krate {
@@ -107,7 +109,8 @@ fn push_crates(alloc: Global, sheet: &Sheet, out: &mut Vec<Spot>) -> Result<(), 
 
 fn push_features(sheet: &Sheet, out: &mut Vec<Spot>) -> Result<(), AllocError>
     requires { IsOrdered sheet.now }
-    ensures { OnOk result (map spot_view out.new.items ≡ map spot_view out.old.items ++ map (feature_spot (sheet_view sheet.now)) (sheet_view sheet.now).features) }
+    ensures { OnOk result (map spot_view out.new.items ≡ map spot_view out.old.items ++ map (feature_spot
+        (sheet_view sheet.now)) (sheet_view sheet.now).features) }
 {
     for x in &sheet.features {
         let krate_index = crate_number(sheet, &x.feature.krate);

@@ -59,7 +59,8 @@ fn place_of_feature(features: &[Named], id: &Kid, name: &str) -> usize
 
 /// How an enabled feature compares with that of this crate and name.
 fn feature_against(named: &Named, id: &Kid, name: &str) -> Ordering
-    ensures { result ≡ ordering_then (id_cmp named.now.feature.krate id.now) (slice_cmp nat_cmp (text_view named.now.feature.name) name.now) }
+    ensures { result ≡ ordering_then (id_cmp named.now.feature.krate id.now) (slice_cmp nat_cmp
+        (text_view named.now.feature.name) name.now) }
 {
     match named.feature.krate.cmp(id) {
         Ordering::Equal => named.feature.name.as_str().cmp(name),

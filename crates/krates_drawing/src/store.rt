@@ -57,7 +57,8 @@ fn store_arrow<N, E: FromEdge + Drop>(
 ) -> Result<(), StoreError>
     requires stands { HasEnds (length graph.old.nodes) (arrow_view arrow.now) }
     requires few { length graph.old.nodes < 2 ^ 32 }
-    ensures drawn { OnOk result (Appends E.made_from_edge graph.old.edges graph.new.edges (arrow_view arrow.now)) }
+    ensures drawn { OnOk result (Appends E.made_from_edge graph.old.edges graph.new.edges
+        (arrow_view arrow.now)) }
     ensures nodes { graph.new.nodes ≡ graph.old.nodes }
     ensures limit { graph.new.edge_limit ≡ graph.old.edge_limit }
     ensures refused { IfErr result (λ e. e ≡ TooMany → graph.old.edge_limit ≤ length graph.old.edges) }
@@ -83,7 +84,8 @@ pub fn store_arrows<N, E: FromEdge + Drop>(
     requires stand { All (HasEnds (length graph.old.nodes)) (map arrow_view arrows.now) }
     requires few { length graph.old.nodes < 2 ^ 32 }
     requires empty { graph.old.edges ≡ [] }
-    ensures drawn { OnOk result (AllZip (IsStoredAs E.made_from_edge) (map arrow_view arrows.now) graph.new.edges) }
+    ensures drawn { OnOk result (AllZip (IsStoredAs E.made_from_edge)
+        (map arrow_view arrows.now) graph.new.edges) }
     ensures nodes { graph.new.nodes ≡ graph.old.nodes }
     ensures refused { IfErr result (λ e. e ≡ TooMany → graph.old.edge_limit < length arrows.now) }
 {

@@ -33,7 +33,8 @@ pub(crate) fn links_from<'a>(sheet: &'a Sheet, parent: &Kid) -> &'a [Link]
 /// The kept edges from a crate to another.
 pub(crate) fn links_between<'a>(sheet: &'a Sheet, parent: &Kid, child: &Kid) -> &'a [Link]
     requires { IsOrdered sheet.now }
-    ensures { map link_view result.now ≡ filter (is_to (id_of child.now)) (from_crate (sheet_view sheet.now) (id_of parent.now)) }
+    ensures { map link_view result.now ≡ filter (is_to (id_of child.now)) (from_crate (sheet_view sheet.now)
+        (id_of parent.now)) }
 {
     laws::comparison();
     let below = sheet
@@ -56,7 +57,8 @@ pub(crate) fn leads_to(sheet: &Sheet, parent: &Kid, child: &Kid) -> bool
 /// The features of a crate that another toggles, by name.
 pub(crate) fn toggled_between<'a>(sheet: &'a Sheet, by: &Kid, krate: &Kid) -> &'a [ToggledFeature]
     requires { IsOrdered sheet.now }
-    ensures { map toggle_of result.now ≡ filter (is_between (id_of by.now) (id_of krate.now)) (sheet_view sheet.now).toggled }
+    ensures { map toggle_of result.now ≡ filter (is_between (id_of by.now) (id_of krate.now))
+        (sheet_view sheet.now).toggled }
 {
     laws::comparison();
     let below = sheet
@@ -70,7 +72,8 @@ pub(crate) fn toggled_between<'a>(sheet: &'a Sheet, by: &Kid, krate: &Kid) -> &'
 
 /// How a kept edge compares with those between these crates.
 fn link_against(link: &Link, parent: &Kid, child: &Kid) -> Ordering
-    ensures { result ≡ ordering_then (id_cmp link.now.edge.parent parent.now) (id_cmp link.now.edge.child child.now) }
+    ensures { result ≡ ordering_then (id_cmp link.now.edge.parent parent.now)
+        (id_cmp link.now.edge.child child.now) }
 {
     match link.edge.parent.cmp(parent) {
         Ordering::Equal => link.edge.child.cmp(child),

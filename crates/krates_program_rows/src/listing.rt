@@ -209,3 +209,19 @@ fn refuses_words_that_cannot_be_had(rt: HostRuntime) -> Result<(), Fail> {
     }
     Ok(())
 }
+
+#[test]
+fn refusals_without_a_cause_are_printed(rt: HostRuntime) -> Result<(), Fail> {
+    let told = format!(in rt.alloc();
+        "{}, {}, {}, {}",
+        RunError::Read,
+        RunError::Utf8,
+        RunError::Write,
+        RunError::Memory
+    )?;
+    assert_eq!(rt;
+        told.as_str(),
+        "read failed, input is not UTF-8, write failed, out of memory"
+    );
+    Ok(())
+}

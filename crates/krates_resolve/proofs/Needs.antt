@@ -134,6 +134,7 @@ children_told once r p child x none of = (to, back)
         let y = right_of Reads (dep_texts of.parts.at.node) x.children.now at.0 h.dep.pkg of.parts.children.read text in
         let is : id_of y.0 ≡ child = ap id_of (once h.dep.pkg y.0 e.id.read y.2 e.id.reads) ∙ e.id.same in
         contains_at (map id_of x.children.now) at.0 child (slice_get-map id_of x.children.now at.0 ∙ ap (option_map id_of) y.1 ∙ ap (λ z. Some z) is)
+
     back : Contains (map id_of x.children.now) child → HasChild r p child
     back c =
         let at = place_in (map id_of x.children.now) child c in

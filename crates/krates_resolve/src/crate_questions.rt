@@ -59,7 +59,8 @@ impl<'a> Document<'a> {
     /// The features that the node of a crate lists, in the order of the document; none where it has no node. Time: O(log n) in
     /// the crates of the document.
     pub fn features(&self, krate: &Kid) -> &'a [String]
-        ensures { (f : Text) → ListsFeature (as_resolved self.now) (id_of krate.now) f ↔ Contains (map text_view result.now) f }
+        ensures { (f : Text) → ListsFeature (as_resolved self.now) (id_of krate.now) f
+            ↔ Contains (map text_view result.now) f }
     {
         features_in(&self.lookup, krate)
     }
@@ -121,7 +122,8 @@ fn stands_in<'a>(lookup: &Lookup<'a>, setting: &Setting, krate: &'a Kid) -> bool
 /// The features that the node of a crate lists.
 fn features_in<'a>(lookup: &Lookup<'a>, krate: &Kid) -> &'a [String]
     requires { IsLookup lookup.now }
-    ensures { (f : Text) → ListsFeature (resolved_view lookup.now) (id_of krate.now) f ↔ Contains (map text_view result.now) f }
+    ensures { (f : Text) → ListsFeature (resolved_view lookup.now) (id_of krate.now) f
+        ↔ Contains (map text_view result.now) f }
 {
     match node_place(lookup, krate) {
         Some(place) => lookup.resolve.nodes[place].features.as_slice(),

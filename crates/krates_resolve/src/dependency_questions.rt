@@ -40,7 +40,8 @@ impl<'a> Document<'a> {
     /// The crates that the node of a crate depends on, in the order of the document; none where it has no node. Time: O(log n)
     /// in the crates of the document.
     pub fn children(&self, krate: &Kid) -> &'a [Kid]
-        ensures { (child : Id) → HasChild (as_resolved self.now) (id_of krate.now) child ↔ Contains (map id_of result.now) child }
+        ensures { (child : Id) → HasChild (as_resolved self.now) (id_of krate.now) child
+            ↔ Contains (map id_of result.now) child }
     {
         children_in(&self.lookup, krate)
     }
@@ -48,21 +49,25 @@ impl<'a> Document<'a> {
     /// For which purposes and targets the node of a crate lists another crate, in the order of the document; none where it
     /// doesn't depend on it. Time: O(log n) in the crates of the document, and the dependencies of the node.
     pub fn kinds(&self, krate: &Kid, child: &Kid) -> &'a [DepKindInfo]
-        ensures { (k : DepKindInfoModel) → ListsKind (as_resolved self.now) (id_of krate.now) (id_of child.now) k ↔ Contains (map dep_kind_info_view result.now) k }
+        ensures { (k : DepKindInfoModel)
+            → ListsKind (as_resolved self.now) (id_of krate.now) (id_of child.now) k
+            ↔ Contains (map dep_kind_info_view result.now) k }
     {
         kinds_in(&self.lookup, krate, child)
     }
 
     /// What a name means in a feature reference of a crate, as `referent` has it: this, and nothing else. Time: as `kinds`.
     pub fn meant(&self, krate: &Kid, name: &str) -> Option<&'a Kid>
-        ensures { (child : Id) → IsReferent (as_resolved self.now) (id_of krate.now) name.now child ↔ (option_map (λ k. id_of k.now) result ≡ Some child) }
+        ensures { (child : Id) → IsReferent (as_resolved self.now) (id_of krate.now) name.now child
+            ↔ (option_map (λ k. id_of k.now) result ≡ Some child) }
     {
         meant_in(&self.lookup, krate, name)
     }
 
     /// Whether a name in a feature reference of a crate means another crate, as `referent` has it. Time: as `kinds`.
     pub fn means(&self, krate: &Kid, name: &str, child: &Kid) -> bool
-        ensures { IsTrue result ↔ IsReferent (as_resolved self.now) (id_of krate.now) name.now (id_of child.now) }
+        ensures { IsTrue result
+            ↔ IsReferent (as_resolved self.now) (id_of krate.now) name.now (id_of child.now) }
     {
         means_in(&self.lookup, krate, name, child)
     }
@@ -79,7 +84,8 @@ impl<'a> Document<'a> {
         child: &Kid,
         info: &DepKindInfo,
     ) -> Result<Need<'a>, AllocError>
-        ensures { let edge = edge_between (id_of parent.now) (id_of child.now) (dep_kind_info_view info.now) in
+        ensures { let edge = edge_between (id_of parent.now) (id_of child.now)
+            (dep_kind_info_view info.now) in
             IfOk result (TellsNeed (as_resolved self.now) setting.now edge) }
     {
         let basis = Basis {
@@ -101,7 +107,8 @@ impl<'a> Document<'a> {
         child: &Kid,
         info: &DepKindInfo,
     ) -> Result<Option<&'a Dependency>, AllocError>
-        ensures { let edge = edge_between (id_of parent.now) (id_of child.now) (dep_kind_info_view info.now) in
+        ensures { let edge = edge_between (id_of parent.now) (id_of child.now)
+            (dep_kind_info_view info.now) in
             IfOk result (TellsDeclaration (as_resolved self.now) edge) }
     {
         declaration_in(alloc, &self.lookup, parent, child, info)
@@ -111,7 +118,8 @@ impl<'a> Document<'a> {
 /// The crates that the node of a crate depends on.
 fn children_in<'a>(lookup: &Lookup<'a>, krate: &Kid) -> &'a [Kid]
     requires { IsLookup lookup.now }
-    ensures { (child : Id) → HasChild (resolved_view lookup.now) (id_of krate.now) child ↔ Contains (map id_of result.now) child }
+    ensures { (child : Id) → HasChild (resolved_view lookup.now) (id_of krate.now) child
+        ↔ Contains (map id_of result.now) child }
 {
     laws::one_reading();
     match parts_for(lookup, krate) {
@@ -123,7 +131,9 @@ fn children_in<'a>(lookup: &Lookup<'a>, krate: &Kid) -> &'a [Kid]
 /// For which purposes and targets a crate is listed.
 fn kinds_in<'a>(lookup: &Lookup<'a>, krate: &Kid, child: &Kid) -> &'a [DepKindInfo]
     requires { IsLookup lookup.now }
-    ensures { (k : DepKindInfoModel) → ListsKind (resolved_view lookup.now) (id_of krate.now) (id_of child.now) k ↔ Contains (map dep_kind_info_view result.now) k }
+    ensures { (k : DepKindInfoModel)
+        → ListsKind (resolved_view lookup.now) (id_of krate.now) (id_of child.now) k
+        ↔ Contains (map dep_kind_info_view result.now) k }
 {
     match entry_between(lookup, krate, child) {
         Some(entry) => entry.dep.dep_kinds.as_slice(),
@@ -134,7 +144,8 @@ fn kinds_in<'a>(lookup: &Lookup<'a>, krate: &Kid, child: &Kid) -> &'a [DepKindIn
 /// What a name means.
 fn meant_in<'a>(lookup: &Lookup<'a>, krate: &Kid, name: &str) -> Option<&'a Kid>
     requires { IsLookup lookup.now }
-    ensures { (child : Id) → IsReferent (resolved_view lookup.now) (id_of krate.now) name.now child ↔ (option_map (λ k. id_of k.now) result ≡ Some child) }
+    ensures { (child : Id) → IsReferent (resolved_view lookup.now) (id_of krate.now) name.now child
+        ↔ (option_map (λ k. id_of k.now) result ≡ Some child) }
 {
     referent_in(lookup, krate, name)
 }
@@ -142,7 +153,8 @@ fn meant_in<'a>(lookup: &Lookup<'a>, krate: &Kid, name: &str) -> Option<&'a Kid>
 /// Whether a name means a crate.
 fn means_in<'a>(lookup: &Lookup<'a>, krate: &Kid, name: &str, child: &Kid) -> bool
     requires { IsLookup lookup.now }
-    ensures { IsTrue result ↔ IsReferent (resolved_view lookup.now) (id_of krate.now) name.now (id_of child.now) }
+    ensures { IsTrue result
+        ↔ IsReferent (resolved_view lookup.now) (id_of krate.now) name.now (id_of child.now) }
 {
     match referent_in(lookup, krate, name) {
         Some(referent) => is_same(referent, child),
@@ -178,7 +190,8 @@ fn entry_need<'a>(
     requires lookup { IsLookup lookup.now }
     requires entry { IsEntry (resolved_view lookup.now) entry.now }
     requires version { HasVersion entry.now.child.now }
-    ensures { IfOk result (TellsNeed (resolved_view lookup.now) setting.now (edge_for entry.now (dep_kind_info_view info.now))) }
+    ensures { IfOk result (TellsNeed (resolved_view lookup.now) setting.now
+        (edge_for entry.now (dep_kind_info_view info.now))) }
 {
     if !lists(entry.dep, info) {
         return Ok(Need::Nothing);
@@ -225,7 +238,8 @@ fn entry_declaration<'a>(
     requires lookup { IsLookup lookup.now }
     requires entry { IsEntry (resolved_view lookup.now) entry.now }
     requires version { HasVersion entry.now.child.now }
-    ensures { IfOk result (TellsDeclaration (resolved_view lookup.now) (edge_for entry.now (dep_kind_info_view info.now))) }
+    ensures { IfOk result (TellsDeclaration (resolved_view lookup.now)
+        (edge_for entry.now (dep_kind_info_view info.now))) }
 {
     let declared = declared_for(alloc, lookup, entry, info)?;
     let Some(place) = declared else {

@@ -28,7 +28,8 @@ pub(crate) fn name_index<'a>(
     nodes: &'a [Node],
     ids: &'a [Vec<Kid>],
 ) -> Result<NameIndex<'a>, AllocError>
-    ensures { IfOk result (IsNameIndex (map package_view packages.now) (map node_view nodes.now) (map (λ kids. kids.items) ids.now)) }
+    ensures { IfOk result (IsNameIndex (map package_view packages.now) (map node_view nodes.now) (map
+        (λ kids. kids.items) ids.now)) }
 {
     Ok(NameIndex {
         declared: declared_by_name(alloc, packages)?,

@@ -257,7 +257,11 @@ fn declared_in<'a>(
 }
 
 /// The dependency of a crate's node on another crate; none where there is none.
-pub(crate) fn entry_between<'a>(lookup: &Lookup<'a>, parent: &Kid, child: &Kid) -> Option<NodeEntry<'a>>
+pub(crate) fn entry_between<'a>(
+    lookup: &Lookup<'a>,
+    parent: &Kid,
+    child: &Kid,
+) -> Option<NodeEntry<'a>>
     requires { IsLookup lookup.now }
     ensures { TellsEntry (resolved_view lookup.now) (id_of parent.now) (id_of child.now) result }
 {

@@ -146,6 +146,21 @@ fn limits_refuse_one_more(rt: HostRuntime) -> Result<(), Fail> {
     Ok(())
 }
 
+/// Refusals, and their texts.
+const TEXTS: &[(GraphError<char>, &str)] = &[
+    (GraphError::Full('x'), "too many nodes or edges"),
+    (GraphError::Memory('x'), "out of memory"),
+];
+
+#[test]
+fn refusals_are_printed(rt: HostRuntime) -> Result<(), Fail> {
+    for (error, text) in TEXTS {
+        let told = format!(in rt.alloc(); "{error}")?;
+        assert_eq!(rt; told.as_str(), *text);
+    }
+    Ok(())
+}
+
 #[test]
 fn no_limit_takes_nothing(rt: HostRuntime) {
     let mut graph = Graph::<char, char>::with_limits(rt.alloc(), 0, 0);

@@ -16,21 +16,24 @@ use krates_ids::{Kid, laws};
 impl<'a> Document<'a> {
     /// The package of a crate; none where the document has none. It is found by halves.
     pub fn package_of(&self, krate: &Kid) -> Option<&'a Package>
-        ensures { IsPackageOf (as_resolved self.now) (id_of krate.now) (option_map (λ pkg. package_view pkg.now) result) }
+        ensures { IsPackageOf (as_resolved self.now) (id_of krate.now) (option_map
+            (λ pkg. package_view pkg.now) result) }
     {
         package_in(&self.lookup, krate)
     }
 
     /// The node of a crate; none where the graph has none. It is found by halves.
     pub fn node_of(&self, krate: &Kid) -> Option<&'a Node>
-        ensures { IsNodeOf (as_resolved self.now) (id_of krate.now) (option_map (λ node. node_view node.now) result) }
+        ensures { IsNodeOf (as_resolved self.now) (id_of krate.now) (option_map
+            (λ node. node_view node.now) result) }
     {
         node_in(&self.lookup, krate)
     }
 
     /// What a feature of a crate enables, as the crate's package has it, in its order; nothing where it lacks the feature.
     pub fn values_of(&self, krate: &Kid, name: &str) -> &'a [String]
-        ensures { (pkg : PackageModel) → HasPackage (as_resolved self.now) (id_of krate.now) pkg → map text_view result.now ≡ unwrap_or (named pkg.features name.now) [] }
+        ensures { (pkg : PackageModel) → HasPackage (as_resolved self.now) (id_of krate.now) pkg
+            → map text_view result.now ≡ unwrap_or (named pkg.features name.now) [] }
     {
         values_in(&self.lookup, krate, name)
     }
@@ -56,7 +59,8 @@ fn node_in<'a>(lookup: &Lookup<'a>, krate: &Kid) -> Option<&'a Node>
 /// The values of a feature of a crate.
 fn values_in<'a>(lookup: &Lookup<'a>, krate: &Kid, name: &str) -> &'a [String]
     requires { IsLookup lookup.now }
-    ensures { AreNamedValues (resolved_view lookup.now) (id_of krate.now) name.now (map text_view result.now) }
+    ensures { AreNamedValues (resolved_view lookup.now) (id_of krate.now) name.now
+        (map text_view result.now) }
 {
     laws::one_reading();
     let Some(pkg) = package_of(lookup, krate) else {
