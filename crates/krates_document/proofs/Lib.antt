@@ -1,4 +1,6 @@
 pub mod AdmissionLemmas
+pub mod ChangedPlaces
+pub mod CorrectedDocument
 pub mod DeclaredOnce
 pub mod DistinctIds
 pub mod FirstPlaces

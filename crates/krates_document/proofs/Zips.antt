@@ -25,6 +25,13 @@ zip_read R seen xs i d ys y lt here so_far = zip_next R seen xs i (get_or xs i d
 pub zip_all : {X A B : Type 0} (R : A → B → Type 0) (seen : X → A) (xs : List X) (i : ℕ) (ys : List B) → length xs ≤ i → AllZip R (map seen (take i xs)) ys → AllZip R (map seen xs) ys
 zip_all R seen xs i ys le h = subst (λ zs. AllZip R (map seen zs) ys) (take_all i xs le) h
 
+-- two lists that go place by place, as they are seen
+pub zip_mapped : {A B C D : Type 0} (R : A → B → Type 0) (S : C → D → Type 0) (f : A → C) (g : B → D) (xs : List A) (us : List B) → AllZip R xs us → ((a : A) (b : B) → R a b → S (f a) (g b)) → AllZip S (map f xs) (map g us)
+zip_mapped R S f g [] [] z h = tt
+zip_mapped R S f g [] (u ∷ us) z h = absurd z
+zip_mapped R S f g (x ∷ xs) [] z h = absurd z
+zip_mapped R S f g (x ∷ xs) (u ∷ us) z h = (h x u z.0, zip_mapped R S f g xs us z.1 h)
+
 -- ---- what holds of each item
 
 -- of one more that was made

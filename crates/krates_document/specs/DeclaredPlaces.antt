@@ -17,7 +17,7 @@ use Rattle.krates_document.specs.declared.named_places.NamedPlace.{NamedPlace}
 abbrev pub entry_in : Sought → DependencyEntry
 entry_in x = dependency_entry (id_of x.kid.now) (node_dep_view x.dep.now)
 
--- its purpose and target
+-- its kind and target
 abbrev pub kind_in : Sought → DepKindInfoModel
 kind_in x = dep_kind_info_view x.info.now
 

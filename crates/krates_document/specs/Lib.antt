@@ -1,4 +1,5 @@
 pub mod AdmissionSteps
+pub mod CorrectedDocument
 pub mod DeclaredPlaces
 pub mod FoldedNames
 pub mod Ids

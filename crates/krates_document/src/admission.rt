@@ -20,10 +20,11 @@ use std::collections::BTreeSet;
 /// Reads the ids of a document, and refuses a document that can't be resolved.
 ///
 /// The answer has an id for each place at which one has to stand. It is refused, in this order of classes: as
-/// `NoResolveGraph` where the document has no resolved graph; as `InvalidId` where the text of a package, a member, the
-/// root, a node or a node's dependency isn't an id, or the version of such a dependency isn't semantic; or as `Doubled`
-/// where two packages, two nodes or two dependencies of one node have the same id. Which of several true refusals of the
-/// last two is named is left open. `Memory` may stand in place of any answer.
+/// `NoResolveGraph` where the document has no resolved graph; as `InvalidId` where the text of a package, a member,
+/// the root, a node or a node's dependency isn't an id, or the version of such a dependency isn't semantic; or as
+/// `Doubled` where two packages, two nodes or two dependencies of one node have the same id. Which of several true
+/// refusals of the last two is named is left open. It may instead return `Memory`. Time O(n log n) for n
+/// packages, nodes and dependencies of nodes.
 pub fn admit(alloc: Global, metadata: &Metadata) -> Result<Ids, Error>
     ensures admitted { IfOk result (λ ids. IsAdmitted (metadata_view metadata.now) (ids_view ids)) }
     ensures refused { IfErr result (AdmissionRefusal (metadata_view metadata.now)) }

@@ -32,7 +32,7 @@ pub fn version_of(alloc: Global, kid: &Kid) -> Result<Option<Version>, AllocErro
     }
 }
 
-/// A dependency of a node, for one purpose and target, whose declared dependency is looked for.
+/// A dependency of a node, of one kind and for one target, whose declared dependency is looked for.
 #[derive(Clone, Copy)]
 pub struct Sought<'s> {
     /// The dependency.
@@ -41,7 +41,7 @@ pub struct Sought<'s> {
     pub kid: &'s Kid,
     /// The version of its id.
     pub version: &'s Version,
-    /// The purpose and target.
+    /// The kind and target.
     pub info: &'s DepKindInfo,
 }
 
@@ -59,7 +59,7 @@ impl HasName for Dependency {
     }
 }
 
-/// The place of the declared dependency of a node's dependency, for one purpose and target, among those that the node's
+/// The place of the declared dependency of a node's dependency, of one kind and for one target, among those that the node's
 /// package declares: the one that fits; where several fit, the first of them whose source is that of the dependency's
 /// id. None where none fits, and where several fit and none of them has the source.
 ///
@@ -220,7 +220,7 @@ fn fits_by_source(sought: &Sought<'_>, declared: &Dependency) -> bool
         && has_source(declared, sought.dep.pkg.repr.as_str(), sought.kid.source())
 }
 
-/// Whether the declared dependency fits this dependency of a node, for this purpose and target: the purpose and the text
+/// Whether the declared dependency fits this dependency of a node, of this kind and for this target: the kind and the text
 /// of the target are equal, its name fits, and its requirement takes the version
 /// (Cargo Book, "cargo metadata", `dependencies` and `resolve`).
 fn fits(sought: &Sought<'_>, declared: &Dependency) -> bool

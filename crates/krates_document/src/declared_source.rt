@@ -15,7 +15,7 @@ use std::path::Components;
 /// The source has to begin with `path+file://`, and what follows is the directory (Cargo Book, "Package ID
 /// Specifications"). A path that begins with `/` leads there where both have equal components. Any other is one of
 /// Windows: its names between `\`, empty ones too, have to be the components of the directory without its first
-/// character, which has to be ASCII, as in `path+file:///D:/a` for `D:\a`.
+/// character, which has to be ASCII, as in `path+file:///D:/a` for `D:\a`. Time O(length of both).
 pub fn is_path_of(path: &str, source: &str) -> bool
     ensures { IsTrue result ↔ IsPathOf path.now source.now }
 {

@@ -3,9 +3,9 @@
 ghost use Rattle.std.specs.Prelude.{◌↔◌, IsTrue};
 ghost use Rattle.krates_rules.specs.DependencyName.{IsByteOf, IsNameOf};
 
-/// Whether the name of a resolved dependency is the declared one: equally long, and equal byte by byte, but that `_` in
-/// the resolved name may stand for `-` in the declared one, since cargo resolves the name `a-b` as `a_b`
-/// (Cargo Book, "cargo metadata", `resolve`).
+/// Whether the name of a resolved dependency is the declared one: equally long, and equal byte by byte, but that `_`
+/// in the resolved name may stand for `-` in the declared one, since cargo resolves the name `a-b` as `a_b` (Cargo
+/// Book, "cargo metadata", `resolve`). Time O(length).
 pub fn is_name_of(resolved: &str, declared: &str) -> bool
     ensures { IsTrue result ↔ IsNameOf resolved.now declared.now }
 {

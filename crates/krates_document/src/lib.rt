@@ -2,6 +2,7 @@
 #![tactic(auto)]
 
 pub mod admission;
+pub mod corrected_document;
 pub mod declared_dependency;
 pub mod declared_source;
 pub mod dependency_name;

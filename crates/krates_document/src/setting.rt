@@ -42,7 +42,7 @@ impl Model for Setting {
 }
 
 impl Setting {
-    /// Nothing is set: the root, or every member, is kept with all that it needs.
+    /// Nothing is set: the root, or every member, is kept with all that it needs. Time O(1).
     pub fn new(alloc: Global) -> Setting
         ensures { result ≡ plain_setting }
     {
@@ -58,7 +58,7 @@ impl Setting {
         }
     }
 
-    /// Ignores the dependencies for this purpose of the crates of the scope, beside those that are ignored already.
+    /// Ignores the dependencies of this kind of the crates of the scope, beside those that are ignored already.
     pub fn ignore_kind(&mut self, kind: DepKind, scope: Scope)
         ensures ignored { IgnoresMore self.old.ignored self.new.ignored kind scope }
         ensures rest { self.new ≡ record self.old { ignored = self.new.ignored } }
@@ -66,15 +66,16 @@ impl Setting {
         self.ignored = self.ignored.with(kind, scope);
     }
 
-    /// Whether every member of the workspace is a root, also where the graph has a root of its own.
+    /// Whether every member of the workspace is a root, also where the graph has a root of its own. The last call
+    /// counts. Time O(1).
     pub fn workspace(&mut self, is_on: bool)
         ensures { self.new ≡ record self.old { workspace = is_on } }
     {
         self.workspace = is_on;
     }
 
-    /// Leaves out the packages that one of the specifications fits, beside those that are left out already. After a refusal
-    /// the setting is as it was.
+    /// Leaves out the packages that one of the specifications fits, beside those that are left out already. After a
+    /// refusal the setting is as it was. Time O(specifications).
     pub fn exclude(&mut self, mut specs: Vec<PkgSpec>) -> Result<(), AllocError>
         ensures appended { OnOk result (self.new ≡ with_exclusions self.old (map spec_view specs.items)) }
         ensures refused { OnErr result (self.new ≡ self.old) }
@@ -82,8 +83,8 @@ impl Setting {
         self.exclusions.append(&mut specs)
     }
 
-    /// Keeps only dependencies whose target text passes at one of the targets, beside those that are set already. After a
-    /// refusal the setting is as it was.
+    /// Keeps only dependencies whose target text passes at one of the targets, beside those that are set already.
+    /// After a refusal the setting is as it was. Time O(targets).
     pub fn include_targets(
         &mut self,
         mut targets: Vec<(Target, Vec<String>)>,
@@ -94,8 +95,9 @@ impl Setting {
         self.targets.append(&mut targets)
     }
 
-    /// Asks for the crates with these manifests as roots, beside those that are asked for already. A path that doesn't end in
-    /// `Cargo.toml` means the manifest in that directory. After a refusal the setting is as it was.
+    /// Asks for the crates with these manifests as roots, beside those that are asked for already. A path that
+    /// doesn't end in `Cargo.toml` means the manifest in that directory. After a refusal the setting is as it was.
+    /// Time O(length of the paths).
     pub fn include_workspace_crates(
         &mut self,
         alloc: Global,
@@ -109,6 +111,7 @@ impl Setting {
     }
 
     /// Whether the package is left out: one of the specifications fits it (Cargo Book, "Package ID Specifications").
+    /// Time: that of `PkgSpec::matches` for each specification.
     pub fn excludes(&self, pkg: &Package) -> bool
         ensures { IsTrue result ↔ IsExcluded self.now (package_view pkg.now) }
     {
@@ -120,7 +123,7 @@ impl Setting {
         false
     }
 
-    /// Whether dependencies for this purpose are ignored, where a member of the workspace has them, or another crate.
+    /// Whether dependencies of this kind are ignored, where a member of the workspace has them, or another crate.
     pub fn ignores(&self, kind: DependencyKind, is_member: bool) -> bool
         ensures { result ≡ ignores self.now.ignored (kind_of kind) is_member }
     {
@@ -132,9 +135,9 @@ impl Setting {
     ///
     /// A dependency without a text always passes. A text that is a cfg expression passes where one single target that is
     /// set, with its features, makes the whole of it true, and any other text where it is the triple of one of them. Where
-    /// no target is set, every text passes but an expression that asks nothing and is false, as `cfg(any())`.
+    /// no target is set, every text passes but a false expression without predicates, as `cfg(any())`.
     ///
-    /// The only error is want of memory.
+    /// The only error is running out of memory. Time: that of `krates_text::passing::passes`.
     pub fn passes(&self, alloc: Global, cfg: &Option<String>) -> Result<bool, AllocError>
         ensures { IfOk result (λ b. IsTrue b ↔ Passes self.now (option_map text_view cfg.now)) }
     {
@@ -144,14 +147,14 @@ impl Setting {
         }
     }
 
-    /// The manifests that are asked for.
+    /// The manifests that are asked for. They stand in the order in which they were asked for. Time O(1).
     pub fn manifests(&self) -> &[String]
         ensures { map text_view result.now ≡ self.now.manifests }
     {
         &self.manifests
     }
 
-    /// Whether every member is asked for.
+    /// Whether every member is asked for. Time O(1).
     pub fn is_workspace(&self) -> bool
         ensures { result ≡ self.now.workspace }
     {

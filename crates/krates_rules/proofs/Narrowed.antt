@@ -82,17 +82,15 @@ narrow_within r wide narrow w = record {
   wanted = λ e d x. record {
     place = x.place;
     declared = record {
-      dep = x.declared.dep;
-      listed = record { lists = x.declared.listed.lists; not_ignored = λ out. x.declared.listed.not_ignored (w.ignored e out) };
-      pkg = x.declared.pkg;
-      has_package = x.declared.has_package;
-      declared = x.declared.declared;
+      declares = x.declared.declares;
+      not_ignored = λ out. x.declared.not_ignored (w.ignored e out);
     };
     passes = w.passes e.cfg x.passes;
   };
   loose = λ e x. record {
     dep = x.dep;
-    listed = record { lists = x.listed.lists; not_ignored = λ out. x.listed.not_ignored (w.ignored e out) };
+    lists = x.lists;
+    not_ignored = λ out. x.not_ignored (w.ignored e out);
     undeclared = x.undeclared;
   };
 }

@@ -1,9 +1,9 @@
 -- Documents that differ in the order of their lists alone answer the rules alike.
-use Rattle.std.proofs.Common.{◌≡◌, ◌↔◌, List, [], ◌∷◌, map, Option, Some, None, Contains, IsPermutation, string_bytes, refl, sym, ap, ◌∙◌, subst}
+use Rattle.std.proofs.Common.{◌≡◌, ◌↔◌, ℕ, List, [], ◌∷◌, map, Option, Some, None, Contains, IsPermutation, string_bytes, refl, sym, ap, ◌∙◌, subst}
 use Rattle.std.proofs.lemmas.List.Sorted.{Contains-permutation, IsPermutation-sym, IsPermutation-map}
 use Rattle.std.proofs.lemmas.Option.{same_Some}
 use Rattle.std.specs.List.{AllZip}
-use Rattle.krates_cm.specs.Document.{Text, PackageModel, NodeDepModel, NodeModel, ResolveModel, MetadataModel}
+use Rattle.krates_cm.specs.Document.{Text, DependencyModel, PackageModel, NodeDepModel, NodeModel, ResolveModel, MetadataModel}
 use Rattle.krates_ids.specs.Correction.{with_features}
 use Rattle.krates_ids.specs.PackageSpecification.{SpecFits}
 use Rattle.krates_ids.specs.declared.error.Error.{Error}
@@ -14,7 +14,7 @@ use Rattle.krates_rules.specs.AdmissionRefusals.{AdmissionRefusal}
 use Rattle.krates_rules.specs.DeclaredDependency.{dependency_entry, IsDeclared, IsUndeclared}
 use Rattle.krates_rules.specs.Derivation.{Derivable}
 use Rattle.krates_rules.specs.Facts.{Id, Edge}
-use Rattle.krates_rules.specs.Questions.{IsIncluded, ListsEdge, IsConsidered, kind_info_of, questions}
+use Rattle.krates_rules.specs.Questions.{IsIncluded, ListsEdge, Declares, kind_info_of, questions}
 use Rattle.krates_rules.specs.Referent.{IsLibraryRename, AnswersTo, by_name, by_library, AnswersIn, IsReferent}
 use Rattle.krates_rules.specs.Reordering.{SayAlike, ReordersPackage, ReordersPackages, ReordersNode, ReordersGraph, ReordersResolve, Reorders, HasInvalidId, HasDoubledId, IsOrderFree}
 use Rattle.krates_rules.specs.Resolved.{Resolved, resolved, id_of, ReadsAs, HasGraphWith, HasPackage, HasNode, HasDep, IsMember}
@@ -198,12 +198,16 @@ ignored_same r t s e w (settings.of_member member told) = settings.of_member (me
 ignored_same r t s e w (settings.of_other other told) =
     settings.of_other (λ x. other (member_same t r e.parent (swapped r t w) x)) told
 
-listed_same : (r t : Resolved) (s : SettingModel) (e : Edge) (d : NodeDepModel) → SaySame r t
-    → IsConsidered r s e d → IsConsidered t s e d
-listed_same r t s e d w x = record {
-  lists = edge_same r t e d w x.lists;
-  not_ignored = λ y. x.not_ignored (ignored_same t r s e (swapped r t w) y);
-}
+declares_same : (r t : Resolved) (e : Edge) (place : ℕ) (d : DependencyModel) → SaySame r t → Declares r e place d → Declares t e place d
+declares_same r t e place d w x =
+    let q = package_same r t e.parent x.pkg w x.has_package in
+    record {
+      dep = x.dep;
+      lists = edge_same r t e x.dep w x.lists;
+      pkg = q.pkg;
+      has_package = q.has_package;
+      declared = subst (λ ds. IsDeclared ds (dependency_entry e.child x.dep) (kind_info_of e) place d) (dependencies_same x.pkg q.pkg q.same) x.declared;
+    }
 
 -- ---- all that the rules ask
 
@@ -238,35 +242,19 @@ same_within r t s w = record {
       let q = package_same r t i x.pkg w x.has_package in
       record { pkg = q.pkg; has_package = q.has_package; values = x.values; feature = sym (q.same.features f) ∙ x.feature; text = x.text; among = x.among; is = x.is };
   referent = λ i name c x. referent_same r t i name c w x;
-  declared = λ e d x.
-      let y = x.1 in
-      let q = package_same r t e.parent y.pkg w y.has_package in (
-        x.0,
-        record {
-          dep = y.dep;
-          lists = edge_same r t e y.dep w y.lists;
-          pkg = q.pkg;
-          has_package = q.has_package;
-          declared = subst (λ ds. IsDeclared ds (dependency_entry e.child y.dep) (kind_info_of e) x.0 d) (dependencies_same y.pkg q.pkg q.same) y.declared;
-        },
-      );
-  wanted = λ e d x.
-      let y = x.declared in
-      let q = package_same r t e.parent y.pkg w y.has_package in
-      record {
-        place = x.place;
-        declared = record {
-          dep = y.dep;
-          listed = listed_same r t s e y.dep w y.listed;
-          pkg = q.pkg;
-          has_package = q.has_package;
-          declared = subst (λ ds. IsDeclared ds (dependency_entry e.child y.dep) (kind_info_of e) x.place d) (dependencies_same y.pkg q.pkg q.same) y.declared;
-        };
-        passes = x.passes;
-      };
+  declared = λ e d x. (x.0, declares_same r t e x.0 d w x.1);
+  wanted = λ e d x. record {
+    place = x.place;
+    declared = record {
+      declares = declares_same r t e x.place d w x.declared.declares;
+      not_ignored = λ y. x.declared.not_ignored (ignored_same t r s e (swapped r t w) y);
+    };
+    passes = x.passes;
+  };
   loose = λ e x. record {
     dep = x.dep;
-    listed = listed_same r t s e x.dep w x.listed;
+    lists = edge_same r t e x.dep w x.lists;
+    not_ignored = λ y. x.not_ignored (ignored_same t r s e (swapped r t w) y);
     undeclared = λ p h.
         let q = package_same t r e.parent p (swapped r t w) h in
         subst (λ ds. IsUndeclared ds (dependency_entry e.child x.dep) (kind_info_of e)) (sym (dependencies_same p q.pkg q.same)) (x.undeclared q.pkg q.has_package);

@@ -1,4 +1,5 @@
--- Which documents can be resolved at all: there is a resolved graph, each id that matters is read, and none is doubled.
+-- Which documents can be resolved at all: there is a resolved graph, each id that matters is read, and none is
+-- doubled (Cargo Book, "cargo metadata", "JSON format").
 use Rattle.std.specs.Prelude.{◌≡◌, ℕ, ◌<◌, List, Option, Some, None, map, Contains, slice_get, MatchOption, IsSomeAnd}
 use Rattle.std.specs.List.{AllZip, AllByRecursion}
 use Rattle.krates_cm.specs.Document.{Text, NodeModel, ResolveModel, MetadataModel}

@@ -1,4 +1,5 @@
--- The declared dependency of a listed edge.
+-- The declared dependency of a listed edge (Cargo Book, "cargo metadata", `dependencies` and `resolve`; "Specifying
+-- Dependencies").
 use Rattle.std.specs.Prelude.{◌≡◌, ◌≢◌, ◌⊎◌, ℕ, ◌<◌, List, [], Option, Some, true, slice_get, unwrap_or, MatchOption}
 use Rattle.semver.specs.EvalViews.{matches_views}
 use Rattle.krates_cm.specs.Document.{Text, VersionModel, RequirementModel, DependencyModel, DepKindInfoModel, NodeDepModel}
@@ -34,7 +35,7 @@ pub record VersionFits (n : DependencyEntry) (d : DependencyModel) : Type 0 wher
   pub named : version_named n.id.version ≡ Some version
   pub matches : VersionMatches version d.req
 
--- the declared dependency fits this dependency of a node, for this purpose and target
+-- the declared dependency fits this dependency of a node, of this kind and for this target
 pub record Fits (n : DependencyEntry) (k : DepKindInfoModel) (d : DependencyModel) : Type 0 where
   pub kind : d.kind ≡ k.kind
   pub name : NameFits n d

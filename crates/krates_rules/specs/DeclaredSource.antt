@@ -1,4 +1,5 @@
--- When the source that a package declares for a dependency is the one that the id of the dependency has.
+-- When the source that a package declares for a dependency is the one that the id of the dependency has (Cargo Book,
+-- "Package ID Specifications").
 use Rattle.std.specs.Prelude.{◌≡◌, ◌⊎◌, ◌<◌, ◌==◌, ℕ, List, ◌∷◌, ◌++◌, codes, MatchOption, IsSomeAnd}
 use Rattle.std.specs.List.{slice_split}
 use Rattle.std.specs.Path.{IsAbsolute, IsRelative}

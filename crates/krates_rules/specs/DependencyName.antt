@@ -1,4 +1,4 @@
--- When the name of a resolved dependency is a declared one.
+-- When the name of a resolved dependency is a declared one (Cargo Book, "cargo metadata", `resolve`).
 use Rattle.std.specs.Prelude.{◌≡◌, ◌⊎◌, ℕ}
 use Rattle.std.specs.List.{AllZip}
 use Rattle.krates_cm.specs.Document.{Text}

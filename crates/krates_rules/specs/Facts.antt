@@ -9,7 +9,7 @@ pub record Id : Type 0 where
   pub version : Text
   pub source : Text
 
--- an edge of the resolved graph: a dependency of a node, for one purpose and one target
+-- an edge of the resolved graph: a dependency of a node, of one kind and for one target
 pub record Edge : Type 0 where
   pub parent : Id
   pub child : Id

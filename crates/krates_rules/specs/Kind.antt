@@ -1,4 +1,4 @@
--- Purposes of dependencies, and which of them are ignored.
+-- Kinds of dependencies, and which of them are ignored (Cargo Book, "Specifying Dependencies").
 use Rattle.std.specs.Prelude.{◌≡◌, ◌↔◌, ◌⊎◌, Bool, true, false, codes, ⊤}
 use Rattle.krates_cm.specs.declared.dependency.DependencyKind.{DependencyKind}
 use Rattle.krates_cm.specs.declared.dependency.DependencyKind.TheVariants as written
@@ -10,25 +10,25 @@ use Rattle.krates_rules.specs.declared.kind.KindSet.{KindSet}
 use Rattle.krates_rules.specs.declared.kind.Scope.{Scope}
 use Rattle.krates_rules.specs.declared.kind.Scope.TheVariants as scopes
 
--- the purpose that the document writes
+-- the kind that the document writes
 abbrev pub kind_of : DependencyKind → DepKind
 kind_of written.Normal = kinds.Normal
 kind_of written.Development = kinds.Dev
 kind_of written.Build = kinds.Build
 
--- what is printed of a purpose
+-- what is printed of a kind
 abbrev pub kind_text : DepKind → Text
 kind_text kinds.Normal = codes ""
 kind_text kinds.Build = codes "build"
 kind_text kinds.Dev = codes "dev"
 
--- whether the purpose is in the set
+-- whether the kind is in the set
 abbrev pub has_kind : KindSet → DepKind → Bool
 has_kind set kinds.Normal = set.normal
 has_kind set kinds.Build = set.build
 has_kind set kinds.Dev = set.dev
 
--- whether dependencies for this purpose are ignored, where a member of the workspace has them, or another crate
+-- whether dependencies of this kind are ignored, where a member of the workspace has them, or another crate
 abbrev pub ignores : IgnoredKinds → DepKind → Bool → Bool
 ignores ignored kind true = has_kind ignored.of_members kind
 ignores ignored kind false = has_kind ignored.of_others kind
@@ -39,11 +39,11 @@ Covers scopes.Workspace is_member = is_member ≡ true
 Covers scopes.NonWorkspace is_member = is_member ≡ false
 Covers scopes.All is_member = ⊤
 
--- the set has one more purpose
+-- the set has one more kind
 abbrev pub HasOneMore : KindSet → KindSet → DepKind → Type 0
 HasOneMore old new kind = (k : DepKind) → (has_kind new k ≡ true) ↔ ((has_kind old k ≡ true) ⊎ (k ≡ kind))
 
--- what was ignored still is, and beside it dependencies for this purpose of the crates of the scope; nothing else is
+-- what was ignored still is, and beside it dependencies of this kind of the crates of the scope; nothing else is
 abbrev pub IgnoresMore : IgnoredKinds → IgnoredKinds → DepKind → Scope → Type 0
 IgnoresMore old new kind scope = (k : DepKind) (is_member : Bool)
     → (ignores new k is_member ≡ true) ↔ ((ignores old k is_member ≡ true) ⊎ ((k ≡ kind) × Covers scope is_member))

@@ -21,3 +21,4 @@ pub mod SelectionRefusals
 pub mod Setting
 pub mod StepParts
 pub mod Steps
+pub mod Uses

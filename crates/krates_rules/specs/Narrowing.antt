@@ -21,7 +21,7 @@ pub data IsNarrower (wide : SettingModel) : SettingModel → Type 0 where
   -- more packages are excluded
   excludes_more : (exclusions : List Specification) → ((spec : Specification) → Contains wide.exclusions spec → Contains exclusions spec)
       → IsNarrower wide (record wide { exclusions = exclusions })
-  -- one more purpose is ignored, of members, of other crates, or of both
+  -- one more kind is ignored, of members, of other crates, or of both
   ignores_more : (ignored : IgnoredKinds) (kind : DepKind) (scope : Scope) → IgnoresMore wide.ignored ignored kind scope
       → IsNarrower wide (record wide { ignored = ignored })
   -- targets are asked for, where none was
@@ -35,7 +35,7 @@ LosesNothing q = (c : Cause) → Derivable q (Lost c) → ⊥
 pub record SelectsPart (r : Resolved) (wide narrow : SettingModel) : Type 0 where
   -- each fact that has a derivation under the narrower has one under the wider, those of what is lost included
   pub facts : (f : Fact) → Derivable (questions r narrow) f → Derivable (questions r wide) f
-  -- where nothing is lost under the wider, the narrower is refused only since no crate is left, or for want of memory
+  -- where nothing is lost under the wider, the narrower is refused only since no crate is left, or because memory ran out
   pub refusals : LosesNothing (questions r wide) → (e : Error) → SelectionRefusal (questions r narrow) e
       → (e ≡ NoRootKrates) ⊎ (e ≡ Memory)
 

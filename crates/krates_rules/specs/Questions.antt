@@ -31,7 +31,7 @@ pub record LacksNode (r : Resolved) (s : SettingModel) (i : Id) : Type 0 where
 
 -- ---- edges
 
--- the purpose and the target of the edge
+-- the kind and the target of the edge
 abbrev pub kind_info_of : Edge → DepKindInfoModel
 kind_info_of e = record { kind = e.kind; target = e.cfg }
 
@@ -50,24 +50,16 @@ pub record Declares (r : Resolved) (e : Edge) (place : ℕ) (d : DependencyModel
   pub has_package : HasPackage r e.parent pkg
   pub declared : IsDeclared pkg.dependencies (dependency_entry e.child dep) (kind_info_of e) place d
 
--- as this dependency, at some place
+-- the edge is declared as this dependency, at some place
 abbrev pub IsDeclaredAs : Resolved → Edge → DependencyModel → Type 0
 IsDeclaredAs r e d = (place : ℕ) × Declares r e place d
 
--- the edge is listed, and not ignored
-pub record IsConsidered (r : Resolved) (s : SettingModel) (e : Edge) (d : NodeDepModel) : Type 0 where
-  pub lists : ListsEdge r e d
+-- the edge is declared as this dependency, at this place, and isn't ignored
+pub record IsDeclaredAt (r : Resolved) (s : SettingModel) (e : Edge) (place : ℕ) (d : DependencyModel) : Type 0 where
+  pub declares : Declares r e place d
   pub not_ignored : IsIgnored r s e → ⊥
 
--- the edge is listed, not ignored, and declared as this dependency, which stands at this place of its package's list
-pub record IsDeclaredAt (r : Resolved) (s : SettingModel) (e : Edge) (place : ℕ) (d : DependencyModel) : Type 0 where
-  pub dep : NodeDepModel
-  pub listed : IsConsidered r s e dep
-  pub pkg : PackageModel
-  pub has_package : HasPackage r e.parent pkg
-  pub declared : IsDeclared pkg.dependencies (dependency_entry e.child dep) (kind_info_of e) place d
-
--- the edge is declared so, and passes the targets
+-- the edge is declared as this dependency, at some place, not ignored, and passes the targets
 pub record IsWanted (r : Resolved) (s : SettingModel) (e : Edge) (d : DependencyModel) : Type 0 where
   pub place : ℕ
   pub declared : IsDeclaredAt r s e place d
@@ -76,7 +68,8 @@ pub record IsWanted (r : Resolved) (s : SettingModel) (e : Edge) (d : Dependency
 -- the edge is listed, not ignored, and no package of its parent declares it
 pub record IsLoose (r : Resolved) (s : SettingModel) (e : Edge) : Type 0 where
   pub dep : NodeDepModel
-  pub listed : IsConsidered r s e dep
+  pub lists : ListsEdge r e dep
+  pub not_ignored : IsIgnored r s e → ⊥
   pub undeclared : (p : PackageModel) → HasPackage r e.parent p → IsUndeclared p.dependencies (dependency_entry e.child dep) (kind_info_of e)
 
 -- ---- all that the rules ask
@@ -103,6 +96,6 @@ pub record IsLeftOut (r : Resolved) (s : SettingModel) (i : Id) : Type 0 where
   pub has_package : HasPackage r i pkg
   pub excluded : IsExcluded s pkg
 
--- the edge between two crates for one purpose and target
+-- the edge between two crates of one kind and for one target
 abbrev pub edge_between : Id → Id → DepKindInfoModel → Edge
 edge_between p c k = record { parent = p; child = c; kind = k.kind; cfg = k.target }

@@ -1,4 +1,4 @@
--- Which dependency a name in a feature reference means.
+-- Which dependency a name in a feature reference means (Cargo Book, "Features" and "cargo metadata", `resolve`).
 use Rattle.std.specs.Prelude.{◌≡◌, ◌≢◌, ℕ, Contains}
 use Rattle.std.specs.declared.cmp.Ordering.{Ordering}
 use Rattle.std.specs.declared.cmp.Ordering.TheVariants.{Greater}

@@ -1,4 +1,5 @@
--- The document, looked up by package id: by membership and without order.
+-- The document, looked up by package id: by membership and without order (Cargo Book, "cargo metadata", "JSON
+-- format").
 use Rattle.std.specs.Prelude.{◌≡◌, Some, Contains, ℕ, slice_get, List}
 use Rattle.krates_cm.specs.Document.{Text, PackageModel, NodeDepModel, NodeModel, ResolveModel, MetadataModel}
 use Rattle.krates_ids.specs.Identity.{Identity, Reads}

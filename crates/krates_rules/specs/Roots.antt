@@ -1,4 +1,4 @@
--- Which crates are the roots.
+-- Which crates are the roots (Cargo Book, "cargo metadata", `workspace_members` and `resolve`).
 use Rattle.std.specs.Prelude.{◌≡◌, List, [], ◌∷◌, true, false, Some, None, Contains}
 use Rattle.krates_cm.specs.Document.{Text, PackageModel}
 use Rattle.krates_text.specs.Path.{components, IsParent}

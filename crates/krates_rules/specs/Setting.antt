@@ -1,4 +1,5 @@
--- What the caller's setting is, and what it says of packages, edges and targets.
+-- What the caller's setting is, and what it says of packages, edges and targets (Cargo Book, "Package ID
+-- Specifications" and "Platform specific dependencies").
 use Rattle.std.specs.Prelude.{◌≡◌, ◌++◌, List, Bool, true, false, Option, MatchOption, Contains, ⊤, codes, map}
 use Rattle.std.specs.List.{AllZip}
 use Rattle.std.specs.Borrow.{Bor}
@@ -22,7 +23,7 @@ pub record SettingModel : Type 0 where
   pub manifests : List Text
   -- the packages that are left out
   pub exclusions : List Specification
-  -- the purposes of the dependencies that are ignored
+  -- the kinds of the dependencies that are ignored
   pub ignored : IgnoredKinds
   -- whether every member is asked for, also where the graph has a root
   pub workspace : Bool
@@ -51,7 +52,7 @@ pub record IsExcluded (s : SettingModel) (p : PackageModel) : Type 0 where
   pub among : Contains s.exclusions spec
   pub fits : SpecFits spec p
 
--- the edge is ignored: its purpose is, for what its parent is
+-- the edge is ignored: its kind is, for what its parent is
 pub data IsIgnored (r : Resolved) (s : SettingModel) (e : Edge) : Type 0 where
   of_member : IsMember r e.parent → ignores s.ignored (kind_of e.kind) true ≡ true → IsIgnored r s e
   of_other : (IsMember r e.parent → ⊥) → ignores s.ignored (kind_of e.kind) false ≡ true → IsIgnored r s e

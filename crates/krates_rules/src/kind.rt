@@ -1,4 +1,4 @@
-//! Purposes of dependencies, and which of them are ignored.
+//! Kinds of dependencies, and which of them are ignored.
 
 ghost use Rattle.std.specs.Prelude.{◌≡◌, ◌↔◌, IsTrue, Some, true, false};
 ghost use Rattle.krates_rules.specs.Kind.{kind_of, kind_text, has_kind, ignores, HasOneMore, IgnoresMore};
@@ -6,7 +6,7 @@ ghost use Rattle.krates_rules.specs.Kind.{kind_of, kind_text, has_kind, ignores,
 use krates_cm::DependencyKind;
 use std::fmt;
 
-/// For what a dependency is needed (Cargo Book, "Specifying Dependencies").
+/// The kind of a dependency: for what it is needed (Cargo Book, "Specifying Dependencies").
 #[derive(Clone, Copy, Debug, PartialEq, Eq)]
 pub enum DepKind {
     /// For the package itself.
@@ -18,7 +18,7 @@ pub enum DepKind {
 }
 
 impl DepKind {
-    /// Whether this is the purpose that the document writes so.
+    /// Whether this is the kind that the document writes so.
     pub fn is(self, kind: DependencyKind) -> bool
         ensures { IsTrue result ↔ (self ≡ kind_of kind) }
     {
@@ -50,7 +50,7 @@ impl fmt::Display for DepKind {
     }
 }
 
-/// Whose dependencies are meant.
+/// Whose dependencies a setting applies to.
 #[derive(Clone, Copy, Debug)]
 pub enum Scope {
     /// Those of the members of the workspace.
@@ -61,15 +61,18 @@ pub enum Scope {
     All,
 }
 
-/// A set of purposes.
+/// A set of kinds: those whose field is true.
 #[derive(Clone, Copy, Debug)]
 pub struct KindSet {
+    /// Has it the kind `Normal`?
     pub normal: bool,
+    /// Has it the kind `Build`?
     pub build: bool,
+    /// Has it the kind `Dev`?
     pub dev: bool,
 }
 
-/// The set without a purpose.
+/// The set without a kind.
 pub const NO_KINDS: KindSet = KindSet {
     normal: false,
     build: false,
@@ -77,7 +80,7 @@ pub const NO_KINDS: KindSet = KindSet {
 };
 
 impl KindSet {
-    /// The set with one more purpose.
+    /// The set with one more kind.
     fn with(self, kind: DepKind) -> KindSet
         ensures { HasOneMore self result kind }
     {
@@ -88,7 +91,7 @@ impl KindSet {
         }
     }
 
-    /// Whether the purpose is in the set.
+    /// Whether the kind is in the set.
     fn has(self, kind: DepKind) -> bool
         ensures { result ≡ has_kind self kind }
     {
@@ -100,7 +103,7 @@ impl KindSet {
     }
 }
 
-/// The purposes of the dependencies that are ignored.
+/// The kinds of the dependencies that are ignored.
 #[derive(Clone, Copy, Debug)]
 pub struct IgnoredKinds {
     /// Where a member of the workspace has them.
@@ -110,7 +113,7 @@ pub struct IgnoredKinds {
 }
 
 impl IgnoredKinds {
-    /// Those, and this purpose in the scope.
+    /// Those, and this kind in the scope. Time O(1).
     pub fn with(self, kind: DepKind, scope: Scope) -> IgnoredKinds
         ensures { IgnoresMore self result kind scope }
     {
@@ -134,7 +137,8 @@ impl IgnoredKinds {
         }
     }
 
-    /// Whether dependencies for this purpose are ignored, where a member of the workspace has them, or another crate.
+    /// Whether dependencies of this kind are ignored, where a member of the workspace has them, or another crate.
+    /// Time O(1).
     pub fn has(self, kind: DepKind, is_member: bool) -> bool
         ensures { result ≡ ignores self kind is_member }
     {

@@ -10,9 +10,9 @@ pub fn reordering()
     ensures { IsOrderFree }
 {}
 
-/// A setting that excludes more packages, ignores one more purpose, or asks for targets where none was asked for, selects a
+/// A setting that excludes more packages, ignores one more kind, or asks for targets where none was asked for, selects a
 /// part of what the setting before it selects. Where that loses nothing, the narrower one is refused only since no crate is
-/// left, or for want of memory.
+/// left, or because memory ran out.
 pub fn narrowing()
     ensures { IsNarrowing }
 {}

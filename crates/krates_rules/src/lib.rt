@@ -4,5 +4,7 @@
 
 pub mod kind;
 pub mod laws;
+pub mod uses;
 
 pub use kind::{DepKind, Scope};
+pub use uses::Uses;

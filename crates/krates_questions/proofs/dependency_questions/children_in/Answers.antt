@@ -1,0 +1,11 @@
+use Rattle.std.proofs.Common.{arith}
+use Rattle.krates_questions.specs.Lookup.{resolved_view}
+use Rattle.krates_rules.specs.Resolved.{id_of}
+use Rattle.krates_questions.proofs.Needs.{children_told}
+use Rattle.krates_questions.proofs.dependency_questions.children_in.Goals as goal
+
+pub returns-in-Some : goal.returns-in-Some
+returns-in-Some c child = children_told c.one_reading.ensures.once (resolved_view c.args.lookup.now) (id_of c.args.krate.now) child c.in-Some.parts c.requires.distinct c.in-Some.ensures
+
+pub returns-in-None : goal.returns-in-None
+returns-in-None c child = (λ h. absurd (c.in-None.ensures h.node h.has_node), λ h. absurd (omega (arith, h.1)))

@@ -1,0 +1,62 @@
+use Rattle.std.proofs.Common.{List, [], sym, subst}
+use Rattle.krates_document.specs.Ids.{ids_view}
+use Rattle.krates_document.specs.NamedPlaces.{AreInOrder, StandsUnder, no_target, places_in}
+use Rattle.krates_document.specs.declared.named_places.NamedPlace.{NamedPlace}
+use Rattle.krates_questions.specs.Lookup.{resolved_view}
+use Rattle.krates_questions.specs.NameIndex.{AreDepsOf, AreIdsNamed}
+use Rattle.krates_rules.specs.Admission.{AreDepIds}
+use Rattle.krates_rules.proofs.Readings.{right_of}
+use Rattle.krates_questions.proofs.LeastReferents.{AreLookedAt, least_within, names_at, names_within, none_of_none, referent_told}
+use Rattle.krates_questions.proofs.referent.referent_of.Goals as goal
+
+pub index-requires : goal.index-requires
+index-requires c =
+    let d = c.args.lookup.now in
+    let p = c.requires.parts in
+    names_within AreDepsOf (resolved_view d).graph.nodes d.names.deps c.args.parts.now.place p.at.node c.requires.lookup.names.deps p.at.at
+
+pub places_under-own-requires : goal.places_under-own-requires
+places_under-own-requires c =
+    let d = c.args.lookup.now in
+    let p = c.requires.parts in
+    let own = names_at AreDepsOf (resolved_view d).graph.nodes d.names.deps c.args.parts.now.place p.at.node c.index.result.now c.requires.lookup.names.deps p.at.at c.index.ensures in
+    subst AreInOrder (sym c.deref.ensures.value) own.sorted
+
+pub index-requires-2 : goal.index-requires-2
+index-requires-2 c =
+    let d = c.args.lookup.now in
+    let p = c.requires.parts in
+    let kids = right_of AreDepIds (resolved_view d).graph.nodes (ids_view d.ids.now).deps c.args.parts.now.place p.at.node c.requires.lookup.ids.deps p.at.at in
+    names_within AreIdsNamed (ids_view d.ids.now).deps d.names.children c.args.parts.now.place kids.0 c.requires.lookup.names.children kids.1
+
+pub places_under-of_package-requires : goal.places_under-of_package-requires
+places_under-of_package-requires c =
+    let d = c.args.lookup.now in
+    let p = c.requires.parts in
+    let kids = right_of AreDepIds (resolved_view d).graph.nodes (ids_view d.ids.now).deps c.args.parts.now.place p.at.node c.requires.lookup.ids.deps p.at.at in
+    let children = names_at AreIdsNamed (ids_view d.ids.now).deps d.names.children c.args.parts.now.place kids.0 c.index-2.result.now c.requires.lookup.names.children kids.1 c.index-2.ensures in
+    subst AreInOrder (sym c.deref-2.ensures.value) children.sorted
+
+pub least_of-requires-clause-before : goal.least_of-requires-clause-before
+least_of-requires-clause-before c =
+    let r = resolved_view c.args.lookup.now in
+    let parts = c.args.parts.now in
+    let name = c.args.name.now in
+    least_within r parts name (places_in c.places_under-own.result.now) c.least_of-least.result (c.least_of-least.ensures [] (none_of_none r parts name))
+
+pub returns : goal.returns
+returns c =
+    let d = c.args.lookup.now in
+    let r = resolved_view d in
+    let parts = c.args.parts.now in
+    let name = c.args.name.now in
+    let p = c.requires.parts in
+    let own = names_at AreDepsOf r.graph.nodes d.names.deps parts.place p.at.node c.index.result.now c.requires.lookup.names.deps p.at.at c.index.ensures in
+    let kids = right_of AreDepIds r.graph.nodes (ids_view d.ids.now).deps parts.place p.at.node c.requires.lookup.ids.deps p.at.at in
+    let children = names_at AreIdsNamed (ids_view d.ids.now).deps d.names.children parts.place kids.0 c.index-2.result.now c.requires.lookup.names.children kids.1 c.index-2.ensures in
+    let these = places_in c.places_under-own.result.now in
+    let those = places_in c.places_under-of_package.result.now in
+    let seen : AreLookedAt name c.index.result.now.items these = record { each = λ k s. c.places_under-own.ensures k (subst (λ (all : List NamedPlace). StandsUnder all name no_target k) (sym c.deref.ensures.value) s) } in
+    let shown : AreLookedAt name c.index-2.result.now.items those = record { each = λ k s. c.places_under-of_package.ensures k (subst (λ (all : List NamedPlace). StandsUnder all name no_target k) (sym c.deref-2.ensures.value) s) } in
+    let first = c.least_of-least.ensures [] (none_of_none r parts name) in
+    referent_told c.one_reading.ensures.once r parts name kids.0 c.index.result.now.items c.index-2.result.now.items these those c.least_of.result c.requires.lookup.distinct p kids.2 own children seen shown (c.least_of.ensures these first)

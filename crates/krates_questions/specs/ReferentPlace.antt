@@ -1,0 +1,66 @@
+-- The place of a referent among the dependencies of a node.
+use Rattle.std.specs.Prelude.{◌≡◌, ◌≢◌, ◌++◌, ℕ, List, Option, Some, MatchOption, Contains, map, slice_get, ⊤}
+use Rattle.std.specs.declared.cmp.Ordering.TheVariants.{Greater, Less}
+use Rattle.krates_cm.specs.Document.{Text, TargetModel, NodeDepModel, PackageModel, node_dep_view}
+use Rattle.krates_cm.specs.declared.resolve.NodeDep.{NodeDep}
+use Rattle.krates_cm.specs.declared.target.TargetKind.TheVariants.{Lib}
+use Rattle.krates_ids.specs.Identity.{Identity, id_cmp}
+use Rattle.krates_rules.specs.DeclaredDependency.{FirstAt}
+use Rattle.krates_rules.specs.Resolved.{DepAt, Resolved, id_of}
+use Rattle.krates_rules.specs.Referent.{AnswersTo, IsReferent}
+use Rattle.krates_rules.specs.Facts.{Id}
+use Rattle.krates_questions.specs.NodeEntry.{krate_of}
+use Rattle.krates_questions.specs.declared.node_entry.NodeParts.{NodeParts}
+
+-- the dependency at this place is the one that the name means
+pub record IsReferentAt (r : Resolved) (parts : NodeParts) (name : Text) (index : ℕ) : Type 0 where
+  pub child : Identity
+  pub at : slice_get parts.children.now index ≡ Some child
+  pub dep : DepAt r (id_of parts.parent.now) (id_of child) parts.place index
+  pub is : IsReferent r (id_of parts.parent.now) name (id_of child)
+
+-- the id comes before the one at the place of the list, or there is no place
+abbrev pub IsBefore : List Identity → Identity → Option ℕ → Type 0
+IsBefore ids id place = MatchOption place ⊤ (λ at. (there : Identity) × (slice_get ids at ≡ Some there) × (id_cmp id there ≡ Less))
+
+-- the library of the package, its first target of kind `lib`, or none where it has none
+abbrev pub IsLibraryOf : PackageModel → Option TargetModel → Type 0
+IsLibraryOf p answer =
+    MatchOption answer ((place : ℕ) (t : TargetModel) → slice_get p.targets place ≡ Some t → Contains t.kind Lib → ⊥) (λ t. (place : ℕ) × FirstAt (λ t. Contains t.kind Lib) p.targets place t)
+
+-- the place of what the name means, or none where it means nothing
+abbrev pub TellsReferent : Resolved → NodeParts → Text → Option ℕ → Type 0
+TellsReferent r parts name answer =
+    MatchOption answer ((child : Id) → IsReferent r (krate_of parts) name child → ⊥) (IsReferentAt r parts name)
+
+-- the dependency on this crate answers to the name
+abbrev pub AnswersAs : Resolved → Identity → NodeDep → Text → Type 0
+AnswersAs r child dep name = AnswersTo r (id_of child) (node_dep_view dep) name
+
+-- ---- how it is found
+
+-- the dependency at this place of the node, which has this id, answers to the name
+pub record AnswersAt (r : Resolved) (parts : NodeParts) (name : Text) (k : ℕ) (child : Identity) : Type 0 where
+  pub at : slice_get parts.children.now k ≡ Some child
+  pub dep : NodeDepModel
+  pub here : slice_get (map node_dep_view parts.deps.now) k ≡ Some dep
+  pub answers : AnswersTo r (id_of child) dep name
+
+-- and its id comes before the one at a place
+abbrev pub AnswersBefore : Resolved → NodeParts → Text → ℕ → Option ℕ → Type 0
+AnswersBefore r parts name k place = (child : Identity) × AnswersAt r parts name k child × IsBefore parts.children.now child place
+
+-- it is the least of these that answer
+pub record IsLeastAt (r : Resolved) (parts : NodeParts) (name : Text) (these : List ℕ) (k : ℕ) : Type 0 where
+  pub child : Identity
+  pub answers : AnswersAt r parts name k child
+  pub least : (j : ℕ) (other : Identity) → Contains these j → AnswersAt r parts name j other → id_cmp child other ≢ Greater
+
+-- the least of these, or none of them answers
+abbrev pub IsLeastOf : Resolved → NodeParts → Text → List ℕ → Option ℕ → Type 0
+IsLeastOf r parts name these least =
+    MatchOption least ((j : ℕ) (other : Identity) → Contains these j → AnswersAt r parts name j other → ⊥) (IsLeastAt r parts name these)
+
+-- what was the least of some is now that of those and these
+abbrev pub GoesOn : Resolved → NodeParts → Text → List ℕ → Option ℕ → Option ℕ → Type 0
+GoesOn r parts name these before least = (some : List ℕ) → IsLeastOf r parts name some before → IsLeastOf r parts name (some ++ these) least

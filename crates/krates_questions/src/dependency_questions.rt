@@ -1,0 +1,249 @@
+//! What a document and a setting answer of the dependencies of a crate.
+
+ghost use Rattle.std.specs.Prelude.{◌≡◌, ◌↔◌, Contains, IfOk, IsTrue, Some, map, option_map};
+ghost use Rattle.krates_cm.specs.Document.{DepKindInfoModel, dep_kind_info_view};
+ghost use Rattle.krates_questions.specs.Basis.{document_of};
+ghost use Rattle.krates_questions.specs.DocumentModel.{as_resolved};
+ghost use Rattle.krates_questions.specs.DocumentAnswers.{edge_asked};
+ghost use Rattle.krates_questions.specs.Lookup.{IsLookup, resolved_view};
+ghost use Rattle.krates_questions.specs.Need.{HasChild, ListsKind, TellsDeclaration, TellsNeed};
+ghost use Rattle.krates_questions.specs.NodeEntry.{IsEntry, edge_for};
+ghost use Rattle.krates_rules.specs.Admission.{HasVersion};
+ghost use Rattle.krates_rules.specs.Facts.{Id};
+ghost use Rattle.krates_rules.specs.Questions.{edge_between};
+ghost use Rattle.krates_rules.specs.Referent.{IsReferent};
+ghost use Rattle.krates_rules.specs.Resolved.{id_of};
+
+use crate::basis::Basis;
+use crate::lookup::Lookup;
+use crate::node_entry::{NodeEntry, declared_at};
+use crate::questions::{
+    Document, declared_for, entry_between, is_same, lists, parts_for, referent_in,
+};
+use krates_cm::{DepKindInfo, Dependency};
+use krates_document::setting::Setting;
+use krates_ids::{Kid, laws};
+use std::alloc::{AllocError, Global};
+
+/// What a document and a setting have for a dependency of a crate on another, of one kind and for one target.
+#[derive(Clone, Copy)]
+pub enum Need<'a> {
+    /// It is listed, not ignored, declared as this dependency, and passes the targets.
+    Wanted(&'a Dependency),
+    /// It is listed and not ignored, and no declared dependency fits.
+    Undeclared,
+    /// It isn't listed, or ignored, or doesn't pass.
+    Nothing,
+}
+
+impl<'a> Document<'a> {
+    /// The crates that the node of a crate depends on, in the order of the document; none where it has no node. Time: O(log n)
+    /// in the crates of the document.
+    pub fn children(&self, krate: &Kid) -> &'a [Kid]
+        ensures { (child : Id) → HasChild (as_resolved self.now) (id_of krate.now) child
+            ↔ Contains (map id_of result.now) child }
+    {
+        children_in(&self.lookup, krate)
+    }
+
+    /// Of which kinds and for which targets the node of a crate lists another crate, in the order of the document; none where it
+    /// doesn't depend on it. Time: O(log n) in the crates of the document, and the dependencies of the node.
+    pub fn kinds(&self, krate: &Kid, child: &Kid) -> &'a [DepKindInfo]
+        ensures { (k : DepKindInfoModel)
+            → ListsKind (as_resolved self.now) (id_of krate.now) (id_of child.now) k
+            ↔ Contains (map dep_kind_info_view result.now) k }
+    {
+        kinds_in(&self.lookup, krate, child)
+    }
+
+    /// What a name means in a feature reference of a crate, as `referent` has it: this, and nothing else. Time: as `kinds`.
+    pub fn meant(&self, krate: &Kid, name: &str) -> Option<&'a Kid>
+        ensures { (child : Id) → IsReferent (as_resolved self.now) (id_of krate.now) name.now child
+            ↔ (option_map (λ k. id_of k.now) result ≡ Some child) }
+    {
+        meant_in(&self.lookup, krate, name)
+    }
+
+    /// Whether a name in a feature reference of a crate means another crate, as `referent` has it. Time: as `kinds`.
+    pub fn means(&self, krate: &Kid, name: &str, child: &Kid) -> bool
+        ensures { IsTrue result
+            ↔ IsReferent (as_resolved self.now) (id_of krate.now) name.now (id_of child.now) }
+    {
+        means_in(&self.lookup, krate, name, child)
+    }
+
+    /// What there is for a dependency of a crate on another, of one kind and for one target, under a setting. Whether it is
+    /// optional, and what there is for either crate, isn't asked.
+    ///
+    /// The only error is running out of memory. Time: as `kinds`, and the dependencies that the package declares.
+    pub fn need(
+        &self,
+        alloc: Global,
+        setting: &Setting,
+        parent: &Kid,
+        child: &Kid,
+        info: &DepKindInfo,
+    ) -> Result<Need<'a>, AllocError>
+        ensures { let edge = edge_between (id_of parent.now) (id_of child.now)
+            (dep_kind_info_view info.now) in
+            IfOk result (TellsNeed (as_resolved self.now) setting.now edge) }
+    {
+        let basis = Basis {
+            alloc,
+            lookup: &self.lookup,
+            setting,
+        };
+        need_in(&basis, parent, child, info)
+    }
+
+    /// As what a dependency of a crate on another is declared, of one kind and for one target, whatever the setting; none where
+    /// it isn't.
+    ///
+    /// The only error is running out of memory. Time: as `need`.
+    pub fn declaration(
+        &self,
+        alloc: Global,
+        parent: &Kid,
+        child: &Kid,
+        info: &DepKindInfo,
+    ) -> Result<Option<&'a Dependency>, AllocError>
+        ensures { let edge = edge_between (id_of parent.now) (id_of child.now)
+            (dep_kind_info_view info.now) in
+            IfOk result (TellsDeclaration (as_resolved self.now) edge) }
+    {
+        declaration_in(alloc, &self.lookup, parent, child, info)
+    }
+}
+
+/// The crates that the node of a crate depends on.
+fn children_in<'a>(lookup: &Lookup<'a>, krate: &Kid) -> &'a [Kid]
+    requires { IsLookup lookup.now }
+    ensures { (child : Id) → HasChild (resolved_view lookup.now) (id_of krate.now) child
+        ↔ Contains (map id_of result.now) child }
+{
+    laws::one_reading();
+    match parts_for(lookup, krate) {
+        Some(parts) => parts.children,
+        None => &[],
+    }
+}
+
+/// Of which kinds and for which targets a crate is listed.
+fn kinds_in<'a>(lookup: &Lookup<'a>, krate: &Kid, child: &Kid) -> &'a [DepKindInfo]
+    requires { IsLookup lookup.now }
+    ensures { (k : DepKindInfoModel)
+        → ListsKind (resolved_view lookup.now) (id_of krate.now) (id_of child.now) k
+        ↔ Contains (map dep_kind_info_view result.now) k }
+{
+    match entry_between(lookup, krate, child) {
+        Some(entry) => entry.dep.dep_kinds.as_slice(),
+        None => &[],
+    }
+}
+
+/// What a name means.
+fn meant_in<'a>(lookup: &Lookup<'a>, krate: &Kid, name: &str) -> Option<&'a Kid>
+    requires { IsLookup lookup.now }
+    ensures { (child : Id) → IsReferent (resolved_view lookup.now) (id_of krate.now) name.now child
+        ↔ (option_map (λ k. id_of k.now) result ≡ Some child) }
+{
+    referent_in(lookup, krate, name)
+}
+
+/// Whether a name means a crate.
+fn means_in<'a>(lookup: &Lookup<'a>, krate: &Kid, name: &str, child: &Kid) -> bool
+    requires { IsLookup lookup.now }
+    ensures { IsTrue result
+        ↔ IsReferent (resolved_view lookup.now) (id_of krate.now) name.now (id_of child.now) }
+{
+    match referent_in(lookup, krate, name) {
+        Some(referent) => is_same(referent, child),
+        None => false,
+    }
+}
+
+/// What there is for an edge between two crates.
+fn need_in<'a>(
+    basis: &Basis<'a, '_>,
+    parent: &Kid,
+    child: &Kid,
+    info: &DepKindInfo,
+) -> Result<Need<'a>, AllocError>
+    requires { IsLookup basis.now.lookup.now }
+    ensures { let edge = edge_asked parent.now child.now info.now in
+        IfOk result (TellsNeed (document_of basis.now) basis.now.setting.now edge) }
+{
+    match entry_between(basis.lookup, parent, child) {
+        Some(entry) => entry_need(basis.alloc, basis.lookup, basis.setting, &entry, info),
+        None => Ok(Need::Nothing),
+    }
+}
+
+/// What there is for an edge of an entry.
+fn entry_need<'a>(
+    alloc: Global,
+    lookup: &Lookup<'a>,
+    setting: &Setting,
+    entry: &NodeEntry<'a>,
+    info: &DepKindInfo,
+) -> Result<Need<'a>, AllocError>
+    requires lookup { IsLookup lookup.now }
+    requires entry { IsEntry (resolved_view lookup.now) entry.now }
+    requires version { HasVersion entry.now.child.now }
+    ensures { IfOk result (TellsNeed (resolved_view lookup.now) setting.now
+        (edge_for entry.now (dep_kind_info_view info.now))) }
+{
+    if !lists(entry.dep, info) {
+        return Ok(Need::Nothing);
+    }
+    if setting.ignores(info.kind, entry.is_member) {
+        return Ok(Need::Nothing);
+    }
+    let declared = declared_for(alloc, lookup, entry, info)?;
+    let Some(place) = declared else {
+        return Ok(Need::Undeclared);
+    };
+    let passes = setting.passes(alloc, &info.target)?;
+    if !passes {
+        return Ok(Need::Nothing);
+    }
+    Ok(Need::Wanted(declared_at(entry, place)))
+}
+
+/// As what an edge between two crates is declared.
+fn declaration_in<'a>(
+    alloc: Global,
+    lookup: &Lookup<'a>,
+    parent: &Kid,
+    child: &Kid,
+    info: &DepKindInfo,
+) -> Result<Option<&'a Dependency>, AllocError>
+    requires { IsLookup lookup.now }
+    ensures { let edge = edge_asked parent.now child.now info.now in
+        IfOk result (TellsDeclaration (resolved_view lookup.now) edge) }
+{
+    match entry_between(lookup, parent, child) {
+        Some(entry) => entry_declaration(alloc, lookup, &entry, info),
+        None => Ok(None),
+    }
+}
+
+/// As what an edge of an entry is declared.
+fn entry_declaration<'a>(
+    alloc: Global,
+    lookup: &Lookup<'a>,
+    entry: &NodeEntry<'a>,
+    info: &DepKindInfo,
+) -> Result<Option<&'a Dependency>, AllocError>
+    requires lookup { IsLookup lookup.now }
+    requires entry { IsEntry (resolved_view lookup.now) entry.now }
+    requires version { HasVersion entry.now.child.now }
+    ensures { IfOk result (TellsDeclaration (resolved_view lookup.now)
+        (edge_for entry.now (dep_kind_info_view info.now))) }
+{
+    let declared = declared_for(alloc, lookup, entry, info)?;
+    let Some(place) = declared else {
+        return Ok(None);
+    };
+    Ok(Some(declared_at(entry, place)))
+}

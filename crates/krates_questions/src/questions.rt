@@ -1,0 +1,402 @@
+//! What the rules of resolution ask of a document, asked one by one.
+
+ghost use Rattle.std.specs.Prelude.{◌≡◌, ◌↔◌, ◌∷◌, [], All, Contains, IfOk, IsTrue, map};
+ghost use Rattle.krates_questions.specs.Basis.{document_of};
+ghost use Rattle.krates_cm.specs.Document.{dep_kind_info_view, metadata_view, node_dep_view};
+ghost use Rattle.krates_rules.specs.Admission.{HasVersion, IsAdmitted};
+ghost use Rattle.krates_questions.specs.DocumentModel.{IsDocumentOf, as_resolved};
+ghost use Rattle.krates_document.specs.Ids.{ids_view};
+ghost use Rattle.krates_questions.specs.DocumentAnswers.{AreRoots, AreRootsInOrder, IsOpenAs, TellsDeclaredPlace, TellsReferent, edge_asked};
+ghost use Rattle.krates_questions.specs.LookedUp.{PicksRoots, TellsDeclared, TellsEntry, TellsParts};
+ghost use Rattle.krates_questions.specs.Lookup.{IsLookup, resolved_view};
+ghost use Rattle.krates_document.specs.NamedPlaces.{places_in};
+ghost use Rattle.krates_questions.specs.NodeEntry.{AreParts, IsEntry, edge_for};
+ghost use Rattle.krates_rules.specs.Questions.{Stands};
+ghost use Rattle.krates_rules.specs.Resolved.{IsMember, StandsAt, id_of};
+ghost use Rattle.krates_questions.specs.RootChoice.{AsksFor};
+ghost use Rattle.krates_questions.specs.CrateTable.{IsPlaceAmong, IsPlaceOf};
+
+mod contents;
+
+use crate::basis::Basis;
+use crate::lookup::{Lookup, lookup_of, node_place};
+use crate::node_entry::{NodeEntry, NodeParts, declared_places, entry_at, is_same_info, parts_of};
+use crate::referent::referent_of;
+use crate::root_choice::{RootChoice, choice_of, is_root};
+use crate::standing::{Standing, standing_of};
+use krates_cm::{DepKindInfo, Metadata, NodeDep};
+use krates_document::declared_dependency::{Sought, declared_of, version_of};
+use krates_document::ids::Ids;
+use krates_document::named_places::{NamedPlace, places_under};
+use krates_document::setting::Setting;
+use krates_ids::{Kid, laws};
+use std::alloc::{AllocError, Global};
+use std::marker::Model;
+
+/// A document that was admitted, ready to be asked what the rules of resolution ask of it.
+///
+/// A crate is named by its id, and found by halves. One that isn't of the document has no dependency, and is no root. The roots
+/// take one walk over the members.
+#[derive(Drop)]
+pub struct Document<'a> {
+    pub(crate) lookup: Lookup<'a>,
+}
+
+impl<'a> Model for Document<'a> {
+    ghost use Rattle.krates_questions.specs.DocumentModel.{DocumentModel, looked_up};
+    ghost use Rattle.krates_questions.specs.Lookup.{IsLookup};
+
+    ghost Value = { DocumentModel };
+
+    ghost use Rattle.std.specs.Coded.{codes};
+    ghost use Rattle.krates_cm.specs.contracts.metadata.Metadata as documents;
+    ghost use Rattle.krates_cm.specs.contracts.resolve.Resolve as graphs;
+
+    ghost coded = { Prim.hlevel (codes, documents.the_row.coded, graphs.the_row.coded) };
+
+    ghost view = { λ d. looked_up d.lookup };
+
+    ghost invariant = { λ d. IsLookup d.lookup };
+}
+
+impl<'a> Document<'a> {
+    /// The document that was admitted with these ids.
+    ///
+    /// The only error is running out of memory.
+    pub fn new(
+        alloc: Global,
+        metadata: &'a Metadata,
+        ids: &'a Ids,
+    ) -> Result<Document<'a>, AllocError>
+        requires { IsAdmitted (metadata_view metadata.now) (ids_view ids.now) }
+        ensures { IfOk result (IsDocumentOf (metadata_view metadata.now)) }
+    {
+        let Some(resolve) = &metadata.resolve else {
+            unreachable!()
+        };
+        let lookup = lookup_of(alloc, metadata, resolve, ids)?;
+        Ok(Document { lookup })
+    }
+
+    /// What a name means in a feature reference of a crate, as `dep:NAME` or `NAME/FEATURE`: the least, by id, of the
+    /// dependencies of its node that answer to the name (Cargo Book, "Features" and "cargo metadata", `resolve`).
+    ///
+    /// A dependency answers to its own name, and to that of its package where its own is the package's library. In its
+    /// own name `_` may stand for `-`. None where no dependency answers.
+    pub fn referent(&self, krate: &Kid, name: &str) -> Option<&'a Kid>
+        ensures { TellsReferent (as_resolved self.now) (id_of krate.now) name.now result }
+    {
+        referent_in(&self.lookup, krate, name)
+    }
+
+    /// The crates that are kept for themselves under a setting, also those that the setting excludes.
+    ///
+    /// Where it asks for no manifest, that is the graph's root alone, or every member of the workspace where the graph
+    /// has no root or the setting says so. Where it asks for the one manifest of the workspace itself, that is every
+    /// member too, and else the members with one of the manifests (Cargo Book, "cargo metadata", `workspace_members`
+    /// and `resolve`). Members come in the order of the document.
+    ///
+    /// The only error is running out of memory.
+    pub fn roots(&self, alloc: Global, setting: &Setting) -> Result<Vec<&'a Kid>, AllocError>
+        ensures each { IfOk result (AreRoots (as_resolved self.now) setting.now) }
+        ensures order { IfOk result (AreRootsInOrder (as_resolved self.now) setting.now) }
+    {
+        roots_in(alloc, &self.lookup, setting)
+    }
+
+    /// As what a crate declares its dependency on another, of one kind and for one target: the place in the list of its
+    /// package (Cargo Book, "cargo metadata", `dependencies` and `resolve`).
+    ///
+    /// A declared dependency fits where kind, target, name and version do. Where several fit, it is the first of them
+    /// whose source is that of the other crate. None where the crate's node doesn't list the dependency of this kind
+    /// and target, where none fits, and where several fit and none of them has the source.
+    ///
+    /// The only error is running out of memory.
+    pub fn declared(
+        &self,
+        alloc: Global,
+        parent: &Kid,
+        child: &Kid,
+        info: &DepKindInfo,
+    ) -> Result<Option<usize>, AllocError>
+        ensures { let edge = edge_asked parent.now child.now info.now in
+            IfOk result (TellsDeclaredPlace (as_resolved self.now) edge) }
+    {
+        declared_in(alloc, &self.lookup, parent, child, info)
+    }
+
+    /// Whether a crate's dependency on another, of one kind and for one target, may be kept under a setting: the crate's node
+    /// lists it, its package declares it, the setting doesn't ignore its kind, its target passes, and the other crate
+    /// has a node and a package that isn't excluded.
+    ///
+    /// Whether it is optional, and whether the crate itself is kept, isn't asked. The only error is running out of memory.
+    pub fn is_open(
+        &self,
+        alloc: Global,
+        setting: &Setting,
+        parent: &Kid,
+        child: &Kid,
+        info: &DepKindInfo,
+    ) -> Result<bool, AllocError>
+        ensures { let edge = edge_asked parent.now child.now info.now in
+            IfOk result (λ b. IsTrue b ↔ IsOpenAs (as_resolved self.now) setting.now edge) }
+    {
+        let basis = Basis {
+            alloc,
+            lookup: &self.lookup,
+            setting,
+        };
+        is_open_in(&basis, parent, child, info)
+    }
+}
+
+/// What a name means in a reference of a crate.
+pub(crate) fn referent_in<'a>(lookup: &Lookup<'a>, krate: &Kid, name: &str) -> Option<&'a Kid>
+    requires { IsLookup lookup.now }
+    ensures { TellsReferent (resolved_view lookup.now) (id_of krate.now) name.now result }
+{
+    let Some(parts) = parts_for(lookup, krate) else {
+        return None;
+    };
+    let Some(index) = referent_of(lookup, &parts, name) else {
+        return None;
+    };
+    Some(entry_at(&parts, index).child)
+}
+
+/// The node of a crate, taken apart; none where it has no node.
+pub(crate) fn parts_for<'a>(lookup: &Lookup<'a>, krate: &Kid) -> Option<NodeParts<'a>>
+    requires { IsLookup lookup.now }
+    ensures { TellsParts (resolved_view lookup.now) (id_of krate.now) result }
+{
+    laws::one_reading();
+    let Some(place) = node_place(lookup, krate) else {
+        return None;
+    };
+    Some(parts_of(lookup, place))
+}
+
+/// The place of a node's dependency on a crate: of those whose package has its name, which are found by halves, that with its id.
+fn place_of_child<'a>(lookup: &Lookup<'a>, parts: &NodeParts<'a>, child: &Kid) -> Option<usize>
+    requires lookup { IsLookup lookup.now }
+    requires parts { AreParts (resolved_view lookup.now) parts.now.place parts.now }
+    ensures { IsPlaceOf parts.now.children.now (id_of child.now) result }
+{
+    laws::one_reading();
+    let named = places_under(&lookup.names.children[parts.place], child.name(), "");
+    place_among(parts.children, named, child)
+}
+
+/// Of these places of a list, the first at which the id stands.
+fn place_among(ids: &[Kid], places: &[NamedPlace<'_>], id: &Kid) -> Option<usize>
+    ensures { IsPlaceAmong ids.now (places_in places.now) (id_of id.now) result }
+{
+    for there in places {
+        if stands_at(ids, there.place, id) {
+            return Some(there.place);
+        }
+    }
+    None
+}
+
+/// Whether the id stands at the place of the list.
+fn stands_at(ids: &[Kid], place: usize, id: &Kid) -> bool
+    ensures { IsTrue result ↔ StandsAt ids.now (id_of id.now) place }
+{
+    if place < ids.len() {
+        return is_same(&ids[place], id);
+    }
+    false
+}
+
+/// Whether two ids are the same.
+pub(crate) fn is_same(one: &Kid, other: &Kid) -> bool
+    ensures { IsTrue result ↔ (id_of one.now ≡ id_of other.now) }
+{
+    laws::comparison();
+    one == other
+}
+
+/// The roots.
+fn roots_in<'a>(
+    alloc: Global,
+    lookup: &Lookup<'a>,
+    setting: &Setting,
+) -> Result<Vec<&'a Kid>, AllocError>
+    requires { IsLookup lookup.now }
+    ensures each { IfOk result (AreRoots (resolved_view lookup.now) setting.now) }
+    ensures order { IfOk result (AreRootsInOrder (resolved_view lookup.now) setting.now) }
+{
+    laws::one_reading();
+    match choice_of(lookup, setting) {
+        RootChoice::Root(root) => alone(alloc, root),
+        RootChoice::Members => root_members(alloc, lookup, setting, true, &lookup.ids.members),
+        RootChoice::Manifests => root_members(alloc, lookup, setting, false, &lookup.ids.members),
+    }
+}
+
+/// The list of one id.
+fn alone<'a>(alloc: Global, id: &'a Kid) -> Result<Vec<&'a Kid>, AllocError>
+    ensures { IfOk result (λ ids. map (λ id. id_of id.now) ids.items ≡ id_of id.now ∷ []) }
+{
+    let mut ids = Vec::new(alloc);
+    ids.push(id)?;
+    Ok(ids)
+}
+
+/// Those of these members that are roots: all of them, or those with one of the manifests.
+fn root_members<'a>(
+    alloc: Global,
+    lookup: &Lookup<'a>,
+    setting: &Setting,
+    all: bool,
+    members: &'a [Kid],
+) -> Result<Vec<&'a Kid>, AllocError>
+    requires lookup { IsLookup lookup.now }
+    requires asks { AsksFor (resolved_view lookup.now) setting.now all }
+    requires members { All (λ member. IsMember (resolved_view lookup.now) (id_of member)) members.now }
+    ensures { IfOk result (PicksRoots (resolved_view lookup.now) setting.now members.now) }
+{
+    let mut roots = Vec::new(alloc);
+    for member in members {
+        if is_root(lookup, setting, all, member) {
+            roots.push(member)?;
+        }
+    }
+    Ok(roots)
+}
+
+/// The place of the declared dependency of an edge between two crates.
+fn declared_in<'a>(
+    alloc: Global,
+    lookup: &Lookup<'a>,
+    parent: &Kid,
+    child: &Kid,
+    info: &DepKindInfo,
+) -> Result<Option<usize>, AllocError>
+    requires { IsLookup lookup.now }
+    ensures { let edge = edge_asked parent.now child.now info.now in
+        IfOk result (TellsDeclaredPlace (resolved_view lookup.now) edge) }
+{
+    match entry_between(lookup, parent, child) {
+        Some(entry) => declared_for(alloc, lookup, &entry, info),
+        None => Ok(None),
+    }
+}
+
+/// The dependency of a crate's node on another crate; none where there is none.
+pub(crate) fn entry_between<'a>(
+    lookup: &Lookup<'a>,
+    parent: &Kid,
+    child: &Kid,
+) -> Option<NodeEntry<'a>>
+    requires { IsLookup lookup.now }
+    ensures { TellsEntry (resolved_view lookup.now) (id_of parent.now) (id_of child.now) result }
+{
+    laws::one_reading();
+    let Some(parts) = parts_for(lookup, parent) else {
+        return None;
+    };
+    let Some(index) = place_of_child(lookup, &parts, child) else {
+        return None;
+    };
+    Some(entry_at(&parts, index))
+}
+
+/// The place of the declared dependency of an entry, of a kind and for a target that it lists.
+pub(crate) fn declared_for<'a>(
+    alloc: Global,
+    lookup: &Lookup<'a>,
+    entry: &NodeEntry<'a>,
+    info: &DepKindInfo,
+) -> Result<Option<usize>, AllocError>
+    requires lookup { IsLookup lookup.now }
+    requires entry { IsEntry (resolved_view lookup.now) entry.now }
+    requires version { HasVersion entry.now.child.now }
+    ensures { IfOk result (TellsDeclared entry.now (dep_kind_info_view info.now)) }
+{
+    if !lists(entry.dep, info) {
+        return Ok(None);
+    }
+    let Some(version) = version_of(alloc, entry.child)? else {
+        unreachable!()
+    };
+    let sought = Sought {
+        dep: entry.dep,
+        kid: entry.child,
+        version: &version,
+        info,
+    };
+    let places = declared_places(lookup, entry.parent);
+    Ok(declared_of(entry.declared, places, &sought))
+}
+
+/// Whether the dependency of a node lists this kind and target.
+pub(crate) fn lists(dep: &NodeDep, info: &DepKindInfo) -> bool
+    ensures { IsTrue result ↔ Contains (node_dep_view dep.now).dep_kinds (dep_kind_info_view info.now) }
+{
+    for other in dep.dep_kinds.as_slice() {
+        if is_same_info(other, info) {
+            return true;
+        }
+    }
+    false
+}
+
+/// Whether an edge between two crates may be kept.
+fn is_open_in<'a>(
+    basis: &Basis<'a, '_>,
+    parent: &Kid,
+    child: &Kid,
+    info: &DepKindInfo,
+) -> Result<bool, AllocError>
+    requires { IsLookup basis.now.lookup.now }
+    ensures { let edge = edge_asked parent.now child.now info.now in
+        IfOk result (λ b. IsTrue b ↔ IsOpenAs (document_of basis.now) basis.now.setting.now edge) }
+{
+    match entry_between(basis.lookup, parent, child) {
+        Some(entry) => is_entry_open(basis.alloc, basis.lookup, basis.setting, &entry, info),
+        None => Ok(false),
+    }
+}
+
+/// Whether the edge of an entry may be kept, of one kind and for one target.
+fn is_entry_open<'a>(
+    alloc: Global,
+    lookup: &Lookup<'a>,
+    setting: &Setting,
+    entry: &NodeEntry<'a>,
+    info: &DepKindInfo,
+) -> Result<bool, AllocError>
+    requires lookup { IsLookup lookup.now }
+    requires entry { IsEntry (resolved_view lookup.now) entry.now }
+    requires version { HasVersion entry.now.child.now }
+    ensures { let edge = edge_for entry.now (dep_kind_info_view info.now) in
+        IfOk result (λ b. IsTrue b ↔ IsOpenAs (resolved_view lookup.now) setting.now edge) }
+{
+    if setting.ignores(info.kind, entry.is_member) {
+        return Ok(false);
+    }
+    let declared = declared_for(alloc, lookup, entry, info)?;
+    let Some(_) = declared else {
+        return Ok(false);
+    };
+    let passes = setting.passes(alloc, &info.target)?;
+    if !passes {
+        return Ok(false);
+    }
+    Ok(stands(lookup, setting, entry.child))
+}
+
+/// Whether a crate has a node and a package that isn't excluded.
+fn stands<'a>(lookup: &Lookup<'a>, setting: &Setting, id: &'a Kid) -> bool
+    requires { IsLookup lookup.now }
+    ensures { IsTrue result ↔ Stands (resolved_view lookup.now) setting.now (id_of id.now) }
+{
+    match standing_of(lookup, setting, id) {
+        Standing::Stands(_) => true,
+        Standing::NoPackage => false,
+        Standing::NoNode => false,
+        Standing::Excluded => false,
+    }
+}
