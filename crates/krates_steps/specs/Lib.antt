@@ -1,0 +1,5 @@
+pub mod Choice
+pub mod First
+pub mod Needed
+pub mod Part
+pub mod Picked
