@@ -14,13 +14,14 @@ use Rattle.krates_rules.specs.Facts.{Id, Edge, Fact, Crate, Feature, Kept, Toggl
 use Rattle.krates_resolve.specs.Found.{HasFound, HasUsed, IsAny, IsUsed, IsSound, Grows, Advances}
 use Rattle.krates_rules.specs.Resolved.{DepAt, Resolved}
 use Rattle.krates_resolve.specs.Links.{IsMarked}
-use Rattle.krates_resolve.specs.NodeEntry.{IsEntry, parent_of, child_of, declared_in, entry_of, edge_for}
+use Rattle.krates_questions.specs.NodeEntry.{IsEntry, parent_of, child_of, declared_in, entry_of, edge_for}
 use Rattle.krates_rules.specs.Questions.{IsDeclaredAt, IsWanted, kind_info_of, questions}
 use Rattle.krates_resolve.specs.Selection.{edge_view, IsPlaced}
 use Rattle.krates_rules.specs.Setting.{SettingModel}
+use Rattle.krates_resolve.specs.Trace.{HasSomeStep}
 use Rattle.krates_resolve.specs.declared.found.Found.{Found}
 use Rattle.krates_resolve.specs.declared.links.Links.{Links}
-use Rattle.krates_resolve.specs.declared.node_entry.NodeEntry.{NodeEntry}
+use Rattle.krates_questions.specs.declared.node_entry.NodeEntry.{NodeEntry}
 use Rattle.krates_resolve.specs.declared.selection.KeptEdge.{KeptEdge}
 use Rattle.krates_document.proofs.DeclaredOnce.{declared_once}
 use Rattle.krates_document.proofs.FirstPlaces.{seen_at}
@@ -39,16 +40,16 @@ edge_found r x v e (Feature i g) more h = h
 edge_found r x v e (Toggled i j g) more h = h
 edge_found r x v e (Lost c) more h = h
 
-edge_derivable : (r : Resolved) (s : SettingModel) (x : Found) (v : Vec KeptEdge) (e : KeptEdge) (f : Fact) → IsSound r s x → v.items ≡ x.edges.items ++ e ∷ [] → Derivable (questions r s) (Kept (edge_view e))
-    → HasFound r (WithEdges x v) f → Derivable (questions r s) f
-edge_derivable r s x v e (Kept y) sound more d h = elim (seen_from edge_view x.edges.items v.items e y more h) [
-  | inl o ↦ sound.derivable (Kept y) o
-  | inr is ↦ subst (λ (z : Edge). Derivable (questions r s) (Kept z)) is d
+-- what holds of each fact that was found, and of the edge that is pushed, holds of each that is found then
+edge_each : (P : Fact → Type 0) → (r : Resolved) (x : Found) (v : Vec KeptEdge) (e : KeptEdge) (f : Fact) → ((g : Fact) → HasFound r x g → P g) → v.items ≡ x.edges.items ++ e ∷ [] → P (Kept (edge_view e)) → HasFound r (WithEdges x v) f → P f
+edge_each P r x v e (Kept y) old more d h = elim (seen_from edge_view x.edges.items v.items e y more h) [
+  | inl o ↦ old (Kept y) o
+  | inr is ↦ subst (λ (z : Edge). P (Kept z)) is d
 ]
-edge_derivable r s x v e (Crate i) sound more d h = sound.derivable (Crate i) h
-edge_derivable r s x v e (Feature i g) sound more d h = sound.derivable (Feature i g) h
-edge_derivable r s x v e (Toggled i j g) sound more d h = sound.derivable (Toggled i j g) h
-edge_derivable r s x v e (Lost c) sound more d h = absurd h
+edge_each P r x v e (Crate i) old more d h = old (Crate i) h
+edge_each P r x v e (Feature i g) old more d h = old (Feature i g) h
+edge_each P r x v e (Toggled i j g) old more d h = old (Toggled i j g) h
+edge_each P r x v e (Lost c) old more d h = absurd h
 
 -- what holds of each edge of the old and of the edge that is pushed holds of each of the new
 each_edge : (x : Found) (v : Vec KeptEdge) (e : KeptEdge) (P : Edge → Type 0) → v.items ≡ x.edges.items ++ e ∷ [] → ((y : Edge) → Contains (map edge_view x.edges.items) y → P y) → P (edge_view e)
@@ -65,10 +66,10 @@ edge_kept x v e edge more is = subst (Contains (map edge_view v.items)) is (seen
 -- an edge whose child is kept with what is asked of it, and whose dependency is marked
 pub edge_advances : (r : Resolved) (s : SettingModel) (x : Found) (v : Vec KeptEdge) (e : KeptEdge) (edge : Edge) → IsSound r s x → v.items ≡ x.edges.items ++ e ∷ [] → edge_view e ≡ edge → IsPlaced r s e
     → HasFound r x (Crate edge.child) → IsUsed r s x edge → ((place index : ℕ) → DepAt r edge.parent edge.child place index → IsMarked x.links place index) → Derivable (questions r s) (Kept edge)
-    → Advances r s x (record x { edges = v }) × HasFound r (record x { edges = v }) (Kept edge)
-edge_advances r s x v e edge sound more is placed reached used marked d =
+    → HasSomeStep r x.trace.items (Kept edge) → Advances r s x (record x { edges = v }) × HasFound r (record x { edges = v }) (Kept edge)
+edge_advances r s x v e edge sound more is placed reached used marked d step =
     let y = WithEdges x v in
-    let grown : Grows r x y = record { found = λ f h. edge_found r x v e f more h; waits = λ b k m n z at h. inl h; krates = λ k n h. h; features = λ k n h. h; krates_taken = refl; features_taken = refl } in
+    let grown : Grows r x y = record { found = λ f h. edge_found r x v e f more h; steps = λ n f h. h; waits = λ b k m n z at h. inl h; krates = λ k n h. h; features = λ k n h. h; krates_taken = refl; features_taken = refl } in
     let back = sym is in (
       record {
         sound = record {
@@ -76,7 +77,10 @@ edge_advances r s x v e edge sound more is placed reached used marked d =
           features_size = sound.features_size;
           own = sound.own;
           has_links = sound.has_links;
-          derivable = λ f h. edge_derivable r s x v e f sound more (subst (λ (z : Edge). Derivable (questions r s) (Kept z)) back d) h;
+          derivable = λ f h. edge_each (Derivable (questions r s)) r x v e f sound.derivable more (subst (λ (z : Edge). Derivable (questions r s) (Kept z)) back d) h;
+          trace = sound.trace;
+          stepped = λ f h. edge_each (HasSomeStep r x.trace.items) r x v e f sound.stepped more (subst (λ (z : Edge). HasSomeStep r x.trace.items (Kept z)) back step) h;
+          numbered = record { krates = sound.numbered.krates; features = sound.numbered.features; marked = sound.numbered.marked; waiting = sound.numbered.waiting };
           placed = subst (All (IsPlaced r s)) (sym more) (All-push (IsPlaced r s) x.edges.items e sound.placed placed);
           reached = each_edge x v e (λ z. HasFound r x (Crate z.child)) more sound.reached (subst (λ (z : Edge). HasFound r x (Crate z.child)) back reached);
           used = λ z h b w. used_grows r x y b z.child grown (each_edge x v e (IsUsed r s x) more sound.used (subst (IsUsed r s x) back used) z h b w);
@@ -100,17 +104,17 @@ edge_advances r s x v e edge sound more is placed reached used marked d =
 
 -- where the edge of an entry is wanted, it is wanted as the entry declares it
 wanted_here : (r : Resolved) (s : SettingModel) (x : NodeEntry) (k : DepKindInfoModel) (place : ℕ) (d : DependencyModel) → NoneDoubled r.metadata r.graph → IsEntry r x → IsDeclared (declared_in x) (entry_of x) k place d
-    → (w : IsWanted r s (edge_for x k) d) → (w.place ≡ place) × (w.declared.dep ≡ node_dep_view x.dep.now)
+    → (w : IsWanted r s (edge_for x k) d) → (w.place ≡ place) × (w.declared.declares.dep ≡ node_dep_view x.dep.now)
 wanted_here r s x k place d none h first w =
-    let a = w.declared in
-    let dep = one_dep r (parent_of x) (child_of x) a.listed.lists.node h.node a.dep (node_dep_view x.dep.now) none a.listed.lists.has_node h.has_node a.listed.lists.has_dep h.has_dep in
+    let a = w.declared.declares in
+    let dep = one_dep r (parent_of x) (child_of x) a.lists.node h.node a.dep (node_dep_view x.dep.now) none a.lists.has_node h.has_node a.lists.has_dep h.has_dep in
     let here = subst (λ (ds : List DependencyModel). IsDeclared ds (dependency_entry (child_of x) a.dep) k w.place d) (h.declares.each a.pkg a.has_package) a.declared in
     let there = subst (λ (y : NodeDepModel). IsDeclared (declared_in x) (dependency_entry (child_of x) y) k w.place d) dep here in
     ((declared_once (declared_in x) (entry_of x) k w.place place d d there first).0, dep)
 
 -- what an edge has beside itself, where it is placed
 abbrev PlacedAs : Resolved → SettingModel → ℕ → Edge → ℕ → DependencyModel → Type 0
-PlacedAs r s kind_place e place d = (a : IsDeclaredAt r s e place d) × FirstAt (λ o. o ≡ kind_info_of e) a.dep.dep_kinds kind_place (kind_info_of e)
+PlacedAs r s kind_place e place d = (a : IsDeclaredAt r s e place d) × FirstAt (λ o. o ≡ kind_info_of e) a.declares.dep.dep_kinds kind_place (kind_info_of e)
 
 -- it is placed as the entry has it
 pub placed_here : (r : Resolved) (s : SettingModel) (x : NodeEntry) (k : DepKindInfoModel) (e : KeptEdge) (place : ℕ) (d : DependencyModel) → NoneDoubled r.metadata r.graph → IsEntry r x → IsDeclared (declared_in x) (entry_of x) k place d

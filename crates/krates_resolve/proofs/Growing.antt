@@ -10,7 +10,7 @@ use Rattle.krates_rules.specs.Setting.{SettingModel}
 use Rattle.krates_resolve.specs.declared.found.Found.{Found}
 
 pub grows_refl : (r : Resolved) (x : Found) → Grows r x x
-grows_refl r x = record { found = λ f h. h; waits = λ p c k i g at h. inl h; krates = λ k n h. h; features = λ k n h. h; krates_taken = refl; features_taken = refl }
+grows_refl r x = record { found = λ f h. h; steps = λ n f h. h; waits = λ p c k i g at h. inl h; krates = λ k n h. h; features = λ k n h. h; krates_taken = refl; features_taken = refl }
 
 pub toggled_grows : (r : Resolved) (x y : Found) (p c : Id) (f : Text) → Grows r x y → IsToggledIn r x p c f → IsToggledIn r y p c f
 toggled_grows r x y p c f g h = record { toggled = λ lists. g.found (Toggled p c f) (h.toggled lists); listed = h.listed }
@@ -18,6 +18,7 @@ toggled_grows r x y p c f g h = record { toggled = λ lists. g.found (Toggled p 
 pub grows_trans : (r : Resolved) (x y z : Found) → Grows r x y → Grows r y z → Grows r x z
 grows_trans r x y z g h = record {
   found = λ f a. h.found f (g.found f a);
+  steps = λ n f a. h.steps n f (g.steps n f a);
   waits = λ p c k i t at a. elim (g.waits p c k i t at a) [
     | inl still ↦ h.waits p c k i t at still
     | inr is ↦ inr (toggled_grows r y z p c t h is)

@@ -1,46 +1,49 @@
 -- What an enabled feature gives by its references, and what it may give.
-use Rattle.std.proofs.Common.{◌≡◌, ◌≢◌, ℕ, ◌<◌, List, [], ◌∷◌, length, get_or, map, option_map, Some, Contains, Result, Ok, Err, OnOk, String, Global, string_bytes, Ordering, Less, Equal, Greater, inl, inr, refl, sym, ap, ◌∙◌, subst, arith}
-use Rattle.std.proofs.lemmas.Cmp.{nat_list_cmp_total, on_total, then_total}
+use Rattle.std.proofs.Common.{◌≡◌, ℕ, ◌<◌, List, [], ◌∷◌, length, get_or, map, option_map, Some, Contains, Result, Ok, Err, OnOk, String, Global, string_bytes, inl, inr, refl, sym, ap, ◌∙◌, subst, arith}
 use Rattle.std.proofs.lemmas.List.{length-map}
-use Rattle.std.proofs.lemmas.Map.Lookups.{exact_bytes}
 use Rattle.std.proofs.lemmas.Option.{slice_get-map, slice_get-get_or, slice_get_read, same_Some}
-use Rattle.std.specs.Cmp.{IsTotalOrder}
 use Rattle.std.specs.List.{slice_get}
-use Rattle.std.specs.Ordering.{ordering_then, ordering_reverse}
 use Rattle.krates_cm.specs.Document.{Text, node_dep_view, text_view}
 use Rattle.krates_text.specs.FeatureReference.{Reference, weak, strong, simple, IsReference, HasOneReading}
 use Rattle.krates_ids.specs.Identity.{Identity}
 use Rattle.krates_rules.specs.Admission.{NoneDoubled}
 use Rattle.krates_rules.specs.Derivation.{Derivable, follows, Among}
 use Rattle.krates_rules.specs.Facts.{Id, Edge, Fact, Crate, Feature, Kept}
-use Rattle.krates_resolve.specs.FeatureTable.{listed_view}
-use Rattle.krates_resolve.specs.FeatureValues.{AreNamed, AreValuesOf}
-use Rattle.krates_resolve.specs.Found.{HasFound, IsToggledIn, IsAsked, IsAskedWeakly, IsToggledStrongly, IsWaiting, WaitsOrIsToggled, IsFollowed, IsHeeded, IsValueOfEnabled, IsSound, Advances, AreTried, IsTried, IsAny, MayTry, MayName, MayToggle}
-use Rattle.krates_resolve.specs.Heeding.{IsAskedAt, MayAsk, MayAskAt, HasEnabledReference}
+use Rattle.krates_questions.specs.FeatureTable.{listed_view}
+use Rattle.krates_questions.specs.FeatureValues.{AreNamed, AreValuesOf}
+use Rattle.krates_resolve.specs.Found.{HasFound, IsToggledIn, IsAsked, IsAskedWeakly, IsAskingStep, IsToggledStrongly, IsWaiting, WaitsOrIsToggled, IsFollowed, IsHeeded, IsValueOfEnabled, IsSound, Advances, AreTried, IsTried, IsAny, MayTry, MayName, MayToggle}
+use Rattle.krates_resolve.specs.Heeding.{IsAskedAt, IsReferringStep, IsValueStep, MayAsk, MayAskAt, HasEnabledReference}
 use Rattle.krates_rules.specs.Resolved.{DepAt, NodeAt, Resolved, NoNode, HasNode, HasDep, id_of}
 use Rattle.krates_resolve.specs.Links.{IsMarked, HasWaiter}
-use Rattle.krates_resolve.specs.ListedFeatures.{listed_features}
-use Rattle.krates_resolve.specs.Lookup.{IsLookup, resolved_view}
-use Rattle.krates_resolve.specs.NodeEntry.{AreParts, IsEntry, IsEntryOf, parent_of, child_of}
-use Rattle.krates_resolve.specs.Numbering.{FeatureAt}
+use Rattle.krates_questions.specs.ListedFeatures.{listed_features}
+use Rattle.krates_questions.specs.Lookup.{IsLookup, resolved_view}
+use Rattle.krates_questions.specs.NodeEntry.{AreParts, IsEntry, IsEntryOf, parent_of, child_of}
+use Rattle.krates_questions.specs.Numbering.{FeatureAt}
 use Rattle.krates_rules.specs.Questions.{Stands, edge_between, questions}
-use Rattle.krates_rules.specs.Referent.{IsReferent, id_order}
+use Rattle.krates_rules.specs.Referent.{IsReferent}
 use Rattle.krates_rules.specs.Rules.{Questions, IsAskedFor, feature_crate, named, lost_named, asked, toggled_strongly, lost_asked_package, lost_asked_node, lost_toggled_strongly, toggled_weakly, lost_toggled_weakly}
 use Rattle.krates_rules.specs.Setting.{SettingModel}
 use Rattle.krates_resolve.specs.Work.{HasReferences}
-use Rattle.krates_resolve.specs.declared.feature_table.ListedFeature.{ListedFeature}
-use Rattle.krates_resolve.proofs.StandingLaws.{derivable_stands}
+use Rattle.krates_questions.specs.declared.feature_table.ListedFeature.{ListedFeature}
+use Rattle.krates_questions.proofs.StandingLaws.{derivable_stands}
 use Rattle.krates_resolve.specs.declared.found.Found.{Found}
 use Rattle.krates_resolve.specs.declared.links.Links.{Links}
-use Rattle.krates_resolve.specs.declared.lookup.Lookup.{Lookup}
-use Rattle.krates_resolve.specs.declared.node_entry.NodeEntry.{NodeEntry}
-use Rattle.krates_resolve.specs.declared.node_entry.NodeParts.{NodeParts}
+use Rattle.krates_questions.specs.declared.lookup.Lookup.{Lookup}
+use Rattle.krates_questions.specs.declared.node_entry.NodeEntry.{NodeEntry}
+use Rattle.krates_questions.specs.declared.node_entry.NodeParts.{NodeParts}
 use Rattle.krates_rules.proofs.Readings.{ReadsOnce}
 use Rattle.krates_resolve.proofs.Entries.{one, undeclared_lost}
-use Rattle.krates_resolve.proofs.Growth.{waiter_advances, with_links, one_id}
-use Rattle.krates_resolve.proofs.NodeParts.{between_tried, dep_of_child, entry_here}
+use Rattle.krates_resolve.proofs.Growth.{waiter_advances, with_links}
+use Rattle.krates_resolve.proofs.Steps.{StepsStay}
+use Rattle.krates_resolve.specs.Trace.{HasStep}
+use Rattle.krates_resolve.specs.declared.links.Waiting.{Waiting}
+use Rattle.krates_resolve.specs.declared.trace.NumberedStep.{NumberedStep}
+use Rattle.krates_questions.proofs.Lookups.{one_id}
+use Rattle.krates_resolve.proofs.TriedParts.{between_tried}
+use Rattle.krates_questions.proofs.NodeParts.{dep_of_child, entry_here}
 use Rattle.krates_rules.proofs.Standings.{contains_at}
 use Rattle.krates_resolve.proofs.Waking.{one_dep_place, one_way}
+use Rattle.krates_questions.proofs.OneReferent.{one_referent}
 
 -- ---- derivations
 
@@ -97,28 +100,6 @@ may_toggle_weakly r s e name g m referent kept =
     }
 
 -- ---- a name means one dependency
-
-id_order_total : IsTotalOrder id_order
-id_order_total = then_total (on_total (λ (i : Id). i.name) nat_list_cmp_total) (then_total (on_total (λ (i : Id). i.version) nat_list_cmp_total) (on_total (λ (i : Id). i.source) nat_list_cmp_total))
-
-both_equal : (a b : Ordering) → ordering_then a b ≡ Equal → (a ≡ Equal) × (b ≡ Equal)
-both_equal Less b h = absurd cc
-both_equal Equal b h = (refl, h)
-both_equal Greater b h = absurd cc
-
-neither_greater : (a b : Ordering) → a ≡ ordering_reverse b → a ≢ Greater → b ≢ Greater → a ≡ Equal
-neither_greater a Less is not_a not_b = absurd (not_a is)
-neither_greater a Equal is not_a not_b = is
-neither_greater a Greater is not_a not_b = absurd (not_b refl)
-
-equal_id : (a b : Id) → id_order a b ≡ Equal → a ≡ b
-equal_id a b h =
-    let w = both_equal _ _ h in
-    let v = both_equal _ _ w.1 in
-    rw (exact_bytes a.name b.name w.0, exact_bytes a.version b.version v.0, exact_bytes a.source b.source v.1) refl
-
-pub one_referent : (r : Resolved) (i : Id) (name : Text) (a b : Id) → IsReferent r i name a → IsReferent r i name b → a ≡ b
-one_referent r i name a b x y = equal_id a b (neither_greater (id_order a b) (id_order b a) (id_order_total.antisymm a b) (x.least b y.is_named) (y.least a x.is_named))
 
 -- ---- the dependency of a child
 
@@ -199,12 +180,31 @@ waiting_here r x p child name g place index none is dep here other i k referent 
     subst (λ (c : Id). WaitsOrIsToggled r x p c i k g) (sym same) moved
 
 -- one more feature waits, of a dependency to which no edge is kept yet
-pub wait_advances : ReadsOnce → (r : Resolved) (s : SettingModel) (x : Found) (links : Links) (p child : Id) (place index : ℕ) (g : Text) → IsSound r s x → HasWaiter x.links links place index g → DepAt r p child place index
-    → IsAskedWeakly r s p child g → (IsMarked x.links place index → ⊥) → Advances r s x (with_links x links)
-wait_advances once r s x links p child place index g sound w dep weakly unmarked =
-    waiter_advances r s x links place index g sound w
-    (λ q c there. let same = one_way once r p child q c place index dep there in subst (λ (i : Id). IsAskedWeakly r s i c g) same.0 (subst (λ (i : Id). IsAskedWeakly r s p i g) same.1 weakly))
+pub wait_advances : ReadsOnce → (r : Resolved) (s : SettingModel) (x : Found) (links : Links) (p child : Id) (place index : ℕ) (w : Waiting) → IsSound r s x → HasWaiter x.links links place index w → DepAt r p child place index
+    → IsAskedWeakly r s p child w.name.now → IsAskingStep r x.trace.items p child w.name.now w.step → (IsMarked x.links place index → ⊥) → Advances r s x (with_links x links)
+wait_advances once r s x links p child place index w sound more dep weakly step unmarked =
+    waiter_advances r s x links place index w sound more
+    (λ q c there. let same = one_way once r p child q c place index dep there in subst (λ (i : Id). IsAskedWeakly r s i c w.name.now) same.0 (subst (λ (i : Id). IsAskedWeakly r s p i w.name.now) same.1 weakly))
+    (λ q c there.
+    let same = one_way once r p child q c place index dep there in
+    subst (λ (i : Id). IsAskingStep r x.trace.items i c w.name.now w.step) same.0 (subst (λ (i : Id). IsAskingStep r x.trace.items p i w.name.now w.step) same.1 step))
     unmarked
+
+-- the step is that of a feature with the weak reference, whose name means the child
+pub asking_step : (r : Resolved) (trace : List NumberedStep) (n : ℕ) (p child : Id) (name g : Text) → IsReferringStep r trace n p (weak name g) → IsReferent r p name child → IsAskingStep r trace p child g n
+asking_step r trace n p child name g m is = record { feature = m.feature; found = m.found; name = name; refers = m.refers; referent = is }
+
+-- a text is the value of the feature of a step, so its reference is one of that
+pub referring_step : (r : Resolved) (trace : List NumberedStep) (n : ℕ) (p : Id) (text : Text) (reference : Reference) → IsValueStep r trace n p text → IsReference text reference → IsReferringStep r trace n p reference
+referring_step r trace n p text reference v is = record { feature = v.feature; found = v.found; refers = v.refers reference is }
+
+-- the step stays that of a feature with the reference
+pub referring_more : (r : Resolved) (old new : List NumberedStep) (n : ℕ) (p : Id) (reference : Reference) → StepsStay r old new → IsReferringStep r old n p reference → IsReferringStep r new n p reference
+referring_more r old new n p reference stay h = record { feature = h.feature; found = stay n (Feature p h.feature) h.found; refers = h.refers }
+
+-- a value of the feature of a step
+pub value_of_step : (r : Resolved) (trace : List NumberedStep) (n : ℕ) (p : Id) (f : Text) (values : List Text) (text : Text) → HasStep r trace n (Feature p f) → AreValuesOf r p f values → Contains values text → IsValueStep r trace n p text
+value_of_step r trace n p f values text found are among = record { feature = f; found = found; refers = λ reference is. (are reference).1 (record { text = text; among = among; is = is }) }
 
 pub asked_weakly : (r : Resolved) (s : SettingModel) (p child : Id) (name g : Text) → HasEnabledReference r s p (weak name g) → IsReferent r p name child → IsAskedWeakly r s p child g
 asked_weakly r s p child name g m is = record { feature = m.feature; enabled = m.enabled; name = name; refers = m.refers; referent = is }

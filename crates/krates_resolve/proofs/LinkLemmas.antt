@@ -1,17 +1,18 @@
 -- One link of all is changed, and what that does to marks and to features that wait.
-use Rattle.std.proofs.Common.{◌≡◌, ◌⊎◌, ℕ, zero, suc, ◌<◌, List, [], ◌∷◌, ◌++◌, length, map, get_or, set, true, Some, Vec, Global, Bor, Contains, refl, sym, ap, ◌∙◌, subst, inl, inr, arith}
+use Rattle.std.proofs.Common.{◌≡◌, ◌⊎◌, ℕ, zero, suc, ◌<◌, List, [], ◌∷◌, ◌++◌, length, map, get_or, set, true, Option, None, Some, is_some, ◌↔◌, Vec, Global, Contains, refl, sym, ap, ◌∙◌, subst, inl, inr, arith}
 use Rattle.std.proofs.lemmas.Bool.{cases_order}
-use Rattle.std.proofs.lemmas.List.{length-map, map-append}
+use Rattle.std.proofs.lemmas.List.{length-map}
 use Rattle.std.proofs.lemmas.List.Elements.{Contains-push, Contains-push_cases, Contains-append_left, All-contains}
 use Rattle.std.proofs.lemmas.Option.{same_Some, slice_get-map, slice_get-get_or, slice_get_within}
 use Rattle.std.specs.List.{slice_get, AllZip}
 use Rattle.std.specs.Option.{option_map}
 use Rattle.std.specs.Vec.{with_item}
-use Rattle.krates_cm.specs.Document.{Text, NodeModel}
-use Rattle.krates_resolve.specs.Links.{LinkAt, HasLink, HasLinks, IsNewLink, AreNewLinks, AreNew, HasMarked, HasWaiter, NotesAsked}
+use Rattle.krates_cm.specs.Document.{NodeModel}
+use Rattle.krates_resolve.specs.Links.{LinkAt, HasLink, HasLinks, IsMarked, IsMarkedBy, IsNewLink, AreNewLinks, AreNew, HasMarked, HasWaiter, NotesAsked, TellsMark}
 use Rattle.krates_rules.specs.Resolved.{Resolved}
 use Rattle.krates_resolve.specs.declared.links.Link.{Link}
 use Rattle.krates_resolve.specs.declared.links.Links.{Links}
+use Rattle.krates_resolve.specs.declared.links.Waiting.{Waiting}
 use Rattle.krates_rules.proofs.Readings.{left_of, right_of}
 use Rattle.krates_rules.proofs.Standings.{contains_at}
 
@@ -145,30 +146,34 @@ moved_at y p i place index l a b h = subst (λ (n : ℕ). LinkAt y n i l) (sym a
 nowhere : {A : Type 0} (x : A) → Contains [] x → ⊥
 nowhere x (k, lt, is) = omega (arith, lt)
 
-pub asked_now : (x y : Links) (place index : ℕ) (was is : Link) → IsReplaced x y place index was is → is.is_kept ≡ was.is_kept → is.waiting ≡ was.waiting → NotesAsked x y place index
+-- where the mark isn't changed, it stays, and none is new
+marked_forth : (x y : Links) (place index p i n : ℕ) (was is : Link) → IsReplaced x y place index was is → is.kept ≡ was.kept → IsMarkedBy x p i n → IsMarkedBy y p i n
+marked_forth x y place index p i n was is h same m = elim (h.forth p i m.link m.at) [
+  | inl o ↦ record { link = m.link; at = o; kept = m.kept }
+  | inr e ↦ record { link = is; at = moved_at y p i place index is e.0 e.1 h.after; kept = same ∙ ap (λ (l : Link). l.kept) (sym e.2) ∙ m.kept }
+]
+
+marked_back : (x y : Links) (place index p i n : ℕ) (was is : Link) → IsReplaced x y place index was is → is.kept ≡ was.kept → IsMarkedBy y p i n → IsMarkedBy x p i n
+marked_back x y place index p i n was is h same m = elim (h.back p i m.link m.at) [
+  | inl o ↦ record { link = m.link; at = o; kept = m.kept }
+  | inr e ↦ record { link = was; at = moved_at x p i place index was e.0 e.1 h.before; kept = sym same ∙ ap (λ (l : Link). l.kept) (sym e.2) ∙ m.kept }
+]
+
+pub asked_now : (x y : Links) (place index : ℕ) (was is : Link) → IsReplaced x y place index was is → is.kept ≡ was.kept → is.waiting ≡ was.waiting → NotesAsked x y place index
 asked_now x y place index was is h same_kept same = record {
   from = λ p i m. elim (h.back p i m.link m.at) [
     | inl o ↦ inl (record { link = m.link; at = o; is_asked = m.is_asked })
     | inr e ↦ inr (e.0, e.1)
   ];
-  marks = λ p i. (
-    λ m. elim (h.forth p i m.link m.at) [
-      | inl o ↦ record { link = m.link; at = o; is_kept = m.is_kept }
-      | inr e ↦ record { link = is; at = moved_at y p i place index is e.0 e.1 h.after; is_kept = same_kept ∙ ap (λ (l : Link). l.is_kept) (sym e.2) ∙ m.is_kept }
-    ],
-    λ m. elim (h.back p i m.link m.at) [
-      | inl o ↦ record { link = m.link; at = o; is_kept = m.is_kept }
-      | inr e ↦ record { link = was; at = moved_at x p i place index was e.0 e.1 h.before; is_kept = sym same_kept ∙ ap (λ (l : Link). l.is_kept) (sym e.2) ∙ m.is_kept }
-    ],
-  );
-  waits = λ p i g. (
+  marks = λ p i n. (marked_forth x y place index p i n was is h same_kept, marked_back x y place index p i n was is h same_kept);
+  waits = λ p i v. (
     λ w. elim (h.forth p i w.link w.at) [
       | inl o ↦ record { link = w.link; at = o; among = w.among }
-      | inr e ↦ record { link = is; at = moved_at y p i place index is e.0 e.1 h.after; among = subst (λ (v : Vec (Bor Text) Global). Contains (map (λ t. t.now) v.items) g) (ap (λ (l : Link). l.waiting) e.2 ∙ sym same) w.among }
+      | inr e ↦ record { link = is; at = moved_at y p i place index is e.0 e.1 h.after; among = subst (λ (ws : Vec Waiting Global). Contains ws.items v) (ap (λ (l : Link). l.waiting) e.2 ∙ sym same) w.among }
     ],
     λ w. elim (h.back p i w.link w.at) [
       | inl o ↦ record { link = w.link; at = o; among = w.among }
-      | inr e ↦ record { link = was; at = moved_at x p i place index was e.0 e.1 h.before; among = subst (λ (v : Vec (Bor Text) Global). Contains (map (λ t. t.now) v.items) g) (ap (λ (l : Link). l.waiting) e.2 ∙ same) w.among }
+      | inr e ↦ record { link = was; at = moved_at x p i place index was e.0 e.1 h.before; among = subst (λ (ws : Vec Waiting Global). Contains ws.items v) (ap (λ (l : Link). l.waiting) e.2 ∙ same) w.among }
     ],
   );
   links = λ p i l. elim (h.forth p i l.0 l.1) [
@@ -177,32 +182,28 @@ asked_now x y place index was is h same_kept same = record {
   ];
 }
 
--- the names of a link
-abbrev pub names_of : Link → List Text
-names_of l = map (λ (t : Bor Text). t.now) l.waiting.items
-
-pub marked_now : (x y : Links) (place index : ℕ) (was is : Link) (names : List Text) → IsReplaced x y place index was is → is.is_kept ≡ true → is.is_asked ≡ was.is_asked → is.waiting.items ≡ [] → names ≡ names_of was
-    → HasMarked x y place index names
-marked_now x y place index was is names h kept same_asked none taken = record {
-  marked = record { link = is; at = h.after; is_kept = kept };
-  stays = λ p i m. elim (h.forth p i m.link m.at) [
-    | inl o ↦ record { link = m.link; at = o; is_kept = m.is_kept }
-    | inr e ↦ record { link = is; at = moved_at y p i place index is e.0 e.1 h.after; is_kept = kept }
+pub marked_now : (x y : Links) (place index step : ℕ) (was is : Link) (waiters : List Waiting) → IsReplaced x y place index was is → is.kept ≡ Some step → is.is_asked ≡ was.is_asked → is.waiting.items ≡ [] → waiters ≡ was.waiting.items
+    → HasMarked x y place index step waiters
+marked_now x y place index step was is waiters h kept same_asked none taken = record {
+  marked = record { link = is; at = h.after; kept = kept };
+  stays = λ p i m. elim (h.forth p i m.1.link m.1.at) [
+    | inl o ↦ (m.0, record { link = m.1.link; at = o; kept = m.1.kept })
+    | inr e ↦ (step, record { link = is; at = moved_at y p i place index is e.0 e.1 h.after; kept = kept })
   ];
-  from = λ p i m. elim (h.back p i m.link m.at) [
-    | inl o ↦ inl (record { link = m.link; at = o; is_kept = m.is_kept })
-    | inr e ↦ inr (e.0, e.1)
+  from = λ p i n m. elim (h.back p i m.link m.at) [
+    | inl o ↦ inl (record { link = m.link; at = o; kept = m.kept })
+    | inr e ↦ inr (e.0, e.1, same_Some n step (sym m.kept ∙ ap (λ (l : Link). l.kept) e.2 ∙ kept))
   ];
-  waits = λ p i g w. elim (h.forth p i w.link w.at) [
+  waits = λ p i v w. elim (h.forth p i w.link w.at) [
     | inl o ↦ inl (record { link = w.link; at = o; among = w.among })
-    | inr e ↦ inr (e.0, e.1, subst (λ (ts : List Text). Contains ts g) (ap names_of e.2 ∙ sym taken) w.among)
+    | inr e ↦ inr (e.0, e.1, subst (λ (ws : List Waiting). Contains ws v) (ap (λ (l : Link). l.waiting.items) e.2 ∙ sym taken) w.among)
   ];
-  waited = λ p i g w. elim (h.back p i w.link w.at) [
+  waited = λ p i v w. elim (h.back p i w.link w.at) [
     | inl o ↦ record { link = w.link; at = o; among = w.among }
-    | inr e ↦ absurd (nowhere g (subst (λ (ts : List Text). Contains ts g) (ap names_of e.2 ∙ none_named) w.among))
+    | inr e ↦ absurd (nowhere v (subst (λ (ws : List Waiting). Contains ws v) (ap (λ (l : Link). l.waiting.items) e.2 ∙ none) w.among))
   ];
-  took = λ g c. record { link = was; at = h.before; among = subst (λ (ts : List Text). Contains ts g) taken c };
-  none_left = λ g w. nowhere g (subst (λ (ts : List Text). Contains ts g) (ap names_of (one_link y place index w.link is w.at h.after) ∙ none_named) w.among);
+  took = λ v c. record { link = was; at = h.before; among = subst (λ (ws : List Waiting). Contains ws v) taken c };
+  none_left = λ v w. nowhere v (subst (λ (ws : List Waiting). Contains ws v) (ap (λ (l : Link). l.waiting.items) (one_link y place index w.link is w.at h.after) ∙ none) w.among);
   asked = λ p i m. elim (h.back p i m.link m.at) [
     | inl o ↦ record { link = m.link; at = o; is_asked = m.is_asked }
     | inr e ↦ record { link = was; at = moved_at x p i place index was e.0 e.1 h.before; is_asked = sym same_asked ∙ ap (λ (l : Link). l.is_asked) (sym e.2) ∙ m.is_asked }
@@ -212,50 +213,35 @@ marked_now x y place index was is names h kept same_asked none taken = record {
     | inr e ↦ (is, moved_at y p i place index is e.0 e.1 h.after)
   ];
 }
-  where
-    none_named : names_of is ≡ []
-    none_named = ap (map (λ (t : Bor Text). t.now)) none
 
-pub waits_now : (x y : Links) (place index : ℕ) (was is : Link) (name : Bor Text) → IsReplaced x y place index was is → is.is_kept ≡ was.is_kept → is.is_asked ≡ was.is_asked → is.waiting.items ≡ was.waiting.items ++ name ∷ [] → HasWaiter x y place index name.now
-waits_now x y place index was is name h same same_asked more =
-    let names : map (λ (t : Bor Text). t.now) is.waiting.items ≡ map (λ (t : Bor Text). t.now) was.waiting.items ++ name.now ∷ [] =
-    ap (map (λ (t : Bor Text). t.now)) more ∙ map-append (λ (t : Bor Text). t.now) was.waiting.items (name ∷ []) in
-    record {
-      waits = record { link = is; at = h.after; among = subst (λ (ts : List Text). Contains ts name.now) (sym names) (Contains-push (map (λ (t : Bor Text). t.now) was.waiting.items) name.now) };
-      stays = λ p i g w. elim (h.forth p i w.link w.at) [
-        | inl o ↦ record { link = w.link; at = o; among = w.among }
-        | inr e ↦ (
-            let among = subst (λ (l : Link). Contains (map (λ t. t.now) l.waiting.items) g) e.2 w.among in
-            record { link = is; at = moved_at y p i place index is e.0 e.1 h.after; among = subst (λ (ts : List Text). Contains ts g) (sym names) (Contains-append_left (map (λ (t : Bor Text). t.now) was.waiting.items) (name.now ∷ []) g among) })
-      ];
-      from = λ p i g w. elim (h.back p i w.link w.at) [
-        | inl o ↦ inl (record { link = w.link; at = o; among = w.among })
-        | inr e ↦ (
-            let among = subst (λ (ts : List Text). Contains ts g) names (subst (λ (l : Link). Contains (map (λ t. t.now) l.waiting.items) g) e.2 w.among) in
-            elim (Contains-push_cases (map (λ (t : Bor Text). t.now) was.waiting.items) name.now g among) [
-              | inl o ↦ inl (record { link = was; at = moved_at x p i place index was e.0 e.1 h.before; among = o })
-              | inr is ↦ inr (e.0, e.1, sym is)
-            ])
-      ];
-      marks = λ p i. (
-        λ m. elim (h.forth p i m.link m.at) [
-          | inl o ↦ record { link = m.link; at = o; is_kept = m.is_kept }
-          | inr e ↦ record { link = is; at = moved_at y p i place index is e.0 e.1 h.after; is_kept = same ∙ ap (λ (l : Link). l.is_kept) (sym e.2) ∙ m.is_kept }
-        ],
-        λ m. elim (h.back p i m.link m.at) [
-          | inl o ↦ record { link = m.link; at = o; is_kept = m.is_kept }
-          | inr e ↦ record { link = was; at = moved_at x p i place index was e.0 e.1 h.before; is_kept = sym same ∙ ap (λ (l : Link). l.is_kept) (sym e.2) ∙ m.is_kept }
-        ],
-      );
-      asked = λ p i m. elim (h.back p i m.link m.at) [
-        | inl o ↦ record { link = m.link; at = o; is_asked = m.is_asked }
-        | inr e ↦ record { link = was; at = moved_at x p i place index was e.0 e.1 h.before; is_asked = sym same_asked ∙ ap (λ (l : Link). l.is_asked) (sym e.2) ∙ m.is_asked }
-      ];
-      links = λ p i l. elim (h.forth p i l.0 l.1) [
-        | inl o ↦ (l.0, o)
-        | inr e ↦ (is, moved_at y p i place index is e.0 e.1 h.after)
-      ];
-    }
+pub waits_now : (x y : Links) (place index : ℕ) (was is : Link) (waiter : Waiting) → IsReplaced x y place index was is → is.kept ≡ was.kept → is.is_asked ≡ was.is_asked → is.waiting.items ≡ was.waiting.items ++ waiter ∷ [] → HasWaiter x y place index waiter
+waits_now x y place index was is waiter h same same_asked more = record {
+  waits = record { link = is; at = h.after; among = subst (λ (ws : List Waiting). Contains ws waiter) (sym more) (Contains-push was.waiting.items waiter) };
+  stays = λ p i v w. elim (h.forth p i w.link w.at) [
+    | inl o ↦ record { link = w.link; at = o; among = w.among }
+    | inr e ↦ (
+        let among = subst (λ (l : Link). Contains l.waiting.items v) e.2 w.among in
+        record { link = is; at = moved_at y p i place index is e.0 e.1 h.after; among = subst (λ (ws : List Waiting). Contains ws v) (sym more) (Contains-append_left was.waiting.items (waiter ∷ []) v among) })
+  ];
+  from = λ p i v w. elim (h.back p i w.link w.at) [
+    | inl o ↦ inl (record { link = w.link; at = o; among = w.among })
+    | inr e ↦ (
+        let among = subst (λ (ws : List Waiting). Contains ws v) more (subst (λ (l : Link). Contains l.waiting.items v) e.2 w.among) in
+        elim (Contains-push_cases was.waiting.items waiter v among) [
+          | inl o ↦ inl (record { link = was; at = moved_at x p i place index was e.0 e.1 h.before; among = o })
+          | inr is_it ↦ inr (e.0, e.1, sym is_it)
+        ])
+  ];
+  marks = λ p i n. (marked_forth x y place index p i n was is h same, marked_back x y place index p i n was is h same);
+  asked = λ p i m. elim (h.back p i m.link m.at) [
+    | inl o ↦ record { link = m.link; at = o; is_asked = m.is_asked }
+    | inr e ↦ record { link = was; at = moved_at x p i place index was e.0 e.1 h.before; is_asked = sym same_asked ∙ ap (λ (l : Link). l.is_asked) (sym e.2) ∙ m.is_asked }
+  ];
+  links = λ p i l. elim (h.forth p i l.0 l.1) [
+    | inl o ↦ (l.0, o)
+    | inr e ↦ (is, moved_at y p i place index is e.0 e.1 h.after)
+  ];
+}
 
 -- ---- all are new
 
@@ -279,8 +265,23 @@ new_link nodes x place index link z at =
 pub all_new : (nodes : List NodeModel) (x : Links) → AllZip AreNewLinks nodes (map (λ v. v.items) x.of_nodes.items) → AreNew x
 all_new nodes x z = record {
   unasked = λ place index m. let new = new_link nodes x place index m.link z m.at in absurd (cc (new.unasked, m.is_asked));
-  unmarked = λ place index m. let new = new_link nodes x place index m.link z m.at in absurd (cc (new.unmarked, m.is_kept));
+  unmarked = λ place index m. let new = new_link nodes x place index m.1.link z m.1.at in absurd (cc (new.unmarked, m.1.kept));
   none_waits = λ place index g w.
-      let new = new_link nodes x place index w.link z w.at in
-      nowhere g (subst (λ (ns : List (Bor Text)). Contains (map (λ t. t.now) ns) g) new.none_waits w.among);
+      let new = new_link nodes x place index w.waits.link z w.waits.at in
+      nowhere w.waiter (subst (λ (ws : List Waiting). Contains ws w.waiter) new.none_waits w.waits.among);
 }
+
+-- ---- marks
+
+-- what is read of a link tells its mark
+pub tells_mark : (x : Links) (place index : ℕ) (link : Link) → LinkAt x place index link → TellsMark x place index link.kept
+tells_mark x place index link at = kept_by link.kept refl
+  where
+    kept_by : (o : Option ℕ) → link.kept ≡ o → TellsMark x place index o
+    kept_by None is = λ m. absurd (cc (is, ap (λ (l : Link). l.kept) (one_link x place index link m.1.link at m.1.at), m.1.kept))
+    kept_by (Some n) is = record { link = link; at = at; kept = is }
+
+-- whether there is one
+pub is_marked : (x : Links) (place index : ℕ) (o : Option ℕ) → TellsMark x place index o → (is_some o ≡ true) ↔ IsMarked x place index
+is_marked x place index None none = (λ e. absurd cc, λ m. absurd (none m))
+is_marked x place index (Some n) by = (λ e. (n, by), λ m. refl)

@@ -1,6 +1,7 @@
 -- When nothing is left to take, what has been found is closed under all rules.
-use Rattle.std.proofs.Common.{◌≡◌, ◌↔◌, ℕ, ◌≤◌, List, [], length, map, All, Contains, inl, inr, refl, sym, ◌∙◌, subst, arith}
+use Rattle.std.proofs.Common.{◌≡◌, ◌↔◌, ℕ, ◌≤◌, List, [], Some, length, map, All, Contains, inl, inr, refl, sym, ◌∙◌, subst, arith}
 use Rattle.std.proofs.lemmas.Option.{slice_get_within}
+use Rattle.std.specs.List.{AllZip, slice_get}
 use Rattle.std.specs.Prelude.{⊤}
 use Rattle.krates_cm.specs.Document.{Text, DependencyModel}
 use Rattle.krates_text.specs.FeatureReference.{Reference, krate, weak, strong, simple}
@@ -8,10 +9,10 @@ use Rattle.krates_rules.specs.Admission.{NoneDoubled}
 use Rattle.krates_rules.specs.Derivation.{Among, Derivable, follows}
 use Rattle.krates_rules.specs.Facts.{Id, Edge, Fact, Crate, Feature, Kept, Toggled, Lost}
 use Rattle.krates_rules.specs.Features.{HasReference}
-use Rattle.krates_resolve.specs.Found.{HasFound, IsSound, Advances, HasRoots, IsExpanded, IsHeeded, IsFollowed, IsAsked, IsTried, IsAny, IsToggledIn}
+use Rattle.krates_resolve.specs.Found.{HasFound, IsSound, Advances, HasRoots, IsExpanded, IsHeeded, IsFollowed, IsAsked, IsTried, IsAny, IsFeatureStep, IsKrateStep, IsToggledIn}
 use Rattle.krates_rules.specs.Resolved.{DepAt, Resolved}
 use Rattle.krates_resolve.specs.Links.{AreNew, HasLinks}
-use Rattle.krates_resolve.specs.ListedFeatures.{listed_features}
+use Rattle.krates_questions.specs.ListedFeatures.{listed_features}
 use Rattle.krates_rules.specs.Questions.{IsDeclaredAs, Stands, IsWanted, questions}
 use Rattle.krates_rules.specs.References.{Demands}
 use Rattle.krates_rules.specs.Referent.{IsReferent}
@@ -19,6 +20,8 @@ use Rattle.krates_rules.specs.Rules.{Rule, IsAskedFor, root_crate, root_feature,
 use Rattle.krates_resolve.specs.Saturation.{AreDone}
 use Rattle.krates_resolve.specs.Selection.{edge_view, toggled_fact, IsPlaced}
 use Rattle.krates_rules.specs.Setting.{SettingModel}
+use Rattle.krates_rules.specs.Steps.{StepModel}
+use Rattle.krates_resolve.specs.Trace.{IsTrace}
 use Rattle.krates_resolve.specs.declared.found.Found.{Found}
 use Rattle.krates_resolve.specs.declared.selection.KeptEdge.{KeptEdge}
 use Rattle.krates_resolve.specs.declared.selection.ToggledFeature.{ToggledFeature}
@@ -78,13 +81,14 @@ record StandsIn (r : Resolved) (e : Edge) : Type 0 where
 
 stands_in : (r : Resolved) (s : SettingModel) (e : Edge) → IsOpen r s e → StandsIn r e
 stands_in r s e o =
-    let lists = o.wanted.declared.listed.lists in
+    let declares = o.wanted.declared.declares in
+    let lists = declares.lists in
     let node = place_in r.graph.nodes lists.node lists.has_node.among in
-    let dep = place_in lists.node.deps o.wanted.declared.dep lists.has_dep.among in
+    let dep = place_in lists.node.deps declares.dep lists.has_dep.among in
     record {
       place = node.0;
       index = dep.0;
-      dep = record { node = record { node = lists.node; at = node.1; id = lists.has_node.id }; dep = o.wanted.declared.dep; at = dep.1; id = lists.has_dep.id };
+      dep = record { node = record { node = lists.node; at = node.1; id = lists.has_node.id }; dep = declares.dep; at = dep.1; id = lists.has_dep.id };
     }
 
 -- ---- what a heeded feature gives
@@ -193,6 +197,9 @@ pub record IsEmpty (x : Found) : Type 0 where
   pub features : x.features.put ≡ []
   pub edges : x.edges.items ≡ []
   pub toggled : x.toggled.items ≡ []
+  pub trace : x.trace.items ≡ []
+  pub krate_steps : x.krate_steps.items ≡ []
+  pub feature_steps : x.feature_steps.items ≡ []
 
 nothing_found : (r : Resolved) (x : Found) → IsEmpty x → (f : Fact) → HasFound r x f → ⊥
 nothing_found r x none (Crate i) h = no_element h.place (subst (λ (ps : List ℕ). Contains ps h.place) none.krates h.among)
@@ -201,6 +208,12 @@ nothing_found r x none (Kept e) h = no_element e (subst (λ (es : List KeptEdge)
 nothing_found r x none (Toggled p c g) h = no_element (Toggled p c g) (subst (λ (ts : List ToggledFeature). Contains (map toggled_fact ts) (Toggled p c g)) none.toggled h)
 nothing_found r x none (Lost c) h = h
 
+no_step : (k : ℕ) (y : StepModel) → slice_get [] k ≡ Some y → ⊥
+no_step k y at = cc
+
+empty_zip : (R : ℕ → ℕ → Type 0) (xs ys : List ℕ) → xs ≡ [] → ys ≡ [] → AllZip R xs ys
+empty_zip R xs ys a b = subst (λ (us : List ℕ). AllZip R us ys) (sym a) (subst (AllZip R []) (sym b) tt)
+
 pub sound_start : (r : Resolved) (s : SettingModel) (x : Found) → x.krates.size ≡ length r.graph.nodes → x.features.size ≡ length (listed_features r) → HasLinks r x.links → AreNew x.links → IsEmpty x → IsSound r s x
 sound_start r s x krates features links new none = record {
   krates_size = krates;
@@ -208,6 +221,14 @@ sound_start r s x krates features links new none = record {
   own = λ n c. absurd (no_element n (subst (λ (ns : List ℕ). Contains ns n) none.features c));
   has_links = links;
   derivable = λ f h. absurd (nothing_found r x none f h);
+  trace = subst (IsTrace r s) (sym none.trace) (record { steps = []; shown = tt; follows = λ k y at. absurd (no_step k y at) });
+  stepped = λ f h. absurd (nothing_found r x none f h);
+  numbered = record {
+    krates = empty_zip (IsKrateStep r x.trace.items) x.krates.put x.krate_steps.items none.krates none.krate_steps;
+    features = empty_zip (IsFeatureStep r x.trace.items) x.features.put x.feature_steps.items none.features none.feature_steps;
+    marked = λ p c place index step dep marked. absurd (new.unmarked place index (step, marked));
+    waiting = λ p c place index w dep waits. absurd (new.none_waits place index w.name.now (record { waiter = w; waits = waits; named = refl }));
+  };
   placed = subst (All (IsPlaced r s)) (sym none.edges) (λ k d lt. absurd (omega (arith, lt)));
   reached = λ e h. absurd (nothing_found r x none (Kept e) h);
   used = λ e h. absurd (nothing_found r x none (Kept e) h);

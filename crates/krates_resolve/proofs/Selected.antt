@@ -28,14 +28,14 @@ use Rattle.krates_rules.specs.Setting.{SettingModel}
 use Rattle.krates_rules.proofs.Readings.{ReadsOnce}
 use Rattle.krates_document.proofs.DistinctIds.{id_of_same}
 use Rattle.krates_document.proofs.FirstPlaces.{seen_at}
-use Rattle.krates_resolve.proofs.Growth.{one_id}
-use Rattle.krates_resolve.proofs.NodeParts.{node_here}
+use Rattle.krates_questions.proofs.Lookups.{one_id}
+use Rattle.krates_questions.proofs.NodeParts.{node_here}
 use Rattle.krates_rules.proofs.OnlyOne.{place_in, one_dep}
 use Rattle.krates_rules.proofs.Standings.{contains_at}
 
 -- ---- elements of a list that is mapped
 
-contains_or : {A : Type 0} (xs : List A) (k : ℕ) (d : A) → k < length xs → Contains xs (get_or xs k d)
+pub contains_or : {A : Type 0} (xs : List A) (k : ℕ) (d : A) → k < length xs → Contains xs (get_or xs k d)
 contains_or xs k d lt = (k, lt, get_or_default xs k (get_or xs k d) d lt)
 
 contains_image : {A B : Type 0} (f : A → B) (xs : List A) (x : A) → Contains xs x → Contains (map f xs) (f x)
@@ -91,13 +91,15 @@ one_edge tells r s a b none x y same =
     let parent : id_of a.parent ≡ id_of b.parent = id_of_same a.parent b.parent ((tells a.parent b.parent).0 outer.0) in
     let child : id_of a.child ≡ id_of b.child = id_of_same a.child b.child ((tells a.child b.child).0 inner.0) in
     let place : a.place ≡ b.place = eqb-true a.place b.place inner.1 in
-    let la = x.declared.listed.lists in
-    let lb = y.declared.listed.lists in
+    let da = x.declared.declares in
+    let db = y.declared.declares in
+    let la = da.lists in
+    let lb = db.lists in
     let node = subst (λ (i : Id). HasNode r i lb.node) (sym parent) lb.has_node in
-    let dep = subst (λ (i : Id). HasDep lb.node i y.declared.dep) (sym child) lb.has_dep in
-    let one = one_dep r (id_of a.parent) (id_of a.child) la.node lb.node x.declared.dep y.declared.dep none la.has_node node la.has_dep dep in
+    let dep = subst (λ (i : Id). HasDep lb.node i db.dep) (sym child) lb.has_dep in
+    let one = one_dep r (id_of a.parent) (id_of a.child) la.node lb.node da.dep db.dep none la.has_node node la.has_dep dep in
     let there = ap (λ (d : NodeDepModel). slice_get d.dep_kinds b.place) one ∙ y.place.here in
-    let kind : kind_info_of (edge_view a) ≡ kind_info_of (edge_view b) = same_Some _ _ (sym x.place.here ∙ ap (λ n. slice_get x.declared.dep.dep_kinds n) place ∙ there) in
+    let kind : kind_info_of (edge_view a) ≡ kind_info_of (edge_view b) = same_Some _ _ (sym x.place.here ∙ ap (λ n. slice_get da.dep.dep_kinds n) place ∙ there) in
     ap (λ (i : Id). edge_between i (id_of b.child) (kind_info_of (edge_view b))) (sym parent) ∙ ap (λ (i : Id). edge_between (id_of a.parent) i (kind_info_of (edge_view b))) (sym child)
     ∙ ap (λ (k : DepKindInfoModel). edge_between (id_of a.parent) (id_of a.child) k) (sym kind)
 

@@ -10,7 +10,7 @@ use Rattle.krates_text.specs.FeatureReference.{Reference, krate, weak, strong, s
 use Rattle.krates_rules.specs.Facts.{Id, Edge}
 use Rattle.krates_resolve.specs.Found.{IsEnabledBySome, IsToggledIn, HasUsed, IsAny, IsTried, IsFollowed, IsHeeded, IsExpanded, HasRoots, IsSound, Advances}
 use Rattle.krates_rules.specs.Resolved.{NodeAt, Resolved}
-use Rattle.krates_resolve.specs.Numbering.{FeatureAt}
+use Rattle.krates_questions.specs.Numbering.{FeatureAt}
 use Rattle.krates_resolve.specs.Saturation.{AreDone, left_in}
 use Rattle.krates_rules.specs.Setting.{SettingModel}
 use Rattle.krates_resolve.specs.declared.found.Found.{Found}
@@ -21,7 +21,7 @@ use Rattle.krates_rules.proofs.Standings.{contains_at}
 
 -- the same has been found, and so many crates and features were taken
 abbrev pub taken_to : Found → ℕ → ℕ → Found
-taken_to x n m = record { krates = record x.krates { taken = n }; features = record x.features { taken = m }; edges = x.edges; toggled = x.toggled; links = x.links }
+taken_to x n m = record { krates = record x.krates { taken = n }; features = record x.features { taken = m }; edges = x.edges; toggled = x.toggled; trace = x.trace; krate_steps = x.krate_steps; feature_steps = x.feature_steps; links = x.links }
 
 named_taken : (r : Resolved) (x : Found) (n m : ℕ) (i : Id) (f : Text) → IsEnabledBySome r x i f → IsEnabledBySome r (taken_to x n m) i f
 named_taken r x n m i f h = record { enabled = h.enabled; listed = h.listed }
@@ -63,6 +63,9 @@ sound_taken r s x n m h = record {
   own = h.own;
   has_links = h.has_links;
   derivable = h.derivable;
+  trace = h.trace;
+  stepped = h.stepped;
+  numbered = record { krates = h.numbered.krates; features = h.numbered.features; marked = h.numbered.marked; waiting = h.numbered.waiting };
   placed = h.placed;
   reached = h.reached;
   used = λ e found d w. used_taken r x n m d e.child (h.used e found d w);
@@ -96,7 +99,7 @@ unchanged a b n e same = e ∙ ap (λ (k : ℕ). record a { taken = k }) same
 
 -- what has been found, with other agendas
 abbrev pub with_agendas : Found → PutNumbers → PutNumbers → Found
-with_agendas x a b = record { krates = a; features = b; edges = x.edges; toggled = x.toggled; links = x.links }
+with_agendas x a b = record { krates = a; features = b; edges = x.edges; toggled = x.toggled; trace = x.trace; krate_steps = x.krate_steps; feature_steps = x.feature_steps; links = x.links }
 
 pub same_agendas : (x : Found) (a b c d : PutNumbers) → a ≡ c → b ≡ d → with_agendas x a b ≡ with_agendas x c d
 same_agendas x a b c d e h = ap (λ (n : PutNumbers). with_agendas x n b) e ∙ ap (λ (n : PutNumbers). with_agendas x c n) h

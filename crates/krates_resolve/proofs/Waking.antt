@@ -16,7 +16,7 @@ use Rattle.krates_rules.specs.Rules.{Questions, declared, by_default, lost_decla
 use Rattle.krates_rules.specs.Setting.{SettingModel}
 use Rattle.krates_rules.proofs.Readings.{ReadsOnce}
 use Rattle.krates_document.proofs.DeclaredOnce.{declared_once}
-use Rattle.krates_resolve.proofs.Growth.{one_id}
+use Rattle.krates_questions.proofs.Lookups.{one_id}
 use Rattle.krates_rules.proofs.OnlyOne.{one_package, one_dep, one_node_place}
 use Rattle.krates_rules.proofs.Standings.{contains_at}
 
@@ -50,9 +50,7 @@ may_wake r s p c g k a kept =
 
 -- a wanted edge is declared, whatever the setting
 pub as_declared : (r : Resolved) (s : SettingModel) (e : Edge) (d : DependencyModel) → IsWanted r s e d → IsDeclaredAs r e d
-as_declared r s e d w =
-    let a = w.declared in
-    (w.place, record { dep = a.dep; lists = a.listed.lists; pkg = a.pkg; has_package = a.has_package; declared = a.declared })
+as_declared r s e d w = (w.place, w.declared.declares)
 
 -- what a declared dependency asks for, of an edge that may be kept
 pub may_use : (r : Resolved) (s : SettingModel) (e : Edge) (d : DependencyModel) → IsWanted r s e d → Derivable (questions r s) (Kept e) → MayUse r s d e.child

@@ -1,52 +1,32 @@
 -- What a search goes by, a document and a setting, and what its functions say of it.
-use Rattle.krates_cm.specs.Document.{DependencyModel, NodeDepModel, Text, dep_kind_info_view, dependency_view, node_dep_view}
+use Rattle.krates_questions.specs.Basis.{document_of, Derives, IsNodeAt, IsDepAt, IsFeatureAt, Lists, HasRoot, Wants}
+use Rattle.krates_cm.specs.Document.{DependencyModel, DepKindInfoModel, NodeDepModel, Text, dependency_view, node_dep_view}
 use Rattle.krates_cm.specs.declared.dependency.Dependency.{Dependency}
-use Rattle.krates_ids.specs.Identity.{Identity}
-use Rattle.krates_ids.specs.declared.error.Error.{Error}
 use Rattle.krates_resolve.specs.Counting.{AreCounted, NumberHasReferences}
-use Rattle.krates_resolve.specs.Found.{Advances, AreTried, HasFound, HasRoots, HasUsed, IsAsked, IsEnabledBySome, IsExpanded, IsFollowed, IsHeeded, IsRooted, IsSound, IsToggledIn, IsToggledStrongly, IsTried, IsValueOfEnabled, IsWaiting, MayName, MayToggle, MayTry, MayUse}
-use Rattle.krates_resolve.specs.Heeding.{HasEnabledReference, IsAskedAt, MayAsk, MayAskAt}
-use Rattle.krates_resolve.specs.Lookup.{resolved_view}
-use Rattle.krates_resolve.specs.NodeEntry.{AreParts, IsEntry, child_of, declared_in, edge_of, entry_of, krate_of, parent_of}
-use Rattle.krates_resolve.specs.Numbering.{FeatureAt}
-use Rattle.krates_resolve.specs.RootChoice.{AsksFor}
+use Rattle.krates_resolve.specs.Found.{Advances, AreTried, IsAny, IsEdgeStep, HasFound, HasRoots, HasUsed, IsAsked, IsEnabledBySome, IsExpanded, IsFollowed, IsHeeded, IsRooted, IsSound, IsToggledIn, IsToggledStrongly, IsTried, IsValueOfEnabled, IsWaiting, MayName, MayToggle, MayTry, MayUse}
+use Rattle.krates_resolve.specs.Heeding.{HasEnabledReference, IsAskedAt, IsReferringStep, IsRequestStep, IsValueStep, MayAsk, MayAskAt}
+use Rattle.krates_questions.specs.NodeEntry.{child_of, krate_of, parent_of}
 use Rattle.krates_resolve.specs.Saturation.{AreDone, TakesNext}
-use Rattle.krates_resolve.specs.declared.basis.Basis.{Basis}
+use Rattle.krates_resolve.specs.Trace.{HasStep, MayFind, Names}
+use Rattle.krates_questions.specs.declared.basis.Basis.{Basis}
 use Rattle.krates_resolve.specs.declared.enabling.KeptNode.{KeptNode}
 use Rattle.krates_resolve.specs.declared.found.Found.{Found}
-use Rattle.krates_resolve.specs.declared.node_entry.EntryEdge.{EntryEdge}
-use Rattle.krates_resolve.specs.declared.node_entry.NodeEntry.{NodeEntry}
-use Rattle.krates_resolve.specs.declared.node_entry.NodeParts.{NodeParts}
+use Rattle.krates_questions.specs.declared.node_entry.NodeEntry.{NodeEntry}
+use Rattle.krates_questions.specs.declared.node_entry.NodeParts.{NodeParts}
+use Rattle.krates_resolve.specs.declared.trace.NumberedStep.{NumberedStep}
+use Rattle.krates_resolve.specs.declared.trace.Reason.{Reason}
 use Rattle.krates_resolve.specs.declared.work.Work.{Work}
-use Rattle.krates_rules.specs.DeclaredDependency.{IsDeclared}
-use Rattle.krates_rules.specs.Derivation.{Derivable}
-use Rattle.krates_rules.specs.Facts.{Edge, Fact, Feature, Id}
-use Rattle.krates_rules.specs.Features.{ListsFeature}
-use Rattle.krates_rules.specs.Questions.{IsWanted, questions}
-use Rattle.krates_rules.specs.Resolved.{DepAt, IsMember, NodeAt, Resolved, id_of}
-use Rattle.krates_rules.specs.Roots.{IsRoot}
-use Rattle.krates_rules.specs.Rules.{Questions}
-use Rattle.krates_rules.specs.SelectionRefusals.{SelectionRefusal}
+use Rattle.krates_rules.specs.Facts.{Crate, Edge, Fact, Feature, Id, Kept, Toggled}
+use Rattle.krates_rules.specs.Questions.{Stands, edge_between}
+use Rattle.krates_rules.specs.Resolved.{id_of}
+use Rattle.krates_rules.specs.Rules.{default_name}
 use Rattle.krates_text.specs.FeatureReference.{IsReference, Reference}
-use Rattle.std.specs.Prelude.{Bool, ℕ}
+use Rattle.krates_questions.specs.Numbering.{IsOwn}
+use Rattle.std.specs.Prelude.{◌≡◌, Bool, Contains, ℕ, true}
 
 -- the crate of a node
 abbrev pub crate_of : KeptNode → Id
 crate_of node = id_of node.id.now
-
-abbrev pub document_of : Basis → Resolved
-document_of b = resolved_view b.lookup.now
-
-abbrev pub rules_of : Basis → Questions
-rules_of b = questions (document_of b) b.setting.now
-
--- the fact is derivable
-abbrev pub Derives : Basis → Fact → Type 0
-Derives b = Derivable (rules_of b)
-
--- why nothing is selected
-abbrev pub Refuses : Basis → Error → Type 0
-Refuses b = SelectionRefusal (rules_of b)
 
 -- all that has been found is right
 abbrev pub IsRight : Basis → Found → Type 0
@@ -59,46 +39,6 @@ Moves b = Advances (document_of b) b.setting.now
 -- the fact has been found
 abbrev pub Has : Basis → Found → Fact → Type 0
 Has b = HasFound (document_of b)
-
--- the crate's node stands at the place
-abbrev pub IsNodeAt : Basis → Id → ℕ → Type 0
-IsNodeAt b = NodeAt (document_of b)
-
--- the dependency of the node at these places leads from the one crate to the other
-abbrev pub IsDepAt : Basis → Id → Id → ℕ → ℕ → Type 0
-IsDepAt b = DepAt (document_of b)
-
--- the number is that of the crate's feature
-abbrev pub IsFeatureAt : Basis → Id → Text → ℕ → Type 0
-IsFeatureAt b = FeatureAt (document_of b)
-
--- the crate lists the feature
-abbrev pub Lists : Basis → Id → Text → Type 0
-Lists b = ListsFeature (document_of b)
-
--- the crate is a member of the workspace
-abbrev pub HasMember : Basis → Id → Type 0
-HasMember b = IsMember (document_of b)
-
--- the crate is a root
-abbrev pub HasRoot : Basis → Id → Type 0
-HasRoot b = IsRoot (document_of b) b.setting.now
-
--- the setting asks for all members, or for those with its manifests
-abbrev pub AsksForRoots : Basis → Bool → Type 0
-AsksForRoots b = AsksFor (document_of b) b.setting.now
-
--- the entry is one of the document
-abbrev pub HasEntry : Basis → NodeEntry → Type 0
-HasEntry b = IsEntry (document_of b)
-
--- the parts are those of the node at the place
-abbrev pub HasParts : Basis → ℕ → NodeParts → Type 0
-HasParts b = AreParts (document_of b)
-
--- the edge is wanted as this declared dependency
-abbrev pub Wants : Basis → Edge → DependencyModel → Type 0
-Wants b = IsWanted (document_of b) b.setting.now
 
 -- the edge may be kept as a dependency that is taken
 abbrev pub MayKeep : Basis → Edge → (DependencyModel → Type 0) → Type 0
@@ -196,11 +136,6 @@ HasDone b = AreDone (document_of b) b.setting.now
 abbrev pub TakesOne : Basis → Found → Found → Bool → Type 0
 TakesOne b = TakesNext (document_of b) b.setting.now
 
--- the edge of an entry is wanted as the declared dependency at this place
-abbrev pub IsWantedAt : Basis → EntryEdge → ℕ → Type 0
-IsWantedAt b x place =
-    (d : DependencyModel) × IsDeclared (declared_in x.entry.now) (entry_of x.entry.now) (dep_kind_info_view x.info.now) place d × Wants b (edge_of x) d
-
 -- a feature may be enabled, or is, where the crate lists it
 abbrev pub MayEnableListed : Basis → Id → Text → Type 0
 MayEnableListed b i f = Lists b i f → Derives b (Feature i f)
@@ -248,6 +183,101 @@ HasRootedRoot b x i = HasRoot b i → HasRooted b x i
 abbrev pub IsNodeOf : Basis → KeptNode → Type 0
 IsNodeOf b node = IsNodeAt b (crate_of node) node.place
 
--- the feature of the node's crate is toggled by this one
-abbrev pub HasToggledBy : Basis → Found → Identity → KeptNode → Text → Type 0
-HasToggledBy b x by node = HasToggled b x (id_of by) (crate_of node)
+-- the feature of the node's crate is toggled by that one
+abbrev pub HasToggledBy : Basis → Found → KeptNode → KeptNode → Text → Type 0
+HasToggledBy b x by node = HasToggled b x (crate_of by) (crate_of node)
+
+-- ---- steps
+
+-- the step with this number has the fact
+abbrev pub HasStepOf : Basis → Found → ℕ → Fact → Type 0
+HasStepOf b x = HasStep (document_of b) x.trace.items
+
+-- for this reason the fact follows from the steps
+abbrev pub Finds : Basis → Found → Reason → Fact → Type 0
+Finds b x = MayFind (document_of b) b.setting.now x.trace.items
+
+-- so does the feature, where the crate lists it
+abbrev pub FindsListed : Basis → Found → Reason → Id → Text → Type 0
+FindsListed b x reason i f = Lists b i f → Finds b x reason (Feature i f)
+
+-- so does it that the feature is toggled
+abbrev pub FindsToggled : Basis → Found → Reason → Id → Id → Text → Type 0
+FindsToggled b x reason p c g = Lists b c g → Finds b x reason (Toggled p c g)
+
+-- so does each feature that the declared dependency asks for
+pub record FindsUsed (b : Basis) (x : Found) (reason : Reason) (d : DependencyModel) (child : Id) : Type 0 where
+  pub declared : (g : Text) → Contains d.features g → FindsListed b x reason child g
+  pub by_default : d.uses_default_features ≡ true → FindsListed b x reason child default_name
+
+-- so does the edge, where it is wanted as a dependency that is taken and its child stands
+abbrev pub FindsEdge : Basis → Found → Reason → Edge → (DependencyModel → Type 0) → Type 0
+FindsEdge b x reason e taken =
+    (d : DependencyModel) → Wants b e d → taken d → Stands (document_of b) b.setting.now e.child → Finds b x reason (Kept e)
+
+-- so does each edge by the dependency at this place of the node
+abbrev pub FindsAskedDep : Basis → Found → Reason → NodeParts → ℕ → Type 0
+FindsAskedDep b x reason parts index =
+    (child : Id) (k : DepKindInfoModel) → IsDepAt b (krate_of parts) child parts.place index
+    → FindsEdge b x reason (edge_between (krate_of parts) child k) IsAny
+
+-- so does it that the feature of that dependency is toggled
+abbrev pub FindsToggledAt : Basis → Found → Reason → NodeParts → ℕ → Text → Type 0
+FindsToggledAt b x reason parts index f =
+    (child : Id) → IsDepAt b (krate_of parts) child parts.place index → FindsToggled b x reason (krate_of parts) child f
+
+-- the step is that of the crate, or of the feature, that was taken
+abbrev pub HasKrateStep : Basis → Found → ℕ → ℕ → Type 0
+HasKrateStep b x step taken = (krate : Id) → IsNodeAt b krate taken → HasStepOf b x step (Crate krate)
+
+abbrev pub HasFeatureStep : Basis → Found → ℕ → ℕ → Type 0
+HasFeatureStep b x step taken =
+    (krate : Id) (f : Text) → IsFeatureAt b krate f taken → HasStepOf b x step (Feature krate f)
+
+-- the step is that of an edge of the entry
+abbrev pub HasKeptStep : Basis → Found → ℕ → NodeEntry → Type 0
+HasKeptStep b x step entry = IsEdgeStep (document_of b) x.trace.items (parent_of entry) (child_of entry) step
+
+-- the step is that of a feature that has the reference, or has the text for a reference, or asks for the dependency of this name
+abbrev pub HasReferenceStep : Basis → Found → ℕ → Id → Reference → Type 0
+HasReferenceStep b x = IsReferringStep (document_of b) x.trace.items
+
+abbrev pub HasValueStep : Basis → Found → ℕ → Id → Text → Type 0
+HasValueStep b x = IsValueStep (document_of b) x.trace.items
+
+abbrev pub HasAskingStep : Basis → Found → ℕ → Id → Text → Type 0
+HasAskingStep b x = IsRequestStep (document_of b) x.trace.items
+
+-- ---- what is put with its step
+
+-- the crate is a root that stands
+abbrev pub IsStandingRoot : Basis → Id → Type 0
+IsStandingRoot b i = HasRoot b i × Stands (document_of b) b.setting.now i
+
+-- the number is that by which the crate's feature goes
+abbrev pub IsNumberOf : Basis → Id → Text → ℕ → Type 0
+IsNumberOf b i f number = IsFeatureAt b i f number × IsOwn (document_of b) number
+
+-- the fact of the step follows
+pub record MayPutStep (b : Basis) (x : Found) (step : NumberedStep) : Type 0 where
+  pub fact : Fact
+  pub names : Names (document_of b) step.fact fact
+  pub finds : Finds b x step.reason fact
+
+-- whatever fact the step has, it has this number
+abbrev pub HasPutStep : Basis → Found → NumberedStep → ℕ → Type 0
+HasPutStep b x step number = (f : Fact) → Names (document_of b) step.fact f → HasStepOf b x number f
+
+-- a crate stands at the place that follows
+pub record MayPutKrate (b : Basis) (x : Found) (place : ℕ) (reason : Reason) : Type 0 where
+  pub krate : Id
+  pub node : IsNodeAt b krate place
+  pub finds : Finds b x reason (Crate krate)
+
+-- a feature of a kept crate has the number that follows
+pub record MayPutFeature (b : Basis) (x : Found) (number : ℕ) (reason : Reason) : Type 0 where
+  pub krate : Id
+  pub name : Text
+  pub number_of : IsNumberOf b krate name number
+  pub kept : Has b x (Crate krate)
+  pub finds : Finds b x reason (Feature krate name)

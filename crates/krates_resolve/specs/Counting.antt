@@ -4,7 +4,7 @@ use Rattle.std.specs.List.{sum}
 use Rattle.krates_cm.specs.Document.{Text}
 use Rattle.krates_rules.specs.Facts.{Id}
 use Rattle.krates_rules.specs.Resolved.{Resolved}
-use Rattle.krates_resolve.specs.Numbering.{FeatureAt}
+use Rattle.krates_questions.specs.Numbering.{FeatureAt}
 use Rattle.krates_resolve.specs.Work.{HasReferences, counted}
 use Rattle.krates_resolve.specs.declared.found.Found.{Found}
 use Rattle.krates_resolve.specs.declared.work.Work.{Work}

@@ -8,16 +8,20 @@ use Rattle.krates_rules.specs.Derivation.{Derivable}
 use Rattle.krates_rules.specs.Facts.{Id, Edge, LostPackage, LostNode, LostFeature, Undeclared, Fact, Crate, Feature, Kept, Toggled, Lost}
 use Rattle.krates_rules.specs.Features.{ListsFeature, LacksFeature, HasReference}
 use Rattle.krates_rules.specs.Resolved.{DepAt, NodeAt, Resolved, NoPackage, id_of}
-use Rattle.krates_resolve.specs.Links.{HasLinks, IsMarked, Waits, WasAsked}
+use Rattle.krates_resolve.specs.Links.{HasLinks, IsMarked, IsMarkedBy, IsWaiter, Waits, WasAsked}
+use Rattle.krates_resolve.specs.Trace.{HasSomeStep, HasStep, IsTrace}
 use Rattle.krates_rules.specs.Questions.{edge_between, Stands, LacksNode, IsWanted, IsLoose, questions}
-use Rattle.krates_resolve.specs.ListedFeatures.{listed_features}
-use Rattle.krates_resolve.specs.Numbering.{FeatureAt, IsOwn}
+use Rattle.krates_questions.specs.ListedFeatures.{listed_features}
+use Rattle.krates_questions.specs.Numbering.{FeatureAt, IsOwn}
 use Rattle.krates_rules.specs.Referent.{IsReferent}
 use Rattle.krates_rules.specs.Roots.{IsRoot}
 use Rattle.krates_rules.specs.Rules.{default_name}
 use Rattle.krates_resolve.specs.Selection.{edge_view, feature_fact, toggled_fact, IsPlaced}
 use Rattle.krates_rules.specs.Setting.{SettingModel}
 use Rattle.krates_resolve.specs.declared.found.Found.{Found}
+use Rattle.krates_resolve.specs.declared.links.Links.{Links}
+use Rattle.krates_resolve.specs.declared.links.Waiting.{Waiting}
+use Rattle.krates_resolve.specs.declared.trace.NumberedStep.{NumberedStep}
 use Rattle.krates_resolve.specs.declared.selection.EnabledFeature.{EnabledFeature}
 use Rattle.krates_resolve.specs.declared.selection.KeptEdge.{KeptEdge}
 use Rattle.krates_resolve.specs.declared.selection.ToggledFeature.{ToggledFeature}
@@ -163,8 +167,6 @@ pub record IsValueOfEnabled (r : Resolved) (s : SettingModel) (p : Id) (text : T
   pub enabled : Derivable (questions r s) (Feature p feature)
   pub refers : (reference : Reference) → IsReference text reference → HasReference r p feature reference
 
--- ---- what has been found is right
-
 -- a weak reference of an enabled feature names it
 pub record IsAskedWeakly (r : Resolved) (s : SettingModel) (p child : Id) (g : Text) : Type 0 where
   pub feature : Text
@@ -172,6 +174,55 @@ pub record IsAskedWeakly (r : Resolved) (s : SettingModel) (p child : Id) (g : T
   pub name : Text
   pub refers : HasReference r p feature (weak name g)
   pub referent : IsReferent r p name child
+
+-- ---- what has its step
+
+-- the step is that of the crate at the place, and of the feature of the number
+abbrev pub IsKrateStep : Resolved → List NumberedStep → ℕ → ℕ → Type 0
+IsKrateStep r trace place step = (i : Id) → NodeAt r i place → HasStep r trace step (Crate i)
+
+abbrev pub IsFeatureStep : Resolved → List NumberedStep → ℕ → ℕ → Type 0
+IsFeatureStep r trace number step = (i : Id) (f : Text) → FeatureAt r i f number → HasStep r trace step (Feature i f)
+
+-- it is that of an edge between the crates
+abbrev pub IsEdgeStep : Resolved → List NumberedStep → Id → Id → ℕ → Type 0
+IsEdgeStep r trace p child step = (k : DepKindInfoModel) × HasStep r trace step (Kept (edge_between p child k))
+
+-- it is that of a feature with a weak reference that names the feature of the child
+pub record IsAskingStep (r : Resolved) (trace : List NumberedStep) (p child : Id) (g : Text) (step : ℕ) : Type 0 where
+  pub feature : Text
+  pub found : HasStep r trace step (Feature p feature)
+  pub name : Text
+  pub refers : HasReference r p feature (weak name g)
+  pub referent : IsReferent r p name child
+
+-- the steps, the crates and features that were put, beside the numbers of their steps, and what is kept for each dependency
+pub record Traced : Type 0 where
+  pub trace : List NumberedStep
+  pub krates : List ℕ
+  pub krate_steps : List ℕ
+  pub features : List ℕ
+  pub feature_steps : List ℕ
+  pub links : Links
+
+abbrev pub traced : Found → Traced
+traced x = record {
+  trace = x.trace.items;
+  krates = x.krates.put;
+  krate_steps = x.krate_steps.items;
+  features = x.features.put;
+  feature_steps = x.feature_steps.items;
+  links = x.links;
+}
+
+-- the numbers are those of the steps of what was put, is marked and waits
+pub record HaveTheirSteps (r : Resolved) (x : Traced) : Type 0 where
+  pub krates : AllZip (IsKrateStep r x.trace) x.krates x.krate_steps
+  pub features : AllZip (IsFeatureStep r x.trace) x.features x.feature_steps
+  pub marked : (p child : Id) (place index step : ℕ) → DepAt r p child place index → IsMarkedBy x.links place index step → IsEdgeStep r x.trace p child step
+  pub waiting : (p child : Id) (place index : ℕ) (w : Waiting) → DepAt r p child place index → IsWaiter x.links place index w → IsAskingStep r x.trace p child w.name.now w.step
+
+-- ---- what has been found is right
 
 -- all that has been found is derivable, and what follows from kept edges, toggled and enabled features alone stands in it
 pub record IsSound (r : Resolved) (s : SettingModel) (x : Found) : Type 0 where
@@ -182,6 +233,10 @@ pub record IsSound (r : Resolved) (s : SettingModel) (x : Found) : Type 0 where
   pub own : (number : ℕ) → Contains x.features.put number → IsOwn r number
   pub has_links : HasLinks r x.links
   pub derivable : (f : Fact) → HasFound r x f → Derivable (questions r s) f
+  -- each found fact has a step, and each step follows from earlier ones
+  pub trace : IsTrace r s x.trace.items
+  pub stepped : (f : Fact) → HasFound r x f → HasSomeStep r x.trace.items f
+  pub numbered : HaveTheirSteps r (traced x)
   pub placed : All (IsPlaced r s) x.edges.items
   -- a kept edge
   pub reached : (e : Edge) → HasFound r x (Kept e) → HasFound r x (Crate e.child)
@@ -202,6 +257,7 @@ pub record IsSound (r : Resolved) (s : SettingModel) (x : Found) : Type 0 where
 -- more may have been found, and nothing is lost
 pub record Grows (r : Resolved) (old new : Found) : Type 0 where
   pub found : (f : Fact) → HasFound r old f → HasFound r new f
+  pub steps : (n : ℕ) (f : Fact) → HasStep r old.trace.items n f → HasStep r new.trace.items n f
   pub waits : (p child : Id) (place index : ℕ) (g : Text) → DepAt r p child place index → Waits old.links place index g → WaitsOrIsToggled r new p child place index g
   pub krates : (k n : ℕ) → slice_get old.krates.put k ≡ Some n → slice_get new.krates.put k ≡ Some n
   pub features : (k n : ℕ) → slice_get old.features.put k ≡ Some n → slice_get new.features.put k ≡ Some n

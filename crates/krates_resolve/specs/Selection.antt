@@ -20,31 +20,37 @@ use Rattle.krates_resolve.specs.Work.{CountsEach}
 
 -- ---- the facts of a selection
 
+-- a kept edge as the rules speak of it: without its places
 abbrev pub edge_view : KeptEdge → Edge
 edge_view e = record { parent = id_of e.parent; child = id_of e.child; kind = e.kind; cfg = option_map text_view e.cfg }
 
+-- that the crate is kept
 abbrev pub crate_fact : Identity → Fact
 crate_fact i = Crate (id_of i)
 
+-- that the edge is kept
 abbrev pub edge_fact : KeptEdge → Fact
 edge_fact e = Kept (edge_view e)
 
+-- that the feature is enabled
 abbrev pub feature_fact : EnabledFeature → Fact
 feature_fact f = Feature (id_of f.krate) (text_view f.name)
 
+-- that a crate toggles the feature
 abbrev pub toggled_fact : ToggledFeature → Fact
 toggled_fact t = Toggled (id_of t.by) (id_of t.krate) (text_view t.name)
 
+-- all that a selection says, as facts
 abbrev pub facts_of : Selection → List Fact
 facts_of x = map crate_fact x.krates.items ++ (map edge_fact x.edges.items ++ (map feature_fact x.features.items ++ map toggled_fact x.toggled.items))
 
 -- ---- the selection of a document
 
--- the edge names its declared dependency, and the first place of its purpose and target
+-- the edge names its declared dependency, and the first place of its kind and target
 pub record IsPlaced (r : Resolved) (s : SettingModel) (e : KeptEdge) : Type 0 where
   pub dependency : DependencyModel
   pub declared : IsDeclaredAt r s (edge_view e) e.declared dependency
-  pub place : FirstAt (λ k. k ≡ kind_info_of (edge_view e)) declared.dep.dep_kinds e.place (kind_info_of (edge_view e))
+  pub place : FirstAt (λ k. k ≡ kind_info_of (edge_view e)) declared.declares.dep.dep_kinds e.place (kind_info_of (edge_view e))
 
 -- The selection has exactly the derivable facts, a crate among them, each list in order and without doubles; and each crate,
 -- each feature and each reference of these is counted once.

@@ -16,29 +16,36 @@ use Rattle.krates_resolve.specs.declared.selection.ToggledFeature.{ToggledFeatur
 abbrev pub same_place : KeptEdge → KeptEdge → Bool
 same_place = eq_of_both (on (λ e. e.parent) same_id) (eq_of_both (on (λ e. e.child) same_id) (on (λ e. e.place) ◌==◌))
 
+-- the order by parent, then child, then place
 abbrev pub place_cmp : KeptEdge → KeptEdge → Ordering
 place_cmp = then_cmp (on (λ e. e.parent) id_cmp) (then_cmp (on (λ e. e.child) id_cmp) (on (λ e. e.place) nat_cmp))
 
 -- ---- texts, as bytes
 
+-- whether the texts have the same bytes
 abbrev pub same_text : String Global → String Global → Bool
 same_text = on text_view (pointwise ◌==◌)
 
+-- the order of texts by their bytes
 abbrev pub text_cmp : String Global → String Global → Ordering
 text_cmp = on text_view (slice_cmp nat_cmp)
 
 -- ---- features, by crate and name
 
+-- whether the features have the same crate and name
 abbrev pub same_feature : EnabledFeature → EnabledFeature → Bool
 same_feature = eq_of_both (on (λ f. f.krate) same_id) (on (λ f. f.name) same_text)
 
+-- the order by crate, then name
 abbrev pub feature_cmp : EnabledFeature → EnabledFeature → Ordering
 feature_cmp = then_cmp (on (λ f. f.krate) id_cmp) (on (λ f. f.name) text_cmp)
 
 -- ---- toggled features, by the crate that toggles them, their own and their name
 
+-- whether the same crate toggles the same feature
 abbrev pub same_toggled : ToggledFeature → ToggledFeature → Bool
 same_toggled = eq_of_both (on (λ t. t.by) same_id) (eq_of_both (on (λ t. t.krate) same_id) (on (λ t. t.name) same_text))
 
+-- the order by the crate that toggles, then the crate of the feature, then its name
 abbrev pub toggled_cmp : ToggledFeature → ToggledFeature → Ordering
 toggled_cmp = then_cmp (on (λ t. t.by) id_cmp) (then_cmp (on (λ t. t.krate) id_cmp) (on (λ t. t.name) text_cmp))

@@ -1,11 +1,10 @@
 -- How much work a selection was: how many crates and features were taken, and how many references these features have.
-use Rattle.std.specs.Prelude.{◌≡◌, ℕ, ◌-◌, ◌^◌, List, [], length, min}
+use Rattle.std.specs.Prelude.{◌≡◌, ℕ, ◌-◌, ◌^◌, List, length, min}
 use Rattle.std.specs.List.{AllZip, sum}
-use Rattle.std.specs.Option.{unwrap_or}
 use Rattle.krates_cm.specs.Document.{Text, PackageModel, text_view}
-use Rattle.krates_ids.specs.Correction.{named}
 use Rattle.krates_rules.specs.Facts.{Id}
 use Rattle.krates_rules.specs.Resolved.{Resolved, HasPackage, id_of}
+use Rattle.krates_questions.specs.FeatureValues.{values_of}
 use Rattle.krates_resolve.specs.declared.selection.EnabledFeature.{EnabledFeature}
 use Rattle.krates_resolve.specs.declared.work.Work.{Work}
 
@@ -17,7 +16,7 @@ counted n = min n (2 ^ 64 - 1)
 pub record HasReferences (r : Resolved) (i : Id) (f : Text) (n : ℕ) : Type 0 where
   pub pkg : PackageModel
   pub has_package : HasPackage r i pkg
-  pub count : n ≡ length (unwrap_or (named pkg.features f) [])
+  pub count : n ≡ length (values_of pkg.features f)
 
 -- the features have so many references together
 pub record HaveReferences (r : Resolved) (features : List EnabledFeature) (n : ℕ) : Type 0 where

@@ -1,35 +1,39 @@
 //! What the rules give from each kept crate.
 
-ghost use Rattle.krates_resolve.specs.Basis.{HasEntry, HasExpandedTaken, HasTried, HasTriedEntry, IsRight, MayKeep, Moves, Refuses};
-ghost use Rattle.krates_resolve.specs.NodeEntry.{HasItsPlaces, HasItsVersion, IsListedEdge, edge_for, edge_of};
+ghost use Rattle.krates_questions.specs.Basis.{HasEntry, Refuses};
+ghost use Rattle.krates_resolve.specs.Basis.{FindsEdge, HasExpandedTaken, HasKrateStep, HasTried, HasTriedEntry, IsRight, MayKeep, Moves};
+ghost use Rattle.krates_questions.specs.NodeEntry.{HasItsPlaces, HasItsVersion, IsListedEdge, edge_for, edge_of};
 ghost use Rattle.std.specs.Prelude.{◌<◌, IfErr, OnOk, Some, Contains};
 ghost use Rattle.semver.specs.Identifiers.{parts_of};
 ghost use Rattle.krates_cm.specs.Document.{DepKindInfoModel};
 ghost use Rattle.krates_rules.specs.Admission.{HasVersion};
 ghost use Rattle.krates_resolve.specs.Found.{TakenWhen};
-ghost use Rattle.krates_resolve.specs.Lookup.{IsLookup};
+ghost use Rattle.krates_questions.specs.Lookup.{IsLookup};
 
-use crate::basis::Basis;
-use crate::enabling::keep;
+use crate::enabling::{Keeping, keep};
 use crate::found::Found;
-use crate::node_entry::{EntryEdge, NodeEntry, declared_places, entry_at, parts_of};
-use crate::standing::{Standing, standing_of};
+use crate::trace::Reason;
 use krates_document::declared_dependency::{Sought, declared_of, version_of};
 use krates_graph::agenda::Taken;
 use krates_ids::{Error, Lost, laws};
+use krates_questions::basis::Basis;
+use krates_questions::node_entry::{EntryEdge, NodeEntry, declared_places, entry_at, parts_of};
+use krates_questions::standing::{Standing, standing_of};
 
 /// Keeps what a kept crate needs: tries each edge of its node.
 ///
-/// It is handed the crate as it was taken, so that each is expanded once.
+/// It is handed the crate as it was taken, so that each is expanded once, and the step by which the crate was found.
 pub(crate) fn expand<'a>(
     basis: &Basis<'a, '_>,
     taken: Taken,
+    step: usize,
     found: &mut Found<'a>,
 ) -> Result<(), Error>
     requires lookup { IsLookup basis.now.lookup.now }
     requires sound { IsRight basis.now found.old }
     requires put { Contains found.old.krates.put taken }
     requires within { taken < found.old.krates.size }
+    requires step { HasKrateStep basis.now found.old step taken }
     ensures advanced { OnOk result (Moves basis.now found.old found.new) }
     ensures expanded { OnOk result (HasExpandedTaken basis.now found.new taken) }
     ensures refused { IfErr result (Refuses basis.now) }
@@ -38,7 +42,7 @@ pub(crate) fn expand<'a>(
     let parts = parts_of(basis.lookup, taken.number());
     for index in 0..parts.children.len() {
         let entry = entry_at(&parts, index);
-        expand_entry(basis, &entry, false, found)?;
+        expand_entry(basis, &entry, false, Reason::by_one(5, step), found)?;
     }
     Ok(())
 }
@@ -48,6 +52,7 @@ pub(crate) fn expand_entry<'a>(
     basis: &Basis<'a, '_>,
     entry: &NodeEntry<'a>,
     asked: bool,
+    reason: Reason,
     found: &mut Found<'a>,
 ) -> Result<(), Error>
     requires lookup { IsLookup basis.now.lookup.now }
@@ -55,6 +60,8 @@ pub(crate) fn expand_entry<'a>(
     requires version { HasVersion entry.now.child.now }
     requires sound { IsRight basis.now found.old }
     requires may { (k : DepKindInfoModel) → MayKeep basis.now (edge_for entry.now k) (TakenWhen asked) }
+    requires step { (k : DepKindInfoModel)
+        → FindsEdge basis.now found.old reason (edge_for entry.now k) (TakenWhen asked) }
     ensures advanced { OnOk result (Moves basis.now found.old found.new) }
     ensures tried { OnOk result (HasTriedEntry basis.now found.new entry.now (TakenWhen asked)) }
     ensures refused { IfErr result (Refuses basis.now) }
@@ -70,7 +77,7 @@ pub(crate) fn expand_entry<'a>(
             version: &version,
             places,
         };
-        expand_edge(basis, &edge, asked, found)?;
+        expand_edge(basis, &edge, asked, reason, found)?;
     }
     Ok(())
 }
@@ -80,6 +87,7 @@ fn expand_edge<'a>(
     basis: &Basis<'a, '_>,
     edge: &EntryEdge<'a, '_>,
     asked: bool,
+    reason: Reason,
     found: &mut Found<'a>,
 ) -> Result<(), Error>
     requires lookup { IsLookup basis.now.lookup.now }
@@ -89,6 +97,7 @@ fn expand_edge<'a>(
     requires listed { IsListedEdge edge.now }
     requires sound { IsRight basis.now found.old }
     requires may { MayKeep basis.now (edge_of edge.now) (TakenWhen asked) }
+    requires step { FindsEdge basis.now found.old reason (edge_of edge.now) (TakenWhen asked) }
     ensures advanced { OnOk result (Moves basis.now found.old found.new) }
     ensures tried { OnOk result (HasTried basis.now found.new (edge_of edge.now) (TakenWhen asked)) }
     ensures refused { IfErr result (Refuses basis.now) }
@@ -121,6 +130,13 @@ fn expand_edge<'a>(
         Standing::NoPackage => Err(Error::Lost(Lost::Package(entry.child.clone()?))),
         Standing::NoNode => Err(Error::Lost(Lost::Node(entry.child.clone()?))),
         Standing::Excluded => Ok(()),
-        Standing::Stands(node) => keep(basis, edge, declared, node, found),
+        Standing::Stands(node) => {
+            let keeping = Keeping {
+                declared,
+                node,
+                reason,
+            };
+            keep(basis, edge, keeping, found)
+        }
     }
 }

@@ -2,6 +2,7 @@
 
 use crate::links::Links;
 use crate::selection::{KeptEdge, ToggledFeature};
+use crate::trace::NumberedStep;
 use krates_graph::agenda::Agenda;
 
 /// What has been found so far.
@@ -15,6 +16,12 @@ pub(crate) struct Found<'a> {
     pub edges: Vec<KeptEdge>,
     /// The toggled features, in the order in which they were found.
     pub toggled: Vec<ToggledFeature>,
+    /// The steps by which all of that was found, each behind those that it uses.
+    pub trace: Vec<NumberedStep>,
+    /// The step of each crate that was put, in the order of their puts.
+    pub krate_steps: Vec<usize>,
+    /// The step of each feature that was put, in the order of their puts.
+    pub feature_steps: Vec<usize>,
     /// What is kept for each dependency of each node.
     pub links: Links<'a>,
 }

@@ -1,37 +1,43 @@
 //! What the references of an enabled feature give.
 
-ghost use Rattle.krates_resolve.specs.NodeEntry.{krate_of};
-ghost use Rattle.krates_resolve.specs.Basis.{Has, HasAsked, HasAskedDep, HasFollowedText, HasHeededTaken, HasParts, HasToggledAt, HasToggledKept, IsRight, LetsWait, MayAskFor, MayAskForDep, MayFollow, MayFollowText, MayToggleAt, Moves, Refuses, TakenHasReferences};
+ghost use Rattle.krates_questions.specs.NodeEntry.{krate_of};
+ghost use Rattle.krates_resolve.specs.Basis.{FindsAskedDep, FindsToggledAt, Has, HasAsked, HasAskedDep, HasAskingStep, HasFeatureStep, HasFollowedText, HasHeededTaken, HasReferenceStep, HasToggledAt, HasToggledKept, HasValueStep, IsRight, LetsWait, MayAskFor, MayAskForDep, MayFollow, MayFollowText, MayToggleAt, Moves, TakenHasReferences};
+ghost use Rattle.krates_questions.specs.Basis.{HasParts, Refuses};
 ghost use Rattle.std.specs.Prelude.{◌≡◌, ◌<◌, Contains, IfErr, IfOk, OnOk, length};
 ghost use Rattle.krates_text.specs.FeatureReference.{krate, strong, weak};
 ghost use Rattle.krates_rules.specs.Facts.{Crate, Feature};
 ghost use Rattle.krates_resolve.specs.Links.{IsMarked};
-ghost use Rattle.krates_resolve.specs.Lookup.{IsLookup};
+ghost use Rattle.krates_questions.specs.Lookup.{IsLookup};
 
-use crate::basis::Basis;
-use crate::enabling::{KeptNode, enable, toggle};
+use crate::enabling::{KeptNode, NamedFeature, enable, toggle};
 use crate::expansion::expand_entry;
-use crate::features::feature_values;
 use crate::found::Found;
-use crate::lookup::node_place;
-use crate::node_entry::{NodeParts, entry_at, parts_of};
-use crate::referent::referent_of;
+use crate::links::Waiting;
+use crate::trace::Reason;
 use krates_graph::agenda::Taken;
 use krates_ids::{Error, laws};
+use krates_questions::basis::Basis;
+use krates_questions::features::feature_values;
+use krates_questions::lookup::node_place;
+use krates_questions::node_entry::{NodeParts, entry_at, parts_of};
+use krates_questions::referent::referent_of;
 use krates_text::features::{Feature, ParsedFeature};
 
 /// Follows each reference of an enabled feature.
 ///
-/// It is handed the feature as it was taken, so that each is heeded once, and answers how many references it has.
+/// It is handed the feature as it was taken, so that each is heeded once, and the step by which the feature was found. It answers
+/// how many references the feature has.
 pub(crate) fn heed<'a>(
     basis: &Basis<'a, '_>,
     taken: Taken,
+    step: usize,
     found: &mut Found<'a>,
 ) -> Result<usize, Error>
     requires lookup { IsLookup basis.now.lookup.now }
     requires sound { IsRight basis.now found.old }
     requires put { Contains found.old.features.put taken }
     requires within { taken < found.old.features.size }
+    requires step { HasFeatureStep basis.now found.old step taken }
     ensures advanced { OnOk result (Moves basis.now found.old found.new) }
     ensures heeded { OnOk result (HasHeededTaken basis.now found.new taken) }
     ensures counted { IfOk result (TakenHasReferences basis.now taken) }
@@ -42,16 +48,17 @@ pub(crate) fn heed<'a>(
     let parts = parts_of(basis.lookup, feature.place);
     let values = feature_values(basis.lookup, parts.parent, feature.name);
     for text in values {
-        follow(basis, &parts, text.as_str(), found)?;
+        follow(basis, &parts, text.as_str(), step, found)?;
     }
     Ok(values.len())
 }
 
-/// Follows a reference of an enabled feature of a kept crate.
+/// Follows a reference of the feature of a kept crate that was enabled by this step.
 fn follow<'a>(
     basis: &Basis<'a, '_>,
     parts: &NodeParts<'a>,
     text: &'a str,
+    step: usize,
     found: &mut Found<'a>,
 ) -> Result<(), Error>
     requires lookup { IsLookup basis.now.lookup.now }
@@ -59,6 +66,7 @@ fn follow<'a>(
     requires sound { IsRight basis.now found.old }
     requires kept { Has basis.now found.old (Crate (krate_of parts.now)) }
     requires value { MayFollowText basis.now (krate_of parts.now) text.now }
+    requires step { HasValueStep basis.now found.old step (krate_of parts.now) text.now }
     ensures advanced { OnOk result (Moves basis.now found.old found.new) }
     ensures followed { OnOk result (HasFollowedText basis.now found.new (krate_of parts.now) text.now) }
     ensures refused { IfErr result (Refuses basis.now) }
@@ -70,25 +78,40 @@ fn follow<'a>(
                 id: parts.parent,
                 place: parts.place,
             };
-            enable(basis, node, name, found)
+            let reason = Reason::by_one(3, step);
+            enable(basis, node, NamedFeature { name, reason }, found)
         }
-        Feature::Krate(krate) => ask(basis, parts, krate, found),
-        Feature::Strong { krate, feature } => toggle_strongly(basis, parts, krate, feature, found),
-        Feature::Weak { krate, feature } => wait(basis, parts, krate, feature, found),
+        Feature::Krate(krate) => ask(basis, parts, krate, step, found),
+        Feature::Strong { krate, feature } => {
+            let asked = Waiting {
+                name: feature,
+                step,
+            };
+            toggle_strongly(basis, parts, krate, asked, found)
+        }
+        Feature::Weak { krate, feature } => {
+            let asked = Waiting {
+                name: feature,
+                step,
+            };
+            wait(basis, parts, krate, asked, found)
+        }
     }
 }
 
-/// Keeps the edges to the dependency of this name, also where it is optional.
+/// Keeps the edges to the dependency of this name, also where it is optional: the feature of this step asks for them.
 fn ask<'a>(
     basis: &Basis<'a, '_>,
     parts: &NodeParts<'a>,
     name: &'a str,
+    step: usize,
     found: &mut Found<'a>,
 ) -> Result<(), Error>
     requires lookup { IsLookup basis.now.lookup.now }
     requires parts { HasParts basis.now parts.now.place parts.now }
     requires sound { IsRight basis.now found.old }
     requires may { MayAskFor basis.now (krate_of parts.now) name.now }
+    requires step { HasAskingStep basis.now found.old step (krate_of parts.now) name.now }
     ensures advanced { OnOk result (Moves basis.now found.old found.new) }
     ensures asked { OnOk result (HasAsked basis.now found.new (krate_of parts.now) name.now) }
     ensures refused { IfErr result (Refuses basis.now) }
@@ -97,7 +120,7 @@ fn ask<'a>(
     let Some(index) = referent_of(basis.lookup, parts, name) else {
         return Ok(());
     };
-    ask_once(basis, parts, index, found)
+    ask_once(basis, parts, index, Reason::by_one(4, step), found)
 }
 
 /// Keeps the edges by a dependency, also where it is optional, unless that was done before.
@@ -105,6 +128,7 @@ fn ask_once<'a>(
     basis: &Basis<'a, '_>,
     parts: &NodeParts<'a>,
     index: usize,
+    reason: Reason,
     found: &mut Found<'a>,
 ) -> Result<(), Error>
     requires lookup { IsLookup basis.now.lookup.now }
@@ -112,6 +136,7 @@ fn ask_once<'a>(
     requires sound { IsRight basis.now found.old }
     requires within { index < length parts.now.children.now }
     requires may { MayAskForDep basis.now parts.now index }
+    requires step { FindsAskedDep basis.now found.old reason parts.now index }
     ensures advanced { OnOk result (Moves basis.now found.old found.new) }
     ensures asked { OnOk result (HasAskedDep basis.now found.new parts.now index) }
     ensures refused { IfErr result (Refuses basis.now) }
@@ -121,7 +146,7 @@ fn ask_once<'a>(
         return Ok(());
     }
     let entry = entry_at(parts, index);
-    expand_entry(basis, &entry, true, found)?;
+    expand_entry(basis, &entry, true, reason, found)?;
     found.links.note_asked(parts.place, index);
     Ok(())
 }
@@ -131,27 +156,34 @@ fn toggle_strongly<'a>(
     basis: &Basis<'a, '_>,
     parts: &NodeParts<'a>,
     name: &'a str,
-    feature: &'a str,
+    feature: Waiting<'a>,
     found: &mut Found<'a>,
 ) -> Result<(), Error>
     requires lookup { IsLookup basis.now.lookup.now }
     requires parts { HasParts basis.now parts.now.place parts.now }
     requires sound { IsRight basis.now found.old }
-    requires may { MayFollow basis.now (krate_of parts.now) (strong name.now feature.now) }
+    requires may { MayFollow basis.now (krate_of parts.now) (strong name.now feature.name.now) }
+    requires step { HasReferenceStep basis.now found.old feature.step (krate_of parts.now)
+        (strong name.now feature.name.now) }
     ensures advanced { OnOk result (Moves basis.now found.old found.new) }
     ensures asked { OnOk result (HasAsked basis.now found.new (krate_of parts.now) name.now) }
-    ensures toggled { OnOk result (HasToggledKept basis.now found.new parts.now name.now feature.now) }
+    ensures toggled { OnOk result (HasToggledKept basis.now found.new parts.now name.now feature.entry.name.now) }
     ensures refused { IfErr result (Refuses basis.now) }
 {
     laws::one_reading();
     let Some(index) = referent_of(basis.lookup, parts, name) else {
         return Ok(());
     };
-    ask_once(basis, parts, index, found)?;
-    if !found.links.is_kept(parts.place, index) {
+    ask_once(basis, parts, index, Reason::by_one(4, feature.step), found)?;
+    let Some(kept) = found.links.kept(parts.place, index) else {
         return Ok(());
-    }
-    toggle_child(basis, parts, index, feature, found)
+    };
+    let reason = Reason::by_two(4, feature.step, kept);
+    let toggled = NamedFeature {
+        name: feature.name,
+        reason,
+    };
+    toggle_child(basis, parts, index, toggled, found)
 }
 
 /// Toggles a feature of the dependency of this name where an edge to it is kept, or lets it wait for one.
@@ -159,23 +191,31 @@ fn wait<'a>(
     basis: &Basis<'a, '_>,
     parts: &NodeParts<'a>,
     name: &'a str,
-    feature: &'a str,
+    feature: Waiting<'a>,
     found: &mut Found<'a>,
 ) -> Result<(), Error>
     requires lookup { IsLookup basis.now.lookup.now }
     requires parts { HasParts basis.now parts.now.place parts.now }
     requires sound { IsRight basis.now found.old }
-    requires may { MayFollow basis.now (krate_of parts.now) (weak name.now feature.now) }
+    requires may { MayFollow basis.now (krate_of parts.now) (weak name.now feature.name.now) }
+    requires step { HasReferenceStep basis.now found.old feature.step (krate_of parts.now)
+        (weak name.now feature.name.now) }
     ensures advanced { OnOk result (Moves basis.now found.old found.new) }
-    ensures waiting { OnOk result (LetsWait basis.now found.new (krate_of parts.now) name.now feature.now) }
+    ensures waiting { OnOk result (LetsWait basis.now found.new (krate_of parts.now) name.now
+        feature.entry.name.now) }
     ensures refused { IfErr result (Refuses basis.now) }
 {
     laws::one_reading();
     let Some(index) = referent_of(basis.lookup, parts, name) else {
         return Ok(());
     };
-    if found.links.is_kept(parts.place, index) {
-        return toggle_child(basis, parts, index, feature, found);
+    if let Some(kept) = found.links.kept(parts.place, index) {
+        let reason = Reason::by_two(7, feature.step, kept);
+        let toggled = NamedFeature {
+            name: feature.name,
+            reason,
+        };
+        return toggle_child(basis, parts, index, toggled, found);
     }
     found.links.let_wait(parts.place, index, feature)?;
     Ok(())
@@ -186,7 +226,7 @@ fn toggle_child<'a>(
     basis: &Basis<'a, '_>,
     parts: &NodeParts<'a>,
     index: usize,
-    feature: &'a str,
+    feature: NamedFeature<'a>,
     found: &mut Found<'a>,
 ) -> Result<(), Error>
     requires lookup { IsLookup basis.now.lookup.now }
@@ -194,9 +234,10 @@ fn toggle_child<'a>(
     requires within { index < length parts.now.children.now }
     requires sound { IsRight basis.now found.old }
     requires marked { IsMarked found.old.links parts.now.place index }
-    requires may { MayToggleAt basis.now parts.now index feature.now }
+    requires may { MayToggleAt basis.now parts.now index feature.name.now }
+    requires step { FindsToggledAt basis.now found.old feature.reason parts.now index feature.name.now }
     ensures advanced { OnOk result (Moves basis.now found.old found.new) }
-    ensures toggled { OnOk result (HasToggledAt basis.now found.new parts.now index feature.now) }
+    ensures toggled { OnOk result (HasToggledAt basis.now found.new parts.now index feature.entry.name.now) }
     ensures same_links { OnOk result (found.new.links ≡ found.old.links) }
     ensures refused { IfErr result (Refuses basis.now) }
 {
@@ -205,5 +246,9 @@ fn toggle_child<'a>(
     let Some(place) = node_place(basis.lookup, id) else {
         unreachable!()
     };
-    toggle(basis, parts.parent, KeptNode { id, place }, feature, found)
+    let by = KeptNode {
+        id: parts.parent,
+        place: parts.place,
+    };
+    toggle(basis, by, KeptNode { id, place }, feature, found)
 }

@@ -1,21 +1,31 @@
 //! What is kept for each dependency of each node.
 
-ghost use Rattle.std.specs.Prelude.{◌↔◌, IfOk, IsTrue, OnOk, map};
-ghost use Rattle.krates_cm.specs.Document.{Text, node_view};
-ghost use Rattle.krates_resolve.specs.Links.{AreNew, AreNewLinks, HasLink, HasLinks, HasMarked, HasWaiter, IsMarked, NotesAsked, Waits, WasAsked};
-ghost use Rattle.krates_resolve.specs.Lookup.{IsLookup, resolved_view};
+ghost use Rattle.std.specs.Prelude.{◌↔◌, IfOk, IsTrue, OnOk};
+ghost use Rattle.krates_cm.specs.Document.{node_view};
+ghost use Rattle.krates_resolve.specs.Links.{AreNew, AreNewLinks, HasLink, HasLinks, HasMarked, HasWaiter, IsMarked, NotesAsked, TellsMark, WasAsked};
+ghost use Rattle.krates_questions.specs.Lookup.{IsLookup, resolved_view};
 
-use crate::lookup::Lookup;
 use krates_cm::Node;
+use krates_questions::lookup::Lookup;
 use std::alloc::{AllocError, Global};
 use std::mem;
 
-/// A dependency of a node: whether its edges have been asked for, whether one is kept, and the features of it that wait for one.
+/// A feature of a dependency that an enabled feature asks for.
+#[derive(Clone, Copy)]
+pub(crate) struct Waiting<'a> {
+    /// Its name.
+    pub name: &'a str,
+    /// The step by which the feature that asks for it is enabled.
+    pub step: usize,
+}
+
+/// A dependency of a node: whether its edges have been asked for, the step by which the first edge is kept, and the features of it
+/// that wait for one.
 #[derive(Drop)]
 pub(crate) struct Link<'a> {
     pub is_asked: bool,
-    pub is_kept: bool,
-    pub waiting: Vec<&'a str>,
+    pub kept: Option<usize>,
+    pub waiting: Vec<Waiting<'a>>,
 }
 
 /// The dependencies of all nodes, by the places of the node and of the dependency among those of the node.
@@ -45,7 +55,7 @@ fn links_of_node<'a>(alloc: Global, node: &Node) -> Result<Vec<Link<'a>>, AllocE
     for _ in &node.deps {
         links.push(Link {
             is_asked: false,
-            is_kept: false,
+            kept: None,
             waiting: Vec::new(alloc),
         })?;
     }
@@ -58,7 +68,15 @@ impl<'a> Links<'a> {
         requires { HasLink self.now place index }
         ensures { IsTrue result ↔ IsMarked self.now place index }
     {
-        self.of_nodes[place][index].is_kept
+        self.kept(place, index).is_some()
+    }
+
+    /// The step by which the first edge by this dependency is kept; none where none is.
+    pub(crate) fn kept(&self, place: usize, index: usize) -> Option<usize>
+        requires { HasLink self.now place index }
+        ensures { TellsMark self.now place index result }
+    {
+        self.of_nodes[place][index].kept
     }
 
     /// Whether all edges by this dependency have been asked for.
@@ -77,13 +95,19 @@ impl<'a> Links<'a> {
         self.of_nodes[place][index].is_asked = true;
     }
 
-    /// Notes that an edge by this dependency is kept, and takes the features that waited for one.
-    pub(crate) fn mark(&mut self, alloc: Global, place: usize, index: usize) -> Vec<&'a str>
+    /// Notes the step by which an edge by this dependency is kept, and takes the features that waited for one.
+    pub(crate) fn mark(
+        &mut self,
+        alloc: Global,
+        place: usize,
+        index: usize,
+        step: usize,
+    ) -> Vec<Waiting<'a>>
         requires { HasLink self.old place index }
-        ensures { HasMarked self.old self.new place index (map (λ name. name.now) result.items) }
+        ensures { HasMarked self.old self.new place index step result.items }
     {
         let link = &mut self.of_nodes[place][index];
-        link.is_kept = true;
+        link.kept = Some(step);
         mem::replace(&mut link.waiting, Vec::new(alloc))
     }
 
@@ -92,12 +116,12 @@ impl<'a> Links<'a> {
         &mut self,
         place: usize,
         index: usize,
-        name: &'a str,
+        feature: Waiting<'a>,
     ) -> Result<(), AllocError>
         requires { HasLink self.old place index }
-        ensures { OnOk result (HasWaiter self.old self.new place index name.now) }
+        ensures { OnOk result (HasWaiter self.old self.new place index feature.entry) }
     {
-        self.of_nodes[place][index].waiting.push(name)?;
+        self.of_nodes[place][index].waiting.push(feature)?;
         Ok(())
     }
 }

@@ -4,22 +4,23 @@ ghost use Rattle.std.proofs.Common.{rules};
 ghost use Rattle.std.specs.Prelude.{◌≡◌, ◌<◌, All, IfOk, IfErr, Some, length, map, slice_get};
 ghost use Rattle.krates_cm.specs.Document.{metadata_view};
 ghost use Rattle.krates_rules.specs.Admission.{IsAdmitted};
+ghost use Rattle.krates_resolve.specs.Explained.{IsExplainedOf};
 ghost use Rattle.krates_resolve.specs.Found.{HasEach, HaveNumbers};
 ghost use Rattle.krates_document.specs.Ids.{ids_view};
-ghost use Rattle.krates_resolve.specs.ListedFeatures.{listed_features};
-ghost use Rattle.krates_resolve.specs.Lookup.{IsLookup, resolved_view};
+ghost use Rattle.krates_questions.specs.ListedFeatures.{listed_features};
+ghost use Rattle.krates_questions.specs.Lookup.{IsLookup, resolved_view};
 ghost use Rattle.krates_resolve.specs.Selection.{IsSelectionOf, RefusesSelection};
 
 use crate::found::Found;
-use crate::lookup::{Lookup, lookup_of};
 use crate::saturation::saturate;
 use crate::selection::{EnabledFeature, Selection};
-use crate::sorted::in_order;
 use crate::work::Work;
 use krates_cm::Metadata;
 use krates_document::ids::Ids;
 use krates_document::setting::Setting;
 use krates_ids::{Error, Kid, laws};
+use krates_questions::lookup::{Lookup, lookup_of};
+use krates_questions::sorted::in_order;
 use std::alloc::{AllocError, Global};
 
 /// What is kept of a document that was admitted with these ids: exactly what has a derivation from the roots by the rules.
@@ -34,6 +35,7 @@ pub fn select(
 ) -> Result<Selection, Error>
     requires { IsAdmitted (metadata_view metadata.now) (ids_view ids.now) }
     ensures selected { IfOk result (IsSelectionOf (metadata_view metadata.now) setting.now) }
+    ensures explained { IfOk result (IsExplainedOf (metadata_view metadata.now) setting.now) }
     ensures refused { IfErr result (RefusesSelection (metadata_view metadata.now) setting.now) }
 {
     laws::one_reading();
@@ -49,12 +51,18 @@ pub fn select(
     }
     let krates = in_order(kids_at(alloc, &ids.nodes, found.krates.numbers())?)?;
     let features = in_order(features_at(alloc, &lookup, found.features.numbers())?)?;
-    let Found { edges, toggled, .. } = found;
+    let Found {
+        edges,
+        toggled,
+        trace,
+        ..
+    } = found;
     Ok(Selection {
         krates,
         edges: in_order(edges)?,
         features,
         toggled: in_order(toggled)?,
+        steps: trace,
         work,
     })
 }

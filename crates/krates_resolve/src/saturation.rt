@@ -1,25 +1,26 @@
 //! All that is kept of a document.
 
-ghost use Rattle.krates_resolve.specs.Basis.{HasCounted, HasDone, Refuses, TakesOne};
+ghost use Rattle.krates_resolve.specs.Basis.{HasCounted, HasDone, TakesOne};
+ghost use Rattle.krates_questions.specs.Basis.{Refuses};
 ghost use Rattle.std.specs.Prelude.{IfErr, IfOk, OnOk};
 ghost use Rattle.krates_resolve.specs.Counting.{HasCountedAll, IsFresh};
 ghost use Rattle.krates_resolve.specs.Found.{IsSound};
 ghost use Rattle.krates_resolve.specs.Saturation.{HasExactly};
-ghost use Rattle.krates_resolve.specs.Lookup.{IsLookup, resolved_view};
+ghost use Rattle.krates_questions.specs.Lookup.{IsLookup, resolved_view};
 ghost use Rattle.krates_rules.specs.Questions.{questions};
 ghost use Rattle.krates_rules.specs.SelectionRefusals.{SelectionRefusal};
 
-use crate::basis::Basis;
 use crate::expansion::expand;
 use crate::found::Found;
 use crate::heeding::heed;
 use crate::links::links_of;
-use crate::lookup::Lookup;
 use crate::roots::put_roots;
 use crate::work::Work;
 use krates_document::setting::Setting;
 use krates_graph::agenda::Agenda;
 use krates_ids::Error;
+use krates_questions::basis::Basis;
+use krates_questions::lookup::Lookup;
 use std::alloc::Global;
 
 /// All that is kept of a document: exactly what has a derivation from the roots by the rules. The work is counted.
@@ -45,6 +46,9 @@ pub(crate) fn saturate<'a>(
         features: Agenda::new(alloc, lookup.features.listed.len())?,
         edges: Vec::new(alloc),
         toggled: Vec::new(alloc),
+        trace: Vec::new(alloc),
+        krate_steps: Vec::new(alloc),
+        feature_steps: Vec::new(alloc),
         links: links_of(alloc, lookup)?,
     };
     let basis = Basis {
@@ -71,14 +75,16 @@ fn take_next<'a>(
     ensures refused { IfErr result (Refuses basis.now) }
 {
     if let Some(taken) = found.krates.take() {
-        expand(basis, taken, found)?;
+        let step = found.krate_steps[found.krates.taken() - 1];
+        expand(basis, taken, step, found)?;
         work.count_krate();
         return Ok(true);
     }
     let Some(taken) = found.features.take() else {
         return Ok(false);
     };
-    let references = heed(basis, taken, found)?;
+    let step = found.feature_steps[found.features.taken() - 1];
+    let references = heed(basis, taken, step, found)?;
     work.count_feature(references);
     Ok(true)
 }

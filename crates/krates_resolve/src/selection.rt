@@ -1,5 +1,6 @@
 //! The selection of a document under a setting.
 
+use crate::trace::NumberedStep;
 use crate::work::Work;
 use krates_cm::DependencyKind;
 use krates_ids::Kid;
@@ -15,6 +16,8 @@ pub struct Selection {
     pub features: Vec<EnabledFeature>,
     /// The features that another crate's features enable, by that crate, the crate and the name.
     pub toggled: Vec<ToggledFeature>,
+    /// The steps by which all of that was found, each behind those that it uses. A fact may have several.
+    pub steps: Vec<NumberedStep>,
     /// How much work it was.
     pub work: Work,
 }

@@ -3,16 +3,19 @@ use Rattle.std.proofs.lemmas.Option.{slice_get-map}
 use Rattle.krates_cm.specs.Document.{node_dep_view}
 use Rattle.krates_ids.specs.Identity.{Identity}
 use Rattle.krates_rules.specs.Derivation.{Derivable}
-use Rattle.krates_rules.specs.Facts.{Crate}
+use Rattle.krates_rules.specs.Facts.{Crate, Kept}
 use Rattle.krates_resolve.specs.Found.{AreTried, HasFound, IsExpanded, IsRequired}
 use Rattle.krates_rules.specs.Resolved.{NodeAt, id_of}
-use Rattle.krates_resolve.specs.Lookup.{resolved_view}
-use Rattle.krates_resolve.specs.NodeEntry.{child_of, edge_for}
+use Rattle.krates_questions.specs.Lookup.{resolved_view}
+use Rattle.krates_questions.specs.NodeEntry.{child_of, edge_for}
 use Rattle.krates_rules.specs.Questions.{questions}
 use Rattle.krates_resolve.proofs.Entries.{crate_may_try}
+use Rattle.krates_resolve.specs.Trace.{HasStep}
+use Rattle.krates_resolve.proofs.Finding.{finds_required, for_reason}
 use Rattle.krates_resolve.proofs.Growing.{advances_trans}
-use Rattle.krates_resolve.proofs.Growth.{one_id}
-use Rattle.krates_resolve.proofs.NodeParts.{deps_long, entry_here, tried_more, tried_whole, expanded_here}
+use Rattle.krates_questions.proofs.Lookups.{one_id}
+use Rattle.krates_questions.proofs.NodeParts.{deps_long, entry_here}
+use Rattle.krates_resolve.proofs.TriedParts.{tried_more, tried_whole, expanded_here}
 use Rattle.krates_resolve.proofs.expansion.expand.Goals as goal
 
 pub entry_at-entry-requires-clause-lengths : goal.entry_at-entry-requires-clause-lengths
@@ -39,6 +42,18 @@ expand_entry-requires-clause-may c k =
     } in
     crate_may_try r s (edge_for c.entry_at-entry.result k)
     (subst (λ (i : Identity). Derivable (questions r s) (Crate (id_of i))) (sym c.entry_at-entry.ensures.parent) (c.requires.sound.derivable (Crate (id_of parent)) kept))
+
+pub expand_entry-requires-clause-step : goal.expand_entry-requires-clause-step
+expand_entry-requires-clause-step c k d wanted is_required stands =
+    let r = resolved_view c.args.basis.now.lookup.now in
+    let s = c.args.basis.now.setting.now in
+    let parent = c.parts_of-parts.result.parent.now in
+    let trace = c.loop-index.found.trace.items in
+    let e = edge_for c.entry_at-entry.result k in
+    let node = subst (NodeAt r (id_of parent)) c.number.ensures c.parts_of-parts.ensures.at in
+    let here = c.loop-index.invariant.0.grows.steps c.args.step (Crate (id_of parent)) (c.requires.step (id_of parent) node) in
+    let has = subst (λ (i : Identity). HasStep r trace c.args.step (Crate (id_of i))) (sym c.entry_at-entry.ensures.parent) here in
+    for_reason r s trace _ _ (Kept e) c.by_one.ensures (finds_required r s trace c.args.step e d has wanted is_required stands)
 
 pub loop-index-preserved : goal.loop-index-preserved
 loop-index-preserved c =

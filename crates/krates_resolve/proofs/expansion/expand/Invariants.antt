@@ -1,9 +1,9 @@
 use Rattle.std.proofs.Common.{map}
 use Rattle.krates_cm.specs.Document.{node_dep_view}
 use Rattle.krates_resolve.specs.Found.{Advances}
-use Rattle.krates_resolve.specs.Lookup.{resolved_view}
+use Rattle.krates_questions.specs.Lookup.{resolved_view}
 use Rattle.krates_rules.specs.Resolved.{id_of}
-use Rattle.krates_resolve.proofs.NodeParts.{TriedBelow}
+use Rattle.krates_resolve.proofs.TriedParts.{TriedBelow}
 use Rattle.krates_resolve.proofs.expansion.expand.Given as goal
 
 -- the edges of the dependencies so far have been tried

@@ -2,10 +2,11 @@ use Rattle.std.proofs.Common.{sym, ◌∙◌, true, false, inl, inr}
 use Rattle.std.proofs.lemmas.Result.{on_ok_weaker}
 use Rattle.krates_cm.specs.Document.{dep_kind_info_view}
 use Rattle.krates_resolve.specs.Found.{TakenWhen}
-use Rattle.krates_resolve.specs.Lookup.{resolved_view}
-use Rattle.krates_resolve.specs.NodeEntry.{edge_for}
-use Rattle.krates_resolve.proofs.Declared.{optional_declared}
-use Rattle.krates_resolve.proofs.Entries.{heeds, is_ignored, taken_here, ignored_tried, optional_tried, barred_tried, left_out_tried, kept_tried, loose, wanted}
+use Rattle.krates_questions.specs.Lookup.{resolved_view}
+use Rattle.krates_questions.specs.NodeEntry.{edge_for}
+use Rattle.krates_questions.proofs.Declared.{optional_declared}
+use Rattle.krates_questions.proofs.Entries.{heeds, is_ignored, loose, wanted}
+use Rattle.krates_resolve.proofs.Entries.{taken_here, ignored_tried, optional_tried, barred_tried, left_out_tried, kept_tried}
 use Rattle.krates_resolve.proofs.expansion.expand_edge.Goals.{else-not-asked-via-then-not-asked+else-entry-declared, else-not-asked-via-else-not-asked}
 use Rattle.krates_resolve.proofs.expansion.expand_edge.Goals as goal
 
@@ -64,6 +65,19 @@ keep-requires-clause-may c =
     ]) in
     let h = heeds r s c.args.edge.now.entry.now k c.requires.entry c.requires.listed c.ignores.result c.ignores.ensures c.if-ignores.false in
     c.requires.may.kept d.0 (wanted r s c.args.edge.now.entry.now k c.in-Some.declared d.0 h d.1 (c.in_ok-passes.ensures.0 c.if-not-passes.false)) taken c.in-Stands.ensures.0
+
+pub keep-requires-clause-step : goal.keep-requires-clause-step
+keep-requires-clause-step c =
+    let r = resolved_view c.args.basis.now.lookup.now in
+    let s = c.args.basis.now.setting.now in
+    let k = dep_kind_info_view c.args.edge.now.info.now in
+    let d = c.in-Some.ensures.first in
+    let taken = taken_here c.args.asked d.0 (elim c.else-not-asked.branch [
+      | else-not-asked-via-then-not-asked+else-entry-declared w ↦ inr (optional_declared c.args.edge.now.entry.now k c.in-Some.declared d.0 w.index-entry-declared.result d.1 false w.if-entry-declared.false)
+      | else-not-asked-via-else-not-asked w ↦ inl w.if-not-asked.false
+    ]) in
+    let h = heeds r s c.args.edge.now.entry.now k c.requires.entry c.requires.listed c.ignores.result c.ignores.ensures c.if-ignores.false in
+    c.requires.step d.0 (wanted r s c.args.edge.now.entry.now k c.in-Some.declared d.0 h d.1 (c.in_ok-passes.ensures.0 c.if-not-passes.false)) taken c.in-Stands.ensures.0
 
 pub returns-in_ok-clone-in-NoPackage-clause-refused : goal.returns-in_ok-clone-in-NoPackage-clause-refused
 returns-in_ok-clone-in-NoPackage-clause-refused c =

@@ -1,10 +1,12 @@
 use Rattle.std.proofs.Common.{arith}
 use Rattle.krates_cm.specs.Document.{dep_kind_info_view}
 use Rattle.krates_cm.specs.declared.resolve.DepKindInfo.{DepKindInfo}
+use Rattle.krates_rules.specs.Facts.{Kept}
 use Rattle.krates_resolve.specs.Found.{IsTried, TakenWhen}
-use Rattle.krates_resolve.specs.Lookup.{resolved_view}
-use Rattle.krates_resolve.specs.NodeEntry.{declared_in, edge_for}
+use Rattle.krates_questions.specs.Lookup.{resolved_view}
+use Rattle.krates_questions.specs.NodeEntry.{declared_in, edge_for}
 use Rattle.krates_resolve.proofs.Growing.{advances_refl, advances_trans, tried_grows}
+use Rattle.krates_resolve.proofs.Steps.{finds_more}
 use Rattle.krates_document.proofs.Seen.{seen_more, each_seen}
 use Rattle.krates_resolve.proofs.expansion.expand_entry.Goals as goal
 
@@ -19,6 +21,12 @@ expand_edge-requires-clause-sound c = c.loop-info.invariant.0.sound
 
 pub expand_edge-requires-clause-may : goal.expand_edge-requires-clause-may
 expand_edge-requires-clause-may c = c.requires.may (dep_kind_info_view c.info-item.result)
+
+pub expand_edge-requires-clause-step : goal.expand_edge-requires-clause-step
+expand_edge-requires-clause-step c d wanted taken stands =
+    let k = dep_kind_info_view c.info-item.result in
+    finds_more (resolved_view c.args.basis.now.lookup.now) c.args.basis.now.setting.now c.args.found.now.trace.items c.loop-info.found.trace.items c.args.reason (Kept (edge_for c.args.entry.now k)) c.loop-info.invariant.0.grows.steps
+    (c.requires.step k d wanted taken stands)
 
 pub loop-info-preserved : goal.loop-info-preserved
 loop-info-preserved c =

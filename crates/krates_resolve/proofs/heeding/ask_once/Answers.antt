@@ -1,14 +1,15 @@
 use Rattle.std.proofs.Common.{get_or, sym, ap, subst}
 use Rattle.krates_rules.specs.Facts.{Id}
 use Rattle.krates_resolve.specs.Found.{IsAny, MayTry}
-use Rattle.krates_resolve.specs.Lookup.{resolved_view}
-use Rattle.krates_resolve.specs.NodeEntry.{child_of}
+use Rattle.krates_questions.specs.Lookup.{resolved_view}
+use Rattle.krates_questions.specs.NodeEntry.{child_of}
 use Rattle.krates_rules.specs.Questions.{edge_between}
 use Rattle.krates_rules.specs.Resolved.{DepAt, id_of}
+use Rattle.krates_resolve.specs.Basis.{FindsEdge}
 use Rattle.krates_resolve.proofs.Growing.{advances_trans}
 use Rattle.krates_resolve.proofs.Growth.{asked_advances, with_links}
 use Rattle.krates_resolve.proofs.Heedings.{child_dep, dep_of_entry, tried_at}
-use Rattle.krates_resolve.proofs.NodeParts.{deps_long, entry_here}
+use Rattle.krates_questions.proofs.NodeParts.{deps_long, entry_here}
 use Rattle.krates_resolve.proofs.heeding.ask_once.Goals as goal
 
 pub is_asked-requires : goal.is_asked-requires
@@ -44,6 +45,15 @@ expand_entry-requires-clause-may c k =
     let is = (entry_here r c.args.parts.now.place c.args.parts.now c.args.index entry c.requires.parts e).0 in
     let at = dep_of_entry r c.args.parts.now entry c.args.index e is in
     subst (λ (i : Id). MayTry r s (edge_between i (child_of entry) k) IsAny) (sym (ap id_of e.parent)) (c.requires.may (child_of entry) k at)
+
+pub expand_entry-requires-clause-step : goal.expand_entry-requires-clause-step
+expand_entry-requires-clause-step c k =
+    let r = resolved_view c.args.basis.now.lookup.now in
+    let e = c.entry_at-entry.ensures in
+    let entry = c.entry_at-entry.result in
+    let is = (entry_here r c.args.parts.now.place c.args.parts.now c.args.index entry c.requires.parts e).0 in
+    let at = dep_of_entry r c.args.parts.now entry c.args.index e is in
+    subst (λ (i : Id). FindsEdge c.args.basis.now c.args.found.now c.args.reason (edge_between i (child_of entry) k) IsAny) (sym (ap id_of e.parent)) (c.requires.step (child_of entry) k at)
 
 pub note_asked-requires : goal.note_asked-requires
 note_asked-requires c =

@@ -1,10 +1,12 @@
-use Rattle.std.proofs.Common.{subst}
+use Rattle.std.proofs.Common.{refl, subst}
 use Rattle.std.proofs.lemmas.Result.{on_ok_weaker}
 use Rattle.krates_cm.specs.Document.{Text}
 use Rattle.krates_text.specs.FeatureReference.{IsReference, krate, strong, weak, simple}
-use Rattle.krates_resolve.specs.Lookup.{resolved_view}
+use Rattle.krates_questions.specs.Lookup.{resolved_view}
 use Rattle.krates_rules.specs.Resolved.{id_of}
-use Rattle.krates_resolve.proofs.Heedings.{value_may, may_name, followed_by, on_ok_both}
+use Rattle.krates_rules.specs.Facts.{Feature}
+use Rattle.krates_resolve.proofs.Finding.{finds_named, for_reason}
+use Rattle.krates_resolve.proofs.Heedings.{value_may, may_name, followed_by, on_ok_both, referring_step}
 use Rattle.krates_resolve.proofs.heeding.follow.Goals as goal
 
 pub enable-requires-clause-may : goal.enable-requires-clause-may
@@ -15,6 +17,37 @@ enable-requires-clause-may c =
     let name = c.in-Simple.name.now in
     let is = subst (λ (t : Text). IsReference t (simple name)) c.from.ensures c.in-Simple.ensures in
     may_name r s p name (value_may r s p c.args.text.now (simple name) c.requires.value is)
+
+pub enable-requires-clause-step : goal.enable-requires-clause-step
+enable-requires-clause-step c lists =
+    let r = resolved_view c.args.basis.now.lookup.now in
+    let s = c.args.basis.now.setting.now in
+    let p = id_of c.args.parts.now.parent.now in
+    let name = c.in-Simple.name.now in
+    let trace = c.args.found.now.trace.items in
+    let is = subst (λ (t : Text). IsReference t (simple name)) c.from.ensures c.in-Simple.ensures in
+    for_reason r s trace _ _ (Feature p name) c.by_one-reason.ensures (finds_named r s trace c.args.step p name (referring_step r trace c.args.step p c.args.text.now (simple name) c.requires.step is) lists)
+
+pub ask-requires-clause-step : goal.ask-requires-clause-step
+ask-requires-clause-step c =
+    let r = resolved_view c.args.basis.now.lookup.now in
+    let reference = krate c.in-Krate.krate.now in
+    let is = subst (λ (t : Text). IsReference t reference) c.from.ensures c.in-Krate.ensures in
+    record { reference = reference; has = referring_step r c.args.found.now.trace.items c.args.step (id_of c.args.parts.now.parent.now) c.args.text.now reference c.requires.step is; asks = refl }
+
+pub toggle_strongly-requires-clause-step : goal.toggle_strongly-requires-clause-step
+toggle_strongly-requires-clause-step c =
+    let r = resolved_view c.args.basis.now.lookup.now in
+    let reference = strong c.in-Strong.krate.now c.in-Strong.feature.now in
+    let is = subst (λ (t : Text). IsReference t reference) c.from.ensures c.in-Strong.ensures in
+    referring_step r c.args.found.now.trace.items c.args.step (id_of c.args.parts.now.parent.now) c.args.text.now reference c.requires.step is
+
+pub wait-requires-clause-step : goal.wait-requires-clause-step
+wait-requires-clause-step c =
+    let r = resolved_view c.args.basis.now.lookup.now in
+    let reference = weak c.in-Weak.krate.now c.in-Weak.feature.now in
+    let is = subst (λ (t : Text). IsReference t reference) c.from.ensures c.in-Weak.ensures in
+    referring_step r c.args.found.now.trace.items c.args.step (id_of c.args.parts.now.parent.now) c.args.text.now reference c.requires.step is
 
 pub returns-in-Simple-clause-followed : goal.returns-in-Simple-clause-followed
 returns-in-Simple-clause-followed c =

@@ -4,13 +4,14 @@ use Rattle.krates_cm.specs.Document.{Text, text_view}
 use Rattle.krates_text.specs.FeatureReference.{Reference, IsReference}
 use Rattle.krates_rules.specs.Facts.{Id, Crate, Feature}
 use Rattle.krates_resolve.specs.Found.{IsFollowed, IsHeeded, IsValueOfEnabled}
-use Rattle.krates_resolve.specs.Lookup.{resolved_view}
-use Rattle.krates_resolve.specs.Numbering.{FeatureAt}
+use Rattle.krates_resolve.specs.Heeding.{IsValueStep}
+use Rattle.krates_questions.specs.Lookup.{resolved_view}
+use Rattle.krates_questions.specs.Numbering.{FeatureAt}
 use Rattle.krates_resolve.specs.Work.{HasReferences}
 use Rattle.krates_rules.specs.Resolved.{id_of}
 use Rattle.krates_resolve.proofs.Growing.{advances_refl, advances_trans, followed_grows}
-use Rattle.krates_resolve.proofs.FeatureNumbers.{listed_place}
-use Rattle.krates_resolve.proofs.Heedings.{listed_here, listed_found, one_feature, value_at, value_of_enabled, heeded_here, references_here}
+use Rattle.krates_questions.proofs.FeatureNumbers.{listed_place}
+use Rattle.krates_resolve.proofs.Heedings.{listed_here, listed_found, one_feature, value_at, value_of_enabled, value_of_step, heeded_here, references_here}
 use Rattle.krates_document.proofs.Seen.{seen_more, each_seen}
 use Rattle.krates_resolve.proofs.heeding.heed.Goals as goal
 
@@ -52,6 +53,22 @@ follow-requires-clause-value c =
     let among = value_at texts c.loop-text.text-index c.text-item.result c.loop-text-test.true c.text-item.is in
     subst (λ (t : Text). IsValueOfEnabled r s i t) (sym c.as_str.ensures.value)
     (value_of_enabled r s i f (map text_view texts) (string_bytes c.text-item.result) (c.requires.sound.derivable (Feature i f) enabled) c.feature_values-values.ensures.values among)
+
+pub follow-requires-clause-step : goal.follow-requires-clause-step
+follow-requires-clause-step c =
+    let r = resolved_view c.args.basis.now.lookup.now in
+    let x = c.args.found.now in
+    let trace = c.loop-text.found.trace.items in
+    let feature = c.index-feature.result.now in
+    let f = feature.name.now in
+    let i = id_of c.parts_of-parts.result.parent.now in
+    let at = listed_here c.args.basis.now.lookup.now c.args.basis.now.setting.now x c.args.taken c.number.result feature c.requires.lookup c.requires.sound c.requires.within c.number.ensures c.index-feature.ensures in
+    let numbered : FeatureAt r i f c.number.result = record { place = feature.place; at = at; node = c.parts_of-parts.ensures.at } in
+    let here = c.requires.step i f (subst (λ (n : ℕ). FeatureAt r i f n) c.number.ensures numbered) in
+    let texts = c.feature_values-values.result.now in
+    let among = value_at texts c.loop-text.text-index c.text-item.result c.loop-text-test.true c.text-item.is in
+    subst (λ (t : Text). IsValueStep r trace c.args.step i t) (sym c.as_str.ensures.value)
+    (value_of_step r trace c.args.step i f (map text_view texts) (string_bytes c.text-item.result) (c.loop-text.invariant.0.grows.steps c.args.step (Feature i f) here) c.feature_values-values.ensures.values among)
 
 pub loop-text-preserved : goal.loop-text-preserved
 loop-text-preserved c =

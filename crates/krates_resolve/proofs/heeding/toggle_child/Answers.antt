@@ -2,7 +2,7 @@ use Rattle.std.proofs.Common.{get_or, subst}
 use Rattle.std.proofs.lemmas.Result.{on_ok_weaker}
 use Rattle.krates_rules.specs.Facts.{Id}
 use Rattle.krates_resolve.specs.Found.{IsToggledIn}
-use Rattle.krates_resolve.specs.Lookup.{resolved_view}
+use Rattle.krates_questions.specs.Lookup.{resolved_view}
 use Rattle.krates_rules.specs.Resolved.{id_of}
 use Rattle.krates_resolve.proofs.Heedings.{child_dep, found_node}
 use Rattle.krates_resolve.proofs.Waking.{one_way}
@@ -31,6 +31,17 @@ toggle-requires-clause-may c =
     let child = id_of (get_or parts.children.now c.args.index c.index-parts-index.result) in
     c.requires.may child (child_dep r parts c.args.index c.index-parts-index.result c.requires.parts c.requires.within)
 
+pub toggle-requires-clause-by : goal.toggle-requires-clause-by
+toggle-requires-clause-by c =
+    (child_dep (resolved_view c.args.basis.now.lookup.now) c.args.parts.now c.args.index c.index-parts-index.result c.requires.parts c.requires.within).node
+
+pub toggle-requires-clause-step : goal.toggle-requires-clause-step
+toggle-requires-clause-step c lists =
+    let r = resolved_view c.args.basis.now.lookup.now in
+    let parts = c.args.parts.now in
+    let child = id_of (get_or parts.children.now c.args.index c.index-parts-index.result) in
+    c.requires.step child (child_dep r parts c.args.index c.index-parts-index.result c.requires.parts c.requires.within) lists
+
 pub returns-clause-toggled : goal.returns-clause-toggled
 returns-clause-toggled c =
     let r = resolved_view c.args.basis.now.lookup.now in
@@ -39,5 +50,5 @@ returns-clause-toggled c =
     let child = id_of (get_or parts.children.now c.args.index c.index-parts-index.result) in
     let dep = child_dep r parts c.args.index c.index-parts-index.result c.requires.parts c.requires.within in
     on_ok_weaker c.toggle.result (λ toggled other there.
-    subst (λ (i : Id). IsToggledIn r c.toggle.new.found parent i c.args.feature.now) (one_way c.one_reading.ensures.once r parent child parent other parts.place c.args.index dep there).1 toggled)
+    subst (λ (i : Id). IsToggledIn r c.toggle.new.found parent i c.args.feature.name.now) (one_way c.one_reading.ensures.once r parent child parent other parts.place c.args.index dep there).1 toggled)
     c.toggle.ensures.toggled

@@ -5,16 +5,19 @@ use Rattle.krates_cm.specs.declared.metadata.Metadata.{Metadata}
 use Rattle.krates_cm.specs.declared.resolve.Resolve.{Resolve}
 use Rattle.krates_ids.specs.Identity.{Identity}
 use Rattle.krates_rules.specs.Admission.{NoneDoubled}
+use Rattle.krates_rules.specs.Derivation.{Derivable}
 use Rattle.krates_rules.specs.Facts.{Id, Feature}
+use Rattle.krates_rules.specs.Questions.{questions}
+use Rattle.krates_resolve.specs.Trace.{HasSomeStep, IsTrace}
 use Rattle.krates_resolve.specs.Found.{HaveNumbers, IsEnabled}
-use Rattle.krates_resolve.specs.ListedFeatures.{listed_features}
-use Rattle.krates_resolve.specs.Lookup.{resolved_view}
+use Rattle.krates_questions.specs.ListedFeatures.{listed_features}
+use Rattle.krates_questions.specs.Lookup.{resolved_view}
 use Rattle.krates_rules.specs.Resolved.{Resolved, resolved}
 use Rattle.krates_resolve.specs.Selection.{IsSelection, feature_fact}
 use Rattle.krates_document.specs.declared.ids.Ids.{Ids}
 use Rattle.krates_resolve.specs.declared.selection.Selection.{Selection}
 use Rattle.krates_resolve.proofs.CountedSelection.{AreMoved, IsCountedWhole, counts_each}
-use Rattle.krates_resolve.proofs.NodeParts.{nodes_long}
+use Rattle.krates_questions.proofs.NodeParts.{nodes_long}
 use Rattle.krates_resolve.proofs.Selected.{AreAt, IsWhole, IsInOrder, has_element, selected}
 use Rattle.krates_resolve.proofs.resolution.select.Goals as goal
 
@@ -52,7 +55,7 @@ returns-clause-selected c =
     let ids = look.ids.now.nodes.items in
     let kids = c.in_ok-kids_at.field-0.items in
     let enabled = c.in_ok-features_at.field-0.items in
-    let x : Selection = record { krates = c.in_ok-krates.krates; edges = c.in_ok-in_order.field-0; features = c.in_ok-features.features; toggled = c.in_ok-in_order-2.field-0; work = c.saturate.new.work } in
+    let x : Selection = record { krates = c.in_ok-krates.krates; edges = c.in_ok-in_order.field-0; features = c.in_ok-features.features; toggled = c.in_ok-in_order-2.field-0; steps = found.trace; work = c.saturate.new.work } in
     let nodes : c.deref.result.now ≡ ids = c.deref.ensures.value ∙ ap (λ (i : Ids). i.nodes.items) (sym of.2) in
     let at_nodes = subst (λ (is : List Identity). AreAt is c.numbers-2.result.now kids) nodes c.in_ok-kids_at.ensures in
     let features_there = subst (λ (ns : List ℕ). (i : Id) (f : Text) → IsEnabled r ns i f ↔ Contains (map feature_fact enabled) (Feature i f)) c.numbers-3.ensures.put c.in_ok-features_at.ensures.each in
@@ -91,3 +94,29 @@ returns-clause-selected c =
     let here = selected c.one_reading.ensures.once c.comparison.ensures.equality r s ids found kids enabled x whole order counts in
     let same : r ≡ resolved m g = ap (λ (d : Metadata). resolved (metadata_view d) (resolve_view look.resolve.now)) of.0 ∙ ap (λ (d : Resolve). resolved m (resolve_view d)) of.1 in
     record { graph = g; has_graph = ap (option_map resolve_view) c.in-Some.is; holds = subst (λ (r : Resolved). IsSelection r s x) same here }
+
+pub returns-clause-explained : goal.returns-clause-explained
+returns-clause-explained c =
+    let s = c.args.setting.now in
+    let look = c.in_ok-lookup.lookup in
+    let r = resolved_view look in
+    let of = c.in_ok-lookup.ensures.of_these in
+    let m = metadata_view c.args.metadata.now in
+    let g = resolve_view c.in-Some.resolve in
+    let found = c.in_ok-found.found in
+    let exact = c.in_ok-found.ensures.exact in
+    let sound = c.in_ok-found.ensures.sound in
+    let chosen = returns-clause-selected c in
+    let graph = same_Some g chosen.graph (sym (ap (option_map resolve_view) c.in-Some.is) ∙ chosen.has_graph) in
+    let same : r ≡ resolved m chosen.graph =
+    ap (λ (d : Metadata). resolved (metadata_view d) (resolve_view look.resolve.now)) of.0 ∙ ap (λ (d : Resolve). resolved m (resolve_view d)) of.1 ∙ ap (resolved m) graph in
+    record {
+      graph = chosen.graph;
+      has_graph = chosen.has_graph;
+      holds = record {
+        trace = subst (λ (q : Resolved). IsTrace q s found.trace.items) same sound.trace;
+        stepped = λ f among.
+            let derived = subst (λ (q : Resolved). Derivable (questions q s) f) (sym same) ((chosen.holds.facts f).1 among) in
+            subst (λ (q : Resolved). HasSomeStep q found.trace.items f) same (sound.stepped f ((exact f).0 derived));
+      };
+    }

@@ -2,11 +2,13 @@ use Rattle.std.proofs.Common.{Contains, String, Global, map, sym, subst, arith, 
 use Rattle.krates_cm.specs.Document.{Text, text_view}
 use Rattle.krates_rules.specs.Facts.{Crate, Feature}
 use Rattle.krates_resolve.specs.Found.{HasFound, IsEnabledBySome, MayName}
-use Rattle.krates_resolve.specs.Lookup.{resolved_view}
+use Rattle.krates_questions.specs.Lookup.{resolved_view}
 use Rattle.krates_rules.specs.Resolved.{id_of}
+use Rattle.krates_resolve.proofs.Finding.{finds_root_feature, for_reason}
 use Rattle.krates_resolve.proofs.Growing.{advances_refl, advances_trans}
 use Rattle.krates_resolve.proofs.Heedings.{value_at}
-use Rattle.krates_resolve.proofs.RootLemmas.{listed_names, listed_may}
+use Rattle.krates_questions.proofs.RootLemmas.{listed_names}
+use Rattle.krates_resolve.proofs.Rooted.{listed_may}
 use Rattle.krates_document.proofs.Seen.{seen_more, each_seen}
 use Rattle.krates_resolve.proofs.roots.enable_listed.Goals as goal
 
@@ -29,6 +31,15 @@ enable-requires-clause-may c =
     let names = listed_names c.args.basis.now.lookup.now i c.args.node.place c.index.result.now c.requires.lookup c.requires.node c.index.ensures f in
     let among = subst (λ ts. Contains (map text_view ts) f) c.deref-name-items.ensures.value (value_at texts c.loop-name.name-index c.name-item.result c.loop-name-test.true c.name-item.is) in
     subst (λ (t : Text). MayName r s i t) (sym c.as_str.ensures.value) (listed_may r s i f c.requires.lookup.distinct (names.1 among) (c.requires.may f))
+
+pub enable-requires-clause-step : goal.enable-requires-clause-step
+enable-requires-clause-step c lists =
+    let r = resolved_view c.args.basis.now.lookup.now in
+    let s = c.args.basis.now.setting.now in
+    let i = id_of c.args.node.id.now in
+    let f = c.as_str.result.now in
+    let trace = c.loop-name.found.trace.items in
+    for_reason r s trace _ _ (Feature i f) c.by_nothing.ensures (finds_root_feature r s trace i f c.requires.root.0 c.requires.root.1 lists)
 
 pub loop-name-preserved : goal.loop-name-preserved
 loop-name-preserved c =

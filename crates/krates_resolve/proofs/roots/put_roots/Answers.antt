@@ -2,10 +2,11 @@ use Rattle.std.proofs.Common.{List, All, true, false, sym, subst}
 use Rattle.std.proofs.lemmas.Result.{on_ok_weaker}
 use Rattle.krates_ids.specs.Identity.{Identity}
 use Rattle.krates_resolve.specs.Found.{IsRooted}
-use Rattle.krates_resolve.specs.Lookup.{resolved_view}
+use Rattle.krates_questions.specs.Lookup.{resolved_view}
 use Rattle.krates_rules.specs.Resolved.{id_of, IsMember}
 use Rattle.krates_rules.specs.Roots.{IsRoot}
-use Rattle.krates_resolve.proofs.RootLemmas.{are_members, members_rooted}
+use Rattle.krates_questions.proofs.RootLemmas.{are_members}
+use Rattle.krates_resolve.proofs.Rooted.{members_rooted}
 use Rattle.krates_resolve.proofs.roots.put_roots.Goals as goal
 
 pub put_members-requires-clause-members : goal.put_members-requires-clause-members

@@ -2,8 +2,8 @@ use Rattle.std.proofs.Common.{ℕ, List, length, sym, ap, ◌∙◌}
 use Rattle.std.proofs.lemmas.List.{length-map}
 use Rattle.krates_cm.specs.Document.{Text, node_view}
 use Rattle.krates_graph.specs.Agenda.{PutNumbers}
-use Rattle.krates_resolve.specs.FeatureTable.{listed_view}
-use Rattle.krates_resolve.specs.Lookup.{resolved_view}
+use Rattle.krates_questions.specs.FeatureTable.{listed_view}
+use Rattle.krates_questions.specs.Lookup.{resolved_view}
 use Rattle.krates_resolve.proofs.Saturated.{saturated, sound_start, done_start}
 use Rattle.krates_resolve.proofs.Counted.{counted_end, counted_start}
 use Rattle.krates_resolve.proofs.saturation.saturate.Goals as goal
@@ -18,7 +18,7 @@ put_roots-requires-clause-sound c =
     let krates_size = ap (λ (a : PutNumbers). a.size) krates ∙ c.len.ensures ∙ nodes.ok.0 ∙ sym (length-map nodes.items node_view) in
     let features_size = ap (λ (a : PutNumbers). a.size) features ∙ c.len-2.ensures ∙ listed.ok.0 ∙ sym (length-map listed.items listed_view) ∙ ap (λ (fs : List (ℕ × Text)). length fs) c.requires.lookup.features in
     sound_start (resolved_view look) c.args.setting.now _ krates_size features_size c.in_ok-links_of.ensures.has c.in_ok-links_of.ensures.new
-    (record { krates = ap (λ (a : PutNumbers). a.put) krates; features = ap (λ (a : PutNumbers). a.put) features; edges = c.new-3.ensures.items; toggled = c.new-4.ensures.items })
+    (record { krates = ap (λ (a : PutNumbers). a.put) krates; features = ap (λ (a : PutNumbers). a.put) features; edges = c.new-3.ensures.items; toggled = c.new-4.ensures.items; trace = c.new-5.ensures.items; krate_steps = c.new-6.ensures.items; feature_steps = c.new-7.ensures.items })
 
 pub loop-found-init : goal.loop-found-init
 loop-found-init c =

@@ -1,8 +1,11 @@
-use Rattle.std.proofs.Common.{◌+◌, ◌≤◌, length, refl, sym, ◌∙◌, subst, arith}
-use Rattle.krates_resolve.specs.Found.{IsSound, Advances}
-use Rattle.krates_resolve.specs.Lookup.{resolved_view}
+use Rattle.std.proofs.Common.{◌≡◌, ◌+◌, ◌-◌, ◌≤◌, length, refl, sym, ap, ◌∙◌, subst, arith}
+use Rattle.krates_graph.specs.Agenda.{PutNumbers}
+use Rattle.krates_questions.proofs.NodeParts.{within_vec}
+use Rattle.krates_resolve.specs.Found.{IsSound, Advances, IsFeatureStep, IsKrateStep}
+use Rattle.krates_questions.specs.Lookup.{resolved_view}
 use Rattle.krates_resolve.specs.Saturation.{AreDone}
 use Rattle.krates_resolve.specs.declared.found.Found.{Found}
+use Rattle.krates_resolve.proofs.TakenSteps.{taken_step, taken_within}
 use Rattle.krates_resolve.proofs.Taken.{sound_taken, taken_put, taken_below, has_room, unchanged, same_agendas, crate_done, feature_done, none_done}
 use Rattle.krates_resolve.specs.Counting.{AreCounted}
 use Rattle.krates_resolve.proofs.Counted.{crate_counted, feature_counted}
@@ -115,3 +118,32 @@ returns-clause-counted c =
     let counts = c.count_feature.ensures in
     feature_counted r x z c.args.work.now c.count_feature.new.self c.in-Some-take.taken c.in_ok-references.references c.requires.counted step.grows c.requires.done.features_within (sym c.take-2.ensures.first ∙ c.in-Some-take.is)
     c.in_ok-references.ensures.counted counts.same counts.features counts.references
+
+pub index-step-requires : goal.index-step-requires
+index-step-requires c =
+    let r = resolved_view c.args.basis.now.lookup.now in
+    let x = c.args.found.now in
+    let same : c.taken.result - 1 ≡ x.krates.taken = omega (arith, c.taken.ensures.count, ap (λ (a : PutNumbers). a.taken) c.in-Some.ensures.counted) in
+    within_vec x.krate_steps (c.taken.result - 1) (taken_within (IsKrateStep r x.trace.items) x.krates.put x.krate_steps.items x.krates.taken c.in-Some.taken (c.taken.result - 1) c.requires.done.sound.numbered.krates (sym c.take.ensures.first ∙ c.in-Some.is) same)
+
+pub expand-requires-clause-step : goal.expand-requires-clause-step
+expand-requires-clause-step c =
+    let r = resolved_view c.args.basis.now.lookup.now in
+    let x = c.args.found.now in
+    let same : c.taken.result - 1 ≡ x.krates.taken = omega (arith, c.taken.ensures.count, ap (λ (a : PutNumbers). a.taken) c.in-Some.ensures.counted) in
+    taken_step (IsKrateStep r x.trace.items) x.krates.put x.krate_steps.items x.krates.taken c.in-Some.taken (c.taken.result - 1) c.index-step.result.now c.requires.done.sound.numbered.krates (sym c.take.ensures.first ∙ c.in-Some.is) same c.index-step.ensures
+
+pub index-step-requires-2 : goal.index-step-requires-2
+index-step-requires-2 c =
+    let r = resolved_view c.args.basis.now.lookup.now in
+    let x = c.args.found.now in
+    let same : c.taken-2.result - 1 ≡ x.features.taken = omega (arith, c.taken-2.ensures.count, ap (λ (a : PutNumbers). a.taken) c.in-Some-take.ensures.counted) in
+    within_vec x.feature_steps (c.taken-2.result - 1)
+    (taken_within (IsFeatureStep r x.trace.items) x.features.put x.feature_steps.items x.features.taken c.in-Some-take.taken (c.taken-2.result - 1) c.requires.done.sound.numbered.features (sym c.take-2.ensures.first ∙ c.in-Some-take.is) same)
+
+pub heed-requires-clause-step : goal.heed-requires-clause-step
+heed-requires-clause-step c =
+    let r = resolved_view c.args.basis.now.lookup.now in
+    let x = c.args.found.now in
+    let same : c.taken-2.result - 1 ≡ x.features.taken = omega (arith, c.taken-2.ensures.count, ap (λ (a : PutNumbers). a.taken) c.in-Some-take.ensures.counted) in
+    taken_step (IsFeatureStep r x.trace.items) x.features.put x.feature_steps.items x.features.taken c.in-Some-take.taken (c.taken-2.result - 1) c.index-step-2.result.now c.requires.done.sound.numbered.features (sym c.take-2.ensures.first ∙ c.in-Some-take.is) same c.index-step-2.ensures

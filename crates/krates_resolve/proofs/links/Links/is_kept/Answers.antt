@@ -1,12 +1,9 @@
-use Rattle.std.proofs.Common.{ap, ◌∙◌}
-use Rattle.krates_resolve.specs.declared.links.Link.{Link}
-use Rattle.krates_resolve.proofs.LinkLemmas.{link_read, one_link}
+use Rattle.std.proofs.Common.{Bool, ◌↔◌, sym, subst}
+use Rattle.std.specs.Bool.{IsTrue}
+use Rattle.krates_resolve.proofs.LinkLemmas.{is_marked}
+use Rattle.krates_resolve.specs.Links.{IsMarked}
 use Rattle.krates_resolve.proofs.links.Links.is_kept.Goals as goal
 
 pub returns : goal.returns
 returns c =
-    let link = c.index-2.result.now in
-    let at = link_read c.args.self.now c.args.place c.args.index c.index.result.now link c.requires c.index.ensures c.index-2.ensures in (
-      λ kept. record { link = link; at = at; is_kept = kept },
-      λ m. ap (λ (l : Link). l.is_kept) (one_link c.args.self.now c.args.place c.args.index link m.link at m.at) ∙ m.is_kept,
-    )
+    subst (λ (b : Bool). IsTrue b ↔ IsMarked c.args.self.now c.args.place c.args.index) (sym c.is_some.ensures) (is_marked c.args.self.now c.args.place c.args.index c.kept.result c.kept.ensures)

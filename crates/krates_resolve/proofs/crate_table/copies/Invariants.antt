@@ -1,7 +1,0 @@
-use Rattle.std.proofs.Common.{◌≡◌, take}
-use Rattle.krates_resolve.specs.CrateTable.{lent_to}
-use Rattle.krates_resolve.proofs.crate_table.copies.Given as goal
-
--- the ids so far
-abbrev pub invariant-loop-id : goal.invariant-loop-id
-invariant-loop-id l = l.kids.items ≡ lent_to (take l.id-index l.ids)

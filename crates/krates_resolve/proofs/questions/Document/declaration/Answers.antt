@@ -1,4 +1,0 @@
-use Rattle.krates_resolve.proofs.questions.Document.declaration.Goals as goal
-
-pub returns : goal.returns
-returns c = rw (← c.self.view_is) c.declaration_in.ensures

@@ -1,4 +1,0 @@
-use Rattle.krates_resolve.proofs.questions.Document.node_of.Goals as goal
-
-pub returns : goal.returns
-returns c = rw (← c.self.view_is) c.node_in.ensures
