@@ -1,21 +1,22 @@
 -- What a document gives from single facts, and when all of it stands in a list.
 use Rattle.std.proofs.Common.{◌≡◌, ◌↔◌, List, [], ◌∷◌, Bool, true, false, IsTrue, Contains, inl, inr, refl, sym, subst}
 use Rattle.krates_cm.specs.Document.{Text, DependencyModel, DepKindInfoModel}
-use Rattle.krates_derive.specs.Giving.{NamedIn, ToggledIn, IsTaken, ChildIn, EdgeIn, RootsIn, CrateIn, FeatureIn, KeptIn, FactIn, ValueIn, DepIn}
+use Rattle.krates_derive.specs.Giving.{AskedAmongIn, AskedByIn, AskedIn, EdgesToIn, NamedIn, ToggledIn, IsTaken, ChildIn, EdgeIn, RootsIn, CrateIn, FeatureIn, KeptIn, FactIn, ValueIn, DepIn}
 use Rattle.krates_derive.specs.Referring.{Asks, toggling}
-use Rattle.krates_derive.proofs.ReferenceForms.{one_form}
+use Rattle.krates_derive.proofs.ReferenceForms.{asks_nothing, one_form}
 use Rattle.krates_text.specs.FeatureReference.{Reference, IsReference, HasOneReading, krate, strong, weak, simple}
 use Rattle.krates_rules.specs.Facts.{Id, Edge, Fact, Cause, Crate, Feature, Kept, Toggled, Lost}
 use Rattle.krates_rules.specs.Features.{HasReference}
-use Rattle.krates_resolve.specs.FeatureValues.{AreValuesOf}
+use Rattle.krates_questions.specs.FeatureValues.{AreValuesOf}
 use Rattle.krates_rules.specs.Derivation.{Among, IsClosed}
 use Rattle.krates_rules.specs.Referent.{IsReferent}
+use Rattle.krates_rules.specs.References.{Demands}
 use Rattle.krates_rules.specs.Rules.{IsAskedFor, root_crate, root_feature, lost_root_package, lost_root_node, feature_crate, named, lost_named, asked, toggled_strongly, lost_asked_package, lost_asked_node, lost_toggled_strongly, required, target, lost_undeclared, lost_required_package, lost_required_node, declared, by_default, lost_declared, toggled_weakly, toggled_feature, lost_toggled_weakly}
 use Rattle.krates_derive.specs.Told.{facts_view, fact_view}
 use Rattle.krates_derive.specs.declared.derivation.Fact.{Fact as ToldFact}
 use Rattle.krates_derive.specs.declared.derivation.Fact.TheVariants as told
 use Rattle.krates_derive.proofs.Places.{seen_at, place_in}
-use Rattle.krates_resolve.specs.Need.{IsWantedAs, NotWanted, ListsKind, HasChild}
+use Rattle.krates_questions.specs.Need.{IsWantedAs, NotWanted, ListsKind, HasChild}
 use Rattle.krates_rules.specs.Questions.{edge_between, Stands, IsLoose, questions}
 use Rattle.krates_rules.specs.Resolved.{Resolved}
 use Rattle.krates_rules.specs.Setting.{SettingModel}
@@ -54,8 +55,8 @@ edge_left r s fs e ask d w other = record {
 -- only an edge that is listed gives something
 pub edge_listed : (r : Resolved) (s : SettingModel) (fs : List Fact) (p c : Id) (k : DepKindInfoModel) (ask : Bool) → (ListsKind r p c k → EdgeIn r s fs (edge_between p c k) ask) → EdgeIn r s fs (edge_between p c k) ask
 edge_listed r s fs p c k ask h = record {
-  child = λ d w t. (h (record { dep = w.declared.dep; lists = w.declared.listed.lists })).child d w t;
-  declared = λ is l. (h (record { dep = l.dep; lists = l.listed.lists })).declared is l;
+  child = λ d w t. (h (record { dep = w.declared.declares.dep; lists = w.declared.declares.lists })).child d w t;
+  declared = λ is l. (h (record { dep = l.dep; lists = l.lists })).declared is l;
 }
 
 -- and only one to a crate that its parent's node has as a dependency
@@ -131,6 +132,33 @@ values_in r fs p f values are = (
     named = λ g is. h.0 g ((are (simple g)).1 (record { text = text; among = among; is = is }));
     toggled = λ weakly dep g is. h.1 weakly dep g ((are (toggling weakly dep g)).1 (record { text = text; among = among; is = is }));
   },
+)
+
+-- a reference that asks for what it names
+pub asked_told : {text : Text} → HasOneReading text → (r : Resolved) (s : SettingModel) (fs : List Fact) (p : Id) (a : Reference) (dep : Text) (b : Bool) → IsReference text a → Demands a dep
+    → ((other : Text) → Demands a other → other ≡ dep) → (IsTrue b ↔ EdgesToIn r s fs p dep) → IsTrue b ↔ AskedByIn r s fs p text
+asked_told {text} h r s fs p a dep b x asks only told = (
+  λ t c by. (
+      let same : by.reference ≡ a = one_form h by.reference a by.is x in
+      told.0 t c (subst (λ d. IsReferent r p d c) (only by.dep (subst (λ z. Demands z by.dep) same by.asks)) by.referent)),
+  λ all. told.1 (λ c means. all c (record { reference = a; is = x; dep = dep; asks = asks; referent = means })),
+)
+
+-- or for nothing
+pub asked_nothing : {text : Text} → HasOneReading text → (r : Resolved) (s : SettingModel) (fs : List Fact) (p : Id) (a : Reference) → IsReference text a → ((dep : Text) → Demands a dep → ⊥) → AskedByIn r s fs p text
+asked_nothing {text} h r s fs p a x none c by = absurd (asks_nothing h r p c a x none by)
+
+-- each text among the values, and so the feature
+pub asked_in : (r : Resolved) (s : SettingModel) (fs : List Fact) (p : Id) (f : Text) (values : List Text) → AreValuesOf r p f values → AskedAmongIn r s fs p values ↔ AskedIn r s fs p f
+asked_in r s fs p f values are = (
+  λ h c asks k. (let a = (are asks.reference).0 asks.refers in h a.text a.among c (record { reference = asks.reference; is = a.is; dep = asks.dep; asks = asks.asks; referent = asks.referent }) k),
+  λ h text among c by k. h c (record {
+    reference = by.reference;
+    dep = by.dep;
+    refers = (are by.reference).1 (record { text = text; among = among; is = by.is });
+    asks = by.asks;
+    referent = by.referent;
+  }) k,
 )
 
 -- ---- lists that are closed

@@ -1,6 +1,7 @@
-pub mod ChangedSoFar
 pub mod Checked
 pub mod Givings
+pub mod KeyOrder
+pub mod KeyedFacts
 pub mod Places
 pub mod ReferenceForms
 pub mod Rows

@@ -1,14 +1,15 @@
 -- What is said of the document that is looked at, where there is an index and where there is none.
-use Rattle.std.proofs.Common.{List, [], ◌∷◌, Option, map}
-use Rattle.std.specs.List.{AllZip}
-use Rattle.krates_cm.specs.Document.{MetadataModel, package_view}
-use Rattle.krates_cm.specs.declared.package.Package.{Package}
+use Rattle.std.proofs.Common.{Option}
+use Rattle.krates_cm.specs.Document.{MetadataModel, metadata_view}
+use Rattle.krates_cm.specs.declared.metadata.Metadata.{Metadata}
+use Rattle.krates_ids.specs.Correction.{IndexModel, index_view}
+use Rattle.krates_ids.specs.declared.index.IndexAnswer.{IndexAnswer}
+use Rattle.krates_document.specs.CorrectedDocument.{IsCorrectedDocument}
+use Rattle.krates_document.proofs.CorrectedDocument.{views_corrected, rest_kept}
 use Rattle.krates_derive.specs.Refusals.{IsRefusedThrough}
-use Rattle.krates_derive.specs.SeenThrough.{IsCorrectedPackage, IsSeenThrough, SeesThrough}
+use Rattle.krates_derive.specs.SeenThrough.{IsCorrectedBy, IsSeenThrough, SeesThrough}
 use Rattle.krates_derive.specs.declared.derivation.CheckError.{CheckError}
 use Rattle.krates_derive.specs.declared.derivation.CheckError.TheVariants as refusals
-use Rattle.krates_ids.specs.Correction.{IndexModel, IsCorrected, index_view}
-use Rattle.krates_ids.specs.declared.index.IndexAnswer.{IndexAnswer}
 
 pub sees : (index : Option IndexModel) (m seen : MetadataModel) (P : MetadataModel → Type 0) → IsSeenThrough index m seen → P seen → SeesThrough index m P
 sees index m seen P is h = record { seen = seen; is_seen = is; holds = h }
@@ -21,10 +22,6 @@ refused_through index m seen R (refusals.Step number) is h = sees index m seen (
 refused_through index m seen R refusals.Memory is h = tt
 refused_through index m seen R refusals.Open is h = sees index m seen (λ x. R x refusals.Open) is h
 
--- ---- a document that is corrected
-
-pub views_zip : (answer : IndexAnswer) (xs ys : List Package) → AllZip (IsCorrectedPackage answer) xs ys → AllZip (IsCorrected (index_view answer)) (map package_view xs) (map package_view ys)
-views_zip answer [] [] z = tt
-views_zip answer [] (y ∷ ys) z = absurd z
-views_zip answer (x ∷ xs) [] z = absurd z
-views_zip answer (x ∷ xs) (y ∷ ys) z = (z.0.corrected, views_zip answer xs ys z.1)
+-- a document whose packages are corrected is corrected as it is read
+pub corrected_by : (answer : IndexAnswer) (m p : Metadata) → IsCorrectedDocument answer m p → IsCorrectedBy (index_view answer) (metadata_view m) (metadata_view p)
+corrected_by answer m p h = record { packages = views_corrected answer m p h; nothing_else = rest_kept answer m p h }

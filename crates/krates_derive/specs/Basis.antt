@@ -1,6 +1,6 @@
 -- What a check goes by.
 use Rattle.krates_derive.specs.declared.basis.Basis.{Basis}
-use Rattle.krates_resolve.specs.DocumentModel.{as_resolved}
+use Rattle.krates_questions.specs.DocumentModel.{as_resolved}
 use Rattle.krates_rules.specs.Questions.{questions}
 use Rattle.krates_rules.specs.Resolved.{Resolved}
 use Rattle.krates_rules.specs.Rules.{Questions}

@@ -1,8 +1,8 @@
 -- What the check of a list of facts goes by.
 use Rattle.std.specs.Prelude.{List}
-use Rattle.krates_derive.specs.FactSet.{facts_of}
+use Rattle.krates_derive.specs.Told.{facts_view}
 use Rattle.krates_derive.specs.declared.closing.Claim.{Claim}
-use Rattle.krates_resolve.specs.DocumentModel.{as_resolved}
+use Rattle.krates_questions.specs.DocumentModel.{as_resolved}
 use Rattle.krates_rules.specs.Facts.{Fact}
 use Rattle.krates_rules.specs.Questions.{questions}
 use Rattle.krates_rules.specs.Resolved.{Resolved}
@@ -16,4 +16,4 @@ rules_in c = questions (document_in c) c.setting.now
 
 -- the list
 abbrev pub facts_in : Claim → List Fact
-facts_in c = facts_of c.facts.now
+facts_in c = facts_view c.facts.now

@@ -1,7 +1,7 @@
 -- What single facts give by one rule, and when all of it stands in a list.
 use Rattle.std.specs.Prelude.{◌≡◌, List, Bool, true, false, Contains, ⊤}
 use Rattle.krates_cm.specs.Document.{Text, DependencyModel, DepKindInfoModel}
-use Rattle.krates_derive.specs.Referring.{Asks, toggling}
+use Rattle.krates_derive.specs.Referring.{Asks, AsksBy, toggling}
 use Rattle.krates_rules.specs.Facts.{Id, Edge, Fact, Crate, Feature, Kept, Toggled}
 use Rattle.krates_rules.specs.Features.{ListsFeature, LacksFeature, HasReference}
 use Rattle.krates_rules.specs.Questions.{Stands, LacksNode, IsDeclaredAs, IsWanted, IsLoose, edge_between}
@@ -63,6 +63,14 @@ AskedOf r s fs p f c = Asks r p f c → (k : DepKindInfoModel) → EdgeIn r s fs
 abbrev pub AskedIn : Resolved → SettingModel → List Fact → Id → Text → Type 0
 AskedIn r s fs p f = (c : Id) → AskedOf r s fs p f c
 
+-- the edges to each crate that the name means are in the list
+abbrev pub EdgesToIn : Resolved → SettingModel → List Fact → Id → Text → Type 0
+EdgesToIn r s fs p dep = (c : Id) → IsReferent r p dep c → (k : DepKindInfoModel) → EdgeIn r s fs (edge_between p c k) true
+
+-- the edges that the reference of the crate asks for
+abbrev pub AskedByIn : Resolved → SettingModel → List Fact → Id → Text → Type 0
+AskedByIn r s fs p text = (c : Id) → AsksBy r p text c → (k : DepKindInfoModel) → EdgeIn r s fs (edge_between p c k) true
+
 -- the feature of the other crate is toggled, where the list has an edge there
 abbrev pub MeantIn : Resolved → List Fact → Id → Id → Text → Type 0
 MeantIn r fs p c g = (e : Edge) → Contains fs (Kept e) → e.parent ≡ p → e.child ≡ c → ToggledIn r fs p c g
@@ -111,7 +119,7 @@ FeaturesIn r fs i = (f : Text) → ListsFeature r i f → Contains fs (Feature i
 abbrev pub StockIn : Resolved → List Fact → Id → Type 0
 StockIn r fs i = Contains fs (Crate i) × FeaturesIn r fs i
 
--- the edges from one crate to another, for all purposes and targets
+-- the edges from one crate to another, of all kinds and for all targets
 abbrev pub EdgesIn : Resolved → SettingModel → List Fact → Id → Id → Bool → Type 0
 EdgesIn r s fs p c asked = (k : DepKindInfoModel) → EdgeIn r s fs (edge_between p c k) asked
 
@@ -126,6 +134,10 @@ NamesIn r fs c names = (g : Text) → Contains names g → NamedIn r fs c g
 -- what these references name or toggle
 abbrev pub ValuesIn : Resolved → List Fact → Id → List Text → Type 0
 ValuesIn r fs p texts = (text : Text) → Contains texts text → ValueIn r fs p text
+
+-- the edges that these references ask for
+abbrev pub AskedAmongIn : Resolved → SettingModel → List Fact → Id → List Text → Type 0
+AskedAmongIn r s fs p texts = (text : Text) → Contains texts text → AskedByIn r s fs p text
 
 -- what these facts give
 abbrev pub AllIn : Resolved → SettingModel → List Fact → List Fact → Type 0

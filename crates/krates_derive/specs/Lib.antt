@@ -1,5 +1,6 @@
 pub mod Basis
 pub mod Claim
+pub mod FactKey
 pub mod FactSet
 pub mod Following
 pub mod Giving

@@ -2,11 +2,9 @@
 use Rattle.std.specs.Prelude.{◌≡◌, Option, Some, None, option_map}
 use Rattle.std.specs.Borrow.{Bor}
 use Rattle.std.specs.List.{AllZip}
-use Rattle.krates_cm.specs.Document.{MetadataModel, package_view}
-use Rattle.krates_cm.specs.declared.package.Package.{Package}
+use Rattle.krates_cm.specs.Document.{MetadataModel}
 use Rattle.krates_ids.specs.Correction.{IndexModel, IsCorrected, index_view}
 use Rattle.krates_ids.specs.declared.correction.CachingIndex.{CachingIndex}
-use Rattle.krates_ids.specs.declared.index.IndexAnswer.{IndexAnswer}
 
 -- what the index answers that is handed in
 abbrev pub answer_of : Option (Bor CachingIndex) → Option IndexModel
@@ -27,8 +25,3 @@ pub record SeesThrough (index : Option IndexModel) (given : MetadataModel) (P : 
   pub seen : MetadataModel
   pub is_seen : IsSeenThrough index given seen
   pub holds : P seen
-
--- the package is corrected by this answer, and nothing of it but its features is changed
-pub record IsCorrectedPackage (answer : IndexAnswer) (before after : Package) : Type 0 where
-  pub corrected : IsCorrected (index_view answer) (package_view before) (package_view after)
-  pub nothing_else : after ≡ record before { features = after.features }

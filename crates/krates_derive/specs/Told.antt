@@ -6,6 +6,8 @@ use Rattle.krates_cm.specs.declared.dependency.DependencyKind.TheVariants as wri
 use Rattle.krates_derive.specs.declared.derivation.Fact.{Fact as ToldFact}
 use Rattle.krates_derive.specs.declared.derivation.Fact.TheVariants as told
 use Rattle.krates_derive.specs.declared.derivation.Step.{Step}
+use Rattle.krates_derive.specs.declared.told.Told.{Told}
+use Rattle.krates_derive.specs.declared.told.Told.TheVariants as lent
 use Rattle.krates_derive.specs.declared.told.ToldEdge.{ToldEdge}
 use Rattle.krates_derive.specs.declared.told.ToldFeature.{ToldFeature}
 use Rattle.krates_derive.specs.declared.told.ToldToggle.{ToldToggle}
@@ -15,7 +17,7 @@ use Rattle.krates_rules.specs.Steps.{StepModel}
 use Rattle.krates_rules.specs.declared.kind.DepKind.{DepKind}
 use Rattle.krates_rules.specs.declared.kind.DepKind.TheVariants as kinds
 
--- the purpose as the document writes it
+-- the kind as the document writes it
 abbrev pub written_of : DepKind → DependencyKind
 written_of kinds.Normal = written.Normal
 written_of kinds.Build = written.Build
@@ -55,3 +57,10 @@ told_feature f = Feature (id_of f.krate.now) f.name.now
 -- the fact that the feature is toggled
 abbrev pub told_toggle : ToldToggle → Fact
 told_toggle t = Toggled (id_of t.by.now) (id_of t.krate.now) t.name.now
+
+-- the fact whose parts are lent
+abbrev pub told_fact : Told → Fact
+told_fact (lent.Crate krate) = Crate (id_of krate.now)
+told_fact (lent.Feature feature) = told_feature feature
+told_fact (lent.Kept edge) = Kept (told_edge edge)
+told_fact (lent.Toggled toggle) = told_toggle toggle

@@ -1,7 +1,7 @@
 //! What a check goes by.
 
 use krates_document::Setting;
-use krates_resolve::Document;
+use krates_questions::Document;
 use std::alloc::Global;
 
 /// What a check goes by: a document and a setting.

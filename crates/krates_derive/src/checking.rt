@@ -20,7 +20,7 @@ use crate::seen_through::seen_through;
 use krates_cm::Metadata;
 use krates_document::{Ids, Setting, admit};
 use krates_ids::{CachingIndex, Error};
-use krates_resolve::Document;
+use krates_questions::Document;
 use std::alloc::{AllocError, Global};
 
 /// Checks a list of steps for a document and a setting: the document is admitted, there is a step, and each step follows by its
@@ -30,7 +30,7 @@ use std::alloc::{AllocError, Global};
 /// With an index each package is looked at as the index corrects it; the index isn't asked anything.
 ///
 /// It is refused as `Document`, `Empty` or `Step`, the first of these that applies; `Step` names the first step that doesn't
-/// follow. `Memory` may stand in place of any answer.
+/// follow. It may instead return `Memory`.
 ///
 /// Time: O((n + d) log d) for n steps and a document of d crates, features and dependencies, and for each step the
 /// dependencies of the node, and the references of the feature, that it speaks of.
@@ -58,9 +58,10 @@ pub fn check(
 ///
 /// With an index each package is looked at as the index corrects it; the index isn't asked anything.
 ///
-/// It is refused as `Document`, or else as `Open`. `Memory` may stand in place of any answer.
+/// It is refused as `Document`, or else as `Open`. It may instead return `Memory`.
 ///
-/// Time: O(n * n) for n facts, since the list is gone over for each fact that is looked for in it.
+/// Time: O((n + d) log (n + d)) for n facts and a document of d crates, features and dependencies, and for each fact the
+/// dependencies of its crate's node, as often as an edge of it is asked for.
 pub fn check_closed(
     alloc: Global,
     metadata: &Metadata,

@@ -7,22 +7,22 @@ ghost use Rattle.std.specs.Prelude.{◌↔◌, IfOk, IsTrue, map};
 ghost use Rattle.krates_cm.specs.Document.{dependency_view, text_view};
 ghost use Rattle.krates_derive.specs.Basis.{rules_of};
 ghost use Rattle.krates_derive.specs.Claim.{document_in, facts_in};
-ghost use Rattle.krates_derive.specs.Giving.{AllIn, AskedIn, AskedOf, ChildIn, CrateIn, DefaultIn, DepIn, EdgeIn, EdgesIn, FactIn, FeatureIn, FeaturesIn, IsTaken, KeptIn, MeantIn, NamedIn, NamesIn, RootIn, StockIn, TheseRootsIn, ToggledIn, UsedIn, ValueIn, ValuesIn};
+ghost use Rattle.krates_derive.specs.Giving.{AllIn, AskedAmongIn, AskedByIn, ChildIn, CrateIn, DefaultIn, DepIn, EdgeIn, EdgesIn, EdgesToIn, FactIn, FeatureIn, FeaturesIn, IsTaken, KeptIn, MeantIn, NamedIn, NamesIn, RootIn, StockIn, TheseRootsIn, ToggledIn, UsedIn, ValueIn, ValuesIn};
 ghost use Rattle.krates_derive.specs.Told.{fact_view, facts_view, told_edge};
-ghost use Rattle.krates_resolve.specs.DocumentAnswers.{lent_ids};
+ghost use Rattle.krates_questions.specs.DocumentAnswers.{lent_ids};
 ghost use Rattle.krates_rules.specs.Derivation.{IsClosed};
 ghost use Rattle.krates_rules.specs.Resolved.{id_of};
 
 use crate::basis::Basis;
 use crate::derivation::Fact;
-use crate::fact_set::{FactRef, FactSet, fact_set, has, has_between};
+use crate::fact_key::{FactKey, Pair, edge_key};
+use crate::fact_set::FactSet;
 use crate::following::{declaration_of, need_of};
-use crate::referring::asks;
 use crate::told::{ToldEdge, edge_for};
 use krates_cm::Dependency;
 use krates_document::Setting;
 use krates_ids::Kid;
-use krates_resolve::{Document, Need, Presence};
+use krates_questions::{Document, Need, Presence};
 use krates_text::{features, laws};
 use std::alloc::{AllocError, Global};
 
@@ -43,7 +43,7 @@ pub(crate) struct Claim<'a, 's> {
 pub(crate) fn is_closed<'a>(basis: &Basis<'a, '_>, facts: &'a [Fact]) -> Result<bool, AllocError>
     ensures { IfOk result (λ b. IsTrue b ↔ IsClosed (rules_of basis.now) (facts_view facts.now)) }
 {
-    let set = fact_set(basis.alloc, facts)?;
+    let set = FactSet::of(basis.alloc, facts)?;
     let roots = basis.document.roots(basis.alloc, basis.setting)?;
     let claim = Claim {
         alloc: basis.alloc,
@@ -90,7 +90,7 @@ fn is_root_in<'a>(claim: &Claim<'a, '_>, krate: &'a Kid) -> bool
 fn is_stock_in<'a>(claim: &Claim<'a, '_>, krate: &'a Kid) -> bool
     ensures { IsTrue result ↔ StockIn (document_in claim.now) (facts_in claim.now) (id_of krate.now) }
 {
-    has(claim.facts, &FactRef::Crate(krate)) && are_features_in(claim, krate)
+    claim.facts.has(&FactKey::Crate(krate)) && are_features_in(claim, krate)
 }
 
 /// Whether the features of a root stand in the list.
@@ -98,7 +98,7 @@ fn are_features_in<'a>(claim: &Claim<'a, '_>, krate: &'a Kid) -> bool
     ensures { IsTrue result ↔ FeaturesIn (document_in claim.now) (facts_in claim.now) (id_of krate.now) }
 {
     for name in claim.document.features(krate) {
-        if !has(claim.facts, &FactRef::Feature(krate, name.as_str())) {
+        if !claim.facts.has(&FactKey::Feature(krate, name.as_str())) {
             return false;
         }
     }
@@ -145,7 +145,7 @@ fn is_fact_in<'a>(claim: &Claim<'a, '_>, fact: &'a Fact) -> Result<bool, AllocEr
             is_kept_in(claim, &edge)
         }
         Fact::Toggled { child, name, .. } => {
-            Ok(has(claim.facts, &FactRef::Feature(child, name.as_str())))
+            Ok(claim.facts.has(&FactKey::Feature(child, name.as_str())))
         }
     }
 }
@@ -174,13 +174,14 @@ fn is_feature_in<'a>(
         (λ b. IsTrue b ↔ FeatureIn (document_in claim.now) claim.now.setting.now (facts_in claim.now)
         (id_of krate.now) feature.now) }
 {
-    if !has(claim.facts, &FactRef::Crate(krate)) {
+    if !claim.facts.has(&FactKey::Crate(krate)) {
         return Ok(false);
     }
-    if !are_values_in(claim, krate, claim.document.values(krate, feature)) {
+    let values = claim.document.values(krate, feature);
+    if !are_values_in(claim, krate, values) {
         return Ok(false);
     }
-    are_asked_in(claim, krate, feature)
+    are_asked_in(claim, krate, values)
 }
 
 /// Whether all that an edge of the list gives stands in it.
@@ -188,7 +189,7 @@ fn is_kept_in<'a>(claim: &Claim<'a, '_>, edge: &ToldEdge<'a>) -> Result<bool, Al
     ensures { IfOk result
         (λ b. IsTrue b ↔ KeptIn (document_in claim.now) (facts_in claim.now) (told_edge edge.now)) }
 {
-    if !has(claim.facts, &FactRef::Crate(edge.child)) {
+    if !claim.facts.has(&FactKey::Crate(edge.child)) {
         return Ok(false);
     }
     match declaration_of(claim.alloc, claim.document, edge)? {
@@ -254,46 +255,56 @@ fn is_child_in<'a>(claim: &Claim<'a, '_>, edge: &ToldEdge<'a>) -> bool
         ↔ ChildIn (document_in claim.now) claim.now.setting.now (facts_in claim.now) (told_edge edge.now) }
 {
     match claim.document.presence(claim.setting, edge.child) {
-        Presence::Stands => has(claim.facts, &FactRef::Kept(*edge)),
+        Presence::Stands => claim.facts.has(&FactKey::Kept(edge_key(edge))),
         Presence::NoPackage => false,
         Presence::NoNode => false,
         Presence::Excluded => true,
     }
 }
 
-/// Whether all edges that a feature asks for stand in the list.
+/// Whether all edges that the references of a feature ask for stand in the list.
 fn are_asked_in<'a>(
     claim: &Claim<'a, '_>,
     krate: &'a Kid,
-    feature: &str,
+    values: &'a [String],
 ) -> Result<bool, AllocError>
-    ensures { IfOk result
-        (λ b. IsTrue b ↔ AskedIn (document_in claim.now) claim.now.setting.now (facts_in claim.now)
-        (id_of krate.now) feature.now) }
+    ensures { let texts = map text_view values.now in
+        IfOk result (λ b. IsTrue b
+        ↔ AskedAmongIn (document_in claim.now) claim.now.setting.now (facts_in claim.now) (id_of krate.now) texts) }
 {
-    for child in claim.document.children(krate) {
-        if !is_asked_in(claim, krate, feature, child)? {
+    for value in values {
+        if !is_asked_in(claim, krate, value.as_str())? {
             return Ok(false);
         }
     }
     Ok(true)
 }
 
-/// Whether all edges to a crate stand in the list, where a feature asks for them.
-fn is_asked_in<'a>(
-    claim: &Claim<'a, '_>,
-    krate: &'a Kid,
-    feature: &str,
-    child: &'a Kid,
-) -> Result<bool, AllocError>
+/// Whether all edges that a reference of a feature asks for stand in the list.
+fn is_asked_in<'a>(claim: &Claim<'a, '_>, krate: &'a Kid, text: &'a str) -> Result<bool, AllocError>
     ensures { IfOk result
-        (λ b. IsTrue b ↔ AskedOf (document_in claim.now) claim.now.setting.now (facts_in claim.now)
-        (id_of krate.now) feature.now (id_of child.now)) }
+        (λ b. IsTrue b ↔ AskedByIn (document_in claim.now) claim.now.setting.now (facts_in claim.now)
+        (id_of krate.now) text.now) }
 {
-    if !asks(claim.document, krate, feature, child) {
-        return Ok(true);
+    laws::one_reference();
+    match features::ParsedFeature::from(text).feat() {
+        features::Feature::Simple(_) => Ok(true),
+        features::Feature::Krate(dep) => are_edges_to_in(claim, krate, dep),
+        features::Feature::Strong { krate: dep, .. } => are_edges_to_in(claim, krate, dep),
+        features::Feature::Weak { .. } => Ok(true),
     }
-    are_edges_in(claim, krate, child, true)
+}
+
+/// Whether all edges to what a name means stand in the list.
+fn are_edges_to_in<'a>(claim: &Claim<'a, '_>, krate: &'a Kid, dep: &str) -> Result<bool, AllocError>
+    ensures { IfOk result
+        (λ b. IsTrue b ↔ EdgesToIn (document_in claim.now) claim.now.setting.now (facts_in claim.now)
+        (id_of krate.now) dep.now) }
+{
+    match claim.document.meant(krate, dep) {
+        Some(child) => are_edges_in(claim, krate, child, true),
+        None => Ok(true),
+    }
 }
 
 // ---- references
@@ -347,7 +358,7 @@ fn is_meant_in<'a>(claim: &Claim<'a, '_>, krate: &'a Kid, child: &'a Kid, name: 
     ensures { IsTrue result
         ↔ MeantIn (document_in claim.now) (facts_in claim.now) (id_of krate.now) (id_of child.now) name.now }
 {
-    if !has_between(claim.facts, krate, child) {
+    if !claim.facts.has_between(krate, child) {
         return true;
     }
     is_toggled_in(claim, krate, child, name)
@@ -363,7 +374,13 @@ fn is_toggled_in<'a>(claim: &Claim<'a, '_>, by: &'a Kid, krate: &'a Kid, name: &
     if !claim.document.lists(krate, name) {
         return false;
     }
-    has(claim.facts, &FactRef::Toggled(by, krate, name))
+    claim.facts.has(&FactKey::Toggled(
+        Pair {
+            parent: by,
+            child: krate,
+        },
+        name,
+    ))
 }
 
 /// Whether a feature stands in the list where its crate lists it, and isn't lost.
@@ -374,7 +391,7 @@ fn is_named_in<'a>(claim: &Claim<'a, '_>, krate: &'a Kid, name: &'a str) -> bool
     if !claim.document.lists(krate, name) {
         return false;
     }
-    has(claim.facts, &FactRef::Feature(krate, name))
+    claim.facts.has(&FactKey::Feature(krate, name))
 }
 
 /// Whether all that a declared dependency asks for stands in the list.
@@ -412,5 +429,5 @@ fn is_default_in<'a>(claim: &Claim<'a, '_>, krate: &'a Kid, uses: bool) -> bool
     if !claim.document.lists(krate, "default") {
         return true;
     }
-    has(claim.facts, &FactRef::Feature(krate, "default"))
+    claim.facts.has(&FactKey::Feature(krate, "default"))
 }

@@ -4,9 +4,9 @@ ghost use Rattle.std.specs.Prelude.{◌≡◌, ◌↔◌, ◌∷◌, [], Contain
 ghost use Rattle.krates_cm.specs.Document.{dependency_view, text_view};
 ghost use Rattle.krates_derive.specs.Basis.{document_of, rules_of};
 ghost use Rattle.krates_derive.specs.Following.{AsksDefault, AsksFeature, AsksForFeature, IsAskedBy, IsChildWith, IsNamedBy, IsRooted, IsRootedFeature, MayKeep, MustKeep, TogglesOver};
-ghost use Rattle.krates_derive.specs.Told.{fact_view, told_edge, told_feature, told_toggle};
-ghost use Rattle.krates_resolve.specs.DocumentModel.{as_resolved};
-ghost use Rattle.krates_resolve.specs.Need.{TellsDeclaration, TellsNeed};
+ghost use Rattle.krates_derive.specs.Told.{fact_view, told_edge, told_feature, told_toggle, told_fact};
+ghost use Rattle.krates_questions.specs.DocumentModel.{as_resolved};
+ghost use Rattle.krates_questions.specs.Need.{TellsDeclaration, TellsNeed};
 ghost use Rattle.krates_rules.specs.Facts.{Crate, Feature, Kept};
 ghost use Rattle.krates_rules.specs.Resolved.{id_of};
 ghost use Rattle.krates_rules.specs.Rules.{Rule};
@@ -14,11 +14,11 @@ ghost use Rattle.krates_rules.specs.Rules.{Rule};
 use crate::basis::Basis;
 use crate::derivation::Fact;
 use crate::referring::{asks, names, toggles};
-use crate::told::{ToldEdge, ToldFeature, ToldToggle, info_of, is_same};
+use crate::told::{Told, ToldEdge, ToldFeature, ToldToggle, info_of, is_same, lent};
 use krates_cm::Dependency;
 use krates_document::Setting;
 use krates_ids::Kid;
-use krates_resolve::{Document, Need};
+use krates_questions::{Document, Need};
 use std::alloc::{AllocError, Global};
 
 // ---- edges
@@ -324,11 +324,11 @@ fn is_toggled<'a>(
 pub(crate) fn from_nothing<'a>(basis: &Basis<'a, '_>, rule: u8, fact: &'a Fact) -> bool
     ensures { IsTrue result ↔ Rule (rules_of basis.now) rule [] (fact_view fact.now) }
 {
-    match fact {
-        Fact::Crate(krate) => is_rooted(basis, rule, krate),
-        Fact::Feature { krate, name } => is_rooted_feature(basis, rule, krate, name.as_str()),
-        Fact::Kept { .. } => false,
-        Fact::Toggled { .. } => false,
+    match lent(fact) {
+        Told::Crate(krate) => is_rooted(basis, rule, krate),
+        Told::Feature(feature) => is_rooted_feature(basis, rule, feature.krate, feature.name),
+        Told::Kept(_) => false,
+        Told::Toggled(_) => false,
     }
 }
 
@@ -337,29 +337,16 @@ fn from_crate<'a>(
     basis: &Basis<'a, '_>,
     rule: u8,
     krate: &Kid,
-    fact: &'a Fact,
+    fact: &Told<'a>,
 ) -> Result<bool, AllocError>
     ensures { IfOk result
-        (λ b. IsTrue b ↔ Rule (rules_of basis.now) rule (Crate (id_of krate.now) ∷ []) (fact_view fact.now)) }
+        (λ b. IsTrue b ↔ Rule (rules_of basis.now) rule (Crate (id_of krate.now) ∷ []) (told_fact fact.now)) }
 {
     match fact {
-        Fact::Crate(_) => Ok(false),
-        Fact::Feature { .. } => Ok(false),
-        Fact::Kept {
-            parent,
-            child,
-            kind,
-            cfg,
-        } => {
-            let edge = ToldEdge {
-                parent,
-                child,
-                kind: *kind,
-                cfg,
-            };
-            is_kept_by_crate(basis, rule, krate, &edge)
-        }
-        Fact::Toggled { .. } => Ok(false),
+        Told::Crate(_) => Ok(false),
+        Told::Feature(_) => Ok(false),
+        Told::Kept(edge) => is_kept_by_crate(basis, rule, krate, edge),
+        Told::Toggled(_) => Ok(false),
     }
 }
 
@@ -368,36 +355,17 @@ fn from_feature<'a>(
     basis: &Basis<'a, '_>,
     rule: u8,
     feature: &ToldFeature<'a>,
-    fact: &'a Fact,
+    fact: &Told<'a>,
 ) -> Result<bool, AllocError>
     ensures { IfOk result
         (λ b. IsTrue b ↔ Rule (rules_of basis.now) rule (told_feature feature.now ∷ [])
-        (fact_view fact.now)) }
+        (told_fact fact.now)) }
 {
     match fact {
-        Fact::Crate(other) => Ok(is_same_by(rule, 2, feature.krate, other)),
-        Fact::Feature { krate, name } => {
-            let other = ToldFeature {
-                krate,
-                name: name.as_str(),
-            };
-            Ok(is_named(basis.document, rule, feature, &other))
-        }
-        Fact::Kept {
-            parent,
-            child,
-            kind,
-            cfg,
-        } => {
-            let edge = ToldEdge {
-                parent,
-                child,
-                kind: *kind,
-                cfg,
-            };
-            is_kept_by_feature(basis, rule, feature, &edge)
-        }
-        Fact::Toggled { .. } => Ok(false),
+        Told::Crate(other) => Ok(is_same_by(rule, 2, feature.krate, other)),
+        Told::Feature(other) => Ok(is_named(basis.document, rule, feature, other)),
+        Told::Kept(edge) => is_kept_by_feature(basis, rule, feature, edge),
+        Told::Toggled(_) => Ok(false),
     }
 }
 
@@ -406,42 +374,35 @@ fn from_edge<'a>(
     basis: &Basis<'a, '_>,
     rule: u8,
     edge: &ToldEdge<'a>,
-    fact: &'a Fact,
+    fact: &Told<'a>,
 ) -> Result<bool, AllocError>
     ensures { IfOk result
         (λ b. IsTrue b ↔ Rule (rules_of basis.now) rule (Kept (told_edge edge.now) ∷ [])
-        (fact_view fact.now)) }
+        (told_fact fact.now)) }
 {
     match fact {
-        Fact::Crate(krate) => Ok(is_same_by(rule, 5, edge.child, krate)),
-        Fact::Feature { krate, name } => {
-            let feature = ToldFeature {
-                krate,
-                name: name.as_str(),
-            };
-            is_declared(basis, rule, edge, &feature)
-        }
-        Fact::Kept { .. } => Ok(false),
-        Fact::Toggled { .. } => Ok(false),
+        Told::Crate(krate) => Ok(is_same_by(rule, 5, edge.child, krate)),
+        Told::Feature(feature) => is_declared(basis, rule, edge, feature),
+        Told::Kept(_) => Ok(false),
+        Told::Toggled(_) => Ok(false),
     }
 }
 
 /// Whether a fact follows by the rule from a toggled feature.
-fn from_toggle<'a>(basis: &Basis<'a, '_>, rule: u8, toggle: &ToldToggle<'a>, fact: &'a Fact) -> bool
+fn from_toggle<'a>(
+    basis: &Basis<'a, '_>,
+    rule: u8,
+    toggle: &ToldToggle<'a>,
+    fact: &Told<'a>,
+) -> bool
     ensures { IsTrue result ↔ Rule (rules_of basis.now) rule (told_toggle toggle.now ∷ [])
-        (fact_view fact.now) }
+        (told_fact fact.now) }
 {
     match fact {
-        Fact::Crate(_) => false,
-        Fact::Feature { krate, name } => {
-            let feature = ToldFeature {
-                krate,
-                name: name.as_str(),
-            };
-            is_enabled(rule, toggle, &feature)
-        }
-        Fact::Kept { .. } => false,
-        Fact::Toggled { .. } => false,
+        Told::Crate(_) => false,
+        Told::Feature(feature) => is_enabled(rule, toggle, feature),
+        Told::Kept(_) => false,
+        Told::Toggled(_) => false,
     }
 }
 
@@ -455,41 +416,12 @@ pub(crate) fn from_one<'a>(
     ensures { IfOk result
         (λ b. IsTrue b ↔ Rule (rules_of basis.now) rule (fact_view premise.now ∷ []) (fact_view fact.now)) }
 {
-    match premise {
-        Fact::Crate(krate) => from_crate(basis, rule, krate, fact),
-        Fact::Feature { krate, name } => {
-            let feature = ToldFeature {
-                krate,
-                name: name.as_str(),
-            };
-            from_feature(basis, rule, &feature, fact)
-        }
-        Fact::Kept {
-            parent,
-            child,
-            kind,
-            cfg,
-        } => {
-            let edge = ToldEdge {
-                parent,
-                child,
-                kind: *kind,
-                cfg,
-            };
-            from_edge(basis, rule, &edge, fact)
-        }
-        Fact::Toggled {
-            parent,
-            child,
-            name,
-        } => {
-            let toggle = ToldToggle {
-                by: parent,
-                krate: child,
-                name: name.as_str(),
-            };
-            Ok(from_toggle(basis, rule, &toggle, fact))
-        }
+    let given = lent(fact);
+    match lent(premise) {
+        Told::Crate(krate) => from_crate(basis, rule, krate, &given),
+        Told::Feature(feature) => from_feature(basis, rule, &feature, &given),
+        Told::Kept(edge) => from_edge(basis, rule, &edge, &given),
+        Told::Toggled(toggle) => Ok(from_toggle(basis, rule, &toggle, &given)),
     }
 }
 
@@ -498,30 +430,17 @@ fn toggle_from_feature<'a>(
     basis: &Basis<'a, '_>,
     rule: u8,
     feature: &ToldFeature<'a>,
-    second: &'a Fact,
+    second: &Told<'a>,
     toggle: &ToldToggle<'a>,
 ) -> bool
-    ensures { let premises = told_feature feature.now ∷ fact_view second.now ∷ [] in
+    ensures { let premises = told_feature feature.now ∷ told_fact second.now ∷ [] in
         IsTrue result ↔ Rule (rules_of basis.now) rule premises (told_toggle toggle.now) }
 {
     match second {
-        Fact::Crate(_) => false,
-        Fact::Feature { .. } => false,
-        Fact::Kept {
-            parent,
-            child,
-            kind,
-            cfg,
-        } => {
-            let edge = ToldEdge {
-                parent,
-                child,
-                kind: *kind,
-                cfg,
-            };
-            is_toggled(basis, rule, feature, &edge, toggle)
-        }
-        Fact::Toggled { .. } => false,
+        Told::Crate(_) => false,
+        Told::Feature(_) => false,
+        Told::Kept(edge) => is_toggled(basis, rule, feature, edge, toggle),
+        Told::Toggled(_) => false,
     }
 }
 
@@ -529,24 +448,18 @@ fn toggle_from_feature<'a>(
 fn toggle_from_two<'a>(
     basis: &Basis<'a, '_>,
     rule: u8,
-    first: &'a Fact,
-    second: &'a Fact,
+    first: &Told<'a>,
+    second: &Told<'a>,
     toggle: &ToldToggle<'a>,
 ) -> bool
-    ensures { let premises = fact_view first.now ∷ fact_view second.now ∷ [] in
+    ensures { let premises = told_fact first.now ∷ told_fact second.now ∷ [] in
         IsTrue result ↔ Rule (rules_of basis.now) rule premises (told_toggle toggle.now) }
 {
     match first {
-        Fact::Crate(_) => false,
-        Fact::Feature { krate, name } => {
-            let feature = ToldFeature {
-                krate,
-                name: name.as_str(),
-            };
-            toggle_from_feature(basis, rule, &feature, second, toggle)
-        }
-        Fact::Kept { .. } => false,
-        Fact::Toggled { .. } => false,
+        Told::Crate(_) => false,
+        Told::Feature(feature) => toggle_from_feature(basis, rule, feature, second, toggle),
+        Told::Kept(_) => false,
+        Told::Toggled(_) => false,
     }
 }
 
@@ -561,21 +474,12 @@ pub(crate) fn from_two<'a>(
     ensures { let premises = fact_view first.now ∷ fact_view second.now ∷ [] in
         IsTrue result ↔ Rule (rules_of basis.now) rule premises (fact_view fact.now) }
 {
-    match fact {
-        Fact::Crate(_) => false,
-        Fact::Feature { .. } => false,
-        Fact::Kept { .. } => false,
-        Fact::Toggled {
-            parent,
-            child,
-            name,
-        } => {
-            let toggle = ToldToggle {
-                by: parent,
-                krate: child,
-                name: name.as_str(),
-            };
-            toggle_from_two(basis, rule, first, second, &toggle)
+    match lent(fact) {
+        Told::Crate(_) => false,
+        Told::Feature(_) => false,
+        Told::Kept(_) => false,
+        Told::Toggled(toggle) => {
+            toggle_from_two(basis, rule, &lent(first), &lent(second), &toggle)
         }
     }
 }

@@ -5,6 +5,7 @@ mod basis;
 pub mod checking;
 mod closing;
 pub mod derivation;
+mod fact_key;
 mod fact_set;
 mod following;
 mod referring;

@@ -4,14 +4,14 @@ ghost use Rattle.std.specs.Prelude.{◌↔◌, IsTrue, map};
 ghost use Rattle.krates_cm.specs.Document.{text_view};
 ghost use Rattle.krates_derive.specs.Following.{IsToggleOf};
 ghost use Rattle.krates_derive.specs.Referring.{Asks, AsksAmong, AsksBy, HasSimple, Toggles, TogglesAmong, TogglesBy};
-ghost use Rattle.krates_resolve.specs.DocumentModel.{as_resolved};
+ghost use Rattle.krates_questions.specs.DocumentModel.{as_resolved};
 ghost use Rattle.krates_rules.specs.Features.{HasReference};
 ghost use Rattle.krates_rules.specs.Resolved.{id_of};
 ghost use Rattle.krates_text.specs.FeatureReference.{IsReference, simple};
 
 use crate::told::ToldFeature;
 use krates_ids::Kid;
-use krates_resolve::Document;
+use krates_questions::Document;
 use krates_text::features::{Feature, ParsedFeature};
 use krates_text::laws;
 

@@ -6,6 +6,7 @@ ghost use Rattle.krates_derive.specs.SeenThrough.{IsCorrectedBy};
 ghost use Rattle.krates_ids.specs.Correction.{index_view};
 
 use krates_cm::Metadata;
+use krates_document::corrected_document::corrected;
 use krates_ids::CachingIndex;
 use std::alloc::{AllocError, Global};
 
@@ -21,19 +22,4 @@ pub(crate) fn seen_through(
 {
     let copy = metadata.clone()?;
     corrected(alloc, index, copy)
-}
-
-/// The document with each package corrected.
-fn corrected(
-    alloc: Global,
-    index: &CachingIndex,
-    mut metadata: Metadata,
-) -> Result<Metadata, AllocError>
-    ensures { IfOk result
-        (λ seen. IsCorrectedBy (index_view index.now.answer) (metadata_view metadata) (metadata_view seen)) }
-{
-    for pkg in metadata.packages.iter_mut() {
-        index.correct(alloc, pkg)?;
-    }
-    Ok(metadata)
 }

@@ -2,10 +2,11 @@
 
 ghost use Rattle.std.specs.Prelude.{◌≡◌, ◌↔◌, IfOk, IsTrue};
 ghost use Rattle.krates_cm.specs.Document.{dep_kind_info_view};
-ghost use Rattle.krates_derive.specs.Told.{told_edge, written_of};
+ghost use Rattle.krates_derive.specs.Told.{fact_view, told_edge, told_fact, written_of};
 ghost use Rattle.krates_rules.specs.Questions.{edge_between, kind_info_of};
 ghost use Rattle.krates_rules.specs.Resolved.{id_of};
 
+use crate::derivation::Fact;
 use krates_cm::{DepKindInfo, DependencyKind};
 use krates_ids::{Kid, laws};
 use krates_rules::DepKind;
@@ -44,6 +45,58 @@ pub(crate) struct ToldToggle<'a> {
     pub name: &'a str,
 }
 
+/// A fact whose parts are lent.
+#[derive(Clone, Copy)]
+pub(crate) enum Told<'a> {
+    /// The crate is kept.
+    Crate(&'a Kid),
+    /// The feature is enabled.
+    Feature(ToldFeature<'a>),
+    /// The edge is kept.
+    Kept(ToldEdge<'a>),
+    /// The feature is toggled.
+    Toggled(ToldToggle<'a>),
+}
+
+/// The fact, with its parts lent.
+pub(crate) fn lent<'a>(fact: &'a Fact) -> Told<'a>
+    ensures { told_fact result ≡ fact_view fact.now }
+{
+    match fact {
+        Fact::Crate(krate) => Told::Crate(krate),
+        Fact::Feature { krate, name } => {
+            Told::Feature(ToldFeature {
+                krate,
+                name: name.as_str(),
+            })
+        }
+        Fact::Kept {
+            parent,
+            child,
+            kind,
+            cfg,
+        } => {
+            Told::Kept(ToldEdge {
+                parent,
+                child,
+                kind: *kind,
+                cfg,
+            })
+        }
+        Fact::Toggled {
+            parent,
+            child,
+            name,
+        } => {
+            Told::Toggled(ToldToggle {
+                by: parent,
+                krate: child,
+                name: name.as_str(),
+            })
+        }
+    }
+}
+
 /// Whether two ids are the same.
 pub(crate) fn is_same(one: &Kid, other: &Kid) -> bool
     ensures { IsTrue result ↔ (id_of one.now ≡ id_of other.now) }
@@ -52,7 +105,7 @@ pub(crate) fn is_same(one: &Kid, other: &Kid) -> bool
     one == other
 }
 
-/// The purpose as the document writes it.
+/// The kind as the document writes it.
 fn written(kind: DepKind) -> DependencyKind
     ensures { result ≡ written_of kind }
 {
@@ -63,7 +116,7 @@ fn written(kind: DepKind) -> DependencyKind
     }
 }
 
-/// The purpose and the target of an edge.
+/// The kind and the target of an edge.
 pub(crate) fn info_of(edge: &ToldEdge<'_>) -> Result<DepKindInfo, AllocError>
     ensures { IfOk result (λ info. dep_kind_info_view info ≡ kind_info_of (told_edge edge.now)) }
 {
@@ -73,7 +126,7 @@ pub(crate) fn info_of(edge: &ToldEdge<'_>) -> Result<DepKindInfo, AllocError>
     })
 }
 
-/// The edge between two crates for one purpose and target.
+/// The edge between two crates of one kind and for one target.
 pub(crate) fn edge_for<'a>(parent: &'a Kid, child: &'a Kid, info: &'a DepKindInfo) -> ToldEdge<'a>
     ensures { told_edge result ≡ edge_between (id_of parent.now) (id_of child.now)
         (dep_kind_info_view info.now) }

@@ -1,6 +1,6 @@
 //! Lists of facts: each is closed as it was written, and open without any one of its facts.
 
-use crate::facts::{fact_of, setting_of, told};
+use crate::facts::{fact_of, facts_of, setting_of, told};
 use krates_cm::Metadata;
 use krates_derive::{Fact, check_closed};
 use krates_document::Setting;
@@ -8,6 +8,17 @@ use krates_samples::documents::{metadata, section};
 use krates_samples::table::{Question, Row, hold};
 use std::alloc::Global;
 use std::test::Fail;
+
+/// What the check answers of these facts, for the document and the setting of a line.
+fn told_of(alloc: Global, line: &str, facts: &str) -> Result<String, Fail> {
+    let metadata = metadata(alloc, line)?;
+    let setting = setting_of(alloc, line)?;
+    let facts = facts_of(alloc, facts)?;
+    told(
+        alloc,
+        check_closed(alloc, &metadata, &setting, None, &facts),
+    )
+}
 
 /// The facts of the words, but for the one at this place.
 fn facts_but(alloc: Global, text: &str, left_out: usize) -> Result<Vec<Fact>, Fail> {
@@ -37,10 +48,7 @@ struct Closed;
 
 impl Question for Closed {
     fn told(alloc: Global, line: &str) -> Result<String, Fail> {
-        let metadata = metadata(alloc, line)?;
-        let setting = setting_of(alloc, line)?;
-        let text = section(line, "facts").unwrap_or("");
-        answer(alloc, &metadata, &setting, text, usize::MAX)
+        told_of(alloc, line, section(line, "facts").unwrap_or(""))
     }
 }
 
@@ -93,6 +101,8 @@ const NEEDED: &[Row] = &[
         "yes open open open open open open open open open",
     ),
     ("a;x=nope/y / facts +a a/x", "yes open open"),
+    ("a / nodes a;x / facts +a a/x", "yes open open"),
+    ("a;f=g g=f / facts +a a/f a/g", "yes open open open"),
     ("a b!|b / facts +a a>b +b", "yes open open open"),
     (
         "a md-5?;x=md-5/std|md-5&lib=md5;std= / nodes a md-5&as=md5;x|md-5;std / facts +a a/x a>md-5 +md-5 a>md-5/std md-5/std",
@@ -111,7 +121,7 @@ fn each_fact_is_needed(rt: HostRuntime) -> Result<(), Fail> {
     hold::<EachNeeded>(rt.alloc(), NEEDED)
 }
 
-const ADDED: &[Row] = &[
+pub(crate) const ADDED: &[Row] = &[
     // a fact that drags others, which aren't there, or are
     (
         "a b?;b=dep:b w=b?/j|b;j= / nodes a b;w|b;j / facts +a a/w +b",
@@ -160,7 +170,76 @@ fn facts_that_are_added(rt: HostRuntime) -> Result<(), Fail> {
     hold::<Closed>(rt.alloc(), ADDED)
 }
 
-const LOST: &[Row] = &[
+/// What it answers of the list with each of three facts that drag others, which aren't there: a feature of a crate, an edge to
+/// one, and a feature that is toggled.
+struct Dragged;
+
+impl Question for Dragged {
+    fn told(alloc: Global, line: &str) -> Result<String, Fail> {
+        let text = section(line, "facts").unwrap_or("");
+        let mut all = told_of(alloc, line, text)?;
+        for &added in ["z/f", "a>z", "a>a/z"].as_slice() {
+            let facts = format!(in alloc; "{text} {added}")?;
+            let answer = told_of(alloc, line, &facts)?;
+            write!(all, " {answer}")?;
+        }
+        Ok(all)
+    }
+}
+
+const DRAGGED: &[Row] = &[
+    ("a b&dev|b / facts +a a>b:dev +b", "yes open open open"),
+    (
+        "a b?;b=dep:b w=b?/j|b;j= / facts +a a/b a/w a>b +b a>b/j b/j",
+        "yes open open open",
+    ),
+    (
+        "a b?;b=dep:b w=b?/j|b;j= / nodes a b;w|b;j / facts +a a/w",
+        "yes open open open",
+    ),
+    (
+        "a b!&with=default|b / nodes a b|b;default / facts +a a>b +b b/default",
+        "yes open open open",
+    ),
+    (
+        "a b;x=b/nope|b / without b / facts +a a/x",
+        "yes open open open",
+    ),
+    (
+        "a b&dev;x=b/y|b;y= / facts +a a/x a>b:dev +b a>b/y b/y",
+        "yes open open open",
+    ),
+    (
+        "a d|d@0.9.0|d@0.10.0 / nodes a d@0.9.0 d@0.10.0|d@0.9.0|d@0.10.0 / facts +a a>d@0.9.0 a>d@0.10.0 +d@0.9.0 +d@0.10.0",
+        "yes open open open",
+    ),
+    (
+        "a b? b&dev;w=b?/j|b;j= / nodes a b&normal&dev;w|b;j / facts +a a/w a>b:dev +b a>b/j b/j",
+        "yes open open open",
+    ),
+    (
+        "a b?;s=b/k w=b?/j|b;j= k= / facts +a a/s a/w a>b +b a>b/j b/j a>b/k b/k",
+        "yes open open open",
+    ),
+    ("a;x=nope/y / facts +a a/x", "yes open open open"),
+    ("a / nodes a;x / facts +a a/x", "yes open open open"),
+    ("a b!|b / facts +a a>b +b", "yes open open open"),
+    (
+        "a md-5?;x=md-5/std|md-5&lib=md5;std= / nodes a md-5&as=md5;x|md-5;std / facts +a a/x a>md-5 +md-5 a>md-5/std md-5/std",
+        "yes open open open",
+    ),
+    (
+        "a real?&as=alias;x=dep:alias|real / facts +a a/x a>real +real",
+        "yes open open open",
+    ),
+];
+
+#[test]
+fn facts_that_drag_others(rt: HostRuntime) -> Result<(), Fail> {
+    hold::<Dragged>(rt.alloc(), DRAGGED)
+}
+
+pub(crate) const LOST: &[Row] = &[
     // what is lost keeps each list open: a feature, a package, a node, a dependency that isn't declared
     ("a b;x=b/nope|b / facts +a a/x a>b +b", "open"),
     ("a;x=y / nodes a;x / facts +a a/x", "open"),

@@ -7,19 +7,24 @@ use krates_samples::table::{Question, Row, hold};
 use std::alloc::Global;
 use std::test::Fail;
 
+/// What the check answers of these steps, for the document and the setting of a line.
+pub(crate) fn told_of(alloc: Global, line: &str, steps: &str) -> Result<String, Fail> {
+    let metadata = metadata(alloc, line)?;
+    let setting = setting_of(alloc, line)?;
+    let derivation = steps_of(alloc, steps)?;
+    told(alloc, check(alloc, &metadata, &setting, None, &derivation))
+}
+
 /// What the check of a list of steps answers.
 struct Checked;
 
 impl Question for Checked {
     fn told(alloc: Global, line: &str) -> Result<String, Fail> {
-        let metadata = metadata(alloc, line)?;
-        let setting = setting_of(alloc, line)?;
-        let derivation = steps_of(alloc, section(line, "steps").unwrap_or(""))?;
-        told(alloc, check(alloc, &metadata, &setting, None, &derivation))
+        told_of(alloc, line, section(line, "steps").unwrap_or(""))
     }
 }
 
-const ORDERED: &[Row] = &[
+pub(crate) const ORDERED: &[Row] = &[
     // a crate that the only member needs for its tests
     ("a b&dev|b / steps 1 +a; 5 a>b:dev 0; 5 +b 1", "yes"),
     // a later step is used, one is missing, the kind is ignored, there is none, the document has no graph
@@ -103,7 +108,7 @@ fn weak_references(rt: HostRuntime) -> Result<(), Fail> {
     hold::<Checked>(rt.alloc(), WEAK)
 }
 
-const STRONG: &[Row] = &[
+pub(crate) const STRONG: &[Row] = &[
     // a strong reference beside a weak one
     (
         "a b?;s=b/k w=b?/j|b;j= k= / steps 1 a/s; 1 a/w; 4 a>b 0; 4 a>b/k 0 2; 7 b/k 3; 7 a>b/j 1 2; 7 b/j 5; 2 +b 6",
@@ -153,7 +158,7 @@ fn strong_references(rt: HostRuntime) -> Result<(), Fail> {
     hold::<Checked>(rt.alloc(), STRONG)
 }
 
-const DECLARED: &[Row] = &[
+pub(crate) const DECLARED: &[Row] = &[
     // the default feature by the list, and by use where it is listed
     (
         "a b!&with=default|b / nodes a b|b;default / steps 1 +a; 5 a>b 0; 6 b/default 1",

@@ -66,7 +66,7 @@ fn number(word: &str) -> Result<usize, Fail> {
 }
 
 /// The rule of a word.
-fn rule_of(word: &str) -> Result<u8, Fail> {
+pub(crate) fn rule_of(word: &str) -> Result<u8, Fail> {
     match word.parse::<u8>() {
         Ok(rule) => Ok(rule),
         Err(_) => Err(Fail::from("no rule")),
@@ -94,6 +94,15 @@ pub(crate) fn steps_of(alloc: Global, text: &str) -> Result<Derivation, Fail> {
         }
     }
     Ok(Derivation { steps })
+}
+
+/// The facts of the words.
+pub(crate) fn facts_of(alloc: Global, text: &str) -> Result<Vec<Fact>, Fail> {
+    let mut facts = Vec::new(alloc);
+    for word in text.split_whitespace() {
+        facts.push(fact_of(alloc, word)?)?;
+    }
+    Ok(facts)
 }
 
 /// Sets what the sections of a line ask.

@@ -5,8 +5,18 @@
 #![tactic(auto)]
 
 #[cfg(test)]
+mod builders;
+#[cfg(test)]
+mod changes;
+#[cfg(test)]
 mod closed_lists;
 #[cfg(test)]
 mod derivations;
 #[cfg(test)]
 mod facts;
+#[cfg(test)]
+mod indexed;
+#[cfg(test)]
+mod printed;
+#[cfg(test)]
+mod readme;

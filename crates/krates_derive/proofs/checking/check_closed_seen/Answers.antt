@@ -1,7 +1,7 @@
 use Rattle.krates_cm.specs.Document.{metadata_view}
 use Rattle.krates_derive.specs.Told.{facts_view}
 use Rattle.krates_document.specs.Ids.{ids_view}
-use Rattle.krates_resolve.specs.DocumentModel.{as_resolved}
+use Rattle.krates_questions.specs.DocumentModel.{as_resolved}
 use Rattle.krates_rules.specs.Derivation.{IsClosed}
 use Rattle.krates_derive.proofs.Checked.{answering}
 use Rattle.krates_derive.proofs.checking.check_closed_seen.Goals as goal

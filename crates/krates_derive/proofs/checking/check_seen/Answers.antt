@@ -5,7 +5,7 @@ use Rattle.krates_cm.specs.Document.{metadata_view}
 use Rattle.krates_derive.specs.Told.{step_view, steps_view}
 use Rattle.krates_derive.specs.declared.derivation.Step.{Step}
 use Rattle.krates_document.specs.Ids.{ids_view}
-use Rattle.krates_resolve.specs.DocumentModel.{as_resolved}
+use Rattle.krates_questions.specs.DocumentModel.{as_resolved}
 use Rattle.krates_rules.specs.Questions.{questions}
 use Rattle.krates_rules.specs.Steps.{EachFollows, IsAccepted}
 use Rattle.krates_derive.proofs.Checked.{answering}

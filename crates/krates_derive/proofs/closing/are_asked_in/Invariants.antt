@@ -1,10 +1,10 @@
-use Rattle.krates_derive.specs.Giving.{AskedOf}
-use Rattle.krates_derive.specs.Told.{facts_view}
+use Rattle.krates_cm.specs.Document.{text_view}
+use Rattle.krates_derive.specs.Giving.{AskedByIn}
 use Rattle.krates_derive.proofs.Seen.{SeenBelow}
 use Rattle.krates_derive.specs.Claim.{document_in, facts_in}
 use Rattle.krates_rules.specs.Resolved.{id_of}
 use Rattle.krates_derive.proofs.closing.are_asked_in.Given as goal
 
 -- it holds of those so far
-abbrev pub invariant-loop-child : goal.invariant-loop-child
-invariant-loop-child l = SeenBelow (λ x. AskedOf (document_in l.claim) l.claim.setting.now (facts_in l.claim) (id_of l.krate) l.feature (id_of x)) l.child-items l.child-index
+abbrev pub invariant-loop-value : goal.invariant-loop-value
+invariant-loop-value l = SeenBelow (λ x. AskedByIn (document_in l.claim) l.claim.setting.now (facts_in l.claim) (id_of l.krate) (text_view x)) l.values l.value-index

@@ -2,7 +2,6 @@ use Rattle.krates_derive.specs.Claim.{facts_in}
 use Rattle.std.proofs.Common.{String, Contains, refl, sym, subst}
 use Rattle.std.specs.Global.{Global}
 use Rattle.krates_cm.specs.Document.{Text, text_view}
-use Rattle.krates_derive.specs.Told.{facts_view}
 use Rattle.krates_rules.specs.Facts.{Feature}
 use Rattle.krates_rules.specs.Resolved.{id_of}
 use Rattle.krates_derive.proofs.Places.{contains_read}

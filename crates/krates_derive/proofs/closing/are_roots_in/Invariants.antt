@@ -1,5 +1,4 @@
 use Rattle.krates_derive.specs.Giving.{RootIn}
-use Rattle.krates_derive.specs.Told.{facts_view}
 use Rattle.krates_derive.proofs.Seen.{SeenBelow}
 use Rattle.krates_derive.specs.Claim.{document_in, facts_in}
 use Rattle.krates_rules.specs.Resolved.{id_of}

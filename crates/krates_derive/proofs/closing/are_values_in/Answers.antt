@@ -2,7 +2,6 @@ use Rattle.std.proofs.Common.{String, refl, sym, subst}
 use Rattle.krates_cm.specs.Document.{Text, text_view}
 use Rattle.std.specs.Global.{Global}
 use Rattle.krates_derive.specs.Giving.{ValueIn}
-use Rattle.krates_derive.specs.Told.{facts_view}
 use Rattle.krates_derive.specs.Claim.{document_in, facts_in}
 use Rattle.krates_rules.specs.Resolved.{id_of}
 use Rattle.krates_derive.proofs.Places.{contains_read}

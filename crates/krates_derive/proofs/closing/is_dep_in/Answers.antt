@@ -2,7 +2,6 @@ use Rattle.std.proofs.Common.{◌≡◌, Bor, Some, None, option_map, ap, ◌∙
 use Rattle.std.proofs.lemmas.Option.{same_Some}
 use Rattle.krates_ids.specs.Identity.{Identity}
 use Rattle.krates_derive.specs.Giving.{MeantIn}
-use Rattle.krates_derive.specs.Told.{facts_view}
 use Rattle.krates_derive.specs.Claim.{document_in, facts_in}
 use Rattle.krates_rules.specs.Facts.{Id}
 use Rattle.krates_rules.specs.Resolved.{id_of}

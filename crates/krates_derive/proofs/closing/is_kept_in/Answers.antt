@@ -3,7 +3,7 @@ use Rattle.krates_cm.specs.Document.{DependencyModel, dependency_view}
 use Rattle.krates_derive.specs.Claim.{document_in, facts_in}
 use Rattle.krates_derive.specs.Giving.{UsedIn}
 use Rattle.krates_derive.specs.Told.{told_edge}
-use Rattle.krates_resolve.specs.Need.{TellsDeclaration}
+use Rattle.krates_questions.specs.Need.{TellsDeclaration}
 use Rattle.krates_derive.proofs.closing.is_kept_in.Goals as goal
 
 pub returns-in-Some : goal.returns-in-Some

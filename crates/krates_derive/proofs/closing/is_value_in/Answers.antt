@@ -1,5 +1,4 @@
 use Rattle.std.proofs.Common.{refl, subst}
-use Rattle.krates_derive.specs.Told.{facts_view}
 use Rattle.krates_derive.specs.Claim.{document_in, facts_in}
 use Rattle.krates_rules.specs.Resolved.{id_of}
 use Rattle.krates_text.specs.FeatureReference.{IsReference, krate, strong, weak, simple}

@@ -2,8 +2,8 @@ use Rattle.std.proofs.Common.{subst}
 use Rattle.krates_cm.specs.Document.{DependencyModel}
 use Rattle.krates_derive.specs.Following.{AsksFeature}
 use Rattle.krates_derive.specs.Told.{told_edge}
-use Rattle.krates_resolve.specs.DocumentModel.{as_resolved}
-use Rattle.krates_resolve.specs.Need.{TellsDeclaration}
+use Rattle.krates_questions.specs.DocumentModel.{as_resolved}
+use Rattle.krates_questions.specs.Need.{TellsDeclaration}
 use Rattle.krates_derive.proofs.following.asks_for_feature.Goals as goal
 
 pub returns-in-Some : goal.returns-in-Some

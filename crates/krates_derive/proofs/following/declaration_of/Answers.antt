@@ -1,7 +1,7 @@
 use Rattle.std.proofs.Common.{subst, IfOk}
 use Rattle.krates_cm.specs.Document.{DepKindInfoModel}
-use Rattle.krates_resolve.specs.DocumentModel.{as_resolved}
-use Rattle.krates_resolve.specs.Need.{TellsDeclaration}
+use Rattle.krates_questions.specs.DocumentModel.{as_resolved}
+use Rattle.krates_questions.specs.Need.{TellsDeclaration}
 use Rattle.krates_rules.specs.Questions.{edge_between}
 use Rattle.krates_rules.specs.Resolved.{id_of}
 use Rattle.krates_derive.proofs.following.declaration_of.Goals as goal

@@ -6,4 +6,4 @@ use Rattle.krates_derive.proofs.Rows.{through, target_row}
 use Rattle.krates_derive.proofs.following.from_edge.Goals as goal
 
 pub returns-in-Crate : goal.returns-in-Crate
-returns-in-Crate c = rw c.in-Crate.is (through c.is_same_by.ensures (target_row (questions (document_of c.args.basis.now) c.args.basis.now.setting.now) c.args.rule (told_edge c.args.edge.now) (id_of c.in-Crate.krate)))
+returns-in-Crate c = rw c.in-Crate.is (through c.is_same_by.ensures (target_row (questions (document_of c.args.basis.now) c.args.basis.now.setting.now) c.args.rule (told_edge c.args.edge.now) (id_of c.in-Crate.krate.now)))

@@ -1,4 +1,3 @@
-use Rattle.krates_cm.specs.Document.{text_view}
 use Rattle.krates_derive.specs.Basis.{document_of}
 use Rattle.krates_rules.specs.Questions.{questions}
 use Rattle.krates_rules.specs.Resolved.{id_of}
@@ -8,4 +7,4 @@ use Rattle.krates_derive.proofs.following.from_toggle.Goals as goal
 pub returns-in-Feature : goal.returns-in-Feature
 returns-in-Feature c =
     let t = c.args.toggle.now in
-    rw c.in-Feature.is (through (rw c.as_str.ensures.value at c.is_enabled.ensures) (enabled_row (questions (document_of c.args.basis.now) c.args.basis.now.setting.now) c.args.rule (id_of t.by.now) (id_of t.krate.now) (id_of c.in-Feature.krate) t.name.now (text_view c.in-Feature.name)))
+    rw c.in-Feature.is (through c.is_enabled.ensures (enabled_row (questions (document_of c.args.basis.now) c.args.basis.now.setting.now) c.args.rule (id_of t.by.now) (id_of t.krate.now) (id_of c.in-Feature.feature.krate.now) t.name.now c.in-Feature.feature.name.now))

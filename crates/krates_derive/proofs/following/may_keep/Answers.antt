@@ -1,6 +1,6 @@
 use Rattle.std.proofs.Common.{subst}
 use Rattle.krates_derive.specs.Basis.{document_of}
-use Rattle.krates_resolve.specs.Need.{TellsNeed}
+use Rattle.krates_questions.specs.Need.{TellsNeed}
 use Rattle.krates_derive.specs.Told.{told_edge}
 use Rattle.krates_derive.proofs.following.may_keep.Goals as goal
 

@@ -1,7 +1,7 @@
 use Rattle.std.proofs.Common.{subst, ap}
 use Rattle.krates_cm.specs.Document.{DependencyModel}
 use Rattle.krates_derive.specs.Basis.{document_of}
-use Rattle.krates_resolve.specs.Need.{TellsNeed}
+use Rattle.krates_questions.specs.Need.{TellsNeed}
 use Rattle.krates_derive.specs.Told.{told_edge}
 use Rattle.krates_derive.proofs.following.must_keep.Goals as goal
 

@@ -1,6 +1,6 @@
 use Rattle.std.proofs.Common.{refl, arith}
 use Rattle.krates_cm.specs.Document.{Text, text_view}
-use Rattle.krates_resolve.specs.DocumentModel.{as_resolved}
+use Rattle.krates_questions.specs.DocumentModel.{as_resolved}
 use Rattle.krates_rules.specs.Resolved.{id_of}
 use Rattle.krates_derive.specs.Referring.{TogglesBy}
 use Rattle.krates_derive.proofs.Seen.{each_seen}

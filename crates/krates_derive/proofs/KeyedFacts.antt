@@ -1,0 +1,101 @@
+-- A list of facts that is put into a set, fact by fact.
+use Rattle.std.proofs.Common.{◌≡◌, ◌↔◌, ◌<◌, ◌≤◌, ℕ, ◌+◌, List, [], ◌∷◌, ◌++◌, length, get_or, take, map, Bool, true, false, cond, IsTrue, Ordering, Less, Equal, Greater, Contains, inl, inr, refl, sym, ap, ◌∙◌, subst, arith}
+use Rattle.std.proofs.lemmas.List.{take_more, take_all, map-append}
+use Rattle.std.proofs.lemmas.List.Elements.{Contains-append_left, Contains-push, Contains-push_cases}
+use Rattle.std.specs.BTreeMap.{is_at}
+use Rattle.std.specs.BTreeSet.{BTreeSet, contains}
+use Rattle.std.specs.Ordering.{is_eq}
+use Rattle.krates_derive.specs.FactKey.{key_cmp, key_view, pair_cmp}
+use Rattle.krates_derive.specs.FactSet.{HasBetween, HasKeys, HasPairs}
+use Rattle.krates_derive.specs.Told.{fact_view, facts_view}
+use Rattle.krates_derive.specs.declared.derivation.Fact.{Fact as ToldFact}
+use Rattle.krates_derive.specs.declared.fact_key.FactKey.{FactKey}
+use Rattle.krates_derive.specs.declared.fact_key.Pair.{Pair}
+use Rattle.krates_derive.proofs.KeyOrder.{OrderTellsSame, key_from, key_to, order_of_pair, pair_from, pair_to}
+use Rattle.krates_ids.specs.Identity.{Identity}
+use Rattle.krates_rules.specs.Facts.{Id, Edge, Fact, Kept}
+use Rattle.krates_rules.specs.Resolved.{id_of}
+
+is_equal : (o : Ordering) → is_eq o ≡ true → o ≡ Equal
+is_equal Less h = absurd cc
+is_equal Equal h = refl
+is_equal Greater h = absurd cc
+
+equal_is : (o : Ordering) → o ≡ Equal → is_eq o ≡ true
+equal_is o e = rw e refl
+
+none_there : {X : Type 0} (x : X) → Contains [] x → ⊥
+none_there x (k, lt, is) = absurd (omega (arith, lt))
+
+-- ---- facts
+
+key_step : (b o : Bool) (fs : List Fact) (f g : Fact) → (b ≡ true → f ≡ g) → (f ≡ g → b ≡ true) → (IsTrue o ↔ Contains fs g) → IsTrue (cond b true o) ↔ Contains (fs ++ f ∷ []) g
+key_step true o fs f g there back h = (λ t. subst (λ (x : Fact). Contains (fs ++ f ∷ []) x) (there refl) (Contains-push fs f), λ c. refl)
+key_step false o fs f g there back h = (
+  λ t. Contains-append_left fs (f ∷ []) g (h.0 t),
+  λ c. elim (Contains-push_cases fs f g c) [ inl x ↦ h.1 x | inr e ↦ absurd (let no : false ≡ true = back e in cc) ],
+)
+
+-- a set without a key has no fact
+pub keys_none : (set : BTreeSet FactKey) → set.keys ≡ [] → HasKeys set []
+keys_none set e k = rw e (λ t. absurd cc, λ c. absurd (none_there (key_view k) c))
+
+keys_put : OrderTellsSame → (old new : BTreeSet FactKey) (fs : List Fact) (k : FactKey) → ((q : FactKey) → contains key_cmp new q ≡ cond (is_at (key_cmp k) q) true (contains key_cmp old q)) → HasKeys old fs
+    → HasKeys new (fs ++ key_view k ∷ [])
+keys_put tells old new fs k grown h q =
+    subst (λ (b : Bool). IsTrue b ↔ Contains (fs ++ key_view k ∷ []) (key_view q)) (sym (grown q))
+    (key_step (is_eq (key_cmp k q)) (contains key_cmp old q) fs (key_view k) (key_view q) (λ t. key_to tells k q (is_equal (key_cmp k q) t)) (λ e. equal_is (key_cmp k q) (key_from tells k q e)) (h q))
+
+-- one more of a list
+seen_step : (xs : List ToldFact) (i : ℕ) (x : ToldFact) → i < length xs → x ≡ get_or xs i x → facts_view (take i xs) ++ fact_view x ∷ [] ≡ facts_view (take (i + 1) xs)
+seen_step xs i x lt is =
+    let more = take_more xs i x lt ∙ ap (λ y. take i xs ++ y ∷ []) (sym is) in
+    sym (ap facts_view more ∙ map-append fact_view (take i xs) (x ∷ []))
+
+pub keys_more : OrderTellsSame → (old new : BTreeSet FactKey) (xs : List ToldFact) (i : ℕ) (x : ToldFact) (k : FactKey) → key_view k ≡ fact_view x → i < length xs → x ≡ get_or xs i x
+    → ((q : FactKey) → contains key_cmp new q ≡ cond (is_at (key_cmp k) q) true (contains key_cmp old q)) → HasKeys old (facts_view (take i xs)) → HasKeys new (facts_view (take (i + 1) xs))
+keys_more tells old new xs i x k seen lt is grown h =
+    subst (HasKeys new) (ap (λ (f : Fact). facts_view (take i xs) ++ f ∷ []) seen ∙ seen_step xs i x lt is) (keys_put tells old new (facts_view (take i xs)) k grown h)
+
+pub keys_all : (set : BTreeSet FactKey) (xs : List ToldFact) (i : ℕ) → length xs ≤ i → HasKeys set (facts_view (take i xs)) → HasKeys set (facts_view xs)
+keys_all set xs i le h = subst (λ (ys : List ToldFact). HasKeys set (facts_view ys)) (take_all i xs le) h
+
+-- ---- crates of edges
+
+pair_step : (b o : Bool) (fs : List Fact) (e : Edge) (p c : Id) → (b ≡ true → (e.parent ≡ p) × (e.child ≡ c)) → (e.parent ≡ p → e.child ≡ c → b ≡ true) → (IsTrue o ↔ HasBetween fs p c)
+    → IsTrue (cond b true o) ↔ HasBetween (fs ++ Kept e ∷ []) p c
+pair_step true o fs e p c there back h = (λ t. (e, Contains-push fs (Kept e), (there refl).0, (there refl).1), λ w. refl)
+pair_step false o fs e p c there back h = (
+  λ t. (let w = h.0 t in (w.0, Contains-append_left fs (Kept e ∷ []) (Kept w.0) w.1, w.2, w.3)),
+  λ w. elim (Contains-push_cases fs (Kept e) (Kept w.0) w.1) [
+    | inl x ↦ h.1 (w.0, x, w.2, w.3)
+    | inr same ↦ absurd (
+        let s : e ≡ w.0 = cc in
+        let no : false ≡ true = back (ap (λ (y : Edge). y.parent) s ∙ w.2) (ap (λ (y : Edge). y.child) s ∙ w.3) in
+        cc)
+  ],
+)
+
+pub pairs_none : (set : BTreeSet Pair) → set.keys ≡ [] → HasPairs set []
+pairs_none set e k = rw e (λ t. absurd cc, λ w. absurd (none_there (Kept w.0) w.1))
+
+pub pairs_put : OrderTellsSame → (old new : BTreeSet Pair) (fs : List Fact) (p c : Identity) (e : Edge) → id_of p ≡ e.parent → id_of c ≡ e.child
+    → ((q : Pair) → contains pair_cmp new q ≡ cond (is_eq (order_of_pair p c q)) true (contains pair_cmp old q)) → HasPairs old fs → HasPairs new (fs ++ Kept e ∷ [])
+pairs_put tells old new fs p c e from to grown h q =
+    subst (λ (b : Bool). IsTrue b ↔ HasBetween (fs ++ Kept e ∷ []) (id_of q.parent.now) (id_of q.child.now)) (sym (grown q))
+    (pair_step (is_eq (order_of_pair p c q)) (contains pair_cmp old q) fs e (id_of q.parent.now) (id_of q.child.now)
+    (λ t. (let w = pair_to tells p c q (is_equal (order_of_pair p c q) t) in (sym from ∙ w.0, sym to ∙ w.1)))
+    (λ x y. equal_is (order_of_pair p c q) (pair_from tells p c q (from ∙ x) (to ∙ y))) (h q))
+
+-- a fact that isn't an edge adds none
+pub pairs_same : (set : BTreeSet Pair) (fs : List Fact) (f : Fact) → ((e : Edge) → f ≡ Kept e → ⊥) → HasPairs set fs → HasPairs set (fs ++ f ∷ [])
+pairs_same set fs f other h q = (
+  λ t. (let w = (h q).0 t in (w.0, Contains-append_left fs (f ∷ []) (Kept w.0) w.1, w.2, w.3)),
+  λ w. elim (Contains-push_cases fs f (Kept w.0) w.1) [ inl x ↦ (h q).1 (w.0, x, w.2, w.3) | inr same ↦ absurd (other w.0 same) ],
+)
+
+pub pairs_more : (new : BTreeSet Pair) (xs : List ToldFact) (i : ℕ) (x : ToldFact) → i < length xs → x ≡ get_or xs i x → HasPairs new (facts_view (take i xs) ++ fact_view x ∷ []) → HasPairs new (facts_view (take (i + 1) xs))
+pairs_more new xs i x lt is h = subst (HasPairs new) (seen_step xs i x lt is) h
+
+pub pairs_all : (set : BTreeSet Pair) (xs : List ToldFact) (i : ℕ) → length xs ≤ i → HasPairs set (facts_view (take i xs)) → HasPairs set (facts_view xs)
+pairs_all set xs i le h = subst (λ (ys : List ToldFact). HasPairs set (facts_view ys)) (take_all i xs le) h
