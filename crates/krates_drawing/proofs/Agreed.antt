@@ -69,9 +69,9 @@ last_there o [] y m = absurd m
 last_there o (x ∷ xs) y m = last_some x xs
 
 -- an edge from p to q has the declared dependency at k
-record Claim (t : Sheet) (p q : Id) (k : ℕ) : Type 0 where
-  between : Between t p q
-  at : between.link.place ≡ k
+pub record Claim (t : Sheet) (p q : Id) (k : ℕ) : Type 0 where
+  pub between : Between t p q
+  pub at : between.link.place ≡ k
 
 claim_of : (t : Sheet) (p q : Id) (k : ℕ) → list_any (claims_at k q) (from_crate t p) ≡ true → Claim t p q k
 claim_of t p q k h =
@@ -86,7 +86,7 @@ claim_by t p q k w =
     member_any (claims_at k q) (from_crate t p) b.link (in_from t p b.link b.member b.parent)
     (and_true _ _ (subst (λ i. id_eq b.link.edge.child i ≡ true) b.child (id_same b.link.edge.child)) ((Decides-eqb b.link.place k).1 w.at))
 
-claimant_of : (t : Sheet) (p : Id) (k : ℕ) (q : Krate) → claimant t (from_crate t p) k ≡ Some q → Member t.krates q × Claim t p q.id k
+pub claimant_of : (t : Sheet) (p : Id) (k : ℕ) (q : Krate) → claimant t (from_crate t p) k ≡ Some q → Member t.krates q × Claim t p q.id k
 claimant_of t p k q e = elim (last_of None (filter (claims (from_crate t p) k) t.krates) q e) [
   | inl none ↦ absurd (none-some q none)
   | inr m ↦ (let w = kept_of (claims (from_crate t p) k) t.krates q m in (w.0, claim_of t p q.id k w.1))
@@ -96,7 +96,7 @@ claimant_of t p k q e = elim (last_of None (filter (claims (from_crate t p) k) t
 some_claimant : (t : Sheet) (p : Id) (k : ℕ) (q : Krate) → Member t.krates q → Claim t p q.id k → (z : Krate) × (claimant t (from_crate t p) k ≡ Some z)
 some_claimant t p k q m w = last_there None (filter (claims (from_crate t p) k) t.krates) q (member_filter (claims (from_crate t p) k) t.krates q (claim_by t p q.id k w) m)
 
-image_of : {A B : Type 0} (f : A → B) (o : Option A) (y : B) → option_map f o ≡ Some y → (x : A) × (o ≡ Some x) × (f x ≡ y)
+pub image_of : {A B : Type 0} (f : A → B) (o : Option A) (y : B) → option_map f o ≡ Some y → (x : A) × (o ≡ Some x) × (f x ≡ y)
 image_of f None y e = absurd (none-some y e)
 image_of f (Some x) y e = (x, refl, same_Some (f x) y e)
 
@@ -125,7 +125,7 @@ link_leads r s t h l at = by (front_of l.given)
         let there = h.feature_in l.edge.child f (given_enabled r s t l f h at gives) in
         record { line = x; among = contains_of (lines t) x (arrow_in t _ _ _ (keeps_ends r s t h) (dep_feature l f at gives)); from = refl; to = inr (f, feature_node t l.edge.child f there) }
 
-between_leads : (r : Resolved) (s : SettingModel) (t : Sheet) (p d : Id) → Holds r s t → Between t p d → LeadsBetween t p d
+pub between_leads : (r : Resolved) (s : SettingModel) (t : Sheet) (p d : Id) → Holds r s t → Between t p d → LeadsBetween t p d
 between_leads r s t p d h b =
     subst (λ i. LeadsBetween t p i) b.child (subst (λ i. LeadsBetween t i b.link.edge.child) b.parent (link_leads r s t h b.link b.member))
 
@@ -180,7 +180,7 @@ declared_here declared place d P Q A B (inr x) = slice_get_within declared place
 
 place_below : (r : Resolved) (s : SettingModel) (t : Sheet) (k : Krate) (l : Link) → NoneDoubled r.metadata r.graph → Holds r s t → Member t.krates k → Member t.links l → l.edge.parent ≡ k.id → l.place < k.declared
 place_below r s t k l none h at among e =
-    let w = (h.edge_of l among).is_link.declared in
+    let w = (h.edge_of l among).is_link.declared.declares in
     let c = h.count_of k at in
     let same : w.pkg ≡ c.pkg = one_package r k.id w.pkg c.pkg none (subst (λ i. HasPackage r i w.pkg) e w.has_package) c.has_package in
     let below = declared_here w.pkg.dependencies l.place (h.edge_of l among).is_link.dependency _ _ _ _ w.declared in

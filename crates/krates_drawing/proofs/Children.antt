@@ -196,7 +196,7 @@ first_after mine k d by lt =
 
 -- ---- one crate
 
-self_equal : (a : Id) → is_eq (id_order a a) ≡ true
+pub self_equal : (a : Id) → is_eq (id_order a a) ≡ true
 self_equal a = equal_order a a ∙ id_same a
 
 others_fail : (c : Id) (x : model.Krate) (xs : List model.Krate) → is_crate c x ≡ true → AllByRecursion (λ k. id_order x.id k ≡ Less) (map (λ (q : model.Krate). q.id) xs) → filter (is_crate c) xs ≡ []

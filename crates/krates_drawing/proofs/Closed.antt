@@ -61,7 +61,7 @@ given_enabled r s t l g h at m =
     let w = (h.edge_of l at).is_link in
     let k = kept_of (has_text w.node.features) (asked_by w.dependency) g (subst (λ fs. Member fs g) w.given m) in
     let lists : ListsFeature r l.edge.child g = record { node = w.node; has_node = w.has_node; among = contains_of w.node.features g (text_there w.node.features g k.1) } in
-    let declared : IsDeclaredAs r l.edge w.dependency = (l.place, record { dep = w.declared.dep; lists = w.declared.listed.lists; pkg = w.declared.pkg; has_package = w.declared.has_package; declared = w.declared.declared }) in
+    let declared : IsDeclaredAs r l.edge w.dependency = (l.place, w.declared.declares) in
     elim (asked_for w.dependency g k.0) [
       | by_name here ↦ follows (rules.declared {e = l.edge} {d = w.dependency} {g = g} declared (contains_of w.dependency.features g here) lists) (one q (Kept l.edge) kept)
       | by_use on is ↦ (

@@ -45,11 +45,12 @@ krate_told r i n some (counted p h e) = record { id = refl; pkg = p; has_package
 -- the declared dependency of the edge stands at its place in the list of any package of the parent
 at_place : (r : Resolved) (s : SettingModel) (e : KeptEdge) (w : IsPlaced r s e) (p : PackageModel) → NoneDoubled r.metadata r.graph → HasPackage r (id_of e.parent) p → slice_get p.dependencies e.declared ≡ Some w.dependency
 at_place r s e w p none h =
-    let same = one_package r (id_of e.parent) w.declared.pkg p none w.declared.has_package h in
-    subst (λ (z : PackageModel). slice_get z.dependencies e.declared ≡ Some w.dependency) same (declared_stands w.declared.pkg.dependencies (dependency_entry (id_of e.child) w.declared.dep) (kind_info_of (edge_view e)) e.declared w.dependency w.declared.declared)
+    let a = w.declared.declares in
+    let same = one_package r (id_of e.parent) a.pkg p none a.has_package h in
+    subst (λ (z : PackageModel). slice_get z.dependencies e.declared ≡ Some w.dependency) same (declared_stands a.pkg.dependencies (dependency_entry (id_of e.child) a.dep) (kind_info_of (edge_view e)) e.declared w.dependency a.declared)
 
 link_told : (r : Resolved) (s : SettingModel) (e : KeptEdge) (v : Vec (String Global)) → NoneDoubled r.metadata r.graph → IsPlaced r s e → (NoNode r (id_of e.child) → ⊥) → GivenTold r e (texts_view v) → IsLink r s e (link_view (record { edge = e; given = v }))
-link_told r s e v none w some (no_parent gone) = absurd (gone w.declared.pkg w.declared.has_package)
+link_told r s e v none w some (no_parent gone) = absurd (gone w.declared.declares.pkg w.declared.declares.has_package)
 link_told r s e v none w some (no_child gone) = absurd (some gone)
 link_told r s e v none w some (no_dependency p h at) = absurd (none-some w.dependency (sym at ∙ at_place r s e w p none h))
 link_told r s e v none w some (gives p n d hp hn at is) =

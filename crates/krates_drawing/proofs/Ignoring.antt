@@ -54,11 +54,8 @@ pub wanted_alike : (r : Resolved) (s : SettingModel) (g : IgnoredKinds) (k : Dep
 wanted_alike r s g k e d more other w = record {
   place = w.place;
   declared = record {
-    dep = w.declared.dep;
-    listed = record { lists = w.declared.listed.lists; not_ignored = not_ignored r s g k e more other w.declared.listed.not_ignored };
-    pkg = w.declared.pkg;
-    has_package = w.declared.has_package;
-    declared = w.declared.declared;
+    declares = w.declared.declares;
+    not_ignored = not_ignored r s g k e more other w.declared.not_ignored;
   };
   passes = w.passes;
 }

@@ -5,6 +5,8 @@ pub mod Children
 pub mod Closed
 pub mod Derivations
 pub mod Drawn
+pub mod Entries
+pub mod FewerLines
 pub mod Gathering
 pub mod Halves
 pub mod Holding
@@ -12,12 +14,16 @@ pub mod Ignoring
 pub mod Joined
 pub mod Mapped
 pub mod Members
+pub mod NarrowerSheet
 pub mod NodeNumbers
 pub mod OneReferent
 pub mod OneSheet
 pub mod Ordered
+pub mod Parts
+pub mod Placed
 pub mod Rebuilt
 pub mod SaidAlike
+pub mod SheetThere
 pub mod Standing
 pub mod Storing
 pub mod Tests

@@ -1,5 +1,6 @@
 -- What a declared dependency is mapped to, edge by edge.
-use Rattle.std.proofs.Common.{◌≡◌, ℕ, ◌+◌, ◌<◌, ◌==◌, Bool, true, false, ◌||◌, ◌&&◌, List, [], ◌∷◌, length, get_or, take, map, filter, cond, Option, Some, None, option_map, Greater, refl, ap, ◌∙◌}
+use Rattle.std.proofs.Common.{◌≡◌, ℕ, ◌+◌, ◌<◌, ◌==◌, Bool, true, false, ◌||◌, ◌&&◌, List, [], ◌∷◌, length, get_or, take, map, filter, arith, cond, Option, Some, None, option_map, slice_get, replicate, Greater, refl, sym, ap, ◌∙◌}
+use Rattle.std.specs.List.{range_with_len}
 use Rattle.std.specs.List.Sorted.{IsStrictlySortedBy}
 use Rattle.std.specs.Ordering.{is_eq}
 use Rattle.krates_ids.specs.Identity.{id_cmp}
@@ -7,11 +8,12 @@ use Rattle.krates_rules.specs.Referent.{id_order}
 use Rattle.krates_rules.specs.Resolved.{id_of}
 use Rattle.krates_drawing.specs.Drawing.{claims, claims_at, crate_number, is_crate, is_to, last_from, mapped}
 use Rattle.krates_drawing.specs.Sheet as model
-use Rattle.krates_drawing.specs.SheetOrder.{AreByChild, claimed_of, number_of}
+use Rattle.krates_drawing.specs.SheetOrder.{AreByChild, IsClaimed, claimed_of, number_of}
 use Rattle.krates_drawing.specs.Views.{krate_view, link_view}
 use Rattle.krates_drawing.specs.declared.sheet.Krate.{Krate}
 use Rattle.krates_drawing.specs.declared.sheet.Link.{Link}
 use Rattle.krates_drawing.proofs.Children.{crates_in_order, not_above, order_total, seen_more, seen_of, these, to_next}
+use Rattle.krates_drawing.proofs.Entries.{all_alike, entries_changed, same_entries}
 use Rattle.krates_drawing.proofs.Joined.{either, last_joined}
 use Rattle.krates_drawing.proofs.NodeNumbers.{both}
 use Rattle.krates_drawing.proofs.OneSheet.{filter_same}
@@ -55,14 +57,32 @@ more_step t ks mine i x place true e krates sorted by lt is =
     ordered : (xs : List model.Krate) → xs ≡ map krate_view ks → IsStrictlySortedBy id_order (map (λ (q : model.Krate). q.id) xs)
     ordered xs same = rw same (crates_in_order ks sorted)
 
-pub mapped_more : (t : model.Sheet) (ks : List Krate) (mine : List Link) (i : ℕ) (x : Link) (place : ℕ) → t.krates ≡ map krate_view ks → IsStrictlySortedBy id_cmp (map (λ k. k.id) ks) → AreByChild mine → i < length mine → x ≡ get_or mine i x
+mapped_more : (t : model.Sheet) (ks : List Krate) (mine : List Link) (i : ℕ) (x : Link) (place : ℕ) → t.krates ≡ map krate_view ks → IsStrictlySortedBy id_cmp (map (λ k. k.id) ks) → AreByChild mine → i < length mine → x ≡ get_or mine i x
     → mapped t (map link_view (take (i + 1) mine)) place ≡ claimed_of t (link_view x) place (mapped t (map link_view (take i mine)) place)
 mapped_more t ks mine i x place krates sorted by lt is = more_step t ks mine i x place ((link_view x).place == place) refl krates sorted by lt is
 
 -- no edge, no crate
-pub mapped_none : (t : model.Sheet) (place : ℕ) → mapped t [] place ≡ None
+mapped_none : (t : model.Sheet) (place : ℕ) → mapped t [] place ≡ None
 mapped_none t place = ap (λ l. option_map (λ (q : model.Krate). crate_number t q.id) (last_from None l)) (none t.krates)
   where
     none : (ks : List model.Krate) → filter (claims [] place) ks ≡ []
     none [] = refl
     none (k ∷ ks) = none ks
+
+-- ---- the whole mapping
+
+-- before the first edge
+pub mapping_none : (t : model.Sheet) (count : ℕ) → replicate count None ≡ map (mapped t []) (range_with_len 0 count)
+mapping_none t count = all_alike (mapped t []) None (mapped_none t) 0 count
+
+-- what one more edge makes of it
+pub mapping_more : (t : model.Sheet) (ks : List Krate) (mine : List Link) (i : ℕ) (x : Link) (count : ℕ) (old new : List (Option ℕ)) → t.krates ≡ map krate_view ks → IsStrictlySortedBy id_cmp (map (λ k. k.id) ks) → AreByChild mine → i < length mine → x ≡ get_or mine i x
+    → old ≡ map (mapped t (map link_view (take i mine))) (range_with_len 0 count) → IsClaimed t (link_view x) old new → new ≡ map (mapped t (map link_view (take (i + 1) mine))) (range_with_len 0 count)
+mapping_more t ks mine i x count old new krates sorted by lt is before claimed =
+    let f = mapped t (map link_view (take i mine)) in
+    let g = mapped t (map link_view (take (i + 1) mine)) in
+    same_entries new (map g (range_with_len 0 count)) (λ k.
+    let e : 0 + k ≡ k = omega arith in
+    claimed k ∙ ap (λ l. option_map (claimed_of t (link_view x) k) (slice_get l k)) before
+    ∙ ap (λ j. option_map (claimed_of t (link_view x) j) (slice_get (map f (range_with_len 0 count)) k)) (sym e)
+    ∙ sym (entries_changed f g (claimed_of t (link_view x)) (λ place. mapped_more t ks mine i x place krates sorted by lt is) 0 count k))

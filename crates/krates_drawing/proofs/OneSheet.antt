@@ -26,7 +26,8 @@ use Rattle.krates_resolve.specs.declared.selection.Selection.{Selection}
 use Rattle.krates_resolve.specs.declared.selection.ToggledFeature.{ToggledFeature}
 use Rattle.krates_drawing.specs.Alike.{IsDrawnAlike}
 use Rattle.krates_drawing.specs.Drawing.{lines, spots}
-use Rattle.krates_drawing.specs.Sheet.{Krate, IsKrate, Link, IsLink, asked_by, has_text, Meaning, OwnFeature, Crates, FeatureOf, Named, IsNamed, IsMeaning, Names, AreReferents, values_of, Toggle, toggle_of, Sheet, IsSheet}
+use Rattle.krates_questions.specs.FeatureValues.{values_of}
+use Rattle.krates_drawing.specs.Sheet.{Krate, IsKrate, Link, IsLink, asked_by, has_text, Meaning, OwnFeature, Crates, FeatureOf, Named, IsNamed, IsMeaning, Names, AreReferents, Toggle, toggle_of, Sheet, IsSheet}
 use Rattle.krates_drawing.proofs.Closed.{text_there, text_has}
 use Rattle.krates_drawing.proofs.Holding.{crate_there, edge_there, feature_there, toggled_there, from_of, crate_from, link_from, feature_from, toggle_from}
 use Rattle.krates_drawing.proofs.Members.{Member, member_of, contains_of}
@@ -35,25 +36,25 @@ use Rattle.krates_drawing.proofs.Ordered.{Respects, alike, made_same, equal_zip,
 
 -- ---- what is alike
 
-abbrev SameCrate : Identity → Identity → Type 0
+abbrev pub SameCrate : Identity → Identity → Type 0
 SameCrate a b = id_of a ≡ id_of b
 
-record SameEdge (a b : KeptEdge) : Type 0 where
-  edge : edge_view a ≡ edge_view b
-  place : a.place ≡ b.place
+pub record SameEdge (a b : KeptEdge) : Type 0 where
+  pub edge : edge_view a ≡ edge_view b
+  pub place : a.place ≡ b.place
 
-record SameFeature (a b : EnabledFeature) : Type 0 where
-  krate : id_of a.krate ≡ id_of b.krate
-  name : text_view a.name ≡ text_view b.name
+pub record SameFeature (a b : EnabledFeature) : Type 0 where
+  pub krate : id_of a.krate ≡ id_of b.krate
+  pub name : text_view a.name ≡ text_view b.name
 
-record SameToggle (a b : ToggledFeature) : Type 0 where
-  by : id_of a.by ≡ id_of b.by
-  krate : id_of a.krate ≡ id_of b.krate
-  name : text_view a.name ≡ text_view b.name
+pub record SameToggle (a b : ToggledFeature) : Type 0 where
+  pub by : id_of a.by ≡ id_of b.by
+  pub krate : id_of a.krate ≡ id_of b.krate
+  pub name : text_view a.name ≡ text_view b.name
 
 -- ---- orders
 
-crate_order : Respects id_cmp SameCrate
+pub crate_order : Respects id_cmp SameCrate
 crate_order = record { total = search (comparing, rules) depth 9; same = λ a b x y p q. ap (λ i. id_order i (id_of b)) p ∙ ap (id_order (id_of x)) q }
 
 edge_cmp : Edge → ℕ → Edge → ℕ → Ordering
@@ -68,7 +69,7 @@ edge_same a b x y p q =
     let n : edge_cmp (edge_view x) x.place (edge_view y) b.place ≡ edge_cmp (edge_view x) x.place (edge_view y) y.place = ap (λ z. edge_cmp (edge_view x) x.place (edge_view y) z) q.place in
     e ∙ (m ∙ (f ∙ n))
 
-edge_order : Respects place_cmp SameEdge
+pub edge_order : Respects place_cmp SameEdge
 edge_order = record { total = search (comparing, rules) depth 9; same = edge_same }
 
 named_cmp : Id → Text → Id → Text → Ordering
@@ -83,7 +84,7 @@ feature_same a b x y p q =
     let n : named_cmp (id_of x.krate) (text_view x.name) (id_of y.krate) (text_view b.name) ≡ named_cmp (id_of x.krate) (text_view x.name) (id_of y.krate) (text_view y.name) = ap (λ z. named_cmp (id_of x.krate) (text_view x.name) (id_of y.krate) z) q.name in
     e ∙ (m ∙ (f ∙ n))
 
-feature_order : Respects feature_cmp SameFeature
+pub feature_order : Respects feature_cmp SameFeature
 feature_order = record { total = search (comparing, rules) depth 9; same = feature_same }
 
 toggle_same : (a b x y : ToggledFeature) → SameToggle a x → SameToggle b y → toggled_cmp a b ≡ toggled_cmp x y
@@ -97,7 +98,7 @@ toggle_same a b x y p q =
     ∙ (ap (λ z. cmp (id_of x.by) (id_of x.krate) (text_view x.name) (id_of y.by) z (text_view b.name)) q.krate
     ∙ ap (λ z. cmp (id_of x.by) (id_of x.krate) (text_view x.name) (id_of y.by) (id_of y.krate) z) q.name))))
 
-toggle_order : Respects toggled_cmp SameToggle
+pub toggle_order : Respects toggled_cmp SameToggle
 toggle_order = record { total = search (comparing, rules) depth 9; same = toggle_same }
 
 ids_order : Respects id_order (λ (a b : Id). a ≡ b)
@@ -106,23 +107,23 @@ ids_order = record { total = search (comparing, rules) depth 9; same = λ a b x 
 -- ---- each element has its like
 
 -- the facts of one selection are among those of the other
-abbrev Carries : Questions → Questions → Type 0
+abbrev pub Carries : Questions → Questions → Type 0
 Carries a b = (f : Fact) → Derivable a f → Derivable b f
 
-crate_likes : (r u : Resolved) (s : SettingModel) (x y : Selection) → Carries (questions r s) (questions u s) → IsSelection r s x → IsSelection u s y → (i : Identity) → Member x.krates.items i → (j : Identity) × Member y.krates.items j × (id_of j ≡ id_of i)
-crate_likes r u s x y c hx hy i m = crate_from y (id_of i) (from_of y (Crate (id_of i)) ((hy.facts (Crate (id_of i))).0 (c _ ((hx.facts (Crate (id_of i))).1 (crate_there x i m)))))
+pub crate_likes : (r u : Resolved) (s z : SettingModel) (x y : Selection) → Carries (questions r s) (questions u z) → IsSelection r s x → IsSelection u z y → (i : Identity) → Member x.krates.items i → (j : Identity) × Member y.krates.items j × (id_of j ≡ id_of i)
+crate_likes r u s z x y c hx hy i m = crate_from y (id_of i) (from_of y (Crate (id_of i)) ((hy.facts (Crate (id_of i))).0 (c _ ((hx.facts (Crate (id_of i))).1 (crate_there x i m)))))
 
-edge_likes : (r u : Resolved) (s : SettingModel) (x y : Selection) → Carries (questions r s) (questions u s) → IsSelection r s x → IsSelection u s y → (e : KeptEdge) → Member x.edges.items e → (f : KeptEdge) × Member y.edges.items f × (edge_view f ≡ edge_view e)
-edge_likes r u s x y c hx hy e m = link_from y (edge_view e) (from_of y (Kept (edge_view e)) ((hy.facts (Kept (edge_view e))).0 (c _ ((hx.facts (Kept (edge_view e))).1 (edge_there x e m)))))
+pub edge_likes : (r u : Resolved) (s z : SettingModel) (x y : Selection) → Carries (questions r s) (questions u z) → IsSelection r s x → IsSelection u z y → (e : KeptEdge) → Member x.edges.items e → (f : KeptEdge) × Member y.edges.items f × (edge_view f ≡ edge_view e)
+edge_likes r u s z x y c hx hy e m = link_from y (edge_view e) (from_of y (Kept (edge_view e)) ((hy.facts (Kept (edge_view e))).0 (c _ ((hx.facts (Kept (edge_view e))).1 (edge_there x e m)))))
 
-feature_likes : (r u : Resolved) (s : SettingModel) (x y : Selection) → Carries (questions r s) (questions u s) → IsSelection r s x → IsSelection u s y → (e : EnabledFeature) → Member x.features.items e → (f : EnabledFeature) × Member y.features.items f × SameFeature f e
-feature_likes r u s x y c hx hy e m =
+pub feature_likes : (r u : Resolved) (s z : SettingModel) (x y : Selection) → Carries (questions r s) (questions u z) → IsSelection r s x → IsSelection u z y → (e : EnabledFeature) → Member x.features.items e → (f : EnabledFeature) × Member y.features.items f × SameFeature f e
+feature_likes r u s z x y c hx hy e m =
     let fact : Fact = Feature (id_of e.krate) (text_view e.name) in
     let w = feature_from y (id_of e.krate) (text_view e.name) (from_of y fact ((hy.facts fact).0 (c _ ((hx.facts fact).1 (feature_there x e m))))) in
     (w.0, w.1, record { krate = w.2; name = w.3 })
 
-toggle_likes : (r u : Resolved) (s : SettingModel) (x y : Selection) → Carries (questions r s) (questions u s) → IsSelection r s x → IsSelection u s y → (e : ToggledFeature) → Member x.toggled.items e → (f : ToggledFeature) × Member y.toggled.items f × SameToggle f e
-toggle_likes r u s x y c hx hy e m =
+pub toggle_likes : (r u : Resolved) (s z : SettingModel) (x y : Selection) → Carries (questions r s) (questions u z) → IsSelection r s x → IsSelection u z y → (e : ToggledFeature) → Member x.toggled.items e → (f : ToggledFeature) × Member y.toggled.items f × SameToggle f e
+toggle_likes r u s z x y c hx hy e m =
     let fact : Fact = Toggled (id_of e.by) (id_of e.krate) (text_view e.name) in
     let w = toggle_from y (id_of e.by) (id_of e.krate) (text_view e.name) (from_of y fact ((hy.facts fact).0 (c _ ((hx.facts fact).1 (toggled_there x e m))))) in
     (w.0, w.1, record { by = w.2; krate = w.3; name = w.4 })
@@ -130,10 +131,10 @@ toggle_likes r u s x y c hx hy e m =
 placed : (r : Resolved) (s : SettingModel) (x : Selection) (e : KeptEdge) → IsSelection r s x → Member x.edges.items e → IsPlaced r s e
 placed r s x e h m = All-contains (IsPlaced r s) x.edges.items e h.placed (contains_of x.edges.items e m)
 
-turn_feature : (a b : EnabledFeature) → SameFeature a b → SameFeature b a
+pub turn_feature : (a b : EnabledFeature) → SameFeature a b → SameFeature b a
 turn_feature a b p = record { krate = sym p.krate; name = sym p.name }
 
-turn_toggle : (a b : ToggledFeature) → SameToggle a b → SameToggle b a
+pub turn_toggle : (a b : ToggledFeature) → SameToggle a b → SameToggle b a
 turn_toggle a b p = record { by = sym p.by; krate = sym p.krate; name = sym p.name }
 
 -- ---- the lists of the selections, place by place
@@ -152,34 +153,34 @@ back r u s w f d = (w.facts f).1 d
 
 crates_zip : (r u : Resolved) (s : SettingModel) (x y : Selection) → Two r u s x y → AllZip SameCrate x.krates.items y.krates.items
 crates_zip r u s x y w = alike id_cmp SameCrate x.krates.items y.krates.items crate_order w.first.krates w.second.krates
-    (λ i m. let k = crate_likes r u s x y (there r u s w.say) w.first w.second i m in record { partner = k.0; member = k.1; related = sym k.2 })
-    (λ i m. let k = crate_likes u r s y x (back r u s w.say) w.second w.first i m in record { partner = k.0; member = k.1; related = k.2 })
+    (λ i m. let k = crate_likes r u s s x y (there r u s w.say) w.first w.second i m in record { partner = k.0; member = k.1; related = sym k.2 })
+    (λ i m. let k = crate_likes u r s s y x (back r u s w.say) w.second w.first i m in record { partner = k.0; member = k.1; related = k.2 })
 
 edges_zip : (r u : Resolved) (s : SettingModel) (x y : Selection) → Two r u s x y → AllZip SameEdge x.edges.items y.edges.items
 edges_zip r u s x y w = alike place_cmp SameEdge x.edges.items y.edges.items edge_order w.first.edges w.second.edges
     (λ e m.
-    let k = edge_likes r u s x y (there r u s w.say) w.first w.second e m in
+    let k = edge_likes r u s s x y (there r u s w.say) w.first w.second e m in
     record { partner = k.0; member = k.1; related = record { edge = sym k.2; place = w.say.place e k.0 (sym k.2) (placed r s x e w.first m) (placed u s y k.0 w.second k.1) } })
     (λ e m.
-    let k = edge_likes u r s y x (back r u s w.say) w.second w.first e m in
+    let k = edge_likes u r s s y x (back r u s w.say) w.second w.first e m in
     record { partner = k.0; member = k.1; related = record { edge = k.2; place = w.say.place k.0 e k.2 (placed r s x k.0 w.first k.1) (placed u s y e w.second m) } })
 
 features_zip : (r u : Resolved) (s : SettingModel) (x y : Selection) → Two r u s x y → AllZip SameFeature x.features.items y.features.items
 features_zip r u s x y w = alike feature_cmp SameFeature x.features.items y.features.items feature_order w.first.features w.second.features
-    (λ e m. let k = feature_likes r u s x y (there r u s w.say) w.first w.second e m in record { partner = k.0; member = k.1; related = turn_feature k.0 e k.2 })
-    (λ e m. let k = feature_likes u r s y x (back r u s w.say) w.second w.first e m in record { partner = k.0; member = k.1; related = k.2 })
+    (λ e m. let k = feature_likes r u s s x y (there r u s w.say) w.first w.second e m in record { partner = k.0; member = k.1; related = turn_feature k.0 e k.2 })
+    (λ e m. let k = feature_likes u r s s y x (back r u s w.say) w.second w.first e m in record { partner = k.0; member = k.1; related = k.2 })
 
 toggled_zip : (r u : Resolved) (s : SettingModel) (x y : Selection) → Two r u s x y → AllZip SameToggle x.toggled.items y.toggled.items
 toggled_zip r u s x y w = alike toggled_cmp SameToggle x.toggled.items y.toggled.items toggle_order w.first.toggled w.second.toggled
-    (λ e m. let k = toggle_likes r u s x y (there r u s w.say) w.first w.second e m in record { partner = k.0; member = k.1; related = turn_toggle k.0 e k.2 })
-    (λ e m. let k = toggle_likes u r s y x (back r u s w.say) w.second w.first e m in record { partner = k.0; member = k.1; related = k.2 })
+    (λ e m. let k = toggle_likes r u s s x y (there r u s w.say) w.first w.second e m in record { partner = k.0; member = k.1; related = turn_toggle k.0 e k.2 })
+    (λ e m. let k = toggle_likes u r s s y x (back r u s w.say) w.second w.first e m in record { partner = k.0; member = k.1; related = k.2 })
 
 -- ---- what stands beside them
 
 krate_same : (i j : Id) (m n : ℕ) → i ≡ j → m ≡ n → (let k : Krate = record { id = i; declared = m } in k) ≡ record { id = j; declared = n }
 krate_same i j m n a b = ap (λ (z : Id). record { id = z; declared = m }) a ∙ ap (λ (z : ℕ). record { id = j; declared = z }) b
 
-krates_same : (r u : Resolved) (s : SettingModel) → SaidAlike r u s → (a b : Identity) (k l : Krate) → SameCrate a b → IsKrate r a k → IsKrate u b l → k ≡ l
+pub krates_same : (r u : Resolved) (s : SettingModel) → SaidAlike r u s → (a b : Identity) (k l : Krate) → SameCrate a b → IsKrate r a k → IsKrate u b l → k ≡ l
 krates_same r u s w a b k l same p q =
     let id : k.id ≡ l.id = p.id ∙ (same ∙ sym q.id) in
     let pkg = w.packages k.id p.pkg q.pkg p.has_package (subst (λ i. HasPackage u i q.pkg) (sym id) q.has_package) in
@@ -200,12 +201,12 @@ filter_same p q (x ∷ xs) h = filter_step (p x) (q x) x (filter p xs) (filter q
 link_same : (e f : Edge) (m n : ℕ) (gs hs : List Text) → e ≡ f → m ≡ n → gs ≡ hs → (let l : Link = record { edge = e; place = m; given = gs } in l) ≡ record { edge = f; place = n; given = hs }
 link_same e f m n gs hs a b c = ap (λ (z : Edge). record { edge = z; place = m; given = gs }) a ∙ (ap (λ (z : ℕ). record { edge = f; place = z; given = gs }) b ∙ ap (λ (z : List Text). record { edge = f; place = n; given = z }) c)
 
-listed_same : (n m : NodeModel) (g : Text) → (Contains n.features g ↔ Contains m.features g) → has_text n.features g ≡ has_text m.features g
+pub listed_same : (n m : NodeModel) (g : Text) → (Contains n.features g ↔ Contains m.features g) → has_text n.features g ≡ has_text m.features g
 listed_same n m g h = bools_same _ _
     (λ e. text_has m.features g (member_of m.features g (h.0 (contains_of n.features g (text_there n.features g e)))))
     (λ e. text_has n.features g (member_of n.features g (h.1 (contains_of m.features g (text_there m.features g e)))))
 
-links_same : (r u : Resolved) (s : SettingModel) → SaidAlike r u s → (a b : KeptEdge) (k l : Link) → SameEdge a b → IsLink r s a k → IsLink u s b l → k ≡ l
+pub links_same : (r u : Resolved) (s : SettingModel) → SaidAlike r u s → (a b : KeptEdge) (k l : Link) → SameEdge a b → IsLink r s a k → IsLink u s b l → k ≡ l
 links_same r u s w a b k l same p q =
     let edge : k.edge ≡ l.edge = p.edge ∙ (same.edge ∙ sym q.edge) in
     let declared = w.declared k.edge k.place l.place p.dependency q.dependency p.declared (subst (λ e. IsDeclaredAt u s e l.place q.dependency) (sym edge) q.declared) in
@@ -273,7 +274,7 @@ meanings_same one r u s i values ms ns w p q = made_same (λ (a b : Text). a ≡
 named_same : (i j : Id) (f g : Text) (ms ns : List Meaning) → i ≡ j → f ≡ g → ms ≡ ns → (let n : Named = record { krate = i; name = f; meanings = ms } in n) ≡ record { krate = j; name = g; meanings = ns }
 named_same i j f g ms ns a b c = ap (λ (z : Id). record { krate = z; name = f; meanings = ms }) a ∙ (ap (λ (z : Text). record { krate = j; name = z; meanings = ms }) b ∙ ap (λ (z : List Meaning). record { krate = j; name = g; meanings = z }) c)
 
-features_same : ReadsOneReference → (r u : Resolved) (s : SettingModel) → SaidAlike r u s → (a b : EnabledFeature) (k l : Named) → SameFeature a b → IsNamed r a k → IsNamed u b l → k ≡ l
+pub features_same : ReadsOneReference → (r u : Resolved) (s : SettingModel) → SaidAlike r u s → (a b : EnabledFeature) (k l : Named) → SameFeature a b → IsNamed r a k → IsNamed u b l → k ≡ l
 features_same one r u s w a b k l same p q =
     let krate : k.krate ≡ l.krate = p.krate ∙ (same.krate ∙ sym q.krate) in
     let name : k.name ≡ l.name = p.name ∙ (same.name ∙ sym q.name) in
@@ -282,7 +283,7 @@ features_same one r u s w a b k l same p q =
     let theirs = subst (λ vs. AllZip (IsMeaning u k.krate) vs l.meanings) values (subst (λ i. AllZip (IsMeaning u i) (values_of q.pkg.features l.name) l.meanings) (sym krate) q.meanings) in
     named_same k.krate l.krate k.name l.name k.meanings l.meanings krate name (meanings_same one r u s k.krate (values_of p.pkg.features k.name) k.meanings l.meanings w p.meanings theirs)
 
-toggle_views : (a b : ToggledFeature) → SameToggle a b → toggle_of a ≡ toggle_of b
+pub toggle_views : (a b : ToggledFeature) → SameToggle a b → toggle_of a ≡ toggle_of b
 toggle_views a b p =
     ap (λ (z : Id). (let t : Toggle = record { by = z; krate = id_of a.krate; name = text_view a.name } in t)) p.by
     ∙ (ap (λ (z : Id). (let t : Toggle = record { by = id_of b.by; krate = z; name = text_view a.name } in t)) p.krate ∙ ap (λ (z : Text). (let t : Toggle = record { by = id_of b.by; krate = id_of b.krate; name = z } in t)) p.name)

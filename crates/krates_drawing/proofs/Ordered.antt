@@ -10,12 +10,12 @@ pub record Respects {A : Type 0} (c : A → A → Ordering) (S : A → A → Typ
   pub total : IsTotalOrder c
   pub same : (a b x y : A) → S a x → S b y → c a b ≡ c x y
 
-each : {A : Type 0} (P : A → Type 0) (xs : List A) (z : A) → AllByRecursion P xs → Member xs z → P z
+pub each : {A : Type 0} (P : A → Type 0) (xs : List A) (z : A) → AllByRecursion P xs → Member xs z → P z
 each P [] z h m = absurd m
 each P (x ∷ xs) z h (inl e) = subst P e h.0
 each P (x ∷ xs) z h (inr m) = each P xs z h.1 m
 
-strict : {A : Type 0} (c : A → A → Ordering) → IsTotalOrder c → (a b : A) → c a b ≡ Less → c b a ≡ Less → ⊥
+pub strict : {A : Type 0} (c : A → A → Ordering) → IsTotalOrder c → (a b : A) → c a b ≡ Less → c b a ≡ Less → ⊥
 strict c o a b l m = let e = o.antisymm a b in cc (e, l, m)
 
 -- each element of the first has its like in the second
@@ -39,7 +39,7 @@ first_like c S x y xs ys o hx hy p q = elim p.member [
   ]
 ]
 
-later_likes : {A : Type 0} (c : A → A → Ordering) (S : A → A → Type 0) (x y : A) (xs ys : List A) → Respects c S → IsStrictlySortedBy c (x ∷ xs) → S x y → HasLikes S (x ∷ xs) (y ∷ ys) → HasLikes S xs ys
+pub later_likes : {A : Type 0} (c : A → A → Ordering) (S : A → A → Type 0) (x y : A) (xs ys : List A) → Respects c S → IsStrictlySortedBy c (x ∷ xs) → S x y → HasLikes S (x ∷ xs) (y ∷ ys) → HasLikes S xs ys
 unfolding IsStrictlySortedBy
 later_likes c S x y xs ys o hx like all z m =
     let p = all z (inr m) in

@@ -64,7 +64,7 @@ child_reached r s g k t w l at other here = by (front_of l.given)
 
 kept_kind : (r : Resolved) (s : SettingModel) (g : IgnoredKinds) (k : DepKind) (e : Edge) → IgnoresMore s.ignored g k scopes.All → Derivable (questions r (ignoring s g)) (Kept e) → kind_of e.kind ≡ k → ⊥
 unfolding questions
-kept_kind r s g k e more d = other_kind r s g k e more (kept_by (questions r (ignoring s g)) e d).opened.wanted.declared.listed.not_ignored
+kept_kind r s g k e more d = other_kind r s g k e more (kept_by (questions r (ignoring s g)) e d).opened.wanted.declared.not_ignored
 
 edge_reached : (r : Resolved) (s : SettingModel) (g : IgnoredKinds) (k : DepKind) (t : Sheet) → Pair r s g k t → (e : Edge) → Derivable (questions r (ignoring s g)) (Kept e)
     → ReachesEnd r k t (AtCrate e.parent) → ReachesEnd r k t (AtCrate e.child)

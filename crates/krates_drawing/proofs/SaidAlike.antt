@@ -30,21 +30,25 @@ pub record SaidAlike (r u : Resolved) (s : SettingModel) : Type 0 where
 pub dependencies_same : (p q : PackageModel) → ReordersPackage p q → p.dependencies ≡ q.dependencies
 dependencies_same p q w = sym (ap (λ (x : PackageModel). x.dependencies) w.rest)
 
-declared_alike : (r u : Resolved) (s : SettingModel) → SayAlike r u → (e : Edge) (j k : ℕ) (d c : DependencyModel) → IsDeclaredAt r s e j d → IsDeclaredAt u s e k c → (j ≡ k) × (d ≡ c)
-declared_alike r u s w e j k d c a b =
+pub declared_alike : (r u : Resolved) (s : SettingModel) → SayAlike r u → (e : Edge) (j k : ℕ) (d c : DependencyModel) → IsDeclaredAt r s e j d → IsDeclaredAt u s e k c → (j ≡ k) × (d ≡ c)
+declared_alike r u s w e j k d c p q =
+    let a = p.declares in
+    let b = q.declares in
     let declares = dependencies_same a.pkg b.pkg (w.packages e.parent a.pkg b.pkg a.has_package b.has_package) in
-    let dep = w.deps e a.dep b.dep a.listed.lists b.listed.lists in
+    let dep = w.deps e a.dep b.dep a.lists b.lists in
     let there = subst (λ ds. IsDeclared ds (dependency_entry e.child a.dep) (kind_info_of e) j d) declares a.declared in
     let here = subst (λ (z : NodeDepModel). IsDeclared b.pkg.dependencies (dependency_entry e.child z) (kind_info_of e) j d) dep there in
     declared_once b.pkg.dependencies (dependency_entry e.child b.dep) (kind_info_of e) j k d c here b.declared
 
-place_alike : (r u : Resolved) (s : SettingModel) → SayAlike r u → (a b : KeptEdge) → edge_view a ≡ edge_view b → IsPlaced r s a → IsPlaced u s b → a.place ≡ b.place
+pub place_alike : (r u : Resolved) (s : SettingModel) → SayAlike r u → (a b : KeptEdge) → edge_view a ≡ edge_view b → IsPlaced r s a → IsPlaced u s b → a.place ≡ b.place
 place_alike r u s w a b same p q =
-    let lists = subst (λ e. ListsEdge r e p.declared.dep) same p.declared.listed.lists in
-    let dep = w.deps (edge_view b) p.declared.dep q.declared.dep lists q.declared.listed.lists in
+    let da = p.declared.declares in
+    let db = q.declared.declares in
+    let lists = subst (λ e. ListsEdge r e da.dep) same da.lists in
+    let dep = w.deps (edge_view b) da.dep db.dep lists db.lists in
     let there = subst (λ (z : NodeDepModel). FirstAt (λ k. k ≡ kind_info_of (edge_view a)) z.dep_kinds a.place (kind_info_of (edge_view a))) dep p.place in
-    let here = subst (λ (e : Edge). FirstAt (λ k. k ≡ kind_info_of e) q.declared.dep.dep_kinds a.place (kind_info_of e)) same there in
-    (one_first (λ (k : DepKindInfoModel). k ≡ kind_info_of (edge_view b)) q.declared.dep.dep_kinds a.place b.place (kind_info_of (edge_view b)) (kind_info_of (edge_view b)) here q.place).0
+    let here = subst (λ (e : Edge). FirstAt (λ k. k ≡ kind_info_of e) db.dep.dep_kinds a.place (kind_info_of e)) same there in
+    (one_first (λ (k : DepKindInfoModel). k ≡ kind_info_of (edge_view b)) db.dep.dep_kinds a.place b.place (kind_info_of (edge_view b)) (kind_info_of (edge_view b)) here q.place).0
 
 -- ---- the whole
 

@@ -10,7 +10,7 @@ use Rattle.krates_drawing.proofs.Holding.{holds}
 use Rattle.krates_drawing.proofs.Members.{Member}
 use Rattle.krates_drawing.proofs.NodeNumbers.{number_below}
 
-each : {A : Type 0} (P : A → Type 0) (xs : List A) → ((x : A) → Member xs x → P x) → AllByRecursion P xs
+pub each : {A : Type 0} (P : A → Type 0) (xs : List A) → ((x : A) → Member xs x → P x) → AllByRecursion P xs
 each P [] h = tt
 each P (x ∷ xs) h = (h x (inl refl), each P xs (λ y m. h y (inr m)))
 

@@ -120,18 +120,13 @@ second_low Less b c same e g = cc same
 second_low Equal b c same e g = first_low b c e g
 second_low Greater b c same e g = cc same
 
--- edges in order rise by parent, and by parent and child
+-- edges in order rise by parent
 pub links_by_parent : (xs : List Link) (p : Identity) → IsStrictlySortedBy place_cmp (map (λ l. l.edge) xs) → IsNonDecreasingBy (λ (l : Link). ordering_index (id_cmp l.edge.parent p)) xs
 links_by_parent xs p sorted = rises_weakly ids_total (λ (l : Link). l.edge.parent) xs p (λ i j d l lt. first_low _ _ (below_later place_cmp (λ (l : Link). l.edge) xs i j d sorted l lt))
 
-abbrev pub link_key : Link → Identity × Identity
-link_key l = (l.edge.parent, l.edge.child)
-
-pub links_by_pair : (xs : List Link) (p q : Identity) → IsStrictlySortedBy place_cmp (map (λ l. l.edge) xs) → IsNonDecreasingBy (λ (l : Link). ordering_index (pair_cmp (link_key l) (p, q))) xs
-links_by_pair xs p q sorted = rises_weakly pairs_total link_key xs (p, q) (λ i j d l lt.
-    let a = (get_or xs i d).edge in
-    let b = (get_or xs j d).edge in
-    pair_low (id_cmp a.parent b.parent) (id_cmp a.child b.child) (nat_cmp a.place b.place) (below_later place_cmp (λ (l : Link). l.edge) xs i j d sorted l lt))
+-- edges from a crate in order rise by child
+pub links_by_child : (mine : List Link) (q : Identity) → AreByChild mine → IsNonDecreasingBy (λ (l : Link). ordering_index (id_cmp l.edge.child q)) mine
+links_by_child mine q by = rises_weakly ids_total (λ (l : Link). l.edge.child) mine q by
 
 abbrev pub toggled_key : ToggledFeature → Identity × Identity
 toggled_key t = (t.by, t.krate)
@@ -166,15 +161,7 @@ cut_by_child xs mine p sorted w i j d l lt greater =
     is_equal Equal e = refl
     is_equal Greater e = cc e
 
--- ---- two filters
-
-step_twice : {A : Type 0} (b c : Bool) (x : A) (xs ys : List A) → (q : A → Bool) → q x ≡ c → filter q xs ≡ ys → filter q (cond b (x ∷ xs) xs) ≡ cond (b && c) (x ∷ ys) ys
-step_twice true c x xs ys q e f = ap (λ z. cond z (x ∷ filter q xs) (filter q xs)) e ∙ ap (λ zs. cond c (x ∷ zs) zs) f
-step_twice false c x xs ys q e f = f
-
-pub filter_twice : {A : Type 0} (p q : A → Bool) (xs : List A) → filter q (filter p xs) ≡ filter (λ x. p x && q x) xs
-filter_twice p q [] = refl
-filter_twice p q (x ∷ xs) = step_twice (p x) (q x) x (filter p xs) (filter (λ x. p x && q x) xs) q refl (filter_twice p q xs)
+-- ---- a filter that leaves nothing
 
 not_none : (n : ℕ) → (suc n == 0) ≡ false
 not_none n = search rules

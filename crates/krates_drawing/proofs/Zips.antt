@@ -1,9 +1,9 @@
 -- Two lists, element by element.
-use Rattle.std.proofs.Common.{◌≡◌, ℕ, ◌<◌, ◌+◌, List, [], ◌∷◌, ◌++◌, All, length, get_or, map, take, sym, ap, subst, ◌∙◌}
+use Rattle.std.proofs.Common.{◌≡◌, ℕ, ◌<◌, ◌+◌, List, [], ◌∷◌, ◌++◌, All, length, get_or, map, take, refl, sym, ap, subst, ◌∙◌, inl, inr}
 use Rattle.std.proofs.lemmas.List.Elements.{All-contains}
 use Rattle.std.specs.List.{AllZip}
 use Rattle.std.proofs.lemmas.List.{map_more, take_more}
-use Rattle.krates_drawing.proofs.Members.{member_of, contains_of, member_map}
+use Rattle.krates_drawing.proofs.Members.{Member, member_of, contains_of, member_map}
 
 pub AllZip-push : {A B : Type 0} (R : A → B → Type 0) (xs : List A) (ys : List B) (x : A) (y : B) → AllZip R xs ys → R x y → AllZip R (xs ++ x ∷ []) (ys ++ y ∷ [])
 AllZip-push R [] [] x y h r = (r, tt)
@@ -26,3 +26,10 @@ pub zip_next : {A C : Type 0} (R : A → C → Type 0) (xs : List A) (i : ℕ) (
 zip_next R xs i x ys zs y lt e h r w =
     let m : take (i + 1) xs ≡ take i xs ++ x ∷ [] = take_more xs i x lt ∙ ap (λ a. take i xs ++ a ∷ []) (sym e) in
     subst (λ l. AllZip R l zs) (sym m) (subst (AllZip R (take i xs ++ x ∷ [])) (sym w) (AllZip-push R (take i xs) ys x y h r))
+
+-- what holds of two elements holds otherwise of those of two lists
+pub zip_there : {A B : Type 0} (R Q : A → B → Type 0) (xs : List A) (ys : List B) → ((x : A) → Member xs x → (y : B) → R x y → Q x y) → AllZip R xs ys → AllZip Q xs ys
+zip_there R Q [] [] h z = tt
+zip_there R Q [] (y ∷ ys) h z = absurd z
+zip_there R Q (x ∷ xs) [] h z = absurd z
+zip_there R Q (x ∷ xs) (y ∷ ys) h z = (h x (inl refl) y z.0, zip_there R Q xs ys (λ w m. h w (inr m)) z.1)

@@ -21,3 +21,9 @@ abbrev pub IsDrawnAlike : Type 0
 IsDrawnAlike = (m n : MetadataModel) → Reorders m n → (g h : ResolveModel) → m.resolve ≡ Some g → n.resolve ≡ Some h → NoneDoubled n h → (s : SettingModel)
     → (x y : Selection) → IsSelection (resolved m g) s x → IsSelection (resolved n h) s y → (t v : Sheet) → IsSheet (resolved m g) s x t → IsSheet (resolved n h) s y v
     → DrawAlike t v
+
+-- What is selected of one of two documents that differ in order alone is selected of the other, and its sheet is its sheet there.
+abbrev pub IsSheetThere : Type 0
+IsSheetThere = (m n : MetadataModel) → Reorders m n → (g h : ResolveModel) → m.resolve ≡ Some g → n.resolve ≡ Some h → NoneDoubled n h → (s : SettingModel)
+    → (x : Selection) → IsSelection (resolved m g) s x → (t : Sheet) → IsSheet (resolved m g) s x t
+    → IsSelection (resolved n h) s x × IsSheet (resolved n h) s x t

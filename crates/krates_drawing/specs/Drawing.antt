@@ -9,6 +9,7 @@ use Rattle.krates_rules.specs.Kind.{kind_of}
 use Rattle.krates_rules.specs.declared.kind.DepKind.{DepKind}
 use Rattle.krates_drawing.specs.Sheet.{Krate, Link, Meaning, OwnFeature, Crates, FeatureOf, Named, Toggle, Sheet}
 
+-- whether the ids are equal
 abbrev pub id_eq : Id → Id → Bool
 id_eq a b = bytes_eq a.name b.name && (bytes_eq a.version b.version && bytes_eq a.source b.source)
 
@@ -24,15 +25,19 @@ pub data End : Type 0 where
   AtCrate : (id : Id) → End
   AtFeature : (krate : Id) (name : Text) → End
 
+-- whether the crate has this id
 abbrev pub is_crate : Id → Krate → Bool
 is_crate q k = id_eq k.id q
 
+-- whether this is the feature of that name of the crate
 abbrev pub is_feature : Id → Text → Named → Bool
 is_feature q f n = id_eq n.krate q && bytes_eq n.name f
 
+-- the place of a crate among the kept ones
 abbrev pub crate_number : Sheet → Id → ℕ
 crate_number t q = place_of (is_crate q) t.krates
 
+-- behind all crates, the place of a feature among the enabled ones
 abbrev pub feature_number : Sheet → Id → Text → ℕ
 feature_number t q f = length t.krates + place_of (is_feature q f) t.features
 
@@ -55,6 +60,7 @@ pub record Line : Type 0 where
   pub target : ℕ
   pub tie : Tie
 
+-- the edge between two nodes, by their numbers
 abbrev pub line : Sheet → End → End → Tie → Line
 line t from to tie = record { source = number t from; target = number t to; tie = tie }
 
@@ -65,12 +71,15 @@ unfoldable pub uses : Sheet → Link → List Text → List Line
 uses t l [] = line t (AtCrate l.edge.parent) (AtCrate l.edge.child) (Dep (kind_of l.edge.kind) l.edge.cfg) ∷ []
 uses t l (f ∷ fs) = map (λ g. line t (AtCrate l.edge.parent) (AtFeature l.edge.child g) (DepFeature (kind_of l.edge.kind) l.edge.cfg)) (f ∷ fs)
 
+-- whether the edge leaves the crate
 abbrev pub is_from : Id → Link → Bool
 is_from p l = id_eq l.edge.parent p
 
+-- whether the edge leads to the crate
 abbrev pub is_to : Id → Link → Bool
 is_to q l = id_eq l.edge.child q
 
+-- whether the one crate toggles a feature of the other
 abbrev pub is_between : Id → Id → Toggle → Bool
 is_between p q t = id_eq t.by p && id_eq t.krate q
 
@@ -92,6 +101,7 @@ leads_to mine q = list_any (is_to q) mine
 unfoldable pub children_lines : Sheet → Id → List Link → List Line
 children_lines t p mine = flat_map (pair_lines t p mine) (filter (λ q. leads_to mine q.id) t.krates)
 
+-- the edges that a crate has
 unfoldable pub crate_lines : Sheet → Krate → List Line
 crate_lines t p = children_lines t p.id (from_crate t p.id)
 
@@ -103,6 +113,7 @@ targets mine p (OwnFeature g) = AtFeature p g ∷ []
 targets mine p (Crates ids) = map AtCrate (filter (leads_to mine) ids)
 targets mine p (FeatureOf ids g) = map (λ q. AtFeature q g) (filter (leads_to mine) ids)
 
+-- from a feature to what a reference of it names
 unfoldable pub meaning_lines : Sheet → Named → List Link → Meaning → List Line
 meaning_lines t n mine m = map (λ e. line t (AtFeature n.krate n.name) e Feature) (targets mine n.krate m)
 
@@ -114,15 +125,18 @@ feature_lines t n =
 
 -- ---- all edges
 
+-- the edges that the crates have, then those that the features have
 unfoldable pub lines : Sheet → List Line
 lines t = flat_map (crate_lines t) t.krates ++ flat_map (feature_lines t) t.features
 
 -- ---- the mapping of a crate
 
+-- the last of a list, or the one before where the list is empty
 abbrev pub last_from : {A : Type 0} → Option A → List A → Option A
 last_from o [] = o
 last_from o (x ∷ xs) = last_from (Some x) xs
 
+-- the edge leads to q, and has the declared dependency at k as its own
 abbrev pub claims_at : ℕ → Id → Link → Bool
 claims_at k q l = is_to q l && (l.place == k)
 
@@ -134,6 +148,7 @@ claims mine k q = list_any (claims_at k q.id) mine
 abbrev pub claimant : Sheet → List Link → ℕ → Option Krate
 claimant t mine k = last_from None (filter (claims mine k) t.krates)
 
+-- the number of that crate
 abbrev pub mapped : Sheet → List Link → ℕ → Option ℕ
 mapped t mine k = option_map (λ q. crate_number t q.id) (claimant t mine k)
 
@@ -143,13 +158,16 @@ mapping t p = map (mapped t (from_crate t p.id)) (range_with_len 0 p.declared)
 
 -- ---- nodes with what they hold
 
+-- a node with what it holds: a crate its mapping, a feature the number of its crate
 pub data Spot : Type 0 where
   CrateSpot : (id : Id) (mapping : List (Option ℕ)) → Spot
   FeatureSpot : (krate : ℕ) (name : Text) → Spot
 
+-- the node of a crate
 abbrev pub crate_spot : Sheet → Krate → Spot
 crate_spot t p = CrateSpot p.id (mapping t p)
 
+-- the node of a feature
 abbrev pub feature_spot : Sheet → Named → Spot
 feature_spot t n = FeatureSpot (crate_number t n.krate) n.name
 

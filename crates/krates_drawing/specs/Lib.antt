@@ -1,8 +1,13 @@
 pub mod Agreement
 pub mod Alike
+pub mod Connected
 pub mod Drawing
+pub mod EdgeText
 pub mod Ends
 pub mod Gathered
+pub mod Limits
+pub mod Narrower
+pub mod Origin
 pub mod Paths
 pub mod Rebuilding
 pub mod Sheet

@@ -1,10 +1,9 @@
 -- A selection with what drawing has to know of it: beside each crate, edge and feature what the document says of it.
-use Rattle.std.specs.Prelude.{◌≡◌, ◌↔◌, ℕ, Bool, List, [], ◌∷◌, ◌++◌, Contains, filter, length, map, unwrap_or, if◌then◌else◌}
+use Rattle.std.specs.Prelude.{◌≡◌, ◌↔◌, ℕ, Bool, List, [], ◌∷◌, ◌++◌, Contains, filter, length, map, if◌then◌else◌}
 use Rattle.std.specs.List.{AllZip, list_any}
 use Rattle.std.specs.List.Sorted.{IsStrictlySortedBy}
 use Rattle.std.specs.Str.{bytes_eq}
-use Rattle.krates_cm.specs.Document.{Text, text_view, DependencyModel, PackageModel, NodeModel, FeaturesModel}
-use Rattle.krates_ids.specs.Correction.{named}
+use Rattle.krates_cm.specs.Document.{Text, text_view, DependencyModel, PackageModel, NodeModel}
 use Rattle.krates_ids.specs.Identity.{Identity}
 use Rattle.krates_text.specs.FeatureReference.{Reference, IsReference}
 use Rattle.krates_text.specs.FeatureReference as references
@@ -13,6 +12,7 @@ use Rattle.krates_rules.specs.Questions.{IsDeclaredAt}
 use Rattle.krates_rules.specs.Referent.{IsReferent, id_order}
 use Rattle.krates_rules.specs.Resolved.{Resolved, id_of, HasPackage, HasNode}
 use Rattle.krates_rules.specs.Rules.{default_name}
+use Rattle.krates_questions.specs.FeatureValues.{values_of}
 use Rattle.krates_resolve.specs.Selection.{edge_view}
 use Rattle.krates_rules.specs.Setting.{SettingModel}
 use Rattle.krates_resolve.specs.declared.selection.EnabledFeature.{EnabledFeature}
@@ -51,6 +51,7 @@ pub record Toggle : Type 0 where
   pub krate : Id
   pub name : Text
 
+-- a selection's lists, with what the document says of their items
 pub record Sheet : Type 0 where
   pub krates : List Krate
   pub links : List Link
@@ -59,6 +60,7 @@ pub record Sheet : Type 0 where
 
 -- ---- what the document says
 
+-- the sheet's crate is this one, with the number of dependencies that its package declares
 pub record IsKrate (r : Resolved) (i : Identity) (k : Krate) : Type 0 where
   pub id : k.id ≡ id_of i
   pub pkg : PackageModel
@@ -69,6 +71,7 @@ pub record IsKrate (r : Resolved) (i : Identity) (k : Krate) : Type 0 where
 abbrev pub asked_by : DependencyModel → List Text
 asked_by d = d.features ++ (if d.uses_default_features then default_name ∷ [] else [])
 
+-- the text is among these
 abbrev pub has_text : List Text → Text → Bool
 has_text texts t = list_any (bytes_eq t) texts
 
@@ -87,6 +90,7 @@ pub record AreReferents (r : Resolved) (i : Id) (name : Text) (ids : List Id) : 
   pub exactly : (c : Id) → Contains ids c ↔ IsReferent r i name c
   pub ascending : IsStrictlySortedBy id_order ids
 
+-- what a reference of the crate names: by its form, what its names mean
 abbrev pub Names : Resolved → Id → Reference → Meaning → Type 0
 Names r i (references.simple g) (OwnFeature name) = name ≡ g
 Names r i (references.krate d) (Crates ids) = AreReferents r i d ids
@@ -94,15 +98,13 @@ Names r i (references.strong d g) (FeatureOf ids name) = AreReferents r i d ids 
 Names r i (references.weak d g) (FeatureOf ids name) = AreReferents r i d ids × (name ≡ g)
 Names r i _ _ = ⊥
 
+-- the text is a reference of the crate, and names this
 pub record IsMeaning (r : Resolved) (i : Id) (text : Text) (m : Meaning) : Type 0 where
   pub reference : Reference
   pub is : IsReference text reference
   pub names : Names r i reference m
 
--- the values of the feature, none where there is no such feature
-abbrev pub values_of : FeaturesModel → Text → List Text
-values_of features name = unwrap_or (named features name) []
-
+-- the sheet's feature is this one, with what each of its references names, in the package's order
 pub record IsNamed (r : Resolved) (f : EnabledFeature) (n : Named) : Type 0 where
   pub krate : n.krate ≡ id_of f.krate
   pub name : n.name ≡ text_view f.name
@@ -110,6 +112,7 @@ pub record IsNamed (r : Resolved) (f : EnabledFeature) (n : Named) : Type 0 wher
   pub has_package : HasPackage r n.krate pkg
   pub meanings : AllZip (IsMeaning r n.krate) (values_of pkg.features n.name) n.meanings
 
+-- a toggled feature, without what its ids' texts have beside their parts
 abbrev pub toggle_of : ToggledFeature → Toggle
 toggle_of t = record { by = id_of t.by; krate = id_of t.krate; name = text_view t.name }
 

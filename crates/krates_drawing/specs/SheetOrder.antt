@@ -1,5 +1,5 @@
 -- The order of the lists of a sheet.
-use Rattle.std.specs.Prelude.{◌≡◌, ◌≢◌, ℕ, ◌==◌, Bool, List, Option, AllPairs, if◌then◌else◌, filter, map, not, take, slice_index_or}
+use Rattle.std.specs.Prelude.{◌≡◌, ◌≢◌, ℕ, ◌==◌, Bool, List, Option, AllPairs, if◌then◌else◌, filter, map, not, option_map, slice_get, take, slice_index_or}
 use Rattle.std.specs.Borrow.{Bor}
 use Rattle.std.specs.Global.{Vec}
 use Rattle.std.specs.declared.cmp.Ordering.TheVariants.{Greater}
@@ -42,3 +42,7 @@ number_of t c found = last_from found (map (λ k. crate_number t k.id) (filter (
 -- the same, where the edge has this declared dependency as its own
 abbrev pub claimed_of : model.Sheet → model.Link → ℕ → Option ℕ → Option ℕ
 claimed_of t l place found = if l.place == place then number_of t l.edge.child found else found
+
+-- at each place stands what the edge makes of what stood there
+abbrev pub IsClaimed : model.Sheet → model.Link → List (Option ℕ) → List (Option ℕ) → Type 0
+IsClaimed t l old new = (place : ℕ) → slice_get new place ≡ option_map (claimed_of t l place) (slice_get old place)

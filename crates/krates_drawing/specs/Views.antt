@@ -45,11 +45,13 @@ sheet_view t = record {
   toggled = map toggle_of t.toggled.items;
 }
 
+-- what an edge says, as the drawing has it
 abbrev pub tie_view : Edge → Tie
 tie_view (edge.Dep kind cfg) = Dep kind (option_map text_view cfg)
 tie_view edge.Feature = Feature
 tie_view (edge.DepFeature kind cfg) = DepFeature kind (option_map text_view cfg)
 
+-- a planned edge, as the drawing has it
 abbrev pub arrow_view : Arrow → Line
 arrow_view a = record { source = a.source; target = a.target; tie = tie_view a.edge }
 

@@ -1,15 +1,18 @@
 //! The edges from crates.
 ghost use Rattle.std.specs.Prelude.{option_map, slice_get, ◌≡◌, ◌+◌, ◌<◌, ◌++◌, not, map, length, take, filter, flat_map, IfOk, OnOk};
 ghost use Rattle.krates_rules.specs.Resolved.{id_of};
-ghost use Rattle.krates_drawing.specs.Drawing.{AtCrate, AtFeature, Feature, crate_lines, from_crate, id_eq, is_crate, line, pair_lines, uses};
+ghost use Rattle.krates_drawing.specs.Drawing.{AtFeature, crate_lines, crate_number as number_of_crate, id_eq, is_crate, pair_lines, uses};
+ghost use Rattle.krates_drawing.specs.Origin.{line_from};
 ghost use Rattle.krates_drawing.specs.Sheet.{toggle_of};
 ghost use Rattle.krates_drawing.specs.SheetOrder.{AreByChild, AreChildren, IsFirstTo, IsOrdered};
 ghost use Rattle.krates_drawing.specs.Views.{krate_view, link_view, sheet_view, Draws, IsFew};
 
 use crate::edge::{Arrow, Edge};
-use crate::numbers::{crate_number, feature_number};
+use crate::numbers::{crate_number, crate_place, feature_number};
+use crate::origin::Origin;
 use crate::sheet::{Krate, Link, Sheet};
-use crate::stretches::{links_between, links_from, toggled_between};
+use crate::stretches::{links_from, links_to, toggled_between};
+use krates_graph::graph::NodeId;
 use krates_ids::{Kid, laws};
 use krates_resolve::{DepKind, ToggledFeature};
 use std::alloc::{AllocError, Global};
@@ -68,7 +71,7 @@ fn draw_kept(sheet: &Sheet, links: &[Link], out: &mut Vec<Arrow>) -> Result<(), 
 /// Draws the features of the child that the parent toggles.
 fn draw_toggled(
     sheet: &Sheet,
-    parent: &Kid,
+    source: NodeId,
     child: &Kid,
     toggled: &[ToggledFeature],
     out: &mut Vec<Arrow>,
@@ -76,11 +79,9 @@ fn draw_toggled(
     requires few { IsFew sheet.now }
     requires ordered { IsOrdered sheet.now }
     ensures { OnOk result (Draws out.old out.new
-        (map (λ g. line (sheet_view sheet.now) (AtCrate (id_of parent.now))
-        (AtFeature (id_of child.now) g.name) Feature)
+        (map (λ g. line_from (sheet_view sheet.now) source (AtFeature (id_of child.now) g.name))
         (map toggle_of toggled.now))) }
 {
-    let source = crate_number(sheet, parent);
     for x in toggled {
         let target = feature_number(sheet, child, x.name.as_str());
         out.push(Arrow {
@@ -96,37 +97,41 @@ fn draw_toggled(
 #[tactic(auto, unfolding(crate::specs::Drawing::pair_lines))]
 fn draw_pair(
     sheet: &Sheet,
-    parent: &Kid,
+    from: &Origin<'_>,
     child: &Krate,
     out: &mut Vec<Arrow>,
 ) -> Result<(), AllocError>
     requires few { IsFew sheet.now }
     requires ordered { IsOrdered sheet.now }
-    ensures { OnOk result (Draws out.old out.new (pair_lines (sheet_view sheet.now) (id_of parent.now)
-        (from_crate (sheet_view sheet.now) (id_of parent.now)) (krate_view child.now))) }
+    requires by_child { AreByChild from.now.mine.now }
+    requires number { from.now.number ≡ number_of_crate (sheet_view sheet.now) (id_of from.now.krate.now) }
+    ensures { OnOk result (Draws out.old out.new
+        (pair_lines (sheet_view sheet.now) (id_of from.now.krate.now) (map link_view from.now.mine.now)
+        (krate_view child.now))) }
 {
-    draw_kept(sheet, links_between(sheet, parent, &child.id), out)?;
-    let toggled = toggled_between(sheet, parent, &child.id);
-    draw_toggled(sheet, parent, &child.id, toggled, out)?;
+    draw_kept(sheet, links_to(from.mine, &child.id), out)?;
+    let toggled = toggled_between(sheet, from.krate, &child.id);
+    draw_toggled(sheet, from.number, &child.id, toggled, out)?;
     Ok(())
 }
 
 /// Draws the edges from a crate to others.
 fn draw_children(
     sheet: &Sheet,
-    parent: &Kid,
+    from: &Origin<'_>,
     children: &[&Krate],
     out: &mut Vec<Arrow>,
 ) -> Result<(), AllocError>
     requires few { IsFew sheet.now }
     requires ordered { IsOrdered sheet.now }
-    ensures { OnOk result (Draws out.old out.new
-        (flat_map (pair_lines (sheet_view sheet.now) (id_of parent.now)
-        (from_crate (sheet_view sheet.now) (id_of parent.now)))
+    requires by_child { AreByChild from.now.mine.now }
+    requires number { from.now.number ≡ number_of_crate (sheet_view sheet.now) (id_of from.now.krate.now) }
+    ensures { OnOk result (Draws out.old out.new (flat_map
+        (pair_lines (sheet_view sheet.now) (id_of from.now.krate.now) (map link_view from.now.mine.now))
         (map (λ k. krate_view k.now) children.now))) }
 {
     for x in children {
-        draw_pair(sheet, parent, x, out)?;
+        draw_pair(sheet, from, x, out)?;
     }
     Ok(())
 }
@@ -162,7 +167,7 @@ fn add_crate<'a>(sheet: &'a Sheet, id: &Kid, krates: &mut Vec<&'a Krate>) -> Res
         ≡ map (λ k. krate_view k.now) krates.old.items
         ++ filter (is_crate (id_of id.now)) (sheet_view sheet.now).krates) }
 {
-    if let Some(krate) = krate_at(&sheet.krates, crate_number(sheet, id)) {
+    if let Some(krate) = krate_at(&sheet.krates, crate_place(sheet, id)) {
         krates.push(krate)?;
     }
     Ok(())
@@ -217,9 +222,13 @@ fn draw_crate(
     ensures { OnOk result (Draws out.old out.new (crate_lines (sheet_view sheet.now)
         (krate_view parent.now))) }
 {
-    let mine = links_from(sheet, &parent.id);
-    let children = children_of(alloc, sheet, mine)?;
-    draw_children(sheet, &parent.id, &children, out)
+    let from = Origin {
+        number: crate_number(sheet, &parent.id),
+        krate: &parent.id,
+        mine: links_from(sheet, &parent.id),
+    };
+    let children = children_of(alloc, sheet, from.mine)?;
+    draw_children(sheet, &from, &children, out)
 }
 
 /// Draws the edges from all crates.

@@ -1,39 +1,37 @@
 //! The edges from features.
 ghost use Rattle.std.specs.Prelude.{◌≡◌, List, ◌++◌, map, filter, flat_map, OnOk};
-ghost use Rattle.krates_cm.specs.Document.{text_view};
 ghost use Rattle.krates_rules.specs.Resolved.{id_of};
-ghost use Rattle.krates_drawing.specs.Drawing.{AtCrate, AtFeature, Feature, from_crate, leads_to as leads, line, meaning_lines, feature_lines};
-ghost use Rattle.krates_drawing.specs.SheetOrder.{IsOrdered};
-ghost use Rattle.krates_drawing.specs.Views.{meaning_view, named_view, sheet_view, arrow_view, Draws, IsFew};
+ghost use Rattle.krates_drawing.specs.Drawing.{AtCrate, AtFeature, leads_to as leads, feature_lines};
+ghost use Rattle.krates_drawing.specs.Origin.{line_from, meant_from};
+ghost use Rattle.krates_drawing.specs.SheetOrder.{AreByChild, IsOrdered};
+ghost use Rattle.krates_drawing.specs.Views.{link_view, meaning_view, named_view, sheet_view, arrow_view, Draws, IsFew};
 
 use crate::edge::{Arrow, Edge};
 use crate::numbers::{crate_number, feature_number};
+use crate::origin::Origin;
 use crate::sheet::{Meaning, Named, Sheet};
-use crate::stretches::leads_to;
+use crate::stretches::{leads_to, links_from};
 use krates_ids::Kid;
 use std::alloc::AllocError;
 
 /// Draws to the crates that have an edge.
 fn draw_to_crates(
     sheet: &Sheet,
-    from: &Named,
+    from: &Origin<'_>,
     krates: &[Kid],
     out: &mut Vec<Arrow>,
 ) -> Result<(), AllocError>
     requires few { IsFew sheet.now }
     requires ordered { IsOrdered sheet.now }
-    ensures { OnOk result (Draws out.old out.new (map
-        (λ e. line (sheet_view sheet.now) (AtFeature (id_of from.now.feature.krate)
-        (text_view from.now.feature.name)) e Feature) (map AtCrate
-        (filter (leads (from_crate (sheet_view sheet.now) (id_of from.now.feature.krate)))
-        (map id_of krates.now))))) }
+    requires by_child { AreByChild from.now.mine.now }
+    ensures { OnOk result (Draws out.old out.new (map (line_from (sheet_view sheet.now) from.now.number)
+        (map AtCrate (filter (leads (map link_view from.now.mine.now)) (map id_of krates.now))))) }
 {
-    let source = feature_number(sheet, &from.feature.krate, from.feature.name.as_str());
     for x in krates {
-        if leads_to(sheet, &from.feature.krate, x) {
+        if leads_to(from.mine, x) {
             let target = crate_number(sheet, x);
             out.push(Arrow {
-                source,
+                source: from.number,
                 target,
                 edge: Edge::Feature,
             })?;
@@ -45,25 +43,23 @@ fn draw_to_crates(
 /// Draws to a feature of the crates that have an edge.
 fn draw_to_features(
     sheet: &Sheet,
-    from: &Named,
+    from: &Origin<'_>,
     krates: &[Kid],
     name: &str,
     out: &mut Vec<Arrow>,
 ) -> Result<(), AllocError>
     requires few { IsFew sheet.now }
     requires ordered { IsOrdered sheet.now }
-    ensures { OnOk result (Draws out.old out.new (map
-        (λ e. line (sheet_view sheet.now) (AtFeature (id_of from.now.feature.krate)
-        (text_view from.now.feature.name)) e Feature) (map (λ q. AtFeature q name.now)
-        (filter (leads (from_crate (sheet_view sheet.now) (id_of from.now.feature.krate)))
-        (map id_of krates.now))))) }
+    requires by_child { AreByChild from.now.mine.now }
+    ensures { OnOk result (Draws out.old out.new (map (line_from (sheet_view sheet.now) from.now.number)
+        (map (λ q. AtFeature q name.now)
+        (filter (leads (map link_view from.now.mine.now)) (map id_of krates.now))))) }
 {
-    let source = feature_number(sheet, &from.feature.krate, from.feature.name.as_str());
     for x in krates {
-        if leads_to(sheet, &from.feature.krate, x) {
+        if leads_to(from.mine, x) {
             let target = feature_number(sheet, x, name);
             out.push(Arrow {
-                source,
+                source: from.number,
                 target,
                 edge: Edge::Feature,
             })?;
@@ -73,24 +69,24 @@ fn draw_to_features(
 }
 
 /// Draws to what a reference names.
-#[tactic(auto, unfolding(crate::specs::Drawing::meaning_lines))]
 fn draw_meaning(
     sheet: &Sheet,
-    from: &Named,
+    from: &Origin<'_>,
     meaning: &Meaning,
     out: &mut Vec<Arrow>,
 ) -> Result<(), AllocError>
     requires few { IsFew sheet.now }
     requires ordered { IsOrdered sheet.now }
-    ensures { OnOk result (Draws out.old out.new (meaning_lines (sheet_view sheet.now) (named_view from.now)
-        (from_crate (sheet_view sheet.now) (id_of from.now.feature.krate)) (meaning_view meaning.now))) }
+    requires by_child { AreByChild from.now.mine.now }
+    ensures { OnOk result (Draws out.old out.new
+        (meant_from (sheet_view sheet.now) from.now.number (map link_view from.now.mine.now)
+        (id_of from.now.krate.now) (meaning_view meaning.now))) }
 {
     match meaning {
         Meaning::OwnFeature(name) => {
-            let source = feature_number(sheet, &from.feature.krate, from.feature.name.as_str());
-            let target = feature_number(sheet, &from.feature.krate, name.as_str());
+            let target = feature_number(sheet, from.krate, name.as_str());
             out.push(Arrow {
-                source,
+                source: from.number,
                 target,
                 edge: Edge::Feature,
             })?;
@@ -106,15 +102,16 @@ fn draw_meaning(
 /// Draws to what all references of a feature name.
 fn draw_meanings(
     sheet: &Sheet,
-    from: &Named,
+    from: &Origin<'_>,
     meanings: &[Meaning],
     out: &mut Vec<Arrow>,
 ) -> Result<(), AllocError>
     requires few { IsFew sheet.now }
     requires ordered { IsOrdered sheet.now }
+    requires by_child { AreByChild from.now.mine.now }
     ensures { OnOk result (Draws out.old out.new (flat_map
-        (meaning_lines (sheet_view sheet.now) (named_view from.now) (from_crate (sheet_view sheet.now)
-        (id_of from.now.feature.krate))) (map meaning_view meanings.now))) }
+        (meant_from (sheet_view sheet.now) from.now.number (map link_view from.now.mine.now)
+        (id_of from.now.krate.now)) (map meaning_view meanings.now))) }
 {
     for x in meanings {
         draw_meaning(sheet, from, x, out)?;
@@ -123,21 +120,25 @@ fn draw_meanings(
 }
 
 /// Draws the edges from a feature node.
-#[tactic(auto, unfolding(crate::specs::Drawing::feature_lines))]
-fn draw_feature(sheet: &Sheet, from: &Named, out: &mut Vec<Arrow>) -> Result<(), AllocError>
+#[tactic(auto, unfolding(crate::specs::Drawing::feature_lines, crate::specs::Drawing::meaning_lines))]
+fn draw_feature(sheet: &Sheet, named: &Named, out: &mut Vec<Arrow>) -> Result<(), AllocError>
     requires few { IsFew sheet.now }
     requires ordered { IsOrdered sheet.now }
     ensures { OnOk result (Draws out.old out.new (feature_lines (sheet_view sheet.now)
-        (named_view from.now))) }
+        (named_view named.now))) }
 {
-    let source = feature_number(sheet, &from.feature.krate, from.feature.name.as_str());
-    let target = crate_number(sheet, &from.feature.krate);
+    let krate = &named.feature.krate;
+    let from = Origin {
+        number: feature_number(sheet, krate, named.feature.name.as_str()),
+        krate,
+        mine: links_from(sheet, krate),
+    };
     out.push(Arrow {
-        source,
-        target,
+        source: from.number,
+        target: crate_number(sheet, krate),
         edge: Edge::Feature,
     })?;
-    draw_meanings(sheet, from, &from.meanings, out)
+    draw_meanings(sheet, &from, &named.meanings, out)
 }
 
 /// Draws what all feature nodes lead to.

@@ -2,7 +2,7 @@
 ghost use Rattle.std.specs.Prelude.{◌≡◌, map, length, slice_get, option_map, zip, IfOk};
 ghost use Rattle.krates_cm.specs.Document.{dependency_view, text_view, texts_view};
 ghost use Rattle.krates_rules.specs.Admission.{NoneDoubled};
-ghost use Rattle.krates_resolve.specs.DocumentModel.{as_resolved};
+ghost use Rattle.krates_questions.specs.DocumentModel.{as_resolved};
 ghost use Rattle.krates_rules.specs.Resolved.{id_of};
 ghost use Rattle.krates_rules.specs.Setting.{SettingModel};
 ghost use Rattle.krates_resolve.specs.Selection.{IsSelection};
@@ -74,7 +74,7 @@ pub fn meanings_by<'a>(
     ensures { IfOk result (λ meanings. MeaningsTold (as_resolved document.now) feature.now
         (map meaning_view meanings.items)) }
 {
-    let values = document.values_of(&feature.krate, feature.name.as_str());
+    let values = document.values(&feature.krate, feature.name.as_str());
     meanings_of(alloc, document, &feature.krate, values)
 }
 
@@ -176,7 +176,7 @@ fn features_with(
 
 /// The sheet of a selection: beside each crate, edge and feature what the document says of it.
 ///
-/// The only error is want of memory.
+/// The only error is running out of memory.
 pub fn sheet_of<'a>(
     alloc: Global,
     document: &Document<'a>,
@@ -194,6 +194,7 @@ pub fn sheet_of<'a>(
         edges,
         features,
         toggled,
+        steps: _,
         work: _,
     } = selection;
     let counts = counts_of(alloc, document, &krates)?;

@@ -1,7 +1,9 @@
 //! Laws of the drawn graph, for all documents and settings. Each is the contract of a function that does nothing.
 ghost use Rattle.krates_drawing.specs.Agreement.{DependenciesAgree};
-ghost use Rattle.krates_drawing.specs.Alike.{IsDrawnAlike};
+ghost use Rattle.krates_drawing.specs.Alike.{IsDrawnAlike, IsSheetThere};
+ghost use Rattle.krates_drawing.specs.Connected.{AreConnected};
 ghost use Rattle.krates_drawing.specs.Ends.{EndsStand};
+ghost use Rattle.krates_drawing.specs.Narrower.{NarrowerDrawsNoMore};
 ghost use Rattle.krates_drawing.specs.Rebuilding.{FilteredHoldsRebuild};
 
 use krates_resolve::laws;
@@ -34,3 +36,25 @@ pub fn drawn_alike()
     laws::reordering();
     texts::one_reference();
 }
+
+/// What is selected of one of two documents that differ in order alone is selected of the other too, and drawn from
+/// the same sheet.
+pub fn sheet_there()
+    ensures { IsSheetThere }
+{
+    laws::reordering();
+}
+
+/// Under a setting that leaves out more, a part of the crates, edges and features is kept, and no more nodes and edges are drawn.
+pub fn narrower_draws_no_more()
+    ensures { NarrowerDrawsNoMore }
+{
+    laws::narrowing();
+    texts::one_reference();
+}
+
+/// What the mapping of a crate names is a crate, and an edge leads from the first into it or into a feature of it; from each
+/// feature an edge leads to its crate; and a crate's node has the crate's number.
+pub fn connected()
+    ensures { AreConnected }
+{}

@@ -1,4 +1,5 @@
-//! The graph of a selection, drawn: what its nodes and edges are, as whole lists with their laws, and how they come into a stored graph.
+//! The graph of a selection, drawn: what its nodes and edges are, as whole lists with their laws, and how they come
+//! into a stored graph.
 #![tactic(auto)]
 
 mod crate_edges;
@@ -6,9 +7,11 @@ pub mod edge;
 mod feature_edges;
 pub mod gather;
 pub mod laws;
+pub mod limits;
 mod meanings;
 pub mod nodes;
 mod numbers;
+mod origin;
 pub mod plan;
 pub mod sheet;
 pub mod store;

@@ -3,7 +3,7 @@ ghost use Rattle.std.specs.Prelude.{◌≡◌, ◌++◌, ◌∷◌, [], map, fil
 ghost use Rattle.std.specs.List.{AllZip};
 ghost use Rattle.std.specs.Option.{option_map};
 ghost use Rattle.krates_cm.specs.Document.{node_view, dependency_view, text_view};
-ghost use Rattle.krates_resolve.specs.DocumentModel.{as_resolved};
+ghost use Rattle.krates_questions.specs.DocumentModel.{as_resolved};
 ghost use Rattle.krates_rules.specs.Resolved.{id_of};
 ghost use Rattle.krates_drawing.specs.Sheet.{AreReferents, IsMeaning, asked_by, has_text as has};
 ghost use Rattle.krates_drawing.specs.Views.{meaning_view};

@@ -2,13 +2,14 @@
 ghost use Rattle.std.specs.Prelude.{◌≡◌, ◌++◌, map, IfOk, OnOk};
 ghost use Rattle.std.specs.List.{range_with_len};
 ghost use Rattle.krates_rules.specs.Resolved.{id_of};
-ghost use Rattle.krates_drawing.specs.Drawing.{crate_spot, feature_spot, mapped as mapped_to, mapping as mapping_of, spots};
-ghost use Rattle.krates_drawing.specs.SheetOrder.{AreByChild, IsOrdered, claimed_of, number_of};
-ghost use Rattle.krates_drawing.specs.Views.{krate_view, link_view, spot_view, sheet_view};
+ghost use Rattle.krates_drawing.specs.Drawing.{crate_spot, feature_spot, mapped, mapping as mapping_of, spots};
+ghost use Rattle.krates_drawing.specs.SheetOrder.{AreByChild, IsClaimed, IsOrdered, number_of};
+ghost use Rattle.krates_drawing.specs.Views.{IsFew, krate_view, link_view, spot_view, sheet_view};
 
-use crate::numbers::crate_number;
+use crate::numbers::{crate_number, crate_place};
 use crate::sheet::{Krate, Link, Sheet};
 use crate::stretches::links_from;
+use krates_graph::graph::NodeId;
 use krates_ids::Kid;
 use std::alloc::{AllocError, Global};
 
@@ -18,83 +19,74 @@ pub enum Spot {
     /// A kept crate, with the numbers of the crates that its declared dependencies mean.
     Krate {
         id: Kid,
-        mapping: Vec<Option<usize>>,
+        mapping: Vec<Option<NodeId>>,
     },
     /// An enabled feature of the crate of this number.
     Feature {
-        krate_index: usize,
+        krate_index: NodeId,
         name: String,
     },
 }
 
-/// The number of the greatest crate to which an edge leads that has the declared dependency as its own.
-fn mapped(sheet: &Sheet, mine: &[Link], place: usize) -> Option<usize>
-    requires ordered { IsOrdered sheet.now }
-    requires by_child { AreByChild mine.now }
-    ensures { result ≡ mapped_to (sheet_view sheet.now) (map link_view mine.now) place }
-{
-    let mut found = None;
-    for link in mine {
-        found = claimed(sheet, link, place, found);
-    }
-    found
-}
-
-/// The number of the crate to which the edge leads, where it has the declared dependency as its own, or what was found before.
-fn claimed(sheet: &Sheet, link: &Link, place: usize, found: Option<usize>) -> Option<usize>
-    requires { IsOrdered sheet.now }
-    ensures { result ≡ claimed_of (sheet_view sheet.now) (link_view link.now) place found }
-{
-    if link.edge.declared == place {
-        number_or(sheet, &link.edge.child, found)
-    } else {
-        found
-    }
-}
-
 /// The number of the crate, where it is kept, or what was found before.
-fn number_or(sheet: &Sheet, id: &Kid, found: Option<usize>) -> Option<usize>
-    requires { IsOrdered sheet.now }
+fn number_or(sheet: &Sheet, id: &Kid, found: Option<NodeId>) -> Option<NodeId>
+    requires few { IsFew sheet.now }
+    requires ordered { IsOrdered sheet.now }
     ensures { result ≡ number_of (sheet_view sheet.now) (id_of id.now) found }
 {
-    let number = crate_number(sheet, id);
-    if number < sheet.krates.len() {
-        Some(number)
+    let place = crate_place(sheet, id);
+    if place < sheet.krates.len() {
+        Some(NodeId::new(place as u32))
     } else {
         found
     }
 }
 
-/// For each declared dependency, what it is mapped to.
+/// Writes the number of the crate to which the edge leads at the place of its declared dependency.
+fn claim(sheet: &Sheet, link: &Link, mapping: &mut [Option<NodeId>])
+    requires few { IsFew sheet.now }
+    requires ordered { IsOrdered sheet.now }
+    ensures { IsClaimed (sheet_view sheet.now) (link_view link.now) mapping.old mapping.new }
+{
+    let place = link.edge.declared;
+    if place < mapping.len() {
+        mapping[place] = number_or(sheet, &link.edge.child, mapping[place]);
+    }
+}
+
+/// For each declared dependency, what it is mapped to: one walk over the edges, of which the last to claim it stays.
 fn mapping_over(
     alloc: Global,
     sheet: &Sheet,
     mine: &[Link],
     count: usize,
-) -> Result<Vec<Option<usize>>, AllocError>
+) -> Result<Vec<Option<NodeId>>, AllocError>
+    requires few { IsFew sheet.now }
     requires ordered { IsOrdered sheet.now }
     requires by_child { AreByChild mine.now }
-    ensures { IfOk result (λ v. v.items ≡ map (mapped_to (sheet_view sheet.now) (map link_view mine.now))
+    ensures { IfOk result (λ v. v.items ≡ map (mapped (sheet_view sheet.now) (map link_view mine.now))
         (range_with_len 0 count)) }
 {
-    let mut out = Vec::new(alloc);
-    for place in 0..count {
-        out.push(mapped(sheet, mine, place))?;
+    let mut mapping = vec![in alloc; None; count]?;
+    for link in mine {
+        claim(sheet, link, &mut mapping);
     }
-    Ok(out)
+    Ok(mapping)
 }
 
 /// The mapping of a crate.
 #[tactic(auto, unfolding(crate::specs::Drawing::mapping))]
-fn mapping(alloc: Global, sheet: &Sheet, krate: &Krate) -> Result<Vec<Option<usize>>, AllocError>
-    requires { IsOrdered sheet.now }
+fn mapping(alloc: Global, sheet: &Sheet, krate: &Krate) -> Result<Vec<Option<NodeId>>, AllocError>
+    requires few { IsFew sheet.now }
+    requires ordered { IsOrdered sheet.now }
     ensures { IfOk result (λ v. v.items ≡ mapping_of (sheet_view sheet.now) (krate_view krate.now)) }
 {
     mapping_over(alloc, sheet, links_from(sheet, &krate.id), krate.declared)
 }
 
 fn push_crates(alloc: Global, sheet: &Sheet, out: &mut Vec<Spot>) -> Result<(), AllocError>
-    requires { IsOrdered sheet.now }
+    requires few { IsFew sheet.now }
+    requires ordered { IsOrdered sheet.now }
     ensures { OnOk result (map spot_view out.new.items ≡ map spot_view out.old.items ++ map (crate_spot
         (sheet_view sheet.now)) (sheet_view sheet.now).krates) }
 {
@@ -108,7 +100,8 @@ fn push_crates(alloc: Global, sheet: &Sheet, out: &mut Vec<Spot>) -> Result<(), 
 }
 
 fn push_features(sheet: &Sheet, out: &mut Vec<Spot>) -> Result<(), AllocError>
-    requires { IsOrdered sheet.now }
+    requires few { IsFew sheet.now }
+    requires ordered { IsOrdered sheet.now }
     ensures { OnOk result (map spot_view out.new.items ≡ map spot_view out.old.items ++ map (feature_spot
         (sheet_view sheet.now)) (sheet_view sheet.now).features) }
 {
@@ -122,8 +115,10 @@ fn push_features(sheet: &Sheet, out: &mut Vec<Spot>) -> Result<(), AllocError>
     Ok(())
 }
 
-/// All nodes of the selection's graph.
+/// All nodes of the selection's graph, in the order of their numbers: the crates by id, then the features by crate
+/// and name. The only error is running out of memory.
 pub fn draw_nodes(alloc: Global, sheet: &Sheet) -> Result<Vec<Spot>, AllocError>
+    requires few { IsFew sheet.now }
     requires ordered { IsOrdered sheet.now }
     ensures { IfOk result (λ v. map spot_view v.items ≡ spots (sheet_view sheet.now)) }
 {

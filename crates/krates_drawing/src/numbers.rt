@@ -12,30 +12,44 @@ ghost use Rattle.krates_drawing.specs.SheetOrder.{IsOrdered};
 ghost use Rattle.krates_drawing.specs.Views.{IsFew, krate_view, named_view, sheet_view};
 
 use crate::sheet::{Krate, Named, Sheet};
+use krates_graph::graph::NodeId;
 use krates_ids::{Kid, laws};
 use std::cmp::Ordering;
 
 /// The number of the crate's node, or the number of crates where it isn't kept.
-pub(crate) fn crate_number(sheet: &Sheet, id: &Kid) -> usize
-    requires { IsOrdered sheet.now }
+pub(crate) fn crate_number(sheet: &Sheet, id: &Kid) -> NodeId
+    requires few { IsFew sheet.now }
+    requires ordered { IsOrdered sheet.now }
     ensures { result ≡ number_of_crate (sheet_view sheet.now) (id_of id.now) }
+{
+    let place = crate_place(sheet, id);
+    NodeId::new(place as u32)
+}
+
+/// The place of the crate among those of the sheet, or the number of crates where it isn't kept.
+pub(crate) fn crate_place(sheet: &Sheet, id: &Kid) -> usize
+    requires { IsOrdered sheet.now }
+    ensures place { result ≡ number_of_crate (sheet_view sheet.now) (id_of id.now) }
+    ensures within { result ≤ length sheet.now.krates.items }
 {
     place_of_crate(&sheet.krates, id)
 }
 
 /// The number of the feature's node, or the number of nodes where it isn't enabled.
-pub(crate) fn feature_number(sheet: &Sheet, id: &Kid, name: &str) -> usize
+pub(crate) fn feature_number(sheet: &Sheet, id: &Kid, name: &str) -> NodeId
     requires few { IsFew sheet.now }
     requires ordered { IsOrdered sheet.now }
     ensures { result ≡ number_of_feature (sheet_view sheet.now) (id_of id.now) name.now }
 {
-    sheet.krates.len() + place_of_feature(&sheet.features, id, name)
+    let place = place_of_feature(&sheet.features, id, name);
+    NodeId::new((sheet.krates.len() + place) as u32)
 }
 
 /// The place of the crate, or the number of crates.
 fn place_of_crate(krates: &[Krate], id: &Kid) -> usize
     requires { IsStrictlySortedBy id_cmp (map (λ k. k.id) krates.now) }
-    ensures { result ≡ place_of (is_crate (id_of id.now)) (map krate_view krates.now) }
+    ensures place { result ≡ place_of (is_crate (id_of id.now)) (map krate_view krates.now) }
+    ensures within { result ≤ length krates.now }
 {
     laws::comparison();
     match krates.binary_search_by(|krate| krate.id.cmp(id)) {

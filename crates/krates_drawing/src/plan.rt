@@ -10,7 +10,7 @@ use crate::feature_edges::draw_features;
 use crate::sheet::Sheet;
 use std::alloc::{AllocError, Global};
 
-/// All edges of the selection's graph.
+/// All edges of the selection's graph, in the order of their numbers. The only error is running out of memory.
 #[tactic(auto, unfolding(crate::specs::Drawing::lines))]
 pub fn plan(alloc: Global, sheet: &Sheet) -> Result<Vec<Arrow>, AllocError>
     requires few { IsFew sheet.now }

@@ -8,13 +8,17 @@ ghost use Rattle.krates_drawing.specs.declared.edge.Edge.{Edge};
 ghost use Rattle.krates_drawing.specs.declared.store.StoreError.TheVariants.{TooMany};
 
 use crate::edge::{Arrow, Edge};
-use krates_graph::graph::{Graph, GraphError, NodeId};
+use krates_graph::graph::{Graph, GraphError};
 use std::alloc::{AllocError, Global};
 
-/// A value that is made of an edge.
+/// A value that is made of an edge, and is held in its place.
+///
+/// An edge is held as it is.
 pub trait FromEdge {
+    /// How an edge stands to the value that is made of it.
     ghost made_from_edge: { Edge → Self → Type 0 };
 
+    /// Makes the value. The only error is running out of memory.
     fn from_edge(alloc: Global, edge: Edge) -> Result<Self, AllocError>
     where
         Self: Sized,
@@ -24,7 +28,9 @@ pub trait FromEdge {
 /// Why the edges aren't stored.
 #[derive(Debug, PartialEq, Eq, Drop)]
 pub enum StoreError {
+    /// There are more of them than the graph's limit of edges.
     TooMany,
+    /// Memory ran out.
     Memory,
 }
 
@@ -63,10 +69,8 @@ fn store_arrow<N, E: FromEdge + Drop>(
     ensures limit { graph.new.edge_limit ≡ graph.old.edge_limit }
     ensures refused { IfErr result (λ e. e ≡ TooMany → graph.old.edge_limit ≤ length graph.old.edges) }
 {
-    let source = NodeId::new(arrow.source as u32);
-    let target = NodeId::new(arrow.target as u32);
     match weight_of(alloc, &arrow.edge) {
-        Ok(weight) => match graph.add_edge(source, target, weight) {
+        Ok(weight) => match graph.add_edge(arrow.source, arrow.target, weight) {
             Ok(_) => Ok(()),
             Err(GraphError::Full(_)) => Err(StoreError::TooMany),
             Err(GraphError::Memory(_)) => Err(StoreError::Memory),
@@ -75,7 +79,8 @@ fn store_arrow<N, E: FromEdge + Drop>(
     }
 }
 
-/// Puts the planned edges into a graph that has the nodes and no edge yet.
+/// Puts the planned edges, in their order, into a graph that has the nodes and no edge yet. It is refused as
+/// `TooMany` only where there are more than the graph takes, or as `Memory`. Time O(edges).
 pub fn store_arrows<N, E: FromEdge + Drop>(
     alloc: Global,
     arrows: &[Arrow],

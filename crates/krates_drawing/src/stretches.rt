@@ -30,28 +30,25 @@ pub(crate) fn links_from<'a>(sheet: &'a Sheet, parent: &Kid) -> &'a [Link]
     mine
 }
 
-/// The kept edges from a crate to another.
-pub(crate) fn links_between<'a>(sheet: &'a Sheet, parent: &Kid, child: &Kid) -> &'a [Link]
-    requires { IsOrdered sheet.now }
-    ensures { map link_view result.now ≡ filter (is_to (id_of child.now)) (from_crate (sheet_view sheet.now)
-        (id_of parent.now)) }
+/// Those of the edges from a crate that lead to another.
+pub(crate) fn links_to<'a>(mine: &'a [Link], child: &Kid) -> &'a [Link]
+    requires { AreByChild mine.now }
+    ensures { map link_view result.now ≡ filter (is_to (id_of child.now)) (map link_view mine.now) }
 {
     laws::comparison();
-    let below = sheet
-        .links
-        .partition_point(|link| link_against(link, parent, child).is_lt());
-    let (_, rest) = sheet.links.split_at(below);
-    let count = rest.partition_point(|link| link_against(link, parent, child).is_eq());
-    let (mine, _) = rest.split_at(count);
-    mine
+    let below = mine.partition_point(|link| link.edge.child.cmp(child).is_lt());
+    let (_, rest) = mine.split_at(below);
+    let count = rest.partition_point(|link| link.edge.child.cmp(child).is_eq());
+    let (there, _) = rest.split_at(count);
+    there
 }
 
-/// Whether an edge from a crate to another is kept.
-pub(crate) fn leads_to(sheet: &Sheet, parent: &Kid, child: &Kid) -> bool
-    requires { IsOrdered sheet.now }
-    ensures { result ≡ leads (from_crate (sheet_view sheet.now) (id_of parent.now)) (id_of child.now) }
+/// Whether one of the edges from a crate leads to another.
+pub(crate) fn leads_to(mine: &[Link], child: &Kid) -> bool
+    requires { AreByChild mine.now }
+    ensures { result ≡ leads (map link_view mine.now) (id_of child.now) }
 {
-    !links_between(sheet, parent, child).is_empty()
+    !links_to(mine, child).is_empty()
 }
 
 /// The features of a crate that another toggles, by name.
@@ -68,17 +65,6 @@ pub(crate) fn toggled_between<'a>(sheet: &'a Sheet, by: &Kid, krate: &Kid) -> &'
     let count = rest.partition_point(|toggled| toggled_against(toggled, by, krate).is_eq());
     let (mine, _) = rest.split_at(count);
     mine
-}
-
-/// How a kept edge compares with those between these crates.
-fn link_against(link: &Link, parent: &Kid, child: &Kid) -> Ordering
-    ensures { result ≡ ordering_then (id_cmp link.now.edge.parent parent.now)
-        (id_cmp link.now.edge.child child.now) }
-{
-    match link.edge.parent.cmp(parent) {
-        Ordering::Equal => link.edge.child.cmp(child),
-        unequal => unequal,
-    }
 }
 
 /// How a toggled feature compares with those between these crates.

@@ -37,7 +37,8 @@ impl Model for Taken {
 }
 
 impl Agenda {
-    /// An agenda for the numbers below `size`, with room for all of them.
+    /// An agenda for the numbers below `size`, with room for all of them. The only error is running out of memory.
+    /// Time O(size).
     pub fn new(alloc: Global, size: usize) -> Result<Agenda, AllocError>
         ensures { IfOk result (λ agenda. agenda ≡ record { size = size; put = []; taken = 0 }) }
     {
@@ -50,7 +51,7 @@ impl Agenda {
         })
     }
 
-    /// Puts a number, and says whether it is new. One that was put before changes nothing.
+    /// Puts a number, and says whether it is new. One that was put before changes nothing. Time O(1).
     pub fn put(&mut self, number: usize) -> bool
         requires { number < self.old.size }
         ensures new { OnTrue result (¬ Contains self.old.put number) }
@@ -67,7 +68,7 @@ impl Agenda {
         true
     }
 
-    /// Takes the number that was put first among those that were not taken yet; none where all were.
+    /// Takes the number that was put first among those that were not taken yet; none where all were. Time O(1).
     pub fn take(&mut self) -> Option<Taken>
         ensures first { result ≡ slice_get self.old.put self.old.taken }
         ensures counted { self.new ≡ record self.old {
@@ -80,7 +81,7 @@ impl Agenda {
         Some(Taken { number })
     }
 
-    /// The numbers that were put, in the order of their puts.
+    /// The numbers that were put, in the order of their puts. Time O(1).
     pub fn numbers(&self) -> &[usize]
         ensures put { result.now ≡ self.now.put }
         ensures orderly { IsOrderly self.now }
@@ -88,7 +89,7 @@ impl Agenda {
         &self.numbers
     }
 
-    /// How many numbers were taken.
+    /// How many numbers were taken. Time O(1).
     pub fn taken(&self) -> usize
         ensures count { result ≡ self.now.taken }
         ensures orderly { IsOrderly self.now }
@@ -98,7 +99,7 @@ impl Agenda {
 }
 
 impl Taken {
-    /// The number that was taken.
+    /// The number that was taken. Time O(1).
     pub fn number(&self) -> usize
         ensures { result ≡ self.now }
     {

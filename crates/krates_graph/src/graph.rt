@@ -52,7 +52,7 @@ impl<N, E> Model for Graph<N, E> {
 }
 
 impl<N, E> Graph<N, E> {
-    /// An empty graph, which takes at most so many nodes and edges.
+    /// An empty graph, which takes at most so many nodes and edges. Time O(1).
     pub fn with_limits(alloc: Global, nodes: u32, edges: u32) -> Graph<N, E>
         ensures { result ≡ record { nodes = []; edges = []; node_limit = nodes; edge_limit = edges } }
     {
@@ -66,8 +66,9 @@ impl<N, E> Graph<N, E> {
         }
     }
 
-    /// Appends a node, under the next number. `Full` comes exactly where the limit is reached, `Memory`
-    /// where there was no room; each hands the value back and leaves the graph as it was.
+    /// Appends a node, under the next number. `Full` comes exactly where the limit is reached, `Memory` where there
+    /// was no room; each hands the value back and leaves the graph as it was. Time O(1), but where room has to be
+    /// made.
     pub fn add_node(&mut self, value: N) -> Result<NodeId, GraphError<N>>
         ensures number { IfOk result (λ id. id ≡ length self.old.nodes) }
         ensures added { IfOk result (λ _.
@@ -93,8 +94,9 @@ impl<N, E> Graph<N, E> {
         }
     }
 
-    /// Appends an edge between two nodes, under the next number. `Full` comes exactly where the limit is
-    /// reached, `Memory` where there was no room; each hands the weight back and leaves the graph as it was.
+    /// Appends an edge between two nodes, under the next number. `Full` comes exactly where the limit is reached,
+    /// `Memory` where there was no room; each hands the weight back and leaves the graph as it was. Time O(1), but
+    /// where room has to be made.
     pub fn add_edge(
         &mut self,
         source: NodeId,
@@ -135,7 +137,7 @@ impl<N, E> Graph<N, E> {
         }
     }
 
-    /// The nodes, each at its number.
+    /// The nodes, each at its number. Time O(1).
     pub fn raw_nodes(&self) -> &[N]
         ensures nodes { result.now ≡ self.now.nodes }
         ensures within { length result.now ≤ self.now.node_limit }
@@ -143,7 +145,7 @@ impl<N, E> Graph<N, E> {
         self.nodes.as_slice()
     }
 
-    /// The edges, each at its number; the ends of each are nodes.
+    /// The edges, each at its number; the ends of each are nodes. Time O(1).
     pub fn raw_edges(&self) -> &[GraphEdge<E>]
         ensures edges { result.now ≡ self.now.edges }
         ensures within { length result.now ≤ self.now.edge_limit }
@@ -152,7 +154,7 @@ impl<N, E> Graph<N, E> {
         self.edges.as_slice()
     }
 
-    /// How many nodes there are.
+    /// How many nodes there are. Time O(1).
     pub fn node_count(&self) -> usize
         ensures count { result ≡ length self.now.nodes }
         ensures within { result ≤ self.now.node_limit }
@@ -160,7 +162,7 @@ impl<N, E> Graph<N, E> {
         self.nodes.len()
     }
 
-    /// How many edges there are.
+    /// How many edges there are. Time O(1).
     pub fn edge_count(&self) -> usize
         ensures count { result ≡ length self.now.edges }
         ensures within { result ≤ self.now.edge_limit }
@@ -168,7 +170,8 @@ impl<N, E> Graph<N, E> {
         self.edges.len()
     }
 
-    /// The edges of a node in one direction, by increasing number; none for no node.
+    /// The edges of a node in one direction, by increasing number; none for no node. Time O(1), and O(1) for each
+    /// edge.
     pub fn edges_directed(&self, node: NodeId, direction: Direction) -> EdgesDirected<'_, E>
         ensures { result ≡ edges_at self.now.edges node direction }
     {
@@ -178,7 +181,7 @@ impl<N, E> Graph<N, E> {
         }
     }
 
-    /// The numbers of a node's edges in one direction, in increasing order; none for no node.
+    /// The numbers of a node's edges in one direction, in increasing order; none for no node. Time O(1).
     pub fn edge_numbers(&self, node: NodeId, direction: Direction) -> &[EdgeId]
         ensures { result.now ≡ numbers_at self.now.edges node direction }
     {
@@ -188,7 +191,7 @@ impl<N, E> Graph<N, E> {
         }
     }
 
-    /// The source and the target of an edge; `None` where there is no edge of that number.
+    /// The source and the target of an edge; `None` where there is no edge of that number. Time O(1).
     pub fn edge_endpoints(&self, id: EdgeId) -> Option<(NodeId, NodeId)>
         ensures { result ≡ option_map (λ edge. (edge.source, edge.target)) (slice_get self.now.edges id) }
     {

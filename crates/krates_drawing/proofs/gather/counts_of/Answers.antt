@@ -1,4 +1,4 @@
-use Rattle.krates_resolve.specs.DocumentModel.{as_resolved}
+use Rattle.krates_questions.specs.DocumentModel.{as_resolved}
 use Rattle.krates_rules.specs.Resolved.{id_of}
 use Rattle.krates_drawing.specs.Gathered.{CountTold}
 use Rattle.krates_drawing.proofs.Zips.{zip_next}

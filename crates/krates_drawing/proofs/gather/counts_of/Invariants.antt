@@ -1,6 +1,6 @@
 use Rattle.std.proofs.Common.{take}
 use Rattle.std.specs.List.{AllZip}
-use Rattle.krates_resolve.specs.DocumentModel.{as_resolved}
+use Rattle.krates_questions.specs.DocumentModel.{as_resolved}
 use Rattle.krates_rules.specs.Resolved.{id_of}
 use Rattle.krates_drawing.specs.Gathered.{CountTold}
 use Rattle.krates_drawing.proofs.gather.counts_of.Given as goal

@@ -1,6 +1,6 @@
 use Rattle.std.proofs.Common.{option_map, slice_get, map, sym, ap, ◌∙◌}
 use Rattle.krates_cm.specs.Document.{dependency_view, node_view, package_view, text_view}
-use Rattle.krates_resolve.specs.DocumentModel.{as_resolved}
+use Rattle.krates_questions.specs.DocumentModel.{as_resolved}
 use Rattle.krates_drawing.specs.Gathered.{GivenTold, no_dependency, gives}
 use Rattle.krates_drawing.proofs.Answered.{ok_more}
 use Rattle.krates_drawing.proofs.gather.given_by.Goals as goal

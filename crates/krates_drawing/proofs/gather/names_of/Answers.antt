@@ -1,6 +1,6 @@
 use Rattle.std.proofs.Common.{map, ap, ◌∙◌}
 use Rattle.std.proofs.lemmas.List.{map-append}
-use Rattle.krates_resolve.specs.DocumentModel.{as_resolved}
+use Rattle.krates_questions.specs.DocumentModel.{as_resolved}
 use Rattle.krates_drawing.specs.Gathered.{MeaningsTold}
 use Rattle.krates_drawing.specs.Views.{meanings_view}
 use Rattle.krates_drawing.proofs.Zips.{zip_next}

@@ -1,6 +1,6 @@
 use Rattle.std.proofs.Common.{map, take}
 use Rattle.std.specs.List.{AllZip}
-use Rattle.krates_resolve.specs.DocumentModel.{as_resolved}
+use Rattle.krates_questions.specs.DocumentModel.{as_resolved}
 use Rattle.krates_drawing.specs.Gathered.{MeaningsTold}
 use Rattle.krates_drawing.specs.Views.{meanings_view}
 use Rattle.krates_drawing.proofs.gather.names_of.Given as goal

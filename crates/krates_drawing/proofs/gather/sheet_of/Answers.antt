@@ -2,7 +2,7 @@ use Rattle.std.proofs.Common.{List, map, refl, subst}
 use Rattle.std.specs.List.{AllZip}
 use Rattle.krates_cm.specs.Document.{texts_view}
 use Rattle.krates_ids.specs.Identity.{Identity}
-use Rattle.krates_resolve.specs.DocumentModel.{as_resolved}
+use Rattle.krates_questions.specs.DocumentModel.{as_resolved}
 use Rattle.krates_rules.specs.Resolved.{id_of}
 use Rattle.krates_resolve.specs.declared.selection.EnabledFeature.{EnabledFeature}
 use Rattle.krates_resolve.specs.declared.selection.KeptEdge.{KeptEdge}

@@ -1,5 +1,5 @@
 use Rattle.std.proofs.Common.{◌≡◌, [], ◌∷◌, map, sym, subst}
-use Rattle.krates_resolve.specs.DocumentModel.{as_resolved}
+use Rattle.krates_questions.specs.DocumentModel.{as_resolved}
 use Rattle.krates_rules.specs.Resolved.{id_of}
 use Rattle.krates_drawing.specs.Sheet.{AreReferents}
 use Rattle.krates_drawing.proofs.Answered.{ok_more}

@@ -1,12 +1,18 @@
-use Rattle.std.proofs.Common.{◌++◌, [], ◌∷◌, map, sym, ap, ◌∙◌, arith}
-use Rattle.std.proofs.lemmas.List.FromFn.{map-range_with_len_more}
-use Rattle.std.specs.List.{range_with_len}
-use Rattle.krates_drawing.specs.Drawing.{mapped}
+use Rattle.std.proofs.Common.{◌≡◌, length, rules, refl, sym, ap, ◌∙◌}
+use Rattle.std.proofs.lemmas.List.{with_items_is}
 use Rattle.krates_drawing.specs.Views.{link_view, sheet_view}
+use Rattle.krates_drawing.proofs.Mapped.{mapping_more, mapping_none}
 use Rattle.krates_drawing.proofs.nodes.mapping_over.Goals as goal
 
-pub loop-place-preserved : goal.loop-place-preserved
-loop-place-preserved c =
-    let f = mapped (sheet_view c.args.sheet.now) (map link_view c.args.mine.now) in
-    let more = map-range_with_len_more f 0 c.loop-place.place c.loop-place.place (omega arith) in
-    c.in_ok-push.ensures.items ∙ ap (λ xs. xs ++ c.mapped.result ∷ []) c.loop-place.invariant ∙ ap (λ x. map f (range_with_len 0 c.loop-place.place) ++ x ∷ []) c.mapped.ensures ∙ sym more
+pub loop-link-init : goal.loop-link-init
+loop-link-init c = c.in_ok-mapping.ensures.items_if_clones_equal (search rules) ∙ mapping_none (sheet_view c.args.sheet.now) c.args.count
+
+pub loop-link-preserved : goal.loop-link-preserved
+loop-link-preserved c =
+    let l = c.loop-link in
+    let before = c.deref_mut.result.now in
+    let after = c.claim.new.mapping in
+    let same_length : length after ≡ l.mapping.len = c.claim.auto.mapping ∙ ap length c.deref_mut.ensures.value ∙ sym l.mapping.ok.0 in
+    with_items_is l.mapping after same_length
+    ∙ mapping_more (sheet_view c.args.sheet.now) c.args.sheet.now.krates.items c.args.mine.now l.link-index c.link-item.result c.args.count before after refl c.requires.ordered.krates c.requires.by_child c.loop-link-test.true c.link-item.is
+    (c.deref_mut.ensures.value ∙ l.invariant) c.claim.ensures

@@ -10,14 +10,14 @@ use Rattle.krates_drawing.proofs.Halves.{searched}
 use Rattle.krates_drawing.proofs.Tests.{equal_ids, ids_total, place_seen}
 use Rattle.krates_drawing.proofs.numbers.place_of_crate.Goals as goal
 
-pub returns-in-Ok : goal.returns-in-Ok
-returns-in-Ok c =
+pub returns-in-Ok-clause-place : goal.returns-in-Ok-clause-place
+returns-in-Ok-clause-place c =
     let at = c.in-Ok.ensures.position (λ (k : Krate). id_cmp k.id c.args.id.now) (always_returns_same _ _ _ (λ a r q called. search rules)) in
     sym (place_seen krate_view (is_crate (id_of c.args.id.now)) (λ (k : Krate). is_eq (id_cmp k.id c.args.id.now)) c.args.krates.now (λ k. equal_ids k.id c.args.id.now)
     ∙ searched ids_total (λ (k : Krate). k.id) c.args.krates.now c.args.id.now (Ok c.in-Ok.place) c.requires c.in-Ok.ensures.bound at)
 
-pub returns-in-Err : goal.returns-in-Err
-returns-in-Err c =
+pub returns-in-Err-clause-place : goal.returns-in-Err-clause-place
+returns-in-Err-clause-place c =
     let at = c.in-Err.ensures.position (λ (k : Krate). id_cmp k.id c.args.id.now) (always_returns_same _ _ _ (λ a r q called. search rules)) in
     sym (place_seen krate_view (is_crate (id_of c.args.id.now)) (λ (k : Krate). is_eq (id_cmp k.id c.args.id.now)) c.args.krates.now (λ k. equal_ids k.id c.args.id.now)
     ∙ searched ids_total (λ (k : Krate). k.id) c.args.krates.now c.args.id.now (Err c.in-Err.field-0) c.requires c.in-Err.ensures.bound at)

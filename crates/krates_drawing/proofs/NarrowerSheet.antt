@@ -1,0 +1,149 @@
+-- A sheet of a narrower setting is a part of that of the wider one.
+use Rattle.std.proofs.Common.{◌≡◌, List, [], ◌∷◌, ◌∙◌, Contains, ℕ, map, refl, sym, subst}
+use Rattle.std.proofs.lemmas.List.Elements.{All-contains}
+use Rattle.std.specs.List.{AllZip}
+use Rattle.krates_cm.specs.Document.{DependencyModel, NodeModel}
+use Rattle.krates_ids.specs.Identity.{id_cmp}
+use Rattle.krates_rules.specs.Admission.{NoneDoubled}
+use Rattle.krates_rules.specs.Derivation.{Derivable}
+use Rattle.krates_rules.specs.Facts.{Edge, Kept}
+use Rattle.krates_rules.specs.Narrowing.{IsNarrowing}
+use Rattle.krates_rules.specs.Questions.{IsDeclaredAt, questions}
+use Rattle.krates_rules.specs.Reordering.{SayAlike, ReordersPackage}
+use Rattle.krates_rules.specs.Resolved.{Resolved}
+use Rattle.krates_rules.specs.Setting.{SettingModel, IsIgnored}
+use Rattle.krates_rules.proofs.OnlyOne.{one_package, one_node, one_dep}
+use Rattle.krates_resolve.specs.Selection.{edge_view, IsPlaced, IsSelection}
+use Rattle.krates_resolve.specs.SelectionOrder.{place_cmp, feature_cmp, toggled_cmp}
+use Rattle.krates_resolve.specs.declared.selection.KeptEdge.{KeptEdge}
+use Rattle.krates_resolve.specs.declared.selection.Selection.{Selection}
+use Rattle.krates_resolve.specs.declared.selection.ToggledFeature.{ToggledFeature}
+use Rattle.krates_drawing.specs.Narrower.{IsPart, NarrowerDrawsNoMore}
+use Rattle.krates_drawing.specs.Sheet.{Link, IsKrate, IsLink, IsNamed, Sheet, IsSheet, Toggle, toggle_of}
+use Rattle.krates_drawing.proofs.Derivations.{kept_by}
+use Rattle.krates_drawing.proofs.FewerLines.{IsPartSheet, draws_no_more}
+use Rattle.krates_drawing.proofs.Holding.{edge_there}
+use Rattle.krates_drawing.proofs.Members.{Member, contains_of}
+use Rattle.krates_drawing.proofs.OneSheet.{SameCrate, SameEdge, SameFeature, SameToggle, Carries, ReadsOneReference, crate_order, edge_order, feature_order, toggle_order, crate_likes, edge_likes, feature_likes, toggle_likes, turn_feature, turn_toggle, krates_same, links_same, features_same, toggle_views}
+use Rattle.krates_drawing.proofs.Parts.{LikePart, likes_part, made_part}
+use Rattle.krates_drawing.proofs.SaidAlike.{SaidAlike, declared_alike, place_alike}
+use Rattle.krates_drawing.proofs.Zips.{zip_there}
+
+-- ---- one document says the same as itself
+
+say_itself : (r : Resolved) → NoneDoubled r.metadata r.graph → SayAlike r r
+say_itself r none = record {
+  packages = λ i p q a b.
+      let same = one_package r i p q none a b in
+      subst (λ z. ReordersPackage p z) same (record { features = λ name. refl; rest = refl });
+  features = λ i n o a b f.
+      let same = one_node r i n o none a b in
+      (λ h. subst (λ (z : NodeModel). Contains z.features f) same h, λ h. subst (λ (z : NodeModel). Contains z.features f) (sym same) h);
+  deps = λ e d c a b. one_dep r e.parent e.child a.node b.node d c none a.has_node b.has_node a.has_dep b.has_dep;
+  referents = λ i name c. (λ x. x, λ x. x);
+}
+
+said_itself : (r : Resolved) (s : SettingModel) → NoneDoubled r.metadata r.graph → SaidAlike r r s
+said_itself r s none =
+    let say = say_itself r none in
+    record {
+      facts = λ f. (λ d. d, λ d. d);
+      packages = say.packages;
+      features = say.features;
+      declared = declared_alike r r s say;
+      place = place_alike r r s say;
+      referents = say.referents;
+    }
+
+-- ---- what a kept edge says under the wider setting
+
+-- what is kept isn't ignored
+kept_regarded : (r : Resolved) (s : SettingModel) (e : Edge) → Derivable (questions r s) (Kept e) → IsIgnored r s e → ⊥
+unfolding questions
+kept_regarded r s e d = (kept_by (questions r s) e d).opened.wanted.declared.not_ignored
+
+-- an edge is declared under one setting as under another that doesn't ignore it
+declared_wider : (r : Resolved) (s z : SettingModel) (e : Edge) (place : ℕ) (d : DependencyModel) → (IsIgnored r z e → ⊥) → IsDeclaredAt r s e place d → IsDeclaredAt r z e place d
+declared_wider r s z e place d regarded h = record { declares = h.declares; not_ignored = regarded }
+
+-- selections under two settings, of which the first has the facts of the second
+record Narrowed (r : Resolved) (s z : SettingModel) (x y : Selection) : Type 0 where
+  none : NoneDoubled r.metadata r.graph
+  carries : Carries (questions r s) (questions r z)
+  first : IsSelection r s x
+  second : IsSelection r z y
+
+regarded : (r : Resolved) (s z : SettingModel) (x y : Selection) → Narrowed r s z x y → (e : KeptEdge) → Member x.edges.items e → IsIgnored r z (edge_view e) → ⊥
+regarded r s z x y w e m = kept_regarded r z (edge_view e) (w.carries _ ((w.first.facts (Kept (edge_view e))).1 (edge_there x e m)))
+
+placed_wider : (r : Resolved) (s z : SettingModel) (x y : Selection) → Narrowed r s z x y → (e : KeptEdge) → Member x.edges.items e → IsPlaced r z e
+unfolding declared_wider
+placed_wider r s z x y w e m =
+    let p = All-contains (IsPlaced r s) x.edges.items e w.first.placed (contains_of x.edges.items e m) in
+    record {
+      dependency = p.dependency;
+      declared = declared_wider r s z (edge_view e) e.declared p.dependency (regarded r s z x y w e m) p.declared;
+      place = p.place;
+    }
+
+link_wider : (r : Resolved) (s z : SettingModel) (e : KeptEdge) (l : Link) → (IsIgnored r z (edge_view e) → ⊥) → IsLink r s e l → IsLink r z e l
+link_wider r s z e l regarded h = record {
+  edge = h.edge;
+  place = h.place;
+  dependency = h.dependency;
+  declared = declared_wider r s z l.edge l.place h.dependency (subst (λ f. IsIgnored r z f → ⊥) (sym h.edge) regarded) h.declared;
+  node = h.node;
+  has_node = h.has_node;
+  given = h.given;
+}
+
+-- ---- the lists of the selections
+
+crates_part : (r : Resolved) (s z : SettingModel) (x y : Selection) → Narrowed r s z x y → LikePart SameCrate x.krates.items y.krates.items
+crates_part r s z x y w = likes_part id_cmp SameCrate x.krates.items y.krates.items crate_order w.first.krates w.second.krates
+    (λ i m. let k = crate_likes r r s z x y w.carries w.first w.second i m in record { partner = k.0; member = k.1; related = sym k.2 })
+
+edges_part : (r : Resolved) (s z : SettingModel) (x y : Selection) → Narrowed r s z x y → LikePart SameEdge x.edges.items y.edges.items
+edges_part r s z x y w = likes_part place_cmp SameEdge x.edges.items y.edges.items edge_order w.first.edges w.second.edges
+    (λ e m.
+    let k = edge_likes r r s z x y w.carries w.first w.second e m in
+    let there = All-contains (IsPlaced r z) y.edges.items k.0 w.second.placed (contains_of y.edges.items k.0 k.1) in
+    record { partner = k.0; member = k.1; related = record { edge = sym k.2; place = (said_itself r z w.none).place e k.0 (sym k.2) (placed_wider r s z x y w e m) there } })
+
+features_part : (r : Resolved) (s z : SettingModel) (x y : Selection) → Narrowed r s z x y → LikePart SameFeature x.features.items y.features.items
+features_part r s z x y w = likes_part feature_cmp SameFeature x.features.items y.features.items feature_order w.first.features w.second.features
+    (λ e m. let k = feature_likes r r s z x y w.carries w.first w.second e m in record { partner = k.0; member = k.1; related = turn_feature k.0 e k.2 })
+
+toggled_part : (r : Resolved) (s z : SettingModel) (x y : Selection) → Narrowed r s z x y → LikePart SameToggle x.toggled.items y.toggled.items
+toggled_part r s z x y w = likes_part toggled_cmp SameToggle x.toggled.items y.toggled.items toggle_order w.first.toggled w.second.toggled
+    (λ e m. let k = toggle_likes r r s z x y w.carries w.first w.second e m in record { partner = k.0; member = k.1; related = turn_toggle k.0 e k.2 })
+
+-- ---- the sheets
+
+made_by : {A B : Type 0} (f : A → B) (xs : List A) → AllZip (λ x y. y ≡ f x) xs (map f xs)
+made_by f [] = tt
+made_by f (x ∷ xs) = (refl, made_by f xs)
+
+toggles_part : (xs ys : List ToggledFeature) (ts us : List Toggle) → LikePart SameToggle xs ys → ts ≡ map toggle_of xs → us ≡ map toggle_of ys → IsPart ts us
+toggles_part xs ys ts us w e f =
+    let made = made_part SameToggle (λ a t. t ≡ toggle_of a) (λ a t. t ≡ toggle_of a) xs ys (map toggle_of xs) (map toggle_of ys) w (made_by toggle_of xs) (made_by toggle_of ys)
+    (λ a b t u same p q. p ∙ (toggle_views a b same ∙ sym q)) in
+    subst (λ zs. IsPart zs us) (sym e) (subst (IsPart (map toggle_of xs)) (sym f) made)
+
+part_sheet : ReadsOneReference → (r : Resolved) (s z : SettingModel) (x y : Selection) → Narrowed r s z x y → (t v : Sheet) → IsSheet r s x t → IsSheet r z y v → IsPartSheet t v
+part_sheet one r s z x y w t v p q =
+    let say = said_itself r z w.none in
+    record {
+      krates = made_part SameCrate (IsKrate r) (IsKrate r) x.krates.items y.krates.items t.krates v.krates (crates_part r s z x y w) p.krates q.krates (krates_same r r z say);
+      links = made_part SameEdge (IsLink r z) (IsLink r z) x.edges.items y.edges.items t.links v.links (edges_part r s z x y w)
+          (zip_there (IsLink r s) (IsLink r z) x.edges.items t.links (λ e m l is. link_wider r s z e l (regarded r s z x y w e m) is) p.links) q.links (links_same r r z say);
+      features = made_part SameFeature (IsNamed r) (IsNamed r) x.features.items y.features.items t.features v.features (features_part r s z x y w) p.features q.features (features_same one r r z say);
+      toggled = toggles_part x.toggled.items y.toggled.items t.toggled v.toggled (toggled_part r s z x y w) p.toggled q.toggled;
+    }
+
+-- ---- the law
+
+pub narrower_draws_no_more : IsNarrowing → ReadsOneReference → NarrowerDrawsNoMore
+narrower_draws_no_more law one r none wide narrow step x y hx hy t v p q =
+    let w : Narrowed r narrow wide x y = record { none = none; carries = (law r wide narrow step).facts; first = hx; second = hy } in
+    draws_no_more t v (part_sheet one r narrow wide x y w t v p q)

@@ -1,0 +1,5 @@
+use Rattle.krates_drawing.proofs.NarrowerSheet as parts
+use Rattle.krates_drawing.proofs.laws.narrower_draws_no_more.Goals as goal
+
+pub returns : goal.returns
+returns c = parts.narrower_draws_no_more c.narrowing.ensures c.one_reference.ensures

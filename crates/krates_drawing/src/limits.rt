@@ -1,0 +1,63 @@
+//! A selection's graph, drawn within limits to the numbers of its nodes and edges.
+ghost use Rattle.std.specs.Prelude.{◌≡◌, ◌<◌, ◌≤◌, IfErr, IfOk, length, map};
+ghost use Rattle.std.specs.Bool.{MatchBool};
+ghost use Rattle.krates_drawing.specs.Drawing.{lines, spots};
+ghost use Rattle.krates_drawing.specs.Limits.{DrawingRefusal, IsWithin};
+ghost use Rattle.krates_drawing.specs.SheetOrder.{IsOrdered};
+ghost use Rattle.krates_drawing.specs.Views.{arrow_view, sheet_view, spot_view};
+
+use crate::edge::Arrow;
+use crate::nodes::{Spot, draw_nodes};
+use crate::plan::plan;
+use crate::sheet::Sheet;
+use krates_ids::Error;
+use std::alloc::Global;
+
+/// How many nodes and how many edges a graph may have.
+#[derive(Clone, Copy, Debug, PartialEq, Eq)]
+pub struct Limits {
+    /// The greatest number of nodes.
+    pub nodes: u32,
+    /// The greatest number of edges.
+    pub edges: u32,
+}
+
+/// The nodes and edges of a sheet, by number.
+#[derive(Drop)]
+pub struct Plan {
+    /// The nodes, before packages are put into them.
+    pub spots: Vec<Spot>,
+    /// The edges.
+    pub arrows: Vec<Arrow>,
+}
+
+/// Whether there may be so many nodes as a sheet has.
+fn has_room(sheet: &Sheet, nodes: u32) -> bool
+    ensures { MatchBool result (length (spots (sheet_view sheet.now)) ≤ nodes)
+        (nodes < length (spots (sheet_view sheet.now))) }
+{
+    let krates = sheet.krates.len();
+    let most = nodes as usize;
+    krates <= most && sheet.features.len() <= most - krates
+}
+
+/// Draws the nodes and the edges of a sheet. It is refused as `TooMany` exactly where there are more nodes or more edges than the
+/// limits allow; the nodes are counted before they are drawn, and the edges as they are planned. `Memory` may stand in place of
+/// any answer.
+pub fn plan_within(alloc: Global, sheet: &Sheet, limits: Limits) -> Result<Plan, Error>
+    requires ordered { IsOrdered sheet.now }
+    ensures nodes { IfOk result (λ p. map spot_view p.spots.items ≡ spots (sheet_view sheet.now)) }
+    ensures edges { IfOk result (λ p. map arrow_view p.arrows.items ≡ lines (sheet_view sheet.now)) }
+    ensures within { IfOk result (λ _. IsWithin limits (sheet_view sheet.now)) }
+    ensures refused { IfErr result (DrawingRefusal limits (sheet_view sheet.now)) }
+{
+    if !has_room(sheet, limits.nodes) {
+        return Err(Error::TooMany);
+    }
+    let spots = draw_nodes(alloc, sheet)?;
+    let arrows = plan(alloc, sheet)?;
+    if arrows.len() > limits.edges as usize {
+        return Err(Error::TooMany);
+    }
+    Ok(Plan { spots, arrows })
+}
