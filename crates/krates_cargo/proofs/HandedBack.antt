@@ -118,7 +118,7 @@ module _ {M : Type 1} {𝓤 : Ura M} (𝓛 : Logic 𝓤) (R : RattleType) where
           use1 𝓛 (‵ (Answer.own_val (Err (record {})) (err_val ∷ []))) (err_of 𝓛 (Ref κ) AE.the_row (record {}) (vstruct vnil)) $ move ! (1 ∷ []) $ done !
 
 -- a fact beside what is owned
-beside : {M : Type 1} (𝓤 : Ura M) {φ : Type 0} (P : SProp 𝓤) → φ → ent 𝓤 P (sep 𝓤 P (fact 𝓤 φ))
+pub beside : {M : Type 1} (𝓤 : Ura M) {φ : Type 0} (P : SProp 𝓤) → φ → ent 𝓤 P (sep 𝓤 P (fact 𝓤 φ))
 beside 𝓤 {φ} P x = via 𝓤 (sep 𝓤 (emp 𝓤) P) (emp∗ 𝓤 P) (via 𝓤 (sep 𝓤 (fact 𝓤 φ) P) (mono_l 𝓤 P (fact_i 𝓤 φ (emp 𝓤) x)) (comm∗ 𝓤 (fact 𝓤 φ) P))
 
 -- two facts are shown, and what is left of the goal is P

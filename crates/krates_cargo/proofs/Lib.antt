@@ -1,4 +1,6 @@
+pub mod FeaturesChosen
 pub mod HandedBack
+pub mod HandedOrRefused
 pub mod InOrder
 pub mod ResultValues
 pub mod Variables

@@ -1,7 +1,7 @@
 -- Variables of the environment, by name.
 use Rattle.std.proofs.Common.{◌≡◌, List, [], ◌∷◌, refl, ap, ◌∙◌, map}
 use Rattle.std.specs.Prelude.{String}
-use Rattle.std.specs.BTreeMap.{insert_entry}
+use Rattle.std.specs.BTreeMap.{BTreeMap, IsClone, insert_entry}
 use Rattle.std.specs.Cmp.Lexicographic.{slice_cmp}
 use Rattle.std.specs.Ordering.{nat_cmp, match_ordering}
 use Rattle.std.specs.String.{string_cmp}
@@ -9,6 +9,8 @@ use Rattle.std.specs.declared.alloc.Global.{Global}
 use Rattle.std.specs.declared.cmp.Ordering.{Ordering}
 use Rattle.std.specs.declared.cmp.Ordering.TheVariants.{Less, Equal, Greater}
 use Rattle.krates_cm.specs.Document.{Text, text_view}
+use Rattle.krates_cm.proofs.CopyLemmas.{same_list}
+use Rattle.krates_cargo.specs.Command.{variables_view}
 
 -- an entry, as clauses see it
 abbrev texts : String Global × String Global → Text × Text
@@ -26,3 +28,14 @@ seen_insert [] name value = refl
 seen_insert (e ∷ es) name value =
     map-match texts (string_cmp name e.0) _ _ _
     ∙ ap (λ rest. match_ordering (string_cmp name e.0) (texts (name, value) ∷ texts e ∷ map texts es) (texts (e.0, value) ∷ map texts es) (texts e ∷ rest)) (seen_insert es name value)
+
+-- ---- copies
+abbrev IsSameText : String Global → String Global → Type 0
+IsSameText s t = text_view t ≡ text_view s
+
+abbrev EntryCopied : String Global × String Global → String Global × String Global → Type 0
+EntryCopied e f = IsSameText e.0 f.0 × IsSameText e.1 f.1
+
+-- a copy of the variables looks as they do
+pub same_variables : (m n : BTreeMap (String Global) (String Global)) → IsClone IsSameText IsSameText m n → variables_view n ≡ variables_view m
+same_variables m n h = same_list EntryCopied texts (λ e f same. λ i. (same.0 i, same.1 i)) m.entries n.entries h

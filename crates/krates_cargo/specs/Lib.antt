@@ -1,4 +1,5 @@
 pub mod Command
+pub mod Features
 pub mod Options
 pub mod Output
 pub mod Running

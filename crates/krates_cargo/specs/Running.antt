@@ -1,6 +1,7 @@
 -- The program that a command runs, and what a run answers.
-use Rattle.std.specs.Prelude.{◌≡◌, ◌≢◌, Bool, true, false, List, Option, Some, None, if◌then◌else◌, fold, codes}
+use Rattle.std.specs.Prelude.{◌≡◌, ◌≢◌, Bool, true, false, List, Option, Some, None, codes}
 use Rattle.std.specs.Borrow.{Bor}
+use Rattle.std.specs.Map.{lookup}
 use Rattle.std.specs.Option.{option_map}
 use Rattle.std.specs.IoError.{error_kind}
 use Rattle.std.specs.Process.{clears_env, command_var}
@@ -19,14 +20,10 @@ program (Some path) cargo = path
 program None (Some cargo) = cargo.now
 program None None = codes "cargo"
 
--- the value of a variable among those that are set
-abbrev pub value_of : List (Text × Text) → Text → Option Text
-value_of variables name = fold (λ found v. if bytes_eq v.0 name then Some v.1 else found) None variables
-
 -- the command sets just these variables, in the environment that it inherits
 abbrev pub SetsJust : List (Text × Text) → Command Global → Type 0
 SetsJust variables c =
-    (clears_env c ≡ false) × ((name : Text) → command_var c name ≡ option_map Some (value_of variables name))
+    (clears_env c ≡ false) × ((name : Text) → command_var c name ≡ option_map Some (lookup (bytes_eq name) variables))
 
 -- some output of a cargo that ended well has the document
 abbrev pub IsSomeAnswer : MetadataModel → Type 0
@@ -36,7 +33,7 @@ IsSomeAnswer m = (stdout : Text) × IsAnswer true stdout m
 abbrev pub IsNotRead : Error → Type 0
 IsNotRead e = (success : Bool) × (stdout : Text) × (stderr : Text) × IsNoAnswer success stdout stderr e
 
--- why a run has no document: cargo couldn't be run, and not for want of memory, or what it wrote has none
+-- why a run has no document: cargo couldn't be run, and not because memory ran out, or what it wrote has none
 abbrev pub IsUnrun : Error → Type 0
 IsUnrun (errors.Io cause) = error_kind cause ≢ kinds.OutOfMemory
 IsUnrun e = IsNotRead e

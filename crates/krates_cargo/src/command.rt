@@ -8,6 +8,7 @@ ghost use Rattle.krates_cm.specs.Document.{metadata_view, text_view, texts_view}
 ghost use Rattle.krates_cm.specs.Parsing.{IsDocument, IsRefusal};
 ghost use Rattle.krates_cm.specs.declared.error.Error.TheVariants as errors;
 ghost use Rattle.krates_cargo.specs.Command.{plain_command, words};
+ghost use Rattle.krates_cargo.specs.Features.{features_view};
 ghost use Rattle.krates_cargo.specs.Setters.{IsChosen, IsNotChosen, RestsCommand, choosing, with_variable};
 
 use crate::words::{push_all, push_flag, push_listed, push_valued, push_word};
@@ -17,7 +18,7 @@ use std::collections::BTreeMap;
 use std::marker::Model;
 
 /// Features of the packages of the workspace (Cargo Book, "cargo metadata", "Feature Selection").
-#[derive(Clone, Debug, Drop)]
+#[derive(Debug, Drop)]
 pub enum Features {
     /// All of them.
     All,
@@ -27,14 +28,31 @@ pub enum Features {
     Selected(Vec<String>),
 }
 
+impl Clone for Features {
+    ghost is_clone = { λ features copy. features_view copy ≡ features_view features };
+
+    /// A copy that is equal, name by name.
+    fn clone(&self) -> Result<Features, AllocError> {
+        match self {
+            Features::All => Ok(Features::All),
+            Features::NoDefault => Ok(Features::NoDefault),
+            Features::Selected(names) => Ok(Features::Selected(names.clone()?)),
+        }
+    }
+}
+
 /// The command `cargo metadata`, whose output is the document, and its settings.
 ///
-/// The setters may be called in any order. Names of features and variables of the environment are added to those that are
-/// set; in everything else the last call counts. Those that add want memory, and after a refusal they leave the command as
-/// it was.
+/// The setters may be called in any order. Names of features and variables of the environment are added to those that
+/// are set; in everything else the last call counts. Each returns the command, so that calls chain. Those that add
+/// can run out of memory, and then leave the command as it was.
 ///
-/// A chain of calls looks so: `command.no_deps().manifest_path(path).env("RUSTC", "rustc")?`.
-#[derive(Clone, Debug, Drop)]
+/// ```text
+/// let mut command = MetadataCommand::new(alloc);
+/// command.no_deps().manifest_path(path).env("RUSTC", "rustc")?;
+/// let metadata = command.exec(Some("cargo"), rt)?;
+/// ```
+#[derive(Debug, Drop)]
 pub struct MetadataCommand {
     pub(crate) alloc: Global,
     pub(crate) cargo_path: Option<String>,
@@ -70,8 +88,33 @@ impl Model for MetadataCommand {
     } };
 }
 
+impl Clone for MetadataCommand {
+    ghost is_clone = { λ command copy. copy ≡ command };
+
+    /// A copy that is equal in all that is set.
+    fn clone(&self) -> Result<MetadataCommand, AllocError> {
+        Ok(MetadataCommand {
+            alloc: self.alloc,
+            cargo_path: self.cargo_path.clone()?,
+            manifest_path: self.manifest_path.clone()?,
+            current_dir: self.current_dir.clone()?,
+            features: self.features.clone()?,
+            other_options: self.other_options.clone()?,
+            variables: self.variables.clone()?,
+            has_no_deps: self.has_no_deps,
+            has_all_features: self.has_all_features,
+            has_no_default_features: self.has_no_default_features,
+            is_verbose: self.is_verbose,
+        })
+    }
+}
+
 impl MetadataCommand {
-    /// The command with nothing set.
+    /// The command with nothing set: `cargo metadata --format-version 1` in the directory of this process. Time O(1).
+    ///
+    /// ```text
+    /// let mut command = MetadataCommand::new(alloc);
+    /// ```
     pub fn new(alloc: Global) -> MetadataCommand
         ensures { result ≡ plain_command }
     {
@@ -90,7 +133,11 @@ impl MetadataCommand {
         }
     }
 
-    /// The program to run as cargo.
+    /// The program to run as cargo, in place of the one that is handed in to `exec`. Never refused. Time O(1).
+    ///
+    /// ```text
+    /// command.cargo_path(String::from_str(alloc, "/usr/bin/cargo")?);
+    /// ```
     pub fn cargo_path(&mut self, path: String) -> &mut Self
         ensures set { result.now ≡ record (self.old) { cargo_path = Some (text_view path) } }
         ensures same_reference { result.ghost_name ≡ self.entry.ghost_name }
@@ -99,7 +146,11 @@ impl MetadataCommand {
         self
     }
 
-    /// The manifest whose workspace is asked for.
+    /// The manifest whose workspace is asked for, by `--manifest-path`. Never refused. Time O(1).
+    ///
+    /// ```text
+    /// command.manifest_path(String::from_str(alloc, "/w/a/Cargo.toml")?);
+    /// ```
     pub fn manifest_path(&mut self, path: String) -> &mut Self
         ensures set { result.now ≡ record (self.old) { manifest_path = Some (text_view path) } }
         ensures same_reference { result.ghost_name ≡ self.entry.ghost_name }
@@ -108,7 +159,11 @@ impl MetadataCommand {
         self
     }
 
-    /// The directory to run cargo in.
+    /// The directory to run cargo in. Never refused. Time O(1).
+    ///
+    /// ```text
+    /// command.current_dir(String::from_str(alloc, "/w/a")?);
+    /// ```
     pub fn current_dir(&mut self, path: String) -> &mut Self
         ensures set { result.now ≡ record (self.old) { current_dir = Some (text_view path) } }
         ensures same_reference { result.ghost_name ≡ self.entry.ghost_name }
@@ -117,7 +172,12 @@ impl MetadataCommand {
         self
     }
 
-    /// Leaves dependencies out of the document.
+    /// Leaves dependencies out of the document, by `--no-deps`. Such a document has no resolved graph, so a build
+    /// refuses it. Never refused. Time O(1).
+    ///
+    /// ```text
+    /// command.no_deps();
+    /// ```
     pub fn no_deps(&mut self) -> &mut Self
         ensures set { result.now ≡ record (self.old) { no_deps = true } }
         ensures same_reference { result.ghost_name ≡ self.entry.ghost_name }
@@ -126,7 +186,12 @@ impl MetadataCommand {
         self
     }
 
-    /// Further options, in place of those that were set before.
+    /// Further options, in place of those that were set before, as the last words of the command. Never refused. Time
+    /// O(1).
+    ///
+    /// ```text
+    /// command.other_options(vec![in alloc; String::from_str(alloc, "--offline")?]?);
+    /// ```
     pub fn other_options(&mut self, options: Vec<String>) -> &mut Self
         ensures set { result.now ≡ record (self.old) { other_options = texts_view options } }
         ensures same_reference { result.ghost_name ≡ self.entry.ghost_name }
@@ -135,7 +200,12 @@ impl MetadataCommand {
         self
     }
 
-    /// Whether cargo writes its errors and warnings to the standard error of this process.
+    /// Whether cargo writes its errors and warnings to the standard error of this process; where it doesn't, they are
+    /// kept for the refusal. Never refused. Time O(1).
+    ///
+    /// ```text
+    /// command.verbose(true);
+    /// ```
     pub fn verbose(&mut self, is_on: bool) -> &mut Self
         ensures set { result.now ≡ record (self.old) { verbose = is_on } }
         ensures same_reference { result.ghost_name ≡ self.entry.ghost_name }
@@ -168,21 +238,29 @@ impl MetadataCommand {
         }
     }
 
-    /// Chooses features: names are added to those that are chosen already. All of them, and all but the default ones, can be
-    /// chosen only once: the refusal is `FeaturesTwice` exactly where they are chosen already. Only names can want memory.
-    /// After a refusal the command is as it was, as `choose` promises, which does the work.
+    /// Chooses features: names are added to those that are chosen already. All of them, and all but the default ones,
+    /// can be chosen only once: the refusal is `FeaturesTwice` exactly where they are chosen already. Only names can
+    /// run out of memory, which is refused as `Memory`. After a refusal the command is as it was. Time O(names).
+    ///
+    /// ```text
+    /// command.features(Features::NoDefault)?;
+    /// command.features(Features::Selected(vec![in alloc; String::from_str(alloc, "cli")?]?))?;
+    /// ```
     pub fn features(&mut self, features: Features) -> Result<&mut Self, Error>
+        ensures* refused { sem 𝓛 (RestsCommand self.entry result) }
         ensures chosen { IfOk result (λ c. c.now ≡ choosing self.old features) }
         ensures twice { result ≡ Err errors.FeaturesTwice ↔ IsChosen self.old features }
-        ensures refused { IfErr result (IsNotChosen self.old features) }
+        ensures cause { IfErr result (IsNotChosen self.old features) }
         ensures same_reference { IfOk result (λ c. c.ghost_name ≡ self.entry.ghost_name) }
     {
-        self.choose(features)?;
-        Ok(self)
+        match self.choose(features) {
+            Ok(()) => Ok(self),
+            Err(error) => Err(error),
+        }
     }
 
-    /// Chooses features as `features` does, for a caller that goes on after a refusal: the command is then as it was.
-    pub fn choose(&mut self, features: Features) -> Result<(), Error>
+    /// Chooses features.
+    fn choose(&mut self, features: Features) -> Result<(), Error>
         ensures chosen { IfOk result (λ _. self.new ≡ choosing self.old features) }
         ensures refused { IfErr result (IsNotChosen self.old features) }
         ensures once { IsChosen self.old features → result ≡ Err errors.FeaturesTwice }
@@ -201,8 +279,13 @@ impl MetadataCommand {
         Ok(())
     }
 
-    /// Sets a variable of the environment that cargo gets, beside those of this process; of two values of one name the last
-    /// counts. After a refusal the command is as it was.
+    /// Sets a variable of the environment that cargo gets, beside those of this process; of two values of one name
+    /// the last counts. The only refusal is running out of memory, and then the command is as it was. Time O(log n)
+    /// of the variables.
+    ///
+    /// ```text
+    /// command.env("RUSTC", "rustc")?.env("CARGO_NET_OFFLINE", "true")?;
+    /// ```
     pub fn env(&mut self, name: &str, value: &str) -> Result<&mut Self, AllocError>
         ensures* refused { sem 𝓛 (RestsCommand self.entry result) }
         ensures set { IfOk result (λ c. c.now ≡ with_variable self.old name.now value.now) }
@@ -233,9 +316,16 @@ impl MetadataCommand {
         Ok(())
     }
 
-    /// The words after the program: `metadata`, `--format-version` and `1`, then `--no-deps`, then `--features` with the names
-    /// joined by commas, `--all-features`, `--no-default-features`, then `--manifest-path` with the path, and then the other
-    /// options; each only where it is set. The only error is want of memory.
+    /// The words after the program: `metadata`, `--format-version` and `1`, then `--no-deps`, then `--features` with
+    /// the names joined by commas, `--all-features`, `--no-default-features`, then `--manifest-path` with the path,
+    /// and then the other options; each only where it is set. The only error is running out of memory. Time O(length
+    /// of the words).
+    ///
+    /// ```text
+    /// for word in &command.args()? {
+    ///     println!(rt; "{word}")?;
+    /// }
+    /// ```
     pub fn args(&self) -> Result<Vec<String>, AllocError>
         ensures { IfOk result (λ args. texts_view args ≡ words self.now) }
     {
@@ -260,8 +350,12 @@ impl MetadataCommand {
 
     /// Reads a document: the JSON value of the text (RFC 8259), then the metadata of that value.
     ///
-    /// The answer is `Json` where the text is no JSON, and `Value` where its value isn't read. `Memory` may stand in place of
-    /// any answer.
+    /// It is refused as `Json` where the text is no JSON, and as `Value` where its value isn't read. It may instead
+    /// return `Memory`. Time O(length).
+    ///
+    /// ```text
+    /// let metadata = MetadataCommand::parse(alloc, text)?;
+    /// ```
     pub fn parse(alloc: Global, text: &str) -> Result<Metadata, Error>
         ensures document { IfOk result (λ m. IsDocument text.now (metadata_view m)) }
         ensures refused { IfErr result (IsRefusal text.now) }

@@ -27,10 +27,17 @@ pub struct LockOptions {
     pub offline: bool,
 }
 
-/// What is asked of `cargo metadata`. It becomes a command by `into_command`.
+/// What is asked of `cargo metadata`, as the options of a tool ask it. It becomes a command by `into_command`.
 ///
 /// The setters may be called in any order. Names of features and other options are added to those that are set; in
-/// everything else the last call counts. Those that add want memory, and after a refusal they leave all as it was.
+/// everything else the last call counts. Each returns the value, so that calls chain. Those that add can run out of
+/// memory, and then leave all as it was.
+///
+/// ```text
+/// let mut cmd = Cmd::new(alloc);
+/// cmd.manifest_path(path).all_features();
+/// let command = cmd.into_command()?;
+/// ```
 #[derive(Debug, Drop)]
 pub struct Cmd {
     alloc: Global,
@@ -64,7 +71,11 @@ impl Model for Cmd {
 }
 
 impl Cmd {
-    /// Nothing is asked yet.
+    /// Nothing is asked yet. Time O(1).
+    ///
+    /// ```text
+    /// let mut cmd = Cmd::new(alloc);
+    /// ```
     pub fn new(alloc: Global) -> Cmd
         ensures { result ≡ plain_options }
     {
@@ -84,7 +95,11 @@ impl Cmd {
             has_all_features: false,
         }
     }
-    /// The program to run as cargo.
+    /// The program to run as cargo. Never refused. Time O(1).
+    ///
+    /// ```text
+    /// cmd.cargo_path(String::from_str(alloc, "/usr/bin/cargo")?);
+    /// ```
     pub fn cargo_path(&mut self, path: String) -> &mut Self
         ensures set { result.now ≡ record (self.old) { cargo_path = Some (text_view path) } }
         ensures same_reference { result.ghost_name ≡ self.entry.ghost_name }
@@ -93,7 +108,12 @@ impl Cmd {
         self
     }
 
-    /// The manifest whose workspace is asked for. Cargo is run in its directory, whatever other one is set.
+    /// The manifest whose workspace is asked for. Cargo is run in its directory, whatever other one is set. Never
+    /// refused here: a path without parent is refused by `into_command`. Time O(1).
+    ///
+    /// ```text
+    /// cmd.manifest_path(String::from_str(alloc, "/w/a/Cargo.toml")?);
+    /// ```
     pub fn manifest_path(&mut self, path: String) -> &mut Self
         ensures set { result.now ≡ record (self.old) { manifest_path = Some (text_view path) } }
         ensures same_reference { result.ghost_name ≡ self.entry.ghost_name }
@@ -102,7 +122,11 @@ impl Cmd {
         self
     }
 
-    /// The directory to run cargo in, where no manifest is set.
+    /// The directory to run cargo in, where no manifest is set. Never refused. Time O(1).
+    ///
+    /// ```text
+    /// cmd.current_dir(String::from_str(alloc, "/w/a")?);
+    /// ```
     pub fn current_dir(&mut self, path: String) -> &mut Self
         ensures set { result.now ≡ record (self.old) { current_dir = Some (text_view path) } }
         ensures same_reference { result.ghost_name ≡ self.entry.ghost_name }
@@ -111,7 +135,11 @@ impl Cmd {
         self
     }
 
-    /// Leaves out the feature `default`, unless it is named.
+    /// Leaves out the feature `default`, unless it is named. Never refused. Time O(1).
+    ///
+    /// ```text
+    /// cmd.no_default_features();
+    /// ```
     pub fn no_default_features(&mut self) -> &mut Self
         ensures set { result.now ≡ record (self.old) { no_default_features = true } }
         ensures same_reference { result.ghost_name ≡ self.entry.ghost_name }
@@ -120,7 +148,11 @@ impl Cmd {
         self
     }
 
-    /// Asks for all features.
+    /// Asks for all features. Never refused. Time O(1).
+    ///
+    /// ```text
+    /// cmd.all_features();
+    /// ```
     pub fn all_features(&mut self) -> &mut Self
         ensures set { result.now ≡ record (self.old) { all_features = true } }
         ensures same_reference { result.ghost_name ≡ self.entry.ghost_name }
@@ -129,7 +161,12 @@ impl Cmd {
         self
     }
 
-    /// How cargo may treat the file `Cargo.lock` and the network.
+    /// How cargo may treat the file `Cargo.lock` and the network; the last call counts as a whole. Never refused.
+    /// Time O(1).
+    ///
+    /// ```text
+    /// cmd.lock_opts(LockOptions { frozen: false, locked: true, offline: false });
+    /// ```
     pub fn lock_opts(&mut self, lock: LockOptions) -> &mut Self
         ensures set { result.now ≡ record (self.old) { lock = lock } }
         ensures same_reference { result.ghost_name ≡ self.entry.ghost_name }
@@ -138,7 +175,12 @@ impl Cmd {
         self
     }
 
-    /// Asks for the features with these names, beside those that are asked for already. After a refusal all is as it was.
+    /// Asks for the features with these names, beside those that are asked for already. The only refusal is running
+    /// out of memory, and then all is as it was. Time O(names).
+    ///
+    /// ```text
+    /// cmd.features(vec![in alloc; String::from_str(alloc, "cli")?]?)?;
+    /// ```
     pub fn features(&mut self, names: Vec<String>) -> Result<&mut Self, AllocError>
         ensures* refused { sem 𝓛 (RestsOptions self.entry result) }
         ensures appended { IfOk result (λ c. c.now ≡ with_features self.old (texts_view names)) }
@@ -159,7 +201,12 @@ impl Cmd {
         self.features.append(&mut names).is_ok()
     }
 
-    /// Adds further options to those that are set. After a refusal all is as it was.
+    /// Adds further options to those that are set. The only refusal is running out of memory, and then all is as it
+    /// was. Time O(options).
+    ///
+    /// ```text
+    /// cmd.other_options(vec![in alloc; String::from_str(alloc, "--quiet")?]?)?;
+    /// ```
     pub fn other_options(&mut self, options: Vec<String>) -> Result<&mut Self, AllocError>
         ensures* refused { sem 𝓛 (RestsOptions self.entry result) }
         ensures appended { IfOk result (λ c. c.now ≡ with_options self.old (texts_view options)) }
@@ -180,15 +227,19 @@ impl Cmd {
         self.other_options.append(&mut options).is_ok()
     }
 
-    /// The command that asks for all this: with the features in the order of their bytes, each once and joined by blanks, and
-    /// with the options in this order: `--no-default-features`, `--all-features`, `--features` with the names, `--frozen`,
-    /// `--locked`, `--offline`, and then the others; each only where it is set.
+    /// The command that asks for all this: with the features in the order of their bytes, each once and joined by
+    /// blanks, and with the options in this order: `--no-default-features`, `--all-features`, `--features` with the
+    /// names, `--frozen`, `--locked`, `--offline`, and then the others; each only where it is set.
     ///
-    /// Where a manifest is set, the command runs in the manifest's parent and asks for `Cargo.toml`, since cargo looks for its
-    /// configuration from there. An empty directory becomes `.`.
+    /// Where a manifest is set, the command runs in the manifest's parent and asks for `Cargo.toml`, since cargo
+    /// looks for its configuration from there. An empty directory becomes `.`.
     ///
-    /// It is refused as `NoManifestParent` exactly where a manifest is set whose path has no parent. `Memory` may stand in
-    /// place of a command.
+    /// It is refused as `NoManifestParent` exactly where a manifest is set whose path has no parent. It may instead
+    /// return `Memory`. Time O(n log n) of the features.
+    ///
+    /// ```text
+    /// let command = cmd.into_command()?;
+    /// ```
     pub fn into_command(self) -> Result<MetadataCommand, Error>
         ensures command { IfOk result (IsCommandOf self) }
         ensures parentless { result ≡ Err errors.NoManifestParent ↔ LacksParent self.manifest_path }

@@ -10,7 +10,12 @@ use krates_cm::{Error, Metadata};
 use std::alloc::Global;
 
 impl MetadataCommand {
-    /// The first line that begins with `{`, without the `\n` or `\r\n` that ends it. Cargo may write warnings before it.
+    /// The first line that begins with `{`, without the `\n` or `\r\n` that ends it. Cargo may write warnings before
+    /// it. Time O(length).
+    ///
+    /// ```text
+    /// let line = MetadataCommand::json_line("a warning\n{}\n");
+    /// ```
     pub fn json_line(output: &str) -> Option<&str>
         ensures { option_map (λ line. line.now) result ≡ json_line output.now }
     {
@@ -21,7 +26,7 @@ impl MetadataCommand {
     ///
     /// Where it didn't, the answer is `CargoMetadata` with what it wrote to standard error, or `ErrUtf8` where that is no text.
     /// Where it did, the answer is `Utf8` where standard output is no text, `NoJson` where no line of it begins with `{`, and
-    /// else what `parse` answers for the first such line. `Memory` may stand in place of any answer.
+    /// else what `parse` answers for the first such line. It may instead return `Memory`.
     pub fn interpret(
         alloc: Global,
         success: bool,

@@ -47,11 +47,16 @@ impl MetadataCommand {
         }
     }
 
-    /// Runs cargo and reads the document that it writes. Standard output is collected, and so is standard error where the
-    /// command isn't verbose.
+    /// Runs cargo and reads the document that it writes. Standard output is collected, and so is standard error where
+    /// the command isn't verbose. The program is the one that is set, else the one that is handed in, as from the
+    /// variable `CARGO`, else `cargo`.
     ///
-    /// The answer is `Io` where cargo couldn't be run, and else what `interpret` answers for what it wrote. `Memory` may stand
-    /// in place of any answer.
+    /// It is refused as `Io` where cargo couldn't be run, and else as `interpret` refuses what it wrote. It may
+    /// instead return `Memory`. The command can be run again.
+    ///
+    /// ```text
+    /// let metadata = command.exec(Some("cargo"), rt)?;
+    /// ```
     pub fn exec(&self, cargo: Option<&str>, rt: &impl Processes) -> Result<Metadata, Error>
         ensures answer { IfOk result (λ m. IsSomeAnswer (metadata_view m)) }
         ensures refused { IfErr result IsUnrun }

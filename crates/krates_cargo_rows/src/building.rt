@@ -4,6 +4,7 @@ ghost use Rattle.std.specs.Prelude.{⊤};
 
 use crate::stand_in::command;
 use krates::{Builder, Error, Krates, OnFilter, Package};
+use krates_cargo::MetadataCommand;
 use krates_cli::{Counted, program};
 use std::alloc::Global;
 use std::str;
@@ -45,16 +46,11 @@ const BUILDS: &[(&str, &str)] = &[
     ),
 ];
 
-/// What is told of a build by this command, or else by this program.
-fn told(rt: &HostRuntime, last: &str) -> Result<String, Fail> {
+/// What is told of a build by this command.
+fn told(rt: &HostRuntime, command: MetadataCommand) -> Result<String, Fail> {
     let alloc = rt.alloc();
     let mut count = Count { packages: 0 };
-    let built: Result<Krates, Error> = Builder::new(alloc).build(
-        command(rt, last)?,
-        None,
-        rt,
-        &mut count,
-    );
+    let built: Result<Krates, Error> = Builder::new(alloc).build(command, None, rt, &mut count);
     match built {
         Ok(krates) => {
             Ok(format!(in alloc; "{} reported, {} kept", count.packages, krates.len())?)
@@ -66,11 +62,23 @@ fn told(rt: &HostRuntime, last: &str) -> Result<String, Fail> {
 #[test]
 fn builds(rt: HostRuntime) -> Result<(), Fail> {
     for &(last, begins) in BUILDS {
-        let told = told(&rt, last)?;
+        let told = told(&rt, command(&rt, last)?)?;
         if !told.starts_with(begins) {
             return Err(Fail::new(format_args!("{last}: {told} in place of {begins}")));
         }
     }
+    Ok(())
+}
+
+#[test]
+fn no_build_without_a_program(rt: HostRuntime) -> Result<(), Fail> {
+    let mut command = MetadataCommand::new(rt.alloc());
+    command.cargo_path(String::from_str(rt.alloc(), "/no/such/program")?);
+    let told = told(&rt, command)?;
+    assert!(rt;
+        told.starts_with("0 reported, failed to start `cargo metadata`: "),
+        "{told}"
+    );
     Ok(())
 }
 

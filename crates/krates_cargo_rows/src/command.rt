@@ -2,7 +2,9 @@
 
 use krates_cargo::{Cmd, Features, LockOptions, MetadataCommand};
 use krates_cm::Error;
+use krates_stand_in::DOCUMENT;
 use std::alloc::{AllocError, Global};
+use std::process::Command;
 use std::test::Fail;
 
 /// A line that asks, and the line that is known to answer it.
@@ -27,6 +29,30 @@ const WORDS: &[Row] = &[
     (
         "no-default all no-default",
         "features given twice! metadata|--format-version|1|--all-features|--no-default-features",
+    ),
+];
+
+/// Settings of a command, in order, and its program, its directory, its variables in the order of their names and its words.
+const PROCESSES: &[Row] = &[
+    ("", "cargo in none: metadata|--format-version|1"),
+    // of several values the last counts
+    (
+        "cargo=q cargo=p dir=/c dir=/d manifest=a manifest=b",
+        "p in /d: metadata|--format-version|1|--manifest-path|b",
+    ),
+    (
+        "env=B,1 env=A,2 env=B,3",
+        "A=2 B=3 cargo in none: metadata|--format-version|1",
+    ),
+];
+
+/// Texts, and what is read of them, or how the refusal begins.
+const PARSED: &[Row] = &[
+    (DOCUMENT, "2 packages"),
+    ("{", "failed to interpret `cargo metadata`'s json: "),
+    (
+        "{\"packages\":[]}",
+        "failed to interpret `cargo metadata`'s json: missing key: ",
     ),
 ];
 
@@ -139,6 +165,16 @@ fn set(alloc: Global, command: &mut MetadataCommand, word: &str) -> Result<(), E
         "manifest" => {
             command.manifest_path(String::from_str(alloc, value)?);
         }
+        "cargo" => {
+            command.cargo_path(String::from_str(alloc, value)?);
+        }
+        "dir" => {
+            command.current_dir(String::from_str(alloc, value)?);
+        }
+        "env" => {
+            let (name, value) = value.split_once(',').unwrap_or((value, ""));
+            command.env(name, value)?;
+        }
         _ => {
             command.other_options(parts(alloc, value)?);
         }
@@ -212,7 +248,16 @@ fn becomes(alloc: Global, line: &str) -> Result<String, Fail> {
     }
 }
 
-/// The program, the directory and the words.
+/// The variables that a process gets, each with its value.
+fn variables(alloc: Global, process: &Command) -> Result<String, Error> {
+    let mut text = String::new(alloc);
+    for (name, value) in process.get_envs() {
+        text.push_str(format!(in alloc; "{name}={} ", value.unwrap_or(""))?.as_str())?;
+    }
+    Ok(text)
+}
+
+/// The variables, the program, the directory and the words.
 fn shown(alloc: Global, command: &MetadataCommand) -> Result<String, Error> {
     let words = barred(alloc, &command.args()?)?;
     let process = command.cargo_command(None)?;
@@ -220,7 +265,27 @@ fn shown(alloc: Global, command: &MetadataCommand) -> Result<String, Error> {
         Some(dir) => dir.as_str(),
         None => "none",
     };
-    Ok(format!(in alloc; "{} in {dir}: {words}", process.get_program())?)
+    let call = format!(in alloc; "{} in {dir}: {words}", process.get_program())?;
+    let mut text = variables(alloc, &process)?;
+    text.push_str(call.as_str())?;
+    Ok(text)
+}
+
+/// The process of the command with these settings.
+fn process(alloc: Global, line: &str) -> Result<String, Fail> {
+    let mut command = MetadataCommand::new(alloc);
+    for word in line.split_whitespace() {
+        set(alloc, &mut command, word)?;
+    }
+    Ok(shown(alloc, &command.clone()?)?)
+}
+
+/// What is read of a text.
+fn parsed(alloc: Global, text: &str) -> Result<String, AllocError> {
+    match MetadataCommand::parse(alloc, text) {
+        Ok(metadata) => format!(in alloc; "{} packages", metadata.packages.len()),
+        Err(error) => format!(in alloc; "{error}"),
+    }
 }
 
 /// What is read of cargo's output.
@@ -243,6 +308,15 @@ struct CommandWords;
 impl Question for CommandWords {
     fn told(alloc: Global, line: &str) -> Result<String, Fail> {
         words(alloc, line)
+    }
+}
+
+/// Asks for the process of a command.
+struct CommandProcess;
+
+impl Question for CommandProcess {
+    fn told(alloc: Global, line: &str) -> Result<String, Fail> {
+        process(alloc, line)
     }
 }
 
@@ -272,6 +346,11 @@ fn words_of_a_command(rt: HostRuntime) -> Result<(), Fail> {
 }
 
 #[test]
+fn process_of_a_command(rt: HostRuntime) -> Result<(), Fail> {
+    hold::<CommandProcess>(rt.alloc(), PROCESSES)
+}
+
+#[test]
 fn options_become_a_command(rt: HostRuntime) -> Result<(), Fail> {
     hold::<OptionsCommand>(rt.alloc(), BECOMES)
 }
@@ -288,6 +367,17 @@ fn output_is_interpreted(rt: HostRuntime) -> Result<(), Fail> {
     let alloc = rt.alloc();
     for &(success, stdout, stderr, begins) in READ {
         let told = read(alloc, success, stdout, stderr)?;
+        if !told.starts_with(begins) {
+            return Err(Fail::new(format_args!("{told} in place of {begins}")));
+        }
+    }
+    Ok(())
+}
+
+#[test]
+fn texts_are_parsed(rt: HostRuntime) -> Result<(), Fail> {
+    for &(text, begins) in PARSED {
+        let told = parsed(rt.alloc(), text)?;
         if !told.starts_with(begins) {
             return Err(Fail::new(format_args!("{told} in place of {begins}")));
         }

@@ -9,6 +9,8 @@ mod building;
 #[cfg(test)]
 mod command;
 #[cfg(test)]
+mod readme;
+#[cfg(test)]
 mod stand_in;
 
 #[cfg(test)]

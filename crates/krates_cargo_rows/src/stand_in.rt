@@ -90,6 +90,16 @@ fn runs(rt: HostRuntime) -> Result<(), Fail> {
     Ok(())
 }
 
+/// What a verbose run writes as an error goes to the standard error of this program, and isn't collected.
+#[test]
+fn verbose_runs(rt: HostRuntime) -> Result<(), Fail> {
+    let mut command = command(&rt, "--fake=fail")?;
+    command.verbose(true);
+    let told = told(&rt, &command)?;
+    assert_eq!(rt; told.as_str(), "`cargo metadata` exited with an error: ");
+    Ok(())
+}
+
 #[test]
 fn no_program(rt: HostRuntime) -> Result<(), Fail> {
     let answer = MetadataCommand::new(rt.alloc()).exec(Some("/no/such/program"), &rt);

@@ -14,8 +14,11 @@ pub const DOCUMENT: &str =
 /// What is written to standard output and to standard error, and the status.
 #[derive(Debug, Drop)]
 pub struct Output {
+    /// What goes to standard output.
     pub stdout: Vec<u8>,
+    /// What goes to standard error.
     pub stderr: Vec<u8>,
+    /// The exit status.
     pub status: u8,
 }
 
