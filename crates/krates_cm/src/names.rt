@@ -88,7 +88,7 @@ impl FromStr for Edition {
 }
 
 impl Edition {
-    /// The year, as the document has it.
+    /// The year, as the document has it. Time O(1).
     pub fn as_str(&self) -> &'static str
         ensures { result.now ≡ edition_text self.now }
     {

@@ -46,7 +46,7 @@ impl Metadata {
     }
 
     /// The packages whose ids are those of members, in the order of the document.
-    /// The only error is want of memory. Time `O(packages · members)`.
+    /// The only error is running out of memory. Time `O(packages · members)`.
     pub fn workspace_packages(&self, alloc: Global) -> Result<Vec<&Package>, AllocError>
         ensures { IfOk result (λ v. map (λ p. p.now) v.items
             ≡ packages_among self.now.packages.items (ids_view self.now.workspace_members)) }
@@ -59,7 +59,7 @@ impl Metadata {
     }
 
     /// The packages whose ids are those of default members, in the order of the document; none where the
-    /// document names no default members. The only error is want of memory. Time `O(packages · members)`.
+    /// document names no default members. The only error is running out of memory. Time `O(packages · members)`.
     pub fn workspace_default_packages(
         &self,
         alloc: Global,
@@ -89,7 +89,7 @@ impl Index<&PackageId> for Metadata {
 }
 
 impl WorkspaceDefaultMembers {
-    /// The default members, in the order of the document; none where it doesn't name them.
+    /// The default members, in the order of the document; none where it doesn't name them. Time O(1).
     pub fn as_slice(&self) -> Option<&[PackageId]>
         ensures { option_map (λ ids. ids.now) result ≡ option_map (λ ids. ids.items) self.now.0 }
     {
@@ -101,8 +101,8 @@ impl WorkspaceDefaultMembers {
 }
 
 impl Package {
-    /// The path of the licence file, where the manifest names one: joined to the manifest's directory.
-    /// The only error is want of memory.
+    /// The path of the licence file, where the manifest names one: joined to the manifest's directory. The only error
+    /// is running out of memory. Time O(length of the paths).
     pub fn license_file(&self, alloc: Global) -> Result<Option<String>, AllocError>
         ensures { IfOk result (λ path. IsBeside (text_view self.now.manifest_path)
             (option_map text_view self.now.license_file) (option_map text_view path)) }
@@ -110,8 +110,8 @@ impl Package {
         beside(alloc, self.manifest_path.as_str(), &self.license_file)
     }
 
-    /// The path of the readme, where the manifest names one: joined to the manifest's directory.
-    /// The only error is want of memory.
+    /// The path of the readme, where the manifest names one: joined to the manifest's directory. The only error is
+    /// running out of memory. Time O(length of the paths).
     pub fn readme(&self, alloc: Global) -> Result<Option<String>, AllocError>
         ensures { IfOk result (λ path. IsBeside (text_view self.now.manifest_path)
             (option_map text_view self.now.readme) (option_map text_view path)) }
@@ -121,7 +121,7 @@ impl Package {
 }
 
 impl Source {
-    /// Whether this is the registry crates.io.
+    /// Whether this is the registry crates.io. Time O(length).
     pub fn is_crates_io(&self) -> bool
         ensures { result ≡ bytes_eq (source_view self.now) crates_io }
     {
@@ -130,49 +130,49 @@ impl Source {
 }
 
 impl Target {
-    /// Whether the kinds have `lib`.
+    /// Whether the kinds have `lib`. Time O(kinds).
     pub fn is_lib(&self) -> bool
         ensures { IsTrue result ↔ Contains self.now.kind.items kinds.Lib }
     {
         has_kind(self, TargetKind::Lib)
     }
 
-    /// Whether the kinds have `bin`.
+    /// Whether the kinds have `bin`. Time O(kinds).
     pub fn is_bin(&self) -> bool
         ensures { IsTrue result ↔ Contains self.now.kind.items kinds.Bin }
     {
         has_kind(self, TargetKind::Bin)
     }
 
-    /// Whether the kinds have `example`.
+    /// Whether the kinds have `example`. Time O(kinds).
     pub fn is_example(&self) -> bool
         ensures { IsTrue result ↔ Contains self.now.kind.items kinds.Example }
     {
         has_kind(self, TargetKind::Example)
     }
 
-    /// Whether the kinds have `test`.
+    /// Whether the kinds have `test`. Time O(kinds).
     pub fn is_test(&self) -> bool
         ensures { IsTrue result ↔ Contains self.now.kind.items kinds.Test }
     {
         has_kind(self, TargetKind::Test)
     }
 
-    /// Whether the kinds have `bench`.
+    /// Whether the kinds have `bench`. Time O(kinds).
     pub fn is_bench(&self) -> bool
         ensures { IsTrue result ↔ Contains self.now.kind.items kinds.Bench }
     {
         has_kind(self, TargetKind::Bench)
     }
 
-    /// Whether the kinds have `custom-build`.
+    /// Whether the kinds have `custom-build`. Time O(kinds).
     pub fn is_custom_build(&self) -> bool
         ensures { IsTrue result ↔ Contains self.now.kind.items kinds.CustomBuild }
     {
         has_kind(self, TargetKind::CustomBuild)
     }
 
-    /// Whether the kinds have `proc-macro`.
+    /// Whether the kinds have `proc-macro`. Time O(kinds).
     pub fn is_proc_macro(&self) -> bool
         ensures { IsTrue result ↔ Contains self.now.kind.items kinds.ProcMacro }
     {

@@ -17,7 +17,7 @@ pub trait ToValue {
     /// Which data may be written for a value.
     ghost Writes: { Model → Data → Type 0 };
 
-    /// Writes the value. The only error is want of memory. Time `O(size of the value)`.
+    /// Writes the value. The only error is running out of memory. Time `O(size of the value)`.
     ///
     /// ```text
     /// let text = metadata.to_value(alloc)?.to_string(alloc)?;

@@ -7,7 +7,8 @@ use Rattle.std.specs.Global.{Vec}
 use Rattle.std.specs.List.{AllWithin}
 use Rattle.semver.specs.Identifiers.{parts_of}
 use Rattle.krates_cm.specs.Document.{Text, text_view, VersionModel, FeaturesModel, features_view, PackageModel}
-use Rattle.krates_ids.specs.Correction.{IndexVersionModel, index_version_view, index_krate_view, IndexModel, index_view, named, crates_io, IsFirstEqual, IsIndexed}
+use Rattle.krates_cm.specs.Queries.{crates_io}
+use Rattle.krates_ids.specs.Correction.{IndexVersionModel, index_version_view, index_krate_view, IndexModel, index_view, named, IsFirstEqual, IsIndexed}
 use Rattle.krates_ids.specs.declared.index.IndexAnswer.{IndexAnswer}
 use Rattle.krates_ids.specs.declared.index.IndexKrate.{IndexKrate}
 use Rattle.krates_ids.specs.declared.index.IndexKrateVersion.{IndexKrateVersion}

@@ -6,6 +6,7 @@ use Rattle.std.specs.Map.{lookup}
 use Rattle.std.specs.Str.{bytes_eq}
 use Rattle.semver.specs.Identifiers.{parts_of}
 use Rattle.krates_cm.specs.Document.{Text, text_view, VersionModel, FeaturesModel, features_view, PackageModel}
+use Rattle.krates_cm.specs.Queries.{crates_io}
 use Rattle.krates_text.specs.FeatureReference.{IsReference, simple}
 use Rattle.krates_ids.specs.declared.index.IndexAnswer.{IndexAnswer}
 use Rattle.krates_ids.specs.declared.index.IndexKrate.{IndexKrate}
@@ -39,10 +40,6 @@ index_view a = map (λ e. (text_view e.0, option_map index_krate_view e.1)) a.kr
 -- what stands under a name
 abbrev pub named : {A : Type 0} → List (Text × A) → Text → Option A
 named entries name = lookup (bytes_eq name) entries
-
--- the source of the packages of crates.io
-abbrev pub crates_io : Text
-crates_io = codes "registry+https://github.com/rust-lang/crates.io-index"
 
 -- at this place stands the first of the versions that equals this one in all five parts, with these features
 pub record IsFirstEqual (versions : List IndexVersionModel) (version : VersionModel) (place : ℕ) (features : FeaturesModel) : Type 0 where

@@ -10,13 +10,13 @@ use Rattle.krates_ids.specs.declared.error.Error.TheVariants as errors
 abbrev pub given : Option (Bor Text) → Option Text
 given t = option_map (λ text. text.now) t
 
--- the error is a refusal with a text that is true, or want of memory
+-- the error is a refusal with a text that is true, or running out of memory
 abbrev pub IsRefusedBy : (Text → Type 0) → Error → Type 0
 IsRefusedBy P (errors.InvalidPkgSpec refusal) = P refusal.now
 IsRefusedBy P errors.Memory = Unit {0}
 IsRefusedBy P _ = ⊥
 
--- the answer is what the relation gives, but for want of memory
+-- the answer is what the relation gives, but for running out of memory
 abbrev pub Answers : {A B : Type 0} → (A → B) → (Result B Text → Type 0) → Result A Error → Type 0
 Answers view P (Ok a) = P (Ok (view a))
 Answers view P (Err e) = IsRefusedBy (λ refusal. P (Err refusal)) e

@@ -5,7 +5,8 @@
 ghost use Rattle.std.specs.Prelude.{◌≡◌, ◌↔◌, IsTrue, OnOk, OnErr, MatchOption, Some, map};
 ghost use Rattle.semver.specs.Identifiers.{parts_of};
 ghost use Rattle.krates_cm.specs.Document.{FeaturesModel, features_view, package_view};
-ghost use Rattle.krates_ids.specs.Correction.{crates_io, index_view, index_version_view, IsFirstEqual, IsIndexed, IsCorrected};
+ghost use Rattle.krates_cm.specs.Queries.{crates_io};
+ghost use Rattle.krates_ids.specs.Correction.{index_view, index_version_view, IsFirstEqual, IsIndexed, IsCorrected};
 
 use crate::corrected_features::corrected_features;
 use crate::index::{BuildIndexCache, FeaturesMap, IndexAnswer, IndexKrateVersion, PackageNames};
@@ -73,9 +74,7 @@ fn is_of_crates_io(pkg: &Package) -> bool
     ensures { IsTrue result ↔ ((package_view pkg.now).source ≡ Some crates_io) }
 {
     match &pkg.source {
-        Some(source) => {
-            source.repr.as_str() == "registry+https://github.com/rust-lang/crates.io-index"
-        }
+        Some(source) => source.is_crates_io(),
         None => false,
     }
 }

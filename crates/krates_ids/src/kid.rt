@@ -106,7 +106,7 @@ fn read_stable(id: PackageId) -> Result<Kid, IdError>
 }
 
 impl Kid {
-    /// The id of nothing: an empty text with three empty parts.
+    /// The id of nothing: an empty text with three empty parts. Time O(1).
     pub fn empty(alloc: Global) -> Kid
         ensures { result ≡ empty_identity }
     {
@@ -122,35 +122,35 @@ impl Kid {
         }
     }
 
-    /// The text of the id, the query of a git source decoded.
+    /// The text of the id, the query of a git source decoded. Time O(1).
     pub fn repr(&self) -> &str
         ensures { result.now ≡ self.now.text }
     {
         self.repr.as_str()
     }
 
-    /// The name of the package.
+    /// The name of the package. Time O(1).
     pub fn name(&self) -> &str
         ensures { result.now ≡ self.now.name }
     {
         part(self.repr(), self.parts.name)
     }
 
-    /// The version of the package, as text.
+    /// The version of the package, as text. Time O(1).
     pub fn version(&self) -> &str
         ensures { result.now ≡ self.now.version }
     {
         part(self.repr(), self.parts.version)
     }
 
-    /// The source of the package, the query of a git source decoded.
+    /// The source of the package, the query of a git source decoded. Time O(1).
     pub fn source(&self) -> &str
         ensures { result.now ≡ self.now.source }
     {
         part(self.repr(), self.parts.source)
     }
 
-    /// Whether the id was of the opaque form, so whether its text as it was written has a blank.
+    /// Whether the id was of the opaque form, so whether its text as it was written has a blank. Time O(1).
     pub fn is_opaque(&self) -> bool
         ensures { result ≡ self.now.is_opaque }
     {

@@ -1,4 +1,5 @@
-//! Laws of package ids, package specifications and index correction, for all texts, ids and packages. Each is the contract of a function that does nothing.
+//! Laws of package ids, package specifications and index correction, for all texts, ids and packages. Each is the
+//! contract of a function that does nothing.
 
 ghost use Rattle.std.specs.Prelude.{◌≡◌, ◌↔◌, ◌⊎◌, true};
 ghost use Rattle.std.specs.Cmp.{IsTotalOrder};

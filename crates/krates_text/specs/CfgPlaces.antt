@@ -20,7 +20,7 @@ place_of (stands.InString key string) = in_string (string_bytes key) (string_byt
 place_of (stands.AfterPredicate p) = after_predicate (tree_of p)
 place_of (stands.AtEnd p) = at_end (tree_of p)
 
--- the error is the fault, or want of memory
+-- the error is the fault, or running out of memory
 abbrev pub Fails : {X : Type 0} → CfgError → Result X Fault → Type 0
 Fails error.Syntax r = r ≡ Err syntax'
 Fails error.TooDeep r = r ≡ Err too_deep

@@ -1,4 +1,4 @@
--- What a cfg expression is at a target, and how much it asks.
+-- What a cfg expression is at a target, and how much it asks (Rust Reference, "Conditional compilation").
 use Rattle.std.specs.Prelude.{ℕ, ◌+◌, Bool, true, false, not, ◌&&◌, ◌||◌, if◌then◌else◌, List, codes}
 use Rattle.std.specs.List.{list_any}
 use Rattle.std.specs.Str.{bytes_eq}

@@ -1,4 +1,5 @@
--- Whether the target text of a dependency lets it pass at some targets.
+-- Whether the target text of a dependency lets it pass at some targets (Cargo Book, "Platform specific
+-- dependencies").
 use Rattle.std.specs.Prelude.{◌≡◌, ℕ, ◌||◌, Bool, true, nat_lt, List, [], ◌∷◌, Option, MatchOption}
 use Rattle.std.specs.Borrow.{Bor}
 use Rattle.std.specs.List.{list_any}

@@ -11,16 +11,27 @@ use std::fmt;
 /// What a target is, by the texts that a cfg expression compares. A caller may describe a target of its own.
 #[derive(Debug, Drop)]
 pub struct TargetInfo {
+    /// Its triple, as `x86_64-unknown-linux-gnu`.
     pub triple: String,
+    /// What `target_arch` is compared with, as `x86_64`.
     pub arch: String,
+    /// `target_os`, as `linux`.
     pub os: String,
+    /// `target_env`, as `gnu`; empty where there is none.
     pub env: String,
+    /// `target_abi`; mostly empty.
     pub abi: String,
+    /// `target_vendor`, as `unknown`.
     pub vendor: String,
+    /// `target_pointer_width`, as `64`.
     pub pointer_width: String,
+    /// `target_endian`, as `little`.
     pub endian: String,
+    /// `panic`, as `unwind`.
     pub panic: String,
+    /// `target_family`, each of them, as `unix`.
     pub families: Vec<String>,
+    /// `target_has_atomic`, each width, as `64`.
     pub atomics: Vec<String>,
 }
 

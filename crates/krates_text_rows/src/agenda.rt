@@ -21,13 +21,20 @@ fn numbers_are_taken_once_in_the_order_of_their_puts(rt: HostRuntime) -> Result<
         number(agenda.take()),
     ];
     let told = format!(in rt.alloc();
-        "{first_puts:?}, {taken_at_first} taken, {first:?}, {later_puts:?}, {later:?}, {} taken: {:?}",
-        agenda.taken(),
-        agenda.numbers()
+        "{:?}",
+        (
+            first_puts,
+            taken_at_first,
+            first,
+            later_puts,
+            later,
+            agenda.taken(),
+            agenda.numbers()
+        )
     )?;
     assert_eq!(rt;
         told.as_str(),
-        "[true, true, false], 0 taken, Some(3), [false, true], [Some(1), Some(0), None], 3 taken: [3, 1, 0]"
+        "([true, true, false], 0, Some(3), [false, true], [Some(1), Some(0), None], 3, [3, 1, 0])"
     );
     Ok(())
 }

@@ -1,106 +1,129 @@
 //! cfg expressions: their values at targets, what they count, and which text is none.
 
+use krates_samples::table::{Question, Row, hold};
 use krates_text::cfg::{CfgError, Expression};
 use krates_text::target::Target;
 use std::alloc::{AllocError, Global};
 use std::test::Fail;
 
-/// A target by its triple, and the one feature that is enabled there.
-type Place = (&'static str, &'static str);
-
-const GNU: Place = ("x86_64-unknown-linux-gnu", "");
-
-const MUSL: Place = ("x86_64-unknown-linux-musl", "");
-
-const MSVC: Place = ("x86_64-pc-windows-msvc", "");
-
-const DARWIN: Place = ("aarch64-apple-darwin", "");
-
-const WASM: Place = ("wasm32-unknown-unknown", "");
-
-/// A target of which nothing is known.
-const UNKNOWN: Place = ("x", "");
-
-/// An expression, where it is asked, and its value there.
-const VALUES: &[(&str, Place, bool)] = &[
-    ("cfg(all(unix, not(target_os = \"linux\"),))", GNU, false),
-    ("cfg(all(unix, not(target_os = \"linux\"),))", DARWIN, true),
-    ("cfg(all(windows, target_env = \"musl\"))", MSVC, false),
-    ("cfg(all(windows, target_env = \"musl\"))", MUSL, false),
-    ("cfg(any())", GNU, false),
-    ("cfg(all())", GNU, true),
-    ("cfg(any(false, true))", UNKNOWN, true),
-    ("cfg(not(target_os = \"linux\"))", UNKNOWN, true),
-    ("cfg(target_feature = \"atomics\")", ("x", "atomics"), true),
+/// Where an expression is asked, a target by its triple and behind a plus sign the one feature that is enabled there; the
+/// expression, and its value. Of the target `x` nothing is known.
+const VALUES: &[Row] = &[
     (
-        "cfg(target_feature = \"atomics\")",
-        ("x86_64-unknown-linux-gnu", "simd"),
-        false,
+        r#"x86_64-unknown-linux-gnu cfg(all(unix, not(target_os = "linux"),))"#,
+        "false",
     ),
-    ("cfg(target_has_atomic)", GNU, false),
-    ("cfg(target_has_atomic = \"ptr\")", GNU, true),
-    ("cfg(target_family = \"unix\")", GNU, true),
-    ("cfg(target_family = \"wasm\")", GNU, false),
-    ("cfg(target_env = \"\")", DARWIN, true),
-    ("cfg(target_vendor = \"pc\")", MSVC, true),
-    ("cfg(panic = \"abort\")", WASM, true),
-    ("cfg(foo)", GNU, false),
+    (
+        r#"aarch64-apple-darwin cfg(all(unix, not(target_os = "linux"),))"#,
+        "true",
+    ),
+    (
+        r#"x86_64-pc-windows-msvc cfg(all(windows, target_env = "musl"))"#,
+        "false",
+    ),
+    (
+        r#"x86_64-unknown-linux-musl cfg(all(windows, target_env = "musl"))"#,
+        "false",
+    ),
+    ("x86_64-unknown-linux-gnu cfg(any())", "false"),
+    ("x86_64-unknown-linux-gnu cfg(all())", "true"),
+    ("x cfg(any(false, true))", "true"),
+    (r#"x cfg(not(target_os = "linux"))"#, "true"),
+    (r#"x+atomics cfg(target_feature = "atomics")"#, "true"),
+    (
+        r#"x86_64-unknown-linux-gnu+simd cfg(target_feature = "atomics")"#,
+        "false",
+    ),
+    ("x86_64-unknown-linux-gnu cfg(target_has_atomic)", "false"),
+    (
+        r#"x86_64-unknown-linux-gnu cfg(target_has_atomic = "ptr")"#,
+        "true",
+    ),
+    (
+        r#"x86_64-unknown-linux-gnu cfg(target_family = "unix")"#,
+        "true",
+    ),
+    (
+        r#"x86_64-unknown-linux-gnu cfg(target_family = "wasm")"#,
+        "false",
+    ),
+    (r#"aarch64-apple-darwin cfg(target_env = "")"#, "true"),
+    (
+        r#"x86_64-pc-windows-msvc cfg(target_vendor = "pc")"#,
+        "true",
+    ),
+    (r#"wasm32-unknown-unknown cfg(panic = "abort")"#, "true"),
+    ("x86_64-unknown-linux-gnu cfg(foo)", "false"),
 ];
 
-/// How many words and pairs an expression asks for, or why a text is none.
-type Count = Result<usize, CfgError>;
+/// What a text that is no expression is refused with.
+const SYNTAX: &str = "bad cfg expression";
+
+/// What one is refused with that nests too deep.
+const TOO_DEEP: &str = "cfg expression too deep";
 
 /// An expression, and how many words and pairs it asks for.
-const COUNTS: &[(&str, Count)] = &[
-    ("cfg(all(unix, true, target_os = \"linux\"))", Ok(2)),
-    ("cfg( unix ) ", Ok(1)),
-    ("cfg(\tall\n(\r ) )\n", Ok(0)),
-    ("cfg(all(a ,\tany( b, ) , not ( c = \"d e\" ) ,))", Ok(3)),
+const COUNTS: &[Row] = &[
+    (r#"cfg(all(unix, true, target_os = "linux"))"#, "2"),
+    ("cfg( unix ) ", "1"),
+    ("cfg(\tall\n(\r ) )\n", "0"),
+    ("cfg(all(a ,\tany( b, ) , not ( c = \"d e\" ) ,))", "3"),
 ];
 
 /// Texts that are outside the grammar.
-const OUTSIDE: &[&str] = &[
-    "",
-    "unix",
-    "cfg(unix,)",
-    "cfg()",
-    "cfg(all)",
-    "cfg(all(,))",
-    "cfg (unix)",
-    "cfg(unix",
-    "cfg(unix))",
-    "cfg(all(a b))",
-    "cfg(all(a,,b))",
-    "cfg(not())",
-    "cfg(not(a, b))",
-    "cfg(not(a,))",
-    "cfg(any)",
-    "cfg(not)",
-    "cfg(true = \"a\")",
-    "cfg(all = \"a\")",
-    "cfg(a = b)",
-    "cfg(a = \"b)",
-    "cfg(1a)",
-    "cfg(foo(a))",
-    "cfg(\u{e9})",
+const OUTSIDE: &[Row] = &[
+    ("", SYNTAX),
+    ("unix", SYNTAX),
+    ("cfg(unix,)", SYNTAX),
+    ("cfg()", SYNTAX),
+    ("cfg(all)", SYNTAX),
+    ("cfg(all(,))", SYNTAX),
+    ("cfg (unix)", SYNTAX),
+    ("cfg(unix", SYNTAX),
+    ("cfg(unix))", SYNTAX),
+    ("cfg(all(a b))", SYNTAX),
+    ("cfg(all(a,,b))", SYNTAX),
+    ("cfg(not())", SYNTAX),
+    ("cfg(not(a, b))", SYNTAX),
+    ("cfg(not(a,))", SYNTAX),
+    ("cfg(any)", SYNTAX),
+    ("cfg(not)", SYNTAX),
+    ("cfg(true = \"a\")", SYNTAX),
+    ("cfg(all = \"a\")", SYNTAX),
+    ("cfg(a = b)", SYNTAX),
+    ("cfg(a = \"b)", SYNTAX),
+    ("cfg(1a)", SYNTAX),
+    ("cfg(foo(a))", SYNTAX),
+    ("cfg(\u{e9})", SYNTAX),
 ];
 
 /// How many forms stand in one another, what stands in the innermost, and what is counted.
-const NESTED: &[(usize, &str, Count)] = &[
-    (127, "a", Ok(1)),
-    (128, "", Err(CfgError::TooDeep)),
-    (100_000, "", Err(CfgError::TooDeep)),
-];
+const NESTED: &[Row] = &[("127 a", "1"), ("128 ", TOO_DEEP), ("100000 ", TOO_DEEP)];
+
+/// How many forms are opened, of which none is closed.
+const OPENED: &[Row] = &[("100000", TOO_DEEP)];
 
 /// Each error, and what it prints.
-const ERRORS: &[(CfgError, &str)] = &[
-    (CfgError::Syntax, "bad cfg expression"),
-    (CfgError::TooDeep, "cfg expression too deep"),
-    (CfgError::Memory, "out of memory"),
+const ERRORS: &[Row] = &[
+    ("Syntax", SYNTAX),
+    ("TooDeep", TOO_DEEP),
+    ("Memory", "out of memory"),
 ];
 
 /// The value of an expression at a place.
-fn value_at(alloc: Global, text: &str, (triple, feature): (&str, &str)) -> Result<bool, Fail> {
+struct Value;
+
+impl Question for Value {
+    fn told(alloc: Global, line: &str) -> Result<String, Fail> {
+        let (place, text) = line.split_once(' ').unwrap_or((line, ""));
+        let (triple, feature) = place.split_once('+').unwrap_or((place, ""));
+        let is_true = value_at(alloc, text, triple, feature)?;
+        Ok(format!(in alloc; "{is_true}")?)
+    }
+}
+
+/// The value of an expression at a target with one feature.
+fn value_at(alloc: Global, text: &str, triple: &str, feature: &str) -> Result<bool, Fail> {
     let target = Target::new(alloc, triple)?;
     let features = vec![in alloc; String::from_str(alloc, feature)?]?;
     Ok(Expression::parse(alloc, text)?.eval(&target, features.as_slice()))
@@ -108,55 +131,89 @@ fn value_at(alloc: Global, text: &str, (triple, feature): (&str, &str)) -> Resul
 
 #[test]
 fn is_true_or_false_at_a_target(rt: HostRuntime) -> Result<(), Fail> {
-    for &(text, place, want) in VALUES {
-        assert_eq!(rt;
-            value_at(rt.alloc(), text, place)?,
-            want,
-            "{text} at {place:?}"
-        );
-    }
-    Ok(())
+    hold::<Value>(rt.alloc(), VALUES)
 }
 
-/// What an expression asks for, counted.
-fn count(alloc: Global, text: &str) -> Result<usize, CfgError> {
-    Ok(Expression::parse(alloc, text)?.predicates())
-}
+/// What an expression asks for, counted, or why a text is none.
+struct Counted;
 
-#[test]
-fn counts_words_and_pairs(rt: HostRuntime) {
-    for &(text, want) in COUNTS {
-        assert_eq!(rt; count(rt.alloc(), text), want, "{text}");
+impl Question for Counted {
+    fn told(alloc: Global, text: &str) -> Result<String, Fail> {
+        match Expression::parse(alloc, text) {
+            Ok(expression) => Ok(format!(in alloc; "{}", expression.predicates())?),
+            Err(error) => Ok(format!(in alloc; "{error}")?),
+        }
     }
 }
 
 #[test]
-fn refuses_what_is_outside(rt: HostRuntime) {
-    for &text in OUTSIDE {
-        assert_eq!(rt; count(rt.alloc(), text), Err(CfgError::Syntax), "{text}");
-    }
+fn counts_words_and_pairs(rt: HostRuntime) -> Result<(), Fail> {
+    hold::<Counted>(rt.alloc(), COUNTS)
+}
+
+#[test]
+fn refuses_what_is_outside(rt: HostRuntime) -> Result<(), Fail> {
+    hold::<Counted>(rt.alloc(), OUTSIDE)
+}
+
+/// The beginning of an expression, in which so many forms are opened.
+pub(crate) fn opened(alloc: Global, times: usize) -> Result<String, AllocError> {
+    format!(in alloc; "cfg({}", "not(".repeat(alloc, times)?)
 }
 
 /// An expression of so many forms in one another, with a text in the innermost.
 fn nested(alloc: Global, times: usize, inner: &str) -> Result<String, AllocError> {
-    let opened = "not(".repeat(alloc, times)?;
+    let opened = opened(alloc, times)?;
     let closed = ")".repeat(alloc, times)?;
-    format!(in alloc; "cfg({opened}{inner}{closed})")
+    format!(in alloc; "{opened}{inner}{closed})")
+}
+
+/// What an expression of forms in one another asks for.
+struct FormsInOneAnother;
+
+impl Question for FormsInOneAnother {
+    fn told(alloc: Global, line: &str) -> Result<String, Fail> {
+        let (times, inner) = line.split_once(' ').unwrap_or((line, ""));
+        let text = nested(alloc, times.parse()?, inner)?;
+        Counted::told(alloc, text.as_str())
+    }
 }
 
 #[test]
 fn nests_at_most_127_forms(rt: HostRuntime) -> Result<(), Fail> {
-    for &(times, inner, want) in NESTED {
-        let text = nested(rt.alloc(), times, inner)?;
-        assert_eq!(rt; count(rt.alloc(), text.as_str()), want, "{times} forms");
+    hold::<FormsInOneAnother>(rt.alloc(), NESTED)
+}
+
+/// Why the beginning of one with so many forms is none.
+struct OpenedForms;
+
+impl Question for OpenedForms {
+    fn told(alloc: Global, times: &str) -> Result<String, Fail> {
+        let text = opened(alloc, times.parse()?)?;
+        Counted::told(alloc, text.as_str())
     }
-    Ok(())
+}
+
+#[test]
+fn is_too_deep_before_it_ends(rt: HostRuntime) -> Result<(), Fail> {
+    hold::<OpenedForms>(rt.alloc(), OPENED)
+}
+
+/// What an error prints.
+struct Printed;
+
+impl Question for Printed {
+    fn told(alloc: Global, name: &str) -> Result<String, Fail> {
+        let error = match name {
+            "Syntax" => CfgError::Syntax,
+            "TooDeep" => CfgError::TooDeep,
+            _ => CfgError::Memory,
+        };
+        Ok(error.to_string(alloc)?)
+    }
 }
 
 #[test]
 fn prints_each_error(rt: HostRuntime) -> Result<(), Fail> {
-    for &(error, want) in ERRORS {
-        assert_eq!(rt; error.to_string(rt.alloc())?.as_str(), want, "{error:?}");
-    }
-    Ok(())
+    hold::<Printed>(rt.alloc(), ERRORS)
 }

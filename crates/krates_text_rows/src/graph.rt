@@ -1,6 +1,8 @@
 //! The graph: its limits, its edges by number, and what is read of it.
 
 use krates_graph::graph::{Direction, EdgeId, Graph, GraphError, NodeId};
+use krates_samples::table;
+use krates_samples::table::{Question, Row};
 use std::alloc::Global;
 use std::test::Fail;
 
@@ -13,15 +15,15 @@ const EDGES: &[(u32, Direction, &str)] = &[
     (
         0,
         Direction::Outgoing,
-        "[EdgeId(0), EdgeId(2)] 0: 0 to 1 by 10, 2: 0 to 1 by 12,",
+        "[EdgeId(0), EdgeId(2)] (0, 0, 1, 10) (2, 0, 1, 12)",
     ),
-    (0, Direction::Incoming, "[EdgeId(1)] 1: 1 to 0 by 11,"),
+    (0, Direction::Incoming, "[EdgeId(1)] (1, 1, 0, 11)"),
     (
         1,
         Direction::Outgoing,
-        "[EdgeId(1), EdgeId(3)] 1: 1 to 0 by 11, 3: 1 to 1 by 13,",
+        "[EdgeId(1), EdgeId(3)] (1, 1, 0, 11) (3, 1, 1, 13)",
     ),
-    (2, Direction::Outgoing, "[EdgeId(4)] 4: 2 to 1 by 14,"),
+    (2, Direction::Outgoing, "[EdgeId(4)] (4, 2, 1, 14)"),
     (2, Direction::Incoming, "[]"),
     // no such node
     (3, Direction::Outgoing, "[]"),
@@ -32,7 +34,7 @@ const EDGES: &[(u32, Direction, &str)] = &[
 const ENTERING: &[(u32, Direction, &str)] = &[(
     1,
     Direction::Incoming,
-    "[EdgeId(0), EdgeId(2), EdgeId(3), EdgeId(4)] 0: 0 to 1 by 10, 2: 0 to 1 by 12, 3: 1 to 1 by 13, 4: 2 to 1 by 14,",
+    "[EdgeId(0), EdgeId(2), EdgeId(3), EdgeId(4)] (0, 0, 1, 10) (2, 0, 1, 12) (3, 1, 1, 13) (4, 2, 1, 14)",
 )];
 
 /// Crates 0 and 1, the feature 4 of 1 that 0 turns on, and two features in between; the weight is 1 where a feature is an end.
@@ -51,12 +53,12 @@ const EDGES_BETWEEN_FEATURES: &[(u32, Direction, &str)] = &[
     (
         0,
         Direction::Outgoing,
-        "[EdgeId(0), EdgeId(1)] 0: 0 to 1 by 0, 1: 0 to 4 by 1,",
+        "[EdgeId(0), EdgeId(1)] (0, 0, 1, 0) (1, 0, 4, 1)",
     ),
     (
         1,
         Direction::Incoming,
-        "[EdgeId(0), EdgeId(3), EdgeId(6)] 0: 0 to 1 by 0, 3: 2 to 1 by 1, 6: 4 to 1 by 1,",
+        "[EdgeId(0), EdgeId(3), EdgeId(6)] (0, 0, 1, 0) (3, 2, 1, 1) (6, 4, 1, 1)",
     ),
 ];
 
@@ -100,9 +102,8 @@ fn told(
         let (source, target) = (edge.source.index(), edge.target.index());
         write!(
             text,
-            " {}: {source} to {target} by {},",
-            edge.id.index(),
-            edge.weight
+            " {:?}",
+            (edge.id.index(), source, target, *edge.weight)
         )?;
     }
     Ok(text)
@@ -133,32 +134,46 @@ fn limits_refuse_one_more(rt: HostRuntime) -> Result<(), Fail> {
     let edge = graph.add_edge(node, node, 'e')?;
     let no_edge = graph.add_edge(node, node, 'f');
     let told = format!(in rt.alloc();
-        "{}, {no_node:?}, {}, {no_edge:?}; {} node, {} edge",
-        node.index(),
-        edge.index(),
-        graph.node_count(),
-        graph.edge_count()
+        "{:?}",
+        (
+            node.index(),
+            no_node,
+            edge.index(),
+            no_edge,
+            graph.node_count(),
+            graph.edge_count()
+        )
     )?;
     assert_eq!(rt;
         told.as_str(),
-        "0, Err(Full('y')), 0, Err(Full('f')); 1 node, 1 edge"
+        "(0, Err(Full('y')), 0, Err(Full('f')), 1, 1)"
     );
     Ok(())
 }
 
 /// Refusals, and their texts.
-const TEXTS: &[(GraphError<char>, &str)] = &[
-    (GraphError::Full('x'), "too many nodes or edges"),
-    (GraphError::Memory('x'), "out of memory"),
+const TEXTS: &[Row] = &[
+    ("Full", "too many nodes or edges"),
+    ("Memory", "out of memory"),
 ];
+
+/// What a refusal prints.
+struct Printed;
+
+impl Question for Printed {
+    fn told(alloc: Global, name: &str) -> Result<String, Fail> {
+        let error = if name == "Full" {
+            GraphError::Full('x')
+        } else {
+            GraphError::Memory('x')
+        };
+        Ok(format!(in alloc; "{error}")?)
+    }
+}
 
 #[test]
 fn refusals_are_printed(rt: HostRuntime) -> Result<(), Fail> {
-    for (error, text) in TEXTS {
-        let told = format!(in rt.alloc(); "{error}")?;
-        assert_eq!(rt; told.as_str(), *text);
-    }
-    Ok(())
+    table::hold::<Printed>(rt.alloc(), TEXTS)
 }
 
 #[test]
@@ -221,15 +236,17 @@ fn a_refused_growth_changes_nothing(rt: HostRuntime) {
 fn lists_and_ends_are_read(rt: HostRuntime) -> Result<(), Fail> {
     let graph = graph_of(rt.alloc(), &['a', 'b', 'c'], JOINED)?;
     let told = format!(in rt.alloc();
-        "{:?}, {} edges, {:?}, {:?}",
-        graph.raw_nodes(),
-        graph.raw_edges().len(),
-        graph.edge_endpoints(EdgeId::new(4)),
-        graph.edge_endpoints(EdgeId::new(5))
+        "{:?}",
+        (
+            graph.raw_nodes(),
+            graph.raw_edges().len(),
+            graph.edge_endpoints(EdgeId::new(4)),
+            graph.edge_endpoints(EdgeId::new(5))
+        )
     )?;
     assert_eq!(rt;
         told.as_str(),
-        "['a', 'b', 'c'], 5 edges, Some((NodeId(2), NodeId(1))), None"
+        "(['a', 'b', 'c'], 5, Some((NodeId(2), NodeId(1))), None)"
     );
     Ok(())
 }

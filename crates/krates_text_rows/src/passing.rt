@@ -1,5 +1,6 @@
 //! Passing: which target text lets a dependency pass at which targets.
 
+use crate::expressions::opened;
 use krates_text::passing::passes;
 use krates_text::target::Target;
 use std::alloc::{AllocError, Global};
@@ -107,4 +108,12 @@ fn passes_at_targets_of_which_nothing_is_known(rt: HostRuntime) -> Result<(), Fa
     hold(rt.alloc(), &[("x", &[])], AT_AN_UNKNOWN_TARGET)?;
     hold(rt.alloc(), &[("x", &["atomics"])], WITH_A_FEATURE)?;
     hold(rt.alloc(), &[("cfg(unix", &[])], AT_A_BAD_EXPRESSION)
+}
+
+#[test]
+fn passes_as_a_triple_where_it_nests_too_deep(rt: HostRuntime) -> Result<(), Fail> {
+    let text = opened(rt.alloc(), 100_000)?;
+    let without_end = Some(text.as_str());
+    hold(rt.alloc(), &[], &[(without_end, true)])?;
+    hold(rt.alloc(), TWO_TARGETS, &[(without_end, false)])
 }

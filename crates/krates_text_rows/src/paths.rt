@@ -1,86 +1,109 @@
 //! Paths: their components, their parents, and how they are joined and compared.
 
+use krates_samples::table::{Question, Row, hold};
 use krates_text::path::{components, ends_with, join, parent, same};
+use std::alloc::Global;
 use std::test::Fail;
 
-/// A path and its components, in order.
-const COMPONENTS: &[(&str, &[&str])] = &[
-    (
-        "/D:/a//krates/./tests/",
-        &["/", "D:", "a", "krates", "tests"],
-    ),
-    ("./a/.././.b", &[".", "a", "..", ".b"]),
+/// A path and its components, in order, each behind a bar.
+const COMPONENTS: &[Row] = &[
+    ("/D:/a//krates/./tests/", "|/|D:|a|krates|tests"),
+    ("./a/.././.b", "|.|a|..|.b"),
 ];
 
-/// A path and its parent.
-const PARENTS: &[(&str, Option<&str>)] = &[
-    ("/w/a/Cargo.toml", Some("/w/a")),
-    ("/w/./a//Cargo.toml/.", Some("/w/./a")),
-    ("/w", Some("/")),
-    ("//./w/", Some("/")),
-    ("Cargo.toml", Some("")),
-    ("./a", Some(".")),
-    (".", Some("")),
-    ("/", None),
-    ("//.", None),
-    ("", None),
-];
+/// The components of a path.
+struct Components;
 
-/// A base, a path that is meant there, and the two joined.
-const JOINED: &[(&str, &str, &str)] = &[
-    ("/w/a", "LICENSE", "/w/a/LICENSE"),
-    ("/w/a", "../L", "/w/a/../L"),
-    ("/w/a", "/x", "/x"),
-    ("/w/", "a", "/w/a"),
-    ("", "R", "R"),
-];
-
-/// Two paths, whether the first ends with the components of the second, and whether the two are the same.
-const COMPARED: &[(&str, &str, (bool, bool))] = &[
-    ("/w/./c//Cargo.toml", "c/Cargo.toml", (true, false)),
-    ("/w", "", (true, false)),
-    ("/w/MyCargo.toml", "Cargo.toml", (false, false)),
-    ("/w/c", "/c", (false, false)),
-    ("/w/./c//Cargo.toml", "/w/c/Cargo.toml/", (true, true)),
-    ("/w/c", "w/c", (true, false)),
-    ("./c", "c", (true, false)),
-];
-
-#[test]
-fn gives_the_components(rt: HostRuntime) -> Result<(), Fail> {
-    for &(path, want) in COMPONENTS {
-        let all: Vec<&str> = components(path).map(|c| c.as_os_str()).collect(rt.alloc())?;
-        assert_eq!(rt; all.as_slice(), want, "at {path}");
+impl Question for Components {
+    fn told(alloc: Global, path: &str) -> Result<String, Fail> {
+        let mut told = String::new(alloc);
+        for component in components(path) {
+            told.push('|')?;
+            told.push_str(component.as_os_str())?;
+        }
+        Ok(told)
     }
-    Ok(())
 }
 
 #[test]
-fn gives_the_parent(rt: HostRuntime) {
-    for &(path, want) in PARENTS {
-        assert_eq!(rt; parent(path), want, "at {path}");
+fn gives_the_components(rt: HostRuntime) -> Result<(), Fail> {
+    hold::<Components>(rt.alloc(), COMPONENTS)
+}
+
+/// A path and its parent.
+const PARENTS: &[Row] = &[
+    ("/w/a/Cargo.toml", r#"Some("/w/a")"#),
+    ("/w/./a//Cargo.toml/.", r#"Some("/w/./a")"#),
+    ("/w", r#"Some("/")"#),
+    ("//./w/", r#"Some("/")"#),
+    ("Cargo.toml", r#"Some("")"#),
+    ("./a", r#"Some(".")"#),
+    (".", r#"Some("")"#),
+    ("/", "None"),
+    ("//.", "None"),
+    ("", "None"),
+];
+
+/// The parent of a path.
+struct Parent;
+
+impl Question for Parent {
+    fn told(alloc: Global, path: &str) -> Result<String, Fail> {
+        Ok(format!(in alloc; "{:?}", parent(path))?)
+    }
+}
+
+#[test]
+fn gives_the_parent(rt: HostRuntime) -> Result<(), Fail> {
+    hold::<Parent>(rt.alloc(), PARENTS)
+}
+
+/// A base, a bar, a path that is meant there, and the two joined.
+const JOINED: &[Row] = &[
+    ("/w/a|LICENSE", "/w/a/LICENSE"),
+    ("/w/a|../L", "/w/a/../L"),
+    ("/w/a|/x", "/x"),
+    ("/w/|a", "/w/a"),
+    ("|R", "R"),
+];
+
+/// A base and a path, joined.
+struct Joined;
+
+impl Question for Joined {
+    fn told(alloc: Global, line: &str) -> Result<String, Fail> {
+        let (base, path) = line.split_once('|').unwrap_or((line, ""));
+        Ok(join(alloc, base, path)?)
     }
 }
 
 #[test]
 fn joins(rt: HostRuntime) -> Result<(), Fail> {
-    for &(base, path, want) in JOINED {
-        assert_eq!(rt;
-            join(rt.alloc(), base, path)?.as_str(),
-            want,
-            "{path} at {base}"
-        );
+    hold::<Joined>(rt.alloc(), JOINED)
+}
+
+/// Two paths with a bar between them, whether the first ends with the components of the second, and whether the two are the same.
+const COMPARED: &[Row] = &[
+    ("/w/./c//Cargo.toml|c/Cargo.toml", "(true, false)"),
+    ("/w|", "(true, false)"),
+    ("/w/MyCargo.toml|Cargo.toml", "(false, false)"),
+    ("/w/c|/c", "(false, false)"),
+    ("/w/./c//Cargo.toml|/w/c/Cargo.toml/", "(true, true)"),
+    ("/w/c|w/c", "(true, false)"),
+    ("./c|c", "(true, false)"),
+];
+
+/// How two paths compare.
+struct Compared;
+
+impl Question for Compared {
+    fn told(alloc: Global, line: &str) -> Result<String, Fail> {
+        let (path, other) = line.split_once('|').unwrap_or((line, ""));
+        Ok(format!(in alloc; "{:?}", (ends_with(path, other), same(path, other)))?)
     }
-    Ok(())
 }
 
 #[test]
-fn compares_by_components(rt: HostRuntime) {
-    for &(path, other, want) in COMPARED {
-        assert_eq!(rt;
-            (ends_with(path, other), same(path, other)),
-            want,
-            "{path} and {other}"
-        );
-    }
+fn compares_by_components(rt: HostRuntime) -> Result<(), Fail> {
+    hold::<Compared>(rt.alloc(), COMPARED)
 }

@@ -1,38 +1,37 @@
 //! Feature references: which form each text has.
 
-use krates_text::features::{Feature, ParsedFeature};
+use krates_samples::table::{Question, Row, hold};
+use krates_text::features::ParsedFeature;
+use std::alloc::Global;
+use std::test::Fail;
 
 /// A text and the form that it has.
-const FORMS: &[(&str, Feature)] = &[
-    (
-        "a/b?/c",
-        Feature::Weak {
-            krate: "a/b",
-            feature: "c",
-        },
-    ),
+const FORMS: &[Row] = &[
+    ("a/b?/c", r#"Weak { krate: "a/b", feature: "c" }"#),
     (
         "reqwest?/json",
-        Feature::Weak {
-            krate: "reqwest",
-            feature: "json",
-        },
+        r#"Weak { krate: "reqwest", feature: "json" }"#,
     ),
     (
         "serde/derive",
-        Feature::Strong {
-            krate: "serde",
-            feature: "derive",
-        },
+        r#"Strong { krate: "serde", feature: "derive" }"#,
     ),
-    ("dep:x/y", Feature::Krate("x/y")),
-    ("std", Feature::Simple("std")),
-    ("", Feature::Simple("")),
+    ("dep:x/y", r#"Krate("x/y")"#),
+    ("std", r#"Simple("std")"#),
+    ("", r#"Simple("")"#),
 ];
 
-#[test]
-fn reads_each_form(rt: HostRuntime) {
-    for &(text, want) in FORMS {
-        assert_eq!(rt; ParsedFeature::from(text).feat(), want, "at {text}");
+/// The form of a text.
+struct Form;
+
+impl Question for Form {
+    fn told(alloc: Global, text: &str) -> Result<String, Fail> {
+        let form = ParsedFeature::from(text).feat();
+        Ok(format!(in alloc; "{form:?}")?)
     }
+}
+
+#[test]
+fn reads_each_form(rt: HostRuntime) -> Result<(), Fail> {
+    hold::<Form>(rt.alloc(), FORMS)
 }

@@ -1,98 +1,95 @@
 //! Targets: the table row by row, and how a target is printed.
 
-use krates_text::target::{Target, TargetInfo, builtin};
-use std::alloc::{AllocError, Global};
+use krates_samples::table::{Question, Row, hold};
+use krates_text::target::{Target, builtin};
+use std::alloc::Global;
 use std::test::Fail;
 
-/// A triple and the description of its target.
-const DESCRIBED: &[(&str, &str)] = &[
+/// A triple and the description of its target, with each of its fields.
+const DESCRIBED: &[Row] = &[
     (
         "x86_64-unknown-linux-gnu",
-        r#"x86_64-unknown-linux-gnu: x86_64,linux,gnu,,unknown,64,little,unwind ["unix"] ["8", "16", "32", "64", "ptr"]"#,
+        r#"TargetInfo { triple: "x86_64-unknown-linux-gnu", arch: "x86_64", os: "linux", env: "gnu", abi: "", vendor: "unknown", pointer_width: "64", endian: "little", panic: "unwind", families: ["unix"], atomics: ["8", "16", "32", "64", "ptr"] }"#,
     ),
     (
         "x86_64-unknown-linux-musl",
-        r#"x86_64-unknown-linux-musl: x86_64,linux,musl,,unknown,64,little,unwind ["unix"] ["8", "16", "32", "64", "ptr"]"#,
+        r#"TargetInfo { triple: "x86_64-unknown-linux-musl", arch: "x86_64", os: "linux", env: "musl", abi: "", vendor: "unknown", pointer_width: "64", endian: "little", panic: "unwind", families: ["unix"], atomics: ["8", "16", "32", "64", "ptr"] }"#,
     ),
     (
         "aarch64-unknown-linux-gnu",
-        r#"aarch64-unknown-linux-gnu: aarch64,linux,gnu,,unknown,64,little,unwind ["unix"] ["8", "16", "32", "64", "ptr"]"#,
+        r#"TargetInfo { triple: "aarch64-unknown-linux-gnu", arch: "aarch64", os: "linux", env: "gnu", abi: "", vendor: "unknown", pointer_width: "64", endian: "little", panic: "unwind", families: ["unix"], atomics: ["8", "16", "32", "64", "ptr"] }"#,
     ),
     (
         "x86_64-pc-windows-msvc",
-        r#"x86_64-pc-windows-msvc: x86_64,windows,msvc,,pc,64,little,unwind ["windows"] ["8", "16", "32", "64", "ptr"]"#,
+        r#"TargetInfo { triple: "x86_64-pc-windows-msvc", arch: "x86_64", os: "windows", env: "msvc", abi: "", vendor: "pc", pointer_width: "64", endian: "little", panic: "unwind", families: ["windows"], atomics: ["8", "16", "32", "64", "ptr"] }"#,
     ),
     (
         "x86_64-apple-darwin",
-        r#"x86_64-apple-darwin: x86_64,macos,,,apple,64,little,unwind ["unix"] ["8", "16", "32", "64", "ptr"]"#,
+        r#"TargetInfo { triple: "x86_64-apple-darwin", arch: "x86_64", os: "macos", env: "", abi: "", vendor: "apple", pointer_width: "64", endian: "little", panic: "unwind", families: ["unix"], atomics: ["8", "16", "32", "64", "ptr"] }"#,
     ),
     (
         "aarch64-apple-darwin",
-        r#"aarch64-apple-darwin: aarch64,macos,,,apple,64,little,unwind ["unix"] ["8", "16", "32", "64", "ptr"]"#,
+        r#"TargetInfo { triple: "aarch64-apple-darwin", arch: "aarch64", os: "macos", env: "", abi: "", vendor: "apple", pointer_width: "64", endian: "little", panic: "unwind", families: ["unix"], atomics: ["8", "16", "32", "64", "ptr"] }"#,
     ),
     (
         "wasm32-unknown-unknown",
-        r#"wasm32-unknown-unknown: wasm32,unknown,,,unknown,32,little,abort ["wasm"] ["8", "16", "32", "64", "ptr"]"#,
+        r#"TargetInfo { triple: "wasm32-unknown-unknown", arch: "wasm32", os: "unknown", env: "", abi: "", vendor: "unknown", pointer_width: "32", endian: "little", panic: "abort", families: ["wasm"], atomics: ["8", "16", "32", "64", "ptr"] }"#,
     ),
     ("x86_64", "no row"),
 ];
 
 /// Texts that are printed as they are: a triple, and two of which nothing is known.
-const PRINTED: &[&str] = &["wasm32-unknown-unknown", "x", ""];
+const PRINTED: &[Row] = &[
+    ("wasm32-unknown-unknown", "wasm32-unknown-unknown"),
+    ("x", "x"),
+    ("", ""),
+];
 
-/// A description, in the order of its fields.
-fn described(alloc: Global, info: &TargetInfo) -> Result<String, AllocError> {
-    format!(in alloc;
-        "{}: {},{},{},{},{},{},{},{} {:?} {:?}",
-        info.triple,
-        info.arch,
-        info.os,
-        info.env,
-        info.abi,
-        info.vendor,
-        info.pointer_width,
-        info.endian,
-        info.panic,
-        info.families,
-        info.atomics
-    )
+/// The description of a target.
+struct Described;
+
+impl Question for Described {
+    fn told(alloc: Global, triple: &str) -> Result<String, Fail> {
+        match builtin(alloc, triple)? {
+            Some(info) => Ok(format!(in alloc; "{info:?}")?),
+            None => Ok(String::from_str(alloc, "no row")?),
+        }
+    }
 }
 
-/// The description of a target, or of a copy of it.
-fn told(alloc: Global, triple: &str, is_copied: bool) -> Result<String, AllocError> {
-    match builtin(alloc, triple)? {
-        Some(info) if is_copied => described(alloc, &info.clone()?),
-        Some(info) => described(alloc, &info),
-        None => String::from_str(alloc, "no row"),
+/// That of a copy of it.
+struct Copied;
+
+impl Question for Copied {
+    fn told(alloc: Global, triple: &str) -> Result<String, Fail> {
+        match builtin(alloc, triple)? {
+            Some(info) => Ok(format!(in alloc; "{:?}", info.clone()?)?),
+            None => Ok(String::from_str(alloc, "no row")?),
+        }
     }
 }
 
 #[test]
 fn gives_each_row(rt: HostRuntime) -> Result<(), Fail> {
-    for &(triple, want) in DESCRIBED {
-        assert_eq!(rt; told(rt.alloc(), triple, false)?.as_str(), want, "{triple}");
-    }
-    Ok(())
+    hold::<Described>(rt.alloc(), DESCRIBED)
 }
 
 #[test]
 fn copies_each_row(rt: HostRuntime) -> Result<(), Fail> {
-    for &(triple, want) in DESCRIBED {
-        assert_eq!(rt; told(rt.alloc(), triple, true)?.as_str(), want, "{triple}");
-    }
-    Ok(())
+    hold::<Copied>(rt.alloc(), DESCRIBED)
 }
 
 /// What a copy of the target prints.
-fn printed(alloc: Global, text: &str) -> Result<String, AllocError> {
-    let target = Target::new(alloc, text)?;
-    target.clone()?.to_string(alloc)
+struct Printed;
+
+impl Question for Printed {
+    fn told(alloc: Global, text: &str) -> Result<String, Fail> {
+        let target = Target::new(alloc, text)?;
+        Ok(target.clone()?.to_string(alloc)?)
+    }
 }
 
 #[test]
 fn prints_the_target(rt: HostRuntime) -> Result<(), Fail> {
-    for &text in PRINTED {
-        assert_eq!(rt; printed(rt.alloc(), text)?.as_str(), text, "{text}");
-    }
-    Ok(())
+    hold::<Printed>(rt.alloc(), PRINTED)
 }

@@ -1,7 +1,8 @@
 use Rattle.std.proofs.Common.{◌≡◌, Some, None, map, rules, tests}
 use Rattle.std.specs.BTreeMap.{get_by_text}
 use Rattle.krates_cm.specs.Document.{text_view, package_view}
-use Rattle.krates_ids.specs.Correction.{index_view, index_version_view, crates_io}
+use Rattle.krates_cm.specs.Queries.{crates_io}
+use Rattle.krates_ids.specs.Correction.{index_view, index_version_view}
 use Rattle.krates_ids.proofs.IndexLemmas.{answer_at, indexed_as, not_indexed}
 use Rattle.krates_ids.proofs.correction.indexed_features.Goals as goal
 
