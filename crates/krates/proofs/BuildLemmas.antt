@@ -1,33 +1,27 @@
 -- What a build keeps, and why it is refused.
-use Rattle.std.proofs.Common.{◌≡◌, ◌≢◌, ◌↔◌, ℕ, zero, suc, ◌<◌, ◌≤◌, ◌^◌, List, [], ◌∷◌, length, get_or, map, AllPairs, Some, slice_get, Contains, refl, sym, ap, ◌∙◌, subst, inl, inr, arith}
-use Rattle.std.proofs.lemmas.List.{get_or-map, length-map}
-use Rattle.std.proofs.lemmas.List.Elements.{Contains-get_or}
+use Rattle.std.proofs.Common.{◌≡◌, ◌↔◌, List, [], ◌∷◌, map, Contains, refl, sym, ap, ◌∙◌, subst, inl, inr}
 use Rattle.std.specs.List.{AllZip}
-use Rattle.std.specs.List.Sorted.{IsStrictlySortedBy}
-use Rattle.krates_cm.specs.Document.{Text, MetadataModel, ResolveModel, PackageModel, id_view, package_view, metadata_view}
+use Rattle.krates_cm.specs.Document.{Text, MetadataModel, PackageModel, id_view, package_view, metadata_view}
 use Rattle.krates_cm.specs.declared.metadata.Metadata.{Metadata}
 use Rattle.krates_cm.specs.declared.package.Package.{Package}
-use Rattle.krates_ids.specs.Identity.{Identity, empty_identity, Reads, id_cmp}
-use Rattle.krates_ids.specs.declared.error.Error.{Error}
-use Rattle.krates_ids.specs.declared.error.Error.TheVariants as errors
+use Rattle.krates_ids.specs.Identity.{Identity, Reads}
 use Rattle.krates_rules.specs.Admission.{IsAdmitted, package_texts, doubled_package, IdsModel}
 use Rattle.krates_document.proofs.AdmissionLemmas.{twice_texts}
 use Rattle.krates_document.specs.AdmissionSteps.{AreDistinct}
-use Rattle.krates_rules.specs.Facts.{Id, Cause, Fact, Crate, Feature, Lost}
+use Rattle.krates_rules.specs.Facts.{Id, Cause, Fact, Feature}
 use Rattle.krates_rules.specs.Questions.{Stands, questions}
 use Rattle.krates_rules.specs.Resolved.{ReadsAs, resolved, id_of}
 use Rattle.krates_resolve.specs.Selection.{feature_fact}
 use Rattle.krates_resolve.specs.declared.selection.Selection.{Selection}
 use Rattle.krates_rules.specs.Setting.{SettingModel}
-use Rattle.krates.specs.Build.{IsResolvable, IsDerived, KeepsCrate, DropsCrate, IsLost, AreThosePackages, HasTooMany, GraphRefusal, CountRefusal}
+use Rattle.krates.specs.Build.{IsResolvable, IsDerived, KeepsCrate, DropsCrate, IsLost, AreThosePackages}
 use Rattle.krates.specs.Division.{IsAmong, IsDivision}
 use Rattle.krates.specs.Krate.{krate_ids, krate_packages}
 use Rattle.krates.specs.declared.division.Division.{Division}
 use Rattle.krates.proofs.DivisionLemmas.{ReadsOnce}
-use Rattle.krates.proofs.Membership.{Member, member_of, contains_of, mapped_of, member_map}
-use Rattle.krates.proofs.OrderedIds.{Compares, not_earlier}
-use Rattle.krates.proofs.SelectionFacts.{Selects, derived_at, derived_of, kept_among, enabled_among, none_lost}
-use Rattle.krates_resolve.proofs.StandingLaws.{derivable_stands}
+use Rattle.krates_drawing.proofs.Members.{Member, member_of, contains_of, mapped_of, member_map}
+use Rattle.krates.proofs.SelectionFacts.{Selects, kept_among, enabled_among, none_lost}
+use Rattle.krates_questions.proofs.StandingLaws.{derivable_stands}
 
 -- ---- an admitted document
 
@@ -149,34 +143,7 @@ enabled m s x d P facts sel b same so i f =
       λ h. (let both = (so i f).0 h in told.1 ((b.kept i).1 both.0, subst (λ fs. Contains fs fact) (sym same) both.1)),
     )
 
--- ---- too many
+-- ---- refusals
 
 pub resolvable : (m : MetadataModel) (ids : IdsModel) → IsAdmitted m ids → IsResolvable m
 resolvable m ids a = record { ids = ids; admitted = a }
-
-distinct_ids : Compares → (ids : List Identity) → IsStrictlySortedBy id_cmp ids → AllPairs (λ a b. a ≢ b) (map id_of ids)
-distinct_ids o ids sorted i j d lt within e =
-    let w : j < length ids = simp length-map at within in
-    not_earlier o ids sorted i j empty_identity lt w (sym (get_or-map id_of ids i empty_identity d (omega arith)) ∙ e ∙ get_or-map id_of ids j empty_identity d w)
-
-miscounted_many : Compares → (m : Metadata) (s : SettingModel) (d : Division) (g : ResolveModel) → (metadata_view m).resolve ≡ Some g → Builds m s d → 2 ^ 32 ≤ length d.kept.items → HasTooMany (questions (resolved (metadata_view m) g) s)
-miscounted_many o m s d g is b many =
-    let ids : List Id = map id_of (krate_ids d.kept.items) in
-    record {
-      none_lost = λ c h. b.none_lost c (derived_of (metadata_view m) s g (Lost c) is h);
-      ids = ids;
-      distinct = distinct_ids o (krate_ids d.kept.items) b.packages.ascending;
-      kept = λ k z lt. derived_at (metadata_view m) s g (Crate (get_or ids k z)) is ((b.kept (get_or ids k z)).1 (Contains-get_or ids k z lt));
-      many = simp length-map many;
-    }
-
-pub miscount_refused : Compares → (m : Metadata) (s : SettingModel) (d : Division) (ids : IdsModel) → IsAdmitted (metadata_view m) ids → Builds m s d → (e : Error) → CountRefusal (length d.kept.items) e → GraphRefusal (metadata_view m) s e
-miscount_refused o m s d ids a b errors.NoResolveGraph h = absurd h
-miscount_refused o m s d ids a b (errors.Metadata inner) h = absurd h
-miscount_refused o m s d ids a b (errors.InvalidPkgSpec t) h = absurd h
-miscount_refused o m s d ids a b errors.NoRootKrates h = absurd h
-miscount_refused o m s d ids a b (errors.InvalidId t) h = absurd h
-miscount_refused o m s d ids a b (errors.Doubled kid) h = absurd h
-miscount_refused o m s d ids a b (errors.Lost what) h = absurd h
-miscount_refused o m s d ids a b errors.TooMany h = record { graph = a.graph; has_graph = a.has_graph; holds = miscounted_many o m s d a.graph a.has_graph b h }
-miscount_refused o m s d ids a b errors.Memory h = absurd h

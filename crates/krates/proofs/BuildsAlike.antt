@@ -1,28 +1,35 @@
 -- Builds of documents that differ in order alone.
-use Rattle.std.proofs.Common.{◌≡◌, ◌↔◌, List, [], ◌∷◌, get_or, Bool, true, false, ◌||◌, Option, Some, None, refl, sym, ap, ◌∙◌, inl, inr}
+use Rattle.std.proofs.Common.{◌≡◌, ◌↔◌, List, [], ◌∷◌, Bool, true, false, ◌||◌, Option, refl, sym, ap, ◌∙◌, subst, inl, inr}
 use Rattle.std.proofs.Math.Bool.{or_comm}
+use Rattle.std.proofs.lemmas.Option.{same_Some}
 use Rattle.std.specs.Cmp.{IsTotalOrder}
 use Rattle.std.specs.List.{list_any}
 use Rattle.std.specs.Str.{bytes_eq}
-use Rattle.krates_cm.specs.Document.{Text, PackageModel, ResolveModel, MetadataModel, metadata_view, text_view}
+use Rattle.krates_cm.specs.Document.{Text, PackageModel, MetadataModel, metadata_view, text_view}
 use Rattle.krates_cm.specs.declared.metadata.Metadata.{Metadata}
 use Rattle.krates_cm.specs.declared.package.Package.{Package}
+use Rattle.krates_drawing.specs.Alike.{DrawAlike, IsDrawnAlike, IsSheetThere}
+use Rattle.krates_drawing.specs.Sheet.{Sheet}
 use Rattle.krates_ids.specs.Identity.{id_cmp}
 use Rattle.krates_ids.specs.declared.error.Error.{Error}
 use Rattle.krates_ids.specs.declared.error.Error.TheVariants as errors
+use Rattle.krates_ids.specs.declared.index.IndexAnswer.{IndexAnswer}
 use Rattle.krates_ids.specs.declared.index.PackageNames.{PackageNames}
+use Rattle.krates_rules.specs.Admission.{NoneDoubled}
 use Rattle.krates_rules.specs.Facts.{Id, Fact, Crate, Lost}
 use Rattle.krates_rules.specs.Reordering.{Reorders, ResolveAlike, IsOrderFree}
 use Rattle.krates_rules.specs.Setting.{SettingModel}
 use Rattle.krates.specs.Build.{IsResolvable, IsDerived, KeepsCrate, DropsCrate, GraphRefusal, IsRefusedSeeing}
-use Rattle.krates.specs.BuildLaws.{BuildAlike, IsBuildOrderFree}
+use Rattle.krates.specs.BuildLaws.{BuildAlike, IsBuildOrderFree, IsSeenBy}
+use Rattle.krates.specs.Drawn.{IsSheetFor}
 use Rattle.krates.specs.Indexed.{HasNames}
 use Rattle.krates.proofs.AdmittedAlike.{turned, resolvable_there}
 use Rattle.krates.proofs.CorrectedAlike.{OneCorrection, seen_alike}
 use Rattle.krates.proofs.DivisionLemmas.{ReadsOnce}
 use Rattle.krates.proofs.ListedAlike.{same_there, list_alike}
-use Rattle.krates.proofs.Membership.{Member}
-use Rattle.krates.proofs.SelectionFacts.{derived_at, derived_of}
+use Rattle.krates_drawing.proofs.Members.{Member}
+use Rattle.krates.proofs.SeenLemmas.{resolvable_seen}
+use Rattle.krates.proofs.SelectionFacts.{Selects, derived_of, none_lost}
 
 -- ---- the names that an index is asked for
 
@@ -66,56 +73,66 @@ names_same m n w names =
 
 -- ---- refusals
 
-graph_of : (a : Option ResolveModel) → (a ≡ None → ⊥) → (g : ResolveModel) × (a ≡ Some g)
-graph_of None h = absurd (h refl)
-graph_of (Some g) h = (g, refl)
+-- a sheet of the first is a sheet of the second, where no id of that is doubled
+pub sheet_for_there : IsSheetThere → (p q : MetadataModel) (s : SettingModel) (t : Sheet) → Reorders p q → IsResolvable q → IsSheetFor p s t → IsSheetFor q s t
+sheet_for_there law p q s t w r h =
+    let a = r.admitted in
+    let there = law p q w h.graph a.graph h.has_graph a.has_graph a.none_doubled s h.holds.selection h.holds.selected t h.holds.is_sheet in
+    record { graph = a.graph; has_graph = a.has_graph; holds = record { selection = h.holds.selection; selected = there.0; is_sheet = there.1 } }
 
-too_many_there : (p q : MetadataModel) (s : SettingModel) → ResolveAlike p q → GraphRefusal p s errors.TooMany → GraphRefusal q s errors.TooMany
-too_many_there p q s w h =
-    let g = graph_of q.resolve (λ none. let back = w.no_graph.1 none in cc (back, h.has_graph)) in
-    let facts = w.facts s in
+-- and what is drawn of both is the same
+drawn_same : IsDrawnAlike → (p q : MetadataModel) (s : SettingModel) (t v : Sheet) → Reorders p q → IsResolvable q → IsSheetFor p s t → IsSheetFor q s v → DrawAlike t v
+drawn_same law p q s t v w r h k =
+    let a = r.admitted in
+    let none : NoneDoubled q k.graph = subst (NoneDoubled q) (same_Some a.graph k.graph (sym a.has_graph ∙ k.has_graph)) a.none_doubled in
+    law p q w h.graph k.graph h.has_graph k.has_graph none s h.holds.selection k.holds.selection h.holds.selected k.holds.selected t v h.holds.is_sheet k.holds.is_sheet
+
+too_many_there : IsSheetThere → (p q : MetadataModel) (s : SettingModel) → Reorders p q → IsResolvable q → GraphRefusal p s errors.TooMany → GraphRefusal q s errors.TooMany
+too_many_there law p q s w r h =
+    let there = sheet_for_there law p q s h.holds.sheet w r (record { graph = h.graph; has_graph = h.has_graph; holds = h.holds.is_sheet }) in
+    let sel : Selects q s there.holds.selection = record { graph = there.graph; has_graph = there.has_graph; holds = there.holds.selected } in
     record {
-      graph = g.0;
-      has_graph = g.1;
+      graph = there.graph;
+      has_graph = there.has_graph;
       holds = record {
-        none_lost = λ c d. h.holds.none_lost c (derived_at p s h.graph (Lost c) h.has_graph ((facts (Lost c)).1 (derived_of q s g.0 (Lost c) g.1 d)));
-        ids = h.holds.ids;
-        distinct = h.holds.distinct;
-        kept = λ k z lt. derived_at q s g.0 (Crate (get_or h.holds.ids k z)) g.1 ((facts (Crate (get_or h.holds.ids k z))).0 (derived_of p s h.graph (Crate (get_or h.holds.ids k z)) h.has_graph (h.holds.kept k z lt)));
+        none_lost = λ c d. none_lost q s there.holds.selection sel c (derived_of q s there.graph (Lost c) there.has_graph d);
+        some = there.holds.selected.some;
+        sheet = h.holds.sheet;
+        is_sheet = there.holds;
         many = h.holds.many;
       };
     }
 
-unbuilt_there : (p q : MetadataModel) (s : SettingModel) → ResolveAlike p q → (e : Error) → GraphRefusal p s e → GraphRefusal q s e
-unbuilt_there p q s w (errors.Lost what) h = (w.unselected s (errors.Lost what)).0 h
-unbuilt_there p q s w errors.NoRootKrates h = (w.unselected s errors.NoRootKrates).0 h
-unbuilt_there p q s w errors.TooMany h = too_many_there p q s w h
-unbuilt_there p q s w errors.Memory h = tt
-unbuilt_there p q s w errors.NoResolveGraph h = absurd h
-unbuilt_there p q s w (errors.InvalidId t) h = absurd h
-unbuilt_there p q s w (errors.Doubled kid) h = absurd h
-unbuilt_there p q s w (errors.Metadata x) h = absurd h
-unbuilt_there p q s w (errors.InvalidPkgSpec x) h = absurd h
+unbuilt_there : IsSheetThere → (p q : MetadataModel) (s : SettingModel) → ResolveAlike p q → Reorders p q → IsResolvable q → (e : Error) → GraphRefusal p s e → GraphRefusal q s e
+unbuilt_there law p q s w moved r (errors.Lost what) h = (w.unselected s (errors.Lost what)).0 h
+unbuilt_there law p q s w moved r errors.NoRootKrates h = (w.unselected s errors.NoRootKrates).0 h
+unbuilt_there law p q s w moved r errors.TooMany h = too_many_there law p q s moved r h
+unbuilt_there law p q s w moved r errors.Memory h = tt
+unbuilt_there law p q s w moved r errors.NoResolveGraph h = absurd h
+unbuilt_there law p q s w moved r (errors.InvalidId t) h = absurd h
+unbuilt_there law p q s w moved r (errors.Doubled kid) h = absurd h
+unbuilt_there law p q s w moved r (errors.Metadata x) h = absurd h
+unbuilt_there law p q s w moved r (errors.InvalidPkgSpec x) h = absurd h
 
-refused_there : (m n p q : Metadata) (s : SettingModel) → (IsResolvable (metadata_view m) → IsResolvable (metadata_view n)) → ResolveAlike (metadata_view m) (metadata_view n)
-    → ResolveAlike (metadata_view p) (metadata_view q) → (e : Error) → IsRefusedSeeing m p s e → IsRefusedSeeing n q s e
-refused_there m n p q s r given w errors.NoResolveGraph h = (given.refused errors.NoResolveGraph).0 h
-refused_there m n p q s r given w (errors.InvalidId t) h = (given.refused (errors.InvalidId t)).0 h
-refused_there m n p q s r given w (errors.Doubled kid) h = (given.refused (errors.Doubled kid)).0 h
-refused_there m n p q s r given w (errors.Lost what) h = (r h.0, unbuilt_there (metadata_view p) (metadata_view q) s w (errors.Lost what) h.1)
-refused_there m n p q s r given w errors.NoRootKrates h = (r h.0, unbuilt_there (metadata_view p) (metadata_view q) s w errors.NoRootKrates h.1)
-refused_there m n p q s r given w errors.TooMany h = (r h.0, unbuilt_there (metadata_view p) (metadata_view q) s w errors.TooMany h.1)
-refused_there m n p q s r given w errors.Memory h = tt
-refused_there m n p q s r given w (errors.Metadata x) h = absurd h
-refused_there m n p q s r given w (errors.InvalidPkgSpec x) h = absurd h
+pub refused_there : IsSheetThere → (m n p q : Metadata) (s : SettingModel) → (IsResolvable (metadata_view m) → IsResolvable (metadata_view n) × IsResolvable (metadata_view q)) → ResolveAlike (metadata_view m) (metadata_view n)
+    → ResolveAlike (metadata_view p) (metadata_view q) → Reorders (metadata_view p) (metadata_view q) → (e : Error) → IsRefusedSeeing m p s e → IsRefusedSeeing n q s e
+refused_there law m n p q s r given w moved errors.NoResolveGraph h = (given.refused errors.NoResolveGraph).0 h
+refused_there law m n p q s r given w moved (errors.InvalidId t) h = (given.refused (errors.InvalidId t)).0 h
+refused_there law m n p q s r given w moved (errors.Doubled kid) h = (given.refused (errors.Doubled kid)).0 h
+refused_there law m n p q s r given w moved (errors.Lost what) h = ((r h.0).0, unbuilt_there law (metadata_view p) (metadata_view q) s w moved (r h.0).1 (errors.Lost what) h.1)
+refused_there law m n p q s r given w moved errors.NoRootKrates h = ((r h.0).0, unbuilt_there law (metadata_view p) (metadata_view q) s w moved (r h.0).1 errors.NoRootKrates h.1)
+refused_there law m n p q s r given w moved errors.TooMany h = ((r h.0).0, unbuilt_there law (metadata_view p) (metadata_view q) s w moved (r h.0).1 errors.TooMany h.1)
+refused_there law m n p q s r given w moved errors.Memory h = tt
+refused_there law m n p q s r given w moved (errors.Metadata x) h = absurd h
+refused_there law m n p q s r given w moved (errors.InvalidPkgSpec x) h = absurd h
 
 -- ---- the law
 
 not_kept_alike : (p q : MetadataModel) (s : SettingModel) → ((f : Fact) → IsDerived p s f ↔ IsDerived q s f) → (i : Id) → DropsCrate p s i ↔ DropsCrate q s i
 not_kept_alike p q s facts i = (λ none k. none ((facts (Crate i)).1 k), λ none k. none ((facts (Crate i)).0 k))
 
-builds_alike : IsOrderFree → ReadsOnce → IsTotalOrder id_cmp → (m n p q : Metadata) (s : SettingModel) → Reorders (metadata_view m) (metadata_view n) → Reorders (metadata_view p) (metadata_view q) → BuildAlike m n p q s
-builds_alike free once o m n p q s given seen =
+builds_alike : IsDrawnAlike → IsSheetThere → IsOrderFree → ReadsOnce → IsTotalOrder id_cmp → (answer : Option IndexAnswer) (m n p q : Metadata) (s : SettingModel) → IsSeenBy answer m p → IsSeenBy answer n q → Reorders (metadata_view m) (metadata_view n) → Reorders (metadata_view p) (metadata_view q) → BuildAlike m n p q s
+builds_alike same law free once o answer m n p q s x y given seen =
     let back = turned (metadata_view m) (metadata_view n) given in
     let seen_back = turned (metadata_view p) (metadata_view q) seen in
     let there_given = free (metadata_view m) (metadata_view n) given in
@@ -123,22 +140,29 @@ builds_alike free once o m n p q s given seen =
     let there_seen = free (metadata_view p) (metadata_view q) seen in
     let back_seen = free (metadata_view q) (metadata_view p) seen_back in
     let facts = there_seen.facts s in
+    let there : IsResolvable (metadata_view m) → IsResolvable (metadata_view n) = resolvable_there (metadata_view m) (metadata_view n) given there_given in
+    let turned_back : IsResolvable (metadata_view n) → IsResolvable (metadata_view m) = resolvable_there (metadata_view n) (metadata_view m) back back_given in
     record {
       names = names_same m n given;
       facts = facts;
       kept = list_alike once o p q (KeepsCrate (metadata_view p) s) (KeepsCrate (metadata_view q) s) seen (λ i. facts (Crate i));
       reported = list_alike once o p q (DropsCrate (metadata_view p) s) (DropsCrate (metadata_view q) s) seen (not_kept_alike (metadata_view p) (metadata_view q) s facts);
+      drawn = λ r t v. drawn_same same (metadata_view p) (metadata_view q) s t v seen (resolvable_seen answer n q y (there r));
+      sheets = λ r t. (
+        sheet_for_there law (metadata_view p) (metadata_view q) s t seen (resolvable_seen answer n q y (there r)),
+        sheet_for_there law (metadata_view q) (metadata_view p) s t seen_back (resolvable_seen answer m p x r),
+      );
       refused = λ e. (
-        refused_there m n p q s (resolvable_there (metadata_view m) (metadata_view n) given there_given) there_given there_seen e,
-        refused_there n m q p s (resolvable_there (metadata_view n) (metadata_view m) back back_given) back_given back_seen e,
+        refused_there law m n p q s (λ r. (there r, resolvable_seen answer n q y (there r))) there_given there_seen seen e,
+        refused_there law n m q p s (λ r. (turned_back r, resolvable_seen answer m p x (turned_back r))) back_given back_seen seen_back e,
       );
     }
 
-pub build_order_free : OneCorrection → ReadsOnce → IsTotalOrder id_cmp → IsOrderFree → IsBuildOrderFree
-build_order_free one once o free answer m n p q w x y =
+pub build_order_free : IsDrawnAlike → IsSheetThere → OneCorrection → ReadsOnce → IsTotalOrder id_cmp → IsOrderFree → IsBuildOrderFree
+build_order_free same law one once o free answer m n p q w x y =
     let seen = seen_alike one answer m n p q w x y in
     record {
       reorders = seen;
       resolves = free (metadata_view p) (metadata_view q) seen;
-      builds = λ s. builds_alike free once o m n p q s w seen;
+      builds = λ s. builds_alike same law free once o answer m n p q s x y w seen;
     }

@@ -2,14 +2,15 @@
 use Rattle.std.proofs.Common.{◌≡◌, List, Option, Some, None, refl, sym, ap, ◌∙◌, subst}
 use Rattle.std.proofs.lemmas.List.Sorted.{IsPermutation-sym}
 use Rattle.std.specs.List.{AllZip}
-use Rattle.krates_cm.specs.Document.{Text, FeaturesModel, PackageModel, MetadataModel, package_view, metadata_view}
+use Rattle.krates_cm.specs.Document.{Text, FeaturesModel, PackageModel, MetadataModel, metadata_view}
 use Rattle.krates_cm.specs.declared.metadata.Metadata.{Metadata}
 use Rattle.krates_ids.specs.Correction.{named, joined, or_else, Refers, IndexModel, IsIndexed, IsCorrection, IsCorrected, known, unknown, index_view, with_features}
 use Rattle.krates_ids.specs.declared.index.IndexAnswer.{IndexAnswer}
 use Rattle.krates_rules.specs.Reordering.{ReordersPackage, ReordersPackages, Reorders}
 use Rattle.krates.specs.BuildLaws.{IsSeenBy}
-use Rattle.krates.specs.Indexed.{IsCorrectedPackage, IsCorrectedDocument}
-use Rattle.krates.proofs.MovedLists.{moved_zip, zipped_through, zip_mapped}
+use Rattle.krates_document.specs.CorrectedDocument.{IsCorrectedDocument}
+use Rattle.krates_document.proofs.CorrectedDocument.{views_corrected, rest_kept}
+use Rattle.krates.proofs.MovedLists.{moved_zip, zipped_through}
 
 -- a package has one correction, but for the order of its features
 abbrev pub OneCorrection : Type 0
@@ -81,13 +82,6 @@ packages_alike one index xs ys us vs w x y =
     }
 
 -- ---- the document
-
-views_corrected : (answer : IndexAnswer) (m p : Metadata) → IsCorrectedDocument answer m p → AllZip (IsCorrected (index_view answer)) (metadata_view m).packages (metadata_view p).packages
-views_corrected answer m p h = zip_mapped (IsCorrectedPackage answer) (IsCorrected (index_view answer)) package_view package_view m.packages.items p.packages.items h.packages (λ a b c. c.corrected)
-
--- a correction changes nothing but the packages
-rest_kept : (answer : IndexAnswer) (m p : Metadata) → IsCorrectedDocument answer m p → metadata_view p ≡ record (metadata_view m) { packages = (metadata_view p).packages }
-rest_kept answer m p h = ap metadata_view h.nothing_else
 
 reorders_with : (m n : MetadataModel) (ps qs : List PackageModel) → Reorders m n → ReordersPackages ps qs → Reorders (record m { packages = ps }) (record n { packages = qs })
 reorders_with m n ps qs w packages = record {

@@ -1,6 +1,5 @@
 -- The graph of what is kept, put together.
-use Rattle.std.proofs.Common.{◌≡◌, ◌↔◌, ◌∙◌, ℕ, ◌<◌, ◌^◌, List, [], ◌∷◌, All, Contains, Some, Result, Ok, Err, IfOk, length, map, refl, sym, ap, subst, inl, inr, Less, Equal}
-use Rattle.std.proofs.lemmas.List.{length-map}
+use Rattle.std.proofs.Common.{◌≡◌, ◌↔◌, ◌∙◌, ℕ, ◌<◌, ◌^◌, List, [], ◌∷◌, All, Contains, Result, Ok, Err, IfOk, length, map, refl, sym, ap, subst}
 use Rattle.std.specs.BTreeSet.{BTreeSet}
 use Rattle.std.specs.List.{AllZip, FoldsTo}
 use Rattle.std.specs.List.Sorted.{IsStrictlySortedBy}
@@ -9,6 +8,7 @@ use Rattle.std.specs.declared.alloc.Global.{Global}
 use Rattle.krates_cm.specs.Document.{MetadataModel, Text, text_view, metadata_view}
 use Rattle.krates_cm.specs.declared.metadata.Metadata.{Metadata}
 use Rattle.krates_cm.specs.declared.package.Package.{Package}
+use Rattle.krates_drawing.specs.Agreement.{DependsOn}
 use Rattle.krates_drawing.specs.Drawing.{Line, lines, spots}
 use Rattle.krates_drawing.specs.Ends.{EndsStand, HasEnds}
 use Rattle.krates_drawing.specs.Sheet as model
@@ -27,13 +27,14 @@ use Rattle.krates_resolve.specs.declared.selection.EnabledFeature.{EnabledFeatur
 use Rattle.krates_resolve.specs.declared.selection.Selection.{Selection}
 use Rattle.krates_rules.specs.Admission.{IsAdmitted, IdsModel, NoneDoubled}
 use Rattle.krates_rules.specs.Facts.{Id, Fact, Feature}
-use Rattle.krates_rules.specs.Resolved.{HasGraphWith, Resolved, id_of, resolved}
+use Rattle.krates_rules.specs.Resolved.{HasGraphWith, Resolved, StandsAt, id_of, resolved}
 use Rattle.krates_rules.specs.Setting.{SettingModel}
-use Rattle.krates.specs.Build.{AreThosePackages, IsBuilt, KeepsCrate}
+use Rattle.krates.specs.Build.{AreKeptMembers, AreThosePackages, HasOneEach, IsBuilt, IsResolvable, KeepsCrate}
+use Rattle.krates.specs.DirectDependents.{IsDependent}
 use Rattle.krates.specs.Division.{IsAmong, IsDivision, sheet_ids}
-use Rattle.krates.specs.Drawn.{IsSheetFor}
+use Rattle.krates.specs.Drawn.{IsNumbered, IsSheetFor, node_spot}
 use Rattle.krates.specs.Enabled.{AreEnabledSets}
-use Rattle.krates.specs.Kept.{AreNodes, IsEnabledIn, names_in_each}
+use Rattle.krates.specs.Kept.{AreFeatures, AreNodes, IsEnabledIn, names_in_each}
 use Rattle.krates.specs.KeptGraph.{IsGraphOf, named_fact}
 use Rattle.krates.specs.Krate.{krate_ids, krate_packages}
 use Rattle.krates.specs.MadeNodes.{IsMade}
@@ -43,10 +44,12 @@ use Rattle.krates.specs.declared.krate.Krate.{Krate}
 use Rattle.krates.specs.declared.node.Node.{Node}
 use Rattle.krates.proofs.BuildLemmas.{Builds, builds, enabled}
 use Rattle.krates.proofs.MadeLemmas.{AreDrawnNodes, alike, first_alike, mapped_length}
-use Rattle.krates.proofs.Membership.{member_of, contains_of}
+use Rattle.krates_drawing.proofs.Members.{member_of, contains_of, member_map}
+use Rattle.krates.proofs.EnabledLemmas.{stands_at_some}
+use Rattle.krates.proofs.FeaturesDrawn.{HaveCrates, are_features}
 use Rattle.krates.proofs.DivisionLemmas.{ReadsOnce}
 use Rattle.krates.proofs.OrderedIds.{Compares, HasLike, one_order}
-use Rattle.krates.proofs.SelectionFacts.{Selects, kept_among}
+use Rattle.krates.proofs.SelectionFacts.{Selects, feature_kept, kept_among}
 
 -- ---- the sheet
 
@@ -135,12 +138,15 @@ if_graph made made_edge t krates sets features nodes arrows (Err x) d so facts e
 pub counted : {N : Type 0} (krates : List Krate) (nodes : List (Node N)) → crate_ids nodes ≡ krate_ids krates → length krates ≡ length (crate_ids nodes)
 counted krates nodes e = sym (ap (λ (is : List Identity). length is) e ∙ mapped_length krates)
 
-pub are_nodes : {N : Type 0} (krates : List Krate) (nodes : List (Node N)) → crate_ids nodes ≡ krate_ids krates → CratesFirst nodes → IsStrictlySortedBy id_cmp (krate_ids krates) → length krates < 2 ^ 32 → AreNodes nodes
-are_nodes krates nodes e first s few =
+pub are_nodes : {N : Type 0} (krates : List Krate) (nodes : List (Node N)) → crate_ids nodes ≡ krate_ids krates → CratesFirst nodes → IsStrictlySortedBy id_cmp (krate_ids krates) → length krates < 2 ^ 32
+    → AreFeatures nodes → length nodes < 2 ^ 32 → AreNodes nodes
+are_nodes krates nodes e first s few features numbered =
     let same : length krates ≡ length (crate_ids nodes) = counted krates nodes e in
     record {
       ordered = record { ascending = subst (λ ids. IsStrictlySortedBy id_cmp ids) (sym e) s; numbered = subst (λ n. n < 2 ^ 32) same few };
       first = first;
+      features = features;
+      numbered = numbered;
     }
 
 -- ends that stand, said of other lists of the same lengths
@@ -178,19 +184,45 @@ kept_ids o m s t d h ordered b =
     member_of (map id_of ids) i ((b.kept i).0 ((kept_among (metadata_view m) s x sel i).1 k))) in
     one_order o.total ids drawn b.packages.ascending ordered.krates there back ∙ viewed_ids t.krates.items
 
+-- the crates of the features of the sheet are kept
+have_crates : (m : Metadata) (s : SettingModel) (t : Sheet) (d : Division) → IsSheetFor (metadata_view m) s (sheet_view t) → Builds m s d → HaveCrates (krate_ids d.kept.items) t.features.items
+have_crates m s t d h b f member =
+    let x = h.holds.selection in
+    let i = id_of f.feature.krate in
+    let name = text_view f.feature.name in
+    let fact : Fact = Feature i name in
+    let facts = facts_same (resolved (metadata_view m) h.graph) x.features.items (sheet_view t).features h.holds.is_sheet.features in
+    let here = contains_of (map named_fact (sheet_view t).features) fact (member_map named_fact (sheet_view t).features (named_view f) (member_map named_view t.features.items f member)) in
+    let kept = feature_kept (metadata_view m) s x (selects (metadata_view m) s (sheet_view t) h) i name (subst (λ fs. Contains fs fact) (sym facts) here) in
+    stands_at_some (krate_ids d.kept.items) i (member_of (map id_of (krate_ids d.kept.items)) i ((b.kept i).0 kept))
+
+-- the nodes of the graph are in order
+pub graph_nodes : Compares → {N E : Type 0} (made : Package → N → Type 0) (made_edge : Edge → E → Type 0) (m : Metadata) (s : SettingModel) (t : Sheet) (d : Division) (g : StoredGraph (Node N) E)
+    → IsSheetFor (metadata_view m) s (sheet_view t) → IsOrdered t → Builds m s d → IsGraphOf made made_edge (sheet_view t) d.kept.items g → length d.kept.items < 2 ^ 32 → length g.nodes < 2 ^ 32 → AreNodes g.nodes
+graph_nodes o made made_edge m s t d g h ordered b w few numbered =
+    let ids : map id_of (crate_ids g.nodes) ≡ map (λ (k : model.Krate). k.id) (sheet_view t).krates = ap (λ (is : List Identity). map id_of is) w.ids ∙ kept_ids o m s t d h ordered b in
+    let ascending = subst (λ (is : List Identity). IsStrictlySortedBy id_cmp is) (sym w.ids) b.packages.ascending in
+    let have = subst (λ (is : List Identity). HaveCrates is t.features.items) (sym w.ids) (have_crates m s t d h b) in
+    let enabled_by = λ (i : Id) (f : Text).
+    subst (λ (is : List Identity). IsEnabledIn (crate_ids g.nodes) (crate_features g.nodes) i f ↔ (IsAmong is i × Contains (map named_fact (sheet_view t).features) (Feature i f))) (sym w.ids) (w.enabled i f) in
+    are_nodes d.kept.items g.nodes w.ids w.first b.packages.ascending few (are_features o t g.nodes w.drawing.nodes ids ascending have ordered.features enabled_by) numbered
+
 -- the ends of the edges of a sheet stand
 pub sheet_stands : EndsStand → (m : MetadataModel) (s : SettingModel) (t : model.Sheet) → IsSheetFor m s t → All (HasEnds (length (spots t))) (lines t)
 sheet_stands stand m s t h = stand (resolved m h.graph) s h.holds.selection h.holds.selected t h.holds.is_sheet
 
 -- all that a build says of what it keeps and reports
 pub is_built : {F N E : Type 0} (filters : F → Package → F → Type 0) (made : Package → N → Type 0) (made_edge : Edge → E → Type 0) (m : Metadata) (s : SettingModel) (t : Sheet) (d : Division)
-    (g : StoredGraph (Node N) E) (before after : F) (found : Selection) → IsSheetFor (metadata_view m) s (sheet_view t) → Builds m s d → IsGraphOf made made_edge (sheet_view t) d.kept.items g
-    → FoldsTo filters before (krate_packages d.others.items) after → Selects (metadata_view m) s found
-    → IsBuilt filters made made_edge m s before after (record { graph = g; workspace_root = text_view m.workspace_root; work = found.work })
-is_built filters made made_edge m s t d g before after found h b w run selected =
+    (g : StoredGraph (Node N) E) (members : List ℕ) (before after : F) (found : Selection) → IsSheetFor (metadata_view m) s (sheet_view t) → Builds m s d → IsGraphOf made made_edge (sheet_view t) d.kept.items g
+    → FoldsTo filters before (krate_packages d.others.items) after → Selects (metadata_view m) s found → IsResolvable (metadata_view m) → IsNumbered g
+    → AreKeptMembers (metadata_view m) (crate_ids g.nodes) members
+    → ((i : Id) → HasOneEach (metadata_view m) s i → (p q : ℕ) → StandsAt (crate_ids g.nodes) i p → q < length (crate_ids g.nodes) → DependsOn (map node_spot g.nodes) p q ↔ IsDependent g.nodes g.edges q p)
+    → IsBuilt filters made made_edge m s before after (record { graph = g; members = members; workspace_root = text_view m.workspace_root; work = found.work })
+is_built filters made made_edge m s t d g members before after found h b w run selected resolvable numbered listed agree =
     let x = h.holds.selection in
     let facts = facts_same (resolved (metadata_view m) h.graph) x.features.items (sheet_view t).features h.holds.is_sheet.features in
     record {
+      resolvable = resolvable;
       kept = λ i. subst (λ ids. KeepsCrate (metadata_view m) s i ↔ Contains (map id_of ids) i) (sym w.ids) (b.kept i);
       some = b.some;
       none_lost = b.none_lost;
@@ -201,6 +233,9 @@ is_built filters made made_edge m s t d g before after found h b w run selected 
       };
       enabled = enabled m s x d (λ i f. IsEnabledIn (crate_ids g.nodes) (crate_features g.nodes) i f) (map named_fact (sheet_view t).features) (selects (metadata_view m) s (sheet_view t) h) b facts w.enabled;
       drawn = record { sheet = sheet_view t; is_sheet = h; drawing = w.drawing };
+      agree = agree;
+      numbered = numbered;
+      members = listed;
       root = refl;
       work = (found, selected, refl);
       reported = record { ids = krate_ids d.others.items; others = krate_packages d.others.items; not_kept = b.others; run = run };

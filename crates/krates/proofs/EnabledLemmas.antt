@@ -16,7 +16,7 @@ use Rattle.krates.specs.Kept.{IsEnabledIn, names_in_each}
 use Rattle.krates.specs.Krate.{krate_ids}
 use Rattle.krates.specs.Node.{names_in}
 use Rattle.krates.specs.declared.krate.Krate.{Krate}
-use Rattle.krates.proofs.Membership.{Member, member_of, contains_of, member_append, member_left, member_right}
+use Rattle.krates_drawing.proofs.Members.{Member, member_of, contains_of, member_append, member_left, member_right}
 use Rattle.krates.proofs.NamesIn.{GetsName}
 use Rattle.krates.proofs.OrderedIds.{stands_within}
 
@@ -101,12 +101,12 @@ set_beside (y ∷ ids) (k ∷ ls) (suc n) x l name at lt gets i f =
 
 -- ---- a feature is put into the set of its crate
 
-stands_at_some : (ids : List Identity) (i : Id) → Member (map id_of ids) i → (n : ℕ) × StandsAt ids i n
+pub stands_at_some : (ids : List Identity) (i : Id) → Member (map id_of ids) i → (n : ℕ) × StandsAt ids i n
 stands_at_some [] i m = absurd m
 stands_at_some (x ∷ ids) i (inl e) = (zero, record { there = x; at = refl; same = e })
 stands_at_some (x ∷ ids) i (inr m) = let w = stands_at_some ids i m in (suc w.0, record { there = w.1.there; at = w.1.at; same = w.1.same })
 
-listed_at : (ids : List Identity) (n : ℕ) (x : Identity) → slice_get ids n ≡ Some x → Member (map id_of ids) (id_of x)
+pub listed_at : (ids : List Identity) (n : ℕ) (x : Identity) → slice_get ids n ≡ Some x → Member (map id_of ids) (id_of x)
 listed_at [] n x at = absurd cc
 listed_at (y ∷ ids) zero x at = let first : y ≡ x = cc in inl (ap id_of first)
 listed_at (y ∷ ids) (suc n) x at = inr (listed_at ids n x at)

@@ -1,5 +1,5 @@
 -- Two lists that go place by place, the first of which is put in another order: the second can be put in an order that goes with it.
-use Rattle.std.proofs.Common.{◌≡◌, ℕ, zero, suc, ◌<◌, List, [], ◌∷◌, length, get_or, map, IsPermutation, refl, ap, arith}
+use Rattle.std.proofs.Common.{◌≡◌, ℕ, zero, suc, ◌<◌, List, [], ◌∷◌, length, get_or, IsPermutation, refl, ap, arith}
 use Rattle.std.proofs.lemmas.List.Sorted.{IsPermutation-keeps, IsPermutation-refl, length_permutation as length_moved}
 use Rattle.std.specs.List.{AllZip, slice_set, swap}
 
@@ -67,9 +67,3 @@ zip_turned R S [] [] z h = tt
 zip_turned R S [] (u ∷ us) z h = absurd z
 zip_turned R S (x ∷ xs) [] z h = absurd z
 zip_turned R S (x ∷ xs) (u ∷ us) z h = (h x u z.0, zip_turned R S xs us z.1 h)
-
-pub zip_mapped : {A B C D : Type 0} (R : A → B → Type 0) (S : C → D → Type 0) (f : A → C) (g : B → D) (xs : List A) (us : List B) → AllZip R xs us → ((a : A) (b : B) → R a b → S (f a) (g b)) → AllZip S (map f xs) (map g us)
-zip_mapped R S f g [] [] z h = tt
-zip_mapped R S f g [] (u ∷ us) z h = absurd z
-zip_mapped R S f g (x ∷ xs) [] z h = absurd z
-zip_mapped R S f g (x ∷ xs) (u ∷ us) z h = (h x u z.0, zip_mapped R S f g xs us z.1 h)

@@ -28,25 +28,30 @@ as_many_values [] = refl
 as_many_values (Krate id krate features mapping ∷ nodes) = ap suc (as_many_values nodes)
 as_many_values (Feature krate_index name ∷ nodes) = as_many_values nodes
 
+pub as_many_features : {N : Type 0} (nodes : List (Node N)) → length (crate_features nodes) ≡ length (crate_ids nodes)
+as_many_features [] = refl
+as_many_features (Krate id krate features mapping ∷ nodes) = ap suc (as_many_features nodes)
+as_many_features (Feature krate_index name ∷ nodes) = as_many_features nodes
+
 -- ---- a crate's number is its place among the crates
 
 -- the node is a crate of this id
-record IsCrate {N : Type 0} (node : Node N) (id : Identity) (names : List Text) : Type 0 where
-  krate : N
-  features : BTreeSet (String Global)
-  mapping : Vec (Option ℕ)
-  is : node ≡ Krate id krate features mapping
-  named : names_in features ≡ names
+pub record IsCrate {N : Type 0} (node : Node N) (id : Identity) (names : List Text) : Type 0 where
+  pub krate : N
+  pub features : BTreeSet (String Global)
+  pub mapping : Vec (Option ℕ)
+  pub is : node ≡ Krate id krate features mapping
+  pub named : names_in features ≡ names
 
-record CrateAt {N : Type 0} (nodes : List (Node N)) (n : ℕ) (id : Identity) : Type 0 where
-  node : Node N
-  names : List Text
-  at : slice_get nodes n ≡ Some node
-  is : IsCrate node id names
-  enabled : slice_get (crate_features nodes) n ≡ Some names
+pub record CrateAt {N : Type 0} (nodes : List (Node N)) (n : ℕ) (id : Identity) : Type 0 where
+  pub node : Node N
+  pub names : List Text
+  pub at : slice_get nodes n ≡ Some node
+  pub is : IsCrate node id names
+  pub enabled : slice_get (crate_features nodes) n ≡ Some names
 
 -- what stands at a place of the crates stands at the same number
-crate_at : {N : Type 0} (nodes : List (Node N)) (n : ℕ) (id : Identity) → CratesFirst nodes → slice_get (crate_ids nodes) n ≡ Some id → CrateAt nodes n id
+pub crate_at : {N : Type 0} (nodes : List (Node N)) (n : ℕ) (id : Identity) → CratesFirst nodes → slice_get (crate_ids nodes) n ≡ Some id → CrateAt nodes n id
 crate_at [] n id first at = absurd cc
 crate_at (Krate i krate features mapping ∷ nodes) zero id first at = record {
   node = Krate i krate features mapping;
@@ -81,6 +86,28 @@ place_at (Krate i k f m ∷ nodes) zero id krate features mapping first at = (
 place_at (Krate i k f m ∷ nodes) (suc n) id krate features mapping first at = place_at nodes n id krate features mapping first at
 place_at (Feature krate_index name ∷ nodes) zero id krate features mapping first at = absurd cc
 place_at (Feature krate_index name ∷ nodes) (suc n) id krate features mapping first at = absurd (no_crate nodes n id krate features mapping first at)
+
+-- and so does what stands for its package
+pub value_at : {N : Type 0} (nodes : List (Node N)) (n : ℕ) (id : Identity) (krate : N) (features : BTreeSet (String Global)) (mapping : Vec (Option ℕ))
+    → CratesFirst nodes → slice_get nodes n ≡ Some (Krate id krate features mapping) → slice_get (crate_values nodes) n ≡ Some krate
+value_at [] n id krate features mapping first at = absurd cc
+value_at {N} (Krate i k f m ∷ nodes) zero id krate features mapping first at = let same : k ≡ krate = cc in ap (λ (x : N). Some x) same
+value_at (Krate i k f m ∷ nodes) (suc n) id krate features mapping first at = value_at nodes n id krate features mapping first at
+value_at (Feature krate_index name ∷ nodes) zero id krate features mapping first at = absurd cc
+value_at (Feature krate_index name ∷ nodes) (suc n) id krate features mapping first at = absurd (no_crate nodes n id krate features mapping first at)
+
+-- no more crates than nodes
+pub crates_within : {N : Type 0} (nodes : List (Node N)) → length (crate_ids nodes) ≤ length nodes
+crates_within [] = omega arith
+crates_within (Krate id krate features mapping ∷ nodes) = let more = crates_within nodes in omega (arith, more)
+crates_within (Feature krate_index name ∷ nodes) = let more = crates_within nodes in omega (arith, more)
+
+-- the number of a crate is that of a node
+pub stands_among : {N : Type 0} (nodes : List (Node N)) (id : Id) (n : ℕ) → StandsAt (crate_ids nodes) id n → n < length nodes
+stands_among nodes id n h =
+    let within = stands_within (crate_ids nodes) id n h in
+    let few = crates_within nodes in
+    omega (arith, within, few)
 
 no_features : {N : Type 0} (nodes : List (Node N)) → crate_ids nodes ≡ [] → crate_features nodes ≡ []
 no_features [] none = refl
@@ -128,7 +155,7 @@ earlier o i j kid less =
     rises 0 1 i (omega arith) (omega arith)
 
 -- no earlier node stands behind a later one
-abbrev Rises : {X : Type 0} → (X → ℕ) → List X → Type 0
+abbrev pub Rises : {X : Type 0} → (X → ℕ) → List X → Type 0
 Rises f [] = ⊤
 Rises f (x ∷ xs) = AllByRecursion (λ y. f x ≤ f y) xs × Rises f xs
 
@@ -137,7 +164,7 @@ later_at f low [] j d h lt = absurd (omega (arith, lt))
 later_at f low (x ∷ xs) zero d h lt = h.0
 later_at f low (x ∷ xs) (suc j) d h lt = later_at f low xs j d h.1 (omega (arith, lt))
 
-rising : {X : Type 0} (f : X → ℕ) (xs : List X) → Rises f xs → IsNonDecreasingBy f xs
+pub rising : {X : Type 0} (f : X → ℕ) (xs : List X) → Rises f xs → IsNonDecreasingBy f xs
 rising f [] h i j d le lt = absurd (omega (arith, lt))
 rising f (x ∷ xs) h zero zero d le lt = omega arith
 rising f (x ∷ xs) h zero (suc j) d le lt = later_at f (f x) xs j d h.0 (omega (arith, lt))
@@ -155,7 +182,7 @@ no_later [] kid none = tt
 no_later (Krate id k f m ∷ nodes) kid none = absurd cc
 no_later (Feature krate_index name ∷ nodes) kid none = (omega arith, no_later nodes kid none)
 
-none_first : {N : Type 0} (nodes : List (Node N)) → crate_ids nodes ≡ [] → CratesFirst nodes
+pub none_first : {N : Type 0} (nodes : List (Node N)) → crate_ids nodes ≡ [] → CratesFirst nodes
 none_first [] none = tt
 none_first (Krate id k f m ∷ nodes) none = absurd cc
 none_first (Feature krate_index name ∷ nodes) none = none

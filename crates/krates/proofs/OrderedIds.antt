@@ -18,7 +18,7 @@ use Rattle.krates_rules.specs.Resolved.{id_of, StandsAt}
 use Rattle.krates.specs.Division.{has_same, IsAmong}
 use Rattle.krates.specs.Krate.{krate_ids}
 use Rattle.krates.specs.declared.krate.Krate.{Krate}
-use Rattle.krates.proofs.Membership.{Member, member_of, contains_of}
+use Rattle.krates_drawing.proofs.Members.{Member, member_of, contains_of}
 
 -- the order of ids is total, and tells which are the same
 pub record Compares : Type 0 where

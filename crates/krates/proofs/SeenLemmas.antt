@@ -14,8 +14,10 @@ use Rattle.krates_ids.specs.declared.error.Error.{Error}
 use Rattle.krates_ids.specs.declared.error.Error.TheVariants as errors
 use Rattle.krates_rules.specs.Setting.{SettingModel}
 use Rattle.krates.specs.Build.{IsResolvable, IsBuilt, GraphRefusal, BuildRefusal}
+use Rattle.krates.specs.BuildLaws.{IsSeenBy}
 use Rattle.krates.specs.Kept.{KeptCrates}
-use Rattle.krates.specs.Indexed.{Answering, IsCorrectedPackage, IsCorrectedDocument, IsSeen, Sees}
+use Rattle.krates_document.specs.CorrectedDocument.{IsCorrectedPackage, IsCorrectedDocument}
+use Rattle.krates.specs.Indexed.{Answering, IsSeen, Sees}
 
 -- the texts of the ids are those that they were
 same_texts : (answer : IndexAnswer) (xs ys : List Package) → AllZip (IsCorrectedPackage answer) xs ys
@@ -57,6 +59,11 @@ pub admitted_seen : {S : Type 0} (may_answer : Answering S) (index : Option S) (
     → IsAdmitted (metadata_view given) ids → IsAdmitted (metadata_view seen) ids
 admitted_seen may_answer None given seen ids is_seen a = subst (λ (m : Metadata). IsAdmitted (metadata_view m) ids) (sym is_seen) a
 admitted_seen may_answer (Some source) given seen ids is_seen a = admitted_corrected is_seen.answer given seen ids is_seen.corrected a
+
+-- so what is looked at of a document that can be resolved can be resolved
+pub resolvable_seen : (answer : Option IndexAnswer) (given seen : Metadata) → IsSeenBy answer given seen → IsResolvable (metadata_view given) → IsResolvable (metadata_view seen)
+resolvable_seen None given seen is_seen r = subst (λ (m : Metadata). IsResolvable (metadata_view m)) (sym is_seen) r
+resolvable_seen (Some answer) given seen is_seen r = record { ids = r.ids; admitted = admitted_corrected answer given seen r.ids is_seen r.admitted }
 
 -- ---- what is said of the document that is looked at
 

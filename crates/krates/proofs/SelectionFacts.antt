@@ -14,7 +14,7 @@ use Rattle.krates_resolve.specs.declared.selection.ToggledFeature.{ToggledFeatur
 use Rattle.krates_rules.specs.Setting.{SettingModel}
 use Rattle.krates.specs.Build.{IsDerived, KeepsCrate, IsLost}
 use Rattle.krates.specs.Division.{IsAmong}
-use Rattle.krates.proofs.Membership.{Member, member_of, contains_of, mapped_of, member_map, member_append, member_left, member_right}
+use Rattle.krates_drawing.proofs.Members.{Member, member_of, contains_of, mapped_of, member_map, member_append, member_left, member_right}
 
 -- ---- the facts of a selection
 
@@ -118,6 +118,12 @@ enabled_among m s x h i f = (
       )),
   λ both. derived_of m s h.graph (Feature i f) h.has_graph ((h.holds.facts (Feature i f)).1 (among_features x i f both.1)),
 )
+
+-- the crate of such a feature has to be kept
+pub feature_kept : (m : MetadataModel) (s : SettingModel) (x : Selection) → Selects m s x → (i : Id) (f : Text) → Contains (map feature_fact x.features.items) (Feature i f) → KeepsCrate m s i
+feature_kept m s x h i f c =
+    let derived = derived_of m s h.graph (Feature i f) h.has_graph ((h.holds.facts (Feature i f)).1 (among_features x i f c)) in
+    ((enabled_among m s x h i f).0 derived).0
 
 pub none_lost : (m : MetadataModel) (s : SettingModel) (x : Selection) → Selects m s x → (c : Cause) → IsLost m s c → ⊥
 none_lost m s x h c l = no_lost_among x c ((h.holds.facts (Lost c)).0 (derived_at m s h.graph (Lost c) h.has_graph l))

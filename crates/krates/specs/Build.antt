@@ -1,12 +1,15 @@
 -- What a build keeps of a document, what it reports, and why it is refused.
 --
 -- Which crates are kept is said by derivations alone: by what the document and the setting answer to the rules.
-use Rattle.std.specs.Prelude.{ℕ, ◌≢◌, ◌≡◌, ◌↔◌, ◌≤◌, ◌^◌, List, Option, map, All, AllPairs, Contains, length, ⊤}
+use Rattle.std.specs.Prelude.{ℕ, ◌≡◌, ◌⊎◌, ◌↔◌, ◌≤◌, ◌<◌, ◌^◌, List, Option, map, Contains, length, ⊤}
 use Rattle.std.specs.List.{AllZip, FoldsTo}
-use Rattle.std.specs.List.Sorted.{IsStrictlySortedBy}
+use Rattle.std.specs.List.Sorted.{IsStrictlyIncreasing, IsStrictlySortedBy}
 use Rattle.krates_cm.specs.Document.{MetadataModel, Text, id_view, metadata_view, text_view}
 use Rattle.krates_cm.specs.declared.metadata.Metadata.{Metadata}
 use Rattle.krates_cm.specs.declared.package.Package.{Package}
+use Rattle.krates_drawing.specs.Agreement.{DependsOn, OneEach}
+use Rattle.krates_drawing.specs.Drawing.{lines, spots}
+use Rattle.krates_drawing.specs.Sheet.{Sheet}
 use Rattle.krates_drawing.specs.declared.edge.Edge.{Edge}
 use Rattle.krates_ids.specs.Identity.{Identity, Reads, id_cmp}
 use Rattle.krates_ids.specs.declared.error.Error.{Error}
@@ -16,14 +19,15 @@ use Rattle.krates_rules.specs.AdmissionRefusals.{AdmissionRefusal}
 use Rattle.krates_rules.specs.Derivation.{Derivable}
 use Rattle.krates_rules.specs.Facts.{Id, Cause, Fact, Crate, Feature, Lost}
 use Rattle.krates_rules.specs.Questions.{questions}
-use Rattle.krates_rules.specs.Resolved.{HasGraphWith, ReadsAs, id_of, resolved}
+use Rattle.krates_rules.specs.Resolved.{HasGraphWith, IsMember, ReadsAs, Resolved, StandsAt, id_of, resolved}
 use Rattle.krates_rules.specs.Rules.{Questions}
 use Rattle.krates_rules.specs.SelectionRefusals.{SelectionRefusal}
 use Rattle.krates_rules.specs.Setting.{SettingModel}
 use Rattle.krates_resolve.specs.Selection.{IsSelectionOf}
 use Rattle.krates_resolve.specs.declared.selection.Selection.{Selection}
 use Rattle.krates.specs.Indexed.{Answering, Sees}
-use Rattle.krates.specs.Drawn.{IsDrawn}
+use Rattle.krates.specs.DirectDependents.{IsDependent}
+use Rattle.krates.specs.Drawn.{HasSheet, IsDrawn, IsNumbered, node_spot}
 use Rattle.krates.specs.Kept.{KeptCrates, HasEnabled, ids_of, values_of}
 
 -- ---- the document
@@ -82,8 +86,36 @@ pub record AreMadeOfThose {N : Type 0} (made : Package → N → Type 0) (all : 
   pub those : AreThosePackages all P ids packages
   pub made_of : AllZip made packages values
 
+-- ---- the members of the workspace
+
+-- the workspace has a member with the id
+abbrev pub HasMember : MetadataModel → Id → Type 0
+HasMember m i = HasGraphWith m (λ g. IsMember (resolved m g) i)
+
+-- the kept crate of this number is a member
+pub record IsMemberAt (m : MetadataModel) (ids : List Identity) (n : ℕ) : Type 0 where
+  pub member : Id
+  pub listed : HasMember m member
+  pub kept : StandsAt ids member n
+
+-- the numbers of exactly the kept members, ascending, so each once, also where the document lists one twice
+pub record AreKeptMembers (m : MetadataModel) (ids : List Identity) (numbers : List ℕ) : Type 0 where
+  pub ascending : IsStrictlyIncreasing numbers
+  pub exactly : (n : ℕ) → Contains numbers n ↔ IsMemberAt m ids n
+
+-- ---- direct dependencies and dependents
+
+-- no two crates have kept edges of this one with one declared dependency
+abbrev pub HasOneEach : MetadataModel → SettingModel → Id → Type 0
+HasOneEach m s i = HasGraphWith m (λ g. OneEach (resolved m g) s i)
+
+-- number d is among the direct dependencies of p exactly if p is among the direct dependents of d
+abbrev pub AgreeDirectly : {N E : Type 0} → KeptCrates N E → ℕ → ℕ → Type 0
+AgreeDirectly k p d = DependsOn (map node_spot k.graph.nodes) p d ↔ IsDependent k.graph.nodes k.graph.edges d p
+
 -- All that is true of what a build keeps of a document, and of what it reports.
 pub record IsBuilt {F N E : Type 0} (filters : F → Package → F → Type 0) (made : Package → N → Type 0) (made_edge : Edge → E → Type 0) (m : Metadata) (s : SettingModel) (before after : F) (k : KeptCrates N E) : Type 0 where
+  pub resolvable : IsResolvable (metadata_view m)
   -- the crates with a derivation are kept, and no others
   pub kept : (i : Id) → KeepsCrate (metadata_view m) s i ↔ Contains (map id_of (ids_of k)) i
   pub some : (i : Id) × KeepsCrate (metadata_view m) s i
@@ -93,6 +125,12 @@ pub record IsBuilt {F N E : Type 0} (filters : F → Package → F → Type 0) (
   pub enabled : (i : Id) (f : Text) → IsDerived (metadata_view m) s (Feature i f) ↔ HasEnabled k i f
   -- the graph is the drawing of what is kept, number by number
   pub drawn : IsDrawn made_edge (metadata_view m) s k.graph
+  -- where no two crates come by one declared dependency of a crate, it depends on exactly those that have it as a dependent
+  pub agree : (i : Id) → HasOneEach (metadata_view m) s i → (p d : ℕ) → StandsAt (ids_of k) i p → d < length (ids_of k) → AgreeDirectly k p d
+  -- the kept members of the workspace
+  pub members : AreKeptMembers (metadata_view m) (ids_of k) k.members
+  -- each node and each edge has a number
+  pub numbered : IsNumbered k.graph
   pub root : k.workspace_root ≡ text_view m.workspace_root
   -- the work is that of the document's selection, in which each crate, each feature and each reference is counted once
   pub work : (x : Selection) × IsSelectionOf (metadata_view m) s x × (k.work ≡ x.work)
@@ -100,19 +138,19 @@ pub record IsBuilt {F N E : Type 0} (filters : F → Package → F → Type 0) (
 
 -- ---- refusals
 
--- nothing is lost, and more crates would be kept than can be numbered
-pub record HasTooMany (q : Questions) : Type 0 where
-  pub none_lost : (c : Cause) → Derivable q (Lost c) → ⊥
-  pub ids : List Id
-  pub distinct : AllPairs (λ a b. a ≢ b) ids
-  pub kept : All (λ i. Derivable q (Crate i)) ids
-  pub many : 2 ^ 32 ≤ length ids
+-- nothing is lost and some crate is kept, and more nodes or more edges are drawn than can be numbered
+pub record HasTooMany (r : Resolved) (s : SettingModel) : Type 0 where
+  pub none_lost : (c : Cause) → Derivable (questions r s) (Lost c) → ⊥
+  pub some : (i : Id) × Derivable (questions r s) (Crate i)
+  pub sheet : Sheet
+  pub is_sheet : HasSheet r s sheet
+  pub many : (2 ^ 32 ≤ length (spots sheet)) ⊎ (2 ^ 32 ≤ length (lines sheet))
 
 -- why nothing is built of a document that can be resolved; memory may always run out
 abbrev pub GraphRefusal : MetadataModel → SettingModel → Error → Type 0
 GraphRefusal m s (errors.Lost what) = Answers m s (λ q. SelectionRefusal q (errors.Lost what))
 GraphRefusal m s errors.NoRootKrates = Answers m s (λ q. SelectionRefusal q errors.NoRootKrates)
-GraphRefusal m s errors.TooMany = Answers m s HasTooMany
+GraphRefusal m s errors.TooMany = HasGraphWith m (λ g. HasTooMany (resolved m g) s)
 GraphRefusal m s errors.Memory = ⊤
 GraphRefusal m s _ = ⊥
 
@@ -142,8 +180,3 @@ IsRefusedSeeing m p s _ = ⊥
 -- the same without an index, where the document is looked at as it is given
 abbrev pub BuildRefusalAsGiven : Metadata → SettingModel → Error → Type 0
 BuildRefusalAsGiven m s e = IsRefusedSeeing m m s e
-
--- there are more kept crates than can be numbered
-abbrev pub CountRefusal : ℕ → Error → Type 0
-CountRefusal n errors.TooMany = 2 ^ 32 ≤ n
-CountRefusal n _ = ⊥

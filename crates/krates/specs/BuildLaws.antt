@@ -4,6 +4,9 @@ use Rattle.std.specs.List.{AllZip}
 use Rattle.krates_cm.specs.Document.{metadata_view, package_view}
 use Rattle.krates_cm.specs.declared.metadata.Metadata.{Metadata}
 use Rattle.krates_cm.specs.declared.package.Package.{Package}
+use Rattle.krates_drawing.specs.Alike.{DrawAlike}
+use Rattle.krates_drawing.specs.Narrower.{DrawsNoMore}
+use Rattle.krates_drawing.specs.Sheet.{Sheet}
 use Rattle.krates_ids.specs.Identity.{Identity}
 use Rattle.krates_ids.specs.declared.error.Error.{Error}
 use Rattle.krates_ids.specs.declared.error.Error.TheVariants.{NoRootKrates, Memory}
@@ -15,7 +18,9 @@ use Rattle.krates_rules.specs.Reordering.{Reorders, ReordersPackage, ResolveAlik
 use Rattle.krates_rules.specs.Resolved.{id_of}
 use Rattle.krates_rules.specs.Setting.{SettingModel}
 use Rattle.krates.specs.Build.{IsResolvable, IsDerived, KeepsCrate, DropsCrate, IsLost, AreThosePackages, IsRefusedSeeing}
-use Rattle.krates.specs.Indexed.{HasNames, IsCorrectedDocument}
+use Rattle.krates_document.specs.CorrectedDocument.{IsCorrectedDocument}
+use Rattle.krates.specs.Drawn.{CanBeNumbered, IsSheetFor}
+use Rattle.krates.specs.Indexed.{HasNames}
 use Rattle.krates.specs.Kept.{AreOrdered}
 
 -- the document that is looked at: with an answer of an index that whose packages are corrected by it, and else the given one
@@ -45,6 +50,10 @@ pub record BuildAlike (m n p q : Metadata) (s : SettingModel) : Type 0 where
   -- the ids are equal place by place, so kept crates have the same numbers
   pub kept : ListAlike p q (KeepsCrate (metadata_view p) s) (KeepsCrate (metadata_view q) s)
   pub reported : ListAlike p q (DropsCrate (metadata_view p) s) (DropsCrate (metadata_view q) s)
+  -- the same graph is drawn of both: the nodes with their mappings and the edges are equal, number by number
+  pub drawn : IsResolvable (metadata_view m) → (t v : Sheet) → IsSheetFor (metadata_view p) s t → IsSheetFor (metadata_view q) s v → DrawAlike t v
+  -- and what is drawn of the one may be drawn of the other
+  pub sheets : IsResolvable (metadata_view m) → (t : Sheet) → IsSheetFor (metadata_view p) s t ↔ IsSheetFor (metadata_view q) s t
   pub refused : (e : Error) → IsRefusedSeeing m p s e ↔ IsRefusedSeeing n q s e
 
 -- What is looked at of two documents differs in order alone, so it resolves alike and builds alike.
@@ -60,22 +69,45 @@ IsBuildOrderFree = (answer : Option IndexAnswer) (m n p q : Metadata) → Reorde
 
 -- ---- settings that keep less
 
--- A build of the document m, which looks at p, succeeds: m can be resolved, nothing is lost, and the crates that have to
--- be kept are numbered by their places among these ids. A build promises this of the crates that it keeps.
+-- A build of the document m, which looks at p, succeeds: both can be resolved, nothing is lost, the crates that have to be
+-- kept are numbered by their places among these ids, and what is drawn can be numbered. A build promises this of the crates
+-- that it keeps.
 pub record Succeeds (m p : Metadata) (s : SettingModel) (ids : List Identity) : Type 0 where
   pub resolvable : IsResolvable (metadata_view m)
+  pub seen : IsResolvable (metadata_view p)
   pub none_lost : (c : Cause) → IsLost (metadata_view p) s c → ⊥
   pub kept : (i : Id) → KeepsCrate (metadata_view p) s i ↔ Contains (map id_of ids) i
   pub ordered : AreOrdered ids
+  pub sheet : Sheet
+  pub is_sheet : IsSheetFor (metadata_view p) s sheet
+  pub numbered : CanBeNumbered sheet
 
--- The narrower setting keeps a part of what the wider one does.
-pub record KeepsPart (m p : Metadata) (wide narrow : SettingModel) : Type 0 where
+-- the same package is listed, but for the order of its features
+pub record ListsSame (listed : List Package) (pkg : Package) : Type 0 where
+  pub other : Package
+  pub among : Contains listed other
+  pub same : IsSamePackage pkg other
+
+-- The narrower setting keeps of q a part of what the wider one keeps of p: both are what is looked at of the document m.
+pub record KeepsPart (m p q : Metadata) (wide narrow : SettingModel) : Type 0 where
   -- each fact with a derivation under the narrower has one under the wider, those of what is lost included
-  pub facts : (f : Fact) → IsDerived (metadata_view p) narrow f → IsDerived (metadata_view p) wide f
+  pub facts : (f : Fact) → IsDerived (metadata_view q) narrow f → IsDerived (metadata_view p) wide f
+  -- so each package that the narrower keeps is one that the wider keeps
+  pub packages : (is js : List Identity) (xs ys : List Package) → AreThosePackages q.packages.items (KeepsCrate (metadata_view q) narrow) is xs
+      → AreThosePackages p.packages.items (KeepsCrate (metadata_view p) wide) js ys → (pkg : Package) → Contains xs pkg → ListsSame ys pkg
+  -- the crates, the edges and the features that are drawn are a part, and no more nodes and edges are
+  pub drawn : IsResolvable (metadata_view m) → (t v : Sheet) → IsSheetFor (metadata_view q) narrow t → IsSheetFor (metadata_view p) wide v → DrawsNoMore t v
   -- where the wider build succeeds, the narrower is refused only since no crate is left, or out of memory
-  pub refusals : (ids : List Identity) → Succeeds m p wide ids → (e : Error) → IsRefusedSeeing m p narrow e
+  pub refusals : (ids : List Identity) → Succeeds m p wide ids → (e : Error) → IsRefusedSeeing m q narrow e
       → (e ≡ NoRootKrates) ⊎ (e ≡ Memory)
 
--- a build under a narrower setting keeps a part, whatever document p the two builds look at
+-- a build under a narrower setting keeps a part, without an index or with one answer of it for both builds
 abbrev pub IsBuildNarrowing : Type 0
-IsBuildNarrowing = (m p : Metadata) (wide narrow : SettingModel) → IsNarrower wide narrow → KeepsPart m p wide narrow
+IsBuildNarrowing = (answer : Option IndexAnswer) (m p q : Metadata) (wide narrow : SettingModel) → IsNarrower wide narrow
+    → IsSeenBy answer m p → IsSeenBy answer m q → KeepsPart m p q wide narrow
+
+-- of one document that is looked at, each package that the narrower setting keeps is kept by the wider one
+abbrev pub KeepsPackages : Type 0
+KeepsPackages = (p : Metadata) (wide narrow : SettingModel) → IsNarrower wide narrow → (is js : List Identity) (xs ys : List Package)
+    → AreThosePackages p.packages.items (KeepsCrate (metadata_view p) narrow) is xs
+    → AreThosePackages p.packages.items (KeepsCrate (metadata_view p) wide) js ys → (pkg : Package) → Contains xs pkg → Contains ys pkg

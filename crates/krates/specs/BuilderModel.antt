@@ -22,7 +22,7 @@ with_setting b s = record b { setting = s }
 
 -- ---- the setters
 
--- these purposes of dependencies are ignored
+-- these kinds of dependencies are ignored
 abbrev pub ignoring : {S : Type 0} → BuilderModel S → IgnoredKinds → BuilderModel S
 ignoring b kinds = with_setting b (record (b.setting) { ignored = kinds })
 

@@ -1,28 +1,18 @@
 -- The document that a build looks at: the one that it is given, or that with each package corrected by what an index answers.
 use Rattle.std.specs.Prelude.{◌≡◌, List, Option, Some, None, ⊤}
 use Rattle.std.specs.BTreeSet.{contains_text}
-use Rattle.std.specs.List.{AllZip, list_any}
+use Rattle.std.specs.List.{list_any}
 use Rattle.std.specs.Str.{bytes_eq}
-use Rattle.krates_cm.specs.Document.{Text, text_view, package_view}
+use Rattle.krates_cm.specs.Document.{Text, text_view}
 use Rattle.krates_cm.specs.declared.metadata.Metadata.{Metadata}
 use Rattle.krates_cm.specs.declared.package.Package.{Package}
-use Rattle.krates_ids.specs.Correction.{IsCorrected, index_view}
 use Rattle.krates_ids.specs.declared.index.IndexAnswer.{IndexAnswer}
 use Rattle.krates_ids.specs.declared.index.PackageNames.{PackageNames}
+use Rattle.krates_document.specs.CorrectedDocument.{IsCorrectedDocument}
 
 -- the set has the name of each package, and no other
 abbrev pub HasNames : List Package → PackageNames → Type 0
 HasNames packages s = (t : Text) → contains_text s.names t ≡ list_any (λ p. bytes_eq (text_view p.name) t) packages
-
--- the package is corrected by this answer, and nothing of it but its features is changed
-pub record IsCorrectedPackage (answer : IndexAnswer) (before after : Package) : Type 0 where
-  pub corrected : IsCorrected (index_view answer) (package_view before) (package_view after)
-  pub nothing_else : after ≡ record before { features = after.features }
-
--- each package is corrected by this answer, and nothing else of the document is changed
-pub record IsCorrectedDocument (answer : IndexAnswer) (before after : Metadata) : Type 0 where
-  pub packages : AllZip (IsCorrectedPackage answer) before.packages.items after.packages.items
-  pub nothing_else : after ≡ record before { packages = after.packages }
 
 -- Whether an index may be asked about a document: for a set of exactly the names of its packages. Without one nothing is asked.
 abbrev pub IsAskable : {S : Type 0} → (S → PackageNames → Type 0) → Option S → Metadata → Type 0

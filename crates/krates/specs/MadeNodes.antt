@@ -1,5 +1,5 @@
 -- How nodes are made of what was drawn and of packages.
-use Rattle.std.specs.Prelude.{◌≡◌, ℕ, List, [], ◌∷◌, ◌++◌, Option, String, flat_map, map}
+use Rattle.std.specs.Prelude.{◌≡◌, ◌<◌, ℕ, List, [], ◌∷◌, ◌++◌, Option, String, flat_map, map, ⊤}
 use Rattle.std.specs.BTreeSet.{BTreeSet}
 use Rattle.std.specs.Global.{Vec}
 use Rattle.std.specs.List.{zip}
@@ -7,6 +7,8 @@ use Rattle.std.specs.declared.alloc.Global.{Global}
 use Rattle.krates_cm.specs.declared.package.Package.{Package}
 use Rattle.krates_drawing.specs.declared.nodes.Spot.{Spot}
 use Rattle.krates_drawing.specs.declared.nodes.Spot.TheVariants as drawn
+use Rattle.krates_ids.specs.declared.error.Error.{Error}
+use Rattle.krates_ids.specs.declared.error.Error.TheVariants as errors
 use Rattle.krates.specs.declared.krate.Krate.{Krate}
 use Rattle.krates.specs.declared.node.Node.{Node}
 use Rattle.krates.specs.declared.node.Node.TheVariants as node
@@ -48,3 +50,9 @@ abbrev pub IsMade : {N : Type 0} → (Package → N → Type 0) → Node Package
 IsMade made (node.Krate id pkg features mapping) (node.Krate i krate fs m) = (i ≡ id) × (fs ≡ features) × (m ≡ mapping) × made pkg krate
 IsMade made (node.Feature krate_index name) (node.Feature k n) = (k ≡ krate_index) × (n ≡ name)
 IsMade made _ _ = ⊥
+
+-- why nodes aren't added: there are more than there may be, or memory runs out
+abbrev pub CountRefusal : ℕ → ℕ → Error → Type 0
+CountRefusal limit count errors.TooMany = limit < count
+CountRefusal limit count errors.Memory = ⊤
+CountRefusal limit count _ = ⊥

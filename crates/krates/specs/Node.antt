@@ -1,5 +1,5 @@
 -- The nodes of the graph: what they hold, and how they are printed.
-use Rattle.std.specs.Prelude.{◌≡◌, ℕ, ◌++◌, List, [], ◌∷◌, Option, Some, String, codes, map, option_map, ⊤}
+use Rattle.std.specs.Prelude.{◌≡◌, ℕ, ◌++◌, List, [], ◌∷◌, Option, Some, String, codes, map, option_map, slice_get, ⊤}
 use Rattle.std.specs.BTreeSet.{BTreeSet}
 use Rattle.std.specs.declared.alloc.Global.{Global}
 use Rattle.krates_cm.specs.Document.{Text, text_view}
@@ -43,3 +43,22 @@ abbrev pub CratesFirst : {N : Type 0} → List (Node N) → Type 0
 CratesFirst [] = ⊤
 CratesFirst (Krate id krate features mapping ∷ nodes) = CratesFirst nodes
 CratesFirst (Feature krate_index name ∷ nodes) = crate_ids nodes ≡ []
+
+-- ---- the features among the nodes
+
+-- the number of the crate and the name of each
+abbrev pub feature_names : {N : Type 0} → List (Node N) → List (ℕ × Text)
+feature_names [] = []
+feature_names (Krate id krate features mapping ∷ nodes) = feature_names nodes
+feature_names (Feature krate_index name ∷ nodes) = (krate_index, text_view name) ∷ feature_names nodes
+
+-- the node is that of the feature of this name of the crate of this number
+abbrev pub IsFeature : {N : Type 0} → ℕ → Text → Node N → Type 0
+IsFeature number name (Krate id krate features mapping) = ⊥
+IsFeature number name (Feature krate_index text) = (krate_index ≡ number) × (text_view text ≡ name)
+
+-- such a node stands at n
+pub record IsFeatureAt {N : Type 0} (nodes : List (Node N)) (n number : ℕ) (name : Text) : Type 0 where
+  pub node : Node N
+  pub at : slice_get nodes n ≡ Some node
+  pub is : IsFeature number name node

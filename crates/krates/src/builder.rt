@@ -1,6 +1,6 @@
 //! The build: from a document to the crates that are kept of it.
 
-ghost use Rattle.std.specs.Prelude.{◌≡◌, ◌↔◌, ◌<◌, ◌^◌, Contains, None, MatchOption, IfOk, IfErr, OnOk, OnErr, length};
+ghost use Rattle.std.specs.Prelude.{◌≡◌, ◌↔◌, Contains, None, MatchOption, IfOk, IfErr, OnOk, OnErr};
 ghost use Rattle.std.specs.Bool.{MatchBool};
 ghost use Rattle.std.specs.Borrow.{sem};
 ghost use Rattle.krates_cm.specs.Document.{metadata_view};
@@ -8,7 +8,7 @@ ghost use Rattle.krates_rules.specs.Admission.{IsAdmitted};
 ghost use Rattle.krates_document.specs.Ids.{ids_view};
 ghost use Rattle.krates_rules.specs.Kind.{IgnoresMore};
 ghost use Rattle.krates_rules.specs.PlainSetting.{plain_setting};
-ghost use Rattle.krates.specs.Build.{IsResolvable, IsBuilt, GraphRefusal, BuildRefusal, CountRefusal};
+ghost use Rattle.krates.specs.Build.{IsResolvable, IsBuilt, GraphRefusal, BuildRefusal};
 ghost use Rattle.krates.specs.Builder.{RestsUnchanged};
 ghost use Rattle.krates.specs.BuilderModel.{AsksForCrates, at_targets, excluding, ignoring, with_setting};
 ghost use Rattle.krates.specs.Indexed.{IsAskable, Sees};
@@ -19,9 +19,10 @@ use crate::filter::{OnFilter, report};
 use crate::from_package::FromPackage;
 use crate::indexed::{IndexSource, seen_through};
 use crate::kept::Krates;
-use crate::krate::Krate;
+use crate::members::members_of;
 use krates_cm::Metadata;
 use krates_drawing::laws as drawing_laws;
+use krates_drawing::limits::Limits;
 use krates_drawing::store::FromEdge;
 use krates_ids::{BuildIndexCache, Error, PkgSpec, laws};
 use krates_resolve::{DepKind, Ids, Scope, Setting, admit, select};
@@ -31,10 +32,15 @@ use std::marker::Model;
 
 /// Builds the graph of crates of a document under a setting.
 ///
-/// The setters may be called in any order and again: what is ignored, excluded or included is added to what is so already.
-/// Those that append to a list want memory, and after a refusal they leave the builder as it was.
+/// The setters may be called in any order and again: what is ignored, excluded or included is added to what is so
+/// already. Each returns the builder, so that calls chain. Those that append to a list can run out of memory, and
+/// then leave the builder as it was.
 ///
-/// A chain of calls looks so: `builder.exclude(specs)?.workspace(true).include_targets(targets)?`.
+/// ```text
+/// let mut builder = Builder::new(alloc);
+/// builder.exclude(specs)?.workspace(true).include_targets(targets)?;
+/// let krates: Krates = builder.build_with_metadata(metadata, &mut NoneFilter)?;
+/// ```
 ///
 /// The parameter is where packages are looked up, an `IndexSource`. No setter but that of the index depends on it.
 #[derive(Drop)]
@@ -53,7 +59,13 @@ impl<S: Drop> Model for Builder<S> {
 }
 
 impl<S: Drop + 'static> Builder<S> {
-    /// Ignores the dependencies for this purpose of the crates of the scope, beside those that are ignored already.
+    /// Ignores this kind of dependency, beside those that are ignored already: where a member of the workspace has
+    /// it, where another crate has it, or wherever, as the scope says. Never refused. Time O(1).
+    ///
+    /// ```text
+    /// // what is shipped: the workspace without its tests, and all that it needs
+    /// builder.ignore_kind(DepKind::Dev, Scope::All);
+    /// ```
     pub fn ignore_kind(&mut self, kind: DepKind, scope: Scope) -> &mut Self
         ensures ignored { IgnoresMore self.old.setting.ignored result.now.setting.ignored kind scope }
         ensures rest { result.now ≡ ignoring self.old result.now.setting.ignored }
@@ -63,7 +75,12 @@ impl<S: Drop + 'static> Builder<S> {
         self
     }
 
-    /// Whether every member of the workspace is a root, also where the graph has a root of its own.
+    /// Whether every member of the workspace is a root, also where the graph has a root of its own; the last call
+    /// counts. It changes nothing where manifests are asked for. Never refused. Time O(1).
+    ///
+    /// ```text
+    /// builder.workspace(true);
+    /// ```
     pub fn workspace(&mut self, is_on: bool) -> &mut Self
         ensures set { result.now ≡ with_setting self.old (record (self.old.setting) { workspace = is_on }) }
         ensures same_reference { result.ghost_name ≡ self.entry.ghost_name }
@@ -72,8 +89,14 @@ impl<S: Drop + 'static> Builder<S> {
         self
     }
 
-    /// Leaves out the packages that one of the specifications fits, beside those that are left out already. After a refusal
-    /// the builder is as it was.
+    /// Leaves out the packages that one of the specifications fits, beside those that are left out already: they
+    /// aren't kept, and what only they need isn't either. The only refusal is running out of memory, and then the
+    /// builder is as it was. Time O(specifications).
+    ///
+    /// ```text
+    /// let specs = vec![in alloc; PkgSpec::from_str(alloc, "openssl@0.10.64")?]?;
+    /// builder.exclude(specs)?;
+    /// ```
     pub fn exclude(&mut self, specs: Vec<PkgSpec>) -> Result<&mut Self, AllocError>
         ensures* refused { sem 𝓛 (RestsUnchanged S.row self.entry result) }
         ensures appended { IfOk result (λ b. b.now ≡ excluding self.old specs.items) }
@@ -86,6 +109,18 @@ impl<S: Drop + 'static> Builder<S> {
         }
     }
 
+    /// What is set, the index apart.
+    pub(crate) fn setting(&self) -> &Setting
+        ensures { result.now ≡ self.now.setting }
+    {
+        &self.setting
+    }
+
+    /// What memory comes from.
+    pub(crate) fn allocator(&self) -> Global {
+        self.alloc
+    }
+
     /// Leaves out more packages; whether it could.
     fn has_excluded(&mut self, specs: Vec<PkgSpec>) -> bool
         ensures { MatchBool result (self.new ≡ excluding self.old specs.items) (self.new ≡ self.old) }
@@ -93,8 +128,14 @@ impl<S: Drop + 'static> Builder<S> {
         self.setting.exclude(specs).is_ok()
     }
 
-    /// Asks for the crates with these manifests as roots, beside those that are asked for already. A path that doesn't end in
-    /// `Cargo.toml` means the manifest in that directory. After a refusal the builder is as it was.
+    /// Asks for the members with these manifests as roots, beside those that are asked for already. A path that
+    /// doesn't end in `Cargo.toml` means the manifest in that directory; paths are compared by components, as the
+    /// document writes them. The manifest of the workspace alone means every member. The only refusal is running out
+    /// of memory, and then the builder is as it was. Time O(length of the paths).
+    ///
+    /// ```text
+    /// builder.include_workspace_crates(&["/w/tools/a", "/w/tools/b/Cargo.toml"])?;
+    /// ```
     pub fn include_workspace_crates(&mut self, paths: &[&str]) -> Result<&mut Self, AllocError>
         ensures* refused { sem 𝓛 (RestsUnchanged S.row self.entry result) }
         ensures appended { IfOk result (λ b. AsksForCrates self.old b.now paths.now) }
@@ -116,8 +157,15 @@ impl<S: Drop + 'static> Builder<S> {
             .is_ok()
     }
 
-    /// Keeps only dependencies whose target text passes at one of the targets, beside those that are set already. After a
-    /// refusal the builder is as it was.
+    /// Keeps only dependencies whose target text passes at one of these targets, each with the features that it has,
+    /// beside those that are set already. Where none is set, every text passes but one like `cfg(any())`, which asks
+    /// about no target and is false. The only refusal is running out of memory, and then the builder is as it was.
+    /// Time O(targets).
+    ///
+    /// ```text
+    /// let linux = Target::new(alloc, "x86_64-unknown-linux-gnu")?;
+    /// builder.include_targets(vec![in alloc; (linux, Vec::new(alloc))]?)?;
+    /// ```
     pub fn include_targets(
         &mut self,
         targets: Vec<(Target, Vec<String>)>,
@@ -142,7 +190,12 @@ impl<S: Drop + 'static> Builder<S> {
 }
 
 impl Builder {
-    /// A builder with nothing set, and without an index: every member, or the root, is kept with all that it needs.
+    /// A builder with nothing set, and without an index: the root, or every member where the graph has none, is kept
+    /// with all that it needs. Time O(1).
+    ///
+    /// ```text
+    /// let mut builder = Builder::new(alloc);
+    /// ```
     pub fn new(alloc: Global) -> Builder
         ensures setting { result.setting ≡ plain_setting }
         ensures index { result.index ≡ None }
@@ -154,11 +207,17 @@ impl Builder {
         }
     }
 
-    /// Looks all packages up in this index, and corrects their features by it, before anything else is looked at. A second
-    /// index takes the place of the first.
+    /// Looks all packages up in this index, and corrects their features by it, before anything else is looked at. A
+    /// second index takes the place of the first. Never refused. Time O(1).
     ///
-    /// It is asked once by a build, with the names of all packages, and not at all where the document can't be resolved. So it
-    /// only has to be callable on those names, of a document that can be; that is asked for at the build.
+    /// It is asked once by a build, with the names of all packages, and not at all where the document can't be
+    /// resolved. So it only has to be callable on those names, of a document that can be; that is asked for at the
+    /// build. Set the index and build in one function.
+    ///
+    /// ```text
+    /// let known: BuildIndexCache = Box::new(alloc, move |_names: PackageNames| IndexAnswer { krates })?;
+    /// builder.with_crates_io_index(known);
+    /// ```
     pub fn with_crates_io_index(&mut self, build: BuildIndexCache) -> &mut Self
         ensures index { MatchOption result.now.index ⊥ (λ source. source.build ≡ build) }
         ensures setting { result.now.setting ≡ self.old.setting }
@@ -168,17 +227,28 @@ impl Builder {
         self
     }
 
-    /// Keeps exactly the crates, the enabled features and the dependency edges of the document that have a derivation from the
-    /// roots by the rules, and draws exactly their graph, with what `N` makes of each package and `E` of each edge. When the
-    /// graph is finished, it hands every other package to the filter, once, in the order of their ids.
+    /// Keeps exactly the crates, the enabled features and the dependency edges of the document that have a derivation
+    /// from the roots by the rules, and draws exactly their graph, with what `N` makes of each package and `E` of
+    /// each edge. When the graph is finished, it hands every other package to the filter, once, in the order of their
+    /// ids.
     ///
-    /// With an index, all of this is meant of the document whose packages are corrected by what the index answers; only
-    /// whether the document can be resolved is asked of it as it is given, and does not depend on the correction.
+    /// With an index, all of this is meant of the document whose packages are corrected by what the index answers;
+    /// only whether the document can be resolved is asked of it as it is given, and does not depend on the
+    /// correction.
     ///
-    /// It is refused, in this order of classes: as `NoResolveGraph`, `InvalidId` or `Doubled` where the document can't be
-    /// resolved, as `Lost` where it lacks what some derivation asks for, as `NoRootKrates` where no crate would be kept,
-    /// and as `TooMany` where more crates would be kept than can be numbered. `Memory` may stand in place of any answer. After
-    /// each refusal the filter is as it was.
+    /// It is refused, in this order of classes: as `NoResolveGraph`, `InvalidId` or `Doubled` where the document
+    /// can't be resolved, as `Lost` where it lacks what some derivation asks for, as `NoRootKrates` where no crate
+    /// would be kept, and as `TooMany` where none of these is so and the graph has more than 4,294,967,295 nodes or
+    /// edges. It may instead return `Memory`. After each refusal the filter is as it was.
+    ///
+    /// Each crate and each feature that is found is followed once, and so is each reference (`Krates::work` counts
+    /// them); what they name is looked up in time O(log n).
+    ///
+    /// ```text
+    /// let metadata = MetadataCommand::parse(alloc, text)?;
+    /// let mut others = FilterFn(|pkg: Package| drop(pkg));
+    /// let krates: Krates = Builder::new(alloc).build_with_metadata(metadata, &mut others)?;
+    /// ```
     pub fn build_with_metadata<N: FromPackage + Drop, E: FromEdge + Drop, F: OnFilter>(
         self,
         metadata: Metadata,
@@ -226,24 +296,19 @@ fn build_admitted<N: FromPackage + Drop, E: FromEdge + Drop, F: OnFilter>(
     laws::one_reading();
     laws::comparison();
     drawing_laws::ends_stand();
+    drawing_laws::connected();
+    drawing_laws::dependencies_agree();
+    let limits = Limits {
+        nodes: u32::MAX,
+        edges: u32::MAX,
+    };
     let selection = select(alloc, &metadata, &ids, setting)?;
     let work = selection.work;
     let sheet = sheet_for(alloc, &metadata, &ids, selection)?;
     let division = divide(alloc, metadata.packages, ids.packages, &sheet.krates)?;
-    let count = numbered(&division.kept)?;
-    let graph = graph_of(alloc, sheet, division.kept)?;
+    let count = division.kept.len();
+    let graph = graph_of(alloc, limits, sheet, division.kept)?;
+    let members = members_of(alloc, graph.raw_nodes(), &ids.members)?;
     report(division.others, filter);
-    Ok(Krates::new(graph, count, metadata.workspace_root, work))
-}
-
-/// How many crates there are. More than can be numbered are refused.
-fn numbered(kept: &[Krate]) -> Result<usize, Error>
-    ensures counted { IfOk result (λ count. (count ≡ length kept.now) × (count < 2 ^ 32)) }
-    ensures refused { IfErr result (CountRefusal (length kept.now)) }
-{
-    let count = kept.len();
-    if count > u32::MAX as usize {
-        return Err(Error::TooMany);
-    }
-    Ok(count)
+    Ok(Krates::new(graph, count, members, metadata.workspace_root, work))
 }

@@ -18,13 +18,19 @@ use krates_ids::{BuildIndexCache, Error};
 use std::process::Processes;
 
 impl Builder {
-    /// Runs the command, and builds of the document that cargo writes what `build_with_metadata` builds of it. The program is
-    /// the one that the command sets, else the one that is handed in, as from the variable `CARGO`, else `cargo`.
+    /// Runs the command, and builds of the document that cargo writes what `build_with_metadata` builds of it. The
+    /// program is the one that the command sets, else the one that is handed in, as from the variable `CARGO`, else
+    /// `cargo`.
     ///
-    /// It is refused as `Metadata` where there is no document, for the reason that `MetadataCommand::exec` has; else as the
-    /// build of the document is. `Memory` may stand in place of any answer. After each refusal the filter is as it was.
+    /// It is refused as `Metadata` where there is no document, for the reason that `MetadataCommand::exec` has; else
+    /// as the build of the document is. It may instead return `Memory`. After each refusal the filter is as it was.
     ///
     /// An index has to be callable on the names of each document that cargo may write.
+    ///
+    /// ```text
+    /// let command = Cmd::new(alloc).into_command()?;
+    /// let krates: Krates = Builder::new(alloc).build(command, Some("cargo"), rt, &mut NoneFilter)?;
+    /// ```
     pub fn build<N: FromPackage + Drop, E: FromEdge + Drop, F: OnFilter>(
         self,
         command: MetadataCommand,

@@ -1,4 +1,4 @@
-//! What is told of the packages that aren't kept.
+//! Filters: called with each package that isn't kept.
 
 ghost use Rattle.std.specs.Prelude.{◌≡◌};
 ghost use Rattle.std.specs.List.{FoldsTo};
@@ -8,7 +8,9 @@ ghost use Rattle.krates.specs.Krate.{krate_packages};
 use crate::krate::Krate;
 use krates_cm::Package;
 
-/// What is called with each package that isn't kept.
+/// What is called with each package that isn't kept, in the order of the ids.
+///
+/// `NoneFilter` lets them go, `FilterFn` hands each to a closure, and a type of a caller's own may count or keep them.
 pub trait OnFilter {
     /// Whether the filter may be called in this state.
     ghost can_filter: { Self → Type 0 } = { λ _. Unit {0} };

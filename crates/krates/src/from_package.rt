@@ -1,9 +1,9 @@
 //! What a graph holds in place of packages.
 
 ghost use Rattle.std.specs.Prelude.{◌≡◌, IfOk};
-ghost use Rattle.krates_cm.specs.Document.{Text, VersionModel, text_view};
+ghost use Rattle.krates_cm.specs.Document.{Text, text_view};
 ghost use Rattle.krates_cm.specs.declared.package.Package.{Package};
-ghost use Rattle.semver.specs.Identifiers.{parts_of};
+ghost use Rattle.semver.specs.declared.Version.{Version};
 
 use krates_cm::Package;
 use semver::Version;
@@ -16,7 +16,7 @@ pub trait FromPackage {
     /// How a package stands to the value that is made of it.
     ghost made_from: { Package → Self → Type 0 };
 
-    /// Makes the value. The only error is want of memory.
+    /// Makes the value. The only error is running out of memory.
     fn from_package(alloc: Global, pkg: Package) -> Result<Self, AllocError>
     where
         Self: Sized,
@@ -37,7 +37,7 @@ pub trait KrateDetails {
     ghost name_of: { Self → Text };
 
     /// The version of the crate.
-    ghost version_of: { Self → VersionModel };
+    ghost version_of: { Self → Version };
 
     /// The name of the crate.
     fn name(&self) -> &str
@@ -45,13 +45,13 @@ pub trait KrateDetails {
 
     /// The version of the crate.
     fn version(&self) -> &Version
-        ensures { parts_of result.now ≡ version_of self.now };
+        ensures { result.now ≡ version_of self.now };
 }
 
 impl KrateDetails for Package {
     ghost name_of = { λ pkg. text_view pkg.name };
 
-    ghost version_of = { λ pkg. parts_of pkg.version };
+    ghost version_of = { λ pkg. pkg.version };
 
     fn name(&self) -> &str {
         self.name.as_str()

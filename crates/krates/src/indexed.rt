@@ -1,9 +1,10 @@
 //! Looking packages up in an index, and correcting them by what it answers.
 
 ghost use Rattle.std.specs.Prelude.{IfOk};
-ghost use Rattle.krates.specs.Indexed.{HasNames, IsAskable, IsCorrectedDocument, IsSeen};
+ghost use Rattle.krates.specs.Indexed.{HasNames, IsAskable, IsSeen};
 
 use krates_cm::{Metadata, Package};
+use krates_document::corrected_document::corrected;
 use krates_ids::{BuildIndexCache, CachingIndex, PackageNames};
 use std::alloc::{AllocError, Global};
 use std::collections::BTreeSet;
@@ -41,18 +42,4 @@ fn names_of(alloc: Global, packages: &[Package]) -> Result<PackageNames, AllocEr
         names.insert(pkg.name.clone()?)?;
     }
     Ok(PackageNames { names })
-}
-
-/// The document with each package corrected.
-fn corrected(
-    alloc: Global,
-    index: &CachingIndex,
-    mut metadata: Metadata,
-) -> Result<Metadata, AllocError>
-    ensures { IfOk result (IsCorrectedDocument index.now.answer metadata) }
-{
-    for pkg in metadata.packages.iter_mut() {
-        index.correct(alloc, pkg)?;
-    }
-    Ok(metadata)
 }

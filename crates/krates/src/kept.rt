@@ -1,18 +1,17 @@
 //! The crates that a build keeps.
 
-ghost use Rattle.std.specs.Prelude.{◌≡◌, ◌↔◌, ℕ, ◌<◌, ◌^◌, MatchOption, Some, length, string_bytes};
+ghost use Rattle.std.specs.Prelude.{◌≡◌, ◌<◌, ◌^◌, length, string_bytes};
 ghost use Rattle.std.specs.Iterator.{YieldsFirstRef, item_count};
-ghost use Rattle.krates_rules.specs.Resolved.{id_of, StandsAt};
-ghost use Rattle.krates.specs.Kept.{AreNodes, AreOrdered, HasFeatures, features_of, ids_of, values_of};
-ghost use Rattle.krates.specs.Node.{CratesFirst, crate_ids, names_in};
+ghost use Rattle.krates.specs.Direct.{AreConnected};
+ghost use Rattle.krates.specs.Kept.{AreCrateNumbers, AreFeatures, AreNodes, AreOrdered, ids_of, values_of};
+ghost use Rattle.krates.specs.Node.{CratesFirst, crate_ids};
 
-use crate::node::{EnabledFeatures, Node};
-use crate::numbers::{features_at, number_of};
+use crate::node::Node;
 use krates_cm::Package;
 use krates_drawing::edge::Edge;
 use krates_graph::graph::{Graph, NodeId};
-use krates_ids::Kid;
 use krates_resolve::Work;
+use std::alloc::Global;
 use std::marker::Model;
 
 /// The graph of the crates that a build keeps, and the path of the workspace.
@@ -23,43 +22,66 @@ use std::marker::Model;
 pub struct Krates<N = Package, E = Edge> {
     graph: Graph<Node<N>, E>,
     count: usize,
+    members: Vec<NodeId>,
     workspace_root: String,
     work: Work,
 }
 
 impl<N, E> Model for Krates<N, E> {
     ghost use Rattle.std.specs.Prelude.{◌≡◌, length, string_bytes};
-    ghost use Rattle.krates.specs.Kept.{AreNodes, KeptCrates};
+    ghost use Rattle.krates.specs.Direct.{AreConnected};
+    ghost use Rattle.krates.specs.Kept.{AreCrateNumbers, AreNodes, KeptCrates};
     ghost use Rattle.krates.specs.Node.{crate_ids};
 
     ghost Value = { KeptCrates N E };
 
-    ghost view = { λ k. record { graph = k.graph; workspace_root = string_bytes k.workspace_root; work = k.work } };
+    ghost view = { λ k. record {
+      graph = k.graph;
+      members = k.members.items;
+      workspace_root = string_bytes k.workspace_root;
+      work = k.work;
+    } };
 
-    ghost invariant = { λ k. AreNodes k.graph.nodes × (k.count ≡ length (crate_ids k.graph.nodes)) };
+    ghost invariant = { λ k. AreNodes k.graph.nodes
+        × (k.count ≡ length (crate_ids k.graph.nodes))
+        × AreCrateNumbers k.graph.nodes k.members.items
+        × AreConnected k.graph.nodes k.graph.edges };
 }
 
 impl<N, E> Krates<N, E> {
-    /// This graph, with so many crates, of a workspace at this path, found by this work.
+    /// This graph, with so many crates, of which these are members, of a workspace at this path, found by this work.
     pub(crate) fn new(
         graph: Graph<Node<N>, E>,
         count: usize,
+        members: Vec<NodeId>,
         workspace_root: String,
         work: Work,
     ) -> Krates<N, E>
         requires nodes { AreNodes graph.nodes }
         requires counted { count ≡ length (crate_ids graph.nodes) }
-        ensures { result ≡ record { graph = graph; workspace_root = string_bytes workspace_root; work = work } }
+        requires members { AreCrateNumbers graph.nodes members.items }
+        requires connected { AreConnected graph.nodes graph.edges }
+        ensures { result ≡ record {
+          graph = graph;
+          members = members.items;
+          workspace_root = string_bytes workspace_root;
+          work = work;
+        } }
     {
         Krates {
             graph,
             count,
+            members,
             workspace_root,
             work,
         }
     }
 
-    /// How many crates are kept: at most 4,294,967,295.
+    /// How many crates are kept: at most 4,294,967,295. Time O(1).
+    ///
+    /// ```text
+    /// println!(rt; "{} crates", krates.len())?;
+    /// ```
     pub fn len(&self) -> usize
         ensures count { result ≡ length (ids_of self.now) }
         ensures numbered { result < 2 ^ 32 }
@@ -67,15 +89,52 @@ impl<N, E> Krates<N, E> {
         self.count
     }
 
-    /// The graph: its nodes and its edges, each at its number.
+    /// The graph: its nodes and its edges, each at its number. The nodes of the crates come first, by id; then those
+    /// of their enabled features, by crate and then by name. An edge leads from a crate to each crate that its
+    /// mapping names, or to a feature of that, and from each feature to its crate. Time O(1).
+    ///
+    /// ```text
+    /// for edge in krates.graph().raw_edges() {
+    ///     println!(rt; "{} -> {}", edge.source.index(), edge.target.index())?;
+    /// }
+    /// ```
     pub fn graph(&self) -> &Graph<Node<N>, E>
         ensures graph { result.now ≡ self.now.graph }
         ensures first { CratesFirst result.now.nodes }
+        ensures features { AreFeatures result.now.nodes }
+        ensures connected { AreConnected result.now.nodes result.now.edges }
     {
         &self.graph
     }
 
-    /// What stands for the packages of the kept crates, by increasing id.
+    /// The nodes, each at its number.
+    pub(crate) fn nodes(&self) -> &[Node<N>]
+        ensures nodes { result.now ≡ self.now.graph.nodes }
+        ensures are { AreNodes result.now }
+    {
+        self.graph.raw_nodes()
+    }
+
+    /// The numbers of the kept members of the workspace, ascending, each once.
+    pub(crate) fn members(&self) -> &[NodeId]
+        ensures members { result.now ≡ self.now.members }
+        ensures crates { AreCrateNumbers self.now.graph.nodes result.now }
+    {
+        self.members.as_slice()
+    }
+
+    /// What gives memory.
+    pub(crate) fn alloc(&self) -> Global {
+        *self.members.allocator()
+    }
+
+    /// What stands for the packages of the kept crates, by increasing id, each once. Time O(1), and O(1) for each.
+    ///
+    /// ```text
+    /// for pkg in krates.krates() {
+    ///     println!(rt; "{} {}", pkg.name, pkg.version)?;
+    /// }
+    /// ```
     pub fn krates(&self) -> KratesIter<'_, N>
         ensures values { result ≡ values_of self.now }
         ensures ordered { AreOrdered (ids_of self.now) }
@@ -86,38 +145,23 @@ impl<N, E> Krates<N, E> {
         }
     }
 
-    /// The number of a crate: `Some` exactly for a kept crate, with its place in the order of the ids.
-    pub fn nid_for_kid(&self, kid: &Kid) -> Option<NodeId>
-        ensures { (n : ℕ) → (result ≡ Some n) ↔ StandsAt (ids_of self.now) (id_of kid.now) n }
-    {
-        match number_of(self.graph.raw_nodes(), kid) {
-            Some(number) => Some(NodeId::new(number as u32)),
-            None => None,
-        }
-    }
-
-    /// The enabled features of a crate, in the order of their names as bytes: `Some` exactly for a kept crate. A kept crate may have
-    /// none, and then the set is empty.
-    pub fn get_enabled_features(&self, kid: &Kid) -> Option<&EnabledFeatures>
-        ensures { MatchOption result ((n : ℕ) → StandsAt (ids_of self.now) (id_of kid.now) n → ⊥)
-            (λ features. HasFeatures (ids_of self.now) (features_of self.now) (id_of kid.now) (names_in features.now)) }
-    {
-        let nodes = self.graph.raw_nodes();
-        match number_of(nodes, kid) {
-            Some(number) => features_at(nodes, number),
-            None => None,
-        }
-    }
-
-    /// How much work it was to find them: how many crates are kept, how many features are enabled, and how many references
-    /// these have. Each count stays at its greatest value.
+    /// How much work it was to find them: how many crates are kept, how many features are enabled, and how many
+    /// references these have. Each count stays at its greatest value. Time O(1).
+    ///
+    /// ```text
+    /// println!(rt; "{} features", krates.work().features)?;
+    /// ```
     pub fn work(&self) -> Work
         ensures { result ≡ self.now.work }
     {
         self.work
     }
 
-    /// The path of the workspace, as the document writes it.
+    /// The path of the workspace, as the document writes it. Time O(1).
+    ///
+    /// ```text
+    /// println!(rt; "workspace {}", krates.workspace_root())?;
+    /// ```
     pub fn workspace_root(&self) -> &str
         ensures { result.now ≡ self.now.workspace_root }
     {

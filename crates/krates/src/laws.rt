@@ -1,36 +1,46 @@
 //! Laws of builds, for all documents, settings and answers of an index. Each is the contract of a function that does
 //! nothing.
 
-ghost use Rattle.krates.specs.BuildLaws.{IsBuildNarrowing, IsBuildOrderFree};
+ghost use Rattle.krates.specs.BuildLaws.{IsBuildNarrowing, IsBuildOrderFree, KeepsPackages};
 
+pub use krates_drawing::laws::filtered_holds_rebuild;
+use krates_drawing::laws::{drawn_alike, narrower_draws_no_more, sheet_there};
 use krates_ids::laws::{comparison, one_correction, one_reading};
-pub use krates_resolve::laws::{narrowing, reordering};
+use krates_resolve::laws as resolution;
 
 /// Builds don't depend on the order in which a document lists its packages, its members, the nodes of its graph, or the
 /// dependencies and features of a node, nor on the order of the features of a package.
 ///
 /// Of two documents that differ in that alone, an index is asked for the same names. Where it gives both the same answer, or
 /// there is none, the documents that are looked at differ in order alone too. So the same facts have derivations under
-/// each setting, the same crates are kept with the same numbers, the same packages are reported in the same order, and
-/// both builds are refused for the same causes.
-pub fn reordering_of_builds()
+/// each setting, the same crates are kept with the same numbers, the same graph is drawn, with equal nodes, mappings and edges
+/// number by number, the same packages are reported in the same order, and both builds are refused for the same causes.
+pub fn reordering()
     ensures { IsBuildOrderFree }
 {
     one_correction();
     one_reading();
     comparison();
-    reordering();
+    resolution::reordering();
+    drawn_alike();
+    sheet_there();
 }
 
-/// A build under a setting that excludes more packages, ignores one more purpose, or asks for targets where none was asked
-/// for, keeps a part of what the build before it keeps. Where that one succeeds, the narrower one is refused only since no
-/// crate is left, or out of memory; so it never has too many.
+/// A build under a setting that excludes more packages, ignores one more kind, or asks for targets where none was asked
+/// for, keeps a part of what the build before it keeps: its crates, its enabled features and its dependency edges are among
+/// those of the wider one. Where that one succeeds, the narrower one is refused only since no crate is left, or out of memory;
+/// so it never has too many nodes or edges.
 ///
-/// This is so of whatever document is looked at, as it is given or as an index has corrected it, where the index answers
-/// both builds the same.
-pub fn narrowing_of_builds()
-    ensures { IsBuildNarrowing }
+/// Without an index both look at the document as it is given, and with one at what it is corrected to, where the index
+/// answers both the same.
+pub fn narrowing()
+    ensures part { IsBuildNarrowing }
+    ensures packages { KeepsPackages }
 {
+    one_correction();
     one_reading();
-    narrowing();
+    resolution::narrowing();
+    resolution::reordering();
+    narrower_draws_no_more();
+    sheet_there();
 }

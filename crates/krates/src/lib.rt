@@ -1,10 +1,19 @@
 //! Graphs of crates, built from the output of `cargo metadata`: which crates are kept under a setting, and which aren't.
 //!
-//! The items of the crates below are given again under their names, so that a caller needs no other crate.
+//! The items of the crates below are re-exported under their names, so that a caller needs no other crate.
+//!
+//! ```text
+//! let metadata = MetadataCommand::parse(alloc, text)?;
+//! let krates: Krates = Builder::new(alloc).build_with_metadata(metadata, &mut NoneFilter)?;
+//! for pkg in krates.krates() {
+//!     println!(rt; "{} {}", pkg.name, pkg.version)?;
+//! }
+//! ```
 #![tactic(auto)]
 
 mod builder;
 mod cargo;
+pub mod derive;
 mod division;
 mod drawn;
 mod enabled;
@@ -14,9 +23,11 @@ mod indexed;
 mod kept;
 mod krate;
 pub mod laws;
+mod members;
 mod node;
 mod nodes;
 mod numbers;
+mod queries;
 
 pub use builder::Builder;
 pub use filter::{FilterFn, NoneFilter, OnFilter};
@@ -35,6 +46,7 @@ pub use krates_text::features::{Feature, ParsedFeature};
 pub use krates_text::target::Target;
 pub use krates_text::{path, target};
 pub use node::{EnabledFeatures, Node};
+pub use queries::{Deps, DirectDependency, DirectDependent, KrateMatch, Matches, Members};
 pub use semver;
 
 /// The document of `cargo metadata`, and the command whose output it is.
@@ -65,7 +77,7 @@ pub mod index {
 /// Which documents can be resolved, what is kept of them, and what they answer to the questions of the rules.
 pub mod resolve {
     pub use krates_resolve::{
-        Document, EnabledFeature, Ids, KeptEdge, Selection, Setting, ToggledFeature, Work, admit,
-        select,
+        Document, EnabledFeature, Ids, KeptEdge, NumberedFact, NumberedStep, Reason, Selection,
+        Setting, ToggledFeature, Work, admit, select,
     };
 }

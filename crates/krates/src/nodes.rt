@@ -1,16 +1,15 @@
 //! The nodes of the graph: packages moved into what was drawn, and that into the graph.
 
-ghost use Rattle.std.specs.Prelude.{◌≡◌, ◌++◌, [], IfErr, IfOk, OnOk, flat_map, map};
+ghost use Rattle.std.specs.Prelude.{◌≡◌, ◌++◌, [], IfErr, IfOk, OnOk, flat_map, length, map};
 ghost use Rattle.std.specs.List.{AllZip, zip};
-ghost use Rattle.krates_ids.specs.declared.error.Error.TheVariants.{Memory};
-ghost use Rattle.krates.specs.MadeNodes.{IsMade, crate_node, feature_in, mapping_in};
+ghost use Rattle.krates.specs.MadeNodes.{CountRefusal, IsMade, crate_node, feature_in, mapping_in};
 
 use crate::from_package::FromPackage;
 use crate::krate::Krate;
 use crate::node::{EnabledFeatures, Node};
 use krates_cm::Package;
 use krates_drawing::nodes::Spot;
-use krates_graph::graph::{Graph, NodeId};
+use krates_graph::graph::{Graph, GraphError, NodeId};
 use krates_ids::Error;
 use std::alloc::{AllocError, Global};
 
@@ -32,14 +31,13 @@ pub(crate) fn parts_of(alloc: Global, spots: Vec<Spot>) -> Result<Parts, AllocEr
     let mut mappings = Vec::new(alloc);
     let mut features = Vec::new(alloc);
     for spot in spots {
-        push_part(alloc, spot, &mut mappings, &mut features)?;
+        push_part(spot, &mut mappings, &mut features)?;
     }
     Ok(Parts { mappings, features })
 }
 
 /// Puts a mapping to the mappings, or a feature to the features.
 fn push_part(
-    alloc: Global,
     spot: Spot,
     mappings: &mut Vec<Vec<Option<NodeId>>>,
     features: &mut Vec<Node<Package>>,
@@ -51,45 +49,13 @@ fn push_part(
     match spot {
         Spot::Krate { id, mapping } => {
             drop(id);
-            mappings.push(as_nodes(alloc, mapping)?)?;
+            mappings.push(mapping)?;
         }
         Spot::Feature { krate_index, name } => {
-            let krate_index = as_node(krate_index)?;
             features.push(Node::Feature { krate_index, name })?;
         }
     }
     Ok(())
-}
-
-/// The numbers of nodes in a mapping.
-fn as_nodes(alloc: Global, mapping: Vec<Option<usize>>) -> Result<Vec<Option<NodeId>>, AllocError>
-    ensures { IfOk result (λ nodes. nodes.items ≡ mapping.items) }
-{
-    let mut nodes = Vec::new(alloc);
-    for number in mapping {
-        nodes.push(as_node_or_none(number)?)?;
-    }
-    Ok(nodes)
-}
-
-/// The number of a node, where there is one.
-fn as_node_or_none(number: Option<usize>) -> Result<Option<NodeId>, AllocError>
-    ensures { IfOk result (λ node. node ≡ number) }
-{
-    match number {
-        Some(number) => Ok(Some(as_node(number)?)),
-        None => Ok(None),
-    }
-}
-
-/// The number of a node. No graph has room for more nodes than can be numbered.
-fn as_node(number: usize) -> Result<NodeId, AllocError>
-    ensures { IfOk result (λ node. node ≡ number) }
-{
-    if number > u32::MAX as usize {
-        return Err(AllocError);
-    }
-    Ok(NodeId::new(number as u32))
 }
 
 /// Each crate with the features and the mapping at its place.
@@ -154,7 +120,8 @@ fn made<N: FromPackage + Drop>(alloc: Global, node: Node<Package>) -> Result<Nod
     }
 }
 
-/// Adds the nodes to a graph that has none, in their order, with a value in the place of each package.
+/// Adds the nodes to a graph that has none, in their order, with a value in the place of each package. It is refused as `TooMany`
+/// only where there are more than the graph may have.
 pub(crate) fn store_nodes<N: FromPackage + Drop, E: Drop>(
     alloc: Global,
     nodes: Vec<Node<Package>>,
@@ -163,12 +130,13 @@ pub(crate) fn store_nodes<N: FromPackage + Drop, E: Drop>(
     requires empty { graph.old.nodes ≡ [] }
     ensures stored { OnOk result (AllZip (IsMade N.made_from) nodes.items graph.new.nodes) }
     ensures rest { graph.new ≡ record graph.old { nodes = graph.new.nodes } }
-    ensures refused { IfErr result (λ e. e ≡ Memory) }
+    ensures refused { IfErr result (CountRefusal graph.old.node_limit (length nodes.items)) }
 {
     for node in nodes {
         match graph.add_node(made(alloc, node)?) {
             Ok(_) => {}
-            Err(_) => return Err(Error::Memory),
+            Err(GraphError::Full(_)) => return Err(Error::TooMany),
+            Err(GraphError::Memory(_)) => return Err(Error::Memory),
         }
     }
     Ok(())

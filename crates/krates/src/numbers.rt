@@ -1,6 +1,6 @@
 //! Crates among the nodes of a graph, found by their ids.
 
-ghost use Rattle.std.specs.Prelude.{◌≡◌, ◌↔◌, ℕ, Some, option_map, slice_get};
+ghost use Rattle.std.specs.Prelude.{◌≡◌, ◌↔◌, ◌<◌, ℕ, Some, length, option_map, slice_get};
 ghost use Rattle.krates_rules.specs.Resolved.{id_of, StandsAt};
 ghost use Rattle.krates.specs.Kept.{AreNodes};
 ghost use Rattle.krates.specs.Node.{crate_ids, crate_features, names_in};
@@ -49,4 +49,12 @@ fn node_at<N>(nodes: &[Node<N>], number: usize) -> Option<&Node<N>>
     ensures { option_map (λ node. node.now) result ≡ slice_get nodes.now number }
 {
     nodes.get(number)
+}
+
+/// The node that stands at a number.
+pub(crate) fn standing_at<N>(nodes: &[Node<N>], number: usize) -> &Node<N>
+    requires { number < length nodes.now }
+    ensures { slice_get nodes.now number ≡ Some result.now }
+{
+    &nodes[number]
 }

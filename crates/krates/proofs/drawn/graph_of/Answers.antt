@@ -1,5 +1,5 @@
-use Rattle.std.proofs.Common.{◌≡◌, ◌∙◌, ◌<◌, ◌^◌, List, length, map, sym, ap, subst}
-use Rattle.krates_drawing.specs.Drawing.{Line, lines, spots}
+use Rattle.std.proofs.Common.{◌≡◌, ◌∙◌, ◌≤◌, List, length, map, sym, ap, subst}
+use Rattle.krates_drawing.specs.Drawing.{lines, spots}
 use Rattle.krates_drawing.specs.Views.{arrow_view, sheet_view}
 use Rattle.krates_drawing.specs.declared.edge.Arrow.{Arrow}
 use Rattle.krates_resolve.specs.Selection.{feature_fact}
@@ -9,15 +9,22 @@ use Rattle.krates.specs.Enabled.{AreEnabledSets}
 use Rattle.krates.specs.Krate.{krate_ids}
 use Rattle.krates.specs.declared.krate.Krate.{Krate}
 use Rattle.krates.proofs.DrawnLemmas.{facts_in, if_graph, stand_there}
-use Rattle.krates.proofs.MadeLemmas.{AreDrawnNodes, count_of, drawn_from}
+use Rattle.krates.proofs.MadeLemmas.{count_of, drawn_from}
+use Rattle.krates.proofs.Numbered.{if_memory, if_within}
 use Rattle.krates.proofs.drawn.graph_of.Goals as goal
 
-pub stored-requires-clause-few : goal.stored-requires-clause-few
-stored-requires-clause-few g c =
+pub stored-requires-clause-nodes : goal.stored-requires-clause-nodes
+stored-requires-clause-nodes g c =
     let matched = subst (λ (ks : List Krate). length c.in_ok-sets.sets.items ≡ length ks) c.deref.ensures.value c.in_ok-sets.ensures.matched in
     let d = drawn_from (sheet_view c.args.sheet) c.args.krates.items c.in_ok-sets.sets.items c.in_ok-plan.plan.spots.items c.in_ok-parts.parts.mappings.items c.in_ok-parts.parts.features.items c.in_ok-nodes.nodes.items matched c.in_ok-plan.ensures.nodes c.requires.ids c.in_ok-parts.ensures.mappings c.in_ok-parts.ensures.features c.in_ok-nodes.ensures in
     let count = count_of node_spot c.in_ok-nodes.nodes.items (spots (sheet_view c.args.sheet)) d.spots_are in
-    subst (λ n. n < 2 ^ 32) (sym count) c.in_ok-plan.ensures.few
+    subst (λ n. n ≤ c.args.limits.nodes) (sym count) c.in_ok-plan.ensures.within.nodes
+
+pub stored-requires-clause-edges : goal.stored-requires-clause-edges
+stored-requires-clause-edges g c =
+    let same : map arrow_view c.deref-2.result.now ≡ lines (sheet_view c.args.sheet) = ap (λ (xs : List Arrow). map arrow_view xs) c.deref-2.ensures.value ∙ c.in_ok-plan.ensures.edges in
+    let count = count_of arrow_view c.deref-2.result.now (lines (sheet_view c.args.sheet)) same in
+    subst (λ n. n ≤ c.args.limits.edges) (sym count) c.in_ok-plan.ensures.within.edges
 
 pub stored-requires-clause-stand : goal.stored-requires-clause-stand
 stored-requires-clause-stand g c =
@@ -36,3 +43,9 @@ returns-clause-graph g c =
     let facts = ap (λ (fs : List EnabledFeature). map feature_fact fs) c.in_ok-features.ensures ∙ facts_in c.args.sheet.features.items in
     if_graph g.N.FromPackage.made_from g.E.FromEdge.made_from_edge (sheet_view c.args.sheet) c.args.krates.items c.in_ok-sets.sets.items c.in_ok-features.features.items c.in_ok-nodes.nodes.items
     (map arrow_view c.deref-2.result.now) c.stored.result d so facts same c.stored.ensures.nodes c.stored.ensures.edges
+
+pub returns-clause-within : goal.returns-clause-within
+returns-clause-within g c = if_within c.args.limits (sheet_view c.args.sheet) c.stored.result c.in_ok-plan.ensures.within
+
+pub returns-clause-refused : goal.returns-clause-refused
+returns-clause-refused g c = if_memory c.args.limits (sheet_view c.args.sheet) c.stored.result c.stored.ensures.refused

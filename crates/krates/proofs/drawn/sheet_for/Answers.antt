@@ -3,7 +3,7 @@ use Rattle.krates_document.specs.Ids.{ids_view}
 use Rattle.krates_drawing.specs.Sheet.{IsSheet}
 use Rattle.krates_drawing.specs.SheetOrder.{IsOrdered}
 use Rattle.krates_drawing.specs.Views.{sheet_view}
-use Rattle.krates_resolve.specs.DocumentModel.{as_resolved}
+use Rattle.krates_questions.specs.DocumentModel.{as_resolved}
 use Rattle.krates_resolve.specs.Selection.{IsSelection}
 use Rattle.krates_rules.specs.Setting.{SettingModel}
 use Rattle.krates.proofs.DrawnLemmas.{none_doubled_in, if_ordered, if_sheet_told}

@@ -1,19 +1,17 @@
-use Rattle.std.proofs.Common.{◌≡◌, ◌∙◌, List, refl, sym, ap, subst}
-use Rattle.krates.specs.Kept.{KeptCrates}
+use Rattle.std.proofs.Common.{◌≡◌, refl}
 use Rattle.krates.specs.Node.{names_in}
-use Rattle.krates.specs.declared.node.Node.{Node}
 use Rattle.krates.proofs.NodeLemmas.{features_told}
 use Rattle.krates.proofs.kept.Krates.get_enabled_features.Goals as goal
 
 pub returns-in-Some : goal.returns-in-Some
 returns-in-Some g c =
-    let nodes = c.raw_nodes-nodes.result.now in
-    let same : nodes ≡ c.args.self.now.graph.nodes = c.raw_nodes-nodes.ensures.nodes ∙ ap (λ (k : KeptCrates g.row.N.Denot g.row.E.Denot). k.graph.nodes) c.self.view_is in
-    rw (← same) (features_told (λ f. names_in f.now) c.features_at.result nodes _ c.in-Some.number _ (rw c.raw_nodes-nodes.ensures.nodes c.self.invariant.0) ((c.in-Some.ensures c.in-Some.number).0 refl) c.features_at.ensures)
+    let nodes = c.nodes-nodes.result.now in
+    let same : nodes ≡ c.args.self.now.graph.nodes = c.nodes-nodes.ensures.nodes in
+    rw (← same) (features_told (λ f. names_in f.now) c.features_at.result nodes _ c.in-Some.number _ c.nodes-nodes.ensures.are ((c.in-Some.ensures c.in-Some.number).0 refl) c.features_at.ensures)
 
 pub returns-in-None : goal.returns-in-None
 returns-in-None g c n h =
-    let nodes = c.raw_nodes-nodes.result.now in
-    let same : nodes ≡ c.args.self.now.graph.nodes = c.raw_nodes-nodes.ensures.nodes ∙ ap (λ (k : KeptCrates g.row.N.Denot g.row.E.Denot). k.graph.nodes) c.self.view_is in
+    let nodes = c.nodes-nodes.result.now in
+    let same : nodes ≡ c.args.self.now.graph.nodes = c.nodes-nodes.ensures.nodes in
     let none = (c.in-None.ensures n).1 (rw same h) in
     absurd cc

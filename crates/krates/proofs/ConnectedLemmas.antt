@@ -1,0 +1,105 @@
+-- The stored graph of a sheet is connected as the drawn one is, and the direct queries agree on it.
+use Rattle.std.proofs.Common.{◌≡◌, ◌↔◌, ℕ, zero, suc, ◌<◌, ◌^◌, List, [], ◌∷◌, length, map, Option, Some, None, option_map, Contains, slice_get, refl, sym, ap, ◌∙◌, subst, arith}
+use Rattle.std.proofs.lemmas.Option.{slice_get-map, same_Some}
+use Rattle.std.specs.List.{AllZip}
+use Rattle.krates_cm.specs.Document.{MetadataModel, ResolveModel}
+use Rattle.krates_drawing.specs.Agreement.{DependsOn, LeadsTo, DependenciesAgree, OneEach}
+use Rattle.krates_drawing.specs.Connected as drawn
+use Rattle.krates_drawing.specs.Drawing.{CrateSpot, crate_number, lines, spots}
+use Rattle.krates_drawing.specs.Sheet.{Sheet}
+use Rattle.krates_drawing.specs.Stored.{IsStoredAs, LeadsAlong}
+use Rattle.krates_drawing.specs.declared.edge.Edge.{Edge}
+use Rattle.krates_drawing.proofs.Members.{member_of, contains_of, partner_of}
+use Rattle.krates_drawing.proofs.Storing.{stored_leads}
+use Rattle.krates_graph.specs.Graph.{StoredGraph}
+use Rattle.krates_ids.specs.Identity.{Identity}
+use Rattle.krates_rules.specs.Admission.{IsAdmitted, IdsModel, NoneDoubled}
+use Rattle.krates_rules.specs.Facts.{Id}
+use Rattle.krates_rules.specs.Resolved.{StandsAt, id_of, resolved}
+use Rattle.krates_rules.specs.Setting.{SettingModel}
+use Rattle.krates.specs.Build.{HasOneEach}
+use Rattle.krates.specs.Direct.{AreConnected, value_at, value_in}
+use Rattle.krates.specs.DirectDependents.{IsDependent}
+use Rattle.krates.specs.Drawn.{IsDrawing, IsSheetFor, node_spot}
+use Rattle.krates.specs.Node.{crate_ids, CratesFirst}
+use Rattle.krates.specs.declared.node.Node.{Node}
+use Rattle.krates.specs.declared.node.Node.TheVariants.{Krate, Feature}
+use Rattle.krates.proofs.EdgeNumbers.{got}
+
+-- lists that match are of one length
+pub zip_length : {A B : Type 0} (R : A → B → Type 0) (xs : List A) (ys : List B) → AllZip R xs ys → length xs ≡ length ys
+zip_length R [] [] z = refl
+zip_length R [] (y ∷ ys) z = absurd z
+zip_length R (x ∷ xs) [] z = absurd z
+zip_length R (x ∷ xs) (y ∷ ys) z = ap suc (zip_length R xs ys z.1)
+
+-- no more crates than nodes
+pub as_few_crates : {N : Type 0} (nodes : List (Node N)) (n : ℕ) → n < length (crate_ids nodes) → n < length nodes
+as_few_crates [] n lt = lt
+as_few_crates (Krate i k f m ∷ nodes) zero lt = omega arith
+as_few_crates (Krate i k f m ∷ nodes) (suc n) lt = let more = as_few_crates nodes n (omega arith) in omega (arith, more)
+as_few_crates (Feature k name ∷ nodes) n lt = let more = as_few_crates nodes n lt in omega (arith, more)
+
+-- ---- connected
+
+value_there : {N : Type 0} (o : Option (Node N)) (id : Id) (m : List (Option ℕ)) → option_map node_spot o ≡ Some (CrateSpot id m) → (x : N) × (value_in o ≡ Some x)
+value_there None id m e = absurd cc
+value_there (Some (Krate i krate features mapping)) id m e = (krate, refl)
+value_there (Some (Feature krate_index name)) id m e = absurd cc
+
+pub connects : {N E : Type 0} (made : Edge → E → Type 0) (m : MetadataModel) (s : SettingModel) (t : Sheet) (g : StoredGraph (Node N) E) → drawn.AreConnected → IsSheetFor m s t → IsDrawing made t g → length g.nodes < 2 ^ 32
+    → AreConnected g.nodes g.edges
+connects made m s t g law h d few =
+    let c = law (resolved m h.graph) s h.holds.selection h.holds.selected t h.holds.is_sheet in
+    record {
+      mappings = λ p k w.
+          (let led = c.mappings p k (subst (λ ns. DependsOn ns p k) d.nodes w) in
+          let v = value_there (slice_get g.nodes k) led.id led.mapping (sym (slice_get-map node_spot g.nodes k) ∙ ap (λ ns. slice_get ns k) d.nodes ∙ led.at) in
+          let along = (stored_leads made (spots t) (lines t) g.edges p k d.edges).0 led.leads in
+          record { krate = v.0; crate = v.1; leads = subst (λ ns. LeadsAlong ns g.edges p k) (sym d.nodes) along });
+      features = λ n k name at.
+          (let home = c.features n k name (ap (λ ns. slice_get ns n) (sym d.nodes) ∙ at) in
+          let w = partner_of (IsStoredAs made) (lines t) g.edges home.line d.edges (member_of (lines t) home.line home.among) in
+          record { edge = w.partner; among = contains_of g.edges w.partner w.member; from = w.related.source ∙ home.from; to = w.related.target ∙ home.to });
+      numbered = few;
+    }
+
+-- ---- agreement
+
+-- the node of a crate
+record CrateSpotAt {N : Type 0} (nodes : List (Node N)) (n : ℕ) (id : Identity) : Type 0 where
+  mapping : List (Option ℕ)
+  krate : N
+  at : slice_get (map node_spot nodes) n ≡ Some (CrateSpot (id_of id) mapping)
+  value : value_at nodes n ≡ Some krate
+
+crate_spot_at : {N : Type 0} (nodes : List (Node N)) (n : ℕ) (id : Identity) → CratesFirst nodes → slice_get (crate_ids nodes) n ≡ Some id → CrateSpotAt nodes n id
+crate_spot_at [] n id first e = absurd cc
+crate_spot_at (Krate i k f m ∷ nodes) zero id first e = record { mapping = m.items; krate = k; at = ap (λ (x : Identity). Some (CrateSpot (id_of x) m.items)) (same_Some i id e); value = refl }
+crate_spot_at (Krate i k f m ∷ nodes) (suc n) id first e = let w = crate_spot_at nodes n id first e in record { mapping = w.mapping; krate = w.krate; at = w.at; value = w.value }
+crate_spot_at (Feature krate_index name ∷ nodes) n id first e =
+    let empty : List Identity = [] in
+    let none : slice_get empty n ≡ Some id = subst (λ (ids : List Identity). slice_get ids n ≡ Some id) first e in
+    absurd cc
+
+pub agrees : {N E : Type 0} (made : Edge → E → Type 0) (m : MetadataModel) (s : SettingModel) (t : Sheet) (g : StoredGraph (Node N) E) (ids : IdsModel) → drawn.AreConnected → DependenciesAgree → IsAdmitted m ids → IsSheetFor m s t → IsDrawing made t g
+    → CratesFirst g.nodes → (i : Id) → HasOneEach m s i → (p d : ℕ) → StandsAt (crate_ids g.nodes) i p → d < length (crate_ids g.nodes)
+    → DependsOn (map node_spot g.nodes) p d ↔ IsDependent g.nodes g.edges d p
+agrees made m s t g ids law agree a h z first i o p d at lt =
+    let r = resolved m h.graph in
+    let c = law r s h.holds.selection h.holds.selected t h.holds.is_sheet in
+    let one : OneEach r s i = subst (λ x. OneEach (resolved m x) s i) (same_Some o.graph h.graph (sym o.has_graph ∙ h.has_graph)) o.holds in
+    let none : NoneDoubled m h.graph = subst (NoneDoubled m) (same_Some a.graph h.graph (sym a.has_graph ∙ h.has_graph)) a.none_doubled in
+    let here = crate_spot_at g.nodes p at.there first at.at in
+    let from = c.crates p (id_of at.there) here.mapping (ap (λ ns. slice_get ns p) (sym z.nodes) ∙ here.at) in
+    let other = got (crate_ids g.nodes) d lt in
+    let there = crate_spot_at g.nodes d other.0 first other.1 in
+    let to = c.crates d (id_of other.0) there.mapping (ap (λ ns. slice_get ns d) (sym z.nodes) ∙ there.at) in
+    let both = agree r s none h.holds.selection h.holds.selected t h.holds.is_sheet (id_of at.there) (id_of other.0) from.kept to.kept (subst (OneEach r s) (sym at.same) one) in
+    let numbered : DependsOn (spots t) p d ↔ LeadsTo (spots t) (lines t) p d =
+    subst (λ n. DependsOn (spots t) p n ↔ LeadsTo (spots t) (lines t) p n) to.number
+    (subst (λ n. DependsOn (spots t) n (crate_number t (id_of other.0)) ↔ LeadsTo (spots t) (lines t) n (crate_number t (id_of other.0))) from.number both) in
+    let stored = stored_leads made (spots t) (lines t) g.edges p d z.edges in (
+      λ w. record { krate = here.krate; crate = here.value; leads = subst (λ ns. LeadsAlong ns g.edges p d) (sym z.nodes) (stored.0 (numbered.0 (subst (λ ns. DependsOn ns p d) z.nodes w))) },
+      λ w. subst (λ ns. DependsOn ns p d) (sym z.nodes) (numbered.1 (stored.1 (subst (λ ns. LeadsAlong ns g.edges p d) z.nodes w.leads))),
+    )

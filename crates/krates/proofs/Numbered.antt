@@ -1,0 +1,117 @@
+-- What is drawn within the limits of numbers, and what isn't.
+use Rattle.std.proofs.Common.{◌≡◌, ℕ, suc, ◌-◌, ◌<◌, ◌≤◌, ◌^◌, List, [], ◌∷◌, Result, Ok, Err, IfOk, IfErr, length, refl, sym, ap, subst, inl, inr, arith}
+use Rattle.std.specs.List.{AllZip}
+use Rattle.krates_cm.specs.Document.{MetadataModel}
+use Rattle.krates_drawing.specs.Drawing.{lines, spots}
+use Rattle.krates_drawing.specs.Limits.{DrawingRefusal, IsBeyond, IsWithin}
+use Rattle.krates_drawing.specs.Sheet.{Sheet}
+use Rattle.krates_drawing.specs.Stored.{IsStoredAs}
+use Rattle.krates_drawing.specs.declared.edge.Edge.{Edge}
+use Rattle.krates_drawing.specs.declared.limits.Limits.{Limits}
+use Rattle.krates_graph.specs.Graph.{StoredGraph}
+use Rattle.krates_ids.specs.declared.error.Error.{Error}
+use Rattle.krates_ids.specs.declared.error.Error.TheVariants as errors
+use Rattle.krates_rules.specs.Facts.{Lost}
+use Rattle.krates_rules.specs.Setting.{SettingModel}
+use Rattle.krates.specs.Build.{GraphRefusal}
+use Rattle.krates.specs.Drawn.{IsDrawing, IsNumbered, IsSheetFor, node_spot}
+use Rattle.krates.specs.Kept.{AreNodes}
+use Rattle.krates.specs.Node.{crate_ids}
+use Rattle.krates.specs.KeptGraph.{IsGraphOf}
+use Rattle.krates.specs.declared.division.Division.{Division}
+use Rattle.krates_cm.specs.Document.{metadata_view}
+use Rattle.krates_cm.specs.declared.metadata.Metadata.{Metadata}
+use Rattle.krates_cm.specs.declared.package.Package.{Package}
+use Rattle.krates_drawing.specs.SheetOrder.{IsOrdered}
+use Rattle.krates_drawing.specs.Views.{sheet_view}
+use Rattle.krates_drawing.specs.declared.sheet.Sheet.{Sheet as SheetOf}
+use Rattle.krates.specs.declared.node.Node.{Node}
+use Rattle.krates.specs.declared.node.Node.TheVariants as node
+use Rattle.krates.proofs.DrawnLemmas.{counted, graph_nodes}
+use Rattle.krates.proofs.BuildLemmas.{Builds}
+use Rattle.krates.proofs.OrderedIds.{Compares}
+use Rattle.krates.proofs.MadeLemmas.{count_of}
+use Rattle.krates.proofs.SelectionFacts.{derived_of, none_lost}
+
+-- the limits of numbers
+abbrev pub numbers : Limits
+numbers = record { nodes = 2 ^ 32 - 1; edges = 2 ^ 32 - 1 }
+
+-- ---- beyond them
+
+too_many : (m : MetadataModel) (s : SettingModel) (t : Sheet) → IsSheetFor m s t → IsBeyond numbers t → GraphRefusal m s errors.TooMany
+too_many m s t h (inl nodes) = record {
+  graph = h.graph;
+  has_graph = h.has_graph;
+  holds = record {
+    none_lost = λ c d. none_lost m s h.holds.selection (record { graph = h.graph; has_graph = h.has_graph; holds = h.holds.selected }) c (derived_of m s h.graph (Lost c) h.has_graph d);
+    some = h.holds.selected.some;
+    sheet = t;
+    is_sheet = h.holds;
+    many = inl (omega (arith, nodes));
+  };
+}
+too_many m s t h (inr edges) = record {
+  graph = h.graph;
+  has_graph = h.has_graph;
+  holds = record {
+    none_lost = λ c d. none_lost m s h.holds.selection (record { graph = h.graph; has_graph = h.has_graph; holds = h.holds.selected }) c (derived_of m s h.graph (Lost c) h.has_graph d);
+    some = h.holds.selected.some;
+    sheet = t;
+    is_sheet = h.holds;
+    many = inr (omega (arith, edges));
+  };
+}
+
+pub undrawn : (m : MetadataModel) (s : SettingModel) (t : Sheet) → IsSheetFor m s t → (e : Error) → DrawingRefusal numbers t e → GraphRefusal m s e
+undrawn m s t h errors.NoResolveGraph d = absurd d
+undrawn m s t h (errors.Metadata inner) d = absurd d
+undrawn m s t h (errors.InvalidPkgSpec text) d = absurd d
+undrawn m s t h errors.NoRootKrates d = absurd d
+undrawn m s t h (errors.InvalidId text) d = absurd d
+undrawn m s t h (errors.Doubled kid) d = absurd d
+undrawn m s t h (errors.Lost what) d = absurd d
+undrawn m s t h errors.TooMany d = too_many m s t h d
+undrawn m s t h errors.Memory d = tt
+
+-- ---- within them
+
+zipped : {A B : Type 0} (R : A → B → Type 0) (xs : List A) (ys : List B) → AllZip R xs ys → length ys ≡ length xs
+zipped R [] [] z = refl
+zipped R [] (y ∷ ys) z = absurd z
+zipped R (x ∷ xs) [] z = absurd z
+zipped R (x ∷ xs) (y ∷ ys) z = ap suc (zipped R xs ys z.1)
+
+below : (n m : ℕ) → n ≡ m → m ≤ 2 ^ 32 - 1 → n < 2 ^ 32
+below n m e le = omega (arith, e, le)
+
+pub numbered : {N E : Type 0} (made : Edge → E → Type 0) (t : Sheet) (g : StoredGraph (Node N) E) → IsDrawing made t g → IsWithin numbers t → IsNumbered g
+numbered made t g d w = record {
+  nodes = below (length g.nodes) (length (spots t)) (count_of node_spot g.nodes (spots t) d.nodes) w.nodes;
+  edges = below (length g.edges) (length (lines t)) (zipped (IsStoredAs made) (lines t) g.edges d.edges) w.edges;
+}
+
+-- of a call that may refuse
+pub if_within : {X : Type 0} (limits : Limits) (t : Sheet) (result : Result X Error) → IsWithin limits t → IfOk result (λ _. IsWithin limits t)
+if_within limits t (Ok x) w = w
+if_within limits t (Err e) w = tt
+
+-- want of memory may always come
+pub if_memory : {X : Type 0} (limits : Limits) (t : Sheet) (result : Result X Error) → IfErr result (λ e. e ≡ errors.Memory) → IfErr result (DrawingRefusal limits t)
+if_memory limits t (Ok x) h = tt
+if_memory limits t (Err e) h = subst (DrawingRefusal limits t) (sym h) tt
+
+-- the crates are among the nodes
+no_more_crates : {N : Type 0} (nodes : List (Node N)) → length (crate_ids nodes) ≤ length nodes
+no_more_crates [] = omega arith
+no_more_crates (node.Krate id krate features mapping ∷ nodes) = let le = no_more_crates nodes in omega (arith, le)
+no_more_crates (node.Feature krate_index name ∷ nodes) = let le = no_more_crates nodes in omega (arith, le)
+
+few_crates : {N : Type 0} (nodes : List (Node N)) (n : ℕ) → n ≡ length (crate_ids nodes) → length nodes < 2 ^ 32 → n < 2 ^ 32
+few_crates nodes n e lt = let le = no_more_crates nodes in omega (arith, e, le, lt)
+
+-- where the nodes can be numbered, so can the crates, and the nodes are in order
+pub numbered_graph : Compares → {N E : Type 0} (made : Package → N → Type 0) (made_edge : Edge → E → Type 0) (m : Metadata) (s : SettingModel) (t : SheetOf) (d : Division) (g : StoredGraph (Node N) E)
+    → IsSheetFor (metadata_view m) s (sheet_view t) → IsOrdered t → Builds m s d → IsGraphOf made made_edge (sheet_view t) d.kept.items g → IsNumbered g → AreNodes g.nodes
+numbered_graph o made made_edge m s t d g h ordered b w n =
+    graph_nodes o made made_edge m s t d g h ordered b w (few_crates g.nodes (length d.kept.items) (counted d.kept.items g.nodes w.ids) n.nodes) n.nodes

@@ -1,8 +1,0 @@
-use Rattle.std.proofs.Common.{◌≡◌}
-use Rattle.krates.proofs.nodes.as_nodes.Given as goal
-
-abbrev pub invariant-loop-number : goal.invariant-loop-number
-invariant-loop-number l =
-    goal.iterator-loop-number.can_next l.number-iterator
-    × goal.iterator-loop-number.is_finite l.number-iterator
-    × (l.nodes.items ≡ l.yielded)

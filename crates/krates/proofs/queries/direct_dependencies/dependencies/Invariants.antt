@@ -1,0 +1,10 @@
+use Rattle.std.proofs.Common.{◌≡◌, ◌++◌, drop, map}
+use Rattle.krates.specs.Direct.{joined_all, least_edge, value_at}
+use Rattle.krates.specs.DirectDependencies.{dependency_view}
+use Rattle.krates.proofs.queries.direct_dependencies.dependencies.Given as goal
+
+-- those found, and what the numbers that are left give, are what all give
+abbrev pub invariant-loop-number : goal.invariant-loop-number
+invariant-loop-number g l =
+    map dependency_view l.found.items ++ joined_all (value_at l.graph.nodes) (least_edge l.graph.nodes l.graph.edges l.from) (drop l.number-index l.numbers)
+    ≡ joined_all (value_at l.graph.nodes) (least_edge l.graph.nodes l.graph.edges l.from) l.numbers

@@ -1,0 +1,23 @@
+//! Questions to the graph of the kept crates, a file for each.
+
+mod direct;
+mod direct_dependencies;
+mod direct_dependents;
+mod get_deps;
+mod get_enabled_features;
+mod get_node;
+mod index;
+mod krates_by_name;
+mod krates_filtered;
+mod matches;
+mod nid_for_kid;
+mod node_for_kid;
+mod resolved_dependency;
+mod search_matches;
+mod workspace_members;
+
+pub use direct_dependencies::DirectDependency;
+pub use direct_dependents::DirectDependent;
+pub use get_deps::Deps;
+pub use matches::{KrateMatch, Matches};
+pub use workspace_members::Members;
