@@ -4,3 +4,4 @@ pub mod ListedLemmas
 pub mod ListingLemmas
 pub mod OptionsLemmas
 pub mod ReportedLemmas
+pub mod StepLines

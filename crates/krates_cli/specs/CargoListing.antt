@@ -30,7 +30,7 @@ pub record WritesCargoBeginning (s : SettingModel) (old new : Option Text) : Typ
   pub listing : IsCargoListing s lines
   pub appended : AppendsFront old new lines
 
--- cargo wrote no document, for this reason and not for want of memory
+-- cargo wrote no document, for this reason, and not because memory ran out
 pub record CargoFault (cause : cm.Error) : Type 0 where
   pub unrun : IsUnrun cause
   pub not_memory : cause ≡ cm_errors.Memory → ⊥

@@ -1,6 +1,7 @@
 pub mod CargoListing
 pub mod CommandLine
 pub mod Counted
+pub mod DerivationLines
 pub mod FailedCall
 pub mod Lines
 pub mod Listing

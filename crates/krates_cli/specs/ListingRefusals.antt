@@ -13,12 +13,12 @@ use Rattle.krates_cli.specs.Listing.{IsListing}
 use Rattle.krates_cli.specs.declared.run_error.RunError.{RunError}
 use Rattle.krates_cli.specs.declared.run_error.RunError.TheVariants as errors
 
--- the text is no document, for this reason and not for want of memory
+-- the text is no document, for this reason, and not because memory ran out
 pub record ParseRefusal (text : Text) (cause : cm.Error) : Type 0 where
   pub refused : IsRefusal text cause
   pub not_memory : cause ≡ cm_errors.Memory → ⊥
 
--- the document has no graph of crates under the setting, for this reason and not for want of memory
+-- the document has no graph of crates under the setting, for this reason, and not because memory ran out
 pub record IsUnbuilt (s : SettingModel) (m : Metadata) (cause : build.Error) : Type 0 where
   pub refused : BuildRefusalAsGiven m s cause
   pub not_memory : cause ≡ build_errors.Memory → ⊥
@@ -52,7 +52,7 @@ RunRefusal s bytes (errors.Build cause) = IsUtf8 bytes × BuildCause s bytes cau
 RunRefusal s bytes errors.Write = IsUtf8 bytes × ((lines : Text) × IsListing s bytes lines)
 RunRefusal s bytes errors.Memory = ⊤
 
--- The cause isn't the text's: a call failed, memory ran out, or there are more kept crates than can be numbered.
+-- The cause isn't the text's: a call failed, memory ran out, or there are more nodes or edges than can be numbered.
 abbrev pub IsOutside : RunError → Type 0
 IsOutside errors.Read = ⊤
 IsOutside errors.Write = ⊤

@@ -16,7 +16,7 @@ use Rattle.krates_cli.specs.declared.options.Options.{Options}
 pub record OptionsModel : Type 0 where
   -- whether every member is asked for
   pub workspace : Bool
-  -- the purposes of the dependencies that are ignored
+  -- the kinds of the dependencies that are ignored
   pub ignored : List DepKind
   -- the triples of the targets
   pub targets : List Text
@@ -62,7 +62,7 @@ with_wish (at_target triple) o = record o { targets = triple ∷ o.targets }
 with_wish (without_package spec) o = record o { exclusions = spec ∷ o.exclusions }
 with_wish (by_program cargo) o = record o { cargo = later (Some cargo) o.cargo }
 
--- the purpose that a word means
+-- the kind that a word means
 abbrev pub kind_named : Text → Option DepKind
 kind_named word =
     if bytes_eq word (codes "normal") then Some kinds.Normal
@@ -97,14 +97,14 @@ IsUnknown words = (o : OptionsModel) → IsCommandLine words o → ⊥
 abbrev pub asked_at : Text → Asked
 asked_at triple = record { target = target_named triple; features = [] }
 
--- whether two purposes are one
+-- whether two kinds are one
 abbrev pub is_same : DepKind → DepKind → Bool
 is_same kinds.Normal kinds.Normal = true
 is_same kinds.Build kinds.Build = true
 is_same kinds.Dev kinds.Dev = true
 is_same _ _ = false
 
--- the set of these purposes
+-- the set of these kinds
 abbrev pub set_of : List DepKind → KindSet
 set_of asked = record {
   normal = list_any (is_same kinds.Normal) asked;

@@ -1,4 +1,4 @@
--- How options are read from the front of words, and how purposes are set one by one. Cited by private functions alone.
+-- How options are read from the front of words, and how kinds are set one by one. Cited by private functions alone.
 use Rattle.std.specs.Prelude.{◌≡◌, ◌++◌, List, [], ◌∷◌, Some, true, ⊤}
 use Rattle.krates_cm.specs.Document.{Text}
 use Rattle.krates_rules.specs.declared.kind.DepKind.{DepKind}
@@ -42,19 +42,19 @@ abbrev pub IsUnread : Type 0 → OptionsError → Type 0
 IsUnread P errors.Unknown = P
 IsUnread P errors.Memory = ⊤
 
--- ---- purposes
+-- ---- kinds
 
--- the set with one more purpose
+-- the set with one more kind
 abbrev pub with_kind : DepKind → KindSet → KindSet
 with_kind kinds.Normal set = record set { normal = true }
 with_kind kinds.Build set = record set { build = true }
 with_kind kinds.Dev set = record set { dev = true }
 
--- the set with these purposes too
+-- the set with these kinds too
 abbrev pub with_kinds : List DepKind → KindSet → KindSet
 with_kinds [] set = set
 with_kinds (kind ∷ rest) set = with_kinds rest (with_kind kind set)
 
--- these purposes are ignored too, of every crate
+-- these kinds are ignored too, of every crate
 abbrev pub with_ignored : List DepKind → IgnoredKinds → IgnoredKinds
 with_ignored asked ignored = record { of_members = with_kinds asked ignored.of_members; of_others = with_kinds asked ignored.of_others }

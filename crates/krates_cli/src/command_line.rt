@@ -125,7 +125,7 @@ fn refuse_options<E: Write>(error: &OptionsError, errors: &mut Counted<E>) -> u8
     }
 }
 
-/// Answers the exit status where the words couldn't be had: 2 and the usage line where one is no text, which is a word that
+/// Answers the exit status where the arguments couldn't be read: 2 and the usage line where one is no text, which is a word that
 /// isn't known; else 1 and the line that memory ran out.
 pub fn refuse_words<E: Write>(error: &io::Error, errors: &mut Counted<E>) -> u8
     ensures unknown_word { error_kind error.now ≡ ErrorKind.InvalidData → (result ≡ 2)

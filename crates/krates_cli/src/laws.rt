@@ -18,8 +18,9 @@ pub fn one_command_line()
     laws::one_specification();
 }
 
-/// Where words ask for a listing, and what is to be read has one, a run is refused only where a call fails, memory runs out, or more
-/// crates are kept than can be numbered. So it succeeds exactly where there is a listing, these aside.
+/// Where words ask for a listing, and what is to be read has one, a run is refused only where a call fails, memory
+/// runs out, or more crates are kept than can be numbered. So it succeeds exactly where there is a listing, these
+/// aside.
 pub fn listed_or_refused()
     ensures text { (s : SettingModel) (bytes lines : Text) (cause : RunError)
         → IsUtf8 bytes → IsListing s bytes lines → RunRefusal s bytes cause → IsOutside cause }

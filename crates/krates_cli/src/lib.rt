@@ -3,6 +3,7 @@
 
 pub mod command_line;
 pub mod counted;
+pub mod derivation_lines;
 mod failed_call;
 pub mod laws;
 mod lines;

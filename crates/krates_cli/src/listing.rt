@@ -44,11 +44,11 @@ fn listing_of(alloc: Global, options: &Options, metadata: Metadata) -> Result<St
     Ok(all_lines(alloc, &krates, reported.as_str())?)
 }
 
-/// Reads one document up to the end of the input, builds under the options, and writes a line `+ ` and the id for each kept crate, then a line
-/// `- ` and the id for each other package, both in the order of the ids.
+/// Reads one document up to the end of the input, builds under the options, and writes a line `+ ` and the id for
+/// each kept crate, then a line `- ` and the id for each other package, both in the order of the ids.
 ///
 /// It is refused as `Read`, `Utf8`, `Parse`, `Build` or `Write`, in this order and only where that is true of the reader, of
-/// what was read, or of the writer; `Memory` may stand in place of any answer. The whole text is made before the first byte is
+/// what was read, or of the writer; it may instead return `Memory`. The whole text is made before the first byte is
 /// written, so after each refusal but `Write` nothing was written, and after `Write` a beginning of it. What was read is gone.
 ///
 /// The input is read whether or not the options ask for a program; `run_by_cargo` runs that in place of reading.

@@ -18,7 +18,7 @@ use std::alloc::{AllocError, AllocFailed, Global};
 pub struct Options {
     /// Whether every member of the workspace is a root, also where the graph has a root of its own: `--workspace`.
     pub workspace: bool,
-    /// The dependencies for these purposes are ignored, whichever crate has them: `--ignore-kind`.
+    /// The dependencies of these kinds are ignored, whichever crate has them: `--ignore-kind`.
     pub ignored: Vec<DepKind>,
     /// The triples of the targets: `--target`. Where none is given, any target is meant.
     pub targets: Vec<String>,
@@ -108,7 +108,7 @@ impl Options {
     }
 }
 
-/// The purpose that a word means.
+/// The kind that a word means.
 fn dep_kind(word: &str) -> Result<DepKind, OptionsError>
     ensures read { IfOk result (λ kind. kind_named word.now ≡ Some kind) }
     ensures refused { IfErr result (IsUnread (kind_named word.now ≡ None)) }
@@ -140,7 +140,7 @@ fn pkg_spec(alloc: Global, word: &str) -> Result<PkgSpec, OptionsError>
 /// The options are `--workspace`; `--ignore-kind KIND`, where KIND is `normal`, `build` or `dev`; `--target TRIPLE`;
 /// `--exclude SPEC`, where SPEC is a package specification; and `--cargo PROGRAM`. What is asked stands in the order of the
 /// words, and of several programs the last counts. It is refused as `Unknown` where the words are no such options, and only
-/// there; `Memory` may stand in place of any answer.
+/// there; it may instead return `Memory`.
 pub fn options_of(alloc: Global, words: &[String]) -> Result<Options, OptionsError>
     ensures read { IfOk result
         (λ options. IsCommandLine (map string_bytes words.now) (options_view options)) }
@@ -154,7 +154,7 @@ pub fn options_of(alloc: Global, words: &[String]) -> Result<Options, OptionsErr
     Ok(options)
 }
 
-/// Sets what the options mean, where nothing is set yet. The only error is want of memory.
+/// Sets what the options mean, where nothing is set yet. The only error is running out of memory.
 pub fn set_options<S: Drop + 'static>(
     alloc: Global,
     options: &Options,
@@ -171,7 +171,7 @@ pub fn set_options<S: Drop + 'static>(
     Ok(())
 }
 
-/// Ignores dependencies for these purposes, whichever crate has them.
+/// Ignores dependencies of these kinds, whichever crate has them.
 fn ignore_kinds<S: Drop + 'static>(builder: &mut Builder<S>, kinds: &[DepKind])
     ensures setting { builder.new.setting ≡ record
         (builder.old.setting) { ignored = with_ignored kinds.now builder.old.setting.ignored } }
