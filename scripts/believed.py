@@ -35,6 +35,26 @@ Each definition is explained before it is used, with the sentence that stands ab
 ```
 """
 
+LAWS = """## Four laws
+
+The headline speaks of one build. What holds of a build and another, or of two queries, follows from it by four laws. None adds to what
+has to be believed but its own statement, which fits a screen.
+
+- **Order**: of two documents that differ only in the order of packages, members, nodes, a node's dependencies or features, the
+  same is kept, drawn number by number, reported in order and refused. So `a` and `b`, of which `a` needs `b`, are nodes 0 and 1
+  whichever is written first. [BuildLaws](../crates/krates/specs/BuildLaws.antt), `IsBuildOrderFree`.
+- **Narrowing**: with one more exclusion, one more ignored kind, or targets where there were none, crates, features and edges are a part
+  of what they were, and a build that succeeded succeeds still, or no root is left. So without dev dependencies `a`, which needs `b`
+  for its tests, is kept alone. [BuildLaws](../crates/krates/specs/BuildLaws.antt), `IsBuildNarrowing`.
+- **Rebuild**: what kept members reach without edges of a kind has all that a build keeps which ignores the kind, where the graph has no
+  root or a member as its root; and nothing else, where no feature is enabled and each member is a root. So both have `a` alone there; but
+  where a feature of `a` names one of `b`, the first has `b` too. [Rebuilding](../crates/krates_drawing/specs/Rebuilding.antt),
+  `FilteredHoldsRebuild`; a caller's view of it is [Rebuilt](../crates/krates_rows/specs/Rebuilt.antt), `HoldsRebuilt`.
+- **Agreement**: where no two crates come by one declared dependency of `p`, `p` depends directly on exactly those that have `p` as a
+  dependent. So `a` depends on `b` exactly if `b` has `a` as a dependent; but where one dependency brings two versions of `d`, `a` is a
+  dependent of both and depends on the one that comes last by id. It is the clause `agree` of `IsBuilt` below.
+"""
+
 IMPORT = re.compile(r"^\s*(?:ghost )?use Rattle\.(\w+)\.specs\.([\w.]+?)(?:\.\{(.*?)\})?(?: as (\w+))?;?$", re.M | re.S)
 DEFINITION = re.compile(r"^(?:abbrev |unfoldable )?pub (?:(data|record) )?([\w']+)")
 WORD = re.compile(r"[\w']+")
@@ -170,7 +190,7 @@ def lists_fields(definition):
 def is_drawn(definition):
     """Whether the definition speaks of the drawn graph alone, or of the selection that is drawn."""
     place = definition.file.path.relative_to(ROOT)
-    return place.parts[1] in ("krates_drawing", "krates_graph", "krates_resolve") or (place.parts[1], place.stem) in (("krates", "Node"), ("krates", "Drawn"))
+    return place.parts[1] in ("krates_drawing", "krates_graph", "krates_questions", "krates_resolve") or (place.parts[1], place.stem) in (("krates", "Node"), ("krates", "Drawn"))
 
 
 def page():
@@ -184,7 +204,7 @@ def page():
     drawn = lines_of(definition for definition in order if is_drawn(definition) and not lists_fields(definition))
     meaning = lines - drawn - fields
     head = {"source": SOURCE, "count": len(order), "lines": lines, "meaning": meaning, "drawn": drawn, "fields": fields, "files": len(files)}
-    out = [HEAD.format(contract="\n".join(clauses), **head)]
+    out = [HEAD.format(contract="\n".join(clauses), **head), LAWS]
     for file in files:
         place = file.path.relative_to(ROOT)
         out.append(f"## {file.title.split('. ')[0].rstrip('.')}\n\n[{place.parts[1]}, {place.stem}](../{place})\n")

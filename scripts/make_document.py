@@ -1,14 +1,18 @@
 #!/usr/bin/env python3
-"""Prints a document of `cargo metadata` with this many packages, for measuring: make_document.py COUNT
+"""Prints a document of `cargo metadata` with this many packages, for measuring: make_document.py COUNT [plain]
 
 Each package has six dependencies, half of them optional, on the packages that follow it, and four features with
 references of each form. The first package is the only member and needs all others, some of them by features alone.
+
+With the word `plain` each package has five dependencies, none of them optional, and no feature: so the graph has as many nodes as
+there are packages, and five times as many edges, but for those that would lead past the last.
 """
 import json
 import sys
 
 COUNT = int(sys.argv[1])
-DEPENDENCIES = 6
+PLAIN = sys.argv[2:] == ["plain"]
+DEPENDENCIES = 5 if PLAIN else 6
 
 
 def name(number):
@@ -25,12 +29,14 @@ def dependencies(number):
 
 def declared(number, place):
     return {
-        "name": name(number), "req": "*", "kind": None, "optional": place % 2 == 1,
-        "uses_default_features": place == 0, "features": ["core"] if place == 2 else [],
+        "name": name(number), "req": "*", "kind": None, "optional": not PLAIN and place % 2 == 1,
+        "uses_default_features": place == 0, "features": ["core"] if place == 2 and not PLAIN else [],
     }
 
 
 def features(number):
+    if PLAIN:
+        return {}
     needs = [name(n) for n in dependencies(number)]
     listed = {"default": ["core"], "core": ["more"], "more": [], "weak": []}
     if len(needs) > 1:

@@ -1,0 +1,229 @@
+#!/usr/bin/env python3
+"""Checks what the queries answer against a plain reading of the graph that was printed.
+
+    scripts/check_queries.py FOLDER
+
+A document is FOLDER/NAME/metadata.json, which may be compressed, as metadata.json.gz. Each is read by krates_print with the
+word `queries`, without an option and with --target x86_64-unknown-linux-gnu. It prints the graph, and behind it what each query
+answers: of every node, of every id of the document, of every feature and of every name. From the lines of the graph, and of the
+document its members, names and versions, this script makes the lines that are expected, each by the
+sentence that says what the query means, and compares.
+
+The program is crates/krates_print/out/krates_print, which `rt run` in that folder builds, or $KRATES_PRINT.
+The status is 0 where nothing differs and something was compared, and 1 otherwise.
+"""
+import gzip
+import json
+import os
+import pathlib
+import subprocess
+import sys
+
+ROOT = pathlib.Path(__file__).resolve().parent.parent
+PROGRAM = os.environ.get("KRATES_PRINT", str(ROOT / "crates" / "krates_print" / "out" / "krates_print"))
+SETTINGS = {"none": [], "linux": ["--target", "x86_64-unknown-linux-gnu"]}
+
+
+class Graph:
+    """The lines of a graph: what each node is, what each mapping names, and from where to where each edge leads."""
+
+    def __init__(self, lines):
+        self.crates, self.features, self.mapping, self.edges = [], {}, {}, []
+        for line in lines:
+            word, rest = line.split(" ", 1)
+            if word == "node":
+                self.add_node(*rest.split(" ", 2))
+            elif word == "map":
+                krate, place, target = map(int, rest.split(" "))
+                self.mapping.setdefault(krate, {})[place] = target
+            else:
+                _, source, target, what = rest.split(" ", 3)
+                self.edges.append((int(source), int(target), what))
+
+    def add_node(self, number, what, text):
+        assert int(number) == len(self.crates) + len(self.features), "nodes are numbered from 0"
+        if what == "crate":
+            self.crates.append(text)
+        else:
+            owner = [krate for krate in self.crates if text.startswith(krate + "/") and "/" not in text[len(krate) + 1:]]
+            self.features[int(number)] = (self.crates.index(owner[0]), text[len(owner[0]) + 1:])
+
+    def count(self):
+        return len(self.crates) + len(self.features)
+
+    def label(self, number):
+        if number < len(self.crates):
+            return f"crate {self.crates[number]}"
+        krate, name = self.features[number]
+        return f"feature {self.crates[krate]}/{name}"
+
+    def leads_into(self, edge, node):
+        """Whether an edge leads to a node or to a feature of it."""
+        target = self.edges[edge][1]
+        return target == node or (target in self.features and self.features[target][0] == node)
+
+
+def kind_of(what):
+    """The kind that an edge has; none for what a feature leads to."""
+    return None if what == "feature" else what.split(" ")[1]
+
+
+def by_source(graph):
+    """The numbers of the edges from each node, ascending."""
+    edges = [[] for _ in range(graph.count() + 1)]
+    for edge, (source, _, _) in enumerate(graph.edges):
+        edges[source].append(edge)
+    return edges
+
+
+def dependents(graph, node):
+    """The crates from which an edge leads to the node or to a feature of it, each with the least such edge."""
+    least = {}
+    for edge, (source, _, _) in enumerate(graph.edges):
+        if source < len(graph.crates) and graph.leads_into(edge, node):
+            least.setdefault(source, edge)
+    return sorted(least.items())
+
+
+def dependencies(graph, own_edges, node):
+    """The crates that the mapping of a crate names, each with the least edge to it or to a feature of it."""
+    named = sorted(set(graph.mapping.get(node, {}).values()))
+    return [(krate, next(edge for edge in own_edges if graph.leads_into(edge, krate))) for krate in named]
+
+
+def node_lines(graph, node, own_edges):
+    for source, edge in dependents(graph, node):
+        yield f"dependent {node} {source} {edge} {graph.crates[source]}"
+    for target, edge in dependencies(graph, own_edges, node):
+        yield f"dependency {node} {target} {edge} {graph.crates[target]}"
+    for edge in own_edges:
+        yield f"leads {node} {graph.edges[edge][2]}"
+        yield f"to {node} {graph.label(graph.edges[edge][1])}"
+    for place, target in sorted(graph.mapping.get(node, {}).items()):
+        yield f"resolved {node} {place} {graph.crates[target]}"
+
+
+def filtered(graph, edges_from, members, kind):
+    """The crates that members reach over edges that have no kind or another one, by number."""
+    reached, left = set(members), list(members)
+    while left:
+        for edge in edges_from[left.pop()]:
+            _, target, what = graph.edges[edge]
+            if kind_of(what) != kind and target not in reached:
+                reached.add(target)
+                left.append(target)
+    return [krate for krate in graph.crates if graph.crates.index(krate) in reached]
+
+
+def id_lines(graph, document):
+    """What is answered to each id of the document: something exactly where the graph has a node of it."""
+    number_of = {krate: number for number, krate in enumerate(graph.crates)}
+    features = {number: [] for number in range(len(graph.crates))}
+    for krate, name in graph.features.values():
+        features[krate].append(name)
+    for package in document["packages"]:
+        number = number_of.get(package["id"])
+        if number is None:
+            continue
+        names = "".join(f" {name}" for name in sorted(features[number], key=str.encode))
+        yield f"number {package['id']} {number}"
+        yield f"node_of {package['id']} crate {package['id']}"
+        yield f"features {package['id']}{names}"
+        yield f"found {package['id']} {number} crate {package['id']}"
+
+
+def feature_lines(graph):
+    """What is found of each feature's name, of the first crate and of its own."""
+    number_of = {feature: number for number, feature in graph.features.items()}
+    for number, (owner, name) in graph.features.items():
+        for krate in (0, owner):
+            found = number_of.get((krate, name))
+            if found is not None:
+                yield f"found {graph.crates[krate]} {found} {graph.label(found)}"
+
+
+def version_of(text):
+    """The three numbers of a version, and whether it is one before a release."""
+    core, *pre = text.split("+")[0].split("-", 1)
+    return tuple(map(int, core.split("."))), bool(pre)
+
+
+def fits(wanted, version):
+    """Whether a version fits the requirement that is these three numbers: none before a release; the first that isn't zero of
+    them stays, and nothing below it comes."""
+    numbers, is_before = version
+    fixed = next((place for place, number in enumerate(wanted) if number), 2)
+    return not is_before and numbers >= wanted and numbers[:fixed + 1] == wanted[:fixed + 1]
+
+
+def name_lines(graph, packages):
+    for krate in graph.crates:
+        name, wanted = packages[krate]["name"], version_of(packages[krate]["version"])[0]
+        alike = [(number, other) for number, other in enumerate(graph.crates) if packages[other]["name"] == name]
+        for number, other in alike:
+            yield f"named {name} {number} {other}"
+        for number, other in alike:
+            if fits(wanted, version_of(packages[other]["version"])):
+                yield f"matching {name} {number} {other}"
+
+
+def expected(graph, document):
+    """The lines that are expected of all queries."""
+    packages = {package["id"]: package for package in document["packages"]}
+    edges_from = by_source(graph)
+    members = [number for number, krate in enumerate(graph.crates) if krate in document["workspace_members"]]
+    yield f"len {len(graph.crates)}"
+    yield f"root {document['workspace_root']}"
+    yield from (f"member crate {graph.crates[number]}" for number in members)
+    yield from (f"krate {krate}" for krate in graph.crates)
+    yield from (f"krate {number} {krate} {krate}" for number, krate in enumerate(graph.crates))
+    for node in range(graph.count()):
+        yield from node_lines(graph, node, edges_from[node])
+    for kind in ("normal", "build", "dev"):
+        yield from (f"filtered {kind} {krate}" for krate in filtered(graph, edges_from, members, kind))
+    yield from id_lines(graph, document)
+    yield from feature_lines(graph)
+    yield from name_lines(graph, packages)
+
+
+def printed(text, options):
+    """The lines of the graph, and those of the answers."""
+    run = subprocess.run([PROGRAM, "queries", *options], input=text, capture_output=True, check=True)
+    lines = run.stdout.decode().split("\n")
+    count = next(place for place, line in enumerate(lines) if line.split(" ")[0] not in ("node", "map", "edge"))
+    return lines[:count], lines[count:-1]
+
+
+def differences(text, options):
+    """How many answers there are, and the first few that differ, as they are expected and as they are printed."""
+    drawn, answers = printed(text, options)
+    wanted = list(expected(Graph(drawn), json.loads(text)))
+    pairs = [(line, other) for line, other in zip(wanted, answers) if line != other]
+    if len(wanted) != len(answers):
+        pairs.append((f"{len(wanted)} lines", f"{len(answers)} lines"))
+    return len(wanted), pairs[:5]
+
+
+def texts(folder):
+    for path in sorted(folder.glob("*/metadata.json*")):
+        yield path, gzip.decompress(path.read_bytes()) if path.suffix == ".gz" else path.read_bytes()
+
+
+def main(words):
+    if len(words) != 1 or not pathlib.Path(words[0]).is_dir():
+        print(__doc__, file=sys.stderr)
+        return 2
+    same = different = total = 0
+    for path, text in texts(pathlib.Path(words[0])):
+        for name, options in SETTINGS.items():
+            count, pairs = differences(text, options)
+            total += count
+            same, different = (same, different + 1) if pairs else (same + 1, different)
+            for wanted, answer in pairs:
+                print(f"{path.parent.name}, {name}: expected {wanted!r}, printed {answer!r}")
+    print(f"{same} the same, {different} different; {total} answers")
+    return 0 if same and not different else 1
+
+
+if __name__ == "__main__":
+    sys.exit(main(sys.argv[1:]))
