@@ -32,7 +32,11 @@ pub(crate) fn told<R: Read, W: Write>(
 }
 
 /// The status and what goes to standard error, a bar, and what goes to standard output.
-fn outcome<R: Read + Drop>(alloc: Global, words: &[String], reader: R) -> Result<String, Fail> {
+pub(crate) fn outcome<R: Read + Drop>(
+    alloc: Global,
+    words: &[String],
+    reader: R,
+) -> Result<String, Fail> {
     let mut input = Counted::new(reader);
     let mut output = Counted::new(Vec::new(alloc));
     let told = told(alloc, words, &mut input, &mut output)?;

@@ -1,7 +1,8 @@
 //! Runs over readers and writers that give and take little at a time, that fail, and that are interrupted.
 
 use crate::listing::told;
-use krates_cli::Counted;
+use crate::no_programs::NoPrograms;
+use krates_cli::{Counted, program};
 use krates_samples::documents::document;
 use krates_samples::table::{Question, Row, hold};
 use std::alloc::Global;
@@ -102,9 +103,9 @@ fn document_of(alloc: Global, size: usize) -> Result<String, Fail> {
     Ok(text)
 }
 
-/// How much of the lines was written.
-fn extent(taken: &[u8]) -> &'static str {
-    match LINES.as_bytes().strip_prefix(taken) {
+/// How much of the text was written.
+fn extent(text: &str, taken: &[u8]) -> &'static str {
+    match text.as_bytes().strip_prefix(taken) {
         Some([]) => "all",
         Some(_) => "a beginning",
         None => "other bytes",
@@ -130,7 +131,7 @@ impl Course for Reading {
         let extent = if taken.is_empty() {
             "nothing"
         } else {
-            extent(taken)
+            extent(LINES, taken)
         };
         let (told, failed) = (told.as_str().trim_end(), input.failures());
         Ok(format!(in alloc; "{told}, {extent} written, {failed} failed")?)
@@ -146,9 +147,34 @@ impl Course for Writing {
         let mut input = Counted::new(json.as_bytes());
         let mut output = Counted::new(Taking { taken, pace });
         let told = told(alloc, &[], &mut input, &mut output)?;
-        let extent = extent(output.get_ref().taken.as_slice());
+        let extent = extent(LINES, output.get_ref().taken.as_slice());
         let (told, failed) = (told.as_str().trim_end(), output.failures());
         Ok(format!(in alloc; "{told}, {extent} written, {failed} failed")?)
+    }
+}
+
+/// What is told of bytes that are no text.
+const REFUSAL: &str = "refused: input is not UTF-8\n";
+
+/// Runs over bytes that are no text, whose writer of refusals goes at the pace. No document is read.
+struct Telling;
+
+impl Course for Telling {
+    fn run(alloc: Global, _json: &str, pace: Pace) -> Result<String, Fail> {
+        let taken = Vec::new(alloc);
+        let mut input = Counted::new(b"\xff".as_slice());
+        let mut output = Counted::new(Vec::new(alloc));
+        let mut errors = Counted::new(Taking { taken, pace });
+        let status = program(
+            &[],
+            &mut input,
+            &mut output,
+            &mut errors,
+            &(NoPrograms, alloc),
+        );
+        let extent = extent(REFUSAL, errors.get_ref().taken.as_slice());
+        let (failed, lines) = (errors.failures(), output.get_ref().len());
+        Ok(format!(in alloc; "{status} with {lines} bytes, {extent} written, {failed} failed")?)
     }
 }
 
@@ -186,7 +212,7 @@ fn each_call<C: Course>(
     let first = C::run(alloc, json, Pace::new(most, kind, 0))?;
     for call in 1..1000usize {
         let told = C::run(alloc, json, Pace::new(most, kind, call))?;
-        if told.as_str() == "0, all written, 0 failed" {
+        if told.ends_with(", all written, 0 failed") {
             return Ok(format!(in alloc; "{call} calls: {first}")?);
         }
         if told.as_str() != first.as_str() {
@@ -196,8 +222,12 @@ fn each_call<C: Course>(
     Ok(first)
 }
 
-// The buffer of a run has 65,536 bytes; the last call of each reader finds the end.
+// The buffer of a run has 65,536 bytes; the last call of each reader finds the end. A document without blanks has 777 bytes.
 const FAILED_READS: &[Row] = &[
+    (
+        "0 1 fails",
+        "778 calls: 1 refused: read failed, nothing written, 1 failed",
+    ),
     (
         "4095 65536 fails",
         "2 calls: 1 refused: read failed, nothing written, 1 failed",
@@ -266,6 +296,7 @@ fn refuses_where_any_read_fails(rt: HostRuntime) -> Result<(), Fail> {
 }
 
 const INTERRUPTED_READS: &[Row] = &[
+    ("0 1 is interrupted", "778 calls: 0, all written, 1 failed"),
     (
         "4095 65536 is interrupted",
         "2 calls: 0, all written, 1 failed",
@@ -385,4 +416,25 @@ const WRITES: &[Row] = &[
 #[test]
 fn writes_all_or_a_beginning(rt: HostRuntime) -> Result<(), Fail> {
     hold::<EachCall<Writing>>(rt.alloc(), WRITES)
+}
+
+// Twenty-eight bytes are written. The status is that of the refusal, whether it is told or not.
+const TOLD: &[Row] = &[
+    (
+        "0 1 fails",
+        "28 calls: 1 with 0 bytes, a beginning written, 1 failed",
+    ),
+    (
+        "0 27 takes nothing",
+        "2 calls: 1 with 0 bytes, a beginning written, 1 failed",
+    ),
+    (
+        "0 28 is interrupted",
+        "1 calls: 1 with 0 bytes, all written, 1 failed",
+    ),
+];
+
+#[test]
+fn answers_the_status_where_no_refusal_can_be_told(rt: HostRuntime) -> Result<(), Fail> {
+    hold::<EachCall<Telling>>(rt.alloc(), TOLD)
 }

@@ -19,6 +19,8 @@ impl Question for Admitted {
     }
 }
 
+// In each of these documents the default members, and the `dependencies` of each node, have a text that is no id: nothing looks
+// at them.
 const ADMITTED_DOCUMENTS: &[Row] = &[
     ("a|b / nodes a b / members a a", "2 packages"),
     (" / nodes / members", "0 packages"),
@@ -52,6 +54,7 @@ fn documents_without_graph_or_with_invalid_ids(rt: HostRuntime) -> Result<(), Fa
 }
 
 const DOUBLED: &[Row] = &[
+    // also where the root is lost, since it has no node
     ("a|a / nodes", "doubled id: path+file:///w/a#0.1.0"),
     ("a|b / nodes a|a", "doubled id: path+file:///w/a#0.1.0"),
     (

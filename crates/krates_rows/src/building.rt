@@ -127,6 +127,12 @@ const REFUSED: &[Row] = &[
     ),
     ("a|b / members", "no root crates available"),
     ("a|a / nodes a", "doubled id: path+file:///w/a#0.1.0"),
+    // the first class that is true counts: a member that is no id, or a lost root, comes behind a missing graph or a doubled id
+    (
+        "a|a / members x&id=x / no graph",
+        "no resolution graph was provided",
+    ),
+    ("b|b / nodes b", "doubled id: path+file:///w/b#0.1.0"),
 ];
 
 #[test]

@@ -68,7 +68,7 @@ fn push_edge(text: &mut String, edge: &GraphEdge<Edge>) -> Result<(), Fail> {
 }
 
 /// The whole graph of a document under the setting of its line.
-struct Graphed;
+pub(crate) struct Graphed;
 
 impl Question for Graphed {
     fn told(alloc: Global, line: &str) -> Result<String, Fail> {
@@ -127,11 +127,16 @@ const GRAPHS: &[Row] = &[
         "a real?&as=alias;x=dep:alias|real / nodes a real&as=alias;x|real",
         "a[1] real 0/x | 0>1 2:0 2:1",
     ),
-    // a dependency that is optional for one purpose, and isn't for another
+    // a dependency that is optional for one kind, and isn't for another
     (
         "a b? b&dev;w=b?/j|b;j= / nodes a b&normal&dev;w|b;j",
         "a[-][1] b 0/w 1/j | 0>1(dev) 0:3 2:0 2:3 3:1",
     ),
+    // features that name each other, and one that names itself
+    ("a;f=g g=f", "a 0/f 0/g | 1:0 1:2 2:0 2:1"),
+    ("a;f=f", "a 0/f | 1:0 1:1"),
+    // a crate that needs itself for its tests
+    ("a a&dev", "a[0] | 0>0(dev)"),
 ];
 
 #[test]

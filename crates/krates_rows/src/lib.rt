@@ -15,13 +15,23 @@ mod declared;
 #[cfg(test)]
 mod drawing;
 #[cfg(test)]
+mod edges;
+#[cfg(test)]
 mod enabled;
 #[cfg(test)]
 mod indexed;
 #[cfg(test)]
+mod lookups;
+#[cfg(test)]
 mod own_types;
 #[cfg(test)]
+mod pairs;
+#[cfg(test)]
+mod printed;
+#[cfg(test)]
 mod public_names;
+#[cfg(test)]
+mod rebuilt;
 #[cfg(test)]
 mod referents;
 #[cfg(test)]
@@ -30,5 +40,7 @@ mod selection;
 mod setters;
 #[cfg(test)]
 mod settings;
+#[cfg(test)]
+mod steps;
 #[cfg(test)]
 mod work;

@@ -75,10 +75,26 @@ impl Question for Own {
 const OWN: &[Row] = &[
     ("a b|b|c|d / nodes a b|b|c|d", "ab>, closure cd"),
     ("a b;x=|b|c / nodes a b;x|b", "ab>:, closure c"),
+    ("a b&dev|b|c", "ab>, closure c"),
     // no room for a kept package: nothing was reported
     ("a z|c|z", "out of memory, closure "),
     // no room is needed for a package that isn't kept
     ("a|z", "a, closure z"),
+    // whatever the refusal, the closure wasn't called
+    (
+        "a|c / no graph",
+        "no resolution graph was provided, closure ",
+    ),
+    ("a|c / members a &id=x", "invalid package id: x, closure "),
+    (
+        "a|a|c / nodes",
+        "doubled id: path+file:///w/a#0.1.0, closure ",
+    ),
+    (
+        "a b|c / nodes a b",
+        "lost package: path+file:///w/b#0.1.0, closure ",
+    ),
+    ("a|c / members", "no root crates available, closure "),
 ];
 
 #[test]

@@ -142,9 +142,7 @@ fn names_of_texts(rt: HostRuntime) -> Result<(), Fail> {
 fn names_of_values(rt: HostRuntime) -> Result<(), Fail> {
     let alloc = rt.alloc();
     laws::narrowing();
-    laws::narrowing_of_builds();
     laws::reordering();
-    laws::reordering_of_builds();
     let numbers = NodeId::new(3)
         .index()
         .saturating_add(EdgeId::new(4).index());

@@ -1,0 +1,110 @@
+//! Ids, and the correction of a package by an index.
+
+use crate::starving::{Call, Little, granted, other_refusal, refused, starved};
+use krates_cm::{Metadata, PackageId};
+use krates_ids::{CachingIndex, IdError, IndexAnswer, IndexKrate, IndexKrateVersion, Kid};
+use krates_samples::documents::metadata;
+use semver::Version;
+use std::alloc::{AllocError, Global};
+use std::collections::BTreeMap;
+use std::test::Fail;
+
+/// An id with an escape, which is read by decoding it.
+const ESCAPED: &str = "git+https://github.com/a/b?branch=c%2Fd#0.1.0";
+
+/// Reads that id.
+struct ReadId;
+
+impl Call for ReadId {
+    type Given = PackageId;
+
+    fn given(alloc: Global) -> Result<PackageId, Fail> {
+        let repr = String::from_str(alloc, ESCAPED)?;
+        Ok(PackageId { repr })
+    }
+
+    fn is_granted(_alloc: Global, given: PackageId, little: Little) -> Result<bool, Fail> {
+        let answer = Kid::try_from(given);
+        drop(little);
+        match answer {
+            Ok(kid) => granted(kid.source() == "git+https://github.com/a/b?branch=c/d"),
+            Err(IdError::Memory(id)) => refused(id.repr.as_str() == ESCAPED),
+            Err(_) => other_refusal(),
+        }
+    }
+}
+
+#[test]
+fn an_id_with_an_escape(rt: HostRuntime) -> Result<(), Fail> {
+    starved::<ReadId>(&rt)
+}
+
+/// The answer of an index about the version 1.0.0 of `p`: one feature without a reference.
+fn answer(alloc: Global) -> Result<IndexAnswer, Fail> {
+    let mut features = BTreeMap::new(alloc);
+    drop(features.insert(String::from_str(alloc, "std")?, Vec::new(alloc))?);
+    let version = Version::parse(alloc, "1.0.0")?;
+    let known = IndexKrateVersion { version, features };
+    let versions = vec![in alloc; known]?;
+    let mut krates = BTreeMap::new(alloc);
+    drop(krates.insert(String::from_str(alloc, "p")?, Some(IndexKrate { versions }))?);
+    Ok(IndexAnswer { krates })
+}
+
+/// A package that the index has, alone in its document.
+#[derive(Drop)]
+struct Indexed {
+    index: CachingIndex,
+    metadata: Metadata,
+}
+
+impl Indexed {
+    /// Corrects the package.
+    fn correct(&mut self, alloc: Global) -> Result<(), AllocError> {
+        match self.metadata.packages.first_mut() {
+            Some(pkg) => self.index.correct(alloc, pkg),
+            None => Ok(()),
+        }
+    }
+
+    /// The features of the package.
+    fn told(&self, alloc: Global) -> Result<String, AllocError> {
+        match self.metadata.packages.first() {
+            Some(pkg) => format!(in alloc; "{:?}", pkg.features),
+            None => format!(in alloc; "no package"),
+        }
+    }
+}
+
+/// Corrects the package.
+struct Correct;
+
+impl Call for Correct {
+    type Given = Indexed;
+
+    fn given(alloc: Global) -> Result<Indexed, Fail> {
+        let metadata = metadata(alloc, "p@1.0.0&crates.io;default=foo")?;
+        let index = CachingIndex {
+            answer: answer(alloc)?,
+        };
+        Ok(Indexed { index, metadata })
+    }
+
+    fn is_granted(alloc: Global, given: Indexed, little: Little) -> Result<bool, Fail> {
+        let mut given = given;
+        let answer = given.correct(alloc);
+        drop(little);
+        let told = given.told(alloc)?;
+        match answer {
+            Ok(()) => granted(
+                told.as_str() == r#"{"default": ["foo"], "foo": ["dep:foo"], "std": []}"#,
+            ),
+            Err(AllocError) => refused(told.as_str() == r#"{"default": ["foo"]}"#),
+        }
+    }
+}
+
+#[test]
+fn a_correction(rt: HostRuntime) -> Result<(), Fail> {
+    starved::<Correct>(&rt)
+}

@@ -1,0 +1,136 @@
+//! Calls with little memory: a test starts itself again in a process that has little, and makes its call there under one small
+//! budget after another, until there is enough.
+
+use std::alloc::Global;
+use std::process::Command;
+use std::test::Fail;
+
+/// A call, and how its answer is judged.
+pub(crate) trait Call {
+    /// What the call is made on.
+    type Given: Drop;
+
+    /// What the call is made on, made with ample memory.
+    fn given(alloc: Global) -> Result<Self::Given, Fail>;
+
+    /// Makes the call with little memory, gives the memory back, and tells whether there was enough. Fails at an answer that is
+    /// neither want of memory, where what has to be unchanged is, nor the one with ample memory.
+    fn is_granted(alloc: Global, given: Self::Given, little: Little) -> Result<bool, Fail>;
+}
+
+/// There was enough: the answer is the one with ample memory, or the call fails its test.
+pub(crate) fn granted(is_ample: bool) -> Result<bool, Fail> {
+    if !is_ample {
+        return Err(Fail::new("an answer that ample memory doesn't give"));
+    }
+    Ok(true)
+}
+
+/// Memory was wanting: what has to be unchanged is, or the call fails its test.
+pub(crate) fn refused(is_unchanged: bool) -> Result<bool, Fail> {
+    if !is_unchanged {
+        return Err(Fail::new("something changed at a refusal"));
+    }
+    Ok(false)
+}
+
+/// The call was refused for another reason than want of memory, so it fails its test.
+pub(crate) fn other_refusal() -> Result<bool, Fail> {
+    Err(Fail::new("a refusal for another reason"))
+}
+
+/// The budgets are below this number of bytes.
+const RESERVE: usize = 1 << 18;
+
+/// How many blocks of memory are taken at most.
+const BLOCKS: usize = 20_000;
+
+/// All memory but a budget, which is given back where this is dropped.
+#[derive(Drop)]
+pub(crate) struct Little {
+    blocks: Vec<Vec<u8>>,
+}
+
+impl Little {
+    /// Takes a block of this size, where there is one.
+    fn take(&mut self, alloc: Global, size: usize) -> bool {
+        if self.blocks.len() >= self.blocks.capacity() {
+            return false;
+        }
+        match Vec::with_capacity(alloc, size) {
+            Ok(block) => self.blocks.push(block).is_ok(),
+            Err(_) => false,
+        }
+    }
+
+    /// Takes all blocks of this size.
+    fn take_all(&mut self, alloc: Global, size: usize) {
+        for _ in 0..BLOCKS {
+            if !self.take(alloc, size) {
+                return;
+            }
+        }
+    }
+
+    /// Takes all memory but this budget.
+    fn but(alloc: Global, budget: usize) -> Result<Little, Fail> {
+        let blocks = Vec::with_capacity(alloc, BLOCKS)?;
+        let mut little = Little { blocks };
+        let reserve: Vec<u8> = Vec::with_capacity(alloc, RESERVE)?;
+        for shift in [20u32, 16, 12, 8, 6, 5, 4] {
+            little.take_all(alloc, 1 << shift);
+        }
+        drop(reserve);
+        little.take(alloc, RESERVE.saturating_sub(budget));
+        Ok(little)
+    }
+}
+
+/// Whether this budget is enough for the call.
+fn is_enough<C: Call>(alloc: Global, budget: usize) -> Result<bool, Fail> {
+    let given = C::given(alloc)?;
+    C::is_granted(alloc, given, Little::but(alloc, budget)?)
+}
+
+/// The least number of steps of 16 bytes that are enough for the call.
+fn steps_to_enough<C: Call>(alloc: Global) -> Result<usize, Fail> {
+    for step in 0..RESERVE / 16 {
+        if is_enough::<C>(alloc, step * 16)? {
+            return Ok(step);
+        }
+    }
+    Err(Fail::new("no budget is enough"))
+}
+
+/// What the process is started with: little memory, of which each freed block is at hand again, whatever its size.
+const SCRIPT: &str =
+    "ulimit -v 100000; exec env GLIBC_TUNABLES=glibc.malloc.tcache_count=0:glibc.malloc.mxfast=0:glibc.malloc.mmap_max=0:glibc.malloc.arena_max=1:glibc.malloc.trim_threshold=1000000000 \"$0\" \"$1\" now";
+
+/// Starts this program again with little memory, for the test of this name.
+fn start(rt: &HostRuntime, name: &str) -> Result<(), Fail> {
+    let this = std::env::current_exe(rt)?;
+    let mut command = Command::new(rt.alloc(), "/bin/sh")?;
+    command.args(&["-c", SCRIPT, this.as_str(), name])?;
+    let output = command.output(rt)?;
+    let told = String::from_utf8_lossy(rt.alloc(), output.stdout.as_slice())?;
+    if !output.status.success() {
+        return Err(Fail::new(format_args!("with little memory: {told}")));
+    }
+    println!(rt; "{told}")?;
+    Ok(())
+}
+
+/// Makes the call under each small budget until one is enough, in a process of its own. At least one has to be too small.
+pub(crate) fn starved<C: Call>(rt: &HostRuntime) -> Result<(), Fail> {
+    let mut words = std::env::args(rt)?.skip(1);
+    let name = words.next();
+    if words.next().is_none() {
+        return start(rt, name.as_ref().map_or("", |name| name.as_str()));
+    }
+    let refused = steps_to_enough::<C>(rt.alloc())?;
+    println!(rt; "refused {refused} times")?;
+    if refused == 0 {
+        return Err(Fail::new("nothing was refused"));
+    }
+    Ok(())
+}

@@ -1,0 +1,83 @@
+//! The steps by which what is selected was found, in numbers of the document.
+
+use krates_resolve::{NumberedFact, NumberedStep, Setting, admit, select};
+use krates_samples::documents::metadata;
+use krates_samples::table::{Question, Row, hold};
+use std::alloc::Global;
+use std::test::Fail;
+
+/// Adds a fact by its numbers.
+fn push_fact(text: &mut String, fact: NumberedFact) -> Result<(), Fail> {
+    match fact {
+        NumberedFact::Crate { place } => write!(text, "crate {place}")?,
+        NumberedFact::Feature { number } => write!(text, "feature {number}")?,
+        NumberedFact::Kept { place, index, kind } => write!(text, "edge {place}.{index}.{kind}")?,
+        NumberedFact::Toggled { place, number } => write!(text, "toggled {number} by {place}")?,
+    }
+    Ok(())
+}
+
+/// Adds a step that is used, where there is one.
+fn push_use(text: &mut String, used: Option<usize>) -> Result<(), Fail> {
+    if let Some(step) = used {
+        write!(text, " <{step}")?;
+    }
+    Ok(())
+}
+
+/// Adds a step: the number of its rule, its fact and what it uses.
+fn push_step(text: &mut String, step: &NumberedStep) -> Result<(), Fail> {
+    write!(text, "{} ", step.reason.rule)?;
+    push_fact(text, step.fact)?;
+    push_use(text, step.reason.uses.first)?;
+    push_use(text, step.reason.uses.second)?;
+    write!(text, "; ")?;
+    Ok(())
+}
+
+/// The steps of the selection of a document.
+struct Stepped;
+
+impl Question for Stepped {
+    fn told(alloc: Global, line: &str) -> Result<String, Fail> {
+        let metadata = metadata(alloc, line)?;
+        let ids = admit(alloc, &metadata)?;
+        let setting = Setting::new(alloc);
+        let selection = select(alloc, &metadata, &ids, &setting)?;
+        let mut text = String::new(alloc);
+        for step in selection.steps.as_slice() {
+            push_step(&mut text, step)?;
+        }
+        Ok(text)
+    }
+}
+
+const STEPS: &[Row] = &[
+    // the root, the edge that it needs, and the crate that this leads to
+    ("a b|b", "1 crate 0; 5 edge 0.0.0 <0; 5 crate 1 <1; "),
+    // a feature that the declared dependency lists, and one that this names
+    (
+        "a b&with=x|b;x=y y=",
+        "1 crate 0; 5 edge 0.0.0 <0; 5 crate 1 <1; 6 feature 0 <1; 3 feature 1 <3; ",
+    ),
+    // a feature asks for an optional edge, and over that another enables `j` weakly
+    (
+        "a b?;b=dep:b w=b?/j|b;j=",
+        "1 crate 0; 1 feature 0; 1 feature 1; 4 edge 0.0.0 <1; 5 crate 1 <3; 7 toggled 2 by 0 <2 <3; 7 feature 2 <5; ",
+    ),
+    // the same, where the weak reference comes first and waits
+    (
+        "a b?;a=b?/j b=dep:b|b;j=",
+        "1 crate 0; 1 feature 0; 1 feature 1; 4 edge 0.0.0 <2; 5 crate 1 <3; 7 toggled 2 by 0 <1 <3; 7 feature 2 <5; ",
+    ),
+    // a strong reference asks for the edge itself
+    (
+        "a b?;s=b/j|b;j=",
+        "1 crate 0; 1 feature 0; 4 edge 0.0.0 <1; 5 crate 1 <2; 4 toggled 1 by 0 <1 <2; 7 feature 1 <4; ",
+    ),
+];
+
+#[test]
+fn steps_of_selections(rt: HostRuntime) -> Result<(), Fail> {
+    hold::<Stepped>(rt.alloc(), STEPS)
+}
