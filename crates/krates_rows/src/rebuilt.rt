@@ -48,8 +48,7 @@ fn built_twice(
     kind: DepKind,
     document: Metadata,
     again: Metadata,
-) -> Result<Twice, Error>
-{
+) -> Result<Twice, Error> {
     let krates: Krates = Builder::new(alloc).build_with_metadata(document, &mut NoneFilter)?;
     let mut without = Builder::new(alloc);
     without.ignore_kind(kind, Scope::All);
