@@ -2,9 +2,9 @@
 
 ghost use Rattle.std.specs.Prelude.{◌≡◌, None, ⊤};
 
-use crate::setters::build_as;
+use crate::setters::{build_as, krates_of};
 use krates::cm::Metadata;
-use krates::{Builder, Error, Krates, NoneFilter, OnFilter, Package};
+use krates::{Builder, Error, Krates, OnFilter, Package};
 use krates_samples::documents::{kid_of, metadata, word_of};
 use krates_samples::table::{Question, Row, hold};
 use std::alloc::{AllocError, Global};
@@ -163,8 +163,7 @@ struct Queried;
 
 impl Question for Queried {
     fn told(alloc: Global, line: &str) -> Result<String, Fail> {
-        let metadata = metadata(alloc, line)?;
-        let krates: Krates = Builder::new(alloc).build_with_metadata(metadata, &mut NoneFilter)?;
+        let krates = krates_of(alloc, line)?;
         let mut text = format!(in alloc; "{} of {}", krates.len(), krates.workspace_root())?;
         for name in ["a", "b", "c"] {
             push_answers(&mut text, alloc, &krates, name)?;

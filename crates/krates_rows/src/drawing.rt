@@ -5,10 +5,10 @@
 //! as its two numbers: with `>` between them for a dependency, `=` for a dependency on a feature, and `:` for what a feature
 //! enables. Behind it stands the kind of dependency, where it is no normal one.
 
-use crate::setters::build_as;
+use crate::setters::krates_of;
 use krates::graph::GraphEdge;
-use krates::{Builder, DepKind, Edge, Krates, Node, NodeId, NoneFilter, Package};
-use krates_samples::documents::{metadata, word_of};
+use krates::{DepKind, Edge, Node, NodeId, Package};
+use krates_samples::documents::word_of;
 use krates_samples::table::{Question, Row, hold};
 use std::alloc::Global;
 use std::test::Fail;
@@ -72,10 +72,7 @@ pub(crate) struct Graphed;
 
 impl Question for Graphed {
     fn told(alloc: Global, line: &str) -> Result<String, Fail> {
-        let metadata = metadata(alloc, line)?;
-        let mut builder = Builder::new(alloc);
-        build_as(alloc, &mut builder, line)?;
-        let krates: Krates = builder.build_with_metadata(metadata, &mut NoneFilter)?;
+        let krates = krates_of(alloc, line)?;
         let mut text = String::new(alloc);
         for node in krates.graph().raw_nodes() {
             push_node(&mut text, node)?;

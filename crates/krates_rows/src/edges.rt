@@ -1,9 +1,9 @@
 //! What the graph of a build answers along its edges: direct dependencies and dependents, what a node leads to, and
 //! what members reach without a kind of edge.
 
+use crate::setters::krates_of;
 use krates::graph::Direction;
-use krates::{Builder, DepKind, Krates, NodeId, NoneFilter};
-use krates_samples::documents::metadata;
+use krates::{DepKind, Krates, NodeId};
 use krates_samples::table::{Question, Row, hold};
 use std::alloc::Global;
 use std::test::Fail;
@@ -39,8 +39,7 @@ struct Direct;
 
 impl Question for Direct {
     fn told(alloc: Global, line: &str) -> Result<String, Fail> {
-        let metadata = metadata(alloc, line)?;
-        let krates: Krates = Builder::new(alloc).build_with_metadata(metadata, &mut NoneFilter)?;
+        let krates = krates_of(alloc, line)?;
         let mut text = String::new(alloc);
         for number in 0..10u32 {
             push_direct(&mut text, &krates, NodeId::new(number))?;
@@ -100,8 +99,7 @@ struct Ends;
 
 impl Question for Ends {
     fn told(alloc: Global, line: &str) -> Result<String, Fail> {
-        let metadata = metadata(alloc, line)?;
-        let krates: Krates = Builder::new(alloc).build_with_metadata(metadata, &mut NoneFilter)?;
+        let krates = krates_of(alloc, line)?;
         let mut text = String::new(alloc);
         for number in [0u32, 2, 3, 9] {
             text.push_str("|")?;
@@ -139,8 +137,7 @@ struct Filtered;
 
 impl Question for Filtered {
     fn told(alloc: Global, line: &str) -> Result<String, Fail> {
-        let metadata = metadata(alloc, line)?;
-        let krates: Krates = Builder::new(alloc).build_with_metadata(metadata, &mut NoneFilter)?;
+        let krates = krates_of(alloc, line)?;
         let mut text = String::new(alloc);
         for krate in &krates.krates_filtered(DepKind::Dev)? {
             write!(text, "{} ", krate.name)?;

@@ -5,10 +5,6 @@
 #![tactic(auto)]
 
 #[cfg(test)]
-mod admission;
-#[cfg(test)]
-mod asked;
-#[cfg(test)]
 mod building;
 #[cfg(test)]
 mod declared;
@@ -16,8 +12,6 @@ mod declared;
 mod drawing;
 #[cfg(test)]
 mod edges;
-#[cfg(test)]
-mod enabled;
 #[cfg(test)]
 mod indexed;
 #[cfg(test)]
@@ -33,14 +27,8 @@ mod public_names;
 #[cfg(test)]
 mod rebuilt;
 #[cfg(test)]
-mod referents;
-#[cfg(test)]
-mod selection;
-#[cfg(test)]
 mod setters;
 #[cfg(test)]
 mod settings;
-#[cfg(test)]
-mod steps;
 #[cfg(test)]
 mod work;

@@ -4,10 +4,10 @@
 //! perhaps with the name of a feature behind it, `members`, `name` and a name, `search`, a name and a requirement, or `krate`
 //! and a number. A crate is answered as its word, a feature as the number of its crate, a slash and its name.
 
-use crate::setters::build_as;
+use crate::setters::krates_of;
 use krates::semver::VersionReq;
-use krates::{Builder, KrateDetails, Krates, Matches, Node, NodeId, NoneFilter, Package};
-use krates_samples::documents::{kid_of, metadata, section, word_of};
+use krates::{KrateDetails, Krates, Matches, Node, NodeId, Package};
+use krates_samples::documents::{kid_of, section, word_of};
 use krates_samples::table::{Question, Row, hold};
 use std::alloc::Global;
 use std::test::Fail;
@@ -117,10 +117,7 @@ struct LookedUp;
 
 impl Question for LookedUp {
     fn told(alloc: Global, line: &str) -> Result<String, Fail> {
-        let metadata = metadata(alloc, line)?;
-        let mut builder = Builder::new(alloc);
-        build_as(alloc, &mut builder, line)?;
-        let krates: Krates = builder.build_with_metadata(metadata, &mut NoneFilter)?;
+        let krates = krates_of(alloc, line)?;
         let asked = section(line, "ask ").unwrap_or("");
         let (question, words) = asked.split_once(' ').unwrap_or((asked, ""));
         match question {
@@ -258,8 +255,7 @@ struct Duplicates;
 
 impl Question for Duplicates {
     fn told(alloc: Global, line: &str) -> Result<String, Fail> {
-        let metadata = metadata(alloc, line)?;
-        let krates: Krates = Builder::new(alloc).build_with_metadata(metadata, &mut NoneFilter)?;
+        let krates = krates_of(alloc, line)?;
         let mut text = String::new(alloc);
         for krate in krates.krates() {
             let mut same = krates.krates_by_name(krate.name());
@@ -289,8 +285,7 @@ struct Versions;
 
 impl Question for Versions {
     fn told(alloc: Global, line: &str) -> Result<String, Fail> {
-        let metadata = metadata(alloc, line)?;
-        let krates: Krates = Builder::new(alloc).build_with_metadata(metadata, &mut NoneFilter)?;
+        let krates = krates_of(alloc, line)?;
         let mut text = String::new(alloc);
         for found in krates.krates_by_name("d") {
             write!(text, "{}|", found.krate.version())?;

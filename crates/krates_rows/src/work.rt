@@ -1,7 +1,6 @@
 //! How much work a build was: how many crates, features and references were looked at.
 
-use krates::{Builder, Krates, NoneFilter};
-use krates_samples::documents::metadata;
+use crate::setters::krates_of;
 use krates_samples::table::{Question, Row, hold};
 use std::alloc::Global;
 use std::test::Fail;
@@ -11,8 +10,7 @@ struct Worked;
 
 impl Question for Worked {
     fn told(alloc: Global, line: &str) -> Result<String, Fail> {
-        let metadata = metadata(alloc, line)?;
-        let krates: Krates = Builder::new(alloc).build_with_metadata(metadata, &mut NoneFilter)?;
+        let krates = krates_of(alloc, line)?;
         let work = krates.work();
         Ok(format!(in alloc; "{}, {}, {}", work.krates, work.features, work.references)?)
     }

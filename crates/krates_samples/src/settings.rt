@@ -1,0 +1,61 @@
+//! What the sections of a line set of a builder or of a setting.
+//!
+//! - `workspace on` and `workspace off`: whether every member is a root.
+//! - `include PATHS`: the crates with these manifests are roots.
+//! - `ignore KIND SCOPE`: this kind of dependency is ignored for the crates of the scope.
+//! - `without SPECS`: the packages that one of these fits are left out.
+//! - `for TARGETS`: the targets, each a triple, and behind a plus sign a feature that it has.
+//!
+//! Any other section sets nothing. Here are the words behind the names; who has a builder or a setting hands them over.
+
+use krates_ids::PkgSpec;
+use krates_rules::Scope;
+use krates_text::target::Target;
+use std::alloc::Global;
+use std::test::Fail;
+
+/// The texts between blanks.
+pub fn words_of(alloc: Global, text: &str) -> Result<Vec<&str>, Fail> {
+    let mut words = Vec::new(alloc);
+    for word in text.split_whitespace() {
+        words.push(word)?;
+    }
+    Ok(words)
+}
+
+/// The scope of this name.
+pub fn scope_of(name: &str) -> Scope {
+    match name {
+        "workspace" => Scope::Workspace,
+        "non-workspace" => Scope::NonWorkspace,
+        _ => Scope::All,
+    }
+}
+
+/// The specifications between blanks.
+pub fn package_specs(alloc: Global, text: &str) -> Result<Vec<PkgSpec>, Fail> {
+    let mut specs = Vec::new(alloc);
+    for word in text.split_whitespace() {
+        specs.push(PkgSpec::from_str(alloc, word)?)?;
+    }
+    Ok(specs)
+}
+
+/// The target of a word.
+fn target(alloc: Global, word: &str) -> Result<(Target, Vec<String>), Fail> {
+    let (triple, feature) = word.split_once('+').unwrap_or((word, ""));
+    let mut features = Vec::new(alloc);
+    if !feature.is_empty() {
+        features.push(String::from_str(alloc, feature)?)?;
+    }
+    Ok((Target::new(alloc, triple)?, features))
+}
+
+/// The targets between blanks.
+pub fn targets_of(alloc: Global, text: &str) -> Result<Vec<(Target, Vec<String>)>, Fail> {
+    let mut targets = Vec::new(alloc);
+    for word in text.split_whitespace() {
+        targets.push(target(alloc, word)?)?;
+    }
+    Ok(targets)
+}
