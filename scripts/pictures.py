@@ -27,7 +27,7 @@ ROOMS = {
     "questions and search": ("#e9f7ec", ["krates_document", "krates_questions", "krates_resolve"]),
     "the graph": ("#e6f6f6", ["krates_graph", "krates_drawing"]),
     "checkers without a search": ("#fdeaea", ["krates_derive"]),
-    "for callers": ("#eceff1", ["krates", "krates_cli", "krates_list", "krates_print"]),
+    "for callers": ("#eceff1", ["krates", "krates_cli", "krates_list", "krates_print", "krates_reports"]),
 }
 
 
