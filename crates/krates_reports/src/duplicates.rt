@@ -5,7 +5,8 @@ use std::alloc::{AllocError, Global};
 
 /// Whether several crates of a name are kept.
 fn is_doubled(krates: &Krates, name: &str) -> bool {
-    krates.krates_by_name(name).count() > 1
+    let mut same = krates.krates_by_name(name);
+    same.next().is_some() && same.next().is_some()
 }
 
 /// A line for each kept crate of which another version or source is kept too, in the order of their ids: `name version`.

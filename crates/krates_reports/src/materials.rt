@@ -19,15 +19,15 @@ fn components(alloc: Global, krates: &Krates) -> Result<Vec<Value>, AllocError> 
     Ok(components)
 }
 
-/// Adds an edge from each crate that depends directly on the crate of a number.
+/// Adds an edge from each crate that depends directly on the crate of a node.
 fn push_edges(
     alloc: Global,
     krates: &Krates,
     to: &Package,
-    number: usize,
+    node: NodeId,
     edges: &mut Vec<Value>,
 ) -> Result<(), AllocError> {
-    for found in &krates.direct_dependents(NodeId::new(number as u32))? {
+    for found in &krates.direct_dependents(node)? {
         edges.push(json!(in alloc; {"from": &found.krate.id.repr, "to": &to.id.repr})?)?;
     }
     Ok(())
@@ -37,7 +37,8 @@ fn push_edges(
 fn edges(alloc: Global, krates: &Krates) -> Result<Vec<Value>, AllocError> {
     let mut edges = Vec::new(alloc);
     for number in 0..krates.len() {
-        push_edges(alloc, krates, &krates[number], number, &mut edges)?;
+        let node = NodeId::new(number as u32);
+        push_edges(alloc, krates, &krates[node], node, &mut edges)?;
     }
     Ok(edges)
 }
@@ -46,7 +47,6 @@ fn edges(alloc: Global, krates: &Krates) -> Result<Vec<Value>, AllocError> {
 pub(crate) fn report(alloc: Global, krates: &Krates) -> Result<String, AllocError> {
     let components = Value::Array(components(alloc, krates)?);
     let dependencies = Value::Array(edges(alloc, krates)?);
-    json!(in alloc; {"components": components, "dependencies": dependencies})?.to_string_pretty(
-        alloc,
-    )
+    let bill = json!(in alloc; {"components": components, "dependencies": dependencies})?;
+    bill.to_string_pretty(alloc)
 }
