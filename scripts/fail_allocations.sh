@@ -100,5 +100,5 @@ for ((number = 1; number <= requests; number++)); do
     fi
 done
 
-echo "$requests requests, each refused in turn: $out_of_memory answered with want of memory, $as_ample as with ample memory, $otherwise otherwise"
+echo "$requests requests, each refused in turn: $out_of_memory answered that memory ran out, $as_ample as with ample memory, $otherwise otherwise"
 [ "$requests" -gt 0 ] && [ "$otherwise" -eq 0 ]

@@ -4,7 +4,8 @@
     scripts/readme.py
 
 Each block of Rattle's code in README.md and in docs/GUIDE.md has to stand, line by line, in a file readme.rt of a crate of worked
-examples: in one piece, but for lines that begin with `use `, which may stand anywhere in the file, and for lines of comment. The status is 0 where each does, and each page has one.
+examples or in a file of krates_reports: in one piece, but for lines that begin with `use `, which may stand anywhere in the file,
+and for lines of comment. The status is 0 where each does, and each page has one.
 """
 import pathlib
 import re
@@ -12,7 +13,7 @@ import sys
 
 ROOT = pathlib.Path(__file__).resolve().parent.parent
 PAGES = ("README.md", "docs/GUIDE.md")
-FILES = ("crates/*_rows/src/readme.rt",)
+FILES = ("crates/*_rows/src/readme.rt", "crates/krates_reports/src/*.rt")
 
 
 def blocks(text):

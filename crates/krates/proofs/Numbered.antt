@@ -96,7 +96,7 @@ pub if_within : {X : Type 0} (limits : Limits) (t : Sheet) (result : Result X Er
 if_within limits t (Ok x) w = w
 if_within limits t (Err e) w = tt
 
--- want of memory may always come
+-- memory may always run out
 pub if_memory : {X : Type 0} (limits : Limits) (t : Sheet) (result : Result X Error) → IfErr result (λ e. e ≡ errors.Memory) → IfErr result (DrawingRefusal limits t)
 if_memory limits t (Ok x) h = tt
 if_memory limits t (Err e) h = subst (DrawingRefusal limits t) (sym h) tt

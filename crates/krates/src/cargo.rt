@@ -24,6 +24,7 @@ impl Builder {
     ///
     /// It is refused as `Metadata` where there is no document, for the reason that `MetadataCommand::exec` has; else
     /// as the build of the document is. It may instead return `Memory`. After each refusal the filter is as it was.
+    /// Time: that of the run, and of the build.
     ///
     /// An index has to be callable on the names of each document that cargo may write.
     ///

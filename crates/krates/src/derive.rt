@@ -28,6 +28,11 @@ use krates_ids::CachingIndex;
 ///
 /// Time: O((n + d) log d) for n steps and a document of d crates, features and dependencies, and for each step the
 /// dependencies of the node, and the references of the feature, that it speaks of.
+///
+/// ```text
+/// let steps = vec![in alloc; Step { rule: 1, fact: Fact::Crate(kid), uses: Vec::new(alloc) }]?;
+/// let is_root = check(&metadata, &builder, None, &Derivation { steps }).is_ok();
+/// ```
 pub fn check(
     metadata: &Metadata,
     builder: &Builder,
@@ -53,6 +58,11 @@ pub fn check(
 ///
 /// Time: O((n + d) log (n + d)) for n facts and a document of d crates, features and dependencies, and for each fact the
 /// dependencies of its crate's node, as often as an edge of it is asked for.
+///
+/// ```text
+/// let facts = vec![in alloc; Fact::Crate(kid)]?;
+/// let is_alone = check_closed(&metadata, &builder, None, &facts).is_ok();
+/// ```
 pub fn check_closed(
     metadata: &Metadata,
     builder: &Builder,

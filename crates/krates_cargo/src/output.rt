@@ -26,7 +26,8 @@ impl MetadataCommand {
     ///
     /// Where it didn't, the answer is `CargoMetadata` with what it wrote to standard error, or `ErrUtf8` where that is no text.
     /// Where it did, the answer is `Utf8` where standard output is no text, `NoJson` where no line of it begins with `{`, and
-    /// else what `parse` answers for the first such line. It may instead return `Memory`.
+    /// else what `parse` answers for the first such line. It may instead return `Memory`. Time O(length of what was written), and
+    /// that of `parse`.
     pub fn interpret(
         alloc: Global,
         success: bool,

@@ -17,7 +17,7 @@ use std::process::{Command, Processes, Stdio};
 impl MetadataCommand {
     /// The process that runs this command: of the program that is set, else of the one that is handed in, as from the variable
     /// `CARGO`, else of `cargo`; with the words of `args`, in the directory that is set, with the variables that are set beside
-    /// those of this process. The only error is `Memory`.
+    /// those of this process. The only error is `Memory`. Time O(length of the words and variables).
     pub fn cargo_command(&self, cargo: Option<&str>) -> Result<Command, Error>
         ensures program { IfOk result (λ c. command_program c ≡ program self.now.cargo_path cargo.entry) }
         ensures words { IfOk result (λ c. command_args c ≡ words self.now) }
@@ -52,7 +52,7 @@ impl MetadataCommand {
     /// variable `CARGO`, else `cargo`.
     ///
     /// It is refused as `Io` where cargo couldn't be run, and else as `interpret` refuses what it wrote. It may
-    /// instead return `Memory`. The command can be run again.
+    /// instead return `Memory`. The command can be run again. Time: that of the run, and of `interpret`.
     ///
     /// ```text
     /// let metadata = command.exec(Some("cargo"), rt)?;

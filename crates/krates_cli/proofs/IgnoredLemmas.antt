@@ -1,4 +1,4 @@
--- What one more ignored purpose is, as a set.
+-- What one more ignored kind is, as a set.
 use Rattle.std.proofs.Common.{◌≡◌, ℕ, ◌↔◌, ◌⊎◌, ◌+◌, ◌<◌, ◌||◌, Bool, true, false, List, [], ◌∷◌, drop, length, get_or, refl, sym, ap, inl, inr, ⊎_elim, ◌∙◌}
 use Rattle.std.proofs.Math.Bool.{or-true, or-false}
 use Rattle.std.proofs.lemmas.Bool.{false≢true}
@@ -20,7 +20,7 @@ same_answer true b h = sym (h.0 refl)
 same_answer false true h = h.1 refl
 same_answer false false h = refl
 
--- sets of the same purposes are the same
+-- sets of the same kinds are the same
 same_set : (a b : KindSet) → ((k : DepKind) → (has_kind a k ≡ true) ↔ (has_kind b k ≡ true)) → a ≡ b
 same_set a b h =
     let n = same_answer a.normal b.normal (h kinds.Normal) in
@@ -28,11 +28,11 @@ same_set a b h =
     let d = same_answer a.dev b.dev (h kinds.Dev) in
     ap (λ x. record a { normal = x }) n ∙ ap (λ x. record b { build = x; dev = a.dev }) u ∙ ap (λ x. record b { dev = x }) d
 
--- two purposes differ
+-- two kinds differ
 differ : {A : Type 0} (a b : DepKind) → is_same a b ≡ false → is_same b b ≡ true → a ≡ b → A
 differ a b apart same e = absurd (false≢true (sym apart ∙ ap (λ k. is_same k b) e ∙ same))
 
--- the set with one more purpose has that, and what it had
+-- the set with one more kind has that, and what it had
 one_more : (set : KindSet) (kind : DepKind) → HasOneMore set (with_kind kind set) kind
 one_more set kinds.Normal kinds.Normal = (λ _. inr refl, λ _. refl)
 one_more set kinds.Normal kinds.Build = (λ h. inl h, λ h. ⊎_elim (λ had. had) (differ kinds.Build kinds.Normal refl refl) h)
@@ -44,19 +44,19 @@ one_more set kinds.Dev kinds.Normal = (λ h. inl h, λ h. ⊎_elim (λ had. had)
 one_more set kinds.Dev kinds.Build = (λ h. inl h, λ h. ⊎_elim (λ had. had) (differ kinds.Build kinds.Dev refl refl) h)
 one_more set kinds.Dev kinds.Dev = (λ _. inr refl, λ _. refl)
 
--- a set that has one more purpose is the one with that
+-- a set that has one more kind is the one with that
 one_more_alone : (old new : KindSet) (kind : DepKind) → ((k : DepKind) → (has_kind new k ≡ true) ↔ ((has_kind old k ≡ true) ⊎ (k ≡ kind))) → new ≡ with_kind kind old
 one_more_alone old new kind more =
     same_set new (with_kind kind old) (λ k. (λ has. (one_more old kind k).1 ((more k).0 has), λ has. (more k).1 ((one_more old kind k).0 has)))
 
--- where one more purpose is ignored of every crate, it is in both sets
+-- where one more kind is ignored of every crate, it is in both sets
 pub ignores_alone : (old new : IgnoredKinds) (kind : DepKind) → IgnoresMore old new kind All → new ≡ with_ignored (kind ∷ []) old
 ignores_alone old new kind more =
     let members = one_more_alone old.of_members new.of_members kind (λ k. (λ has. ⊎_elim (λ had. inl had) (λ is. inr is.0) ((more k true).0 has), λ has. (more k true).1 (⊎_elim (λ had. inl had) (λ is. inr (is, tt)) has))) in
     let others = one_more_alone old.of_others new.of_others kind (λ k. (λ has. ⊎_elim (λ had. inl had) (λ is. inr is.0) ((more k false).0 has), λ has. (more k false).1 (⊎_elim (λ had. inl had) (λ is. inr (is, tt)) has))) in
     λ i. record { of_members = members i; of_others = others i }
 
--- one step of a loop that ignores purposes: what is left is ignored in the end, as all are
+-- one step of a loop that ignores kinds: what is left is ignored in the end, as all are
 pub next_ignored : (now new old start : SettingModel) (purposes : List DepKind) (i : ℕ) (kind d : DepKind) → now ≡ new
     → IgnoresMore old.ignored new.ignored kind All → new ≡ record old { ignored = new.ignored } → i < length purposes → kind ≡ get_or purposes i d
     → record old { ignored = with_ignored (drop i purposes) old.ignored } ≡ record start { ignored = with_ignored purposes start.ignored }
@@ -72,7 +72,7 @@ next_ignored now new old start purposes i kind d same more rest lt is left =
 abbrev both : KindSet → KindSet → KindSet
 both a b = record { normal = a.normal || b.normal; build = a.build || b.build; dev = a.dev || b.dev }
 
--- one more purpose may be in either
+-- one more kind may be in either
 one_in_both : (kind : DepKind) (asked : List DepKind) (set : KindSet) → both (set_of asked) (with_kind kind set) ≡ both (set_of (kind ∷ asked)) set
 one_in_both kinds.Normal asked set = ap (λ b. record (both (set_of asked) set) { normal = b }) (or-true (set_of asked).normal)
 one_in_both kinds.Build asked set = ap (λ b. record (both (set_of asked) set) { build = b }) (or-true (set_of asked).build)
@@ -83,7 +83,7 @@ none_in_both set =
     ap (λ b. record (both set no_kinds) { normal = b }) (or-false set.normal) ∙ ap (λ b. record set { build = b; dev = set.dev || false }) (or-false set.build)
     ∙ ap (λ b. record set { dev = b }) (or-false set.dev)
 
--- purposes that are set one by one are the set of them, and what there was
+-- kinds that are set one by one are the set of them, and what there was
 set_one_by_one : (asked : List DepKind) (set : KindSet) → with_kinds asked set ≡ both (set_of asked) set
 set_one_by_one [] set = refl
 set_one_by_one (kind ∷ asked) set = set_one_by_one asked (with_kind kind set) ∙ one_in_both kind asked set

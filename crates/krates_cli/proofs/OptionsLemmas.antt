@@ -50,7 +50,7 @@ no_spec_value option value is none wish target = differ option (codes "--target"
 no_spec_value option value is none wish (exclude {spec = spec} h) = none spec h
 no_spec_value option value is none wish cargo = differ option (codes "--cargo") (codes "--exclude") refl is refl refl
 
--- a value that is no specification is refused, and want of memory stays that
+-- a value that is no specification is refused, and running out of memory stays that
 pub spec_refused : (option value : Text) (why same : OptionsError) → option ≡ codes "--exclude" → IsUnread ((spec : Specification) → IsSpec value spec.name spec.version spec.url → ⊥) why
     → same ≡ why → IsUnread (IsNoValue option value) same
 spec_refused option value errors.Unknown same is none e = subst (IsUnread (IsNoValue option value)) (sym e) (no_spec_value option value is none)
@@ -232,7 +232,7 @@ all_read all o left none are = subst (λ a. IsCommandLine all a) (joined_plain o
 unknown_left : (all : List Text) (o : OptionsModel) (option : Text) (left values : List Text) → left ≡ option ∷ values → BeginsUnknown (option ∷ values) → AreReadTo all o left → IsUnknown all
 unknown_left all o option left values split unknown are p line = let (q, line_left) = are.back p line in never option values q unknown (line_begins (option ∷ values) q (subst (λ l. IsCommandLine l q) split line_left))
 
--- words aren't read where what is left of them isn't, and want of memory stays that
+-- words aren't read where what is left of them isn't, and running out of memory stays that
 pub unread_left : (all : List Text) (o : OptionsModel) (option : Text) (left values : List Text) (why same : OptionsError) → left ≡ option ∷ values
     → IsUnread (BeginsUnknown (option ∷ values)) why → same ≡ why → AreReadTo all o left → IsUnread (IsUnknown all) same
 unread_left all o option left values errors.Unknown same split unknown e are = subst (IsUnread (IsUnknown all)) (sym e) (unknown_left all o option left values split unknown are)

@@ -40,7 +40,7 @@ const UNKNOWN_WORD: u8 = 2;
 /// All words are read before any input; where memory runs out meanwhile, the status is 1 and nothing was read. Where the words
 /// ask for a program, `host` runs it as cargo, its document is listed, and no input is read.
 ///
-/// `laws::listed_or_refused` says that a cause is the text's only where there is no listing.
+/// `laws::listed_or_refused` says that a cause is the text's only where there is no listing. Time: that of `run`.
 pub fn program<R: Read, W: Write, E: Write>(
     words: &[String],
     input: &mut Counted<R>,
@@ -126,7 +126,7 @@ fn refuse_options<E: Write>(error: &OptionsError, errors: &mut Counted<E>) -> u8
 }
 
 /// Answers the exit status where the arguments couldn't be read: 2 and the usage line where one is no text, which is a word that
-/// isn't known; else 1 and the line that memory ran out.
+/// isn't known; else 1 and the line that memory ran out. Time O(1), and one write.
 pub fn refuse_words<E: Write>(error: &io::Error, errors: &mut Counted<E>) -> u8
     ensures unknown_word { error_kind error.now ≡ ErrorKind.InvalidData → (result ≡ 2)
         × IsTold E.contents errors.old errors.new usage_line }

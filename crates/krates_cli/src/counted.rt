@@ -18,7 +18,7 @@ pub struct Counted<T> {
 }
 
 impl<T> Counted<T> {
-    /// The reader or writer, of which no call has failed yet.
+    /// The reader or writer, of which no call has failed yet. Time O(1).
     pub fn new(inner: T) -> Counted<T>
         ensures inner { inner_of result ≡ inner }
         ensures none { failures_of result ≡ 0 }
@@ -29,14 +29,14 @@ impl<T> Counted<T> {
         }
     }
 
-    /// How many calls have failed; a write that took no byte is one of them.
+    /// How many calls have failed; a write that took no byte is one of them. Time O(1).
     pub fn failures(&self) -> u64
         ensures { result ≡ failures_of self.now }
     {
         self.failures.number()
     }
 
-    /// The reader or writer itself.
+    /// The reader or writer itself. Time O(1).
     pub fn get_ref(&self) -> &T
         ensures { result.now ≡ inner_of self.now }
     {
@@ -70,7 +70,7 @@ impl<R: Read> Counted<R> {
 
     /// All bytes that are left to read. A call that was interrupted is counted as failed, and made again.
     ///
-    /// It is refused as `Read` where a call failed, or as `Memory`; what was read before is then lost.
+    /// It is refused as `Read` where a call failed, or as `Memory`; what was read before is then lost. Time O(bytes).
     pub fn read_to_end(&mut self, alloc: Global) -> Result<Vec<u8>, RunError>
         ensures all { IfOk result
             (λ bytes. IfSome (R.remaining (inner_of self.old)) (λ left. bytes.items ≡ left)) }
@@ -121,7 +121,7 @@ impl<W: Write> Counted<W> {
     /// Writes all the bytes. A call that was interrupted is counted as failed, and made again.
     ///
     /// It is refused as `Write` where a call failed or took no byte; a beginning of the bytes is written then. Where there are no
-    /// bytes, no call is made.
+    /// bytes, no call is made. Time O(bytes).
     pub fn write_all(&mut self, bytes: &[u8]) -> Result<(), RunError>
         ensures written { OnOk result (Appends (W.contents (inner_of self.old))
             (W.contents (inner_of self.new)) bytes.now) }

@@ -10,7 +10,7 @@ use std::alloc::{AllocError, Global};
 
 /// The lines of a derivation, in the order of its steps, as `2 rule 5: crate ID from 1`. Ids stand by their texts.
 ///
-/// The only error is want of memory. Time: O(length).
+/// The only error is running out of memory. Time: O(length).
 pub fn lines_of(alloc: Global, derivation: &Derivation) -> Result<String, AllocError>
     ensures { IfOk result (λ lines. string_bytes lines ≡ derivation_lines derivation.now.steps.items) }
 {

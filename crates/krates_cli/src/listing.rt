@@ -51,7 +51,8 @@ fn listing_of(alloc: Global, options: &Options, metadata: Metadata) -> Result<St
 /// what was read, or of the writer; it may instead return `Memory`. The whole text is made before the first byte is
 /// written, so after each refusal but `Write` nothing was written, and after `Write` a beginning of it. What was read is gone.
 ///
-/// The input is read whether or not the options ask for a program; `run_by_cargo` runs that in place of reading.
+/// The input is read whether or not the options ask for a program; `run_by_cargo` runs that in place of reading. Time: that of
+/// `parse` and of the build.
 pub fn run<R: Read, W: Write>(
     alloc: Global,
     options: &Options,
@@ -82,8 +83,9 @@ pub fn run<R: Read, W: Write>(
 /// Runs the program as cargo, in place of reading a document, builds of the document that it writes under the options, and
 /// writes the lines that `run` writes of it.
 ///
-/// It is refused as `Parse` where the run has no document, else as `Build` or `Write`, each only where that is true; `Memory`
-/// may stand in place of any answer. After each refusal but `Write` nothing was written, and after `Write` a beginning.
+/// It is refused as `Parse` where the run has no document, else as `Build` or `Write`, each only where that is true; it may
+/// instead return `Memory`. After each refusal but `Write` nothing was written, and after `Write` a beginning. Time: that of
+/// the run and of the build.
 pub fn run_by_cargo<W: Write>(
     alloc: Global,
     options: &Options,

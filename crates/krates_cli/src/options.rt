@@ -54,7 +54,7 @@ impl<T: Drop> From<AllocFailed<T>> for OptionsError {
 }
 
 impl Options {
-    /// Nothing is asked.
+    /// Nothing is asked. Time O(1).
     pub fn new(alloc: Global) -> Options
         ensures { options_view result ≡ plain_options }
     {
@@ -140,7 +140,7 @@ fn pkg_spec(alloc: Global, word: &str) -> Result<PkgSpec, OptionsError>
 /// The options are `--workspace`; `--ignore-kind KIND`, where KIND is `normal`, `build` or `dev`; `--target TRIPLE`;
 /// `--exclude SPEC`, where SPEC is a package specification; and `--cargo PROGRAM`. What is asked stands in the order of the
 /// words, and of several programs the last counts. It is refused as `Unknown` where the words are no such options, and only
-/// there; it may instead return `Memory`.
+/// there; it may instead return `Memory`. Time O(length of the words).
 pub fn options_of(alloc: Global, words: &[String]) -> Result<Options, OptionsError>
     ensures read { IfOk result
         (λ options. IsCommandLine (map string_bytes words.now) (options_view options)) }
@@ -154,7 +154,7 @@ pub fn options_of(alloc: Global, words: &[String]) -> Result<Options, OptionsErr
     Ok(options)
 }
 
-/// Sets what the options mean, where nothing is set yet. The only error is running out of memory.
+/// Sets what the options mean, where nothing is set yet. The only error is running out of memory. Time O(options).
 pub fn set_options<S: Drop + 'static>(
     alloc: Global,
     options: &Options,

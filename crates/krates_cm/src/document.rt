@@ -12,8 +12,8 @@ use std::alloc::Global;
 
 /// Reads a document: the JSON value of the text (RFC 8259), then the metadata of that value.
 ///
-/// The answer is `Json` where the text is no JSON, and `Value` where its value isn't read. `Memory` may stand in place of any
-/// answer.
+/// The answer is `Json` where the text is no JSON, and `Value` where its value isn't read. It may instead be `Memory`. Time
+/// O(n log n) in the length of the text.
 ///
 /// ```text
 /// let metadata = parse(alloc, text)?;

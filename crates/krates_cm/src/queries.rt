@@ -39,6 +39,14 @@ impl Metadata {
     }
 
     /// The first package of this id; none where the document has none. Time `O(packages)`.
+    ///
+    /// ```text
+    /// for member in metadata.workspace_members.iter() {
+    ///     if let Some(pkg) = metadata.package(member) {
+    ///         println!(rt; "{} {}", pkg.name, pkg.version)?;
+    ///     }
+    /// }
+    /// ```
     pub fn package(&self, id: &PackageId) -> Option<&Package>
         ensures { option_copied result ≡ package_of self.now.packages.items (id_view id.now) }
     {
@@ -47,6 +55,12 @@ impl Metadata {
 
     /// The packages whose ids are those of members, in the order of the document.
     /// The only error is running out of memory. Time `O(packages · members)`.
+    ///
+    /// ```text
+    /// for pkg in &metadata.workspace_packages(alloc)? {
+    ///     println!(rt; "{} {}", pkg.name, pkg.version)?;
+    /// }
+    /// ```
     pub fn workspace_packages(&self, alloc: Global) -> Result<Vec<&Package>, AllocError>
         ensures { IfOk result (λ v. map (λ p. p.now) v.items
             ≡ packages_among self.now.packages.items (ids_view self.now.workspace_members)) }
@@ -60,6 +74,10 @@ impl Metadata {
 
     /// The packages whose ids are those of default members, in the order of the document; none where the
     /// document names no default members. The only error is running out of memory. Time `O(packages · members)`.
+    ///
+    /// ```text
+    /// let defaults = metadata.workspace_default_packages(alloc)?;
+    /// ```
     pub fn workspace_default_packages(
         &self,
         alloc: Global,
@@ -90,6 +108,10 @@ impl Index<&PackageId> for Metadata {
 
 impl WorkspaceDefaultMembers {
     /// The default members, in the order of the document; none where it doesn't name them. Time O(1).
+    ///
+    /// ```text
+    /// let named = metadata.workspace_default_members.as_slice();
+    /// ```
     pub fn as_slice(&self) -> Option<&[PackageId]>
         ensures { option_map (λ ids. ids.now) result ≡ option_map (λ ids. ids.items) self.now.0 }
     {
@@ -103,6 +125,12 @@ impl WorkspaceDefaultMembers {
 impl Package {
     /// The path of the licence file, where the manifest names one: joined to the manifest's directory. The only error
     /// is running out of memory. Time O(length of the paths).
+    ///
+    /// ```text
+    /// if let Some(path) = pkg.license_file(alloc)? {
+    ///     println!(rt; "{}: {path}", pkg.name)?;
+    /// }
+    /// ```
     pub fn license_file(&self, alloc: Global) -> Result<Option<String>, AllocError>
         ensures { IfOk result (λ path. IsBeside (text_view self.now.manifest_path)
             (option_map text_view self.now.license_file) (option_map text_view path)) }
@@ -112,6 +140,10 @@ impl Package {
 
     /// The path of the readme, where the manifest names one: joined to the manifest's directory. The only error is
     /// running out of memory. Time O(length of the paths).
+    ///
+    /// ```text
+    /// let readme = pkg.readme(alloc)?; // `/w/a/README.md`, say
+    /// ```
     pub fn readme(&self, alloc: Global) -> Result<Option<String>, AllocError>
         ensures { IfOk result (λ path. IsBeside (text_view self.now.manifest_path)
             (option_map text_view self.now.readme) (option_map text_view path)) }
@@ -122,6 +154,13 @@ impl Package {
 
 impl Source {
     /// Whether this is the registry crates.io. Time O(length).
+    ///
+    /// ```text
+    /// let is_published = match &pkg.source {
+    ///     Some(source) => source.is_crates_io(),
+    ///     None => false,
+    /// };
+    /// ```
     pub fn is_crates_io(&self) -> bool
         ensures { result ≡ bytes_eq (source_view self.now) crates_io }
     {
@@ -131,6 +170,10 @@ impl Source {
 
 impl Target {
     /// Whether the kinds have `lib`. Time O(kinds).
+    ///
+    /// ```text
+    /// let has_library = pkg.targets.iter().any(|target| target.is_lib());
+    /// ```
     pub fn is_lib(&self) -> bool
         ensures { IsTrue result ↔ Contains self.now.kind.items kinds.Lib }
     {

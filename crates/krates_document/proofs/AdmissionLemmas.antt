@@ -46,7 +46,7 @@ dep_texts_of n = map-map (λ d. d.pkg) node_dep_view n.deps.items
 
 -- ---- a refusal by its class
 
--- what follows of the text of each invalid id, and of want of memory, follows of the refusal
+-- what follows of the text of each invalid id, and of running out of memory, follows of the refusal
 invalid_so : (P : Text → Type 0) (R : Error → Type 0) → ((t : String Global) → P (string_bytes t) → R (errors.InvalidId t)) → R errors.Memory → (e : Error) → IsInvalidBy P e → R e
 invalid_so P R so memory (errors.InvalidId t) h = so t h
 invalid_so P R so memory errors.Memory h = memory

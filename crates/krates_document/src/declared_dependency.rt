@@ -19,7 +19,7 @@ use std::alloc::{AllocError, Global};
 
 /// The semantic version of an id, or none where its version isn't semantic (SemVer 2.0.0).
 ///
-/// A version without pre-release and build metadata takes no memory.
+/// The only error is running out of memory; a version without pre-release and build metadata takes none. Time O(length).
 pub fn version_of(alloc: Global, kid: &Kid) -> Result<Option<Version>, AllocError>
     ensures read { IfOk result (λ version. version_named kid.now.version ≡ option_map parts_of version) }
     ensures plain { (v : VersionModel) → version_named kid.now.version ≡ Some v → v.3 ≡ [] → v.4 ≡ []

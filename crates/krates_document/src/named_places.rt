@@ -65,7 +65,7 @@ impl HasName for Kid {
     }
 }
 
-/// The places of a list by the names and targets of its items, in order.
+/// The places of a list by the names and targets of its items, in order. The only error is running out of memory.
 ///
 /// Time: O(n log n).
 pub fn named_places<T: HasName>(

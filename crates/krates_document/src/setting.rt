@@ -58,7 +58,7 @@ impl Setting {
         }
     }
 
-    /// Ignores the dependencies of this kind of the crates of the scope, beside those that are ignored already.
+    /// Ignores the dependencies of this kind of the crates of the scope, beside those that are ignored already. Time O(1).
     pub fn ignore_kind(&mut self, kind: DepKind, scope: Scope)
         ensures ignored { IgnoresMore self.old.ignored self.new.ignored kind scope }
         ensures rest { self.new ≡ record self.old { ignored = self.new.ignored } }
@@ -123,7 +123,7 @@ impl Setting {
         false
     }
 
-    /// Whether dependencies of this kind are ignored, where a member of the workspace has them, or another crate.
+    /// Whether dependencies of this kind are ignored, where a member of the workspace has them, or another crate. Time O(1).
     pub fn ignores(&self, kind: DependencyKind, is_member: bool) -> bool
         ensures { result ≡ ignores self.now.ignored (kind_of kind) is_member }
     {

@@ -29,7 +29,8 @@ pub fn count_of<'a>(document: &Document<'a>, krate: &Kid) -> usize
     }
 }
 
-/// The features that a kept edge gives; none where its declared dependency or its child's node isn't there.
+/// The features that a kept edge gives; none where its declared dependency or its child's node isn't there. The only error is
+/// running out of memory.
 pub fn given_by<'a>(
     alloc: Global,
     document: &Document<'a>,
@@ -65,7 +66,7 @@ fn length_of(dependencies: &[Dependency]) -> usize
     dependencies.len()
 }
 
-/// What the references of an enabled feature name.
+/// What the references of an enabled feature name. The only error is running out of memory.
 pub fn meanings_by<'a>(
     alloc: Global,
     document: &Document<'a>,

@@ -41,7 +41,7 @@ fn alone(alloc: Global, id: &Kid) -> Result<Vec<Kid>, AllocError>
     Ok(ids)
 }
 
-/// What a reference names.
+/// What a reference names. The only error is running out of memory.
 pub fn meaning_of<'a>(
     alloc: Global,
     document: &Document<'a>,
@@ -71,7 +71,7 @@ pub fn meaning_of<'a>(
     }
 }
 
-/// What the references of a feature name.
+/// What the references of a feature name. The only error is running out of memory.
 pub fn meanings_of<'a>(
     alloc: Global,
     document: &Document<'a>,
@@ -113,7 +113,8 @@ fn push_listed(node: &Node, features: &[String], given: &mut Vec<String>) -> Res
     Ok(())
 }
 
-/// The features that an edge gives, which is declared as this dependency and leads to the crate of this node.
+/// The features that an edge gives, which is declared as this dependency and leads to the crate of this node. The only error is
+/// running out of memory.
 pub fn given_of(
     alloc: Global,
     dependency: &Dependency,

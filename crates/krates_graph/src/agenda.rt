@@ -39,6 +39,10 @@ impl Model for Taken {
 impl Agenda {
     /// An agenda for the numbers below `size`, with room for all of them. The only error is running out of memory.
     /// Time O(size).
+    ///
+    /// ```text
+    /// let mut agenda = Agenda::new(alloc, 10)?;
+    /// ```
     pub fn new(alloc: Global, size: usize) -> Result<Agenda, AllocError>
         ensures { IfOk result (λ agenda. agenda ≡ record { size = size; put = []; taken = 0 }) }
     {
@@ -52,6 +56,11 @@ impl Agenda {
     }
 
     /// Puts a number, and says whether it is new. One that was put before changes nothing. Time O(1).
+    ///
+    /// ```text
+    /// assert!(rt; agenda.put(3)); // new
+    /// assert!(rt; !agenda.put(3)); // put before
+    /// ```
     pub fn put(&mut self, number: usize) -> bool
         requires { number < self.old.size }
         ensures new { OnTrue result (¬ Contains self.old.put number) }
@@ -69,6 +78,12 @@ impl Agenda {
     }
 
     /// Takes the number that was put first among those that were not taken yet; none where all were. Time O(1).
+    ///
+    /// ```text
+    /// while let Some(taken) = agenda.take() {
+    ///     println!(rt; "{}", taken.number())?;
+    /// }
+    /// ```
     pub fn take(&mut self) -> Option<Taken>
         ensures first { result ≡ slice_get self.old.put self.old.taken }
         ensures counted { self.new ≡ record self.old {

@@ -53,6 +53,10 @@ impl<N, E> Model for Graph<N, E> {
 
 impl<N, E> Graph<N, E> {
     /// An empty graph, which takes at most so many nodes and edges. Time O(1).
+    ///
+    /// ```text
+    /// let mut graph: Graph<&str, u32> = Graph::with_limits(alloc, 2, 1);
+    /// ```
     pub fn with_limits(alloc: Global, nodes: u32, edges: u32) -> Graph<N, E>
         ensures { result ≡ record { nodes = []; edges = []; node_limit = nodes; edge_limit = edges } }
     {
@@ -69,6 +73,11 @@ impl<N, E> Graph<N, E> {
     /// Appends a node, under the next number. `Full` comes exactly where the limit is reached, `Memory` where there
     /// was no room; each hands the value back and leaves the graph as it was. Time O(1), but where room has to be
     /// made.
+    ///
+    /// ```text
+    /// let a = graph.add_node("a")?;
+    /// assert_eq!(rt; a.index(), 0);
+    /// ```
     pub fn add_node(&mut self, value: N) -> Result<NodeId, GraphError<N>>
         ensures number { IfOk result (λ id. id ≡ length self.old.nodes) }
         ensures added { IfOk result (λ _.
@@ -97,6 +106,11 @@ impl<N, E> Graph<N, E> {
     /// Appends an edge between two nodes, under the next number. `Full` comes exactly where the limit is reached,
     /// `Memory` where there was no room; each hands the weight back and leaves the graph as it was. Time O(1), but
     /// where room has to be made.
+    ///
+    /// ```text
+    /// let edge = graph.add_edge(a, b, 7)?;
+    /// assert_eq!(rt; graph.edge_endpoints(edge), Some((a, b)));
+    /// ```
     pub fn add_edge(
         &mut self,
         source: NodeId,
@@ -138,6 +152,12 @@ impl<N, E> Graph<N, E> {
     }
 
     /// The nodes, each at its number. Time O(1).
+    ///
+    /// ```text
+    /// for (number, node) in graph.raw_nodes().iter().enumerate() {
+    ///     println!(rt; "{number}: {node}")?;
+    /// }
+    /// ```
     pub fn raw_nodes(&self) -> &[N]
         ensures nodes { result.now ≡ self.now.nodes }
         ensures within { length result.now ≤ self.now.node_limit }
@@ -146,6 +166,12 @@ impl<N, E> Graph<N, E> {
     }
 
     /// The edges, each at its number; the ends of each are nodes. Time O(1).
+    ///
+    /// ```text
+    /// for edge in graph.raw_edges() {
+    ///     println!(rt; "{} -> {}", edge.source.index(), edge.target.index())?;
+    /// }
+    /// ```
     pub fn raw_edges(&self) -> &[GraphEdge<E>]
         ensures edges { result.now ≡ self.now.edges }
         ensures within { length result.now ≤ self.now.edge_limit }
@@ -172,6 +198,12 @@ impl<N, E> Graph<N, E> {
 
     /// The edges of a node in one direction, by increasing number; none for no node. Time O(1), and O(1) for each
     /// edge.
+    ///
+    /// ```text
+    /// for edge in graph.edges_directed(a, Direction::Outgoing) {
+    ///     println!(rt; "{}", edge.weight)?;
+    /// }
+    /// ```
     pub fn edges_directed(&self, node: NodeId, direction: Direction) -> EdgesDirected<'_, E>
         ensures { result ≡ edges_at self.now.edges node direction }
     {
@@ -182,6 +214,10 @@ impl<N, E> Graph<N, E> {
     }
 
     /// The numbers of a node's edges in one direction, in increasing order; none for no node. Time O(1).
+    ///
+    /// ```text
+    /// let incoming = graph.edge_numbers(b, Direction::Incoming).len();
+    /// ```
     pub fn edge_numbers(&self, node: NodeId, direction: Direction) -> &[EdgeId]
         ensures { result.now ≡ numbers_at self.now.edges node direction }
     {
@@ -192,6 +228,12 @@ impl<N, E> Graph<N, E> {
     }
 
     /// The source and the target of an edge; `None` where there is no edge of that number. Time O(1).
+    ///
+    /// ```text
+    /// if let Some((source, target)) = graph.edge_endpoints(edge) {
+    ///     println!(rt; "{} -> {}", source.index(), target.index())?;
+    /// }
+    /// ```
     pub fn edge_endpoints(&self, id: EdgeId) -> Option<(NodeId, NodeId)>
         ensures { result ≡ option_map (λ edge. (edge.source, edge.target)) (slice_get self.now.edges id) }
     {

@@ -222,7 +222,7 @@ IsSpec-or_fault t =
 
 -- ---- what reading answers
 
--- a text that is a specification is refused for want of memory only
+-- a text that is a specification is refused only where memory runs out
 spec_error : (t : Text) (e : Error) → IsRefusedBy (λ refusal. Gives t (Err refusal)) e → (a : Specification) → IsSpec t a.name a.version a.url → e ≡ errors.Memory
 spec_error t (errors.InvalidPkgSpec refusal) h a k = absurd (IsSpec-no_fault t a refusal.now k h)
 spec_error t errors.Memory h a k = refl

@@ -22,7 +22,7 @@ pub struct CachingIndex {
 }
 
 impl CachingIndex {
-    /// Asks the index for these names, once, and keeps what it answers.
+    /// Asks the index for these names, once, and keeps what it answers. Time: that of the index.
     pub fn new(build: BuildIndexCache, names: PackageNames) -> CachingIndex
         requires { BuildIndexCache.pre build names }
         ensures { BuildIndexCache.post build names result.answer }
@@ -37,6 +37,12 @@ impl CachingIndex {
     ///
     /// Features are only added, and those of the manifest keep their values. To correct twice is to correct once.
     /// Fails only when out of memory, and then the package is unchanged. Time O(v log f) for f features with v values.
+    ///
+    /// ```text
+    /// for pkg in metadata.packages.iter_mut() {
+    ///     index.correct(alloc, pkg)?;
+    /// }
+    /// ```
     pub fn correct(&self, alloc: Global, pkg: &mut Package) -> Result<(), AllocError>
         ensures corrected { OnOk result
             (IsCorrected (index_view self.now.answer) (package_view pkg.old) (package_view pkg.new)) }

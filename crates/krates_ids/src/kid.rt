@@ -130,6 +130,11 @@ impl Kid {
     }
 
     /// The name of the package. Time O(1).
+    ///
+    /// ```text
+    /// let kid = Kid::try_from(pkg.id.clone()?)?;
+    /// println!(rt; "{} {} of {}", kid.name(), kid.version(), kid.source())?;
+    /// ```
     pub fn name(&self) -> &str
         ensures { result.now ≡ self.now.name }
     {

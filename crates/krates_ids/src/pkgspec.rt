@@ -50,6 +50,10 @@ impl PkgSpec {
     /// `Error::InvalidPkgSpec` says the first that is wrong: a `#` that ends the text; a url that ends with `/`, has no `://`
     /// or no path after it; a `:` or `@` that ends the text; the name and the version, of which the name comes first where a
     /// `:` or `@` stands between them. Out of memory is `Error::Memory`. Time O(length).
+    ///
+    /// ```text
+    /// let spec = PkgSpec::from_str(alloc, "openssl@0.10.64")?;
+    /// ```
     pub fn from_str(alloc: Global, text: &str) -> Result<PkgSpec, Error>
         ensures read { IfOk result (λ spec. IsSpec text.now
             (string_bytes spec.name) (option_map parts_of spec.version) (option_map string_bytes spec.url)) }
@@ -66,6 +70,10 @@ impl PkgSpec {
     ///
     /// The url of a source is what follows its first `+`, or all of it, up to its first `?`, or else its first `#`. It takes no
     /// memory, and time O(length of the texts that are compared).
+    ///
+    /// ```text
+    /// let meant = metadata.packages.iter().filter(|pkg| spec.matches(pkg)).count();
+    /// ```
     pub fn matches(&self, pkg: &Package) -> bool
         ensures { IsTrue result ↔ SpecFits (spec_view self.now) (package_view pkg.now) }
     {

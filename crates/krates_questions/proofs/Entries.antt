@@ -72,7 +72,7 @@ wanted_one r s x k place d e none h first w =
     let there = subst (λ (dep : NodeDepModel). IsDeclared (declared_in x) (dependency_entry (child_of x) dep) k w.place e) same here in
     (declared_once (declared_in x) (entry_of x) k w.place place e d there first).1
 
--- and then it isn't loose
+-- and then it isn't undeclared
 pub not_loose : (r : Resolved) (s : SettingModel) (x : NodeEntry) (k : DepKindInfoModel) (place : ℕ) (d : DependencyModel) → NoneDoubled r.metadata r.graph → IsEntry r x
     → IsDeclared (declared_in x) (entry_of x) k place d → IsLoose r s (edge_for x k) → ⊥
 not_loose r s x k place d none h first loose =

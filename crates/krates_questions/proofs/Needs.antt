@@ -29,7 +29,7 @@ use Rattle.krates_questions.proofs.Asked.{declared_told}
 use Rattle.krates_questions.proofs.Entries.{Heeds, loose, not_loose, own_dep, wanted, wanted_one}
 use Rattle.krates_questions.proofs.OneReferent.{one_referent}
 
--- the node's dependency doesn't list the purpose and target
+-- the node's dependency doesn't list the kind and target
 pub unlisted_need : (r : Resolved) (s : SettingModel) (x : NodeEntry) (k : DepKindInfoModel) → NoneDoubled r.metadata r.graph → IsEntry r x
     → (Contains (node_dep_view x.dep.now).dep_kinds k → ⊥) → TellsNeed r s (edge_for x k) needs.Nothing
 unlisted_need r s x k none e out =
@@ -152,7 +152,7 @@ children_told once r p child x none of = (to, back)
           has_dep = record { among = contains_at of.parts.at.node.deps at.0 dep (slice_get-get_or of.parts.at.node.deps at.0 d.0 d.1); id = record { read = y; reads = subst (λ b. Reads b y) (sym d.2) t.2; same = s.2 } };
         }
 
--- the purposes and targets of the entry between two crates are those for which the other is listed
+-- the kinds and targets of the entry between two crates are those for which the other is listed
 pub kinds_told : (r : Resolved) (p child : Id) (k : DepKindInfoModel) (x : NodeEntry) → NoneDoubled r.metadata r.graph → IsEntryBetween r p child x → ListsKind r p child k ↔ Contains (node_dep_view x.dep.now).dep_kinds k
 kinds_told r p child k x none b =
     let has = subst (λ (i : Id). HasNode r i b.entry.node) b.parent b.entry.has_node in

@@ -20,7 +20,7 @@ pub record IsWantedAs (r : Resolved) (s : SettingModel) (e : Edge) (d : Dependen
 abbrev pub NotWanted : Resolved → SettingModel → Edge → Type 0
 NotWanted r s e = (d : DependencyModel) → IsWanted r s e d → ⊥
 
--- the edge is wanted, or loose, or neither
+-- the edge is wanted, or undeclared, or neither
 abbrev pub TellsNeed : Resolved → SettingModel → Edge → Need → Type 0
 TellsNeed r s e (needs.Wanted d) = IsWantedAs r s e (dependency_view d.now)
 TellsNeed r s e needs.Undeclared = IsLoose r s e × NotWanted r s e

@@ -220,7 +220,7 @@ pub followed_by : (r : Resolved) (s : SettingModel) (x : Found) (p : Id) (text :
     → (other : Reference) → IsReference text other → IsFollowed r s x p other
 followed_by r s x p text reference reading is followed other there = subst (IsFollowed r s x p) (reading.only reference is ∙ sym (reading.only other there)) followed
 
--- each value of a feature has been followed, so it has been heeded
+-- each value of a feature has been followed, so its references have been followed
 pub heeded_here : (r : Resolved) (s : SettingModel) (x : Found) (p : Id) (f : Text) (values : List Text) → AreValuesOf r p f values
     → ((text : Text) → Contains values text → (reference : Reference) → IsReference text reference → IsFollowed r s x p reference) → IsHeeded r s x p f
 heeded_here r s x p f values are each reference has = let v = (are reference).0 has in each v.text v.among reference v.is

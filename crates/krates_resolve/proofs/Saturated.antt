@@ -91,7 +91,7 @@ stands_in r s e o =
       dep = record { node = record { node = lists.node; at = node.1; id = lists.has_node.id }; dep = declares.dep; at = dep.1; id = lists.has_dep.id };
     }
 
--- ---- what a heeded feature gives
+-- ---- what a feature gives whose references were followed
 
 -- a reference asks for the dependency that it names
 asked_in : (r : Resolved) (s : SettingModel) (x : Found) (p : Id) (name : Text) (reference : Reference) → IsFollowed r s x p reference → Demands reference name → IsAsked r s x p name
@@ -102,7 +102,7 @@ asked_in r s x p name (weak c f) h asks = absurd asks
 
 -- ---- when all has been taken
 
--- what is found has the roots, and each crate and each feature of it has been expanded and heeded
+-- what is found has the roots, and each crate of it has been expanded, and the references of each feature followed
 record IsDone (r : Resolved) (s : SettingModel) (x : Found) : Type 0 where
   pub sound : IsSound r s x
   pub roots : HasRoots r s x

@@ -177,7 +177,7 @@ crate_done r s x z t done a room at now =
       omega (arith, count, same, within, room, krates_size, features_size),
     )
 
--- the feature that was taken has been heeded, and those before it
+-- the references of the feature that was taken have been followed, and those of the features before it
 pub feature_done : (r : Resolved) (s : SettingModel) (x z : Found) (t : ℕ) → AreDone r s x → Advances r s (taken_to x x.krates.taken (x.features.taken + 1)) z → length x.features.put ≤ x.features.size
     → slice_get x.features.put x.features.taken ≡ Some t → ((i : Id) (f : Text) → FeatureAt r i f t → IsHeeded r s z i f) → AreDone r s z × (left_in z < left_in x)
 feature_done r s x z t done a room at now =

@@ -116,7 +116,7 @@ LetsWait b = IsWaiting (document_of b)
 abbrev pub HasFollowed : Basis → Found → Id → Reference → Type 0
 HasFollowed b = IsFollowed (document_of b) b.setting.now
 
--- the feature has been heeded
+-- the references of the feature have been followed
 abbrev pub HasHeeded : Basis → Found → Id → Text → Type 0
 HasHeeded b = IsHeeded (document_of b) b.setting.now
 
@@ -128,7 +128,7 @@ HasRooted b = IsRooted (document_of b) b.setting.now
 abbrev pub HasEachRoot : Basis → Found → Type 0
 HasEachRoot b = HasRoots (document_of b) b.setting.now
 
--- what was taken has been expanded and heeded
+-- what was taken has been expanded, and its references followed
 abbrev pub HasDone : Basis → Found → Type 0
 HasDone b = AreDone (document_of b) b.setting.now
 

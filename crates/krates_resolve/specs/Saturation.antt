@@ -8,7 +8,7 @@ use Rattle.krates_rules.specs.Resolved.{Resolved}
 use Rattle.krates_rules.specs.Setting.{SettingModel}
 use Rattle.krates_resolve.specs.declared.found.Found.{Found}
 
--- what was found is right and has the roots, and what was taken has been expanded and heeded
+-- what was found is right and has the roots, and what was taken has been expanded, and its references followed
 pub record AreDone (r : Resolved) (s : SettingModel) (x : Found) : Type 0 where
   pub sound : IsSound r s x
   pub roots : HasRoots r s x

@@ -29,7 +29,7 @@ by_two rule first second = record { rule = rule; uses = record { first = Some fi
 
 -- ---- facts
 
--- the edge is that for the purpose and target at this place of the dependency, at those places of the node
+-- the edge is that of the kind and target at this place of the dependency, at those places of the node
 pub record EdgeAt (r : Resolved) (e : Edge) (place index kind : ℕ) : Type 0 where
   pub dep : DepAt r e.parent e.child place index
   pub here : slice_get dep.dep.dep_kinds kind ≡ Some (kind_info_of e)

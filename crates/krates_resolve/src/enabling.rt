@@ -195,7 +195,7 @@ fn enable_declared<'a>(
     Ok(())
 }
 
-/// Marks this dependency, an edge by which is kept by this step, and toggles its features that waited for that.
+/// Marks this dependency with the step that keeps an edge by it, and toggles its features that waited for that.
 fn wake<'a>(
     basis: &Basis<'a, '_>,
     entry: &NodeEntry<'a>,
@@ -236,7 +236,9 @@ fn wake<'a>(
     Ok(())
 }
 
-/// Keeps an edge of an entry, and with it the crate that it leads to, and what it asks of that.
+/// Keeps an edge of an entry, and with it the crate that it leads to, and what it asks of that crate.
+///
+/// What follows from the edge is put before the edge itself, so that no edge ever stands without what it gives.
 pub(crate) fn keep<'a>(
     basis: &Basis<'a, '_>,
     edge: &EntryEdge<'a, '_>,

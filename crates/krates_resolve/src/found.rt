@@ -10,7 +10,7 @@ use krates_graph::agenda::Agenda;
 pub(crate) struct Found<'a> {
     /// The places of the nodes of the kept crates: those that were taken have been expanded.
     pub krates: Agenda,
-    /// The numbers of the enabled features: those that were taken have been heeded.
+    /// The numbers of the enabled features: the references of those that were taken have been followed.
     pub features: Agenda,
     /// The kept edges, in the order in which they were found.
     pub edges: Vec<KeptEdge>,

@@ -25,8 +25,8 @@ use krates_text::features::{Feature, ParsedFeature};
 
 /// Follows each reference of an enabled feature.
 ///
-/// It is handed the feature as it was taken, so that each is heeded once, and the step by which the feature was found. It answers
-/// how many references the feature has.
+/// It is handed the feature as it was taken, so that the references of each are followed once, and the step by which the feature
+/// was found. It answers how many references the feature has.
 pub(crate) fn heed<'a>(
     basis: &Basis<'a, '_>,
     taken: Taken,

@@ -10,7 +10,7 @@ use krates_cm::DepKindInfo;
 use krates_questions::node_entry::{NodeEntry, is_same_info};
 use std::alloc::AllocError;
 
-/// The edge of an entry for one purpose and target, with the place of its declared dependency.
+/// The edge of an entry of one kind and for one target, with the place of its declared dependency.
 pub(crate) fn kept_edge<'a>(
     entry: &NodeEntry<'a>,
     info: &DepKindInfo,
@@ -31,7 +31,7 @@ pub(crate) fn kept_edge<'a>(
     })
 }
 
-/// The first place of a purpose and target in a list that has it.
+/// The first place of a kind and a target in a list that has them together.
 fn first_place(infos: &[DepKindInfo], info: &DepKindInfo) -> usize
     requires { Contains (map dep_kind_info_view infos.now) (dep_kind_info_view info.now) }
     ensures { IsFirstInfo infos.now info.now result }

@@ -1,6 +1,6 @@
 //! Resolution: which crates, features and edges of a document are kept under a setting.
 //!
-//! The questions of the rules, which a search asks too, are given again from the crate below.
+//! The questions of the rules, which a search asks too, are re-exported from the crate below.
 #![tactic(auto)]
 
 mod enabling;

@@ -25,8 +25,8 @@ use std::alloc::{AllocError, Global};
 
 /// What is kept of a document that was admitted with these ids: exactly what has a derivation from the roots by the rules.
 ///
-/// It is refused as `Lost` exactly where the document lacks what some derivation asks for, naming a true lack; and as
-/// `NoRootKrates` exactly where nothing is lacking and no crate is kept. `Memory` may stand in place of any answer.
+/// It is refused as `Lost` exactly where the document lacks what some derivation asks for, naming something that it truly lacks; and as
+/// `NoRootKrates` exactly where nothing is lacking and no crate is kept. It may instead return `Memory`.
 pub fn select(
     alloc: Global,
     metadata: &Metadata,

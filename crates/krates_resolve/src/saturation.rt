@@ -25,8 +25,8 @@ use std::alloc::Global;
 
 /// All that is kept of a document: exactly what has a derivation from the roots by the rules. The work is counted.
 ///
-/// The roots and their features are put into the agendas. Each crate that is taken is expanded once, and each feature is heeded
-/// once, which keeps edges and puts crates and features, until none is left. Crates are numbered by the places of their nodes,
+/// The roots and their features are put into the agendas. Each crate that is taken is expanded once, and the references of each
+/// feature are followed once, which keeps edges and puts crates and features, until none is left. Crates are numbered by the places of their nodes,
 /// features by their places in the list of all.
 pub(crate) fn saturate<'a>(
     alloc: Global,
@@ -61,7 +61,8 @@ pub(crate) fn saturate<'a>(
     Ok(found)
 }
 
-/// Takes the next crate and expands it, or else the next feature and heeds it, and counts that; whether there was one.
+/// Takes the next crate and expands it, or else the next feature and follows its references, and counts that. Answers whether
+/// there was one.
 fn take_next<'a>(
     basis: &Basis<'a, '_>,
     found: &mut Found<'a>,

@@ -22,7 +22,7 @@ pub struct Selection {
     pub work: Work,
 }
 
-/// A kept edge: one dependency of a kept crate, for one purpose and one target.
+/// A kept edge: one dependency of a kept crate, of one kind and for one target.
 ///
 /// Edges are compared by parent, child and place: of one document these determine the edge.
 #[derive(Debug, Drop)]
@@ -32,13 +32,13 @@ pub struct KeptEdge {
     pub parent: Kid,
     /// The crate that it depends on.
     pub child: Kid,
-    /// For what it is needed.
+    /// Its kind.
     #[derive_where(skip(EqHashOrd))]
     pub kind: DependencyKind,
     /// The target that it is needed for, as the document writes it.
     #[derive_where(skip(EqHashOrd))]
     pub cfg: Option<String>,
-    /// The first place of this purpose and target in the `dep_kinds` of the node's dependency.
+    /// The first place of this kind and target in the `dep_kinds` of the node's dependency.
     pub place: usize,
     /// The place of the declared dependency in the list of the parent's package.
     #[derive_where(skip(EqHashOrd))]

@@ -24,7 +24,7 @@ pub enum NumberedFact {
         place: usize,
         /// The place of the dependency among those of the node.
         index: usize,
-        /// The place of the purpose and target in the `dep_kinds` of the dependency.
+        /// The place of the kind and target in the `dep_kinds` of the dependency.
         kind: usize,
     },
     /// The feature is enabled by a feature of another crate.

@@ -6,7 +6,7 @@ ghost use Rattle.krates_resolve.specs.Work.{counted};
 
 /// How much work a selection was: how many crates and features were taken, each once, and how many references these features have.
 ///
-/// Each count stays at its greatest value.
+/// A count that has reached its greatest value stays there.
 #[derive(Debug, Drop, Clone, Copy, PartialEq, Eq)]
 pub struct Work {
     /// The kept crates.

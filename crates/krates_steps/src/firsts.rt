@@ -12,7 +12,7 @@ use std::alloc::{AllocError, Global};
 /// The part of a list of steps that has the first step of each fact, for steps whose facts have these numbers, below the count. What
 /// a step uses there is the first step with the same fact.
 ///
-/// The only error is want of memory. Time: O(n).
+/// The only error is running out of memory. Time: O(n).
 pub fn first_steps(
     alloc: Global,
     steps: &[Uses],

@@ -13,7 +13,7 @@ use std::alloc::{AllocError, Global};
 /// The part of a list of steps on which one of them stands: that step, which comes last, and what it uses, directly or by others, in
 /// the order of the list. Each but the last is used by a later one.
 ///
-/// The only error is want of memory. Time: O(n).
+/// The only error is running out of memory. Time: O(n).
 pub fn part_for(alloc: Global, steps: &[Uses], last: usize) -> Result<Part, AllocError>
     requires backward { AreBackward steps.now }
     requires within { last < length steps.now }

@@ -46,6 +46,11 @@ impl<'f> From<&'f str> for ParsedFeature<'f> {
 impl<'f> ParsedFeature<'f> {
     /// The reference that the text is: what follows `dep:` at its start; else what stands on the two sides of its
     /// first `?/`; else of its first `/`; else all of it, which may be empty. Time O(length).
+    ///
+    /// ```text
+    /// let reference = ParsedFeature::from("serde?/std").feat();
+    /// // Feature::Weak { krate: "serde", feature: "std" }
+    /// ```
     pub fn feat(&self) -> Feature<'f>
         ensures { IsReference self.now.text.now (reference_of result) }
     {

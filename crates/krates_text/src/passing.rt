@@ -11,10 +11,15 @@ use crate::target::Target;
 use std::alloc::{AllocError, Global};
 
 /// Whether a target text passes. No text does. A text that is a cfg expression passes where one single target makes
-/// the whole of it true, and any other where it is the printed text of a target. Without targets all pass but an
-/// expression that asks nothing and is false, as `cfg(any())`. The only error is being out of memory.
+/// the whole of it true, and any other where it is the printed text of a target. Without targets all pass but a
+/// false expression without predicates, as `cfg(any())`. The only error is running out of memory.
 ///
 /// Time O(length of the text), and for each target O(predicates of the expression × features of the target).
+///
+/// ```text
+/// // no target is set, so all pass
+/// assert!(rt; passes(alloc, Some("cfg(windows)"), &[])?);
+/// ```
 pub fn passes(
     alloc: Global,
     text: Option<&str>,

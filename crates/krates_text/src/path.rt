@@ -10,6 +10,10 @@ use std::path::{Components, Path};
 
 /// The components of a path, in order: `/` where it begins with one, and then its pieces between `/`, without empty
 /// ones and without `.`, except a `.` that comes first in a path that doesn't begin with `/`. Time O(length) for all of them.
+///
+/// ```text
+/// assert_eq!(rt; components("/w//a/./b").count(), 4); // `/`, `w`, `a`, `b`
+/// ```
 pub fn components(path: &str) -> Components<'_>
     ensures { components_remaining result ≡ components path.now }
 {
@@ -18,6 +22,10 @@ pub fn components(path: &str) -> Components<'_>
 
 /// The path up to the end of its last component but one: `/` where only the root stands before the last, the empty
 /// text where nothing does. `None` for a path without a component and for the root alone. Time O(length).
+///
+/// ```text
+/// assert_eq!(rt; parent("/w/a/Cargo.toml"), Some("/w/a"));
+/// ```
 pub fn parent(path: &str) -> Option<&str>
     ensures { MatchOption result (HasNoParent path.now) (λ p. IsParent path.now p.now) }
 {
@@ -30,7 +38,11 @@ pub fn parent(path: &str) -> Option<&str>
 }
 
 /// The path `path` as it is meant at `base`: itself where it begins with `/`, and else the two with a `/` between
-/// unless the base is empty or ends with one. The only error is being out of memory. Time O(length of both).
+/// unless the base is empty or ends with one. The only error is running out of memory. Time O(length of both).
+///
+/// ```text
+/// assert_eq!(rt; join(alloc, "/w/a", "../b")?.as_str(), "/w/a/../b");
+/// ```
 pub fn join(alloc: Global, base: &str, path: &str) -> Result<String, AllocError>
     ensures { IfOk result (λ s. string_bytes s ≡ path_join base.now path.now) }
 {
@@ -38,6 +50,11 @@ pub fn join(alloc: Global, base: &str, path: &str) -> Result<String, AllocError>
 }
 
 /// Whether the components of `end` are the last ones of `path`. Time O(length of both).
+///
+/// ```text
+/// assert!(rt; ends_with("/w/a/Cargo.toml", "a/Cargo.toml"));
+/// assert!(rt; !ends_with("/w/aa/Cargo.toml", "a/Cargo.toml"));
+/// ```
 pub fn ends_with(path: &str, end: &str) -> bool
     ensures { IsTrue result ↔ EndsWithPath path.now end.now }
 {
@@ -45,6 +62,10 @@ pub fn ends_with(path: &str, end: &str) -> bool
 }
 
 /// Whether two paths have equal components. Time O(length of both).
+///
+/// ```text
+/// assert!(rt; same("/w/a/", "/w//a"));
+/// ```
 pub fn same(a: &str, b: &str) -> bool
     ensures { IsTrue result ↔ (components a.now ≡ components b.now) }
 {

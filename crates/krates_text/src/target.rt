@@ -47,7 +47,7 @@ pub enum Target {
 impl Clone for TargetInfo {
     ghost is_clone = { λ info copy. description_of copy ≡ description_of info };
 
-    /// A copy that describes the same. The only error is being out of memory.
+    /// A copy that describes the same. The only error is running out of memory.
     #[tactic(auto, using(crate::proofs::Copies::texts_copied))]
     fn clone(&self) -> Result<TargetInfo, AllocError> {
         Ok(TargetInfo {
@@ -69,7 +69,7 @@ impl Clone for TargetInfo {
 impl Clone for Target {
     ghost is_clone = { λ target copy. target_of copy ≡ target_of target };
 
-    /// A copy that is the same target. The only error is being out of memory.
+    /// A copy that is the same target. The only error is running out of memory.
     fn clone(&self) -> Result<Target, AllocError> {
         match self {
             Target::Builtin(info) => Ok(Target::Builtin(info.clone()?)),
@@ -216,8 +216,13 @@ fn strings(alloc: Global, texts: &[&str]) -> Result<Vec<String>, AllocError>
     Ok(all)
 }
 
-/// The description of the target with this triple, where the table of seven has it, in time O(1). The only error is being out
-/// of memory.
+/// The description of the target with this triple, where the table of seven has it. The only error is running out of
+/// memory. Time O(1).
+///
+/// ```text
+/// let linux = builtin(alloc, "x86_64-unknown-linux-gnu")?; // Some
+/// let other = builtin(alloc, "avr-unknown-gnu-atmega328")?; // None
+/// ```
 pub fn builtin(alloc: Global, triple: &str) -> Result<Option<TargetInfo>, AllocError>
     ensures { IfOk result (λ info. option_map description_of info ≡ row_of triple.now) }
 {
@@ -229,7 +234,12 @@ pub fn builtin(alloc: Global, triple: &str) -> Result<Option<TargetInfo>, AllocE
 
 impl Target {
     /// The target that a text names: described where it is a triple of the table, and unknown otherwise. The only
-    /// error is being out of memory. Time O(length).
+    /// error is running out of memory. Time O(length).
+    ///
+    /// ```text
+    /// let linux = Target::new(alloc, "x86_64-unknown-linux-gnu")?;
+    /// assert_eq!(rt; linux.as_str(), "x86_64-unknown-linux-gnu");
+    /// ```
     pub fn new(alloc: Global, text: &str) -> Result<Target, AllocError>
         ensures { IfOk result (λ target. target_of target ≡ target_named text.now) }
     {

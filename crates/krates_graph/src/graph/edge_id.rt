@@ -16,14 +16,14 @@ impl Model for EdgeId {
 }
 
 impl EdgeId {
-    /// The id of the edge of that number.
+    /// The id of the edge of that number. Time O(1).
     pub fn new(number: u32) -> EdgeId
         ensures { result ≡ number }
     {
         EdgeId(number)
     }
 
-    /// The number, as an index of a list of edges.
+    /// The number, as an index of a list of edges. Time O(1).
     pub fn index(self) -> usize
         ensures { result ≡ self }
     {

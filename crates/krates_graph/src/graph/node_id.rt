@@ -16,14 +16,14 @@ impl Model for NodeId {
 }
 
 impl NodeId {
-    /// The id of the node of that number.
+    /// The id of the node of that number. Time O(1).
     pub fn new(number: u32) -> NodeId
         ensures { result ≡ number }
     {
         NodeId(number)
     }
 
-    /// The number, as an index of a list of nodes.
+    /// The number, as an index of a list of nodes. Time O(1).
     pub fn index(self) -> usize
         ensures { result ≡ self }
     {

@@ -26,6 +26,10 @@ impl Expression {
     /// The expression that a text is. `TooDeep` comes where a beginning of the text opens a 128th form in the forms
     /// that it has opened, with no fault before; `Syntax` for every other text outside the grammar. Any call may instead
     /// return `Memory`. Time O(length), without recursion.
+    ///
+    /// ```text
+    /// let unix = Expression::parse(alloc, "cfg(all(unix, not(target_os = \"macos\")))")?;
+    /// ```
     pub fn parse(alloc: Global, text: &str) -> Result<Expression, CfgError>
         ensures found { IfOk result (λ e. IsExpression text.now (tree e)) }
         ensures fault { IfErr result (λ e. IsFault text.now e) }
@@ -38,6 +42,10 @@ impl Expression {
     }
 
     /// How many words and pairs the expression has; `true` and `false` are none. Time O(size).
+    ///
+    /// ```text
+    /// assert_eq!(rt; Expression::parse(alloc, "cfg(any(unix, windows))")?.predicates(), 2);
+    /// ```
     pub fn predicates(&self) -> usize
         ensures { result ≡ count (tree self.now) }
     {
@@ -45,6 +53,11 @@ impl Expression {
     }
 
     /// Whether the expression is true at a target that has these features. Time O(size × features).
+    ///
+    /// ```text
+    /// let linux = Target::new(alloc, "x86_64-unknown-linux-gnu")?;
+    /// assert!(rt; Expression::parse(alloc, "cfg(unix)")?.eval(&linux, &[]));
+    /// ```
     pub fn eval(&self, target: &Target, features: &[String]) -> bool
         ensures { result ≡ value (target_of target.now) (map string_bytes features.now) (tree self.now) }
     {
