@@ -79,7 +79,10 @@ const LIMITS: &[Row] = &[
     // more room than is needed
     ("a b|b a / within 4294967295 4294967295", "2 nodes, 2 edges"),
     // a crate that nobody needs isn't drawn; the feature of the other one is the node too many
-    ("a;x=|b / nodes a;x|b / within 1 9", "too many nodes or edges"),
+    (
+        "a;x=|b / nodes a;x|b / within 1 9",
+        "too many nodes or edges",
+    ),
     ("a;x=|b / nodes a;x|b / within 2 9", "2 nodes, 1 edges"),
 ];
 
