@@ -25,7 +25,6 @@ use Rattle.krates_ids.specs.Identity.{Identity, id_cmp}
 use Rattle.krates_resolve.specs.Selection.{IsSelection, feature_fact}
 use Rattle.krates_resolve.specs.declared.selection.EnabledFeature.{EnabledFeature}
 use Rattle.krates_resolve.specs.declared.selection.Selection.{Selection}
-use Rattle.krates_rules.specs.Admission.{IsAdmitted, IdsModel, NoneDoubled}
 use Rattle.krates_rules.specs.Facts.{Id, Fact, Feature}
 use Rattle.krates_rules.specs.Resolved.{HasGraphWith, Resolved, StandsAt, id_of, resolved}
 use Rattle.krates_rules.specs.Setting.{SettingModel}
@@ -44,6 +43,7 @@ use Rattle.krates.specs.declared.krate.Krate.{Krate}
 use Rattle.krates.specs.declared.node.Node.{Node}
 use Rattle.krates.proofs.BuildLemmas.{Builds, builds, enabled}
 use Rattle.krates.proofs.MadeLemmas.{AreDrawnNodes, alike, first_alike, mapped_length}
+use Rattle.krates_drawing.proofs.DocumentSheets.{selected_in}
 use Rattle.krates_drawing.proofs.Members.{member_of, contains_of, member_map}
 use Rattle.krates.proofs.EnabledLemmas.{stands_at_some}
 use Rattle.krates.proofs.FeaturesDrawn.{HaveCrates, are_features}
@@ -52,17 +52,6 @@ use Rattle.krates.proofs.OrderedIds.{Compares, HasLike, one_order}
 use Rattle.krates.proofs.SelectionFacts.{Selects, feature_kept, kept_among}
 
 -- ---- the sheet
-
-pub none_doubled_in : (m : MetadataModel) (ids : IdsModel) (r : Resolved) → IsAdmitted m ids → HasGraphWith m (λ g. r ≡ resolved m g) → NoneDoubled r.metadata r.graph
-none_doubled_in m ids r a h =
-    let same : a.graph ≡ h.graph = cc (a.has_graph, h.has_graph) in
-    rw h.holds (subst (λ g. NoneDoubled m g) same a.none_doubled)
-
--- the document's graph is one
-pub selected_in : (m : MetadataModel) (s : SettingModel) (x : Selection) (r : Resolved) → Selects m s x → HasGraphWith m (λ g. r ≡ resolved m g) → IsSelection r s x
-selected_in m s x r sel h =
-    let same : sel.graph ≡ h.graph = cc (sel.has_graph, h.has_graph) in
-    rw h.holds (subst (λ g. IsSelection (resolved m g) s x) same sel.holds)
 
 pub sheet_told : (m : MetadataModel) (s : SettingModel) (x : Selection) (r : Resolved) (t : model.Sheet) → Selects m s x → HasGraphWith m (λ g. r ≡ resolved m g)
     → ((s : SettingModel) → IsSelection r s x → IsSheet r s x t) → IsSheetFor m s t

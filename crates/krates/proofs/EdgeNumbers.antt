@@ -1,15 +1,15 @@
 -- The numbers of a node's edges: which they are, in which order, and what the edges lead to.
-use Rattle.std.proofs.Common.{◌≡◌, ◌⊎◌, ◌↔◌, ℕ, zero, suc, ◌+◌, ◌<◌, ◌≤◌, ◌==◌, Bool, true, false, cond, List, [], ◌∷◌, length, map, filter, All, Option, Some, None, option_map, slice_get, Contains, refl, sym, ap, ◌∙◌, subst, inl, inr, arith}
+use Rattle.std.proofs.Common.{◌≡◌, ℕ, zero, suc, ◌+◌, ◌<◌, List, [], ◌∷◌, length, All, Option, Some, option_map, slice_get, Contains, refl, ap, ◌∙◌, subst, inl, inr, arith}
 use Rattle.std.proofs.lemmas.Bool.Decides.{Decides-eqb}
 use Rattle.std.proofs.lemmas.List.Elements.{recursion_from_All, All-contains}
 use Rattle.std.proofs.lemmas.Option.{get_or_from_slice_get, slice_get_within, same_Some, none-some}
-use Rattle.std.specs.List.{AllByRecursion, cons_option, enumerate_from, find}
+use Rattle.std.specs.List.{AllByRecursion, cons_option, enumerate_from}
 use Rattle.krates_graph.specs.declared.graph.edge.Direction.{Direction}
 use Rattle.krates_graph.specs.declared.graph.edge.GraphEdge.{GraphEdge}
 use Rattle.krates_graph.specs.Graph.{HasEnds, edges_at, end_of, is_at, numbers_at}
 use Rattle.krates.specs.GetDeps.{target_of, targets_of}
 use Rattle.krates.specs.declared.node.Node.{Node}
-use Rattle.krates_drawing.proofs.Members.{Member, member_of, contains_of, mapped_of, member_map, kept_of, member_filter}
+use Rattle.krates_drawing.proofs.Members.{Member, mapped_of, member_map, kept_of, member_filter}
 
 -- ---- which they are
 
@@ -49,61 +49,6 @@ at_edge {E} edges node d k w =
     subst (Member (numbers_at edges node d)) f
     (member_map (λ (p : ℕ × GraphEdge E). p.0) (edges_at edges node d) (0 + k, w.edge)
     (member_filter (is_at node d) (enumerate_from 0 edges) (0 + k, w.edge) ((Decides-eqb (end_of d w.edge) node).1 w.end) there))
-
--- ---- the first that passes
-
-found_step : (p : ℕ → Bool) (n : ℕ) (ns : List ℕ) (k : ℕ) (b : Bool) → p n ≡ b → cond b (Some n) (find p ns) ≡ Some k → (find p ns ≡ Some k → Member ns k × (p k ≡ true)) → Member (n ∷ ns) k × (p k ≡ true)
-found_step p n ns k true e h more = let same = same_Some n k h in (inl same, ap p (sym same) ∙ e)
-found_step p n ns k false e h more = let w = more h in (inr w.0, w.1)
-
-pub found_is : (p : ℕ → Bool) (ns : List ℕ) (k : ℕ) → find p ns ≡ Some k → Member ns k × (p k ≡ true)
-found_is p [] k h = absurd (none-some k h)
-found_is p (n ∷ ns) k h = found_step p n ns k (p n) refl h (found_is p ns k)
-
-there_step : (p : ℕ → Bool) (n j : ℕ) (ns : List ℕ) (b : Bool) → p n ≡ b → p j ≡ true → (n ≡ j) ⊎ ((k : ℕ) × (find p ns ≡ Some k)) → (k : ℕ) × (cond b (Some n) (find p ns) ≡ Some k)
-there_step p n j ns true e h m = (n, refl)
-there_step p n j ns false e h (inl same) = absurd (let no : false ≡ true = sym e ∙ ap p same ∙ h in cc)
-there_step p n j ns false e h (inr w) = w
-
-pub found_there : (p : ℕ → Bool) (ns : List ℕ) (j : ℕ) → Member ns j → p j ≡ true → (k : ℕ) × (find p ns ≡ Some k)
-found_there p [] j m h = absurd m
-found_there p (n ∷ ns) j (inl e) h = there_step p n j ns (p n) refl h (inl e)
-found_there p (n ∷ ns) j (inr m) h = there_step p n j ns (p n) refl h (inr (found_there p ns j m h))
-
--- the numbers of the elements that pass
-abbrev numbers_from : {A : Type 0} → (ℕ × A → Bool) → ℕ → List A → List ℕ
-numbers_from test n xs = map (λ p. p.0) (filter test (enumerate_from n xs))
-
-numbers_above : {A : Type 0} (test : ℕ × A → Bool) (n : ℕ) (xs : List A) (j : ℕ) → Member (numbers_from test n xs) j → n ≤ j
-numbers_above {A} test n xs j m =
-    let w = mapped_of (λ (p : ℕ × A). p.0) (filter test (enumerate_from n xs)) j m in
-    let at = numbered_of n xs w.from (kept_of test (enumerate_from n xs) w.from w.member).0 in
-    omega (arith, at.is, w.is)
-
-abbrev IsLeast : (ℕ → Bool) → List ℕ → Type 0
-IsLeast p ns = (k : ℕ) → find p ns ≡ Some k → (j : ℕ) → Member ns j → p j ≡ true → k ≤ j
-
-least_step : (p : ℕ → Bool) (n : ℕ) (ns : List ℕ) (b : Bool) → p n ≡ b → ((j : ℕ) → Member ns j → n ≤ j) → IsLeast p ns
-    → (k : ℕ) → cond b (Some n) (find p ns) ≡ Some k → (j : ℕ) → (n ≡ j) ⊎ Member ns j → p j ≡ true → k ≤ j
-least_step p n ns true e above more k h j (inl m) passes = let same = same_Some n k h in omega (arith, same, m)
-least_step p n ns true e above more k h j (inr m) passes = let same = same_Some n k h in omega (arith, same, above j m)
-least_step p n ns false e above more k h j (inl m) passes = absurd (let no : false ≡ true = sym e ∙ ap p m ∙ passes in cc)
-least_step p n ns false e above more k h j (inr m) passes = more k h j m passes
-
-least_kept : {A : Type 0} (p : ℕ → Bool) (test : ℕ × A → Bool) (n : ℕ) (x : A) (xs : List A) (b : Bool) → IsLeast p (numbers_from test (n + 1) xs)
-    → IsLeast p (map (λ (q : ℕ × A). q.0) (cond b ((n, x) ∷ filter test (enumerate_from (n + 1) xs)) (filter test (enumerate_from (n + 1) xs))))
-least_kept p test n x xs true more =
-    least_step p n (numbers_from test (n + 1) xs) (p n) refl (λ j m. (let above = numbers_above test (n + 1) xs j m in omega (arith, above))) more
-least_kept p test n x xs false more = more
-
-least_from : {A : Type 0} (p : ℕ → Bool) (test : ℕ × A → Bool) (n : ℕ) (xs : List A) → IsLeast p (numbers_from test n xs)
-least_from p test n [] = λ k h j m passes. absurd m
-least_from p test n (x ∷ xs) = least_kept p test n x xs (test (n, x)) (least_from p test (n + 1) xs)
-
--- the first edge of the node that passes has the least number of those
-pub least_found : {E : Type 0} (p : ℕ → Bool) (edges : List (GraphEdge E)) (node : ℕ) (d : Direction) (k : ℕ) → find p (numbers_at edges node d) ≡ Some k
-    → (j : ℕ) → Member (numbers_at edges node d) j → p j ≡ true → k ≤ j
-least_found p edges node d = least_from p (is_at node d) 0 edges
 
 -- ---- what they lead to
 

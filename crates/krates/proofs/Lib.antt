@@ -21,6 +21,7 @@ pub mod NamesIn
 pub mod NarrowedAlike
 pub mod NarrowedBuilds
 pub mod NodeLemmas
+pub mod NeighbourLemmas
 pub mod Numbered
 pub mod OrderedIds
 pub mod ReachedLemmas

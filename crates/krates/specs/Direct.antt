@@ -1,15 +1,13 @@
 -- Crates that are joined by an edge: which edge it is, and what stands for a crate.
-use Rattle.std.specs.Prelude.{◌≡◌, ◌≤◌, ◌<◌, ◌^◌, ◌↔◌, ℕ, length, Bool, false, ◌||◌, ◌==◌, List, [], ◌∷◌, ◌++◌, Option, Some, None, All, Contains, map, filter, flat_map, slice_get}
-use Rattle.std.specs.List.{find, filter_map}
+use Rattle.std.specs.Prelude.{◌≡◌, ◌≤◌, ◌<◌, ◌^◌, ◌↔◌, ℕ, length, Bool, false, ◌==◌, List, Option, Some, None, All, Contains, map, slice_get}
+use Rattle.std.specs.List.{filter_map}
 use Rattle.std.specs.List.Sorted.{IsStrictlySortedBy}
 use Rattle.std.specs.Ordering.{nat_cmp}
 use Rattle.krates_cm.specs.Document.{Text}
 use Rattle.krates_drawing.specs.Agreement.{DependsOn, IsOf}
 use Rattle.krates_drawing.specs.Drawing.{FeatureSpot}
 use Rattle.krates_drawing.specs.Stored.{LeadsAlong}
-use Rattle.krates_graph.specs.declared.graph.edge.Direction.TheVariants.{Outgoing, Incoming}
 use Rattle.krates_graph.specs.declared.graph.edge.GraphEdge.{GraphEdge}
-use Rattle.krates_graph.specs.Graph.{numbers_at}
 use Rattle.krates.specs.Drawn.{node_spot}
 use Rattle.krates.specs.declared.node.Node.{Node}
 use Rattle.krates.specs.declared.node.Node.TheVariants.{Krate, Feature}
@@ -82,18 +80,6 @@ is_feature_in d (Some (Feature krate_index name)) = krate_index == d
 abbrev pub is_feature_of : {N : Type 0} → List (Node N) → ℕ → ℕ → Bool
 is_feature_of nodes d n = is_feature_in d (slice_get nodes n)
 
-abbrev pub leads_in : {N E : Type 0} → List (Node N) → ℕ → Option (GraphEdge E) → Bool
-leads_in nodes d None = false
-leads_in nodes d (Some e) = (e.target == d) || is_feature_of nodes d e.target
-
--- whether the edge of the number leads to d or to a feature of d
-abbrev pub leads_into : {N E : Type 0} → List (Node N) → List (GraphEdge E) → ℕ → ℕ → Bool
-leads_into nodes edges d k = leads_in nodes d (slice_get edges k)
-
--- the first edge of p that does
-abbrev pub least_edge : {N E : Type 0} → List (Node N) → List (GraphEdge E) → ℕ → ℕ → Option ℕ
-least_edge nodes edges p d = find (leads_into nodes edges d) (numbers_at edges p Outgoing)
-
 -- the crate of the number, where it has a value and an edge
 abbrev pub joined_by : {N : Type 0} → ℕ → Option N → Option ℕ → Option (Joined N)
 joined_by n (Some krate) (Some edge) = Some (record { krate = krate; node = n; edge = edge })
@@ -102,15 +88,3 @@ joined_by n _ _ = None
 -- those of these numbers that have both
 abbrev pub joined_all : {N : Type 0} → (ℕ → Option N) → (ℕ → Option ℕ) → List ℕ → List (Joined N)
 joined_all value edge numbers = filter_map (λ n. joined_by n (value n) (edge n)) numbers
-
-abbrev pub source_in : {E : Type 0} → Option (GraphEdge E) → Option ℕ
-source_in None = None
-source_in (Some e) = Some e.source
-
--- the sources of the edges to d
-abbrev pub sources_to : {E : Type 0} → List (GraphEdge E) → ℕ → List ℕ
-sources_to edges d = filter_map (λ k. source_in (slice_get edges k)) (numbers_at edges d Incoming)
-
--- and of those to features of d, which are among the sources of the edges to d
-abbrev pub sources_into : {N E : Type 0} → List (Node N) → List (GraphEdge E) → ℕ → List ℕ
-sources_into nodes edges d = sources_to edges d ++ flat_map (sources_to edges) (filter (is_feature_of nodes d) (sources_to edges d))

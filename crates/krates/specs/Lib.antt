@@ -19,6 +19,7 @@ pub mod KratesFiltered
 pub mod MadeNodes
 pub mod Matches
 pub mod Members
+pub mod Neighbours
 pub mod Node
 pub mod NodeOrder
 pub mod ResolvedDependency

@@ -10,6 +10,7 @@ mod index;
 mod krates_by_name;
 mod krates_filtered;
 mod matches;
+mod neighbours;
 mod nid_for_kid;
 mod node_for_kid;
 mod resolved_dependency;

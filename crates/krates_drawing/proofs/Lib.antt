@@ -4,6 +4,7 @@ pub mod Arrows
 pub mod Children
 pub mod Closed
 pub mod Derivations
+pub mod DocumentSheets
 pub mod Drawn
 pub mod Entries
 pub mod FewerLines

@@ -1,13 +1,12 @@
 //! The crates that depend directly on a node.
 
-ghost use Rattle.std.specs.Prelude.{◌≡◌, ◌++◌, IfOk, OnOk, filter, flat_map, map};
-ghost use Rattle.krates_drawing.specs.Views.{listed};
-ghost use Rattle.krates.specs.Direct.{is_feature_of as is_feature, joined_all, joined_by, least_edge as least, sources_into, sources_to, value_at};
-ghost use Rattle.krates.specs.DirectDependents.{AreDependents, dependent_view};
+ghost use Rattle.std.specs.Prelude.{◌≡◌, ◌++◌, IfOk, OnOk, map};
+ghost use Rattle.krates.specs.DirectDependents.{AreDependents, dependent_view, sources_into, sources_over, sources_to};
 
 use crate::kept::Krates;
 use crate::node::Node;
-use crate::queries::direct::{in_order, is_feature_of, krate_at, least_edge};
+use crate::queries::direct::{FromJoined, in_order, is_feature_of, joined};
+use crate::queries::neighbours::{Neighbour, ordered};
 use krates_graph::graph::{Direction, EdgeId, Graph, NodeId};
 use std::alloc::{AllocError, Global};
 
@@ -22,17 +21,32 @@ pub struct DirectDependent<'a, N> {
     pub edge_id: EdgeId,
 }
 
+impl<'a, N> FromJoined<'a, N> for DirectDependent<'a, N> {
+    ghost joined = { dependent_view };
+
+    fn from_joined(krate: &'a N, node_id: NodeId, edge_id: EdgeId) -> DirectDependent<'a, N> {
+        DirectDependent {
+            krate,
+            node_id,
+            edge_id,
+        }
+    }
+}
+
 /// Adds the sources of the edges to a node.
 fn push_sources<N, E>(
     graph: &Graph<Node<N>, E>,
     to: NodeId,
-    sources: &mut Vec<NodeId>,
+    sources: &mut Vec<Neighbour>,
 ) -> Result<(), AllocError>
     ensures { OnOk result (sources.new.items ≡ sources.old.items ++ sources_to graph.now.edges to) }
 {
     for id in graph.edge_numbers(to, Direction::Incoming) {
         if let Some((source, _)) = graph.edge_endpoints(*id) {
-            sources.push(source)?;
+            sources.push(Neighbour {
+                krate: source,
+                edge: *id,
+            })?;
         }
     }
     Ok(())
@@ -42,15 +56,15 @@ fn push_sources<N, E>(
 fn push_feature_sources<N, E>(
     graph: &Graph<Node<N>, E>,
     to: NodeId,
-    among: &[NodeId],
-    sources: &mut Vec<NodeId>,
+    among: &[Neighbour],
+    sources: &mut Vec<Neighbour>,
 ) -> Result<(), AllocError>
     ensures { OnOk result (sources.new.items ≡ sources.old.items
-        ++ flat_map (sources_to graph.now.edges) (filter (is_feature graph.now.nodes to) among.now)) }
+        ++ sources_over graph.now.nodes graph.now.edges to among.now) }
 {
     for source in among {
-        if is_feature_of(graph.raw_nodes(), to, *source) {
-            push_sources(graph, *source, sources)?;
+        if is_feature_of(graph.raw_nodes(), to, source.krate) {
+            push_sources(graph, source.krate, sources)?;
         }
     }
     Ok(())
@@ -61,7 +75,7 @@ fn sources_of<N, E>(
     alloc: Global,
     graph: &Graph<Node<N>, E>,
     to: NodeId,
-) -> Result<Vec<NodeId>, AllocError>
+) -> Result<Vec<Neighbour>, AllocError>
     ensures { IfOk result (λ sources. sources.items ≡ sources_into graph.now.nodes graph.now.edges to) }
 {
     let mut own = Vec::new(alloc);
@@ -72,49 +86,15 @@ fn sources_of<N, E>(
     Ok(sources)
 }
 
-/// Adds the crate of a number, with the least edge from it.
-fn push_dependent<'a, N, E>(
-    graph: &'a Graph<Node<N>, E>,
-    to: NodeId,
-    number: NodeId,
-    found: &mut Vec<DirectDependent<'a, N>>,
-) -> Result<(), AllocError>
-    ensures { OnOk result (map dependent_view found.new.items ≡ map dependent_view found.old.items
-        ++ listed (joined_by number (value_at graph.now.nodes number)
-        (least graph.now.nodes graph.now.edges number to))) }
+/// The numbers of the neighbours.
+fn numbers_of(alloc: Global, neighbours: &[Neighbour]) -> Result<Vec<NodeId>, AllocError>
+    ensures { IfOk result (λ numbers. numbers.items ≡ map (λ n. n.krate) neighbours.now) }
 {
-    let Some(krate) = krate_at(graph.raw_nodes(), number) else {
-        return Ok(());
-    };
-    let Some(edge_id) = least_edge(graph, number, to) else {
-        return Ok(());
-    };
-    let pushed = found.push(DirectDependent {
-        krate,
-        node_id: number,
-        edge_id,
-    });
-    match pushed {
-        Ok(()) => Ok(()),
-        Err(_) => Err(AllocError),
+    let mut numbers = Vec::new(alloc);
+    for neighbour in neighbours {
+        numbers.push(neighbour.krate)?;
     }
-}
-
-/// The crates of these numbers, each with the least edge from it.
-fn dependents<'a, N, E>(
-    alloc: Global,
-    graph: &'a Graph<Node<N>, E>,
-    to: NodeId,
-    numbers: &[NodeId],
-) -> Result<Vec<DirectDependent<'a, N>>, AllocError>
-    ensures { IfOk result (λ found. map dependent_view found.items ≡ joined_all (value_at graph.now.nodes)
-        (λ from. least graph.now.nodes graph.now.edges from to) numbers.now) }
-{
-    let mut found = Vec::new(alloc);
-    for number in numbers {
-        push_dependent(graph, to, *number, &mut found)?;
-    }
-    Ok(found)
+    Ok(numbers)
 }
 
 impl<N, E> Krates<N, E> {
@@ -132,14 +112,15 @@ impl<N, E> Krates<N, E> {
     /// }
     /// ```
     ///
-    /// Time: the edges to the node and to its features, all edges of the crates that are found, and sorting these.
+    /// Time: O(n log n), where n counts the edges to the node and to its features.
     pub fn direct_dependents(&self, node: NodeId) -> Result<Vec<DirectDependent<'_, N>>, AllocError>
         ensures { IfOk result (λ found. AreDependents self.now.graph.nodes self.now.graph.edges node
             (map dependent_view found.items)) }
     {
         let alloc = self.alloc();
         let graph = self.graph();
-        let numbers = in_order(sources_of(alloc, graph, node)?);
-        dependents(alloc, graph, node, &numbers)
+        let sources = ordered(sources_of(alloc, graph, node)?);
+        let numbers = in_order(numbers_of(alloc, &sources)?);
+        joined(alloc, graph.raw_nodes(), &sources, &numbers)
     }
 }

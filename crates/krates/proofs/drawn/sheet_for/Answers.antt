@@ -6,7 +6,8 @@ use Rattle.krates_drawing.specs.Views.{sheet_view}
 use Rattle.krates_questions.specs.DocumentModel.{as_resolved}
 use Rattle.krates_resolve.specs.Selection.{IsSelection}
 use Rattle.krates_rules.specs.Setting.{SettingModel}
-use Rattle.krates.proofs.DrawnLemmas.{none_doubled_in, if_ordered, if_sheet_told}
+use Rattle.krates_drawing.proofs.DocumentSheets.{none_doubled_in}
+use Rattle.krates.proofs.DrawnLemmas.{if_ordered, if_sheet_told}
 use Rattle.krates.proofs.drawn.sheet_for.Goals as goal
 
 pub sheet_of-requires : goal.sheet_of-requires

@@ -1,19 +1,27 @@
-use Rattle.std.proofs.Common.{◌≡◌, ◌↔◌, ◌∙◌, List, ℕ, Contains, Some, slice_get, sym, ap, subst}
+use Rattle.std.proofs.Common.{◌≡◌, ◌↔◌, ◌∙◌, List, ℕ, Contains, map, sym, ap, subst}
 use Rattle.std.proofs.lemmas.Result.{IfOk-weaker}
-use Rattle.krates.specs.Direct.{Joined, joined_all, least_edge, sources_into, value_at}
-use Rattle.krates.specs.DirectDependents.{AreDependents}
+use Rattle.krates.specs.Direct.{Joined, joined_all, value_at}
+use Rattle.krates.specs.DirectDependents.{AreDependents, sources_into}
+use Rattle.krates.specs.Neighbours.{first_edge}
+use Rattle.krates.specs.declared.node.Node.{Node}
+use Rattle.krates.specs.declared.queries.neighbours.Neighbour.{Neighbour}
 use Rattle.krates.proofs.JoinedLemmas.{are_dependents}
 use Rattle.krates.proofs.kept.Krates.direct_dependents.Goals as goal
 
 pub returns : goal.returns
 returns g c =
     let graph = c.graph-graph.result.now in
+    let sources = c.ordered-sources.result.items in
     let numbers = c.in_order-numbers.result.items in
-    let same : c.in_ok-sources_of.field-0.items ≡ sources_into graph.nodes graph.edges c.args.node = c.in_ok-sources_of.ensures in
-    let are = are_dependents graph.nodes graph.edges c.args.node numbers c.graph-graph.ensures.connected c.in_order-numbers.ensures.ascending
-    (λ n. subst (λ (ns : List ℕ). Contains numbers n ↔ Contains ns n) same (c.in_order-numbers.ensures.same n)) in
+    let led : c.in_ok-sources_of.field-0.items ≡ sources_into graph.nodes graph.edges c.args.node = c.in_ok-sources_of.ensures in
+    let of : c.in_ok-numbers_of.field-0.items ≡ map (λ (n : Neighbour). n.krate) sources = c.in_ok-numbers_of.ensures ∙ ap (map (λ (n : Neighbour). n.krate)) c.deref.ensures.value in
+    let are = are_dependents graph.nodes graph.edges c.args.node sources numbers c.graph-graph.ensures.connected c.ordered-sources.ensures.ordered
+    (λ x. subst (λ (xs : List Neighbour). Contains sources x ↔ Contains xs x) led (c.ordered-sources.ensures.same x)) c.in_order-numbers.ensures.ascending
+    (λ n. subst (λ (ns : List ℕ). Contains numbers n ↔ Contains ns n) of (c.in_order-numbers.ensures.same n)) in
+    let seen = ap (λ (ns : List (Node g.row.N.Denot)). joined_all (value_at ns) (first_edge c.deref-2.result.now) c.deref-3.result.now) c.raw_nodes.ensures.nodes
+    ∙ ap (λ (xs : List Neighbour). joined_all (value_at graph.nodes) (first_edge xs) c.deref-3.result.now) c.deref-2.ensures.value
+    ∙ ap (joined_all (value_at graph.nodes) (first_edge sources)) c.deref-3.ensures.value in
     rw (← c.graph-graph.ensures.graph)
-    (IfOk-weaker c.dependents.result _ _
-    (λ found e. subst (λ (js : List (Joined g.row.N.Denot)). AreDependents graph.nodes graph.edges c.args.node js)
-    (sym (e ∙ ap (joined_all (value_at graph.nodes) (λ p. least_edge graph.nodes graph.edges p c.args.node)) c.deref.ensures.value)) are)
-    c.dependents.ensures)
+    (IfOk-weaker c.joined.result _ _
+    (λ found e. subst (λ (js : List (Joined g.row.N.Denot)). AreDependents graph.nodes graph.edges c.args.node js) (sym (e ∙ seen)) are)
+    c.joined.ensures)

@@ -1,0 +1,92 @@
+//! Drawing within small limits.
+//!
+//! The section `within` has two numbers: how many nodes there may be, and how many edges. A line is answered with how many there are, or
+//! with the text of the refusal.
+
+ghost use Rattle.std.specs.Prelude.{IfOk};
+ghost use Rattle.krates_drawing.specs.SheetOrder.{IsOrdered};
+
+use krates_cm::Metadata;
+use krates_drawing::gather::sheet_of;
+use krates_drawing::limits::{Limits, plan_within};
+use krates_drawing::sheet::Sheet;
+use krates_resolve::{Document, Setting, admit, select};
+use krates_samples::documents::{metadata, section};
+use krates_samples::table::{Question, Row, hold};
+use std::alloc::Global;
+use std::test::Fail;
+
+/// The limits of a line.
+fn limits_of(line: &str) -> Result<Limits, Fail> {
+    let numbers = section(line, "within ").unwrap_or("");
+    let (nodes, edges) = numbers.split_once(' ').unwrap_or((numbers, ""));
+    Ok(Limits {
+        nodes: nodes.parse()?,
+        edges: edges.parse()?,
+    })
+}
+
+/// The sheet of what is kept of a document without any setting.
+fn sheet(alloc: Global, metadata: &Metadata) -> Result<Sheet, Fail>
+    ensures { IfOk result IsOrdered }
+{
+    let ids = admit(alloc, metadata)?;
+    let setting = Setting::new(alloc);
+    let selection = select(alloc, metadata, &ids, &setting)?;
+    let document = Document::new(alloc, metadata, &ids)?;
+    Ok(sheet_of(alloc, &document, selection)?)
+}
+
+/// How many nodes and edges are drawn of a document within the limits of its line.
+struct Drawn;
+
+impl Question for Drawn {
+    fn told(alloc: Global, line: &str) -> Result<String, Fail> {
+        let metadata = metadata(alloc, line)?;
+        let sheet = sheet(alloc, &metadata)?;
+        match plan_within(alloc, &sheet, limits_of(line)?) {
+            Ok(plan) => {
+                let (nodes, edges) = (plan.spots.len(), plan.arrows.len());
+                Ok(format!(in alloc; "{nodes} nodes, {edges} edges")?)
+            }
+            Err(error) => Ok(format!(in alloc; "{error}")?),
+        }
+    }
+}
+
+const LIMITS: &[Row] = &[
+    // two crates and an edge: exactly as many as there may be, and one of either too many
+    ("a b|b / within 2 1", "2 nodes, 1 edges"),
+    ("a b|b / within 1 1", "too many nodes or edges"),
+    ("a b|b / within 2 0", "too many nodes or edges"),
+    // a crate alone
+    ("a / within 1 0", "1 nodes, 0 edges"),
+    ("a / within 0 0", "too many nodes or edges"),
+    // features are nodes as well: two crates and three features, with an edge to `b`, one that asks for its feature, and one from each
+    // feature to what it enables and to its crate
+    (
+        "a b?;b=dep:b w=b?/j|b;j= / nodes a b;b w|b;j / within 5 7",
+        "5 nodes, 7 edges",
+    ),
+    (
+        "a b?;b=dep:b w=b?/j|b;j= / nodes a b;b w|b;j / within 4 7",
+        "too many nodes or edges",
+    ),
+    (
+        "a b?;b=dep:b w=b?/j|b;j= / nodes a b;b w|b;j / within 5 6",
+        "too many nodes or edges",
+    ),
+    // more room than is needed
+    ("a b|b a / within 4294967295 4294967295", "2 nodes, 2 edges"),
+    // a crate that nobody needs isn't drawn; the feature of the other one is the node too many
+    (
+        "a;x=|b / nodes a;x|b / within 1 9",
+        "too many nodes or edges",
+    ),
+    ("a;x=|b / nodes a;x|b / within 2 9", "2 nodes, 1 edges"),
+];
+
+#[test]
+fn limits(rt: HostRuntime) -> Result<(), Fail> {
+    hold::<Drawn>(rt.alloc(), LIMITS)
+}

@@ -1,0 +1,136 @@
+//! Reports that people ask for, as a caller writes them.
+
+use krates::{Builder, DepKind, KrateDetails, Krates, NodeId, NoneFilter};
+use krates_samples::documents::{metadata, section};
+use krates_samples::table::{Question, Row, hold};
+use std::alloc::Global;
+use std::test::Fail;
+
+/// The graph of what is kept of a document without any setting.
+fn krates_of(alloc: Global, line: &str) -> Result<Krates, Fail> {
+    let metadata = metadata(alloc, line)?;
+    Ok(Builder::new(alloc).build_with_metadata(metadata, &mut NoneFilter)?)
+}
+
+/// Adds the crates that depend on a crate, each with the edge by which it does.
+fn push_dependents(text: &mut String, krates: &Krates, node: NodeId) -> Result<(), Fail> {
+    for found in &krates.direct_dependents(node)? {
+        if let Some(edge) = krates.graph().raw_edges().get(found.edge_id.index()) {
+            write!(text, "{}{}, ", found.krate.name(), edge.weight)?;
+        }
+    }
+    Ok(())
+}
+
+/// Who depends on the crates of the name in the section `of`.
+struct Dependents;
+
+impl Question for Dependents {
+    fn told(alloc: Global, line: &str) -> Result<String, Fail> {
+        let krates = krates_of(alloc, line)?;
+        let mut text = String::new(alloc);
+        for asked in krates.krates_by_name(section(line, "of ").unwrap_or("")) {
+            push_dependents(&mut text, &krates, asked.node_id)?;
+        }
+        Ok(text)
+    }
+}
+
+const DEPENDENTS: &[Row] = &[
+    // by a normal edge, and by edges that say their kind and target
+    ("a b|b / of b", "a, "),
+    (
+        "a c|b c&dev|c|d c&build&on=cfg(unix) / members a b d / of c",
+        "a, b(dev), d(build) 'cfg(unix)', ",
+    ),
+    // by an edge that asks for a feature, and, of two edges, by the least
+    ("a b&with=f|b;f= / of b", "a, "),
+    ("a b b&dev|b / nodes a b&normal&dev|b / of b", "a, "),
+    // of both crates of a name, the lower version as a text first
+    (
+        "a d|d@0.10.0|d@0.9.0 / nodes a d@0.10.0 d@0.9.0|d@0.10.0|d@0.9.0 / of d",
+        "a, a, ",
+    ),
+    // nobody, and no crate of the name
+    ("a b|b / of a", ""),
+    ("a b|b / of c", ""),
+];
+
+#[test]
+fn dependents_by_edge(rt: HostRuntime) -> Result<(), Fail> {
+    hold::<Dependents>(rt.alloc(), DEPENDENTS)
+}
+
+/// The crates of which another version or source is kept too.
+struct Duplicates;
+
+impl Question for Duplicates {
+    fn told(alloc: Global, line: &str) -> Result<String, Fail> {
+        let krates = krates_of(alloc, line)?;
+        let mut text = String::new(alloc);
+        for krate in krates.krates() {
+            let mut same = krates.krates_by_name(krate.name());
+            if same.next().is_some() && same.next().is_some() {
+                write!(text, "{} {}, ", krate.name(), krate.version())?;
+            }
+        }
+        Ok(text)
+    }
+}
+
+const DUPLICATES: &[Row] = &[
+    ("a b|b", ""),
+    (
+        "a d|d@0.10.0|d@0.9.0 / nodes a d@0.10.0 d@0.9.0|d@0.10.0|d@0.9.0",
+        "d 0.10.0, d 0.9.0, ",
+    ),
+    // a version that isn't kept doesn't count
+    (
+        "a d|d@0.10.0|d@0.9.0 / nodes a d@0.9.0|d@0.10.0|d@0.9.0",
+        "",
+    ),
+    // a name that begins as another does is another
+    ("a b bb|b|bb", ""),
+];
+
+#[test]
+fn duplicate_versions(rt: HostRuntime) -> Result<(), Fail> {
+    hold::<Duplicates>(rt.alloc(), DUPLICATES)
+}
+
+/// The crates that only dev dependencies bring.
+struct ForTests;
+
+impl Question for ForTests {
+    fn told(alloc: Global, line: &str) -> Result<String, Fail> {
+        let krates = krates_of(alloc, line)?;
+        let others = krates.krates_filtered(DepKind::Dev)?;
+        let mut left = others.as_slice();
+        let mut text = String::new(alloc);
+        for krate in krates.krates() {
+            match left.split_first() {
+                Some((first, rest)) if first.id == krate.id => left = rest,
+                _ => write!(text, "{}, ", krate.name())?,
+            }
+        }
+        Ok(text)
+    }
+}
+
+const FOR_TESTS: &[Row] = &[
+    ("a b|b", ""),
+    // what a test needs, and what that needs
+    ("a b&dev|b c|c", "b, c, "),
+    // but not what is needed otherwise too
+    ("a b&dev d|b c d|c|d", "b, c, "),
+    ("a b&dev c|b c|c", "b, "),
+    // a member counts as needed, though another needs it for its tests alone
+    ("a b&dev|b c|c / members a b", ""),
+    // what a build script needs is no test's
+    ("a b&build c&dev|b|c", "c, "),
+];
+
+#[test]
+fn only_for_tests(rt: HostRuntime) -> Result<(), Fail> {
+    hold::<ForTests>(rt.alloc(), FOR_TESTS)
+}
