@@ -40,7 +40,7 @@ fn an_id_with_an_escape(rt: HostRuntime) -> Result<(), Fail> {
 }
 
 /// The answer of an index about the version 1.0.0 of `p`: one feature without a reference.
-fn answer(alloc: Global) -> Result<IndexAnswer, Fail> {
+pub(crate) fn answer(alloc: Global) -> Result<IndexAnswer, Fail> {
     let mut features = BTreeMap::new(alloc);
     drop(features.insert(String::from_str(alloc, "std")?, Vec::new(alloc))?);
     let version = Version::parse(alloc, "1.0.0")?;

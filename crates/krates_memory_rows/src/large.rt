@@ -1,0 +1,188 @@
+//! Documents and lists that are larger than any number in the sources: no answer hangs on a size.
+
+use crate::builds::Count;
+use krates::derive::{Derivation, Fact, Step, check, check_closed};
+use krates::{Builder, DepKind, Krates, Metadata, NodeId, Package};
+use krates_cli::{Counted, Options, run};
+use krates_cm::parse;
+use krates_samples::documents::{document, kid_of};
+use std::alloc::Global;
+use std::ops::Range;
+use std::test::Fail;
+
+/// The numbers of many packages.
+const PACKAGES: Range<u32> = 1_000..3_000;
+
+/// The numbers of many features, of which each names the next.
+const FEATURES: Range<u32> = 1_000..6_000;
+
+/// The number of bytes of a long name.
+const BYTES: usize = 70_000;
+
+/// A name of so many letters.
+fn long_name(alloc: Global) -> Result<String, Fail> {
+    Ok("x".repeat(alloc, BYTES)?)
+}
+
+/// Adds the name of each of the many packages, behind a mark.
+fn push_names(line: &mut String, mark: char) -> Result<(), Fail> {
+    for number in PACKAGES {
+        write!(line, "{mark}b{number}")?;
+    }
+    Ok(())
+}
+
+/// Adds the many features.
+pub(crate) fn push_features(line: &mut String) -> Result<(), Fail> {
+    for number in FEATURES {
+        write!(line, "f{number}=f{} ", number.saturating_add(1))?;
+    }
+    Ok(())
+}
+
+/// The text of a document whose member `a` has the many features, and needs the many packages and one of a long name; nobody
+/// needs `z`.
+fn large_document(alloc: Global) -> Result<String, Fail> {
+    let long = long_name(alloc)?;
+    let mut line = String::from_str(alloc, "a")?;
+    push_names(&mut line, ' ')?;
+    write!(line, " {long};")?;
+    push_features(&mut line)?;
+    line.push_str("f6000=")?;
+    push_names(&mut line, '|')?;
+    write!(line, "|{long}|z")?;
+    document(alloc, line.as_str())
+}
+
+/// The document, read.
+pub(crate) fn large_metadata(alloc: Global) -> Result<Metadata, Fail> {
+    let json = large_document(alloc)?;
+    Ok(parse(alloc, json.as_str())?)
+}
+
+/// How many crates, nodes and edges a graph has, how many crates the first of them depends on, how many depend on the second, how
+/// many are reached without dependencies for tests, and how long the last name is.
+fn sizes(alloc: Global, krates: &Krates) -> Result<String, Fail> {
+    let nodes = krates.graph().node_count();
+    if nodes == 0 {
+        return Err(Fail::new("no node"));
+    }
+    Ok(format!(in alloc;
+        "{} crates, {} nodes, {} edges, {} needed, {} needing, {} reached, {} bytes",
+        krates.len(),
+        nodes,
+        krates.graph().edge_count(),
+        krates.direct_dependencies(NodeId::new(0))?.len(),
+        krates.direct_dependents(NodeId::new(1))?.len(),
+        krates.krates_filtered(DepKind::Dev)?.len(),
+        krates
+            .krates()
+            .last()
+            .map_or(0, |pkg: &Package| pkg.name.len())
+    )?)
+}
+
+#[test]
+fn a_large_build(rt: HostRuntime) -> Result<(), Fail> {
+    let alloc = rt.alloc();
+    let mut count = Count { packages: 0 };
+    let metadata = large_metadata(alloc)?;
+    let krates: Krates = Builder::new(alloc).build_with_metadata(metadata, &mut count)?;
+    let told = sizes(alloc, &krates)?;
+    assert_eq!(rt;
+        told.as_str(),
+        "2002 crates, 7003 nodes, 12002 edges, 2001 needed, 1 needing, 2002 reached, 70000 bytes"
+    );
+    Ok(())
+}
+
+/// A feature of the member is enabled.
+fn feature(alloc: Global, number: u32) -> Result<Fact, Fail> {
+    Ok(Fact::Feature {
+        krate: kid_of(alloc, "a")?,
+        name: format!(in alloc; "f{number}")?,
+    })
+}
+
+/// A step for each feature, each by the one before it.
+fn steps(alloc: Global) -> Result<Derivation, Fail> {
+    let first = Step {
+        rule: 1,
+        fact: feature(alloc, 1_000)?,
+        uses: Vec::new(alloc),
+    };
+    let mut steps = vec![in alloc; first]?;
+    for number in FEATURES {
+        let uses = vec![in alloc; steps.len().saturating_sub(1)]?;
+        let fact = feature(alloc, number.saturating_add(1))?;
+        steps.push(Step {
+            rule: 3,
+            fact,
+            uses,
+        })?;
+    }
+    Ok(Derivation { steps })
+}
+
+/// Adds the edge to a crate that the member needs, and that crate.
+fn push_needed(facts: &mut Vec<Fact>, alloc: Global, name: &str) -> Result<(), Fail> {
+    let child = kid_of(alloc, name)?;
+    facts.push(Fact::Crate(child.clone()?))?;
+    facts.push(Fact::Kept {
+        parent: kid_of(alloc, "a")?,
+        child,
+        kind: DepKind::Normal,
+        cfg: None,
+    })?;
+    Ok(())
+}
+
+/// All facts of the document.
+fn facts(alloc: Global) -> Result<Vec<Fact>, Fail> {
+    let root = Fact::Crate(kid_of(alloc, "a")?);
+    let mut facts = vec![in alloc; root, feature(alloc, 6_000)?]?;
+    for number in FEATURES {
+        facts.push(feature(alloc, number)?)?;
+    }
+    push_needed(&mut facts, alloc, long_name(alloc)?.as_str())?;
+    for number in PACKAGES {
+        push_needed(&mut facts, alloc, format!(in alloc; "b{number}")?.as_str())?;
+    }
+    Ok(facts)
+}
+
+#[test]
+fn large_lists(rt: HostRuntime) -> Result<(), Fail> {
+    let alloc = rt.alloc();
+    let metadata = large_metadata(alloc)?;
+    let builder = Builder::new(alloc);
+    check(&metadata, &builder, None, &steps(alloc)?)?;
+    check_closed(&metadata, &builder, None, &facts(alloc)?)?;
+    Ok(())
+}
+
+/// What a run writes of the document.
+fn lines(alloc: Global) -> Result<String, Fail> {
+    let mut lines = String::from_str(alloc, "+ path+file:///w/a#0.1.0\n")?;
+    for number in PACKAGES {
+        writeln!(lines, "+ path+file:///w/b{number}#0.1.0")?;
+    }
+    let long = long_name(alloc)?;
+    writeln!(
+        lines,
+        "+ path+file:///w/{long}#0.1.0\n- path+file:///w/z#0.1.0"
+    )?;
+    Ok(lines)
+}
+
+#[test]
+fn a_large_run(rt: HostRuntime) -> Result<(), Fail> {
+    let alloc = rt.alloc();
+    let json = large_document(alloc)?;
+    let mut input = Counted::new(json.as_bytes());
+    let mut output = Counted::new(Vec::new(alloc));
+    run(alloc, &Options::new(alloc), &mut input, &mut output)?;
+    let lines = lines(alloc)?;
+    assert!(rt; output.get_ref().as_slice() == lines.as_bytes());
+    Ok(())
+}
