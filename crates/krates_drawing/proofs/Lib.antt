@@ -10,6 +10,7 @@ pub mod Entries
 pub mod FewerLines
 pub mod Gathering
 pub mod Halves
+pub mod HeldTexts
 pub mod Holding
 pub mod Ignoring
 pub mod Joined

@@ -13,4 +13,5 @@ pub mod Rebuilding
 pub mod Sheet
 pub mod SheetOrder
 pub mod Stored
+pub mod TextSet
 pub mod Views

@@ -16,3 +16,4 @@ pub mod plan;
 pub mod sheet;
 pub mod store;
 mod stretches;
+mod text_set;

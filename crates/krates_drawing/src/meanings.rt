@@ -9,11 +9,15 @@ ghost use Rattle.krates_drawing.specs.Sheet.{AreReferents, IsMeaning, asked_by, 
 ghost use Rattle.krates_drawing.specs.Views.{meaning_view};
 
 use crate::sheet::Meaning;
+use crate::text_set::TextSet;
 use krates_cm::{Dependency, Node};
 use krates_ids::{Kid, laws};
 use krates_resolve::Document;
 use krates_text::features::{Feature, ParsedFeature};
 use std::alloc::{AllocError, Global};
+
+/// Fewer features than these are looked for one by one, since a set of what is listed costs more.
+const FEW: usize = 8;
 
 /// The crates that a dependency's name means in a reference of a crate.
 fn referents_of<'a>(
@@ -100,8 +104,8 @@ fn has_text(texts: &[String], text: &str) -> bool
     false
 }
 
-/// Those of the features that the node lists.
-fn push_listed(node: &Node, features: &[String], given: &mut Vec<String>) -> Result<(), AllocError>
+/// Those of the features that the node lists, each looked for among all of these.
+fn push_few(node: &Node, features: &[String], given: &mut Vec<String>) -> Result<(), AllocError>
     ensures { OnOk result (map text_view given.new.items ≡ map text_view given.old.items ++ filter (has
         (node_view node.now).features) (map text_view features.now)) }
 {
@@ -111,6 +115,40 @@ fn push_listed(node: &Node, features: &[String], given: &mut Vec<String>) -> Res
         }
     }
     Ok(())
+}
+
+/// Those of the features that are listed, each looked for by halves.
+fn push_many<'a>(
+    listed: &TextSet<'a>,
+    features: &'a [String],
+    given: &mut Vec<String>,
+) -> Result<(), AllocError>
+    ensures { OnOk result (map text_view given.new.items ≡ map text_view given.old.items
+        ++ filter (has listed.now) (map text_view features.now)) }
+{
+    for x in features {
+        if listed.has(x.as_str()) {
+            given.push(x.clone()?)?;
+        }
+    }
+    Ok(())
+}
+
+/// Those of the features that the node lists.
+fn push_listed<'a>(
+    alloc: Global,
+    node: &'a Node,
+    features: &'a [String],
+    given: &mut Vec<String>,
+) -> Result<(), AllocError>
+    ensures { OnOk result (map text_view given.new.items ≡ map text_view given.old.items ++ filter (has
+        (node_view node.now).features) (map text_view features.now)) }
+{
+    if features.len() < FEW {
+        return push_few(node, features, given);
+    }
+    let listed = TextSet::of(alloc, &node.features)?;
+    push_many(&listed, features, given)
 }
 
 /// The features that an edge gives, which is declared as this dependency and leads to the crate of this node. The only error is
@@ -124,7 +162,7 @@ pub fn given_of(
         (asked_by (dependency_view dependency.now))) }
 {
     let mut given = Vec::new(alloc);
-    push_listed(node, &dependency.features, &mut given)?;
+    push_listed(alloc, node, &dependency.features, &mut given)?;
     if dependency.uses_default_features && has_text(&node.features, "default") {
         given.push(String::from_str(alloc, "default")?)?;
     }

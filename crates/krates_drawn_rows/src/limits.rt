@@ -76,6 +76,15 @@ const LIMITS: &[Row] = &[
         "a b?;b=dep:b w=b?/j|b;j= / nodes a b;b w|b;j / within 5 6",
         "too many nodes or edges",
     ),
+    // nine features that one dependency asks for: an edge to each, and one from each to its crate
+    (
+        "a b&with=f1,f2,f3,f4,f5,f6,f7,f8,f9|b;f1= f2= f3= f4= f5= f6= f7= f8= f9= / within 11 18",
+        "11 nodes, 18 edges",
+    ),
+    (
+        "a b&with=f1,f2,f3,f4,f5,f6,f7,f8,f9|b;f1= f2= f3= f4= f5= f6= f7= f8= f9= / within 11 17",
+        "too many nodes or edges",
+    ),
     // more room than is needed
     ("a b|b a / within 4294967295 4294967295", "2 nodes, 2 edges"),
     // a crate that nobody needs isn't drawn; the feature of the other one is the node too many

@@ -143,7 +143,8 @@ impl<N> Krates<N, Edge> {
     /// them, where the graph of the document has no root or one of the members. The only refusal is running out of
     /// memory.
     ///
-    /// Time: each node that is reached, and each edge from it, is looked at once; then the nodes are sorted.
+    /// Time: O(n log n + e), where n counts the nodes of the graph and e the edges from those that are reached, each of which is
+    /// looked at once.
     ///
     /// The crates that only dev dependencies bring, since both lists are in the order of the ids:
     ///
