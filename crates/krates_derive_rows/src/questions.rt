@@ -1,7 +1,7 @@
 //! What a document and a setting answer to the questions that the checkers ask, one by one.
 //!
-//! A line is `crate`, a word for a crate and the name of a feature, or `edge`, two crates, a kind and a target text; behind it stands
-//! what is left out, as lines of facts have it.
+//! A line is a word for a crate and the name of a feature, or two crates, a kind and a target text; behind it stands what is left
+//! out, as lines of facts have it.
 
 use crate::facts::setting_of;
 use krates::resolve::{Document, Setting, admit};

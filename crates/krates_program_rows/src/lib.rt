@@ -1,4 +1,5 @@
-//! Worked examples of the program: what it answers to words, documents and failing streams where the answer is known.
+//! Worked examples of the program: what it answers to words, documents and failing streams where the answer is known; and what the
+//! library answers of documents and lists that are larger than any number in the sources.
 //!
 //! They stand apart from the crate that they test, since a crate with tests is proved twice. An example is a row of a table.
 #![tactic(auto)]
@@ -7,6 +8,10 @@
 mod calls;
 #[cfg(test)]
 mod hostile;
+#[cfg(test)]
+mod large;
+#[cfg(test)]
+mod large_settings;
 #[cfg(test)]
 mod listing;
 #[cfg(test)]
