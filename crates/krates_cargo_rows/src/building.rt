@@ -5,7 +5,7 @@ ghost use Rattle.std.specs.Prelude.{⊤};
 use crate::stand_in::command;
 use krates::{Builder, Error, Krates, OnFilter, Package};
 use krates_cargo::MetadataCommand;
-use krates_cli::{Counted, program};
+use krates_cli::{Counted, Options, program, run_by_cargo};
 use std::alloc::Global;
 use std::str;
 use std::test::Fail;
@@ -140,6 +140,28 @@ fn listings(rt: HostRuntime) -> Result<(), Fail> {
             return Err(Fail::new(format_args!("{line}: {told} in place of {want}")));
         }
     }
+    Ok(())
+}
+
+/// What a run with this program in cargo's place writes, or why it is refused.
+fn written(rt: &HostRuntime, cargo: &str) -> Result<String, Fail> {
+    let alloc = rt.alloc();
+    let mut output = Counted::new(Vec::new(alloc));
+    if let Err(error) = run_by_cargo(alloc, &Options::new(alloc), cargo, rt, &mut output) {
+        return Ok(format!(in alloc; "{error}")?);
+    }
+    let lines = str::from_utf8(output.get_ref().as_slice())?;
+    Ok(String::from_str(alloc, lines)?)
+}
+
+#[test]
+fn lines_by_cargo(rt: HostRuntime) -> Result<(), Fail> {
+    let this = std::env::current_exe(&rt)?;
+    let told = written(&rt, this.as_str())?;
+    assert_eq!(rt;
+        told.as_str(),
+        "+ path+file:///w/a#0.1.0\n+ path+file:///w/b#0.1.0\n"
+    );
     Ok(())
 }
 

@@ -19,4 +19,6 @@ mod indexed;
 #[cfg(test)]
 mod printed;
 #[cfg(test)]
+mod questions;
+#[cfg(test)]
 mod readme;

@@ -19,8 +19,8 @@ const TARGETS: &[usize] = &[1, 4, 0, 1, 0, 4, 1];
 
 /// Counts the packages that aren't kept.
 #[derive(Drop)]
-pub(crate) struct Count {
-    pub(crate) packages: usize,
+struct Count {
+    packages: usize,
 }
 
 impl OnFilter for Count {

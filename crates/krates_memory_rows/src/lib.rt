@@ -1,8 +1,7 @@
 //! Calls without enough memory: worked examples of want of memory.
 //!
 //! A call answers want of memory only where a growth was refused, and changes nothing then that has to be unchanged. No clause can say
-//! that memory suffices, so it is shown here: under every small budget a call is refused or answered as with ample memory. And that no
-//! answer hangs on a size is shown by documents and lists that are larger than any number in the sources.
+//! that memory suffices, so it is shown here: under every small budget a call is refused or answered as with ample memory.
 #![tactic(auto)]
 
 #[cfg(test)]
@@ -17,10 +16,6 @@ mod documents;
 mod graphs;
 #[cfg(test)]
 mod ids;
-#[cfg(test)]
-mod large;
-#[cfg(test)]
-mod large_settings;
 #[cfg(test)]
 mod queries;
 #[cfg(test)]

@@ -71,8 +71,8 @@ fn refuses_metadata_that_nests_too_deep(rt: HostRuntime) -> Result<(), Fail> {
 
 /// Counts the packages that aren't kept.
 #[derive(Drop)]
-struct Count {
-    packages: u32,
+pub(crate) struct Count {
+    pub(crate) packages: u32,
 }
 
 impl OnFilter for Count {

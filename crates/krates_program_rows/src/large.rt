@@ -1,10 +1,10 @@
 //! Documents and lists that are larger than any number in the sources: no answer hangs on a size.
 
-use crate::builds::Count;
+use crate::hostile::Count;
+use krates::cm::MetadataCommand;
 use krates::derive::{Derivation, Fact, Step, check, check_closed};
 use krates::{Builder, DepKind, Krates, Metadata, NodeId, Package};
 use krates_cli::{Counted, Options, run};
-use krates_cm::parse;
 use krates_samples::documents::{document, kid_of};
 use std::alloc::Global;
 use std::ops::Range;
@@ -57,7 +57,7 @@ fn large_document(alloc: Global) -> Result<String, Fail> {
 /// The document, read.
 pub(crate) fn large_metadata(alloc: Global) -> Result<Metadata, Fail> {
     let json = large_document(alloc)?;
-    Ok(parse(alloc, json.as_str())?)
+    Ok(MetadataCommand::parse(alloc, json.as_str())?)
 }
 
 /// How many crates, nodes and edges a graph has, how many crates the first of them depends on, how many depend on the second, how

@@ -1,13 +1,14 @@
 //! Long lists that are set of builders and commands, and long texts, in the way of `large`.
 
-use crate::builds::Count;
-use crate::ids::answer;
+use crate::hostile::Count;
 use crate::large::{large_metadata, push_features};
-use krates::index::CachingIndex;
+use krates::cm::{Features, MetadataCommand};
+use krates::index::{CachingIndex, IndexAnswer, IndexKrate, IndexKrateVersion};
+use krates::semver::Version;
 use krates::{Builder, Cmd, Kid, Krates, PackageId, PkgSpec, Target};
-use krates_cargo::{Features, MetadataCommand};
 use krates_samples::documents::metadata;
 use std::alloc::Global;
+use std::collections::BTreeMap;
 use std::test::Fail;
 
 /// The names of many packages, each behind this text.
@@ -91,15 +92,26 @@ fn large_commands(rt: HostRuntime) -> Result<(), Fail> {
     Ok(())
 }
 
+/// An index that knows the version 1.0.0 of `p`, with a feature without references.
+fn index(alloc: Global) -> Result<CachingIndex, Fail> {
+    let mut features = BTreeMap::new(alloc);
+    drop(features.insert(String::from_str(alloc, "std")?, Vec::new(alloc))?);
+    let version = Version::parse(alloc, "1.0.0")?;
+    let versions = vec![in alloc; IndexKrateVersion { version, features }]?;
+    let mut krates = BTreeMap::new(alloc);
+    drop(krates.insert(String::from_str(alloc, "p")?, Some(IndexKrate { versions }))?);
+    Ok(CachingIndex {
+        answer: IndexAnswer { krates },
+    })
+}
+
 #[test]
 fn a_large_package(rt: HostRuntime) -> Result<(), Fail> {
     let alloc = rt.alloc();
     let mut line = String::from_str(alloc, "p@1.0.0&crates.io;")?;
     push_features(&mut line)?;
     let mut metadata = metadata(alloc, line.as_str())?;
-    let index = CachingIndex {
-        answer: answer(alloc)?,
-    };
+    let index = index(alloc)?;
     let mut count = 0;
     for pkg in &mut metadata.packages {
         index.correct(alloc, pkg)?;

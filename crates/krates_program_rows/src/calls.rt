@@ -1,0 +1,88 @@
+//! The calls of which the program is made, each by itself.
+
+use crate::listing::words_of;
+use krates::cm::MetadataCommand;
+use krates::{Builder, Krates, NoneFilter};
+use krates_cli::{Counted, OptionsError, options_of, set_options};
+use krates_samples::documents::document;
+use krates_samples::table::{Question, Row, hold};
+use std::alloc::Global;
+use std::str;
+use std::test::Fail;
+
+/// What the words ask for.
+struct Read;
+
+impl Question for Read {
+    fn told(alloc: Global, line: &str) -> Result<String, Fail> {
+        let words = words_of(alloc, line)?;
+        match options_of(alloc, words.as_slice()) {
+            Ok(options) => Ok(format!(in alloc;
+                "{} {:?} {:?} {} {:?}",
+                options.workspace,
+                options.ignored,
+                options.targets,
+                options.exclusions.len(),
+                options.cargo
+            )?),
+            Err(OptionsError::Unknown) => Ok(String::from_str(alloc, "unknown")?),
+            Err(OptionsError::Memory) => Ok(String::from_str(alloc, "memory")?),
+        }
+    }
+}
+
+const OPTIONS: &[Row] = &[
+    ("", "false [] [] 0 None"),
+    (
+        "--ignore-kind dev --target x --exclude b --workspace --exclude c@1.0.0 --target y --cargo p --cargo q",
+        r#"true [Dev] ["x", "y"] 2 Some("q")"#,
+    ),
+    ("--exclude", "unknown"),
+    ("--ignore-kind x", "unknown"),
+];
+
+#[test]
+fn options_of_words(rt: HostRuntime) -> Result<(), Fail> {
+    hold::<Read>(rt.alloc(), OPTIONS)
+}
+
+/// How many crates a builder keeps for which the words are set; a line has its words, and behind `<` the document.
+struct Kept;
+
+impl Question for Kept {
+    fn told(alloc: Global, line: &str) -> Result<String, Fail> {
+        let (words, line) = line.split_once('<').unwrap_or((line, ""));
+        let words = words_of(alloc, words)?;
+        let Ok(options) = options_of(alloc, words.as_slice()) else {
+            return Ok(String::from_str(alloc, "unknown")?);
+        };
+        let mut builder = Builder::new(alloc);
+        set_options(alloc, &options, &mut builder)?;
+        let json = document(alloc, line)?;
+        let metadata = MetadataCommand::parse(alloc, json.as_str())?;
+        let krates: Krates = builder.build_with_metadata(metadata, &mut NoneFilter)?;
+        Ok(format!(in alloc; "{}", krates.len())?)
+    }
+}
+
+const SET: &[Row] = &[
+    ("< a b&dev|b / members a b / root a", "2"),
+    ("--ignore-kind dev < a b&dev|b / members a b / root a", "1"),
+    ("--workspace < a|b / members a b / root a", "2"),
+    ("--exclude b < a b|b", "1"),
+    ("--target x < a b&on=cfg(unix)|b", "1"),
+];
+
+#[test]
+fn options_of_a_builder(rt: HostRuntime) -> Result<(), Fail> {
+    hold::<Kept>(rt.alloc(), SET)
+}
+
+#[test]
+fn all_bytes_of_a_reader(rt: HostRuntime) -> Result<(), Fail> {
+    let mut input = Counted::new(b"abc".as_slice());
+    let bytes = input.read_to_end(rt.alloc())?;
+    assert_eq!(rt; str::from_utf8(bytes.as_slice())?, "abc");
+    assert!(rt; input.get_ref().is_empty() && input.failures() == 0);
+    Ok(())
+}
