@@ -39,7 +39,7 @@ SHOWN_BY = {
     "Document::roots": ("choice_of",),
     "Document::presence": ("standing_of",),
     # the graph of a build: its sheet, nodes and edges, and how they are stored
-    "build_with_metadata": "count_of given_by meanings_by sheet_of plan_within draw_nodes plan store_arrows in_order".split(),
+    "build_with_metadata": "count_of given_by meanings_by draw_nodes plan store_arrows in_order".split(),
 }
 
 IMPL = re.compile(r"^impl(?:<[^>]*>)? (?:[\w<>' ,:]+ for )?(\w+)")
