@@ -162,12 +162,3 @@ kinds_told r p child k x none b =
           subst (λ (m : NodeDepModel). Contains m.dep_kinds k) same l.lists.has_kind),
       λ c. record { dep = node_dep_view x.dep.now; lists = record { node = b.entry.node; has_node = has; has_dep = dep; has_kind = c } },
     )
-
--- a name means one crate
-pub meant_told : (r : Resolved) (p : Id) (name : Text) (child : Id) (answer : Option (Bor Identity)) → TellsReferent r p name answer
-    → IsReferent r p name child ↔ (option_map (λ (k : Bor Identity). id_of k.now) answer ≡ Some child)
-meant_told r p name child None none = (λ h. absurd (none child h), λ e. absurd cc)
-meant_told r p name child (Some k) h = (
-  λ x. ap (λ i. Some i) (one_referent r p name (id_of k.now) child h x),
-  λ e. subst (IsReferent r p name) (same_Some (id_of k.now) child e) h,
-)
