@@ -1,10 +1,10 @@
 -- All that a name means among the dependencies of a node, in the order of ids.
-use Rattle.std.proofs.Common.{◌≡◌, ◌↔◌, ℕ, zero, suc, ◌+◌, ◌<◌, ◌≤◌, List, [], ◌∷◌, ◌++◌, length, map, take, get_or, Bool, true, false, ◌&&◌, ◌==◌, IsTrue, IfOk, Result, Ok, Err, None, Some, Contains, option_map, Bor, Ordering, Less, Equal, Greater, refl, sym, ap, ◌∙◌, inl, inr, arith, subst}
+use Rattle.std.proofs.Common.{◌≡◌, ◌↔◌, ℕ, zero, suc, ◌+◌, ◌<◌, ◌≤◌, List, [], ◌∷◌, ◌++◌, length, map, take, get_or, Bool, true, false, ◌&&◌, ◌==◌, IsTrue, IfOk, Result, Ok, Err, None, Some, Contains, option_map, Ordering, Less, Equal, Greater, refl, sym, ap, ◌∙◌, inl, inr, arith, subst}
 use Rattle.std.proofs.lemmas.List.{append-nil, append_assoc, map-append, take_all, take_more}
 use Rattle.std.proofs.lemmas.List.Elements.{Contains-append_left, Contains-append_right, Contains-push_cases}
 use Rattle.std.proofs.Common.{rules, tests}
 use Rattle.std.specs.Cmp.Rules.{comparing}
-use Rattle.std.proofs.lemmas.Option.{slice_get-map, slice_get-get_or, slice_get_within, same_Some}
+use Rattle.std.proofs.lemmas.Option.{slice_get-map, slice_get-get_or, same_Some}
 use Rattle.std.specs.List.{AllByRecursion, slice_get}
 use Rattle.std.specs.List.Sorted.{IsStrictlySortedBy}
 use Rattle.std.specs.Ordering.{nat_cmp, on, ordering_then, then_cmp}
@@ -17,7 +17,7 @@ use Rattle.krates_rules.specs.Facts.{Id}
 use Rattle.krates_rules.specs.Referent.{AnswersTo, AreReferents, IsReferent, id_order}
 use Rattle.krates_rules.specs.Resolved.{DepAt, HasDep, HasNode, Resolved, id_of}
 use Rattle.krates_questions.specs.LookedUp.{IsEntryBetween}
-use Rattle.krates_questions.specs.NodeEntry.{AreParts, krate_of, parent_of, child_of}
+use Rattle.krates_questions.specs.NodeEntry.{AreParts, krate_of}
 use Rattle.krates_questions.specs.ReferentPlace.{AnswersAs, AnswersAt, AnswersBefore, AreReferentsIn, FindsMore, HasAnswering, IsReferentAt, IsReferentIn, referent_id}
 use Rattle.krates_questions.specs.declared.node_entry.NodeEntry.{NodeEntry}
 use Rattle.krates_questions.specs.declared.node_entry.NodeParts.{NodeParts}
@@ -28,7 +28,7 @@ use Rattle.krates_rules.proofs.Standings.{contains_at}
 use Rattle.krates_document.proofs.DistinctIds.{OrderTellsSame, id_of_same}
 use Rattle.krates_document.proofs.FirstPlaces.{seen_at}
 use Rattle.krates_questions.proofs.DepPlaces.{one_dep_place}
-use Rattle.krates_questions.proofs.LeastReferents.{answers_there, has_dep_at, named_there}
+use Rattle.krates_questions.proofs.LeastReferents.{answers_there, named_there}
 use Rattle.krates_questions.proofs.NodeParts.{dep_of_child}
 use Rattle.krates_questions.proofs.OneReferent.{one_referent}
 

@@ -1,18 +1,16 @@
 -- What there is for an edge of an entry, and for what a node depends on.
-use Rattle.std.proofs.Common.{◌≡◌, ◌↔◌, ℕ, ◌<◌, List, Bor, Option, Some, None, option_map, Contains, get_or, length, map, sym, ap, ◌∙◌, subst}
+use Rattle.std.proofs.Common.{◌≡◌, ◌↔◌, ℕ, ◌<◌, List, Some, option_map, Contains, get_or, length, map, sym, ap, ◌∙◌, subst}
 use Rattle.std.proofs.lemmas.Option.{slice_get-map, slice_get-get_or, same_Some}
 use Rattle.std.specs.List.{slice_get}
-use Rattle.krates_cm.specs.Document.{Text, DependencyModel, DepKindInfoModel, NodeDepModel, NodeModel, node_dep_view, dependency_view}
+use Rattle.krates_cm.specs.Document.{DependencyModel, DepKindInfoModel, NodeDepModel, NodeModel, node_dep_view, dependency_view}
 use Rattle.krates_cm.specs.declared.dependency.Dependency.{Dependency}
-use Rattle.krates_ids.specs.Identity.{Identity, Reads}
+use Rattle.krates_ids.specs.Identity.{Reads}
 use Rattle.krates_rules.specs.Admission.{NoneDoubled, dep_texts}
 use Rattle.krates_rules.specs.DeclaredDependency.{dependency_entry, IsDeclared, IsUndeclared}
 use Rattle.krates_rules.specs.Facts.{Id, Edge}
 use Rattle.krates_rules.specs.Questions.{Declares, IsDeclaredAs, IsLeftOut, ListsEdge, edge_between}
-use Rattle.krates_rules.specs.Referent.{IsReferent}
 use Rattle.krates_rules.specs.Resolved.{Resolved, HasNode, HasDep, id_of}
 use Rattle.krates_rules.specs.Setting.{SettingModel, IsIgnored, Passes}
-use Rattle.krates_questions.specs.DocumentAnswers.{TellsReferent}
 use Rattle.krates_questions.specs.LookedUp.{ArePartsOf, NoDep, IsEntryBetween, TellsDeclared}
 use Rattle.krates_questions.specs.Need.{HasChild, ListsKind, IsDeclaredOnly, IsWantedAs, TellsNeed}
 use Rattle.krates_questions.specs.NodeEntry.{IsEntry, parent_of, child_of, declared_in, entry_of, edge_for}
@@ -27,7 +25,6 @@ use Rattle.krates_rules.proofs.OnlyOne.{one_dep, one_node, place_in}
 use Rattle.krates_rules.proofs.Standings.{not_included, contains_at}
 use Rattle.krates_questions.proofs.Asked.{declared_told}
 use Rattle.krates_questions.proofs.Entries.{Heeds, loose, not_loose, own_dep, wanted, wanted_one}
-use Rattle.krates_questions.proofs.OneReferent.{one_referent}
 
 -- the node's dependency doesn't list the purpose and target
 pub unlisted_need : (r : Resolved) (s : SettingModel) (x : NodeEntry) (k : DepKindInfoModel) → NoneDoubled r.metadata r.graph → IsEntry r x

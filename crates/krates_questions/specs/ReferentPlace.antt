@@ -1,5 +1,5 @@
 -- What a name means among the dependencies of a node.
-use Rattle.std.specs.Prelude.{◌≡◌, ◌≢◌, ◌++◌, ℕ, Bool, List, false, true, Option, Some, MatchOption, Contains, map, slice_get, ⊤}
+use Rattle.std.specs.Prelude.{◌≡◌, ◌≢◌, ◌++◌, ℕ, Bool, List, false, Option, Some, MatchOption, Contains, map, slice_get, ⊤}
 use Rattle.std.specs.declared.cmp.Ordering.TheVariants.{Greater, Less}
 use Rattle.krates_cm.specs.Document.{Text, TargetModel, NodeDepModel, PackageModel, node_dep_view}
 use Rattle.krates_cm.specs.declared.resolve.NodeDep.{NodeDep}

@@ -57,12 +57,13 @@ impl<'a> Document<'a> {
         kinds_in(&self.lookup, krate, child)
     }
 
-    /// Whether a name in a feature reference of a crate means another crate, as `referents` has it. Time: as `kinds`.
-    pub fn means(&self, krate: &Kid, name: &str, child: &Kid, all: bool) -> bool
-        ensures { IsTrue result
-            ↔ IsReferent (as_resolved self.now) all (id_of krate.now) name.now (id_of child.now) }
+    /// Whether a name in a feature reference of a crate means another crate under a setting, as `referents` has it. Time: as
+    /// `kinds`.
+    pub fn means(&self, setting: &Setting, krate: &Kid, name: &str, child: &Kid) -> bool
+        ensures { let all = setting.now.all_named in
+            IsTrue result ↔ IsReferent (as_resolved self.now) all (id_of krate.now) name.now (id_of child.now) }
     {
-        means_in(&self.lookup, krate, name, child, all)
+        means_in(&self.lookup, krate, name, child, setting.is_all_named())
     }
 
     /// What there is for a dependency of a crate on another, of one kind and for one target, under a setting. Whether it is

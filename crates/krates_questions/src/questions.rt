@@ -89,20 +89,21 @@ impl<'a> Document<'a> {
         referent_in(&self.lookup, krate, name)
     }
 
-    /// All that a name means in a feature reference of a crate, in the order of ids: all dependencies of its node that answer to
-    /// the name, as `referent` has it, or the least of them alone. Nothing where it has no node.
+    /// All that a name means in a feature reference of a crate under a setting, in the order of ids: all dependencies of its node
+    /// that answer to the name, as `referent` has it, or the least of them alone. Nothing where it has no node.
     ///
     /// The only error is running out of memory. Time: as `kinds`, and O(n log n) in the dependencies that have the name.
     pub fn referents(
         &self,
         alloc: Global,
+        setting: &Setting,
         krate: &Kid,
         name: &str,
-        all: bool,
     ) -> Result<Vec<Referent<'a>>, AllocError>
-        ensures { IfOk result (TellsReferents (as_resolved self.now) all (id_of krate.now) name.now) }
+        ensures { let all = setting.now.all_named in
+            IfOk result (TellsReferents (as_resolved self.now) all (id_of krate.now) name.now) }
     {
-        referents_in(alloc, &self.lookup, krate, name, all)
+        referents_in(alloc, &self.lookup, krate, name, setting.is_all_named())
     }
 
     /// The crates that are kept for themselves under a setting, also those that the setting excludes.

@@ -1,9 +1,10 @@
 -- What a reference gives by each of the dependencies that its name means.
-use Rattle.std.proofs.Common.{◌≡◌, ℕ, ◌<◌, List, length, map, max, get_or, Bool, Contains, refl, sym, ap, ◌∙◌, subst}
+use Rattle.std.proofs.Common.{◌≡◌, ℕ, ◌<◌, ◌≤◌, List, length, map, max, get_or, Bool, Contains, sym, ap, ◌∙◌, arith, subst}
 use Rattle.std.proofs.lemmas.List.{length-map}
 use Rattle.std.proofs.lemmas.Option.{slice_get-get_or, slice_get_within}
 use Rattle.krates_cm.specs.Document.{Text}
 use Rattle.krates_document.proofs.FirstPlaces.{seen_at}
+use Rattle.krates_document.proofs.Seen.{SeenBelow}
 use Rattle.krates_rules.specs.Admission.{NoneDoubled}
 use Rattle.krates_rules.specs.Facts.{Id}
 use Rattle.krates_rules.specs.Resolved.{DepAt, Resolved}
@@ -27,6 +28,17 @@ meant_among xs c m =
     let w = seen_at referent_id xs at.0 c at.1 in
     let x = get_or xs at.0 w.0 in
     (x, contains_at xs at.0 x (slice_get-get_or xs at.0 w.0 w.1), w.2)
+
+-- all that is meant, as the code goes over it
+pub meant_here : (r : Resolved) (s : SettingModel) (parts : NodeParts) (name : Text) (all : Bool) (items xs : List Referent) → all ≡ s.all_named → xs ≡ items → AreReferentsIn r all parts name items → AreReferentsIn r s.all_named parts name xs
+meant_here r s parts name all items xs told same h = subst (λ (b : Bool). AreReferentsIn r b parts name xs) told (subst (AreReferentsIn r all parts name) (sym same) h)
+
+pub item_among : (xs : List Referent) (k : ℕ) (x : Referent) → k < length xs → x ≡ get_or xs k x → Contains xs x
+item_among xs k x lt is = (k, lt, sym is)
+
+-- what holds of each that was gone over
+pub each_among : (P : Referent → Type 0) (xs : List Referent) (i : ℕ) → length xs ≤ i → SeenBelow P xs i → (x : Referent) → Contains xs x → P x
+each_among P xs i le seen x (k, lt, is) = subst P is (seen k x (omega (arith, lt, le)))
 
 -- each stands at a place of the node
 pub referent_within : (r : Resolved) (s : SettingModel) (parts : NodeParts) (name : Text) (xs : List Referent) (x : Referent) → AreReferentsIn r s.all_named parts name xs → Contains xs x → x.place < length parts.children.now

@@ -14,4 +14,4 @@ returns-in-Some c =
     IfOk-weaker c.referents_of.result _ _ (λ xs told. subst (λ (i : Id). AreReferents r c.args.all i c.args.name.now (map referent_id xs.items)) c.in-Some.ensures.parent told.are) c.referents_of.ensures
 
 pub returns-in-None : goal.returns-in-None
-returns-in-None c = none_meant (resolved_view c.args.lookup.now) c.args.all (id_of c.args.krate.now) c.args.name.now (λ child is. c.in-None.ensures is.is_named.node is.is_named.has_node)
+returns-in-None c = rw c.new.ensures.items (none_meant (resolved_view c.args.lookup.now) c.args.all (id_of c.args.krate.now) c.args.name.now (λ child is. c.in-None.ensures is.is_named.node is.is_named.has_node))

@@ -49,14 +49,14 @@ wait-requires-clause-step c =
     let is = subst (λ (t : Text). IsReference t reference) c.from.ensures c.in-Weak.ensures in
     referring_step r c.args.found.now.trace.items c.args.step (id_of c.args.parts.now.parent.now) c.args.text.now reference c.requires.step is
 
-pub returns-in-Simple-clause-followed : goal.returns-in-Simple-clause-followed
-returns-in-Simple-clause-followed c =
+pub returns-in_ok-enable-in-Simple-clause-followed : goal.returns-in_ok-enable-in-Simple-clause-followed
+returns-in_ok-enable-in-Simple-clause-followed c =
     let r = resolved_view c.args.basis.now.lookup.now in
     let s = c.args.basis.now.setting.now in
     let text = c.args.text.now in
     let reference = simple c.in-Simple.name.now in
     let is = subst (λ (t : Text). IsReference t reference) c.from.ensures c.in-Simple.ensures in
-    followed_by r s c.enable.new.found (id_of c.args.parts.now.parent.now) text reference (c.one_reference.ensures text) is c.in_ok-enable.ensures.named
+    followed_by r s c.enable.new.found (id_of c.args.parts.now.parent.now) text reference (c.one_reference.ensures text) is c.in_ok-enable-in-Simple.ensures.named
 
 pub returns-in-Krate-clause-followed : goal.returns-in-Krate-clause-followed
 returns-in-Krate-clause-followed c =
@@ -86,8 +86,8 @@ returns-in-Weak-clause-followed c =
     let is = subst (λ (t : Text). IsReference t reference) c.from.ensures c.in-Weak.ensures in
     on_ok_weaker c.wait.result (λ followed. followed_by r s c.wait.new.found (id_of c.args.parts.now.parent.now) text reference (c.one_reference.ensures text) is followed) c.wait.ensures.waiting
 
-pub returns-in-Simple-clause-counted : goal.returns-in-Simple-clause-counted
-returns-in-Simple-clause-counted c = record { reference = simple c.in-Simple.name.now; is = subst (λ (t : Text). IsReference t (simple c.in-Simple.name.now)) c.from.ensures c.in-Simple.ensures; counts = refl }
+pub returns-in_ok-enable-in-Simple-clause-counted : goal.returns-in_ok-enable-in-Simple-clause-counted
+returns-in_ok-enable-in-Simple-clause-counted c = record { reference = simple c.in-Simple.name.now; is = subst (λ (t : Text). IsReference t (simple c.in-Simple.name.now)) c.from.ensures c.in-Simple.ensures; counts = refl }
 
 pub returns-in-Krate-clause-counted : goal.returns-in-Krate-clause-counted
 returns-in-Krate-clause-counted c =

@@ -79,12 +79,12 @@ loop-text-preserved c =
     let x = c.loop-text.found in
     let y = c.follow.new.found in
     let inv = c.loop-text.invariant in
-    let step = c.in_ok-follow.ensures in
+    let step = c.in_ok-counts.ensures in
     let followed = subst (λ (t : Text). (reference : Reference) → IsReference t reference → IsFollowed r s y i reference) c.as_str.ensures.value step.followed in (
       advances_trans r s c.args.found.now x y inv.0 step.advanced,
       seen_more (λ (text : String Global). (reference : Reference) → IsReference (string_bytes text) reference → IsFollowed r s y i reference) c.feature_values-values.result.now c.loop-text.text-index c.text-item.result c.loop-text-test.true
           c.text-item.is (λ k d lt reference is. followed_grows r s x y i reference step.advanced.grows (inv.1 k d lt reference is)) followed,
-      one_counted r s i c.feature_values-values.result.now c.loop-text.text-index c.loop-text.references c.in_ok-follow.counts _ c.text-item.result c.loop-text-test.true c.text-item.is (subst (λ (t : Text). CountsText r s.all_named i t c.in_ok-follow.counts) c.as_str.ensures.value step.counted) c.saturating_add.ensures inv.2,
+      one_counted r s i c.feature_values-values.result.now c.loop-text.text-index c.loop-text.references c.in_ok-counts.counts _ c.text-item.result c.loop-text-test.true c.text-item.is (subst (λ (t : Text). CountsText r s.all_named i t c.in_ok-counts.counts) c.as_str.ensures.value step.counted) c.saturating_add-references.ensures inv.2,
     )
 
 pub returns-clause-advanced : goal.returns-clause-advanced

@@ -1,4 +1,4 @@
-use Rattle.std.proofs.Common.{get_or, refl, subst}
+use Rattle.std.proofs.Common.{refl, subst}
 use Rattle.std.proofs.lemmas.Result.{on_ok_weaker}
 use Rattle.krates_text.specs.FeatureReference.{strong}
 use Rattle.krates_questions.specs.Lookup.{resolved_view}

@@ -102,7 +102,7 @@ returns-in_default-take-clause-counted c =
     let still = unchanged x.krates c.take.new.self (x.krates.taken + 0) c.in_default.ensures.counted (omega arith) in
     let also = unchanged x.features c.take-2.new.self (x.features.taken + 0) c.in_default-take.ensures.counted (omega arith) in
     let same = same_agendas x c.take.new.self c.take-2.new.self x.krates x.features still also in
-    subst (λ (y : Found). AreCounted r s y c.args.work.now) (sym same) c.requires.counted
+    subst (λ (y : Found). AreCounted r c.args.basis.now.setting.now y c.args.work.now) (sym same) c.requires.counted
 
 pub returns-clause-counted : goal.returns-clause-counted
 returns-clause-counted c =
