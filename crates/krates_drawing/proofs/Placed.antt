@@ -166,7 +166,7 @@ leads_home : (r : Resolved) (s : SettingModel) (x : Selection) (t : Sheet) → I
 leads_home r s x t selected sheet n d name (of_crate k at is) = absurd (cc is)
 leads_home r s x t selected sheet n d name (of_feature j f at place is) =
     let l = line t (AtFeature f.krate f.name) (AtCrate f.krate) Feature in
-    let here : place_of (is_feature f.krate f.name) t.features ≡ j = own_feature r whole x.features.items t.features sheet.features selected.features j f at in
+    let here : place_of (is_feature f.krate f.name) t.features ≡ j = own_feature r s.all_named x.features.items t.features sheet.features selected.features j f at in
     record {
       line = l;
       among = contains_of (lines t) l (arrow_in t _ _ _ (keeps_ends r s t (holds r s x t selected sheet)) (own f (got_member t.features j f at)));
