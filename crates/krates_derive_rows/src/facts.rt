@@ -113,6 +113,9 @@ pub(crate) fn setting_of(alloc: Global, line: &str) -> Result<Setting, Fail> {
         if setter == "ignore" {
             setting.ignore_kind(DepKind::from(kind_named(text)), Scope::All);
         }
+        if setter == "names" {
+            setting.all_named(text == "all");
+        }
         if setter == "without" {
             let mut specs = Vec::new(alloc);
             specs.push(PkgSpec::from_str(alloc, text)?)?;

@@ -1,6 +1,7 @@
 //! What the sections of a line set of a builder or of a setting.
 //!
 //! - `workspace on` and `workspace off`: whether every member is a root.
+//! - `names all` and `names least`: whether a name in a feature reference means all dependencies that answer to it.
 //! - `include PATHS`: the crates with these manifests are roots.
 //! - `ignore KIND SCOPE`: this kind of dependency is ignored for the crates of the scope.
 //! - `without SPECS`: the packages that one of these fits are left out.
@@ -72,6 +73,9 @@ fn build_with(alloc: Global, builder: &mut Builder, section: &str) -> Result<(),
         "workspace" => {
             builder.workspace(first == "on");
         }
+        "names" => {
+            builder.all_named(first == "all");
+        }
         "include" => {
             builder.include_workspace_crates(words_of(alloc, text)?.as_slice())?;
         }
@@ -105,6 +109,7 @@ fn set_with(alloc: Global, setting: &mut Setting, section: &str) -> Result<(), F
     let (first, second) = text.split_once(' ').unwrap_or((text, ""));
     match setter {
         "workspace" => setting.workspace(first == "on"),
+        "names" => setting.all_named(first == "all"),
         "include" => setting.include_workspace_crates(alloc, words_of(alloc, text)?.as_slice())?,
         "ignore" => setting.ignore_kind(DepKind::from(kind_named(first)), scope_of(second)),
         "without" => setting.exclude(package_specs(alloc, text)?)?,

@@ -1,5 +1,6 @@
 //! How much work a build was: how many crates, features and references were looked at.
 
+use crate::setters::build_as;
 use krates::{Builder, Krates, NoneFilter};
 use krates_samples::documents::metadata;
 use krates_samples::table::{Question, Row, hold};
@@ -12,7 +13,9 @@ struct Worked;
 impl Question for Worked {
     fn told(alloc: Global, line: &str) -> Result<String, Fail> {
         let metadata = metadata(alloc, line)?;
-        let krates: Krates = Builder::new(alloc).build_with_metadata(metadata, &mut NoneFilter)?;
+        let mut builder = Builder::new(alloc);
+        build_as(alloc, &mut builder, line)?;
+        let krates: Krates = builder.build_with_metadata(metadata, &mut NoneFilter)?;
         let work = krates.work();
         Ok(format!(in alloc; "{}, {}, {}", work.krates, work.features, work.references)?)
     }
@@ -27,6 +30,15 @@ const COUNTED: &[Row] = &[
     ("a b|b a", "2, 0, 0"),
     // two features ask for one dependency, and one has the same reference twice
     ("a b?;x=dep:b y=dep:b,dep:b|b", "2, 2, 3"),
+    // a reference counts once for each crate that its name means, and once where it means none
+    (
+        "a d?;x=dep:d,dep:e,x|d@0.10.0|d@0.9.0 / nodes a d@0.10.0 d@0.9.0;x|d@0.10.0|d@0.9.0",
+        "2, 1, 3",
+    ),
+    (
+        "a d?;x=dep:d,dep:e,x|d@0.10.0|d@0.9.0 / nodes a d@0.10.0 d@0.9.0;x|d@0.10.0|d@0.9.0 / names all",
+        "3, 1, 4",
+    ),
     // a node that lists a feature twice, and a feature that the manifest lacks
     ("a;x=y y= / nodes a;x y x z", "1, 3, 1"),
 ];
