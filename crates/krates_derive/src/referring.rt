@@ -88,7 +88,9 @@ fn asks_by<'a>(basis: &Basis<'a, '_>, krate: &'a Kid, text: &str, child: &Kid) -
     match ParsedFeature::from(text).feat() {
         Feature::Simple(_) => false,
         Feature::Krate(name) => basis.document.means(basis.setting, krate, name, child),
-        Feature::Strong { krate: name, .. } => basis.document.means(basis.setting, krate, name, child),
+        Feature::Strong { krate: name, .. } => basis
+            .document
+            .means(basis.setting, krate, name, child),
         Feature::Weak { .. } => false,
     }
 }
@@ -190,5 +192,9 @@ fn is_toggle<'a>(
         let g = toggled.now in
         IsTrue result ↔ IsToggleOf r s is_form (id_of krate.now) named.now.dep.now named.now.feature.now (id_of g.krate.now) g.name.now }
 {
-    is_form && named.feature == toggled.name && basis.document.means(basis.setting, krate, named.dep, toggled.krate)
+    is_form
+        && named.feature == toggled.name
+        && basis
+            .document
+            .means(basis.setting, krate, named.dep, toggled.krate)
 }

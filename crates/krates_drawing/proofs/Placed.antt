@@ -1,8 +1,7 @@
 -- Crates and features of a sheet stand at their numbers; what their mappings name and where their edges lead.
-use Rattle.std.proofs.Common.{◌≡◌, ◌⊎◌, inl, inr, ℕ, zero, suc, ◌+◌, Bool, true, false, ◌&&◌, cond, List, [], ◌∷◌, ◌++◌, map, filter, length, Option, Some, None, Contains, slice_get, Ordering, Less, Equal, Greater, refl, sym, ap, ◌∙◌, subst, arith, nat_cmp}
+use Rattle.std.proofs.Common.{◌≡◌, ◌⊎◌, inl, inr, ℕ, zero, suc, ◌+◌, Bool, true, false, cond, List, [], ◌∷◌, ◌++◌, map, length, Option, Some, Contains, slice_get, Ordering, Less, Equal, Greater, refl, sym, ap, ◌∙◌, subst, arith, nat_cmp}
 use Rattle.std.proofs.lemmas.Cmp.{nat_list_cmp_total}
 use Rattle.std.proofs.lemmas.Option.{none-some, same_Some}
-use Rattle.std.specs.Cmp.{IsTotalOrder}
 use Rattle.std.specs.Cmp.Lexicographic.{slice_cmp}
 use Rattle.std.specs.List.{AllByRecursion, AllZip, range_with_len}
 use Rattle.std.specs.List.Sorted.{IsStrictlySortedBy}
@@ -18,16 +17,16 @@ use Rattle.krates_rules.specs.Referent.{id_order}
 use Rattle.krates_rules.specs.Resolved.{Resolved, id_of}
 use Rattle.krates_rules.specs.Setting.{SettingModel}
 use Rattle.krates_drawing.specs.Agreement.{DependsOn, LeadsTo}
-use Rattle.krates_drawing.specs.Connected.{IsLedInto, LeadsHome, IsConnected, AreConnected}
-use Rattle.krates_drawing.specs.Drawing.{AtCrate, AtFeature, Feature, Line, line, place_of, is_crate, is_feature, id_eq, crate_number, feature_number, from_crate, lines, claimant, mapped, mapping, Spot, CrateSpot, FeatureSpot, crate_spot, feature_spot, spots}
+use Rattle.krates_drawing.specs.Connected.{IsLedInto, LeadsHome, AreConnected}
+use Rattle.krates_drawing.specs.Drawing.{AtCrate, AtFeature, Feature, line, place_of, is_crate, is_feature, id_eq, crate_number, from_crate, lines, claimant, mapped, mapping, Spot, CrateSpot, FeatureSpot, crate_spot, feature_spot, spots}
 use Rattle.krates_drawing.specs.Sheet.{Krate, IsKrate, Named, IsNamed, Sheet, IsSheet}
 use Rattle.krates_drawing.proofs.Agreed.{claimant_of, image_of, between_leads}
 use Rattle.krates_drawing.proofs.Arrows.{own, arrow_in}
 use Rattle.krates_drawing.proofs.Children.{self_equal}
 use Rattle.krates_drawing.proofs.Closed.{keeps_ends}
-use Rattle.krates_drawing.proofs.Holding.{Holds, holds}
+use Rattle.krates_drawing.proofs.Holding.{holds}
 use Rattle.krates_drawing.proofs.Members.{Member, member_of, contains_of, mapped_of}
-use Rattle.krates_drawing.proofs.NodeNumbers.{both, and_true, id_is, id_same, text_is, text_same, HasCrate, CrateNode, crate_node, get_right}
+use Rattle.krates_drawing.proofs.NodeNumbers.{both, and_true, id_is, id_same, text_is, text_same, HasCrate, crate_node}
 
 -- ---- not below itself
 

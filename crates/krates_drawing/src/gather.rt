@@ -72,7 +72,8 @@ pub fn meanings_by<'a>(
     setting: &Setting,
     feature: &EnabledFeature,
 ) -> Result<Vec<Meaning>, AllocError>
-    ensures { IfOk result (λ meanings. MeaningsTold (as_resolved document.now) setting.now.all_named feature.now
+    ensures { let all = setting.now.all_named in
+        IfOk result (λ meanings. MeaningsTold (as_resolved document.now) all feature.now
         (map meaning_view meanings.items)) }
 {
     let values = document.values(&feature.krate, feature.name.as_str());
@@ -118,7 +119,8 @@ fn names_of<'a>(
     setting: &Setting,
     features: &[EnabledFeature],
 ) -> Result<Vec<Vec<Meaning>>, AllocError>
-    ensures { IfOk result (λ names. AllZip (MeaningsTold (as_resolved document.now) setting.now.all_named) features.now
+    ensures { let all = setting.now.all_named in
+        IfOk result (λ names. AllZip (MeaningsTold (as_resolved document.now) all) features.now
         (map meanings_view names.items)) }
 {
     let mut names = Vec::new(alloc);

@@ -28,7 +28,8 @@ fn referents_of<'a>(
     name: &str,
 ) -> Result<Vec<Kid>, AllocError>
     ensures { let all = setting.now.all_named in
-        IfOk result (λ ids. AreReferents (as_resolved document.now) all (id_of krate.now) name.now (map id_of ids.items)) }
+        IfOk result (λ ids. AreReferents (as_resolved document.now) all (id_of krate.now) name.now
+        (map id_of ids.items)) }
 {
     let referents = document.referents(alloc, setting, krate, name)?;
     ids_of(alloc, &referents)
@@ -54,11 +55,14 @@ pub fn meaning_of<'a>(
     text: &str,
 ) -> Result<Meaning, AllocError>
     ensures { let all = setting.now.all_named in
-        IfOk result (λ meaning. IsMeaning (as_resolved document.now) all (id_of krate.now) text.now (meaning_view meaning)) }
+        IfOk result (λ meaning. IsMeaning (as_resolved document.now) all (id_of krate.now) text.now
+        (meaning_view meaning)) }
 {
     match ParsedFeature::from(text).feat() {
         Feature::Simple(name) => Ok(Meaning::OwnFeature(String::from_str(alloc, name)?)),
-        Feature::Krate(name) => Ok(Meaning::Crates(referents_of(alloc, document, setting, krate, name)?)),
+        Feature::Krate(name) => Ok(Meaning::Crates(referents_of(
+            alloc, document, setting, krate, name,
+        )?)),
         Feature::Weak {
             krate: name,
             feature,

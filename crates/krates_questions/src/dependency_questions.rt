@@ -17,10 +17,10 @@ ghost use Rattle.krates_rules.specs.Resolved.{id_of};
 use crate::basis::Basis;
 use crate::lookup::Lookup;
 use crate::node_entry::{NodeEntry, declared_at};
-use crate::referent::answers_to;
 use crate::questions::{
     Document, declared_for, entry_between, is_same, lists, parts_for, referent_in,
 };
+use crate::referent::answers_to;
 use krates_cm::{DepKindInfo, Dependency};
 use krates_document::setting::Setting;
 use krates_ids::{Kid, laws};
@@ -61,7 +61,8 @@ impl<'a> Document<'a> {
     /// `kinds`.
     pub fn means(&self, setting: &Setting, krate: &Kid, name: &str, child: &Kid) -> bool
         ensures { let all = setting.now.all_named in
-            IsTrue result ↔ IsReferent (as_resolved self.now) all (id_of krate.now) name.now (id_of child.now) }
+            IsTrue result
+            ↔ IsReferent (as_resolved self.now) all (id_of krate.now) name.now (id_of child.now) }
     {
         means_in(&self.lookup, krate, name, child, setting.is_all_named())
     }

@@ -40,7 +40,8 @@ pub fn referents_of<'a>(
 ) -> Result<Vec<Referent<'a>>, AllocError>
     requires lookup { IsLookup lookup.now }
     requires parts { AreParts (resolved_view lookup.now) parts.now.place parts.now }
-    ensures { IfOk result (λ found. AreReferentsIn (resolved_view lookup.now) all parts.now name.now found.items) }
+    ensures { IfOk result (λ found. AreReferentsIn (resolved_view lookup.now) all parts.now name.now
+        found.items) }
 {
     if all {
         return all_referents(alloc, lookup, parts, name);
@@ -62,7 +63,8 @@ fn all_referents<'a>(
 ) -> Result<Vec<Referent<'a>>, AllocError>
     requires lookup { IsLookup lookup.now }
     requires parts { AreParts (resolved_view lookup.now) parts.now.place parts.now }
-    ensures { IfOk result (λ found. AreReferentsIn (resolved_view lookup.now) true parts.now name.now found.items) }
+    ensures { IfOk result (λ found. AreReferentsIn (resolved_view lookup.now) true parts.now name.now
+        found.items) }
 {
     laws::one_reading();
     laws::comparison();

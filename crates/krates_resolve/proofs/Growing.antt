@@ -1,5 +1,5 @@
 -- What has been found stays found, and what stood in it stands in it.
-use Rattle.std.proofs.Common.{◌≡◌, ℕ, refl, ◌∙◌, inl, inr}
+use Rattle.std.proofs.Common.{ℕ, refl, ◌∙◌, inl, inr}
 use Rattle.krates_cm.specs.Document.{Text, DependencyModel}
 use Rattle.krates_text.specs.FeatureReference.{Reference, krate, weak, strong, simple}
 use Rattle.krates_rules.specs.Facts.{Id, Edge, Crate, Feature, Kept, Toggled}

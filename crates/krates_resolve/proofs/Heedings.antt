@@ -12,7 +12,7 @@ use Rattle.krates_rules.specs.Derivation.{Derivable, follows, Among}
 use Rattle.krates_rules.specs.Facts.{Id, Edge, Fact, Crate, Feature, Kept}
 use Rattle.krates_questions.specs.FeatureTable.{listed_view}
 use Rattle.krates_questions.specs.FeatureValues.{AreNamed, AreValuesOf}
-use Rattle.krates_resolve.specs.Found.{HasFound, IsToggledIn, IsAskedWeakly, IsAskingStep, IsFollowed, IsHeeded, IsValueOfEnabled, IsSound, Advances, AreTried, IsTried, IsAny, MayTry, MayName, MayToggle}
+use Rattle.krates_resolve.specs.Found.{HasFound, IsAskedWeakly, IsAskingStep, IsFollowed, IsHeeded, IsValueOfEnabled, IsSound, Advances, AreTried, IsTried, IsAny, MayTry, MayName, MayToggle}
 use Rattle.krates_resolve.specs.Heeding.{IsAskedAt, IsToggledStronglyAt, IsReferringStep, IsValueStep, MayAsk, MayAskAt, HasEnabledReference}
 use Rattle.krates_rules.specs.Resolved.{DepAt, NodeAt, Resolved, NoNode, HasNode, HasDep, id_of}
 use Rattle.krates_resolve.specs.Links.{IsMarked, HasWaiter}

@@ -1,11 +1,9 @@
 -- What a kept edge may wake, the features of its dependency that wait, and what its declared dependency may ask for.
-use Rattle.std.proofs.Common.{◌≡◌, ℕ, List, [], ◌∷◌, Some, Contains, sym, ap, ◌∙◌, subst, inl, inr}
-use Rattle.std.proofs.lemmas.Bool.{cases_order}
-use Rattle.std.proofs.lemmas.Option.{same_Some, slice_get-map}
+use Rattle.std.proofs.Common.{◌≡◌, ℕ, List, [], ◌∷◌, sym, ap, ◌∙◌, subst, inl, inr}
+use Rattle.std.proofs.lemmas.Option.{same_Some}
 use Rattle.std.specs.List.{slice_get}
-use Rattle.std.specs.Option.{option_map}
 use Rattle.krates_cm.specs.Document.{Text, DependencyModel, DepKindInfoModel, NodeModel, NodeDepModel, PackageModel}
-use Rattle.krates_rules.specs.Admission.{NoneDoubled, doubled_dep, dep_texts}
+use Rattle.krates_rules.specs.Admission.{NoneDoubled}
 use Rattle.krates_rules.specs.DeclaredDependency.{dependency_entry, IsDeclared}
 use Rattle.krates_rules.specs.Derivation.{Derivable, Among, follows}
 use Rattle.krates_rules.specs.Facts.{Id, Edge, Fact, Feature, Kept, Toggled}
@@ -17,8 +15,7 @@ use Rattle.krates_rules.specs.Setting.{SettingModel}
 use Rattle.krates_rules.proofs.Readings.{ReadsOnce}
 use Rattle.krates_document.proofs.DeclaredOnce.{declared_once}
 use Rattle.krates_questions.proofs.Lookups.{one_id}
-use Rattle.krates_rules.proofs.OnlyOne.{one_package, one_dep, one_node_place}
-use Rattle.krates_rules.proofs.Standings.{contains_at}
+use Rattle.krates_rules.proofs.OnlyOne.{one_package, one_dep}
 
 -- ---- what is derivable
 

@@ -183,7 +183,8 @@ fn toggle_strongly<'a>(
         (strong name.now feature.name.now) }
     ensures advanced { OnOk result (Moves basis.now found.old found.new) }
     ensures asked { OnOk result (HasAsked basis.now found.new (krate_of parts.now) name.now) }
-    ensures toggled { OnOk result (HasToggledKept basis.now found.new parts.now name.now feature.entry.name.now) }
+    ensures toggled { OnOk result (HasToggledKept basis.now found.new parts.now name.now
+        feature.entry.name.now) }
     ensures counted { IfOk result (CountsNameOf basis.now (krate_of parts.now) name.now) }
     ensures refused { IfErr result (Refuses basis.now) }
 {
@@ -211,7 +212,8 @@ fn toggle_at<'a>(
         feature.step index }
     ensures advanced { OnOk result (Moves basis.now found.old found.new) }
     ensures asked { OnOk result (HasAskedDep basis.now found.new parts.now index) }
-    ensures toggled { OnOk result (HasToggledKeptAt basis.now found.new parts.now index feature.entry.name.now) }
+    ensures toggled { OnOk result (HasToggledKeptAt basis.now found.new parts.now index
+        feature.entry.name.now) }
     ensures refused { IfErr result (Refuses basis.now) }
 {
     laws::one_reading();

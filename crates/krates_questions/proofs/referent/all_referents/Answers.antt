@@ -55,5 +55,5 @@ returns c =
     let first = c.in_ok-push_answering.ensures [] (rw c.new-referents.ensures.items (none_found r parts name)) in
     let whole = c.in_ok-push_answering-2.ensures these first in
     if_ok_three c.in_order.result (λ items ascending from kept. sorted_in c.one_reading.ensures.once c.comparison.ensures.order r parts name (these ++ those) c.push_answering-2.new.referents.items items.items c.requires.lookup.distinct p
-        (λ k kid w. answers_among c.one_reading.ensures.once r parts name kids.0 c.index.result.now.items c.index-2.result.now.items these those k kid p kids.2 own children seen shown w) whole
-        (record { ascending = ascending; from = from; kept = λ x m. (let y = kept x m in (y.0, y.1, same_place x y.0 y.2)) })) c.in_order.ensures.ascending c.in_order.ensures.from c.in_order.ensures.kept
+    (λ k kid w. answers_among c.one_reading.ensures.once r parts name kids.0 c.index.result.now.items c.index-2.result.now.items these those k kid p kids.2 own children seen shown w) whole
+    (record { ascending = ascending; from = from; kept = λ x m. (let y = kept x m in (y.0, y.1, same_place x y.0 y.2)) })) c.in_order.ensures.ascending c.in_order.ensures.from c.in_order.ensures.kept
