@@ -35,9 +35,9 @@ Each definition is explained before it is used, with the sentence that stands ab
 ```
 """
 
-LAWS = """## Four laws
+LAWS = """## Five laws
 
-The headline speaks of one build. What holds of a build and another, or of two queries, follows from it by four laws. None adds to what
+The headline speaks of one build. What holds of a build and another, or of two queries, follows from it by five laws. None adds to what
 has to be believed but its own statement, which fits a screen.
 
 - **Order**: of two documents that differ only in the order of packages, members, nodes, a node's dependencies or features, the
@@ -46,6 +46,9 @@ has to be believed but its own statement, which fits a screen.
 - **Narrowing**: with one more exclusion, one more ignored kind, or targets where there were none, crates, features and edges are a part
   of what they were, and a build that succeeded succeeds still, or no root is left. So without dev dependencies `a`, which needs `b`
   for its tests, is kept alone. [BuildLaws](../crates/krates/specs/BuildLaws.antt), `IsBuildNarrowing`.
+- **Naming**: what is kept where a dependency's name in a feature reference means the least that answers to it is a part of what is kept
+  where it means all of them, what is lost included. So of two versions of `d` that the reference `dep:d` may mean, the first by id is kept,
+  and with all named both. [BuildLaws](../crates/krates/specs/BuildLaws.antt), `IsBuildNamedPart`.
 - **Rebuild**: what kept members reach without edges of a kind has all that a build keeps which ignores the kind, where the graph has no
   root or a member as its root; and nothing else, where no feature is enabled and each member is a root. So both have `a` alone there; but
   where a feature of `a` names one of `b`, the first has `b` too. [Rebuilding](../crates/krates_drawing/specs/Rebuilding.antt),

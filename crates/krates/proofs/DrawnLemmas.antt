@@ -1,5 +1,5 @@
 -- The graph of what is kept, put together.
-use Rattle.std.proofs.Common.{◌≡◌, ◌↔◌, ◌∙◌, ℕ, ◌<◌, ◌^◌, List, [], ◌∷◌, All, Contains, Result, Ok, Err, IfOk, length, map, refl, sym, ap, subst}
+use Rattle.std.proofs.Common.{◌≡◌, ◌↔◌, ◌∙◌, ℕ, Bool, ◌<◌, ◌^◌, List, [], ◌∷◌, All, Contains, Result, Ok, Err, IfOk, length, map, refl, sym, ap, subst}
 use Rattle.std.specs.BTreeSet.{BTreeSet}
 use Rattle.std.specs.List.{AllZip, FoldsTo}
 use Rattle.std.specs.List.Sorted.{IsStrictlySortedBy}
@@ -54,25 +54,25 @@ use Rattle.krates.proofs.SelectionFacts.{Selects, feature_kept, kept_among}
 -- ---- the sheet
 
 pub sheet_told : (m : MetadataModel) (s : SettingModel) (x : Selection) (r : Resolved) (t : model.Sheet) → Selects m s x → HasGraphWith m (λ g. r ≡ resolved m g)
-    → ((s : SettingModel) → IsSelection r s x → IsSheet r s x t) → IsSheetFor m s t
+    → (IsSelection r s x → IsSheet r s x t) → IsSheetFor m s t
 sheet_told m s x r t sel h f =
     let selected = selected_in m s x r sel h in
     record {
       graph = h.graph;
       has_graph = h.has_graph;
-      holds = record { selection = x; selected = rw (← h.holds) selected; is_sheet = rw (← h.holds) (f s selected) };
+      holds = record { selection = x; selected = rw (← h.holds) selected; is_sheet = rw (← h.holds) (f selected) };
     }
 
 -- of a call that may refuse
-pub if_sheet_told : {E : Type 0} (m : MetadataModel) (x : Selection) (r : Resolved) (result : Result Sheet E) → HasGraphWith m (λ g. r ≡ resolved m g)
-    → IfOk result (λ t. (s : SettingModel) → IsSelection r s x → IsSheet r s x (sheet_view t)) → IfOk result (λ t. (s : SettingModel) → Selects m s x → IsSheetFor m s (sheet_view t))
-if_sheet_told m x r (Ok t) h f = λ s sel. sheet_told m s x r (sheet_view t) sel h f
-if_sheet_told m x r (Err e) h f = tt
+pub if_sheet_told : {E : Type 0} (m : MetadataModel) (s : SettingModel) (x : Selection) (r : Resolved) (result : Result Sheet E) → HasGraphWith m (λ g. r ≡ resolved m g)
+    → IfOk result (λ t. IsSelection r s x → IsSheet r s x (sheet_view t)) → IfOk result (λ t. Selects m s x → IsSheetFor m s (sheet_view t))
+if_sheet_told m s x r (Ok t) h f = λ sel. sheet_told m s x r (sheet_view t) sel h f
+if_sheet_told m s x r (Err e) h f = tt
 
-pub if_ordered : {E : Type 0} (m : MetadataModel) (x : Selection) (r : Resolved) (result : Result Sheet E) → HasGraphWith m (λ g. r ≡ resolved m g)
-    → IfOk result (λ t. (s : SettingModel) → IsSelection r s x → IsOrdered t) → IfOk result (λ t. (s : SettingModel) → Selects m s x → IsOrdered t)
-if_ordered m x r (Ok t) h f = λ s sel. f s (selected_in m s x r sel h)
-if_ordered m x r (Err e) h f = tt
+pub if_ordered : {E : Type 0} (m : MetadataModel) (s : SettingModel) (x : Selection) (r : Resolved) (result : Result Sheet E) → HasGraphWith m (λ g. r ≡ resolved m g)
+    → IfOk result (λ t. IsSelection r s x → IsOrdered t) → IfOk result (λ t. Selects m s x → IsOrdered t)
+if_ordered m s x r (Ok t) h f = λ sel. f (selected_in m s x r sel h)
+if_ordered m s x r (Err e) h f = tt
 
 -- the ids of the sheet are those of the selection
 ids_same : (r : Resolved) (is : List Identity) (ks : List model.Krate) → AllZip (IsKrate r) is ks → map id_of is ≡ map (λ (k : model.Krate). k.id) ks
@@ -91,12 +91,12 @@ pub facts_in : (ns : List Named) → map feature_fact (map (λ (n : Named). n.fe
 facts_in [] = refl
 facts_in (n ∷ ns) = ap (λ fs. feature_fact n.feature ∷ fs) (facts_in ns)
 
-facts_same : (r : Resolved) (fs : List EnabledFeature) (ns : List model.Named) → AllZip (IsNamed r) fs ns → map feature_fact fs ≡ map named_fact ns
-facts_same r [] [] h = refl
-facts_same r [] (n ∷ ns) h = absurd h
-facts_same r (f ∷ fs) [] h = absurd h
-facts_same r (f ∷ fs) (n ∷ ns) h =
-    ap (λ gs. feature_fact f ∷ gs) (facts_same r fs ns h.1) ∙ ap (λ i. Feature i (text_view f.name) ∷ map named_fact ns) (sym h.0.krate) ∙ ap (λ t. Feature n.krate t ∷ map named_fact ns) (sym h.0.name)
+facts_same : (r : Resolved) (all : Bool) (fs : List EnabledFeature) (ns : List model.Named) → AllZip (IsNamed r all) fs ns → map feature_fact fs ≡ map named_fact ns
+facts_same r all [] [] h = refl
+facts_same r all [] (n ∷ ns) h = absurd h
+facts_same r all (f ∷ fs) [] h = absurd h
+facts_same r all (f ∷ fs) (n ∷ ns) h =
+    ap (λ gs. feature_fact f ∷ gs) (facts_same r all fs ns h.1) ∙ ap (λ i. Feature i (text_view f.name) ∷ map named_fact ns) (sym h.0.krate) ∙ ap (λ t. Feature n.krate t ∷ map named_fact ns) (sym h.0.name)
 
 -- ---- the graph of the sheet
 
@@ -180,7 +180,7 @@ have_crates m s t d h b f member =
     let i = id_of f.feature.krate in
     let name = text_view f.feature.name in
     let fact : Fact = Feature i name in
-    let facts = facts_same (resolved (metadata_view m) h.graph) x.features.items (sheet_view t).features h.holds.is_sheet.features in
+    let facts = facts_same (resolved (metadata_view m) h.graph) s.all_named x.features.items (sheet_view t).features h.holds.is_sheet.features in
     let here = contains_of (map named_fact (sheet_view t).features) fact (member_map named_fact (sheet_view t).features (named_view f) (member_map named_view t.features.items f member)) in
     let kept = feature_kept (metadata_view m) s x (selects (metadata_view m) s (sheet_view t) h) i name (subst (λ fs. Contains fs fact) (sym facts) here) in
     stands_at_some (krate_ids d.kept.items) i (member_of (map id_of (krate_ids d.kept.items)) i ((b.kept i).0 kept))
@@ -209,7 +209,7 @@ pub is_built : {F N E : Type 0} (filters : F → Package → F → Type 0) (made
     → IsBuilt filters made made_edge m s before after (record { graph = g; members = members; workspace_root = text_view m.workspace_root; work = found.work })
 is_built filters made made_edge m s t d g members before after found h b w run selected resolvable numbered listed agree =
     let x = h.holds.selection in
-    let facts = facts_same (resolved (metadata_view m) h.graph) x.features.items (sheet_view t).features h.holds.is_sheet.features in
+    let facts = facts_same (resolved (metadata_view m) h.graph) s.all_named x.features.items (sheet_view t).features h.holds.is_sheet.features in
     record {
       resolvable = resolvable;
       kept = λ i. subst (λ ids. KeepsCrate (metadata_view m) s i ↔ Contains (map id_of ids) i) (sym w.ids) (b.kept i);

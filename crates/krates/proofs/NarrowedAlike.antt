@@ -1,5 +1,5 @@
 -- A build under a narrower setting keeps a part, whatever correction of the document by one answer of an index each build looks at.
-use Rattle.std.proofs.Common.{◌≡◌, List, [], ◌∷◌, Option, Some, None, Contains, refl, sym, ap, subst}
+use Rattle.std.proofs.Common.{◌≡◌, List, [], ◌∷◌, Option, Some, None, true, false, Contains, refl, sym, ap, subst}
 use Rattle.std.proofs.lemmas.List.Sorted.{IsPermutation-refl}
 use Rattle.std.specs.List.{AllZip}
 use Rattle.krates_cm.specs.Document.{PackageModel, NodeModel, ResolveModel, MetadataModel, id_view, metadata_view}
@@ -10,12 +10,13 @@ use Rattle.krates_drawing.specs.Narrower.{NarrowerDrawsNoMore}
 use Rattle.krates_drawing.proofs.Members.{member_of, contains_of}
 use Rattle.krates_ids.specs.Identity.{Identity}
 use Rattle.krates_rules.specs.Facts.{Fact, Crate}
+use Rattle.krates_rules.specs.Naming.{IsNamedPart, naming}
 use Rattle.krates_rules.specs.Narrowing.{IsNarrowing}
 use Rattle.krates_rules.specs.Reordering.{ReordersPackage, ReordersNode, ReordersResolve, Reorders, IsOrderFree}
-use Rattle.krates_rules.specs.Resolved.{ReadsAs}
+use Rattle.krates_rules.specs.Resolved.{ReadsAs, resolved}
 use Rattle.krates_rules.specs.Setting.{SettingModel}
 use Rattle.krates.specs.Build.{IsDerived, IsResolvable, KeepsCrate, AreThosePackages}
-use Rattle.krates.specs.BuildLaws.{IsBuildNarrowing, KeepsPackages, ListsSame}
+use Rattle.krates.specs.BuildLaws.{IsBuildNamedPart, IsBuildNarrowing, KeepsPackages, ListsSame}
 use Rattle.krates.proofs.BuildsAlike.{sheet_for_there, refused_there}
 use Rattle.krates.proofs.CorrectedAlike.{OneCorrection, seen_alike}
 use Rattle.krates.proofs.DivisionLemmas.{ReadsOnce}
@@ -81,3 +82,15 @@ build_narrowing one there free once law fewer answer m p q wide narrow step x y 
 
 pub packages_kept : IsNarrowing → KeepsPackages
 packages_kept law p wide narrow step = packages_part p wide narrow (part law (metadata_view p) wide narrow step)
+
+-- ---- what a name means
+
+named_facts : IsNamedPart → (p : MetadataModel) (s : SettingModel) (f : Fact) → IsDerived p (naming s false) f → IsDerived p (naming s true) f
+named_facts law p s f h = record { graph = h.graph; has_graph = h.has_graph; holds = law (resolved p h.graph) s f h.holds }
+
+pub build_named_part : OneCorrection → IsOrderFree → IsNamedPart → IsBuildNamedPart
+build_named_part one free law answer m p q s x y =
+    let back = seen_alike one answer m m q p (own_order (metadata_view m)) y x in
+    let alike = free (metadata_view q) (metadata_view p) back in
+    let facts : (f : Fact) → IsDerived (metadata_view q) (naming s false) f → IsDerived (metadata_view p) (naming s true) f = λ f h. named_facts law (metadata_view p) s f ((alike.facts (naming s false) f).0 h) in
+    record { facts = facts; packages = lists_same p q (naming s true) (naming s false) back facts }

@@ -1,5 +1,5 @@
 -- What two builds have in common: of documents that differ in order alone, and under a setting and one that keeps less.
-use Rattle.std.specs.Prelude.{◌≡◌, ◌⊎◌, ◌↔◌, List, Option, Some, None, Contains, map}
+use Rattle.std.specs.Prelude.{◌≡◌, ◌⊎◌, ◌↔◌, List, Option, Some, None, true, false, Contains, map}
 use Rattle.std.specs.List.{AllZip}
 use Rattle.krates_cm.specs.Document.{metadata_view, package_view}
 use Rattle.krates_cm.specs.declared.metadata.Metadata.{Metadata}
@@ -13,6 +13,7 @@ use Rattle.krates_ids.specs.declared.error.Error.TheVariants.{NoRootKrates, Memo
 use Rattle.krates_ids.specs.declared.index.IndexAnswer.{IndexAnswer}
 use Rattle.krates_ids.specs.declared.index.PackageNames.{PackageNames}
 use Rattle.krates_rules.specs.Facts.{Id, Cause, Fact}
+use Rattle.krates_rules.specs.Naming.{naming}
 use Rattle.krates_rules.specs.Narrowing.{IsNarrower}
 use Rattle.krates_rules.specs.Reordering.{Reorders, ReordersPackage, ResolveAlike}
 use Rattle.krates_rules.specs.Resolved.{id_of}
@@ -111,3 +112,18 @@ abbrev pub KeepsPackages : Type 0
 KeepsPackages = (p : Metadata) (wide narrow : SettingModel) → IsNarrower wide narrow → (is js : List Identity) (xs ys : List Package)
     → AreThosePackages p.packages.items (KeepsCrate (metadata_view p) narrow) is xs
     → AreThosePackages p.packages.items (KeepsCrate (metadata_view p) wide) js ys → (pkg : Package) → Contains xs pkg → Contains ys pkg
+
+-- ---- what a name means
+
+-- What is kept of q where a name means the least that answers to it is a part of what is kept of p where it means all: both are
+-- what is looked at of one document. So where both builds succeed, the crates, features and edges of the first stand in the second.
+pub record KeepsNamedPart (p q : Metadata) (s : SettingModel) : Type 0 where
+  -- each fact with a derivation where it means the least has one where it means all, those of what is lost included
+  pub facts : (f : Fact) → IsDerived (metadata_view q) (naming s false) f → IsDerived (metadata_view p) (naming s true) f
+  -- so each package that is kept where it means the least is kept where it means all
+  pub packages : (is js : List Identity) (xs ys : List Package) → AreThosePackages q.packages.items (KeepsCrate (metadata_view q) (naming s false)) is xs
+      → AreThosePackages p.packages.items (KeepsCrate (metadata_view p) (naming s true)) js ys → (pkg : Package) → Contains xs pkg → ListsSame ys pkg
+
+-- a build where a name means the least keeps a part, without an index or with one answer of it for both builds
+abbrev pub IsBuildNamedPart : Type 0
+IsBuildNamedPart = (answer : Option IndexAnswer) (m p q : Metadata) (s : SettingModel) → IsSeenBy answer m p → IsSeenBy answer m q → KeepsNamedPart p q s

@@ -89,6 +89,20 @@ impl<S: Drop + 'static> Builder<S> {
         self
     }
 
+    /// Whether a dependency's name in a feature reference, as `dep:NAME` or `NAME/FEATURE`, means all dependencies that answer
+    /// to it, and not the least of them alone, by id; the last call counts. Never refused. Time O(1).
+    ///
+    /// ```text
+    /// builder.all_named(true);
+    /// ```
+    pub fn all_named(&mut self, is_on: bool) -> &mut Self
+        ensures set { result.now ≡ with_setting self.old (record (self.old.setting) { all_named = is_on }) }
+        ensures same_reference { result.ghost_name ≡ self.entry.ghost_name }
+    {
+        self.setting.all_named(is_on);
+        self
+    }
+
     /// Leaves out the packages that one of the specifications fits, beside those that are left out already: they
     /// aren't kept, and what only they need isn't either. The only refusal is running out of memory, and then the
     /// builder is as it was. Time O(specifications).
@@ -304,7 +318,7 @@ fn build_admitted<N: FromPackage + Drop, E: FromEdge + Drop, F: OnFilter>(
     };
     let selection = select(alloc, &metadata, &ids, setting)?;
     let work = selection.work;
-    let sheet = sheet_for(alloc, &metadata, &ids, selection)?;
+    let sheet = sheet_for(alloc, &metadata, &ids, setting, selection)?;
     let division = divide(alloc, metadata.packages, ids.packages, &sheet.krates)?;
     let count = division.kept.len();
     let graph = graph_of(alloc, limits, sheet, division.kept)?;

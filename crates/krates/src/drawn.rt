@@ -16,7 +16,6 @@ ghost use Rattle.krates_ids.specs.declared.error.Error.TheVariants.{Memory};
 ghost use Rattle.krates_rules.specs.Admission.{IsAdmitted};
 ghost use Rattle.krates_resolve.specs.Selection.{IsSelectionOf};
 ghost use Rattle.krates_rules.specs.Resolved.{id_of};
-ghost use Rattle.krates_rules.specs.Setting.{SettingModel};
 ghost use Rattle.krates.specs.Drawn.{IsSheetFor};
 ghost use Rattle.krates.specs.KeptGraph.{IsGraphOf};
 ghost use Rattle.krates.specs.Krate.{krate_ids};
@@ -28,6 +27,7 @@ use crate::krate::Krate;
 use crate::node::Node;
 use crate::nodes::{nodes_of, parts_of, store_nodes};
 use krates_cm::{Metadata, Package};
+use krates_document::Setting;
 use krates_drawing::edge::Arrow;
 use krates_drawing::gather::sheet_of;
 use krates_drawing::limits::{Limits, plan_within};
@@ -38,23 +38,22 @@ use krates_ids::Error;
 use krates_resolve::{Document, EnabledFeature, Ids, Selection};
 use std::alloc::{AllocError, Global};
 
-/// The sheet of what is selected of a document.
+/// The sheet of what is selected of a document under a setting.
 pub(crate) fn sheet_for(
     alloc: Global,
     metadata: &Metadata,
     ids: &Ids,
+    setting: &Setting,
     selection: Selection,
 ) -> Result<Sheet, AllocError>
     requires admitted { IsAdmitted (metadata_view metadata.now) (ids_view ids.now) }
-    ensures sheet { IfOk result (λ sheet. (s : SettingModel)
-        → IsSelectionOf (metadata_view metadata.now) s selection
-        → IsSheetFor (metadata_view metadata.now) s (sheet_view sheet)) }
-    ensures ordered { IfOk result (λ sheet. (s : SettingModel)
-        → IsSelectionOf (metadata_view metadata.now) s selection
+    ensures sheet { IfOk result (λ sheet. IsSelectionOf (metadata_view metadata.now) setting.now selection
+        → IsSheetFor (metadata_view metadata.now) setting.now (sheet_view sheet)) }
+    ensures ordered { IfOk result (λ sheet. IsSelectionOf (metadata_view metadata.now) setting.now selection
         → IsOrdered sheet) }
 {
     let document = Document::new(alloc, metadata, ids)?;
-    sheet_of(alloc, &document, selection)
+    sheet_of(alloc, &document, setting, selection)
 }
 
 /// The enabled features of a sheet.

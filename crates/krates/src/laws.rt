@@ -1,7 +1,7 @@
 //! Laws of builds, for all documents, settings and answers of an index. Each is the contract of a function that does
 //! nothing.
 
-ghost use Rattle.krates.specs.BuildLaws.{IsBuildNarrowing, IsBuildOrderFree, KeepsPackages};
+ghost use Rattle.krates.specs.BuildLaws.{IsBuildNamedPart, IsBuildNarrowing, IsBuildOrderFree, KeepsPackages};
 
 pub use krates_drawing::laws::filtered_holds_rebuild;
 use krates_drawing::laws::{drawn_alike, narrower_draws_no_more, sheet_there};
@@ -43,4 +43,19 @@ pub fn narrowing()
     resolution::reordering();
     narrower_draws_no_more();
     sheet_there();
+}
+
+/// A build where a dependency's name in a feature reference means the least, by id, of the dependencies that answer to it, keeps
+/// a part of what one keeps where it means all of them, under settings that are equal otherwise: each fact that has a
+/// derivation there has one here, and so has what is lost. Where both builds succeed, the kept crates, the enabled features and
+/// the dependency edges of the first stand in the second; their numbers may be others.
+///
+/// Without an index both look at the document as it is given, and with one at what it is corrected to, where the index
+/// answers both the same.
+pub fn named_part()
+    ensures { IsBuildNamedPart }
+{
+    one_correction();
+    resolution::named_part();
+    resolution::reordering();
 }

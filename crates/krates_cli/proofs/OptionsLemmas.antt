@@ -5,7 +5,7 @@ use Rattle.std.proofs.lemmas.Bool.{false≢true}
 use Rattle.krates_cm.specs.Document.{Text}
 use Rattle.krates_ids.specs.PackageSpecification.{Specification, IsSpec}
 use Rattle.krates_rules.specs.declared.kind.DepKind.{DepKind}
-use Rattle.krates_cli.specs.Options.{OptionsModel, plain_options, Wish, every_member, without_kind, at_target, without_package, by_program, later, with_wish, kind_named, AsksWith, ignore_kind, target, exclude, cargo, AsksFirst, workspace, valued, IsCommandLine, no_words, one_more, IsUnknown}
+use Rattle.krates_cli.specs.Options.{OptionsModel, plain_options, Wish, every_member, every_namesake, without_kind, at_target, without_package, by_program, later, with_wish, kind_named, AsksWith, ignore_kind, target, exclude, cargo, AsksFirst, all_named, workspace, valued, IsCommandLine, no_words, one_more, IsUnknown}
 use Rattle.krates_cli.specs.OptionsReading.{and_wish, AddsValue, AddsFirst, BeginsUnknown, IsNoValue, IsUnread}
 use Rattle.krates_cli.specs.declared.options.OptionsError.{OptionsError}
 use Rattle.krates_cli.specs.declared.options.OptionsError.TheVariants as errors
@@ -15,6 +15,7 @@ use Rattle.krates_cli.specs.declared.options.OptionsError.TheVariants as errors
 -- what an option with a value is
 abbrev pub IsAsked : Text → Text → Wish → Type 0
 IsAsked option value every_member = ⊥
+IsAsked option value every_namesake = ⊥
 IsAsked option value (without_kind kind) = (option ≡ codes "--ignore-kind") × (kind_named value ≡ Some kind)
 IsAsked option value (at_target triple) = (option ≡ codes "--target") × (value ≡ triple)
 IsAsked option value (without_package spec) = (option ≡ codes "--exclude") × IsSpec value spec.name spec.version spec.url
@@ -30,12 +31,47 @@ asked option value wish cargo = (refl, refl)
 differ : {A : Type 0} (option a b : Text) → option ≡ a → option ≡ b → bytes_eq a b ≡ false → bytes_eq b b ≡ true → A
 differ option a b is_a is_b apart same = absurd (false≢true (sym apart ∙ ap (λ t. bytes_eq t b) (sym is_a ∙ is_b) ∙ same))
 
--- an option with a value is not `--workspace`
-no_flag : (option value : Text) (wish : Wish) → AsksWith option value wish → option ≡ codes "--workspace" → ⊥
-no_flag option value wish (ignore_kind h) e = differ option (codes "--ignore-kind") (codes "--workspace") refl e refl refl
-no_flag option value wish target e = differ option (codes "--target") (codes "--workspace") refl e refl refl
-no_flag option value wish (exclude h) e = differ option (codes "--exclude") (codes "--workspace") refl e refl refl
-no_flag option value wish cargo e = differ option (codes "--cargo") (codes "--workspace") refl e refl refl
+-- an option with a value has no other name
+no_word : (option value flag : Text) (wish : Wish) → bytes_eq (codes "--ignore-kind") flag ≡ false → bytes_eq (codes "--target") flag ≡ false → bytes_eq (codes "--exclude") flag ≡ false → bytes_eq (codes "--cargo") flag ≡ false → bytes_eq flag flag ≡ true
+    → AsksWith option value wish → option ≡ flag → ⊥
+no_word option value flag wish k t s c same (ignore_kind h) e = differ option (codes "--ignore-kind") flag refl e k same
+no_word option value flag wish k t s c same target e = differ option (codes "--target") flag refl e t same
+no_word option value flag wish k t s c same (exclude h) e = differ option (codes "--exclude") flag refl e s same
+no_word option value flag wish k t s c same cargo e = differ option (codes "--cargo") flag refl e c same
+
+-- an option without a value, and what it asks for
+abbrev pub IsFlag : Text → Wish → Type 0
+IsFlag option every_member = option ≡ codes "--workspace"
+IsFlag option every_namesake = option ≡ codes "--all-named"
+IsFlag option _ = ⊥
+
+-- an option with a value is none of them
+no_flag : (option value : Text) (wish flag : Wish) → AsksWith option value wish → IsFlag option flag → ⊥
+no_flag option value wish every_member asks e = no_word option value (codes "--workspace") wish refl refl refl refl refl asks e
+no_flag option value wish every_namesake asks e = no_word option value (codes "--all-named") wish refl refl refl refl refl asks e
+no_flag option value wish (without_kind k) asks e = e
+no_flag option value wish (at_target t) asks e = e
+no_flag option value wish (without_package s) asks e = e
+no_flag option value wish (by_program c) asks e = e
+
+-- and each asks for one thing
+same_flag : (option : Text) (a b : Wish) → IsFlag option a → IsFlag option b → a ≡ b
+same_flag option every_member every_member p q = refl
+same_flag option every_member every_namesake p q = differ option (codes "--workspace") (codes "--all-named") p q refl refl
+same_flag option every_member (without_kind k) p q = absurd q
+same_flag option every_member (at_target t) p q = absurd q
+same_flag option every_member (without_package s) p q = absurd q
+same_flag option every_member (by_program c) p q = absurd q
+same_flag option every_namesake every_member p q = differ option (codes "--all-named") (codes "--workspace") p q refl refl
+same_flag option every_namesake every_namesake p q = refl
+same_flag option every_namesake (without_kind k) p q = absurd q
+same_flag option every_namesake (at_target t) p q = absurd q
+same_flag option every_namesake (without_package s) p q = absurd q
+same_flag option every_namesake (by_program c) p q = absurd q
+same_flag option (without_kind k) b p q = absurd p
+same_flag option (at_target t) b p q = absurd p
+same_flag option (without_package s) b p q = absurd p
+same_flag option (by_program c) b p q = absurd p
 
 -- an option of another name asks for nothing
 pub no_value : (option value : Text) → (option ≡ codes "--ignore-kind" → ⊥) → (option ≡ codes "--target" → ⊥) → (option ≡ codes "--exclude" → ⊥) → (option ≡ codes "--cargo" → ⊥) → IsNoValue option value
@@ -97,6 +133,13 @@ flag_read option values old is = record {
   added = refl;
 }
 
+pub naming_read : (option : Text) (values : List Text) (old : OptionsModel) → option ≡ codes "--all-named" → AddsFirst (option ∷ values) old (record old { all_named = true }) values
+naming_read option values old is = record {
+  wish = every_namesake;
+  asks = subst (λ o. AsksFirst (o ∷ values) every_namesake values) (sym is) all_named;
+  added = refl;
+}
+
 pub value_read : (option value : Text) (values rest : List Text) (old new : OptionsModel) → values ≡ value ∷ rest → AddsValue option value old new → AddsFirst (option ∷ values) old new rest
 value_read option value values rest old new split adds = record {
   wish = adds.wish;
@@ -106,11 +149,12 @@ value_read option value values rest old new split adds = record {
 
 -- how words begin with an option
 abbrev pub Begins : List Text → Wish → List Text → Type 0
-Begins words wish rest = ((words ≡ codes "--workspace" ∷ rest) × (wish ≡ every_member))
+Begins words wish rest = ((option : Text) × IsFlag option wish × (words ≡ option ∷ rest))
     ⊎ ((option value : Text) × AsksWith option value wish × (words ≡ option ∷ value ∷ rest))
 
 begins : (words : List Text) (wish : Wish) (rest : List Text) → AsksFirst words wish rest → Begins words wish rest
-begins words wish rest workspace = inl (refl, refl)
+begins words wish rest workspace = inl (codes "--workspace", refl, refl)
+begins words wish rest all_named = inl (codes "--all-named", refl, refl)
 begins words wish rest (valued {option = option} {value = value} h) = inr (option, value, h, refl)
 
 -- ---- whole words
@@ -123,6 +167,7 @@ joined a b = record {
   targets = a.targets ++ b.targets;
   exclusions = a.exclusions ++ b.exclusions;
   cargo = later a.cargo b.cargo;
+  all_named = a.all_named || b.all_named;
 }
 
 later_still : (first : Option Text) (program : Text) (last : Option Text) → later (Some program) last ≡ later first (later (Some program) last)
@@ -132,6 +177,7 @@ later_still first program (Some other) = refl
 -- a wish at the end of the first stands before the second
 moves_over : (a b : OptionsModel) (wish : Wish) → joined (and_wish a wish) b ≡ joined a (with_wish wish b)
 moves_over a b every_member = ap (λ x. record (joined a b) { workspace = x }) (sym (or-true a.workspace))
+moves_over a b every_namesake = ap (λ x. record (joined a b) { all_named = x }) (sym (or-true a.all_named))
 moves_over a b (without_kind kind) = ap (λ x. record (joined a b) { ignored = x }) (append_assoc a.ignored (kind ∷ []) b.ignored)
 moves_over a b (at_target triple) = ap (λ x. record (joined a b) { targets = x }) (append_assoc a.targets (triple ∷ []) b.targets)
 moves_over a b (without_package spec) = ap (λ x. record (joined a b) { exclusions = x }) (append_assoc a.exclusions (spec ∷ []) b.exclusions)
@@ -148,6 +194,7 @@ plain_joined o = λ i. record {
   targets = o.targets;
   exclusions = o.exclusions;
   cargo = sym (later_alone o.cargo) i;
+  all_named = o.all_named;
 }
 
 joined_plain : (a : OptionsModel) → joined a plain_options ≡ a
@@ -157,6 +204,7 @@ joined_plain a = λ i. record {
   targets = append-nil a.targets i;
   exclusions = append-nil a.exclusions i;
   cargo = a.cargo;
+  all_named = or-false a.all_named i;
 }
 
 -- So far this is asked, and these words are left: they are a command line exactly where all words are.
@@ -181,6 +229,7 @@ some_words option values e = false≢true (ap is_none e)
 
 nothing_first : (words rest : List Text) (wish : Wish) → AsksFirst words wish rest → words ≡ [] → ⊥
 nothing_first words rest wish workspace e = some_words (codes "--workspace") rest e
+nothing_first words rest wish all_named e = some_words (codes "--all-named") rest e
 nothing_first words rest wish (valued {option = option} {value = value} asks) e = some_words option (value ∷ rest) e
 
 -- how a command line begins
@@ -198,9 +247,9 @@ first [] = []
 first (word ∷ words) = word
 
 rests : (words : List Text) (wish other : Wish) (rest left : List Text) → Begins words wish rest → Begins words other left → rest ≡ left
-rests words wish other rest left (inl a) (inl b) = ap (λ l. drop 1 l) (sym a.0 ∙ b.0)
-rests words wish other rest left (inl a) (inr (option, value, asks, is)) = absurd (no_flag option value other asks (ap first (sym is ∙ a.0)))
-rests words wish other rest left (inr (option, value, asks, is)) (inl b) = absurd (no_flag option value wish asks (ap first (sym is ∙ b.0)))
+rests words wish other rest left (inl a) (inl b) = ap (λ l. drop 1 l) (sym a.2 ∙ b.2)
+rests words wish other rest left (inl (flag, named, has)) (inr (option, value, asks, is)) = absurd (no_flag option value other wish asks (subst (λ o. IsFlag o wish) (ap first (sym has ∙ is)) named))
+rests words wish other rest left (inr (option, value, asks, is)) (inl (flag, named, has)) = absurd (no_flag option value wish other asks (subst (λ o. IsFlag o other) (ap first (sym has ∙ is)) named))
 rests words wish other rest left (inr a) (inr b) = ap (λ l. drop 2 l) (sym a.3 ∙ b.3)
 
 -- the words that follow an option are these alone
@@ -250,31 +299,36 @@ kind_or kind (Some other) = other
 
 same_asked : OneReading → (option value : Text) (a b : Wish) → IsAsked option value a → IsAsked option value b → a ≡ b
 same_asked one option value every_member b p q = absurd p
+same_asked one option value every_namesake b p q = absurd p
 same_asked one option value (without_kind k) every_member p q = absurd q
+same_asked one option value (without_kind k) every_namesake p q = absurd q
 same_asked one option value (without_kind k) (without_kind j) p q = ap (λ x. without_kind (kind_or k x)) (sym p.1 ∙ q.1)
 same_asked one option value (without_kind k) (at_target u) p q = differ option (codes "--ignore-kind") (codes "--target") p.0 q.0 refl refl
 same_asked one option value (without_kind k) (by_program c) p q = differ option (codes "--ignore-kind") (codes "--cargo") p.0 q.0 refl refl
 same_asked one option value (without_kind k) (without_package s) p q = differ option (codes "--ignore-kind") (codes "--exclude") p.0 q.0 refl refl
 same_asked one option value (at_target t) every_member p q = absurd q
+same_asked one option value (at_target t) every_namesake p q = absurd q
 same_asked one option value (at_target t) (without_kind k) p q = differ option (codes "--target") (codes "--ignore-kind") p.0 q.0 refl refl
 same_asked one option value (at_target t) (at_target u) p q = ap at_target (sym p.1 ∙ q.1)
 same_asked one option value (at_target t) (without_package s) p q = differ option (codes "--target") (codes "--exclude") p.0 q.0 refl refl
 same_asked one option value (at_target t) (by_program c) p q = differ option (codes "--target") (codes "--cargo") p.0 q.0 refl refl
 same_asked one option value (without_package r) every_member p q = absurd q
+same_asked one option value (without_package r) every_namesake p q = absurd q
 same_asked one option value (without_package r) (without_kind k) p q = differ option (codes "--exclude") (codes "--ignore-kind") p.0 q.0 refl refl
 same_asked one option value (without_package r) (at_target u) p q = differ option (codes "--exclude") (codes "--target") p.0 q.0 refl refl
 same_asked one option value (without_package r) (without_package s) p q = ap without_package (one value r s p.1 q.1)
 same_asked one option value (without_package r) (by_program c) p q = differ option (codes "--exclude") (codes "--cargo") p.0 q.0 refl refl
 same_asked one option value (by_program c) every_member p q = absurd q
+same_asked one option value (by_program c) every_namesake p q = absurd q
 same_asked one option value (by_program c) (without_kind k) p q = differ option (codes "--cargo") (codes "--ignore-kind") p.0 q.0 refl refl
 same_asked one option value (by_program c) (at_target t) p q = differ option (codes "--cargo") (codes "--target") p.0 q.0 refl refl
 same_asked one option value (by_program c) (without_package s) p q = differ option (codes "--cargo") (codes "--exclude") p.0 q.0 refl refl
 same_asked one option value (by_program c) (by_program d) p q = ap by_program (sym p.1 ∙ q.1)
 
 wishes : OneReading → (words : List Text) (a b : Wish) (rest left : List Text) → Begins words a rest → Begins words b left → a ≡ b
-wishes one words a b rest left (inl p) (inl q) = p.1 ∙ sym q.1
-wishes one words a b rest left (inl p) (inr (option, value, asks, is)) = absurd (no_flag option value b asks (ap first (sym is ∙ p.0)))
-wishes one words a b rest left (inr (option, value, asks, is)) (inl q) = absurd (no_flag option value a asks (ap first (sym is ∙ q.0)))
+wishes one words a b rest left (inl (flag, named, has)) (inl (other, also, is)) = same_flag flag a b named (subst (λ o. IsFlag o b) (ap first (sym is ∙ has)) also)
+wishes one words a b rest left (inl (flag, named, has)) (inr (option, value, asks, is)) = absurd (no_flag option value b a asks (subst (λ o. IsFlag o a) (ap first (sym has ∙ is)) named))
+wishes one words a b rest left (inr (option, value, asks, is)) (inl (flag, named, has)) = absurd (no_flag option value a b asks (subst (λ o. IsFlag o b) (ap first (sym has ∙ is)) named))
 wishes one words a b rest left (inr (option, value, asks, is)) (inr (other, also, wants, equal)) =
     let same_option : other ≡ option = ap first (sym equal ∙ is) in
     let same_value : also ≡ value = ap (λ l. first (drop 1 l)) (sym equal ∙ is) in

@@ -14,7 +14,7 @@ use Rattle.krates_cli.specs.declared.run_error.RunError.TheVariants as errors
 
 -- which words there are
 abbrev pub usage_line : Text
-usage_line = codes "usage: krates-list [--workspace] [--ignore-kind KIND] [--target TRIPLE] [--exclude SPEC] [--cargo PROGRAM]\n"
+usage_line = codes "usage: krates-list [--workspace] [--ignore-kind KIND] [--target TRIPLE] [--exclude SPEC] [--cargo PROGRAM] [--all-named]\n"
 
 abbrev pub no_memory_line : Text
 no_memory_line = codes "refused: out of memory\n"

@@ -24,10 +24,12 @@ pub record OptionsModel : Type 0 where
   pub exclusions : List Specification
   -- the program whose output is the document, where one is asked for
   pub cargo : Option Text
+  -- whether a name in a feature reference means all dependencies that answer to it
+  pub all_named : Bool
 
 -- nothing is asked
 abbrev pub plain_options : OptionsModel
-plain_options = record { workspace = false; ignored = []; targets = []; exclusions = []; cargo = None }
+plain_options = record { workspace = false; ignored = []; targets = []; exclusions = []; cargo = None; all_named = false }
 
 -- options, seen by the bytes of their texts
 abbrev pub options_view : Options → OptionsModel
@@ -37,6 +39,7 @@ options_view o = record {
   targets = map string_bytes o.targets.items;
   exclusions = map spec_view o.exclusions.items;
   cargo = option_map string_bytes o.cargo;
+  all_named = o.all_named;
 }
 
 -- ---- words
@@ -44,6 +47,7 @@ options_view o = record {
 -- what one option asks for
 pub data Wish : Type 0 where
   every_member : Wish
+  every_namesake : Wish
   without_kind : DepKind → Wish
   at_target : Text → Wish
   without_package : Specification → Wish
@@ -57,6 +61,7 @@ later first (Some last) = Some last
 -- what is asked where this wish comes first
 abbrev pub with_wish : Wish → OptionsModel → OptionsModel
 with_wish every_member o = record o { workspace = true }
+with_wish every_namesake o = record o { all_named = true }
 with_wish (without_kind kind) o = record o { ignored = kind ∷ o.ignored }
 with_wish (at_target triple) o = record o { targets = triple ∷ o.targets }
 with_wish (without_package spec) o = record o { exclusions = spec ∷ o.exclusions }
@@ -80,6 +85,7 @@ pub data AsksWith : Text → Text → Wish → Type 0 where
 -- The words begin with an option that asks for this, and these words follow. A value is the next word, whatever it is.
 pub data AsksFirst : List Text → Wish → List Text → Type 0 where
   workspace : {rest : List Text} → AsksFirst (codes "--workspace" ∷ rest) every_member rest
+  all_named : {rest : List Text} → AsksFirst (codes "--all-named" ∷ rest) every_namesake rest
   valued : {option value : Text} {wish : Wish} {rest : List Text} → AsksWith option value wish → AsksFirst (option ∷ value ∷ rest) wish rest
 
 -- the words are options that ask for this
@@ -120,6 +126,7 @@ setting_of o = record {
   exclusions = o.exclusions;
   ignored = record { of_members = set_of o.ignored; of_others = set_of o.ignored };
   workspace = o.workspace;
+  all_named = o.all_named;
 }
 
 -- the setting that these options mean

@@ -5,13 +5,14 @@ use Rattle.krates_rules.specs.declared.kind.DepKind.{DepKind}
 use Rattle.krates_rules.specs.declared.kind.DepKind.TheVariants as kinds
 use Rattle.krates_rules.specs.declared.kind.IgnoredKinds.{IgnoredKinds}
 use Rattle.krates_rules.specs.declared.kind.KindSet.{KindSet}
-use Rattle.krates_cli.specs.Options.{OptionsModel, Wish, every_member, without_kind, at_target, without_package, by_program, AsksWith, AsksFirst}
+use Rattle.krates_cli.specs.Options.{OptionsModel, Wish, every_member, every_namesake, without_kind, at_target, without_package, by_program, AsksWith, AsksFirst}
 use Rattle.krates_cli.specs.declared.options.OptionsError.{OptionsError}
 use Rattle.krates_cli.specs.declared.options.OptionsError.TheVariants as errors
 
 -- what is asked where this wish comes last
 abbrev pub and_wish : OptionsModel → Wish → OptionsModel
 and_wish o every_member = record o { workspace = true }
+and_wish o every_namesake = record o { all_named = true }
 and_wish o (without_kind kind) = record o { ignored = o.ignored ++ kind ∷ [] }
 and_wish o (at_target triple) = record o { targets = o.targets ++ triple ∷ [] }
 and_wish o (without_package spec) = record o { exclusions = o.exclusions ++ spec ∷ [] }

@@ -23,7 +23,7 @@ use std::io::{ErrorKind, Read, Write};
 use std::process::Processes;
 
 const USAGE_LINE: &str =
-    "usage: krates-list [--workspace] [--ignore-kind KIND] [--target TRIPLE] [--exclude SPEC] [--cargo PROGRAM]\n";
+    "usage: krates-list [--workspace] [--ignore-kind KIND] [--target TRIPLE] [--exclude SPEC] [--cargo PROGRAM] [--all-named]\n";
 
 const NO_MEMORY_LINE: &str = "refused: out of memory\n";
 

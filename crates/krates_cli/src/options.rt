@@ -26,6 +26,8 @@ pub struct Options {
     pub exclusions: Vec<PkgSpec>,
     /// The program that is run as cargo for the document, in place of reading it: `--cargo`. The last one counts.
     pub cargo: Option<String>,
+    /// Whether a name in a feature reference means all dependencies that answer to it: `--all-named`.
+    pub all_named: bool,
 }
 
 /// Why words aren't read as options.
@@ -64,6 +66,7 @@ impl Options {
             targets: Vec::new(alloc),
             exclusions: Vec::new(alloc),
             cargo: None,
+            all_named: false,
         }
     }
 
@@ -82,6 +85,10 @@ impl Options {
     {
         if option == "--workspace" {
             self.workspace = true;
+            return Ok(values);
+        }
+        if option == "--all-named" {
+            self.all_named = true;
             return Ok(values);
         }
         let Some((value, rest)) = values.split_first() else {
@@ -138,7 +145,7 @@ fn pkg_spec(alloc: Global, word: &str) -> Result<PkgSpec, OptionsError>
 /// Reads options from words, which may come in any order and more than once. A value is the next word, whatever it is.
 ///
 /// The options are `--workspace`; `--ignore-kind KIND`, where KIND is `normal`, `build` or `dev`; `--target TRIPLE`;
-/// `--exclude SPEC`, where SPEC is a package specification; and `--cargo PROGRAM`. What is asked stands in the order of the
+/// `--exclude SPEC`, where SPEC is a package specification; `--cargo PROGRAM`; and `--all-named`. What is asked stands in the order of the
 /// words, and of several programs the last counts. It is refused as `Unknown` where the words are no such options, and only
 /// there; it may instead return `Memory`. Time O(length of the words).
 pub fn options_of(alloc: Global, words: &[String]) -> Result<Options, OptionsError>
@@ -165,6 +172,7 @@ pub fn set_options<S: Drop + 'static>(
     ensures index { OnOk result (builder.new.index ≡ builder.old.index) }
 {
     builder.workspace(options.workspace);
+    builder.all_named(options.all_named);
     ignore_kinds(builder, &options.ignored);
     builder.include_targets(targets_of(alloc, &options.targets)?)?;
     builder.exclude(options.exclusions.clone()?)?;

@@ -70,8 +70,8 @@ not_toggling : {text : Text} → HasOneReading text → (a : Reference) → IsRe
 not_toggling h a x not_strong not_weak true dep g y = not_weak dep g (one_form h _ _ x y)
 not_toggling h a x not_strong not_weak false dep g y = not_strong dep g (one_form h _ _ x y)
 
-pub value_simple : {text : Text} → HasOneReading text → (r : Resolved) (fs : List Fact) (p : Id) (name : Text) (b : Bool) → IsReference text (simple name) → (IsTrue b ↔ NamedIn r fs p name) → IsTrue b ↔ ValueIn r fs p text
-value_simple {text} h r fs p name b x told = (
+pub value_simple : {text : Text} → HasOneReading text → (r : Resolved) (s : SettingModel) (fs : List Fact) (p : Id) (name : Text) (b : Bool) → IsReference text (simple name) → (IsTrue b ↔ NamedIn r fs p name) → IsTrue b ↔ ValueIn r s fs p text
+value_simple {text} h r s fs p name b x told = (
   λ t. record {
     named = λ g y. subst (λ n. NamedIn r fs p n) (let e : simple name ≡ simple g = one_form h _ _ x y in cc) (told.0 t);
     toggled = λ weakly dep g y. absurd (not_toggling h (simple name) x (λ d n e. absurd cc) (λ d n e. absurd cc) weakly dep g y);
@@ -79,14 +79,14 @@ value_simple {text} h r fs p name b x told = (
   λ v. told.1 (v.named name x),
 )
 
-pub value_krate : {text : Text} → HasOneReading text → (r : Resolved) (fs : List Fact) (p : Id) (name : Text) → IsReference text (krate name) → ValueIn r fs p text
-value_krate {text} h r fs p name x = record {
+pub value_krate : {text : Text} → HasOneReading text → (r : Resolved) (s : SettingModel) (fs : List Fact) (p : Id) (name : Text) → IsReference text (krate name) → ValueIn r s fs p text
+value_krate {text} h r s fs p name x = record {
   named = λ g y. absurd (let e : krate name ≡ simple g = one_form h _ _ x y in cc);
   toggled = λ weakly dep g y. absurd (not_toggling h (krate name) x (λ d n e. absurd cc) (λ d n e. absurd cc) weakly dep g y);
 }
 
-pub value_strong : {text : Text} → HasOneReading text → (r : Resolved) (fs : List Fact) (p : Id) (dep g : Text) (b : Bool) → IsReference text (strong dep g) → (IsTrue b ↔ DepIn r fs p dep g) → IsTrue b ↔ ValueIn r fs p text
-value_strong {text} h r fs p dep g b x told = (
+pub value_strong : {text : Text} → HasOneReading text → (r : Resolved) (s : SettingModel) (fs : List Fact) (p : Id) (dep g : Text) (b : Bool) → IsReference text (strong dep g) → (IsTrue b ↔ DepIn r s fs p dep g) → IsTrue b ↔ ValueIn r s fs p text
+value_strong {text} h r s fs p dep g b x told = (
   λ t. record {
     named = λ n y. absurd (let e : strong dep g ≡ simple n = one_form h _ _ x y in cc);
     toggled = there t;
@@ -94,16 +94,16 @@ value_strong {text} h r fs p dep g b x told = (
   λ v. told.1 (v.toggled false dep g x),
 )
   where
-    there : IsTrue b → (weakly : Bool) (d n : Text) → IsReference text (toggling weakly d n) → DepIn r fs p d n
+    there : IsTrue b → (weakly : Bool) (d n : Text) → IsReference text (toggling weakly d n) → DepIn r s fs p d n
     there t true d n y = absurd (let e : strong dep g ≡ weak d n = one_form h _ _ x y in cc)
     there t false d n y =
         let e : strong dep g ≡ strong d n = one_form h _ _ x y in
         let one : dep ≡ d = cc in
         let other : g ≡ n = cc in
-        subst (λ m. DepIn r fs p d m) other (subst (λ m. DepIn r fs p m g) one (told.0 t))
+        subst (λ m. DepIn r s fs p d m) other (subst (λ m. DepIn r s fs p m g) one (told.0 t))
 
-pub value_weak : {text : Text} → HasOneReading text → (r : Resolved) (fs : List Fact) (p : Id) (dep g : Text) (b : Bool) → IsReference text (weak dep g) → (IsTrue b ↔ DepIn r fs p dep g) → IsTrue b ↔ ValueIn r fs p text
-value_weak {text} h r fs p dep g b x told = (
+pub value_weak : {text : Text} → HasOneReading text → (r : Resolved) (s : SettingModel) (fs : List Fact) (p : Id) (dep g : Text) (b : Bool) → IsReference text (weak dep g) → (IsTrue b ↔ DepIn r s fs p dep g) → IsTrue b ↔ ValueIn r s fs p text
+value_weak {text} h r s fs p dep g b x told = (
   λ t. record {
     named = λ n y. absurd (let e : weak dep g ≡ simple n = one_form h _ _ x y in cc);
     toggled = there t;
@@ -111,19 +111,19 @@ value_weak {text} h r fs p dep g b x told = (
   λ v. told.1 (v.toggled true dep g x),
 )
   where
-    there : IsTrue b → (weakly : Bool) (d n : Text) → IsReference text (toggling weakly d n) → DepIn r fs p d n
+    there : IsTrue b → (weakly : Bool) (d n : Text) → IsReference text (toggling weakly d n) → DepIn r s fs p d n
     there t false d n y = absurd (let e : weak dep g ≡ strong d n = one_form h _ _ x y in cc)
     there t true d n y =
         let e : weak dep g ≡ weak d n = one_form h _ _ x y in
         let one : dep ≡ d = cc in
         let other : g ≡ n = cc in
-        subst (λ m. DepIn r fs p d m) other (subst (λ m. DepIn r fs p m g) one (told.0 t))
+        subst (λ m. DepIn r s fs p d m) other (subst (λ m. DepIn r s fs p m g) one (told.0 t))
 
 -- each text among the values, and so each reference of the feature
-pub values_in : (r : Resolved) (fs : List Fact) (p : Id) (f : Text) (values : List Text) → AreValuesOf r p f values
-    → ((text : Text) → Contains values text → ValueIn r fs p text)
-    ↔ (((g : Text) → HasReference r p f (simple g) → NamedIn r fs p g) × ((weakly : Bool) (dep g : Text) → HasReference r p f (toggling weakly dep g) → DepIn r fs p dep g))
-values_in r fs p f values are = (
+pub values_in : (r : Resolved) (s : SettingModel) (fs : List Fact) (p : Id) (f : Text) (values : List Text) → AreValuesOf r p f values
+    → ((text : Text) → Contains values text → ValueIn r s fs p text)
+    ↔ (((g : Text) → HasReference r p f (simple g) → NamedIn r fs p g) × ((weakly : Bool) (dep g : Text) → HasReference r p f (toggling weakly dep g) → DepIn r s fs p dep g))
+values_in r s fs p f values are = (
   λ h. (
     (λ g has. (let a = (are (simple g)).0 has in (h a.text a.among).named g a.is)),
     λ weakly dep g has. (let a = (are (toggling weakly dep g)).0 has in (h a.text a.among).toggled weakly dep g a.is),
@@ -140,13 +140,13 @@ pub asked_told : {text : Text} → HasOneReading text → (r : Resolved) (s : Se
 asked_told {text} h r s fs p a dep b x asks only told = (
   λ t c by. (
       let same : by.reference ≡ a = one_form h by.reference a by.is x in
-      told.0 t c (subst (λ d. IsReferent r p d c) (only by.dep (subst (λ z. Demands z by.dep) same by.asks)) by.referent)),
+      told.0 t c (subst (λ d. IsReferent r s.all_named p d c) (only by.dep (subst (λ z. Demands z by.dep) same by.asks)) by.referent)),
   λ all. told.1 (λ c means. all c (record { reference = a; is = x; dep = dep; asks = asks; referent = means })),
 )
 
 -- or for nothing
 pub asked_nothing : {text : Text} → HasOneReading text → (r : Resolved) (s : SettingModel) (fs : List Fact) (p : Id) (a : Reference) → IsReference text a → ((dep : Text) → Demands a dep → ⊥) → AskedByIn r s fs p text
-asked_nothing {text} h r s fs p a x none c by = absurd (asks_nothing h r p c a x none by)
+asked_nothing {text} h r s fs p a x none c by = absurd (asks_nothing h r s p c a x none by)
 
 -- each text among the values, and so the feature
 pub asked_in : (r : Resolved) (s : SettingModel) (fs : List Fact) (p : Id) (f : Text) (values : List Text) → AreValuesOf r p f values → AskedAmongIn r s fs p values ↔ AskedIn r s fs p f
@@ -210,7 +210,7 @@ crate_given r s fs p lost closed here c k =
       declared = λ is l. lost _ (closed _ _ _ (lost_undeclared {e = e} l) (one (Contains fs) (Crate p) here));
     }
 
-asked_for : (r : Resolved) (s : SettingModel) (p : Id) (f : Text) (c : Id) (k : DepKindInfoModel) → Asks r p f c → IsAskedFor (questions r s) f (edge_between p c k)
+asked_for : (r : Resolved) (s : SettingModel) (p : Id) (f : Text) (c : Id) (k : DepKindInfoModel) → Asks r s p f c → IsAskedFor (questions r s) f (edge_between p c k)
 unfolding questions
 asked_for r s p f c k a = record { reference = a.reference; dep = a.dep; refers = a.refers; asks = a.asks; referent = a.referent }
 
@@ -237,7 +237,7 @@ feature_given r s fs p f lost closed here =
           });
     }
   where
-    at_edge : (weakly : Bool) (dep g : Text) (e : Edge) → HasReference r e.parent f (toggling weakly dep g) → IsReferent r e.parent dep e.child → Contains fs (Feature e.parent f) → Contains fs (Kept e) → ToggledIn r fs e.parent e.child g
+    at_edge : (weakly : Bool) (dep g : Text) (e : Edge) → HasReference r e.parent f (toggling weakly dep g) → IsReferent r s.all_named e.parent dep e.child → Contains fs (Feature e.parent f) → Contains fs (Kept e) → ToggledIn r fs e.parent e.child g
     at_edge true dep g e has is feature kept = record {
       toggled = λ lists. closed _ _ _ (toggled_weakly {e = e} {f = f} {g = g} {c = dep} has is lists) (two (Contains fs) (Feature e.parent f) (Kept e) feature kept);
       listed = λ lacks. lost _ (closed _ _ _ (lost_toggled_weakly {e = e} {f = f} {g = g} {c = dep} has is lacks) (two (Contains fs) (Feature e.parent f) (Kept e) feature kept));
@@ -247,9 +247,9 @@ feature_given r s fs p f lost closed here =
       listed = λ lacks. lost _ (closed _ _ _ (lost_toggled_strongly {e = e} {f = f} {g = g} {c = dep} has is lacks) (two (Contains fs) (Feature e.parent f) (Kept e) feature kept));
     }
 
-    over : (weakly : Bool) (dep g : Text) → HasReference r p f (toggling weakly dep g) → DepIn r fs p dep g
+    over : (weakly : Bool) (dep g : Text) → HasReference r p f (toggling weakly dep g) → DepIn r s fs p dep g
     over weakly dep g has c is e kept same child =
-        let h = at_edge weakly dep g e (subst (λ i. HasReference r i f (toggling weakly dep g)) (sym same) has) (subst (λ i. IsReferent r i dep e.child) (sym same) (subst (IsReferent r p dep) (sym child) is)) (subst (λ i. Contains fs (Feature i f)) (sym same) here) kept in
+        let h = at_edge weakly dep g e (subst (λ i. HasReference r i f (toggling weakly dep g)) (sym same) has) (subst (λ i. IsReferent r s.all_named i dep e.child) (sym same) (subst (IsReferent r s.all_named p dep) (sym child) is)) (subst (λ i. Contains fs (Feature i f)) (sym same) here) kept in
         subst (λ i. ToggledIn r fs p i g) child (subst (λ i. ToggledIn r fs i e.child g) same h)
 
 kept_given : (r : Resolved) (s : SettingModel) (fs : List Fact) (e : Edge) → ((c : Cause) → Contains fs (Lost c) → ⊥) → IsClosed (questions r s) fs → Contains fs (Kept e) → KeptIn r fs e

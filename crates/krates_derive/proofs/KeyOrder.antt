@@ -18,7 +18,7 @@ use Rattle.krates_derive.specs.declared.fact_key.Pair.{Pair}
 use Rattle.krates_derive.specs.declared.fact_key.Purpose.{Purpose}
 use Rattle.krates_derive.specs.declared.fact_key.Purpose.TheVariants as purposes
 use Rattle.krates_ids.specs.Identity.{Identity, IsSameId, id_cmp}
-use Rattle.krates_rules.specs.Facts.{Id, Edge, Fact, Crate, Feature, Kept, Toggled}
+use Rattle.krates_rules.specs.Facts.{Id, Edge, Crate}
 use Rattle.krates_rules.specs.Resolved.{id_of}
 
 -- the order tells ids that are the same

@@ -6,6 +6,7 @@ use Rattle.krates_rules.specs.Facts.{Id}
 use Rattle.krates_rules.specs.Referent.{IsReferent}
 use Rattle.krates_rules.specs.References.{Demands}
 use Rattle.krates_rules.specs.Resolved.{Resolved}
+use Rattle.krates_rules.specs.Setting.{SettingModel}
 use Rattle.krates_text.specs.FeatureReference.{Reference, weak, strong, simple, IsReference, HasOneReading}
 
 -- the text is no other reference
@@ -23,18 +24,18 @@ simple_told {text} h other name b x told = (
 )
 
 -- it asks for what it names
-pub asks_told : {text : Text} → HasOneReading text → (r : Resolved) (p child : Id) (a : Reference) (dep : Text) (b : Bool) → IsReference text a → Demands a dep → ((other : Text) → Demands a other → other ≡ dep)
-    → (IsTrue b ↔ IsReferent r p dep child) → IsTrue b ↔ AsksBy r p text child
-asks_told {text} h r p child a dep b x asks only told = (
+pub asks_told : {text : Text} → HasOneReading text → (r : Resolved) (s : SettingModel) (p child : Id) (a : Reference) (dep : Text) (b : Bool) → IsReference text a → Demands a dep → ((other : Text) → Demands a other → other ≡ dep)
+    → (IsTrue b ↔ IsReferent r s.all_named p dep child) → IsTrue b ↔ AsksBy r s p text child
+asks_told {text} h r s p child a dep b x asks only told = (
   λ t. record { reference = a; is = x; dep = dep; asks = asks; referent = told.0 t },
   λ y. told.1 (
       let same : y.reference ≡ a = one_form h y.reference a y.is x in
-      subst (λ d. IsReferent r p d child) (only y.dep (subst (λ z. Demands z y.dep) same y.asks)) y.referent),
+      subst (λ d. IsReferent r s.all_named p d child) (only y.dep (subst (λ z. Demands z y.dep) same y.asks)) y.referent),
 )
 
 -- or for nothing
-pub asks_nothing : {text : Text} → HasOneReading text → (r : Resolved) (p child : Id) (a : Reference) → IsReference text a → ((dep : Text) → Demands a dep → ⊥) → AsksBy r p text child → ⊥
-asks_nothing {text} h r p child a x none y =
+pub asks_nothing : {text : Text} → HasOneReading text → (r : Resolved) (s : SettingModel) (p child : Id) (a : Reference) → IsReference text a → ((dep : Text) → Demands a dep → ⊥) → AsksBy r s p text child → ⊥
+asks_nothing {text} h r s p child a x none y =
     let same : y.reference ≡ a = one_form h y.reference a y.is x in
     none y.dep (subst (λ z. Demands z y.dep) same y.asks)
 
@@ -42,38 +43,38 @@ asks_nothing {text} h r p child a x none y =
 form_of : Bool → Text → Text → Reference
 form_of weakly dep g = toggling weakly dep g
 
-pub strong_told : {text : Text} → HasOneReading text → (r : Resolved) (p child : Id) (weakly : Bool) (dep g name : Text) (b : Bool) → IsReference text (strong dep g)
-    → (IsTrue b ↔ (IsTrue (not weakly) × (g ≡ name) × IsReferent r p dep child)) → IsTrue b ↔ TogglesBy r p weakly text child name
-strong_told {text} h r p child true dep g name b x told = (
+pub strong_told : {text : Text} → HasOneReading text → (r : Resolved) (s : SettingModel) (p child : Id) (weakly : Bool) (dep g name : Text) (b : Bool) → IsReference text (strong dep g)
+    → (IsTrue b ↔ (IsTrue (not weakly) × (g ≡ name) × IsReferent r s.all_named p dep child)) → IsTrue b ↔ TogglesBy r s p weakly text child name
+strong_told {text} h r s p child true dep g name b x told = (
   λ t. absurd (let no : IsTrue (not true) = (told.0 t).0 in cc),
   λ y. absurd (let e : strong dep g ≡ weak y.dep name = one_form h _ _ x y.is in cc),
 )
-strong_told {text} h r p child false dep g name b x told = (
+strong_told {text} h r s p child false dep g name b x told = (
   λ t. (let w = told.0 t in record { dep = dep; is = subst (λ n. IsReference text (strong dep n)) w.1 x; referent = w.2 }),
   λ y. told.1 (
       let e : strong dep g ≡ strong y.dep name = one_form h _ _ x y.is in
       let same : y.dep ≡ dep = cc in
       let named : g ≡ name = cc in
-      (refl, named, subst (λ d. IsReferent r p d child) same y.referent)),
+      (refl, named, subst (λ d. IsReferent r s.all_named p d child) same y.referent)),
 )
 
-pub weak_told : {text : Text} → HasOneReading text → (r : Resolved) (p child : Id) (weakly : Bool) (dep g name : Text) (b : Bool) → IsReference text (weak dep g)
-    → (IsTrue b ↔ (IsTrue weakly × (g ≡ name) × IsReferent r p dep child)) → IsTrue b ↔ TogglesBy r p weakly text child name
-weak_told {text} h r p child false dep g name b x told = (
+pub weak_told : {text : Text} → HasOneReading text → (r : Resolved) (s : SettingModel) (p child : Id) (weakly : Bool) (dep g name : Text) (b : Bool) → IsReference text (weak dep g)
+    → (IsTrue b ↔ (IsTrue weakly × (g ≡ name) × IsReferent r s.all_named p dep child)) → IsTrue b ↔ TogglesBy r s p weakly text child name
+weak_told {text} h r s p child false dep g name b x told = (
   λ t. absurd (let no : IsTrue false = (told.0 t).0 in cc),
   λ y. absurd (let e : weak dep g ≡ strong y.dep name = one_form h _ _ x y.is in cc),
 )
-weak_told {text} h r p child true dep g name b x told = (
+weak_told {text} h r s p child true dep g name b x told = (
   λ t. (let w = told.0 t in record { dep = dep; is = subst (λ n. IsReference text (weak dep n)) w.1 x; referent = w.2 }),
   λ y. told.1 (
       let e : weak dep g ≡ weak y.dep name = one_form h _ _ x y.is in
       let same : y.dep ≡ dep = cc in
       let named : g ≡ name = cc in
-      (refl, named, subst (λ d. IsReferent r p d child) same y.referent)),
+      (refl, named, subst (λ d. IsReferent r s.all_named p d child) same y.referent)),
 )
 
 -- what is neither toggles nothing
-pub toggles_nothing : {text : Text} → HasOneReading text → (r : Resolved) (p child : Id) (weakly : Bool) (name : Text) (a : Reference) → IsReference text a
-    → ((d g : Text) → a ≡ strong d g → ⊥) → ((d g : Text) → a ≡ weak d g → ⊥) → TogglesBy r p weakly text child name → ⊥
-toggles_nothing {text} h r p child true name a x not_strong not_weak y = not_weak y.dep name (one_form h _ _ x y.is)
-toggles_nothing {text} h r p child false name a x not_strong not_weak y = not_strong y.dep name (one_form h _ _ x y.is)
+pub toggles_nothing : {text : Text} → HasOneReading text → (r : Resolved) (s : SettingModel) (p child : Id) (weakly : Bool) (name : Text) (a : Reference) → IsReference text a
+    → ((d g : Text) → a ≡ strong d g → ⊥) → ((d g : Text) → a ≡ weak d g → ⊥) → TogglesBy r s p weakly text child name → ⊥
+toggles_nothing {text} h r s p child true name a x not_strong not_weak y = not_weak y.dep name (one_form h _ _ x y.is)
+toggles_nothing {text} h r s p child false name a x not_strong not_weak y = not_strong y.dep name (one_form h _ _ x y.is)

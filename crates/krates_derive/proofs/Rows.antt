@@ -55,17 +55,17 @@ named_row r s n p c f g = (to, back n c)
     back : (n : ℕ) (c : Id) → Rule (questions r s) n (Feature p f ∷ []) (Feature c g) → (n ≡ 3) × (p ≡ c) × HasReference r p f (simple g) × ListsFeature r p g
     back n c (named refers lists) = (refl, refl, refers, lists)
 
-pub asked_row : (r : Resolved) (s : SettingModel) (n : ℕ) (p : Id) (f : Text) (e : Edge) → ((n ≡ 4) × (p ≡ e.parent) × Asks r e.parent f e.child × MayKeep r s e) ↔ Rule (questions r s) n (Feature p f ∷ []) (Kept e)
+pub asked_row : (r : Resolved) (s : SettingModel) (n : ℕ) (p : Id) (f : Text) (e : Edge) → ((n ≡ 4) × (p ≡ e.parent) × Asks r s e.parent f e.child × MayKeep r s e) ↔ Rule (questions r s) n (Feature p f ∷ []) (Kept e)
 unfolding questions
 asked_row r s n p f e = (to, back n p)
   where
-    to : (n ≡ 4) × (p ≡ e.parent) × Asks r e.parent f e.child × MayKeep r s e → Rule (questions r s) n (Feature p f ∷ []) (Kept e)
+    to : (n ≡ 4) × (p ≡ e.parent) × Asks r s e.parent f e.child × MayKeep r s e → Rule (questions r s) n (Feature p f ∷ []) (Kept e)
     to (is, same, a, m) =
         subst (λ k. Rule (questions r s) k (Feature p f ∷ []) (Kept e)) (sym is)
         (subst (λ i. Rule (questions r s) 4 (Feature i f ∷ []) (Kept e)) (sym same)
         (asked {e = e} {f = f} {d = m.dependency} (record { reference = a.reference; dep = a.dep; refers = a.refers; asks = a.asks; referent = a.referent }) (record { wanted = m.wanted; stands = m.stands })))
 
-    back : (n : ℕ) (p : Id) → Rule (questions r s) n (Feature p f ∷ []) (Kept e) → (n ≡ 4) × (p ≡ e.parent) × Asks r e.parent f e.child × MayKeep r s e
+    back : (n : ℕ) (p : Id) → Rule (questions r s) n (Feature p f ∷ []) (Kept e) → (n ≡ 4) × (p ≡ e.parent) × Asks r s e.parent f e.child × MayKeep r s e
     back n p (asked {d = d} a o) = (refl, refl, record { reference = a.reference; dep = a.dep; refers = a.refers; asks = a.asks; referent = a.referent }, record { dependency = d; wanted = o.wanted; stands = o.stands })
 
 pub required_row : (r : Resolved) (s : SettingModel) (n : ℕ) (p : Id) (e : Edge) → ((n ≡ 5) × (p ≡ e.parent) × MustKeep r s e) ↔ Rule (questions r s) n (Crate p ∷ []) (Kept e)
@@ -124,30 +124,30 @@ number_of true = 7
 number_of false = 4
 
 pub toggled_row : (r : Resolved) (s : SettingModel) (weakly : Bool) (p : Id) (f : Text) (e : Edge) (a c : Id) (g : Text)
-    → TogglesOver r weakly p f e a c g ↔ Rule (questions r s) (number_of weakly) (Feature p f ∷ Kept e ∷ []) (Toggled a c g)
+    → TogglesOver r s weakly p f e a c g ↔ Rule (questions r s) (number_of weakly) (Feature p f ∷ Kept e ∷ []) (Toggled a c g)
 unfolding questions
 toggled_row r s true p f e a c g = (to, back 7 refl p a c)
   where
-    to : TogglesOver r true p f e a c g → Rule (questions r s) 7 (Feature p f ∷ Kept e ∷ []) (Toggled a c g)
+    to : TogglesOver r s true p f e a c g → Rule (questions r s) 7 (Feature p f ∷ Kept e ∷ []) (Toggled a c g)
     to (same, by, child, t, lists) =
         subst (λ i. Rule (questions r s) 7 (Feature i f ∷ Kept e ∷ []) (Toggled a c g)) (sym same)
         (subst (λ i. Rule (questions r s) 7 (Feature e.parent f ∷ Kept e ∷ []) (Toggled i c g)) by
         (subst (λ i. Rule (questions r s) 7 (Feature e.parent f ∷ Kept e ∷ []) (Toggled e.parent i g)) child
         (toggled_weakly {e = e} {f = f} {g = g} {c = t.dep} t.refers t.referent lists)))
 
-    back : (n : ℕ) → n ≡ 7 → (p a c : Id) → Rule (questions r s) n (Feature p f ∷ Kept e ∷ []) (Toggled a c g) → TogglesOver r true p f e a c g
+    back : (n : ℕ) → n ≡ 7 → (p a c : Id) → Rule (questions r s) n (Feature p f ∷ Kept e ∷ []) (Toggled a c g) → TogglesOver r s true p f e a c g
     back n is p a c (toggled_weakly {c = dep} refers referent lists) = (refl, refl, refl, record { dep = dep; refers = refers; referent = referent }, lists)
     back n is p a c (toggled_strongly refers referent lists) = absurd cc
 toggled_row r s false p f e a c g = (to, back 4 refl p a c)
   where
-    to : TogglesOver r false p f e a c g → Rule (questions r s) 4 (Feature p f ∷ Kept e ∷ []) (Toggled a c g)
+    to : TogglesOver r s false p f e a c g → Rule (questions r s) 4 (Feature p f ∷ Kept e ∷ []) (Toggled a c g)
     to (same, by, child, t, lists) =
         subst (λ i. Rule (questions r s) 4 (Feature i f ∷ Kept e ∷ []) (Toggled a c g)) (sym same)
         (subst (λ i. Rule (questions r s) 4 (Feature e.parent f ∷ Kept e ∷ []) (Toggled i c g)) by
         (subst (λ i. Rule (questions r s) 4 (Feature e.parent f ∷ Kept e ∷ []) (Toggled e.parent i g)) child
         (toggled_strongly {e = e} {f = f} {g = g} {c = t.dep} t.refers t.referent lists)))
 
-    back : (n : ℕ) → n ≡ 4 → (p a c : Id) → Rule (questions r s) n (Feature p f ∷ Kept e ∷ []) (Toggled a c g) → TogglesOver r false p f e a c g
+    back : (n : ℕ) → n ≡ 4 → (p a c : Id) → Rule (questions r s) n (Feature p f ∷ Kept e ∷ []) (Toggled a c g) → TogglesOver r s false p f e a c g
     back n is p a c (toggled_weakly refers referent lists) = absurd cc
     back n is p a c (toggled_strongly {c = dep} refers referent lists) = (refl, refl, refl, record { dep = dep; refers = refers; referent = referent }, lists)
 

@@ -25,8 +25,8 @@ abbrev pub IsNamedBy : Resolved → ℕ → Id → Text → Id → Text → Type
 IsNamedBy r rule p f c g = (rule ≡ 3) × (p ≡ c) × HasReference r p f (simple g) × ListsFeature r p g
 
 -- a feature of the crate asks for the edge
-abbrev pub IsAskedBy : Resolved → ℕ → Id → Text → Edge → Type 0
-IsAskedBy r rule p f e = (rule ≡ 4) × (p ≡ e.parent) × Asks r e.parent f e.child
+abbrev pub IsAskedBy : Resolved → SettingModel → ℕ → Id → Text → Edge → Type 0
+IsAskedBy r s rule p f e = (rule ≡ 4) × (p ≡ e.parent) × Asks r s e.parent f e.child
 
 -- the edge goes to the crate, which lists the feature
 abbrev pub IsChildWith : Resolved → ℕ → Edge → Id → Text → Type 0
@@ -60,10 +60,10 @@ pub record AsksForFeature (r : Resolved) (e : Edge) (g : Text) : Type 0 where
   pub asks : AsksFeature dependency g
 
 -- the form is right, the feature is the one that is toggled, and the name means the child
-abbrev pub IsToggleOf : Resolved → Bool → Id → Text → Text → Id → Text → Type 0
-IsToggleOf r is_form p dep g child name = IsTrue is_form × (g ≡ name) × IsReferent r p dep child
+abbrev pub IsToggleOf : Resolved → SettingModel → Bool → Id → Text → Text → Id → Text → Type 0
+IsToggleOf r s is_form p dep g child name = IsTrue is_form × (g ≡ name) × IsReferent r s.all_named p dep child
 
 -- a feature of the edge's parent toggles a feature of its child, weakly or strongly
-abbrev pub TogglesOver : Resolved → Bool → Id → Text → Edge → Id → Id → Text → Type 0
-TogglesOver r weakly p f e a c g =
-    (p ≡ e.parent) × (e.parent ≡ a) × (e.child ≡ c) × Toggles r e.parent weakly f e.child g × ListsFeature r e.child g
+abbrev pub TogglesOver : Resolved → SettingModel → Bool → Id → Text → Edge → Id → Id → Text → Type 0
+TogglesOver r s weakly p f e a c g =
+    (p ≡ e.parent) × (e.parent ≡ a) × (e.child ≡ c) × Toggles r s e.parent weakly f e.child g × ListsFeature r e.child g

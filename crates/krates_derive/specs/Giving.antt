@@ -57,7 +57,7 @@ CrateIn r s fs p = (c : Id) (k : DepKindInfoModel) → EdgeIn r s fs (edge_betwe
 
 -- the edges between the two are in the list, where the feature asks for them
 abbrev pub AskedOf : Resolved → SettingModel → List Fact → Id → Text → Id → Type 0
-AskedOf r s fs p f c = Asks r p f c → (k : DepKindInfoModel) → EdgeIn r s fs (edge_between p c k) true
+AskedOf r s fs p f c = Asks r s p f c → (k : DepKindInfoModel) → EdgeIn r s fs (edge_between p c k) true
 
 -- all that it asks for
 abbrev pub AskedIn : Resolved → SettingModel → List Fact → Id → Text → Type 0
@@ -65,30 +65,30 @@ AskedIn r s fs p f = (c : Id) → AskedOf r s fs p f c
 
 -- the edges to each crate that the name means are in the list
 abbrev pub EdgesToIn : Resolved → SettingModel → List Fact → Id → Text → Type 0
-EdgesToIn r s fs p dep = (c : Id) → IsReferent r p dep c → (k : DepKindInfoModel) → EdgeIn r s fs (edge_between p c k) true
+EdgesToIn r s fs p dep = (c : Id) → IsReferent r s.all_named p dep c → (k : DepKindInfoModel) → EdgeIn r s fs (edge_between p c k) true
 
 -- the edges that the reference of the crate asks for
 abbrev pub AskedByIn : Resolved → SettingModel → List Fact → Id → Text → Type 0
-AskedByIn r s fs p text = (c : Id) → AsksBy r p text c → (k : DepKindInfoModel) → EdgeIn r s fs (edge_between p c k) true
+AskedByIn r s fs p text = (c : Id) → AsksBy r s p text c → (k : DepKindInfoModel) → EdgeIn r s fs (edge_between p c k) true
 
 -- the feature of the other crate is toggled, where the list has an edge there
 abbrev pub MeantIn : Resolved → List Fact → Id → Id → Text → Type 0
 MeantIn r fs p c g = (e : Edge) → Contains fs (Kept e) → e.parent ≡ p → e.child ≡ c → ToggledIn r fs p c g
 
 -- the feature of each crate that the name means
-abbrev pub DepIn : Resolved → List Fact → Id → Text → Text → Type 0
-DepIn r fs p dep g = (c : Id) → IsReferent r p dep c → MeantIn r fs p c g
+abbrev pub DepIn : Resolved → SettingModel → List Fact → Id → Text → Text → Type 0
+DepIn r s fs p dep g = (c : Id) → IsReferent r s.all_named p dep c → MeantIn r fs p c g
 
 -- what a reference of a feature of the crate names or toggles
-pub record ValueIn (r : Resolved) (fs : List Fact) (p : Id) (text : Text) : Type 0 where
+pub record ValueIn (r : Resolved) (s : SettingModel) (fs : List Fact) (p : Id) (text : Text) : Type 0 where
   pub named : (g : Text) → IsReference text (simple g) → NamedIn r fs p g
-  pub toggled : (weakly : Bool) (dep g : Text) → IsReference text (toggling weakly dep g) → DepIn r fs p dep g
+  pub toggled : (weakly : Bool) (dep g : Text) → IsReference text (toggling weakly dep g) → DepIn r s fs p dep g
 
 -- what a feature gives
 pub record FeatureIn (r : Resolved) (s : SettingModel) (fs : List Fact) (p : Id) (f : Text) : Type 0 where
   pub crate : Contains fs (Crate p)
   pub named : (g : Text) → HasReference r p f (simple g) → NamedIn r fs p g
-  pub toggled : (weakly : Bool) (dep g : Text) → HasReference r p f (toggling weakly dep g) → DepIn r fs p dep g
+  pub toggled : (weakly : Bool) (dep g : Text) → HasReference r p f (toggling weakly dep g) → DepIn r s fs p dep g
   pub asked : AskedIn r s fs p f
 
 -- what a declared dependency asks of its crate
@@ -132,8 +132,8 @@ abbrev pub NamesIn : Resolved → List Fact → Id → List Text → Type 0
 NamesIn r fs c names = (g : Text) → Contains names g → NamedIn r fs c g
 
 -- what these references name or toggle
-abbrev pub ValuesIn : Resolved → List Fact → Id → List Text → Type 0
-ValuesIn r fs p texts = (text : Text) → Contains texts text → ValueIn r fs p text
+abbrev pub ValuesIn : Resolved → SettingModel → List Fact → Id → List Text → Type 0
+ValuesIn r s fs p texts = (text : Text) → Contains texts text → ValueIn r s fs p text
 
 -- the edges that these references ask for
 abbrev pub AskedAmongIn : Resolved → SettingModel → List Fact → Id → List Text → Type 0

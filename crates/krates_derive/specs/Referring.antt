@@ -6,6 +6,7 @@ use Rattle.krates_rules.specs.Features.{HasReference}
 use Rattle.krates_rules.specs.Referent.{IsReferent}
 use Rattle.krates_rules.specs.References.{Demands}
 use Rattle.krates_rules.specs.Resolved.{Resolved}
+use Rattle.krates_rules.specs.Setting.{SettingModel}
 use Rattle.krates_text.specs.FeatureReference.{Reference, IsReference, simple, strong, weak}
 
 -- one of the texts is the feature of this name
@@ -13,24 +14,24 @@ abbrev pub HasSimple : List Text → Text → Type 0
 HasSimple values name = (text : Text) × Contains values text × IsReference text (simple name)
 
 -- the text is a reference of the crate that asks for the edges to the child
-pub record AsksBy (r : Resolved) (p : Id) (text : Text) (child : Id) : Type 0 where
+pub record AsksBy (r : Resolved) (s : SettingModel) (p : Id) (text : Text) (child : Id) : Type 0 where
   pub reference : Reference
   pub is : IsReference text reference
   pub dep : Text
   pub asks : Demands reference dep
-  pub referent : IsReferent r p dep child
+  pub referent : IsReferent r s.all_named p dep child
 
 -- one of the texts is one
-abbrev pub AsksAmong : Resolved → Id → List Text → Id → Type 0
-AsksAmong r p values child = (text : Text) × Contains values text × AsksBy r p text child
+abbrev pub AsksAmong : Resolved → SettingModel → Id → List Text → Id → Type 0
+AsksAmong r s p values child = (text : Text) × Contains values text × AsksBy r s p text child
 
 -- a reference of the crate's feature asks for the edges to the child
-pub record Asks (r : Resolved) (p : Id) (f : Text) (child : Id) : Type 0 where
+pub record Asks (r : Resolved) (s : SettingModel) (p : Id) (f : Text) (child : Id) : Type 0 where
   pub reference : Reference
   pub dep : Text
   pub refers : HasReference r p f reference
   pub asks : Demands reference dep
-  pub referent : IsReferent r p dep child
+  pub referent : IsReferent r s.all_named p dep child
 
 -- a weak reference, or a strong one
 abbrev pub toggling : Bool → Text → Text → Reference
@@ -38,17 +39,17 @@ toggling true dep g = weak dep g
 toggling false dep g = strong dep g
 
 -- the text is a reference of the crate, weak or strong, to this feature of the child
-pub record TogglesBy (r : Resolved) (p : Id) (weakly : Bool) (text : Text) (child : Id) (g : Text) : Type 0 where
+pub record TogglesBy (r : Resolved) (s : SettingModel) (p : Id) (weakly : Bool) (text : Text) (child : Id) (g : Text) : Type 0 where
   pub dep : Text
   pub is : IsReference text (toggling weakly dep g)
-  pub referent : IsReferent r p dep child
+  pub referent : IsReferent r s.all_named p dep child
 
 -- one of the texts is one
-abbrev pub TogglesAmong : Resolved → Id → Bool → List Text → Id → Text → Type 0
-TogglesAmong r p weakly values child g = (text : Text) × Contains values text × TogglesBy r p weakly text child g
+abbrev pub TogglesAmong : Resolved → SettingModel → Id → Bool → List Text → Id → Text → Type 0
+TogglesAmong r s p weakly values child g = (text : Text) × Contains values text × TogglesBy r s p weakly text child g
 
 -- a reference of the crate's feature, weak or strong, is to this feature of the child
-pub record Toggles (r : Resolved) (p : Id) (weakly : Bool) (f : Text) (child : Id) (g : Text) : Type 0 where
+pub record Toggles (r : Resolved) (s : SettingModel) (p : Id) (weakly : Bool) (f : Text) (child : Id) (g : Text) : Type 0 where
   pub dep : Text
   pub refers : HasReference r p f (toggling weakly dep g)
-  pub referent : IsReferent r p dep child
+  pub referent : IsReferent r s.all_named p dep child

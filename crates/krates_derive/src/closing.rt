@@ -178,7 +178,7 @@ fn is_feature_in<'a>(
         return Ok(false);
     }
     let values = claim.document.values(krate, feature);
-    if !are_values_in(claim, krate, values) {
+    if !are_values_in(claim, krate, values)? {
         return Ok(false);
     }
     are_asked_in(claim, krate, values)
@@ -301,36 +301,47 @@ fn are_edges_to_in<'a>(claim: &Claim<'a, '_>, krate: &'a Kid, dep: &str) -> Resu
         (λ b. IsTrue b ↔ EdgesToIn (document_in claim.now) claim.now.setting.now (facts_in claim.now)
         (id_of krate.now) dep.now) }
 {
-    match claim.document.meant(krate, dep) {
-        Some(child) => are_edges_in(claim, krate, child, true),
-        None => Ok(true),
+    let referents = claim
+        .document
+        .referents(claim.alloc, claim.setting, krate, dep)?;
+    for referent in &referents {
+        if !are_edges_in(claim, krate, referent.id, true)? {
+            return Ok(false);
+        }
     }
+    Ok(true)
 }
 
 // ---- references
 
 /// Whether what each reference of a feature names or toggles stands in the list.
-fn are_values_in<'a>(claim: &Claim<'a, '_>, krate: &'a Kid, values: &'a [String]) -> bool
+fn are_values_in<'a>(
+    claim: &Claim<'a, '_>,
+    krate: &'a Kid,
+    values: &'a [String],
+) -> Result<bool, AllocError>
     ensures { let texts = map text_view values.now in
-        IsTrue result ↔ ValuesIn (document_in claim.now) (facts_in claim.now) (id_of krate.now) texts }
+        IfOk result (λ b. IsTrue b
+        ↔ ValuesIn (document_in claim.now) claim.now.setting.now (facts_in claim.now) (id_of krate.now) texts) }
 {
     for value in values {
-        if !is_value_in(claim, krate, value.as_str()) {
-            return false;
+        if !is_value_in(claim, krate, value.as_str())? {
+            return Ok(false);
         }
     }
-    true
+    Ok(true)
 }
 
 /// Whether what a reference of a feature names or toggles stands in the list.
-fn is_value_in<'a>(claim: &Claim<'a, '_>, krate: &'a Kid, text: &'a str) -> bool
-    ensures { IsTrue result
-        ↔ ValueIn (document_in claim.now) (facts_in claim.now) (id_of krate.now) text.now }
+fn is_value_in<'a>(claim: &Claim<'a, '_>, krate: &'a Kid, text: &'a str) -> Result<bool, AllocError>
+    ensures { IfOk result
+        (λ b. IsTrue b ↔ ValueIn (document_in claim.now) claim.now.setting.now (facts_in claim.now)
+        (id_of krate.now) text.now) }
 {
     laws::one_reference();
     match features::ParsedFeature::from(text).feat() {
-        features::Feature::Simple(name) => is_named_in(claim, krate, name),
-        features::Feature::Krate(_) => true,
+        features::Feature::Simple(name) => Ok(is_named_in(claim, krate, name)),
+        features::Feature::Krate(_) => Ok(true),
         features::Feature::Strong {
             krate: dep,
             feature,
@@ -343,14 +354,25 @@ fn is_value_in<'a>(claim: &Claim<'a, '_>, krate: &'a Kid, text: &'a str) -> bool
 }
 
 /// Whether a feature of what a name means is toggled, where the list has an edge there.
-fn is_dep_in<'a>(claim: &Claim<'a, '_>, krate: &'a Kid, dep: &str, name: &'a str) -> bool
-    ensures { IsTrue result
-        ↔ DepIn (document_in claim.now) (facts_in claim.now) (id_of krate.now) dep.now name.now }
+fn is_dep_in<'a>(
+    claim: &Claim<'a, '_>,
+    krate: &'a Kid,
+    dep: &str,
+    name: &'a str,
+) -> Result<bool, AllocError>
+    ensures { IfOk result
+        (λ b. IsTrue b ↔ DepIn (document_in claim.now) claim.now.setting.now (facts_in claim.now)
+        (id_of krate.now) dep.now name.now) }
 {
-    match claim.document.meant(krate, dep) {
-        Some(child) => is_meant_in(claim, krate, child, name),
-        None => true,
+    let referents = claim
+        .document
+        .referents(claim.alloc, claim.setting, krate, dep)?;
+    for referent in &referents {
+        if !is_meant_in(claim, krate, referent.id, name) {
+            return Ok(false);
+        }
     }
+    Ok(true)
 }
 
 /// Whether a feature of a crate is toggled, where the list has an edge there.

@@ -180,17 +180,17 @@ fn is_named<'a>(
 
 /// Whether a feature of a crate asks for an edge.
 fn is_asked<'a>(
-    document: &Document<'a>,
+    basis: &Basis<'a, '_>,
     rule: u8,
     feature: &ToldFeature<'a>,
     edge: &ToldEdge<'a>,
 ) -> bool
     ensures { let f = feature.now in
-        IsTrue result ↔ IsAskedBy (as_resolved document.now) rule (id_of f.krate.now) f.name.now (told_edge edge.now) }
+        IsTrue result ↔ IsAskedBy (document_of basis.now) basis.now.setting.now rule (id_of f.krate.now) f.name.now (told_edge edge.now) }
 {
     rule == 4
         && is_same(feature.krate, edge.parent)
-        && asks(document, edge.parent, feature.name, edge.child)
+        && asks(basis, edge.parent, feature.name, edge.child)
 }
 
 /// Whether an edge follows from a feature.
@@ -204,7 +204,7 @@ fn is_kept_by_feature<'a>(
         (λ b. IsTrue b ↔ Rule (rules_of basis.now) rule (told_feature feature.now ∷ [])
         (Kept (told_edge edge.now))) }
 {
-    if !is_asked(basis.document, rule, feature, edge) {
+    if !is_asked(basis, rule, feature, edge) {
         return Ok(false);
     }
     may_keep(basis, edge)
@@ -259,16 +259,17 @@ fn is_declared<'a>(
 
 /// Whether a feature is toggled over an edge, by weak references or by strong ones.
 fn toggles_over<'a>(
-    document: &Document<'a>,
+    basis: &Basis<'a, '_>,
     weakly: bool,
     feature: &ToldFeature<'a>,
     edge: &ToldEdge<'a>,
     toggle: &ToldToggle<'a>,
 ) -> bool
-    ensures { let r = as_resolved document.now in
+    ensures { let r = document_of basis.now in
+        let s = basis.now.setting.now in
         let f = feature.now in
         let t = toggle.now in
-        IsTrue result ↔ TogglesOver r weakly (id_of f.krate.now) f.name.now (told_edge edge.now) (id_of t.by.now) (id_of t.krate.now) t.name.now }
+        IsTrue result ↔ TogglesOver r s weakly (id_of f.krate.now) f.name.now (told_edge edge.now) (id_of t.by.now) (id_of t.krate.now) t.name.now }
 {
     if !is_between(feature.krate, edge, toggle) {
         return false;
@@ -281,10 +282,10 @@ fn toggles_over<'a>(
         krate: edge.child,
         name: toggle.name,
     };
-    if !toggles(document, weakly, &by, &toggled) {
+    if !toggles(basis, weakly, &by, &toggled) {
         return false;
     }
-    document.lists(edge.child, toggle.name)
+    basis.document.lists(edge.child, toggle.name)
 }
 
 /// Whether the edge goes from the crate, which toggles, to that whose feature is toggled.
@@ -310,10 +311,10 @@ fn is_toggled<'a>(
         IsTrue result ↔ Rule (rules_of basis.now) rule premises (told_toggle toggle.now) }
 {
     if rule == 4 {
-        return toggles_over(basis.document, false, feature, edge, toggle);
+        return toggles_over(basis, false, feature, edge, toggle);
     }
     if rule == 7 {
-        return toggles_over(basis.document, true, feature, edge, toggle);
+        return toggles_over(basis, true, feature, edge, toggle);
     }
     false
 }

@@ -16,6 +16,9 @@ fn set(alloc: Global, builder: &mut Builder, section: &str) -> Result<(), Fail> 
     if setter == "ignore" {
         builder.ignore_kind(DepKind::from(kind_named(text)), Scope::All);
     }
+    if setter == "names" {
+        builder.all_named(text == "all");
+    }
     if setter == "without" {
         let specs = vec![in alloc; PkgSpec::from_str(alloc, text)?]?;
         builder.exclude(specs)?;

@@ -112,6 +112,20 @@ const NEEDED: &[Row] = &[
         "a real?&as=alias;x=dep:alias|real / facts +a a/x a>real +real",
         "yes open open open open",
     ),
+    // a name that means the least of two versions, and both
+    (
+        "a d?;x=dep:d|d@0.10.0|d@0.9.0 / nodes a d@0.10.0 d@0.9.0;x|d@0.10.0|d@0.9.0 / facts +a a/x a>d@0.10.0 +d@0.10.0",
+        "yes open open open open",
+    ),
+    (
+        "a d?;x=dep:d|d@0.10.0|d@0.9.0 / nodes a d@0.10.0 d@0.9.0;x|d@0.10.0|d@0.9.0 / names all / facts +a a/x a>d@0.10.0 +d@0.10.0 a>d@0.9.0 +d@0.9.0",
+        "yes open open open open open open",
+    ),
+    // a feature of both, to each of which an edge is kept
+    (
+        "a d;x=d?/f|d@0.10.0;f=|d@0.9.0;f= / nodes a d@0.10.0 d@0.9.0;x|d@0.10.0;f|d@0.9.0;f / names all / facts +a a/x a>d@0.10.0 +d@0.10.0 a>d@0.9.0 +d@0.9.0 a>d@0.10.0/f d@0.10.0/f a>d@0.9.0/f d@0.9.0/f",
+        "yes open open open open open open open open open open",
+    ),
     // every crate needs the other
     ("a b|b a / facts +a a>b +b b>a", "yes open open open open"),
 ];
@@ -159,6 +173,11 @@ pub(crate) const ADDED: &[Row] = &[
     (
         "a b&dev&with=y|b;y= / ignore dev / facts +a a>b:dev +b b/y",
         "yes",
+    ),
+    // what is closed where a name means the least is open where it means all
+    (
+        "a d?;x=dep:d|d@0.10.0|d@0.9.0 / nodes a d@0.10.0 d@0.9.0;x|d@0.10.0|d@0.9.0 / names all / facts +a a/x a>d@0.10.0 +d@0.10.0",
+        "open",
     ),
     // an edge that no node lists gives its crate alone
     ("a|b / facts +a a>b", "open"),

@@ -139,6 +139,15 @@ pub(crate) const STRONG: &[Row] = &[
         "a b&dev;x=b/y|b;y= / steps 1 a/x; 4 a>b:dev 0; 4 b>b/y 0 1; 7 b/y 2",
         "step 2",
     ),
+    // a reference to all versions of a crate, and to the least of them
+    (
+        "a d?;x=dep:d|d@0.10.0|d@0.9.0 / nodes a d@0.10.0 d@0.9.0;x|d@0.10.0|d@0.9.0 / names all / steps 1 a/x; 4 a>d@0.9.0 0; 5 +d@0.9.0 1",
+        "yes",
+    ),
+    (
+        "a d?;x=dep:d|d@0.10.0|d@0.9.0 / nodes a d@0.10.0 d@0.9.0;x|d@0.10.0|d@0.9.0 / steps 1 a/x; 4 a>d@0.9.0 0; 5 +d@0.9.0 1",
+        "step 1",
+    ),
     // a reference to a crate that isn't a dependency is skipped; one feature enables another
     ("a;x=nope/y / steps 1 a/x; 2 +a 0", "yes"),
     ("a;x=nope/y / steps 1 a/x; 2 +a 0; 3 a/y 0", "step 2"),

@@ -6,7 +6,7 @@
 //! - `a>b/f`: a feature of the first crate toggles one of the second.
 //!
 //! A step is the number of its rule, its fact, and the numbers of the steps that it uses, as `4 a>b 1`; a semicolon divides
-//! steps. A line begins with a document, has the sections `ignore KIND` and `without SPECS` where something is set, and ends with
+//! steps. A line begins with a document, has the sections `ignore KIND`, `without SPECS` and `names all` where something is set, and ends with
 //! the section `steps` or the section `facts`.
 
 use krates_derive::{CheckError, Derivation, Fact, Step};
@@ -112,6 +112,9 @@ pub(crate) fn setting_of(alloc: Global, line: &str) -> Result<Setting, Fail> {
         let (setter, text) = section.split_once(' ').unwrap_or((section, ""));
         if setter == "ignore" {
             setting.ignore_kind(DepKind::from(kind_named(text)), Scope::All);
+        }
+        if setter == "names" {
+            setting.all_named(text == "all");
         }
         if setter == "without" {
             let mut specs = Vec::new(alloc);

@@ -27,6 +27,7 @@ pub struct Setting {
     exclusions: Vec<PkgSpec>,
     ignored: IgnoredKinds,
     workspace: bool,
+    all_named: bool,
 }
 
 impl Model for Setting {
@@ -38,6 +39,7 @@ impl Model for Setting {
       exclusions = map spec_view s.exclusions.items;
       ignored = s.ignored;
       workspace = s.workspace;
+      all_named = s.all_named;
     } };
 }
 
@@ -55,6 +57,7 @@ impl Setting {
                 of_others: NO_KINDS,
             },
             workspace: false,
+            all_named: false,
         }
     }
 
@@ -72,6 +75,14 @@ impl Setting {
         ensures { self.new ≡ record self.old { workspace = is_on } }
     {
         self.workspace = is_on;
+    }
+
+    /// Whether a dependency's name in a feature reference, as `dep:NAME` or `NAME/FEATURE`, means all dependencies that answer
+    /// to it, and not the least of them alone, by id. The last call counts. Time O(1).
+    pub fn all_named(&mut self, is_on: bool)
+        ensures { self.new ≡ record self.old { all_named = is_on } }
+    {
+        self.all_named = is_on;
     }
 
     /// Leaves out the packages that one of the specifications fits, beside those that are left out already. After a
@@ -159,6 +170,13 @@ impl Setting {
         ensures { result ≡ self.now.workspace }
     {
         self.workspace
+    }
+
+    /// Whether a name in a feature reference means all dependencies that answer to it. Time O(1).
+    pub fn is_all_named(&self) -> bool
+        ensures { result ≡ self.now.all_named }
+    {
+        self.all_named
     }
 }
 

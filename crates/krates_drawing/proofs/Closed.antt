@@ -90,28 +90,28 @@ found r s t i g h enabled lost = found_step r s t i g (list_any (is_feature i g)
 -- ---- the references of a feature
 
 -- the feature has a reference, and it names this
-record IsNaming (r : Resolved) (n : Named) (m : Meaning) : Type 0 where
+record IsNaming (r : Resolved) (s : SettingModel) (n : Named) (m : Meaning) : Type 0 where
   reference : Reference
   has : HasReference r n.krate n.name reference
-  names_it : Names r n.krate reference m
+  names_it : Names r s.all_named n.krate reference m
 
-naming_in : (r : Resolved) (n : Named) (m : Meaning) (p : PackageModel) (o : Option (List Text)) → named p.features n.name ≡ o → HasPackage r n.krate p → AllZip (IsMeaning r n.krate) (unwrap_or o []) n.meanings
-    → Member n.meanings m → IsNaming r n m
-naming_in r n m p None e h z at = let w = partner_of (λ m text. IsMeaning r n.krate text m) n.meanings [] m (swapped (IsMeaning r n.krate) [] n.meanings z) at in absurd w.member
-naming_in r n m p (Some values) e h z at =
-    let w = partner_of (λ m text. IsMeaning r n.krate text m) n.meanings values m (swapped (IsMeaning r n.krate) values n.meanings z) at in
+naming_in : (r : Resolved) (s : SettingModel) (n : Named) (m : Meaning) (p : PackageModel) (o : Option (List Text)) → named p.features n.name ≡ o → HasPackage r n.krate p → AllZip (IsMeaning r s.all_named n.krate) (unwrap_or o []) n.meanings
+    → Member n.meanings m → IsNaming r s n m
+naming_in r s n m p None e h z at = let w = partner_of (λ m text. IsMeaning r s.all_named n.krate text m) n.meanings [] m (swapped (IsMeaning r s.all_named n.krate) [] n.meanings z) at in absurd w.member
+naming_in r s n m p (Some values) e h z at =
+    let w = partner_of (λ m text. IsMeaning r s.all_named n.krate text m) n.meanings values m (swapped (IsMeaning r s.all_named n.krate) values n.meanings z) at in
     record {
       reference = w.related.reference;
       has = record { pkg = p; has_package = h; values = values; feature = e; text = w.partner; among = contains_of values w.partner w.member; is = w.related.is };
       names_it = w.related.names;
     }
 
-naming : (r : Resolved) (s : SettingModel) (t : Sheet) (n : Named) (m : Meaning) → Holds r s t → Member t.features n → Member n.meanings m → IsNaming r n m
-naming r s t n m h at among = let w = (h.named_of n at).is_named in naming_in r n m w.pkg (named w.pkg.features n.name) refl w.has_package w.meanings among
+naming : (r : Resolved) (s : SettingModel) (t : Sheet) (n : Named) (m : Meaning) → Holds r s t → Member t.features n → Member n.meanings m → IsNaming r s n m
+naming r s t n m h at among = let w = (h.named_of n at).is_named in naming_in r s n m w.pkg (named w.pkg.features n.name) refl w.has_package w.meanings among
 
 -- ---- what a reference names is enabled
 
-own_enabled : (r : Resolved) (s : SettingModel) (t : Sheet) (n : Named) (g : Text) (reference : Reference) → Holds r s t → Derivable (questions r s) (Feature n.krate n.name) → HasReference r n.krate n.name reference → Names r n.krate reference (OwnFeature g)
+own_enabled : (r : Resolved) (s : SettingModel) (t : Sheet) (n : Named) (g : Text) (reference : Reference) → Holds r s t → Derivable (questions r s) (Feature n.krate n.name) → HasReference r n.krate n.name reference → Names r s.all_named n.krate reference (OwnFeature g)
     → HasFeature t n.krate g
 unfolding questions
 own_enabled r s t n g (references.simple f) h d has is =
@@ -128,7 +128,7 @@ toggle_enabled q p c g d = follows (rules.toggled_feature {p = p} {c = c} {g = g
 
 -- a reference of the parent's feature to the child's feature enables that, where the edge is kept
 other_enabled : (r : Resolved) (s : SettingModel) (t : Sheet) (e : Edge) (f g : Text) (ids : List Id) (reference : Reference) → Holds r s t → Derivable (questions r s) (Kept e) → Derivable (questions r s) (Feature e.parent f)
-    → HasReference r e.parent f reference → Names r e.parent reference (FeatureOf ids g) → Member ids e.child → HasFeature t e.child g
+    → HasReference r e.parent f reference → Names r s.all_named e.parent reference (FeatureOf ids g) → Member ids e.child → HasFeature t e.child g
 unfolding questions
 other_enabled r s t e f g ids (references.strong c x) h kept d has is m =
     let q = questions r s in
@@ -155,7 +155,7 @@ named_enabled r s t n ids g l h at among means kept e =
     let w = naming r s t n (FeatureOf ids g) h at among in
     let d = subst (λ i. Derivable (questions r s) (Feature i n.name)) (sym e) (h.feature_of n at) in
     let has = subst (λ i. HasReference r i n.name w.reference) (sym e) w.has in
-    let is = subst (λ i. Names r i w.reference (FeatureOf ids g)) (sym e) w.names_it in
+    let is = subst (λ i. Names r s.all_named i w.reference (FeatureOf ids g)) (sym e) w.names_it in
     other_enabled r s t l.edge n.name g ids w.reference h (h.link_of l kept) d has is means
 
 -- ---- each arrow's ends

@@ -1,5 +1,5 @@
 -- What is gathered of a selection is its sheet.
-use Rattle.std.proofs.Common.{◌≡◌, inl, inr, ℕ, List, [], ◌∷◌, map, zip, Some, slice_get, filter, refl, sym, ap, ◌∙◌, subst}
+use Rattle.std.proofs.Common.{◌≡◌, Bool, inl, inr, ℕ, List, [], ◌∷◌, map, zip, Some, slice_get, filter, refl, sym, ap, ◌∙◌, subst}
 use Rattle.std.proofs.lemmas.List.Elements.{All-contains}
 use Rattle.std.proofs.lemmas.Option.{none-some, same_Some}
 use Rattle.std.specs.Global.{Vec}
@@ -57,8 +57,8 @@ link_told r s e v none w some (gives p n d hp hn at is) =
     let same : d ≡ w.dependency = same_Some d w.dependency (sym at ∙ at_place r s e w p none hp) in
     record { edge = refl; place = refl; dependency = w.dependency; declared = w.declared; node = n; has_node = hn; given = is ∙ ap (λ z. filter (has_text n.features) (asked_by z)) same }
 
-named_told : (r : Resolved) (f : EnabledFeature) (v : Vec Meaning) (p : PackageModel) → HasPackage r (id_of f.krate) p → MeaningsTold r f (meanings_view v) → IsNamed r f (named_view (record { feature = f; meanings = v }))
-named_told r f v p h told = record { krate = refl; name = refl; pkg = p; has_package = h; meanings = told p h }
+named_told : (r : Resolved) (all : Bool) (f : EnabledFeature) (v : Vec Meaning) (p : PackageModel) → HasPackage r (id_of f.krate) p → MeaningsTold r all f (meanings_view v) → IsNamed r all f (named_view (record { feature = f; meanings = v }))
+named_told r all f v p h told = record { krate = refl; name = refl; pkg = p; has_package = h; meanings = told p h }
 
 -- ---- whole lists
 
@@ -77,14 +77,14 @@ links_told r s (x ∷ xs) [] none placed some z = absurd z
 links_told r s (x ∷ xs) (v ∷ vs) none placed some z =
     (link_told r s x v none (placed x (inl refl)) (some x (inl refl)) z.0, links_told r s xs vs none (λ e m. placed e (inr m)) (λ e m. some e (inr m)) z.1)
 
-features_told : (r : Resolved) (xs : List EnabledFeature) (vs : List (Vec Meaning)) → ((f : EnabledFeature) → Member xs f → (p : PackageModel) × HasPackage r (id_of f.krate) p)
-    → AllZip (MeaningsTold r) xs (map meanings_view vs) → AllZip (IsNamed r) xs (map named_view (map (λ pair. record { feature = pair.0; meanings = pair.1 }) (zip xs vs)))
-features_told r [] [] some z = tt
-features_told r [] (v ∷ vs) some z = absurd z
-features_told r (x ∷ xs) [] some z = absurd z
-features_told r (x ∷ xs) (v ∷ vs) some z =
+features_told : (r : Resolved) (all : Bool) (xs : List EnabledFeature) (vs : List (Vec Meaning)) → ((f : EnabledFeature) → Member xs f → (p : PackageModel) × HasPackage r (id_of f.krate) p)
+    → AllZip (MeaningsTold r all) xs (map meanings_view vs) → AllZip (IsNamed r all) xs (map named_view (map (λ pair. record { feature = pair.0; meanings = pair.1 }) (zip xs vs)))
+features_told r all [] [] some z = tt
+features_told r all [] (v ∷ vs) some z = absurd z
+features_told r all (x ∷ xs) [] some z = absurd z
+features_told r all (x ∷ xs) (v ∷ vs) some z =
     let p = some x (inl refl) in
-    (named_told r x v p.0 p.1 z.0, features_told r xs vs (λ f m. some f (inr m)) z.1)
+    (named_told r all x v p.0 p.1 z.0, features_told r all xs vs (λ f m. some f (inr m)) z.1)
 
 -- ---- what a kept crate has
 
@@ -99,7 +99,7 @@ has_node r s i d none = let w = kept_stands (questions r s) i d in none w.node w
 -- ---- the sheet
 
 pub gathered : (r : Resolved) (s : SettingModel) (x : Selection) (ns : List ℕ) (gs : List (Vec (String Global))) (ms : List (Vec Meaning)) (t : Sheet) → NoneDoubled r.metadata r.graph → IsSelection r s x
-    → AllZip (λ i n. CountTold r (id_of i) n) x.krates.items ns → AllZip (GivenTold r) x.edges.items (map texts_view gs) → AllZip (MeaningsTold r) x.features.items (map meanings_view ms)
+    → AllZip (λ i n. CountTold r (id_of i) n) x.krates.items ns → AllZip (GivenTold r) x.edges.items (map texts_view gs) → AllZip (MeaningsTold r s.all_named) x.features.items (map meanings_view ms)
     → t.krates.items ≡ map (λ pair. record { id = pair.0; declared = pair.1 }) (zip x.krates.items ns)
     → t.links.items ≡ map (λ pair. record { edge = pair.0; given = pair.1 }) (zip x.edges.items gs)
     → t.features.items ≡ map (λ pair. record { feature = pair.0; meanings = pair.1 }) (zip x.features.items ms)
@@ -111,8 +111,8 @@ gathered r s x ns gs ms t none h counts givens names ks ls fs ts = record {
   links = subst (λ zs. AllZip (IsLink r s) x.edges.items (map link_view zs)) (sym ls)
       (links_told r s x.edges.items gs none (λ e m. All-contains (IsPlaced r s) x.edges.items e h.placed (contains_of x.edges.items e m))
       (λ e m. has_node r s (id_of e.child) (child_kept (questions r s) _ ((h.facts (edge_fact e)).1 (edge_there x e m)))) givens);
-  features = subst (λ zs. AllZip (IsNamed r) x.features.items (map named_view zs)) (sym fs)
-      (features_told r x.features.items ms (λ f m. has_package r s (id_of f.krate) (crate_of_feature (questions r s) (id_of f.krate) _ ((h.facts (feature_fact f)).1 (feature_there x f m)))) names);
+  features = subst (λ zs. AllZip (IsNamed r s.all_named) x.features.items (map named_view zs)) (sym fs)
+      (features_told r s.all_named x.features.items ms (λ f m. has_package r s (id_of f.krate) (crate_of_feature (questions r s) (id_of f.krate) _ ((h.facts (feature_fact f)).1 (feature_there x f m)))) names);
   toggled = ap (λ v. map toggle_of v.items) ts;
 }
 
@@ -132,7 +132,7 @@ itself [] = refl
 itself (x ∷ xs) = ap (λ ys. x ∷ ys) (itself xs)
 
 pub ordered : (r : Resolved) (s : SettingModel) (x : Selection) (ns : List ℕ) (gs : List (Vec (String Global))) (ms : List (Vec Meaning)) (t : Sheet) → IsSelection r s x
-    → AllZip (λ i n. CountTold r (id_of i) n) x.krates.items ns → AllZip (GivenTold r) x.edges.items (map texts_view gs) → AllZip (MeaningsTold r) x.features.items (map meanings_view ms)
+    → AllZip (λ i n. CountTold r (id_of i) n) x.krates.items ns → AllZip (GivenTold r) x.edges.items (map texts_view gs) → AllZip (MeaningsTold r s.all_named) x.features.items (map meanings_view ms)
     → t.krates.items ≡ map (λ pair. record { id = pair.0; declared = pair.1 }) (zip x.krates.items ns)
     → t.links.items ≡ map (λ pair. record { edge = pair.0; given = pair.1 }) (zip x.edges.items gs)
     → t.features.items ≡ map (λ pair. record { feature = pair.0; meanings = pair.1 }) (zip x.features.items ms)
@@ -142,7 +142,7 @@ ordered r s x ns gs ms t h counts givens names ks ls fs ts =
     let all = subst (λ zs. AllZip (λ i n. CountTold r (id_of i) n) x.krates.items zs) (sym (itself ns)) counts in
     let krates = ap (map (λ (k : Krate). k.id)) ks ∙ first_parts (λ i n. CountTold r (id_of i) n) (λ i n. (let k : Krate = record { id = i; declared = n } in k)) (λ (k : Krate). k.id) (λ n. n) x.krates.items ns (λ i n. refl) all in
     let links = ap (map (λ (l : Link). l.edge)) ls ∙ first_parts (GivenTold r) (λ e v. (let l : Link = record { edge = e; given = v } in l)) (λ (l : Link). l.edge) texts_view x.edges.items gs (λ e v. refl) givens in
-    let features = ap (map (λ (n : Named). n.feature)) fs ∙ first_parts (MeaningsTold r) (λ f v. (let n : Named = record { feature = f; meanings = v } in n)) (λ (n : Named). n.feature) meanings_view x.features.items ms (λ f v. refl) names in
+    let features = ap (map (λ (n : Named). n.feature)) fs ∙ first_parts (MeaningsTold r s.all_named) (λ f v. (let n : Named = record { feature = f; meanings = v } in n)) (λ (n : Named). n.feature) meanings_view x.features.items ms (λ f v. refl) names in
     record {
       krates = subst (IsStrictlySortedBy id_cmp) (sym krates) h.krates;
       links = subst (IsStrictlySortedBy place_cmp) (sym links) h.edges;

@@ -34,9 +34,9 @@ pub record EdgeOf (r : Resolved) (s : SettingModel) (l : Link) : Type 0 where
   pub is_link : IsLink r s edge l
 
 -- the enabled feature of a named one
-pub record FeatureOfSheet (r : Resolved) (n : Named) : Type 0 where
+pub record FeatureOfSheet (r : Resolved) (s : SettingModel) (n : Named) : Type 0 where
   pub feature : EnabledFeature
-  pub is_named : IsNamed r feature n
+  pub is_named : IsNamed r s.all_named feature n
 
 -- the number of declared dependencies of a crate
 pub record CountOf (r : Resolved) (k : Krate) : Type 0 where
@@ -54,7 +54,7 @@ pub record Holds (r : Resolved) (s : SettingModel) (t : Sheet) : Type 0 where
   pub edge_of : (l : Link) → Member t.links l → EdgeOf r s l
   pub feature_in : (p : Id) (f : Text) → Derivable (questions r s) (Feature p f) → HasFeature t p f
   pub feature_of : (n : Named) → Member t.features n → Derivable (questions r s) (Feature n.krate n.name)
-  pub named_of : (n : Named) → Member t.features n → FeatureOfSheet r n
+  pub named_of : (n : Named) → Member t.features n → FeatureOfSheet r s n
   pub toggle_in : (p q : Id) (f : Text) → Derivable (questions r s) (Toggled p q f) → ToggleOf t p q f
   pub toggle_of : (g : Toggle) → Member t.toggled g → Derivable (questions r s) (Toggled g.by g.krate g.name)
   pub none_lost : (c : Cause) → Derivable (questions r s) (Lost c) → ⊥
@@ -141,8 +141,8 @@ krate_of r s x t k w m = partner_of (λ k i. IsKrate r i k) t.krates x.krates.it
 edge_of : (r : Resolved) (s : SettingModel) (x : Selection) (t : Sheet) (l : Link) → IsSheet r s x t → Member t.links l → Partner (λ l e. IsLink r s e l) l x.edges.items
 edge_of r s x t l w m = partner_of (λ l e. IsLink r s e l) t.links x.edges.items l (swapped (IsLink r s) x.edges.items t.links w.links) m
 
-enabled_of : (r : Resolved) (s : SettingModel) (x : Selection) (t : Sheet) (n : Named) → IsSheet r s x t → Member t.features n → Partner (λ n f. IsNamed r f n) n x.features.items
-enabled_of r s x t n w m = partner_of (λ n f. IsNamed r f n) t.features x.features.items n (swapped (IsNamed r) x.features.items t.features w.features) m
+enabled_of : (r : Resolved) (s : SettingModel) (x : Selection) (t : Sheet) (n : Named) → IsSheet r s x t → Member t.features n → Partner (λ n f. IsNamed r s.all_named f n) n x.features.items
+enabled_of r s x t n w m = partner_of (λ n f. IsNamed r s.all_named f n) t.features x.features.items n (swapped (IsNamed r s.all_named) x.features.items t.features w.features) m
 
 pub holds : (r : Resolved) (s : SettingModel) (x : Selection) (t : Sheet) → IsSelection r s x → IsSheet r s x t → Holds r s t
 holds r s x t h w = record {
@@ -164,7 +164,7 @@ holds r s x t h w = record {
   edge_of = λ l m. (let a = edge_of r s x t l w m in record { edge = a.partner; is_link = a.related });
   feature_in = λ p f d.
       (let a = feature_from x p f (from_of x (Feature p f) ((h.facts (Feature p f)).0 d)) in
-      let k = partner_of (IsNamed r) x.features.items t.features a.0 w.features a.1 in
+      let k = partner_of (IsNamed r s.all_named) x.features.items t.features a.0 w.features a.1 in
       record { named = k.partner; member = k.member; krate = k.related.krate ∙ a.2; name = k.related.name ∙ a.3 });
   feature_of = λ n m.
       (let a = enabled_of r s x t n w m in

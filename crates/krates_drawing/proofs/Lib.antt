@@ -18,7 +18,6 @@ pub mod Mapped
 pub mod Members
 pub mod NarrowerSheet
 pub mod NodeNumbers
-pub mod OneReferent
 pub mod OneSheet
 pub mod Ordered
 pub mod Parts

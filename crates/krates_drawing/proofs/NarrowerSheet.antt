@@ -1,5 +1,5 @@
 -- A sheet of a narrower setting is a part of that of the wider one.
-use Rattle.std.proofs.Common.{◌≡◌, List, [], ◌∷◌, ◌∙◌, Contains, ℕ, map, refl, sym, subst}
+use Rattle.std.proofs.Common.{◌≡◌, Bool, List, [], ◌∷◌, ◌∙◌, Contains, ℕ, map, refl, sym, subst}
 use Rattle.std.proofs.lemmas.List.Elements.{All-contains}
 use Rattle.std.specs.List.{AllZip}
 use Rattle.krates_cm.specs.Document.{DependencyModel, NodeModel}
@@ -7,7 +7,7 @@ use Rattle.krates_ids.specs.Identity.{id_cmp}
 use Rattle.krates_rules.specs.Admission.{NoneDoubled}
 use Rattle.krates_rules.specs.Derivation.{Derivable}
 use Rattle.krates_rules.specs.Facts.{Edge, Kept}
-use Rattle.krates_rules.specs.Narrowing.{IsNarrowing}
+use Rattle.krates_rules.specs.Narrowing.{IsNarrower, IsNarrowing, asks_targets, excludes_more, ignores_more}
 use Rattle.krates_rules.specs.Questions.{IsDeclaredAt, questions}
 use Rattle.krates_rules.specs.Reordering.{SayAlike, ReordersPackage}
 use Rattle.krates_rules.specs.Resolved.{Resolved}
@@ -40,7 +40,7 @@ say_itself r none = record {
       let same = one_node r i n o none a b in
       (λ h. subst (λ (z : NodeModel). Contains z.features f) same h, λ h. subst (λ (z : NodeModel). Contains z.features f) (sym same) h);
   deps = λ e d c a b. one_dep r e.parent e.child a.node b.node d c none a.has_node b.has_node a.has_dep b.has_dep;
-  referents = λ i name c. (λ x. x, λ x. x);
+  referents = λ all i name c. (λ x. x, λ x. x);
 }
 
 said_itself : (r : Resolved) (s : SettingModel) → NoneDoubled r.metadata r.graph → SaidAlike r r s
@@ -52,7 +52,7 @@ said_itself r s none =
       features = say.features;
       declared = declared_alike r r s say;
       place = place_alike r r s say;
-      referents = say.referents;
+      referents = say.referents s.all_named;
     }
 
 -- ---- what a kept edge says under the wider setting
@@ -72,6 +72,7 @@ record Narrowed (r : Resolved) (s z : SettingModel) (x y : Selection) : Type 0 w
   carries : Carries (questions r s) (questions r z)
   first : IsSelection r s x
   second : IsSelection r z y
+  naming : s.all_named ≡ z.all_named
 
 regarded : (r : Resolved) (s z : SettingModel) (x y : Selection) → Narrowed r s z x y → (e : KeptEdge) → Member x.edges.items e → IsIgnored r z (edge_view e) → ⊥
 regarded r s z x y w e m = kept_regarded r z (edge_view e) (w.carries _ ((w.first.facts (Kept (edge_view e))).1 (edge_there x e m)))
@@ -137,13 +138,19 @@ part_sheet one r s z x y w t v p q =
       krates = made_part SameCrate (IsKrate r) (IsKrate r) x.krates.items y.krates.items t.krates v.krates (crates_part r s z x y w) p.krates q.krates (krates_same r r z say);
       links = made_part SameEdge (IsLink r z) (IsLink r z) x.edges.items y.edges.items t.links v.links (edges_part r s z x y w)
           (zip_there (IsLink r s) (IsLink r z) x.edges.items t.links (λ e m l is. link_wider r s z e l (regarded r s z x y w e m) is) p.links) q.links (links_same r r z say);
-      features = made_part SameFeature (IsNamed r) (IsNamed r) x.features.items y.features.items t.features v.features (features_part r s z x y w) p.features q.features (features_same one r r z say);
+      features = made_part SameFeature (IsNamed r z.all_named) (IsNamed r z.all_named) x.features.items y.features.items t.features v.features (features_part r s z x y w) (subst (λ (b : Bool). AllZip (IsNamed r b) x.features.items t.features) w.naming p.features) q.features (features_same one r r z say);
       toggled = toggles_part x.toggled.items y.toggled.items t.toggled v.toggled (toggled_part r s z x y w) p.toggled q.toggled;
     }
 
 -- ---- the law
 
+-- a name means as much under the narrower setting
+named_alike : (wide narrow : SettingModel) → IsNarrower wide narrow → narrow.all_named ≡ wide.all_named
+named_alike wide _ (excludes_more exclusions more) = refl
+named_alike wide _ (ignores_more ignored kind scope more) = refl
+named_alike wide _ (asks_targets targets none) = refl
+
 pub narrower_draws_no_more : IsNarrowing → ReadsOneReference → NarrowerDrawsNoMore
 narrower_draws_no_more law one r none wide narrow step x y hx hy t v p q =
-    let w : Narrowed r narrow wide x y = record { none = none; carries = (law r wide narrow step).facts; first = hx; second = hy } in
+    let w : Narrowed r narrow wide x y = record { none = none; carries = (law r wide narrow step).facts; first = hx; second = hy; naming = named_alike wide narrow step } in
     draws_no_more t v (part_sheet one r narrow wide x y w t v p q)

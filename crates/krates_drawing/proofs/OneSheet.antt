@@ -13,7 +13,7 @@ use Rattle.krates_text.specs.FeatureReference as references
 use Rattle.krates_rules.specs.Derivation.{Derivable}
 use Rattle.krates_rules.specs.Facts.{Id, Edge, Fact, Crate, Feature, Kept, Toggled}
 use Rattle.krates_rules.specs.Questions.{IsDeclaredAt, questions}
-use Rattle.krates_rules.specs.Referent.{id_order}
+use Rattle.krates_rules.specs.Referent.{AreReferents, id_order}
 use Rattle.krates_rules.specs.Reordering.{IsOrderFree}
 use Rattle.krates_rules.specs.Resolved.{Resolved, id_of, HasPackage, HasNode}
 use Rattle.krates_rules.specs.Rules.{Questions}
@@ -27,7 +27,7 @@ use Rattle.krates_resolve.specs.declared.selection.ToggledFeature.{ToggledFeatur
 use Rattle.krates_drawing.specs.Alike.{IsDrawnAlike}
 use Rattle.krates_drawing.specs.Drawing.{lines, spots}
 use Rattle.krates_questions.specs.FeatureValues.{values_of}
-use Rattle.krates_drawing.specs.Sheet.{Krate, IsKrate, Link, IsLink, asked_by, has_text, Meaning, OwnFeature, Crates, FeatureOf, Named, IsNamed, IsMeaning, Names, AreReferents, Toggle, toggle_of, Sheet, IsSheet}
+use Rattle.krates_drawing.specs.Sheet.{Krate, IsKrate, Link, IsLink, asked_by, has_text, Meaning, OwnFeature, Crates, FeatureOf, Named, IsNamed, IsMeaning, Names, Toggle, toggle_of, Sheet, IsSheet}
 use Rattle.krates_drawing.proofs.Closed.{text_there, text_has}
 use Rattle.krates_drawing.proofs.Holding.{crate_there, edge_there, feature_there, toggled_there, from_of, crate_from, link_from, feature_from, toggle_from}
 use Rattle.krates_drawing.proofs.Members.{Member, member_of, contains_of}
@@ -217,70 +217,70 @@ links_same r u s w a b k l same p q =
 
 -- ---- what references name
 
-ids_same : (r u : Resolved) (s : SettingModel) (i : Id) (name : Text) (is js : List Id) → SaidAlike r u s → AreReferents r i name is → AreReferents u i name js → is ≡ js
+ids_same : (r u : Resolved) (s : SettingModel) (i : Id) (name : Text) (is js : List Id) → SaidAlike r u s → AreReferents r s.all_named i name is → AreReferents u s.all_named i name js → is ≡ js
 ids_same r u s i name is js w p q = equal_zip is js (alike id_order (λ (a b : Id). a ≡ b) is js ids_order p.ascending q.ascending
     (λ c m. record { partner = c; member = member_of js c ((q.exactly c).1 ((w.referents i name c).0 ((p.exactly c).0 (contains_of is c m)))); related = refl })
     (λ c m. record { partner = c; member = member_of is c ((p.exactly c).1 ((w.referents i name c).1 ((q.exactly c).0 (contains_of js c m)))); related = refl }))
 
-own_named : (r : Resolved) (i : Id) (g : Text) (m : Meaning) → Names r i (references.simple g) m → m ≡ OwnFeature g
-own_named r i g (OwnFeature name) h = ap OwnFeature h
-own_named r i g (Crates ids) h = absurd h
-own_named r i g (FeatureOf ids name) h = absurd h
+own_named : (r : Resolved) (all : Bool) (i : Id) (g : Text) (m : Meaning) → Names r all i (references.simple g) m → m ≡ OwnFeature g
+own_named r all i g (OwnFeature name) h = ap OwnFeature h
+own_named r all i g (Crates ids) h = absurd h
+own_named r all i g (FeatureOf ids name) h = absurd h
 
-crates_named : (r : Resolved) (i : Id) (d : Text) (m : Meaning) → Names r i (references.krate d) m → (ids : List Id) × (m ≡ Crates ids) × AreReferents r i d ids
-crates_named r i d (OwnFeature name) h = absurd h
-crates_named r i d (Crates ids) h = (ids, refl, h)
-crates_named r i d (FeatureOf ids name) h = absurd h
+crates_named : (r : Resolved) (all : Bool) (i : Id) (d : Text) (m : Meaning) → Names r all i (references.krate d) m → (ids : List Id) × (m ≡ Crates ids) × AreReferents r all i d ids
+crates_named r all i d (OwnFeature name) h = absurd h
+crates_named r all i d (Crates ids) h = (ids, refl, h)
+crates_named r all i d (FeatureOf ids name) h = absurd h
 
-strongly_named : (r : Resolved) (i : Id) (d g : Text) (m : Meaning) → Names r i (references.strong d g) m → (ids : List Id) × (m ≡ FeatureOf ids g) × AreReferents r i d ids
-strongly_named r i d g (OwnFeature name) h = absurd h
-strongly_named r i d g (Crates ids) h = absurd h
-strongly_named r i d g (FeatureOf ids name) h = (ids, ap (FeatureOf ids) h.1, h.0)
+strongly_named : (r : Resolved) (all : Bool) (i : Id) (d g : Text) (m : Meaning) → Names r all i (references.strong d g) m → (ids : List Id) × (m ≡ FeatureOf ids g) × AreReferents r all i d ids
+strongly_named r all i d g (OwnFeature name) h = absurd h
+strongly_named r all i d g (Crates ids) h = absurd h
+strongly_named r all i d g (FeatureOf ids name) h = (ids, ap (FeatureOf ids) h.1, h.0)
 
-weakly_named : (r : Resolved) (i : Id) (d g : Text) (m : Meaning) → Names r i (references.weak d g) m → (ids : List Id) × (m ≡ FeatureOf ids g) × AreReferents r i d ids
-weakly_named r i d g (OwnFeature name) h = absurd h
-weakly_named r i d g (Crates ids) h = absurd h
-weakly_named r i d g (FeatureOf ids name) h = (ids, ap (FeatureOf ids) h.1, h.0)
+weakly_named : (r : Resolved) (all : Bool) (i : Id) (d g : Text) (m : Meaning) → Names r all i (references.weak d g) m → (ids : List Id) × (m ≡ FeatureOf ids g) × AreReferents r all i d ids
+weakly_named r all i d g (OwnFeature name) h = absurd h
+weakly_named r all i d g (Crates ids) h = absurd h
+weakly_named r all i d g (FeatureOf ids name) h = (ids, ap (FeatureOf ids) h.1, h.0)
 
-names_same : (r u : Resolved) (s : SettingModel) (i : Id) (reference : Reference) (m n : Meaning) → SaidAlike r u s → Names r i reference m → Names u i reference n → m ≡ n
-names_same r u s i (references.simple g) m n w p q = own_named r i g m p ∙ sym (own_named u i g n q)
+names_same : (r u : Resolved) (s : SettingModel) (i : Id) (reference : Reference) (m n : Meaning) → SaidAlike r u s → Names r s.all_named i reference m → Names u s.all_named i reference n → m ≡ n
+names_same r u s i (references.simple g) m n w p q = own_named r s.all_named i g m p ∙ sym (own_named u s.all_named i g n q)
 names_same r u s i (references.krate d) m n w p q =
-    let a = crates_named r i d m p in
-    let b = crates_named u i d n q in
+    let a = crates_named r s.all_named i d m p in
+    let b = crates_named u s.all_named i d n q in
     a.1 ∙ (ap Crates (ids_same r u s i d a.0 b.0 w a.2 b.2) ∙ sym b.1)
 names_same r u s i (references.strong d g) m n w p q =
-    let a = strongly_named r i d g m p in
-    let b = strongly_named u i d g n q in
+    let a = strongly_named r s.all_named i d g m p in
+    let b = strongly_named u s.all_named i d g n q in
     a.1 ∙ (ap (λ ids. FeatureOf ids g) (ids_same r u s i d a.0 b.0 w a.2 b.2) ∙ sym b.1)
 names_same r u s i (references.weak d g) m n w p q =
-    let a = weakly_named r i d g m p in
-    let b = weakly_named u i d g n q in
+    let a = weakly_named r s.all_named i d g m p in
+    let b = weakly_named u s.all_named i d g n q in
     a.1 ∙ (ap (λ ids. FeatureOf ids g) (ids_same r u s i d a.0 b.0 w a.2 b.2) ∙ sym b.1)
 
 -- each text is one reference
 abbrev pub ReadsOneReference : Type 0
 ReadsOneReference = (text : Text) → HasOneReading text
 
-meaning_same : ReadsOneReference → (r u : Resolved) (s : SettingModel) (i : Id) (text : Text) (m n : Meaning) → SaidAlike r u s → IsMeaning r i text m → IsMeaning u i text n → m ≡ n
+meaning_same : ReadsOneReference → (r u : Resolved) (s : SettingModel) (i : Id) (text : Text) (m n : Meaning) → SaidAlike r u s → IsMeaning r s.all_named i text m → IsMeaning u s.all_named i text n → m ≡ n
 meaning_same one r u s i text m n w p q =
     let o = one text in
     let same : q.reference ≡ p.reference = o.only q.reference q.is ∙ sym (o.only p.reference p.is) in
-    names_same r u s i p.reference m n w p.names (subst (λ z. Names u i z n) same q.names)
+    names_same r u s i p.reference m n w p.names (subst (λ z. Names u s.all_named i z n) same q.names)
 
-meanings_same : ReadsOneReference → (r u : Resolved) (s : SettingModel) (i : Id) (values : List Text) (ms ns : List Meaning) → SaidAlike r u s → AllZip (IsMeaning r i) values ms → AllZip (IsMeaning u i) values ns → ms ≡ ns
-meanings_same one r u s i values ms ns w p q = made_same (λ (a b : Text). a ≡ b) (IsMeaning r i) (IsMeaning u i) values values ms ns (itself values) p q
-    (λ a b m n e x y. meaning_same one r u s i a m n w x (subst (λ t. IsMeaning u i t n) (sym e) y))
+meanings_same : ReadsOneReference → (r u : Resolved) (s : SettingModel) (i : Id) (values : List Text) (ms ns : List Meaning) → SaidAlike r u s → AllZip (IsMeaning r s.all_named i) values ms → AllZip (IsMeaning u s.all_named i) values ns → ms ≡ ns
+meanings_same one r u s i values ms ns w p q = made_same (λ (a b : Text). a ≡ b) (IsMeaning r s.all_named i) (IsMeaning u s.all_named i) values values ms ns (itself values) p q
+    (λ a b m n e x y. meaning_same one r u s i a m n w x (subst (λ t. IsMeaning u s.all_named i t n) (sym e) y))
 
 named_same : (i j : Id) (f g : Text) (ms ns : List Meaning) → i ≡ j → f ≡ g → ms ≡ ns → (let n : Named = record { krate = i; name = f; meanings = ms } in n) ≡ record { krate = j; name = g; meanings = ns }
 named_same i j f g ms ns a b c = ap (λ (z : Id). record { krate = z; name = f; meanings = ms }) a ∙ (ap (λ (z : Text). record { krate = j; name = z; meanings = ms }) b ∙ ap (λ (z : List Meaning). record { krate = j; name = g; meanings = z }) c)
 
-pub features_same : ReadsOneReference → (r u : Resolved) (s : SettingModel) → SaidAlike r u s → (a b : EnabledFeature) (k l : Named) → SameFeature a b → IsNamed r a k → IsNamed u b l → k ≡ l
+pub features_same : ReadsOneReference → (r u : Resolved) (s : SettingModel) → SaidAlike r u s → (a b : EnabledFeature) (k l : Named) → SameFeature a b → IsNamed r s.all_named a k → IsNamed u s.all_named b l → k ≡ l
 features_same one r u s w a b k l same p q =
     let krate : k.krate ≡ l.krate = p.krate ∙ (same.krate ∙ sym q.krate) in
     let name : k.name ≡ l.name = p.name ∙ (same.name ∙ sym q.name) in
     let pkg = w.packages k.krate p.pkg q.pkg p.has_package (subst (λ i. HasPackage u i q.pkg) (sym krate) q.has_package) in
     let values : values_of q.pkg.features l.name ≡ values_of p.pkg.features k.name = ap (λ o. unwrap_or o []) (sym (pkg.features l.name)) ∙ ap (values_of p.pkg.features) (sym name) in
-    let theirs = subst (λ vs. AllZip (IsMeaning u k.krate) vs l.meanings) values (subst (λ i. AllZip (IsMeaning u i) (values_of q.pkg.features l.name) l.meanings) (sym krate) q.meanings) in
+    let theirs = subst (λ vs. AllZip (IsMeaning u s.all_named k.krate) vs l.meanings) values (subst (λ i. AllZip (IsMeaning u s.all_named i) (values_of q.pkg.features l.name) l.meanings) (sym krate) q.meanings) in
     named_same k.krate l.krate k.name l.name k.meanings l.meanings krate name (meanings_same one r u s k.krate (values_of p.pkg.features k.name) k.meanings l.meanings w p.meanings theirs)
 
 pub toggle_views : (a b : ToggledFeature) → SameToggle a b → toggle_of a ≡ toggle_of b
@@ -310,7 +310,7 @@ one_sheet one r u s w x y hx hy t v p q =
     sheets t.krates v.krates t.links v.links t.features v.features t.toggled v.toggled
     (made_same SameCrate (IsKrate r) (IsKrate u) x.krates.items y.krates.items t.krates v.krates (crates_zip r u s x y two) p.krates q.krates (krates_same r u s w))
     (made_same SameEdge (IsLink r s) (IsLink u s) x.edges.items y.edges.items t.links v.links (edges_zip r u s x y two) p.links q.links (links_same r u s w))
-    (made_same SameFeature (IsNamed r) (IsNamed u) x.features.items y.features.items t.features v.features (features_zip r u s x y two) p.features q.features (features_same one r u s w))
+    (made_same SameFeature (IsNamed r s.all_named) (IsNamed u s.all_named) x.features.items y.features.items t.features v.features (features_zip r u s x y two) p.features q.features (features_same one r u s w))
     (p.toggled ∙ (toggles_same x.toggled.items y.toggled.items (toggled_zip r u s x y two) ∙ sym q.toggled))
 
 -- ---- the law

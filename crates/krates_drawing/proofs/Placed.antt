@@ -1,8 +1,7 @@
 -- Crates and features of a sheet stand at their numbers; what their mappings name and where their edges lead.
-use Rattle.std.proofs.Common.{◌≡◌, ◌⊎◌, inl, inr, ℕ, zero, suc, ◌+◌, Bool, true, false, ◌&&◌, cond, List, [], ◌∷◌, ◌++◌, map, filter, length, Option, Some, None, Contains, slice_get, Ordering, Less, Equal, Greater, refl, sym, ap, ◌∙◌, subst, arith, nat_cmp}
+use Rattle.std.proofs.Common.{◌≡◌, ◌⊎◌, inl, inr, ℕ, zero, suc, ◌+◌, Bool, true, false, cond, List, [], ◌∷◌, ◌++◌, map, length, Option, Some, Contains, slice_get, Ordering, Less, Equal, Greater, refl, sym, ap, ◌∙◌, subst, arith, nat_cmp}
 use Rattle.std.proofs.lemmas.Cmp.{nat_list_cmp_total}
 use Rattle.std.proofs.lemmas.Option.{none-some, same_Some}
-use Rattle.std.specs.Cmp.{IsTotalOrder}
 use Rattle.std.specs.Cmp.Lexicographic.{slice_cmp}
 use Rattle.std.specs.List.{AllByRecursion, AllZip, range_with_len}
 use Rattle.std.specs.List.Sorted.{IsStrictlySortedBy}
@@ -18,16 +17,16 @@ use Rattle.krates_rules.specs.Referent.{id_order}
 use Rattle.krates_rules.specs.Resolved.{Resolved, id_of}
 use Rattle.krates_rules.specs.Setting.{SettingModel}
 use Rattle.krates_drawing.specs.Agreement.{DependsOn, LeadsTo}
-use Rattle.krates_drawing.specs.Connected.{IsLedInto, LeadsHome, IsConnected, AreConnected}
-use Rattle.krates_drawing.specs.Drawing.{AtCrate, AtFeature, Feature, Line, line, place_of, is_crate, is_feature, id_eq, crate_number, feature_number, from_crate, lines, claimant, mapped, mapping, Spot, CrateSpot, FeatureSpot, crate_spot, feature_spot, spots}
+use Rattle.krates_drawing.specs.Connected.{IsLedInto, LeadsHome, AreConnected}
+use Rattle.krates_drawing.specs.Drawing.{AtCrate, AtFeature, Feature, line, place_of, is_crate, is_feature, id_eq, crate_number, from_crate, lines, claimant, mapped, mapping, Spot, CrateSpot, FeatureSpot, crate_spot, feature_spot, spots}
 use Rattle.krates_drawing.specs.Sheet.{Krate, IsKrate, Named, IsNamed, Sheet, IsSheet}
 use Rattle.krates_drawing.proofs.Agreed.{claimant_of, image_of, between_leads}
 use Rattle.krates_drawing.proofs.Arrows.{own, arrow_in}
 use Rattle.krates_drawing.proofs.Children.{self_equal}
 use Rattle.krates_drawing.proofs.Closed.{keeps_ends}
-use Rattle.krates_drawing.proofs.Holding.{Holds, holds}
+use Rattle.krates_drawing.proofs.Holding.{holds}
 use Rattle.krates_drawing.proofs.Members.{Member, member_of, contains_of, mapped_of}
-use Rattle.krates_drawing.proofs.NodeNumbers.{both, and_true, id_is, id_same, text_is, text_same, HasCrate, CrateNode, crate_node, get_right}
+use Rattle.krates_drawing.proofs.NodeNumbers.{both, and_true, id_is, id_same, text_is, text_same, HasCrate, crate_node}
 
 -- ---- not below itself
 
@@ -84,31 +83,31 @@ own_crate r (i ∷ is) (x ∷ xs) z sorted (suc p) k at =
 
 -- ---- features at theirs
 
-feature_below : (r : Resolved) (f : EnabledFeature) (fs : List EnabledFeature) (ns : List Named) (j : ℕ) (n : Named) → AllZip (IsNamed r) fs ns → AllByRecursion (λ g. feature_cmp f g ≡ Less) fs → slice_get ns j ≡ Some n
+feature_below : (r : Resolved) (whole : Bool) (f : EnabledFeature) (fs : List EnabledFeature) (ns : List Named) (j : ℕ) (n : Named) → AllZip (IsNamed r whole) fs ns → AllByRecursion (λ g. feature_cmp f g ≡ Less) fs → slice_get ns j ≡ Some n
     → ordering_then (id_order (id_of f.krate) n.krate) (slice_cmp nat_cmp (text_view f.name) n.name) ≡ Less
-feature_below r f [] [] j n z all at = absurd (none-some n at)
-feature_below r f [] (x ∷ xs) j n z all at = absurd z
-feature_below r f (g ∷ gs) [] j n z all at = absurd z
-feature_below r f (g ∷ gs) (x ∷ xs) zero n z all at =
+feature_below r whole f [] [] j n z all at = absurd (none-some n at)
+feature_below r whole f [] (x ∷ xs) j n z all at = absurd z
+feature_below r whole f (g ∷ gs) [] j n z all at = absurd z
+feature_below r whole f (g ∷ gs) (x ∷ xs) zero n z all at =
     subst (λ (q : Named). ordering_then (id_order (id_of f.krate) q.krate) (slice_cmp nat_cmp (text_view f.name) q.name) ≡ Less) (same_Some x n at)
     (ap (λ i. ordering_then (id_order (id_of f.krate) i) (slice_cmp nat_cmp (text_view f.name) x.name)) z.0.krate
     ∙ ap (λ t. ordering_then (id_order (id_of f.krate) (id_of g.krate)) (slice_cmp nat_cmp (text_view f.name) t)) z.0.name ∙ all.0)
-feature_below r f (g ∷ gs) (x ∷ xs) (suc j) n z all at = feature_below r f gs xs j n z.1 all.1 at
+feature_below r whole f (g ∷ gs) (x ∷ xs) (suc j) n z all at = feature_below r whole f gs xs j n z.1 all.1 at
 
-pub own_feature : (r : Resolved) (fs : List EnabledFeature) (ns : List Named) → AllZip (IsNamed r) fs ns → IsStrictlySortedBy feature_cmp fs → (j : ℕ) (n : Named) → slice_get ns j ≡ Some n → place_of (is_feature n.krate n.name) ns ≡ j
+pub own_feature : (r : Resolved) (whole : Bool) (fs : List EnabledFeature) (ns : List Named) → AllZip (IsNamed r whole) fs ns → IsStrictlySortedBy feature_cmp fs → (j : ℕ) (n : Named) → slice_get ns j ≡ Some n → place_of (is_feature n.krate n.name) ns ≡ j
 unfolding IsStrictlySortedBy
-own_feature r [] [] z sorted j n at = absurd (none-some n at)
-own_feature r [] (x ∷ xs) z sorted j n at = absurd z
-own_feature r (f ∷ fs) [] z sorted j n at = absurd z
-own_feature r (f ∷ fs) (x ∷ xs) z sorted zero n at =
+own_feature r whole [] [] z sorted j n at = absurd (none-some n at)
+own_feature r whole [] (x ∷ xs) z sorted j n at = absurd z
+own_feature r whole (f ∷ fs) [] z sorted j n at = absurd z
+own_feature r whole (f ∷ fs) (x ∷ xs) z sorted zero n at =
     let here : is_feature n.krate n.name x ≡ true = subst (λ (q : Named). is_feature q.krate q.name x ≡ true) (same_Some x n at) (and_true _ _ (id_same x.krate) (text_same x.name)) in
     ap (λ b. cond b 0 (suc (place_of (is_feature n.krate n.name) xs))) here
-own_feature r (f ∷ fs) (x ∷ xs) z sorted (suc j) n at =
-    let below = feature_below r f fs xs j n z.1 sorted.0 at in
+own_feature r whole (f ∷ fs) (x ∷ xs) z sorted (suc j) n at =
+    let below = feature_below r whole f fs xs j n z.1 sorted.0 at in
     let fails : is_feature n.krate n.name x ≡ false = not_same (is_feature n.krate n.name x) (λ h. (
     let w = both _ _ h in
     feature_not_below (id_of f.krate) n.krate (text_view f.name) n.name (sym z.0.krate ∙ id_is x.krate n.krate w.0) (sym z.0.name ∙ text_is x.name n.name w.1) below)) in
-    ap (λ b. cond b 0 (suc (place_of (is_feature n.krate n.name) xs))) fails ∙ ap suc (own_feature r fs xs z.1 sorted.1 j n at)
+    ap (λ b. cond b 0 (suc (place_of (is_feature n.krate n.name) xs))) fails ∙ ap suc (own_feature r whole fs xs z.1 sorted.1 j n at)
 
 -- ---- nodes by number
 
@@ -166,7 +165,7 @@ leads_home : (r : Resolved) (s : SettingModel) (x : Selection) (t : Sheet) → I
 leads_home r s x t selected sheet n d name (of_crate k at is) = absurd (cc is)
 leads_home r s x t selected sheet n d name (of_feature j f at place is) =
     let l = line t (AtFeature f.krate f.name) (AtCrate f.krate) Feature in
-    let here : place_of (is_feature f.krate f.name) t.features ≡ j = own_feature r x.features.items t.features sheet.features selected.features j f at in
+    let here : place_of (is_feature f.krate f.name) t.features ≡ j = own_feature r s.all_named x.features.items t.features sheet.features selected.features j f at in
     record {
       line = l;
       among = contains_of (lines t) l (arrow_in t _ _ _ (keeps_ends r s t (holds r s x t selected sheet)) (own f (got_member t.features j f at)));

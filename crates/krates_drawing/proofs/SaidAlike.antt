@@ -22,7 +22,7 @@ pub record SaidAlike (r u : Resolved) (s : SettingModel) : Type 0 where
   pub features : (i : Id) (n o : NodeModel) → HasNode r i n → HasNode u i o → (f : Text) → Contains n.features f ↔ Contains o.features f
   pub declared : (e : Edge) (j k : ℕ) (d c : DependencyModel) → IsDeclaredAt r s e j d → IsDeclaredAt u s e k c → (j ≡ k) × (d ≡ c)
   pub place : (a b : KeptEdge) → edge_view a ≡ edge_view b → IsPlaced r s a → IsPlaced u s b → a.place ≡ b.place
-  pub referents : (i : Id) (name : Text) (c : Id) → IsReferent r i name c ↔ IsReferent u i name c
+  pub referents : (i : Id) (name : Text) (c : Id) → IsReferent r s.all_named i name c ↔ IsReferent u s.all_named i name c
 
 -- ---- the declared dependency
 
@@ -68,5 +68,5 @@ said_alike m n g h s w has_g has_h none =
       features = say.features;
       declared = declared_alike (resolved m g) (resolved n h) s say;
       place = place_alike (resolved m g) (resolved n h) s say;
-      referents = say.referents;
+      referents = say.referents s.all_named;
     }

@@ -10,16 +10,17 @@ use Rattle.krates_rules.specs.DeclaredDependency.{FirstAt, IsDeclared, dependenc
 use Rattle.krates_rules.specs.Derivation.{Derivable}
 use Rattle.krates_rules.specs.Facts.{Id, Edge, Crate, Kept}
 use Rattle.krates_rules.specs.Questions.{IsDeclaredAt, IsWanted, Stands, kind_info_of, questions}
+use Rattle.krates_rules.specs.Referent.{AreReferents}
 use Rattle.krates_rules.specs.Reordering.{IsOrderFree, SayAlike}
 use Rattle.krates_rules.specs.Resolved.{Resolved, HasPackage, id_of}
 use Rattle.krates_rules.specs.Setting.{SettingModel}
 use Rattle.krates_resolve.specs.Selection.{edge_view, crate_fact, edge_fact, feature_fact, IsPlaced, IsSelection}
-use Rattle.krates_resolve.specs.Work.{CountsEach, HasReferences}
+use Rattle.krates_resolve.specs.Work.{CountsEach, CountsName, CountsReference, CountsText, HasReferences}
 use Rattle.krates_resolve.specs.declared.selection.EnabledFeature.{EnabledFeature}
 use Rattle.krates_resolve.specs.declared.selection.KeptEdge.{KeptEdge}
 use Rattle.krates_resolve.specs.declared.selection.Selection.{Selection}
 use Rattle.krates_drawing.specs.Alike.{IsSheetThere}
-use Rattle.krates_drawing.specs.Sheet.{Krate, IsKrate, Link, IsLink, asked_by, has_text, Meaning, OwnFeature, Crates, FeatureOf, Named, IsNamed, IsMeaning, Names, AreReferents, Sheet, IsSheet}
+use Rattle.krates_drawing.specs.Sheet.{Krate, IsKrate, Link, IsLink, asked_by, has_text, Meaning, OwnFeature, Crates, FeatureOf, Named, IsNamed, IsMeaning, Names, Sheet, IsSheet}
 use Rattle.krates_questions.specs.FeatureValues.{values_of}
 use Rattle.krates_drawing.proofs.Derivations.{child_kept, crate_of_feature, kept_by, kept_stands}
 use Rattle.krates_drawing.proofs.Holding.{crate_there, edge_there, feature_there}
@@ -96,13 +97,33 @@ placed_there r u s x w e m =
       place = subst (λ (z : NodeDepModel). FirstAt (λ k. k ≡ kind_info_of (edge_view e)) z.dep_kinds e.place (kind_info_of (edge_view e))) d.same p.place;
     }
 
-referring_there : (r u : Resolved) (s : SettingModel) → SaidAlike r u s → (i : Id) (f : Text) (n : ℕ) → Stands u s i → HasReferences r i f n → HasReferences u i f n
+referents_there : (r u : Resolved) (s : SettingModel) (i : Id) (name : Text) (ids : List Id) → SaidAlike r u s → AreReferents r s.all_named i name ids → AreReferents u s.all_named i name ids
+referents_there r u s i name ids w h = record {
+  exactly = λ c. (λ m. (w.referents i name c).0 ((h.exactly c).0 m), λ x. (h.exactly c).1 ((w.referents i name c).1 x));
+  ascending = h.ascending;
+}
+
+counts_name_there : (r u : Resolved) (s : SettingModel) (i : Id) (name : Text) (n : ℕ) → SaidAlike r u s → CountsName r s.all_named i name n → CountsName u s.all_named i name n
+counts_name_there r u s i name n w h = record { ids = h.ids; are = referents_there r u s i name h.ids w h.are; count = h.count }
+
+counts_reference_there : (r u : Resolved) (s : SettingModel) (i : Id) (reference : Reference) (n : ℕ) → SaidAlike r u s → CountsReference r s.all_named i reference n → CountsReference u s.all_named i reference n
+counts_reference_there r u s i (references.simple g) n w h = h
+counts_reference_there r u s i (references.krate d) n w h = counts_name_there r u s i d n w h
+counts_reference_there r u s i (references.strong d g) n w h = counts_name_there r u s i d n w h
+counts_reference_there r u s i (references.weak d g) n w h = counts_name_there r u s i d n w h
+
+counts_text_there : (r u : Resolved) (s : SettingModel) (i : Id) (text : Text) (n : ℕ) → SaidAlike r u s → CountsText r s.all_named i text n → CountsText u s.all_named i text n
+counts_text_there r u s i text n w h = record { reference = h.reference; is = h.is; counts = counts_reference_there r u s i h.reference n w h.counts }
+
+referring_there : (r u : Resolved) (s : SettingModel) → SaidAlike r u s → (i : Id) (f : Text) (n : ℕ) → Stands u s i → HasReferences r s i f n → HasReferences u s i f n
 referring_there r u s w i f n stands h =
     let q = stands.included in
     let same = (w.packages i h.pkg q.pkg h.has_package q.has_package).features f in
-    record { pkg = q.pkg; has_package = q.has_package; count = h.count ∙ ap (λ o. length (unwrap_or o [])) same }
+    let values : values_of h.pkg.features f ≡ values_of q.pkg.features f = ap (λ o. unwrap_or o []) same in
+    let there = zip_there (CountsText r s.all_named i) (CountsText u s.all_named i) (values_of h.pkg.features f) h.counts (λ t at n is. counts_text_there r u s i t n w is) h.each in
+    record { pkg = q.pkg; has_package = q.has_package; counts = h.counts; each = subst (λ vs. AllZip (CountsText u s.all_named i) vs h.counts) values there; count = h.count }
 
-counts_there : (r u : Resolved) (s : SettingModel) (x : Selection) → Carried r u s x → CountsEach r (length x.krates.items) x.features.items x.work → CountsEach u (length x.krates.items) x.features.items x.work
+counts_there : (r u : Resolved) (s : SettingModel) (x : Selection) → Carried r u s x → CountsEach r s (length x.krates.items) x.features.items x.work → CountsEach u s (length x.krates.items) x.features.items x.work
 counts_there r u s x w h =
     let k = h.references.1 in
     record {
@@ -112,7 +133,7 @@ counts_there r u s x w h =
         h.references.0,
         record {
           counts = k.counts;
-          each = zip_there (λ f n. HasReferences r (id_of f.krate) (text_view f.name) n) (λ f n. HasReferences u (id_of f.krate) (text_view f.name) n) x.features.items k.counts
+          each = zip_there (λ f n. HasReferences r s (id_of f.krate) (text_view f.name) n) (λ f n. HasReferences u s (id_of f.krate) (text_view f.name) n) x.features.items k.counts
               (λ f m n at. referring_there r u s w.say (id_of f.krate) (text_view f.name) n (feature_stands r u s x w f m) at) k.each;
           total = k.total;
         },
@@ -157,13 +178,7 @@ link_there r u s w say e l kept h =
       given = h.given ∙ filter_same (has_text h.node.features) (has_text child.node.features) (asked_by h.dependency) lists;
     }
 
-referents_there : (r u : Resolved) (s : SettingModel) (i : Id) (name : Text) (ids : List Id) → SaidAlike r u s → AreReferents r i name ids → AreReferents u i name ids
-referents_there r u s i name ids w h = record {
-  exactly = λ c. (λ m. (w.referents i name c).0 ((h.exactly c).0 m), λ x. (h.exactly c).1 ((w.referents i name c).1 x));
-  ascending = h.ascending;
-}
-
-names_there : (r u : Resolved) (s : SettingModel) (i : Id) (reference : Reference) (m : Meaning) → SaidAlike r u s → Names r i reference m → Names u i reference m
+names_there : (r u : Resolved) (s : SettingModel) (i : Id) (reference : Reference) (m : Meaning) → SaidAlike r u s → Names r s.all_named i reference m → Names u s.all_named i reference m
 names_there r u s i (references.simple g) (OwnFeature name) w h = h
 names_there r u s i (references.simple g) (Crates ids) w h = absurd h
 names_there r u s i (references.simple g) (FeatureOf ids name) w h = absurd h
@@ -177,22 +192,22 @@ names_there r u s i (references.weak d g) (OwnFeature name) w h = absurd h
 names_there r u s i (references.weak d g) (Crates ids) w h = absurd h
 names_there r u s i (references.weak d g) (FeatureOf ids name) w h = (referents_there r u s i d ids w h.0, h.1)
 
-meaning_there : (r u : Resolved) (s : SettingModel) (i : Id) → SaidAlike r u s → (text : Text) (m : Meaning) → IsMeaning r i text m → IsMeaning u i text m
+meaning_there : (r u : Resolved) (s : SettingModel) (i : Id) → SaidAlike r u s → (text : Text) (m : Meaning) → IsMeaning r s.all_named i text m → IsMeaning u s.all_named i text m
 meaning_there r u s i w text m h = record { reference = h.reference; is = h.is; names = names_there r u s i h.reference m w h.names }
 
-named_there : (r u : Resolved) (s : SettingModel) → SaidAlike r u s → (f : EnabledFeature) (n : Named) → Stands u s (id_of f.krate) → IsNamed r f n → IsNamed u f n
+named_there : (r u : Resolved) (s : SettingModel) → SaidAlike r u s → (f : EnabledFeature) (n : Named) → Stands u s (id_of f.krate) → IsNamed r s.all_named f n → IsNamed u s.all_named f n
 named_there r u s w f n stands h =
     let q = stands.included in
     let has : HasPackage u n.krate q.pkg = subst (λ j. HasPackage u j q.pkg) (sym h.krate) q.has_package in
     let same : values_of h.pkg.features n.name ≡ values_of q.pkg.features n.name = ap (λ o. unwrap_or o []) ((w.packages n.krate h.pkg q.pkg h.has_package has).features n.name) in
-    let there = zip_there (IsMeaning r n.krate) (IsMeaning u n.krate) (values_of h.pkg.features n.name) n.meanings (λ t at m is. meaning_there r u s n.krate w t m is) h.meanings in
-    record { krate = h.krate; name = h.name; pkg = q.pkg; has_package = has; meanings = subst (λ vs. AllZip (IsMeaning u n.krate) vs n.meanings) same there }
+    let there = zip_there (IsMeaning r s.all_named n.krate) (IsMeaning u s.all_named n.krate) (values_of h.pkg.features n.name) n.meanings (λ t at m is. meaning_there r u s n.krate w t m is) h.meanings in
+    record { krate = h.krate; name = h.name; pkg = q.pkg; has_package = has; meanings = subst (λ vs. AllZip (IsMeaning u s.all_named n.krate) vs n.meanings) same there }
 
 carried_sheet : (r u : Resolved) (s : SettingModel) (x : Selection) → Carried r u s x → (t : Sheet) → IsSheet r s x t → IsSheet u s x t
 carried_sheet r u s x w t h = record {
   krates = zip_there (IsKrate r) (IsKrate u) x.krates.items t.krates (λ i m k is. krate_there r u s w.say i k (crate_stands r u s x w i m) is) h.krates;
   links = zip_there (IsLink r s) (IsLink u s) x.edges.items t.links (λ e m l is. link_there r u s w.say w.deps e l (edge_kept r u s x w e m) is) h.links;
-  features = zip_there (IsNamed r) (IsNamed u) x.features.items t.features (λ f m n is. named_there r u s w.say f n (feature_stands r u s x w f m) is) h.features;
+  features = zip_there (IsNamed r s.all_named) (IsNamed u s.all_named) x.features.items t.features (λ f m n is. named_there r u s w.say f n (feature_stands r u s x w f m) is) h.features;
   toggled = h.toggled;
 }
 

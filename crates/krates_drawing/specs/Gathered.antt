@@ -1,5 +1,5 @@
 -- What is found in a document of kept crates and edges, or what isn't there.
-use Rattle.std.specs.Prelude.{◌≡◌, ℕ, List, Some, None, filter, length, slice_get}
+use Rattle.std.specs.Prelude.{◌≡◌, ℕ, Bool, List, Some, None, filter, length, slice_get}
 use Rattle.std.specs.List.{AllZip}
 use Rattle.krates_cm.specs.Document.{Text, text_view, DependencyModel, PackageModel, NodeModel}
 use Rattle.krates_rules.specs.Facts.{Id}
@@ -21,5 +21,5 @@ pub data GivenTold (r : Resolved) (e : KeptEdge) (given : List Text) : Type 0 wh
       → given ≡ filter (has_text n.features) (asked_by d) → GivenTold r e given
 
 -- what the references of the feature name, where its crate has a package
-abbrev pub MeaningsTold : Resolved → EnabledFeature → List Meaning → Type 0
-MeaningsTold r f meanings = (p : PackageModel) → HasPackage r (id_of f.krate) p → AllZip (IsMeaning r (id_of f.krate)) (values_of p.features (text_view f.name)) meanings
+abbrev pub MeaningsTold : Resolved → Bool → EnabledFeature → List Meaning → Type 0
+MeaningsTold r all f meanings = (p : PackageModel) → HasPackage r (id_of f.krate) p → AllZip (IsMeaning r all (id_of f.krate)) (values_of p.features (text_view f.name)) meanings

@@ -1,7 +1,6 @@
 -- A selection with what drawing has to know of it: beside each crate, edge and feature what the document says of it.
-use Rattle.std.specs.Prelude.{◌≡◌, ◌↔◌, ℕ, Bool, List, [], ◌∷◌, ◌++◌, Contains, filter, length, map, if◌then◌else◌}
+use Rattle.std.specs.Prelude.{◌≡◌, ℕ, Bool, List, [], ◌∷◌, ◌++◌, filter, length, map, if◌then◌else◌}
 use Rattle.std.specs.List.{AllZip, list_any}
-use Rattle.std.specs.List.Sorted.{IsStrictlySortedBy}
 use Rattle.std.specs.Str.{bytes_eq}
 use Rattle.krates_cm.specs.Document.{Text, text_view, DependencyModel, PackageModel, NodeModel}
 use Rattle.krates_ids.specs.Identity.{Identity}
@@ -9,7 +8,7 @@ use Rattle.krates_text.specs.FeatureReference.{Reference, IsReference}
 use Rattle.krates_text.specs.FeatureReference as references
 use Rattle.krates_rules.specs.Facts.{Id, Edge}
 use Rattle.krates_rules.specs.Questions.{IsDeclaredAt}
-use Rattle.krates_rules.specs.Referent.{IsReferent, id_order}
+use Rattle.krates_rules.specs.Referent.{AreReferents}
 use Rattle.krates_rules.specs.Resolved.{Resolved, id_of, HasPackage, HasNode}
 use Rattle.krates_rules.specs.Rules.{default_name}
 use Rattle.krates_questions.specs.FeatureValues.{values_of}
@@ -85,32 +84,27 @@ pub record IsLink (r : Resolved) (s : SettingModel) (e : KeptEdge) (l : Link) : 
   pub has_node : HasNode r l.edge.child node
   pub given : l.given ≡ filter (has_text node.features) (asked_by dependency)
 
--- the crates that a dependency's name means in a reference, in the order of their ids
-pub record AreReferents (r : Resolved) (i : Id) (name : Text) (ids : List Id) : Type 0 where
-  pub exactly : (c : Id) → Contains ids c ↔ IsReferent r i name c
-  pub ascending : IsStrictlySortedBy id_order ids
-
 -- what a reference of the crate names: by its form, what its names mean
-abbrev pub Names : Resolved → Id → Reference → Meaning → Type 0
-Names r i (references.simple g) (OwnFeature name) = name ≡ g
-Names r i (references.krate d) (Crates ids) = AreReferents r i d ids
-Names r i (references.strong d g) (FeatureOf ids name) = AreReferents r i d ids × (name ≡ g)
-Names r i (references.weak d g) (FeatureOf ids name) = AreReferents r i d ids × (name ≡ g)
-Names r i _ _ = ⊥
+abbrev pub Names : Resolved → Bool → Id → Reference → Meaning → Type 0
+Names r all i (references.simple g) (OwnFeature name) = name ≡ g
+Names r all i (references.krate d) (Crates ids) = AreReferents r all i d ids
+Names r all i (references.strong d g) (FeatureOf ids name) = AreReferents r all i d ids × (name ≡ g)
+Names r all i (references.weak d g) (FeatureOf ids name) = AreReferents r all i d ids × (name ≡ g)
+Names r all i _ _ = ⊥
 
 -- the text is a reference of the crate, and names this
-pub record IsMeaning (r : Resolved) (i : Id) (text : Text) (m : Meaning) : Type 0 where
+pub record IsMeaning (r : Resolved) (all : Bool) (i : Id) (text : Text) (m : Meaning) : Type 0 where
   pub reference : Reference
   pub is : IsReference text reference
-  pub names : Names r i reference m
+  pub names : Names r all i reference m
 
 -- the sheet's feature is this one, with what each of its references names, in the package's order
-pub record IsNamed (r : Resolved) (f : EnabledFeature) (n : Named) : Type 0 where
+pub record IsNamed (r : Resolved) (all : Bool) (f : EnabledFeature) (n : Named) : Type 0 where
   pub krate : n.krate ≡ id_of f.krate
   pub name : n.name ≡ text_view f.name
   pub pkg : PackageModel
   pub has_package : HasPackage r n.krate pkg
-  pub meanings : AllZip (IsMeaning r n.krate) (values_of pkg.features n.name) n.meanings
+  pub meanings : AllZip (IsMeaning r all n.krate) (values_of pkg.features n.name) n.meanings
 
 -- a toggled feature, without what its ids' texts have beside their parts
 abbrev pub toggle_of : ToggledFeature → Toggle
@@ -120,5 +114,5 @@ toggle_of t = record { by = id_of t.by; krate = id_of t.krate; name = text_view 
 pub record IsSheet (r : Resolved) (s : SettingModel) (x : Selection) (t : Sheet) : Type 0 where
   pub krates : AllZip (IsKrate r) x.krates.items t.krates
   pub links : AllZip (IsLink r s) x.edges.items t.links
-  pub features : AllZip (IsNamed r) x.features.items t.features
+  pub features : AllZip (IsNamed r s.all_named) x.features.items t.features
   pub toggled : t.toggled ≡ map toggle_of x.toggled.items

@@ -4,7 +4,6 @@ ghost use Rattle.krates_cm.specs.Document.{dependency_view, text_view, texts_vie
 ghost use Rattle.krates_rules.specs.Admission.{NoneDoubled};
 ghost use Rattle.krates_questions.specs.DocumentModel.{as_resolved};
 ghost use Rattle.krates_rules.specs.Resolved.{id_of};
-ghost use Rattle.krates_rules.specs.Setting.{SettingModel};
 ghost use Rattle.krates_resolve.specs.Selection.{IsSelection};
 ghost use Rattle.krates_drawing.specs.Sheet.{IsSheet};
 ghost use Rattle.std.specs.List.{AllZip};
@@ -15,6 +14,7 @@ ghost use Rattle.krates_drawing.specs.Views.{meaning_view, meanings_view, sheet_
 use crate::meanings::{given_of, meanings_of};
 use crate::sheet::{Krate, Link, Meaning, Named, Sheet};
 use krates_cm::Dependency;
+use krates_document::Setting;
 use krates_ids::Kid;
 use krates_resolve::{Document, EnabledFeature, KeptEdge, Selection};
 use std::alloc::{AllocError, Global};
@@ -70,13 +70,15 @@ fn length_of(dependencies: &[Dependency]) -> usize
 pub fn meanings_by<'a>(
     alloc: Global,
     document: &Document<'a>,
+    setting: &Setting,
     feature: &EnabledFeature,
 ) -> Result<Vec<Meaning>, AllocError>
-    ensures { IfOk result (λ meanings. MeaningsTold (as_resolved document.now) feature.now
+    ensures { let all = setting.now.all_named in
+        IfOk result (λ meanings. MeaningsTold (as_resolved document.now) all feature.now
         (map meaning_view meanings.items)) }
 {
     let values = document.values(&feature.krate, feature.name.as_str());
-    meanings_of(alloc, document, &feature.krate, values)
+    meanings_of(alloc, document, setting, &feature.krate, values)
 }
 
 /// How many dependencies the packages of the crates declare.
@@ -115,14 +117,16 @@ fn givens_of<'a>(
 fn names_of<'a>(
     alloc: Global,
     document: &Document<'a>,
+    setting: &Setting,
     features: &[EnabledFeature],
 ) -> Result<Vec<Vec<Meaning>>, AllocError>
-    ensures { IfOk result (λ names. AllZip (MeaningsTold (as_resolved document.now)) features.now
+    ensures { let all = setting.now.all_named in
+        IfOk result (λ names. AllZip (MeaningsTold (as_resolved document.now) all) features.now
         (map meanings_view names.items)) }
 {
     let mut names = Vec::new(alloc);
     for feature in features {
-        names.push(meanings_by(alloc, document, feature)?)?;
+        names.push(meanings_by(alloc, document, setting, feature)?)?;
     }
     Ok(names)
 }
@@ -175,20 +179,20 @@ fn features_with(
         .collect(alloc)
 }
 
-/// The sheet of a selection: beside each crate, edge and feature what the document says of it.
+/// The sheet of a selection under a setting: beside each crate, edge and feature what the document says of it.
 ///
 /// The only error is running out of memory.
 pub fn sheet_of<'a>(
     alloc: Global,
     document: &Document<'a>,
+    setting: &Setting,
     selection: Selection,
 ) -> Result<Sheet, AllocError>
     requires distinct { NoneDoubled (as_resolved document.now).metadata (as_resolved document.now).graph }
-    ensures sheet { IfOk result (λ sheet. (s : SettingModel) → IsSelection
-        (as_resolved document.now) s selection → IsSheet (as_resolved document.now) s selection
-        (sheet_view sheet)) }
-    ensures ordered { IfOk result (λ sheet. (s : SettingModel) → IsSelection
-        (as_resolved document.now) s selection → IsOrdered sheet) }
+    ensures sheet { IfOk result (λ sheet. IsSelection (as_resolved document.now) setting.now selection
+        → IsSheet (as_resolved document.now) setting.now selection (sheet_view sheet)) }
+    ensures ordered { IfOk result (λ sheet. IsSelection (as_resolved document.now) setting.now selection
+        → IsOrdered sheet) }
 {
     let Selection {
         krates,
@@ -200,7 +204,7 @@ pub fn sheet_of<'a>(
     } = selection;
     let counts = counts_of(alloc, document, &krates)?;
     let givens = givens_of(alloc, document, &edges)?;
-    let names = names_of(alloc, document, &features)?;
+    let names = names_of(alloc, document, setting, &features)?;
     let krates = krates_with(alloc, krates, counts)?;
     let links = links_with(alloc, edges, givens)?;
     let features = features_with(alloc, features, names)?;

@@ -1,17 +1,21 @@
 //! What the references of a feature name, and what a kept edge gives.
-ghost use Rattle.std.specs.Prelude.{◌≡◌, ◌++◌, ◌∷◌, [], map, filter, IfOk, OnOk};
+ghost use Rattle.std.specs.Prelude.{◌≡◌, ◌++◌, map, filter, IfOk, OnOk};
 ghost use Rattle.std.specs.List.{AllZip};
 ghost use Rattle.std.specs.Option.{option_map};
 ghost use Rattle.krates_cm.specs.Document.{node_view, dependency_view, text_view};
 ghost use Rattle.krates_questions.specs.DocumentModel.{as_resolved};
 ghost use Rattle.krates_rules.specs.Resolved.{id_of};
-ghost use Rattle.krates_drawing.specs.Sheet.{AreReferents, IsMeaning, asked_by, has_text as has};
+ghost use Rattle.krates_questions.specs.ReferentPlace.{referent_id};
+ghost use Rattle.krates_rules.specs.Referent.{AreReferents};
+ghost use Rattle.krates_drawing.specs.Sheet.{IsMeaning, asked_by, has_text as has};
 ghost use Rattle.krates_drawing.specs.Views.{meaning_view};
 
 use crate::sheet::Meaning;
 use crate::text_set::TextSet;
 use krates_cm::{Dependency, Node};
-use krates_ids::{Kid, laws};
+use krates_document::Setting;
+use krates_ids::Kid;
+use krates_questions::referent::Referent;
 use krates_resolve::Document;
 use krates_text::features::{Feature, ParsedFeature};
 use std::alloc::{AllocError, Global};
@@ -19,29 +23,30 @@ use std::alloc::{AllocError, Global};
 /// Fewer features than these are looked for one by one, since a set of what is listed costs more.
 const FEW: usize = 8;
 
-/// The crates that a dependency's name means in a reference of a crate.
+/// The crates that a dependency's name means in a reference of a crate, in the order of ids.
 fn referents_of<'a>(
     alloc: Global,
     document: &Document<'a>,
+    setting: &Setting,
     krate: &Kid,
     name: &str,
 ) -> Result<Vec<Kid>, AllocError>
-    ensures { IfOk result (λ ids. AreReferents (as_resolved document.now) (id_of krate.now) name.now
+    ensures { let all = setting.now.all_named in
+        IfOk result (λ ids. AreReferents (as_resolved document.now) all (id_of krate.now) name.now
         (map id_of ids.items)) }
 {
-    laws::comparison();
-    match document.referent(krate, name) {
-        Some(child) => alone(alloc, child),
-        None => Ok(Vec::new(alloc)),
-    }
+    let referents = document.referents(alloc, setting, krate, name)?;
+    ids_of(alloc, &referents)
 }
 
-/// A copy of the id, in a list.
-fn alone(alloc: Global, id: &Kid) -> Result<Vec<Kid>, AllocError>
-    ensures { IfOk result (λ ids. map id_of ids.items ≡ id_of id.now ∷ []) }
+/// Copies of the ids of these referents.
+fn ids_of<'a>(alloc: Global, referents: &[Referent<'a>]) -> Result<Vec<Kid>, AllocError>
+    ensures { IfOk result (λ ids. map id_of ids.items ≡ map referent_id referents.now) }
 {
     let mut ids = Vec::new(alloc);
-    ids.push(id.clone()?)?;
+    for referent in referents {
+        ids.push(referent.id.clone()?)?;
+    }
     Ok(ids)
 }
 
@@ -49,27 +54,31 @@ fn alone(alloc: Global, id: &Kid) -> Result<Vec<Kid>, AllocError>
 pub fn meaning_of<'a>(
     alloc: Global,
     document: &Document<'a>,
+    setting: &Setting,
     krate: &Kid,
     text: &str,
 ) -> Result<Meaning, AllocError>
-    ensures { IfOk result (λ meaning. IsMeaning (as_resolved document.now) (id_of krate.now) text.now
+    ensures { let all = setting.now.all_named in
+        IfOk result (λ meaning. IsMeaning (as_resolved document.now) all (id_of krate.now) text.now
         (meaning_view meaning)) }
 {
     match ParsedFeature::from(text).feat() {
         Feature::Simple(name) => Ok(Meaning::OwnFeature(String::from_str(alloc, name)?)),
-        Feature::Krate(name) => Ok(Meaning::Crates(referents_of(alloc, document, krate, name)?)),
+        Feature::Krate(name) => Ok(Meaning::Crates(referents_of(
+            alloc, document, setting, krate, name,
+        )?)),
         Feature::Weak {
             krate: name,
             feature,
         } => Ok(Meaning::FeatureOf {
-            krates: referents_of(alloc, document, krate, name)?,
+            krates: referents_of(alloc, document, setting, krate, name)?,
             name: String::from_str(alloc, feature)?,
         }),
         Feature::Strong {
             krate: name,
             feature,
         } => Ok(Meaning::FeatureOf {
-            krates: referents_of(alloc, document, krate, name)?,
+            krates: referents_of(alloc, document, setting, krate, name)?,
             name: String::from_str(alloc, feature)?,
         }),
     }
@@ -79,15 +88,17 @@ pub fn meaning_of<'a>(
 pub fn meanings_of<'a>(
     alloc: Global,
     document: &Document<'a>,
+    setting: &Setting,
     krate: &Kid,
     values: &[String],
 ) -> Result<Vec<Meaning>, AllocError>
-    ensures { IfOk result (λ meanings. AllZip (IsMeaning (as_resolved document.now) (id_of krate.now))
+    ensures { let all = setting.now.all_named in
+        IfOk result (λ meanings. AllZip (IsMeaning (as_resolved document.now) all (id_of krate.now))
         (map text_view values.now) (map meaning_view meanings.items)) }
 {
     let mut meanings = Vec::new(alloc);
     for text in values {
-        meanings.push(meaning_of(alloc, document, krate, text.as_str())?)?;
+        meanings.push(meaning_of(alloc, document, setting, krate, text.as_str())?)?;
     }
     Ok(meanings)
 }

@@ -34,7 +34,7 @@ fn sheet(alloc: Global, metadata: &Metadata) -> Result<Sheet, Fail>
     let setting = Setting::new(alloc);
     let selection = select(alloc, metadata, &ids, &setting)?;
     let document = Document::new(alloc, metadata, &ids)?;
-    Ok(sheet_of(alloc, &document, selection)?)
+    Ok(sheet_of(alloc, &document, &setting, selection)?)
 }
 
 /// How many nodes and edges are drawn of a document within the limits of its line.

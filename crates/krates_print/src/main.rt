@@ -19,7 +19,7 @@ use std::process::ExitCode;
 use std::{env, io};
 
 const USAGE: &str =
-    "usage: krates_print [queries] [--workspace] [--ignore-kind KIND] [--target TRIPLE] [--exclude SPEC]";
+    "usage: krates_print [queries] [--workspace] [--ignore-kind KIND] [--target TRIPLE] [--exclude SPEC] [--all-named]";
 
 /// What is asked for.
 #[derive(Drop)]

@@ -179,7 +179,7 @@ fn refuses_where_the_first_write_fails(rt: HostRuntime) -> Result<(), Fail> {
 
 /// What is told of words that are no options.
 pub(crate) const USAGE: &str =
-    "usage: krates-list [--workspace] [--ignore-kind KIND] [--target TRIPLE] [--exclude SPEC] [--cargo PROGRAM]\n";
+    "usage: krates-list [--workspace] [--ignore-kind KIND] [--target TRIPLE] [--exclude SPEC] [--cargo PROGRAM] [--all-named]\n";
 
 #[test]
 fn answers_the_usage_line_to_an_unknown_word(rt: HostRuntime) -> Result<(), Fail> {

@@ -9,7 +9,6 @@ use Rattle.krates_questions.specs.Lookup.{TellsMember}
 use Rattle.krates_questions.specs.NodeEntry.{parent_of, child_of, declared_in, entry_of, IsEntry, edge_for}
 use Rattle.krates_rules.specs.Questions.{ListsEdge, IsDeclaredAt, IsWanted, IsLoose}
 use Rattle.krates_rules.specs.Resolved.{Resolved}
-use Rattle.krates_rules.specs.Rules.{target}
 use Rattle.krates_questions.specs.declared.node_entry.NodeEntry.{NodeEntry}
 use Rattle.krates_rules.specs.Setting.{SettingModel, IsIgnored, of_member, of_other, Passes}
 use Rattle.krates_document.proofs.DeclaredOnce.{declared_once, declared_stands}

@@ -144,17 +144,17 @@ past_here r parts name i least past (e, w, before) = let lt = slice_get_within p
 
 -- ---- what the name means
 
-has_dep_at : (r : Resolved) (parts : NodeParts) (name : Text) (k : ℕ) (c : Identity) → (p : AreParts r parts.place parts) → (a : AnswersAt r parts name k c) → (slice_get p.at.node.deps k ≡ Some a.dep) × HasDep p.at.node (id_of c) a.dep
+pub has_dep_at : (r : Resolved) (parts : NodeParts) (name : Text) (k : ℕ) (c : Identity) → (p : AreParts r parts.place parts) → (a : AnswersAt r parts name k c) → (slice_get p.at.node.deps k ≡ Some a.dep) × HasDep p.at.node (id_of c) a.dep
 has_dep_at r parts name k c p a =
     let here : slice_get p.at.node.deps k ≡ Some a.dep = ap (λ ds. slice_get ds k) p.deps ∙ a.here in
     (here, has_dep_here p.at.node parts.children.now k a.dep c p.children here a.at)
 
 -- what answers is named
-named_there : (r : Resolved) (parts : NodeParts) (name : Text) (k : ℕ) (c : Identity) → AreParts r parts.place parts → AnswersAt r parts name k c → AnswersIn r (id_of parts.parent.now) name (id_of c)
+pub named_there : (r : Resolved) (parts : NodeParts) (name : Text) (k : ℕ) (c : Identity) → AreParts r parts.place parts → AnswersAt r parts name k c → AnswersIn r (id_of parts.parent.now) name (id_of c)
 named_there r parts name k c p a = record { node = p.at.node; has_node = p.has_node; dep = a.dep; has_dep = (has_dep_at r parts name k c p a).1; answers = a.answers }
 
 -- and what is named answers at some place
-answers_there : ReadsOnce → (r : Resolved) (parts : NodeParts) (name : Text) (child : Id) → NoneDoubled r.metadata r.graph → AreParts r parts.place parts → AnswersIn r (id_of parts.parent.now) name child
+pub answers_there : ReadsOnce → (r : Resolved) (parts : NodeParts) (name : Text) (child : Id) → NoneDoubled r.metadata r.graph → AreParts r parts.place parts → AnswersIn r (id_of parts.parent.now) name child
     → (k : ℕ) × (c : Identity) × (k < length parts.children.now) × AnswersAt r parts name k c × (id_of c ≡ child)
 answers_there once r parts name child none p n =
     let same = one_node r (id_of parts.parent.now) n.node p.at.node none n.has_node p.has_node in
@@ -212,7 +212,7 @@ by_either r parts name n kids own children these those k c d a b seen shown at t
     Contains-append_right these those k (shown.each k (subst (λ (t : Text). StandsUnder children t no_target k) (sym e) (b.each k c there)))
 
 -- each dependency that answers is among them
-answers_among : ReadsOnce → (r : Resolved) (parts : NodeParts) (name : Text) (kids : List Identity) (own children : List NamedPlace) (these those : List ℕ) (k : ℕ) (c : Identity) → (p : AreParts r parts.place parts) → AreDepIds p.at.node kids
+pub answers_among : ReadsOnce → (r : Resolved) (parts : NodeParts) (name : Text) (kids : List Identity) (own children : List NamedPlace) (these those : List ℕ) (k : ℕ) (c : Identity) → (p : AreParts r parts.place parts) → AreDepIds p.at.node kids
     → AreDepsOf p.at.node own → AreIdsNamed kids children → AreLookedAt name own these → AreLookedAt name children those → AnswersAt r parts name k c → Contains (these ++ those) k
 answers_among once r parts name kids own children these those k c p read a b seen shown w =
     let at = (has_dep_at r parts name k c p w).0 in
@@ -221,7 +221,7 @@ answers_among once r parts name kids own children these those k c p read a b see
 -- all have been gone over
 pub referent_told : ReadsOnce → (r : Resolved) (parts : NodeParts) (name : Text) (kids : List Identity) (own children : List NamedPlace) (these those : List ℕ) (least : Option ℕ) → NoneDoubled r.metadata r.graph
     → (p : AreParts r parts.place parts) → AreDepIds p.at.node kids → AreDepsOf p.at.node own → AreIdsNamed kids children → AreLookedAt name own these → AreLookedAt name children those → IsLeastOf r parts name (these ++ those) least
-    → MatchOption least ((child : Id) → IsReferent r (id_of parts.parent.now) name child → ⊥) (IsReferentAt r parts name)
+    → MatchOption least ((child : Id) → IsReferent r false (id_of parts.parent.now) name child → ⊥) (IsReferentAt r parts name)
 referent_told once r parts name kids own children these those None doubled p read a b seen shown none = λ child referent.
     let w = answers_there once r parts name child doubled p referent.is_named in
     none w.0 w.1 (answers_among once r parts name kids own children these those w.0 w.1 p read a b seen shown w.3) w.3
@@ -233,7 +233,7 @@ referent_told once r parts name kids own children these those (Some k) doubled p
       dep = record { node = p.at; dep = w.answers.dep; at = has.0; id = has.1.id };
       is = record {
         is_named = named_there r parts name k w.child p w.answers;
-        least = λ other named.
+        least = λ off other named.
             let o = answers_there once r parts name other doubled p named in
             subst (λ x. id_order (id_of w.child) x ≢ Greater) o.4 (w.least o.0 o.1 (answers_among once r parts name kids own children these those o.0 o.1 p read a b seen shown o.3) o.3);
       };

@@ -1,6 +1,8 @@
+pub mod AllReferents
 pub mod Asked
 pub mod ChildPlaces
 pub mod Declared
+pub mod DepPlaces
 pub mod Distinct
 pub mod Entries
 pub mod FeatureNames

@@ -1,18 +1,16 @@
 -- What there is for an edge of an entry, and for what a node depends on.
-use Rattle.std.proofs.Common.{◌≡◌, ◌↔◌, ℕ, ◌<◌, List, Bor, Option, Some, None, option_map, Contains, get_or, length, map, sym, ap, ◌∙◌, subst}
+use Rattle.std.proofs.Common.{◌≡◌, ◌↔◌, ℕ, ◌<◌, List, Some, option_map, Contains, get_or, length, map, sym, ap, ◌∙◌, subst}
 use Rattle.std.proofs.lemmas.Option.{slice_get-map, slice_get-get_or, same_Some}
 use Rattle.std.specs.List.{slice_get}
-use Rattle.krates_cm.specs.Document.{Text, DependencyModel, DepKindInfoModel, NodeDepModel, NodeModel, node_dep_view, dependency_view}
+use Rattle.krates_cm.specs.Document.{DependencyModel, DepKindInfoModel, NodeDepModel, NodeModel, node_dep_view, dependency_view}
 use Rattle.krates_cm.specs.declared.dependency.Dependency.{Dependency}
-use Rattle.krates_ids.specs.Identity.{Identity, Reads}
+use Rattle.krates_ids.specs.Identity.{Reads}
 use Rattle.krates_rules.specs.Admission.{NoneDoubled, dep_texts}
 use Rattle.krates_rules.specs.DeclaredDependency.{dependency_entry, IsDeclared, IsUndeclared}
 use Rattle.krates_rules.specs.Facts.{Id, Edge}
 use Rattle.krates_rules.specs.Questions.{Declares, IsDeclaredAs, IsLeftOut, ListsEdge, edge_between}
-use Rattle.krates_rules.specs.Referent.{IsReferent}
 use Rattle.krates_rules.specs.Resolved.{Resolved, HasNode, HasDep, id_of}
 use Rattle.krates_rules.specs.Setting.{SettingModel, IsIgnored, Passes}
-use Rattle.krates_questions.specs.DocumentAnswers.{TellsReferent}
 use Rattle.krates_questions.specs.LookedUp.{ArePartsOf, NoDep, IsEntryBetween, TellsDeclared}
 use Rattle.krates_questions.specs.Need.{HasChild, ListsKind, IsDeclaredOnly, IsWantedAs, TellsNeed}
 use Rattle.krates_questions.specs.NodeEntry.{IsEntry, parent_of, child_of, declared_in, entry_of, edge_for}
@@ -27,7 +25,6 @@ use Rattle.krates_rules.proofs.OnlyOne.{one_dep, one_node, place_in}
 use Rattle.krates_rules.proofs.Standings.{not_included, contains_at}
 use Rattle.krates_questions.proofs.Asked.{declared_told}
 use Rattle.krates_questions.proofs.Entries.{Heeds, loose, not_loose, own_dep, wanted, wanted_one}
-use Rattle.krates_questions.proofs.OneReferent.{one_referent}
 
 -- the node's dependency doesn't list the kind and target
 pub unlisted_need : (r : Resolved) (s : SettingModel) (x : NodeEntry) (k : DepKindInfoModel) → NoneDoubled r.metadata r.graph → IsEntry r x
@@ -162,12 +159,3 @@ kinds_told r p child k x none b =
           subst (λ (m : NodeDepModel). Contains m.dep_kinds k) same l.lists.has_kind),
       λ c. record { dep = node_dep_view x.dep.now; lists = record { node = b.entry.node; has_node = has; has_dep = dep; has_kind = c } },
     )
-
--- a name means one crate
-pub meant_told : (r : Resolved) (p : Id) (name : Text) (child : Id) (answer : Option (Bor Identity)) → TellsReferent r p name answer
-    → IsReferent r p name child ↔ (option_map (λ (k : Bor Identity). id_of k.now) answer ≡ Some child)
-meant_told r p name child None none = (λ h. absurd (none child h), λ e. absurd cc)
-meant_told r p name child (Some k) h = (
-  λ x. ap (λ i. Some i) (one_referent r p name (id_of k.now) child h x),
-  λ e. subst (IsReferent r p name) (same_Some (id_of k.now) child e) h,
-)

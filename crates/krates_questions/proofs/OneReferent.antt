@@ -1,5 +1,5 @@
--- A name means at most one crate.
-use Rattle.std.proofs.Common.{◌≡◌, ◌≢◌, Ordering, Less, Equal, Greater, refl}
+-- Where a name doesn't mean all that answer to it, it means at most one crate.
+use Rattle.std.proofs.Common.{◌≡◌, ◌≢◌, false, Ordering, Less, Equal, Greater, refl}
 use Rattle.std.proofs.lemmas.Cmp.{nat_list_cmp_total, on_total, then_total}
 use Rattle.std.proofs.lemmas.Map.Lookups.{exact_bytes}
 use Rattle.std.specs.Cmp.{IsTotalOrder}
@@ -28,5 +28,5 @@ equal_id a b h =
     let v = both_equal _ _ w.1 in
     rw (exact_bytes a.name b.name w.0, exact_bytes a.version b.version v.0, exact_bytes a.source b.source v.1) refl
 
-pub one_referent : (r : Resolved) (i : Id) (name : Text) (a b : Id) → IsReferent r i name a → IsReferent r i name b → a ≡ b
-one_referent r i name a b x y = equal_id a b (neither_greater (id_order a b) (id_order b a) (id_order_total.antisymm a b) (x.least b y.is_named) (y.least a x.is_named))
+pub one_referent : (r : Resolved) (i : Id) (name : Text) (a b : Id) → IsReferent r false i name a → IsReferent r false i name b → a ≡ b
+one_referent r i name a b x y = equal_id a b (neither_greater (id_order a b) (id_order b a) (id_order_total.antisymm a b) (x.least refl b y.is_named) (y.least refl a x.is_named))

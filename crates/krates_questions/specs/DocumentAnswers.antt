@@ -1,5 +1,5 @@
 -- What a document answers to each question of the rules.
-use Rattle.std.specs.Prelude.{◌↔◌, ℕ, List, Option, MatchOption, Contains, map}
+use Rattle.std.specs.Prelude.{◌↔◌, ℕ, Bool, List, Option, false, MatchOption, Contains, map}
 use Rattle.std.specs.Borrow.{Bor}
 use Rattle.std.specs.Global.{Vec}
 use Rattle.krates_cm.specs.Document.{DependencyModel, Text, dep_kind_info_view}
@@ -7,17 +7,23 @@ use Rattle.krates_cm.specs.declared.resolve.DepKindInfo.{DepKindInfo}
 use Rattle.krates_ids.specs.Identity.{Identity}
 use Rattle.krates_rules.specs.Facts.{Edge, Id}
 use Rattle.krates_rules.specs.Questions.{Declares, edge_between, questions}
-use Rattle.krates_rules.specs.Referent.{IsReferent}
+use Rattle.krates_rules.specs.Referent.{AreReferents, IsReferent}
 use Rattle.krates_rules.specs.Resolved.{Resolved, id_of}
 use Rattle.krates_rules.specs.Roots.{IsRoot}
 use Rattle.krates_rules.specs.Rules.{Open}
 use Rattle.krates_rules.specs.Setting.{SettingModel}
+use Rattle.krates_questions.specs.ReferentPlace.{referent_id}
 use Rattle.krates_questions.specs.RootOrder.{AreInOrder}
+use Rattle.krates_questions.specs.declared.referent.Referent.{Referent}
 
--- what the name means in a reference of the crate, or none where it means nothing
+-- the least that the name means in a reference of the crate, or none where it means nothing
 abbrev pub TellsReferent : Resolved → Id → Text → Option (Bor Identity) → Type 0
 TellsReferent r i name answer =
-    MatchOption answer ((child : Id) → IsReferent r i name child → ⊥) (λ child. IsReferent r i name (id_of child.now))
+    MatchOption answer ((child : Id) → IsReferent r false i name child → ⊥) (λ child. IsReferent r false i name (id_of child.now))
+
+-- all that the name means, in the order of ids
+abbrev pub TellsReferents : Resolved → Bool → Id → Text → Vec Referent → Type 0
+TellsReferents r all i name referents = AreReferents r all i name (map referent_id referents.items)
 
 -- ---- the roots
 

@@ -1,6 +1,6 @@
 //! What a document and a setting answer of the dependencies of a crate.
 
-ghost use Rattle.std.specs.Prelude.{◌≡◌, ◌↔◌, Contains, IfOk, IsTrue, Some, map, option_map};
+ghost use Rattle.std.specs.Prelude.{◌↔◌, Contains, IfOk, IsTrue, map, true};
 ghost use Rattle.krates_cm.specs.Document.{DepKindInfoModel, dep_kind_info_view};
 ghost use Rattle.krates_questions.specs.Basis.{document_of};
 ghost use Rattle.krates_questions.specs.DocumentModel.{as_resolved};
@@ -20,6 +20,7 @@ use crate::node_entry::{NodeEntry, declared_at};
 use crate::questions::{
     Document, declared_for, entry_between, is_same, lists, parts_for, referent_in,
 };
+use crate::referent::answers_to;
 use krates_cm::{DepKindInfo, Dependency};
 use krates_document::setting::Setting;
 use krates_ids::{Kid, laws};
@@ -56,20 +57,14 @@ impl<'a> Document<'a> {
         kinds_in(&self.lookup, krate, child)
     }
 
-    /// What a name means in a feature reference of a crate, as `referent` has it: this, and nothing else. Time: as `kinds`.
-    pub fn meant(&self, krate: &Kid, name: &str) -> Option<&'a Kid>
-        ensures { (child : Id) → IsReferent (as_resolved self.now) (id_of krate.now) name.now child
-            ↔ (option_map (λ k. id_of k.now) result ≡ Some child) }
+    /// Whether a name in a feature reference of a crate means another crate under a setting, as `referents` has it. Time: as
+    /// `kinds`.
+    pub fn means(&self, setting: &Setting, krate: &Kid, name: &str, child: &Kid) -> bool
+        ensures { let all = setting.now.all_named in
+            IsTrue result
+            ↔ IsReferent (as_resolved self.now) all (id_of krate.now) name.now (id_of child.now) }
     {
-        meant_in(&self.lookup, krate, name)
-    }
-
-    /// Whether a name in a feature reference of a crate means another crate, as `referent` has it. Time: as `kinds`.
-    pub fn means(&self, krate: &Kid, name: &str, child: &Kid) -> bool
-        ensures { IsTrue result
-            ↔ IsReferent (as_resolved self.now) (id_of krate.now) name.now (id_of child.now) }
-    {
-        means_in(&self.lookup, krate, name, child)
+        means_in(&self.lookup, krate, name, child, setting.is_all_named())
     }
 
     /// What there is for a dependency of a crate on another, of one kind and for one target, under a setting. Whether it is
@@ -141,23 +136,29 @@ fn kinds_in<'a>(lookup: &Lookup<'a>, krate: &Kid, child: &Kid) -> &'a [DepKindIn
     }
 }
 
-/// What a name means.
-fn meant_in<'a>(lookup: &Lookup<'a>, krate: &Kid, name: &str) -> Option<&'a Kid>
-    requires { IsLookup lookup.now }
-    ensures { (child : Id) → IsReferent (resolved_view lookup.now) (id_of krate.now) name.now child
-        ↔ (option_map (λ k. id_of k.now) result ≡ Some child) }
-{
-    referent_in(lookup, krate, name)
-}
-
 /// Whether a name means a crate.
-fn means_in<'a>(lookup: &Lookup<'a>, krate: &Kid, name: &str, child: &Kid) -> bool
+fn means_in<'a>(lookup: &Lookup<'a>, krate: &Kid, name: &str, child: &Kid, all: bool) -> bool
     requires { IsLookup lookup.now }
     ensures { IsTrue result
-        ↔ IsReferent (resolved_view lookup.now) (id_of krate.now) name.now (id_of child.now) }
+        ↔ IsReferent (resolved_view lookup.now) all (id_of krate.now) name.now (id_of child.now) }
 {
+    if all {
+        return answers_in(lookup, krate, name, child);
+    }
     match referent_in(lookup, krate, name) {
         Some(referent) => is_same(referent, child),
+        None => false,
+    }
+}
+
+/// Whether a crate is a dependency of another that answers to a name.
+fn answers_in<'a>(lookup: &Lookup<'a>, krate: &Kid, name: &str, child: &Kid) -> bool
+    requires { IsLookup lookup.now }
+    ensures { IsTrue result
+        ↔ IsReferent (resolved_view lookup.now) true (id_of krate.now) name.now (id_of child.now) }
+{
+    match entry_between(lookup, krate, child) {
+        Some(entry) => answers_to(lookup, entry.child, entry.dep, name),
         None => false,
     }
 }

@@ -6,7 +6,7 @@ ghost use Rattle.krates_cm.specs.Document.{dep_kind_info_view, metadata_view, no
 ghost use Rattle.krates_rules.specs.Admission.{HasVersion, IsAdmitted};
 ghost use Rattle.krates_questions.specs.DocumentModel.{IsDocumentOf, as_resolved};
 ghost use Rattle.krates_document.specs.Ids.{ids_view};
-ghost use Rattle.krates_questions.specs.DocumentAnswers.{AreRoots, AreRootsInOrder, IsOpenAs, TellsDeclaredPlace, TellsReferent, edge_asked};
+ghost use Rattle.krates_questions.specs.DocumentAnswers.{AreRoots, AreRootsInOrder, IsOpenAs, TellsDeclaredPlace, TellsReferent, TellsReferents, edge_asked};
 ghost use Rattle.krates_questions.specs.LookedUp.{PicksRoots, TellsDeclared, TellsEntry, TellsParts};
 ghost use Rattle.krates_questions.specs.Lookup.{IsLookup, resolved_view};
 ghost use Rattle.krates_document.specs.NamedPlaces.{places_in};
@@ -21,7 +21,7 @@ mod contents;
 use crate::basis::Basis;
 use crate::lookup::{Lookup, lookup_of, node_place};
 use crate::node_entry::{NodeEntry, NodeParts, declared_places, entry_at, is_same_info, parts_of};
-use crate::referent::referent_of;
+use crate::referent::{Referent, referent_of, referents_of};
 use crate::root_choice::{RootChoice, choice_of, is_root};
 use crate::standing::{Standing, standing_of};
 use krates_cm::{DepKindInfo, Metadata, NodeDep};
@@ -78,7 +78,7 @@ impl<'a> Document<'a> {
         Ok(Document { lookup })
     }
 
-    /// What a name means in a feature reference of a crate, as `dep:NAME` or `NAME/FEATURE`: the least, by id, of the
+    /// The least that a name means in a feature reference of a crate, as `dep:NAME` or `NAME/FEATURE`: the first, by id, of the
     /// dependencies of its node that answer to the name (Cargo Book, "Features" and "cargo metadata", `resolve`).
     ///
     /// A dependency answers to its own name, and to that of its package where its own is the package's library. In its
@@ -87,6 +87,23 @@ impl<'a> Document<'a> {
         ensures { TellsReferent (as_resolved self.now) (id_of krate.now) name.now result }
     {
         referent_in(&self.lookup, krate, name)
+    }
+
+    /// All that a name means in a feature reference of a crate under a setting, in the order of ids: all dependencies of its node
+    /// that answer to the name, as `referent` has it, or the least of them alone. Nothing where it has no node.
+    ///
+    /// The only error is running out of memory. Time: as `kinds`, and O(n log n) in the dependencies that have the name.
+    pub fn referents(
+        &self,
+        alloc: Global,
+        setting: &Setting,
+        krate: &Kid,
+        name: &str,
+    ) -> Result<Vec<Referent<'a>>, AllocError>
+        ensures { let all = setting.now.all_named in
+            IfOk result (TellsReferents (as_resolved self.now) all (id_of krate.now) name.now) }
+    {
+        referents_in(alloc, &self.lookup, krate, name, setting.is_all_named())
     }
 
     /// The crates that are kept for themselves under a setting, also those that the setting excludes.
@@ -150,7 +167,7 @@ impl<'a> Document<'a> {
     }
 }
 
-/// What a name means in a reference of a crate.
+/// The least that a name means in a reference of a crate.
 pub(crate) fn referent_in<'a>(lookup: &Lookup<'a>, krate: &Kid, name: &str) -> Option<&'a Kid>
     requires { IsLookup lookup.now }
     ensures { TellsReferent (resolved_view lookup.now) (id_of krate.now) name.now result }
@@ -162,6 +179,23 @@ pub(crate) fn referent_in<'a>(lookup: &Lookup<'a>, krate: &Kid, name: &str) -> O
         return None;
     };
     Some(entry_at(&parts, index).child)
+}
+
+/// All that a name means in a reference of a crate.
+fn referents_in<'a>(
+    alloc: Global,
+    lookup: &Lookup<'a>,
+    krate: &Kid,
+    name: &str,
+    all: bool,
+) -> Result<Vec<Referent<'a>>, AllocError>
+    requires { IsLookup lookup.now }
+    ensures { IfOk result (TellsReferents (resolved_view lookup.now) all (id_of krate.now) name.now) }
+{
+    match parts_for(lookup, krate) {
+        Some(parts) => referents_of(alloc, lookup, &parts, name, all),
+        None => Ok(Vec::new(alloc)),
+    }
 }
 
 /// The node of a crate, taken apart; none where it has no node.

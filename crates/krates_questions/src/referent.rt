@@ -1,22 +1,105 @@
-//! Which dependency a name in a feature reference means.
+//! Which dependencies a name in a feature reference means.
 
-ghost use Rattle.std.specs.Prelude.{◌↔◌, ◌<◌, Contains, IfSome, IsTrue, length, option_map};
+ghost use Rattle.std.specs.Prelude.{◌↔◌, ◌<◌, Contains, IfOk, IfSome, IsTrue, OnOk, length, option_map, true};
 ghost use Rattle.krates_cm.specs.Document.{package_view, target_view};
 ghost use Rattle.krates_cm.specs.declared.target.TargetKind.TheVariants.{Lib};
 ghost use Rattle.krates_document.specs.NamedPlaces.{places_in};
 ghost use Rattle.krates_questions.specs.Lookup.{IsLookup, resolved_view};
 ghost use Rattle.krates_questions.specs.NodeEntry.{AreParts};
 ghost use Rattle.krates_rules.specs.Referent.{IsLibraryRename};
-ghost use Rattle.krates_questions.specs.ReferentPlace.{AnswersBefore, GoesOn, IsBefore, IsLibraryOf, TellsReferent, AnswersAs};
+ghost use Rattle.krates_questions.specs.ReferentPlace.{AnswersAs, AnswersBefore, AreReferentsIn, FindsMore, GoesOn, IsBefore, IsLibraryOf, TellsReferent};
 
 use crate::lookup::{Lookup, package_of};
 use crate::node_entry::NodeParts;
+use crate::sorted::in_order;
 use krates_cm::{NodeDep, Package, Target, TargetKind};
 use krates_document::dependency_name::is_name_of;
 use krates_document::named_places::{NamedPlace, places_under};
 use krates_ids::{Kid, laws};
+use std::alloc::{AllocError, Global};
 
-/// The place of the dependency that a name means in a reference of a crate: the least, by id, of the dependencies of its node
+/// A dependency of a node that a name means.
+#[derive(Clone, Copy, Debug, Drop, PartialEq, Eq, PartialOrd, Ord)]
+pub struct Referent<'a> {
+    /// The crate that is depended on.
+    pub id: &'a Kid,
+    /// Its place among the dependencies of the node.
+    pub place: usize,
+}
+
+/// All that a name means in a reference of a crate, in the order of ids: the dependencies of its node that answer to it, as
+/// `referent_of` has it, or the least of them alone.
+///
+/// Only those are looked at that have the name, which are found by halves. The only error is running out of memory.
+pub fn referents_of<'a>(
+    alloc: Global,
+    lookup: &Lookup<'a>,
+    parts: &NodeParts<'a>,
+    name: &str,
+    all: bool,
+) -> Result<Vec<Referent<'a>>, AllocError>
+    requires lookup { IsLookup lookup.now }
+    requires parts { AreParts (resolved_view lookup.now) parts.now.place parts.now }
+    ensures { IfOk result (λ found. AreReferentsIn (resolved_view lookup.now) all parts.now name.now
+        found.items) }
+{
+    if all {
+        return all_referents(alloc, lookup, parts, name);
+    }
+    let mut referents = Vec::new(alloc);
+    if let Some(place) = referent_of(lookup, parts, name) {
+        let id = &parts.children[place];
+        referents.push(Referent { id, place })?;
+    }
+    Ok(referents)
+}
+
+/// All dependencies of a node that answer to a name, in the order of ids.
+fn all_referents<'a>(
+    alloc: Global,
+    lookup: &Lookup<'a>,
+    parts: &NodeParts<'a>,
+    name: &str,
+) -> Result<Vec<Referent<'a>>, AllocError>
+    requires lookup { IsLookup lookup.now }
+    requires parts { AreParts (resolved_view lookup.now) parts.now.place parts.now }
+    ensures { IfOk result (λ found. AreReferentsIn (resolved_view lookup.now) true parts.now name.now
+        found.items) }
+{
+    laws::one_reading();
+    laws::comparison();
+    let mut referents = Vec::new(alloc);
+    let own = places_under(&lookup.names.deps[parts.place], name, "");
+    push_answering(lookup, parts, own, name, &mut referents)?;
+    let of_package = places_under(&lookup.names.children[parts.place], name, "");
+    push_answering(lookup, parts, of_package, name, &mut referents)?;
+    in_order(referents)
+}
+
+/// Adds those of these dependencies that answer to a name.
+fn push_answering<'a>(
+    lookup: &Lookup<'a>,
+    parts: &NodeParts<'a>,
+    places: &[NamedPlace<'_>],
+    name: &str,
+    referents: &mut Vec<Referent<'a>>,
+) -> Result<(), AllocError>
+    requires lookup { IsLookup lookup.now }
+    requires parts { AreParts (resolved_view lookup.now) parts.now.place parts.now }
+    ensures { OnOk result (FindsMore (resolved_view lookup.now) parts.now name.now (places_in places.now)
+        referents.old.items referents.new.items) }
+{
+    for there in places {
+        let place = there.place;
+        if is_lesser(lookup, parts, name, place, None) {
+            let id = &parts.children[place];
+            referents.push(Referent { id, place })?;
+        }
+    }
+    Ok(())
+}
+
+/// The place of the least dependency, by id, that a name means in a reference of a crate: of the dependencies of its node
 /// that answer to it, by their own name or by that of their package where their own is the package's library
 /// (Cargo Book, "Features" and "cargo metadata", `resolve`).
 ///
@@ -90,7 +173,7 @@ fn is_before(ids: &[Kid], id: &Kid, place: Option<usize>) -> bool
 }
 
 /// Whether a dependency of a node answers to a name.
-fn answers_to<'a>(lookup: &Lookup<'a>, child: &'a Kid, dep: &NodeDep, name: &str) -> bool
+pub(crate) fn answers_to<'a>(lookup: &Lookup<'a>, child: &'a Kid, dep: &NodeDep, name: &str) -> bool
     requires { IsLookup lookup.now }
     ensures { IsTrue result ↔ AnswersAs (resolved_view lookup.now) child.now dep.now name.now }
 {

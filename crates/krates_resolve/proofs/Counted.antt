@@ -7,6 +7,7 @@ use Rattle.std.proofs.lemmas.Option.{slice_get-get_or, slice_get_within, same_So
 use Rattle.std.proofs.Math.Nat.{min-eq_left, min-eq_right}
 use Rattle.std.specs.List.{slice_get}
 use Rattle.krates_rules.specs.Resolved.{Resolved}
+use Rattle.krates_rules.specs.Setting.{SettingModel}
 use Rattle.krates_resolve.specs.Counting.{AreCounted, HasCountedAll, HaveTakenReferences, IsFresh, NumberHasReferences}
 use Rattle.krates_resolve.specs.Found.{Grows}
 use Rattle.krates_resolve.specs.Work.{counted}
@@ -25,8 +26,14 @@ capped_more a b m = elim (cases_lt a m) [
       ap (λ (k : ℕ). min (k + b) m) (min-eq_right le) ∙ min-eq_right over ∙ sym (min-eq_right also))
 ]
 
-counted_more : (a b : ℕ) → counted (counted a + b) ≡ counted (a + b)
+pub counted_more : (a b : ℕ) → counted (counted a + b) ≡ counted (a + b)
 counted_more a b = capped_more a b (2 ^ 64 - 1)
+
+pub counted_both : (a b : ℕ) → counted (counted a + counted b) ≡ counted (a + b)
+counted_both a b =
+    let turned : a + counted b ≡ counted b + a = omega arith in
+    let back : b + a ≡ a + b = omega arith in
+    counted_more a (counted b) ∙ ap counted turned ∙ counted_more b a ∙ ap counted back
 
 -- ---- one is taken
 
@@ -37,8 +44,8 @@ stood xs ys n k p stays within lt at =
     old ∙ sym (stays k (get_or xs k 0) old) ∙ at
 
 -- the features that were taken have as many references when more has been found
-references_stay : (r : Resolved) (x z : Found) (n m : ℕ) → Grows r (taken_to x m x.features.taken) z → x.features.taken ≤ length x.features.put → HaveTakenReferences r x n → HaveTakenReferences r z n
-references_stay r x z n m g within h = record {
+references_stay : (r : Resolved) (s : SettingModel) (x z : Found) (n m : ℕ) → Grows r (taken_to x m x.features.taken) z → x.features.taken ≤ length x.features.put → HaveTakenReferences r s x n → HaveTakenReferences r s z n
+references_stay r s x z n m g within h = record {
   counts = h.counts;
   long = h.long ∙ sym g.features_taken;
   each = λ k number c put count. h.each k number c
@@ -46,14 +53,14 @@ references_stay r x z n m g within h = record {
   total = h.total;
 }
 
-pub crate_counted : (r : Resolved) (x z : Found) (w v : Work) → AreCounted r x w → Grows r (taken_to x (x.krates.taken + 1) x.features.taken) z → x.features.taken ≤ length x.features.put
-    → v ≡ record w { krates = counted (w.krates + 1) } → AreCounted r z v
-crate_counted r x z w v all g within is = record {
+pub crate_counted : (r : Resolved) (s : SettingModel) (x z : Found) (w v : Work) → AreCounted r s x w → Grows r (taken_to x (x.krates.taken + 1) x.features.taken) z → x.features.taken ≤ length x.features.put
+    → v ≡ record w { krates = counted (w.krates + 1) } → AreCounted r s z v
+crate_counted r s x z w v all g within is = record {
   krates = ap (λ (o : Work). o.krates) is ∙ ap (λ (k : ℕ). counted (k + 1)) all.krates ∙ counted_more x.krates.taken 1 ∙ ap counted (sym g.krates_taken);
   features = ap (λ (o : Work). o.features) is ∙ all.features ∙ ap counted (sym g.features_taken);
   references = (
     all.references.0,
-    references_stay r x z all.references.0 (x.krates.taken + 1) g within all.references.1,
+    references_stay r s x z all.references.0 (x.krates.taken + 1) g within all.references.1,
     ap (λ (o : Work). o.references) is ∙ all.references.2,
   );
 }
@@ -72,9 +79,9 @@ before_end (x ∷ xs) y zero p at lt = at
 before_end (x ∷ xs) y (suc k) p at lt = before_end xs y k p at (omega (arith, lt))
 
 -- the references of one more feature
-references_more : (r : Resolved) (x z : Found) (n m t : ℕ) → Grows r (taken_to x x.krates.taken (x.features.taken + 1)) z → x.features.taken ≤ length x.features.put → slice_get x.features.put x.features.taken ≡ Some t
-    → NumberHasReferences r t m → HaveTakenReferences r x n → HaveTakenReferences r z (n + m)
-references_more r x z n m t g within at here h = record {
+references_more : (r : Resolved) (s : SettingModel) (x z : Found) (n m t : ℕ) → Grows r (taken_to x x.krates.taken (x.features.taken + 1)) z → x.features.taken ≤ length x.features.put → slice_get x.features.put x.features.taken ≡ Some t
+    → NumberHasReferences r s t m → HaveTakenReferences r s x n → HaveTakenReferences r s z (n + m)
+references_more r s x z n m t g within at here h = record {
   counts = h.counts ++ m ∷ [];
   long = length-append h.counts (m ∷ []) ∙ ap (λ (l : ℕ). l + 1) h.long ∙ sym g.features_taken;
   each = λ k number c put count. elim (cases_lt k (length h.counts)) [
@@ -84,27 +91,27 @@ references_more r x z n m t g within at here h = record {
         let long = length-append h.counts (m ∷ []) in
         let e : x.features.taken ≡ k = omega (arith, below, long, le, h.long) in
         let same : t ≡ number = same_Some t number (sym (g.features x.features.taken t at) ∙ ap (λ (j : ℕ). slice_get z.features.put j) e ∙ put) in
-        subst (λ (j : ℕ). NumberHasReferences r j c) same (subst (NumberHasReferences r t) (at_end h.counts m k c count le) here))
+        subst (λ (j : ℕ). NumberHasReferences r s j c) same (subst (NumberHasReferences r s t) (at_end h.counts m k c count le) here))
   ];
   total = ap (λ (j : ℕ). j + m) h.total ∙ sym (sum_by_push (λ (j : ℕ). j) h.counts m);
 }
 
-pub feature_counted : (r : Resolved) (x z : Found) (w v : Work) (t m : ℕ) → AreCounted r x w → Grows r (taken_to x x.krates.taken (x.features.taken + 1)) z → x.features.taken ≤ length x.features.put
-    → slice_get x.features.put x.features.taken ≡ Some t → NumberHasReferences r t m → v.krates ≡ w.krates → v.features ≡ counted (w.features + 1) → v.references ≡ counted (w.references + m) → AreCounted r z v
-feature_counted r x z w v t m all g within at here krates features references = record {
+pub feature_counted : (r : Resolved) (s : SettingModel) (x z : Found) (w v : Work) (t m k : ℕ) → AreCounted r s x w → Grows r (taken_to x x.krates.taken (x.features.taken + 1)) z → x.features.taken ≤ length x.features.put
+    → slice_get x.features.put x.features.taken ≡ Some t → NumberHasReferences r s t m → v.krates ≡ w.krates → v.features ≡ counted (w.features + 1) → k ≡ counted m → v.references ≡ counted (w.references + k) → AreCounted r s z v
+feature_counted r s x z w v t m k all g within at here krates features is references = record {
   krates = krates ∙ all.krates ∙ ap counted (sym g.krates_taken);
   features = features ∙ ap (λ (k : ℕ). counted (k + 1)) all.features ∙ counted_more x.features.taken 1 ∙ ap counted (sym g.features_taken);
   references = (
     all.references.0 + m,
-    references_more r x z all.references.0 m t g within at here all.references.1,
-    references ∙ ap (λ (k : ℕ). counted (k + m)) all.references.2 ∙ counted_more all.references.0 m,
+    references_more r s x z all.references.0 m t g within at here all.references.1,
+    references ∙ ap (λ (j : ℕ). counted (w.references + j)) is ∙ ap (λ (j : ℕ). counted (j + counted m)) all.references.2 ∙ counted_both all.references.0 m,
   );
 }
 
 -- ---- at the start and at the end
 
-pub counted_start : (r : Resolved) (x : Found) (w : Work) → IsFresh w → x.krates.taken ≡ 0 → x.features.taken ≡ 0 → AreCounted r x w
-counted_start r x w fresh krates features = record {
+pub counted_start : (r : Resolved) (s : SettingModel) (x : Found) (w : Work) → IsFresh w → x.krates.taken ≡ 0 → x.features.taken ≡ 0 → AreCounted r s x w
+counted_start r s x w fresh krates features = record {
   krates = ap (λ (o : Work). o.krates) fresh ∙ ap counted (sym krates);
   features = ap (λ (o : Work). o.features) fresh ∙ ap counted (sym features);
   references = (
@@ -117,6 +124,6 @@ counted_start r x w fresh krates features = record {
     none_there : (k m : ℕ) → slice_get [] k ≡ Some m → ⊥
     none_there k m at = cc
 
-pub counted_end : (r : Resolved) (x : Found) (w : Work) → AreCounted r x w → x.krates.taken ≤ length x.krates.put → x.features.taken ≤ length x.features.put → length x.krates.put ≤ x.krates.taken
-    → length x.features.put ≤ x.features.taken → HasCountedAll r x w
-counted_end r x w all krates features no_krate no_feature = record { counted = all; krates = omega (arith, krates, no_krate); features = omega (arith, features, no_feature) }
+pub counted_end : (r : Resolved) (s : SettingModel) (x : Found) (w : Work) → AreCounted r s x w → x.krates.taken ≤ length x.krates.put → x.features.taken ≤ length x.features.put → length x.krates.put ≤ x.krates.taken
+    → length x.features.put ≤ x.features.taken → HasCountedAll r s x w
+counted_end r s x w all krates features no_krate no_feature = record { counted = all; krates = omega (arith, krates, no_krate); features = omega (arith, features, no_feature) }

@@ -15,6 +15,7 @@ use Rattle.krates_resolve.specs.Found.{HaveNumbers}
 use Rattle.krates_questions.specs.ListedFeatures.{listed_features}
 use Rattle.krates_questions.specs.Numbering.{FeatureAt, IsOwn}
 use Rattle.krates_resolve.specs.SelectionOrder.{same_feature}
+use Rattle.krates_rules.specs.Setting.{SettingModel}
 use Rattle.krates_resolve.specs.Work.{CountsEach, HasReferences, counted}
 use Rattle.krates_resolve.specs.declared.found.Found.{Found}
 use Rattle.krates_resolve.specs.declared.selection.EnabledFeature.{EnabledFeature}
@@ -95,7 +96,7 @@ numbers_long r (n ∷ ns) [] z = absurd z
 numbers_long r (n ∷ ns) (x ∷ xs) z = ap suc (numbers_long r ns xs z.1)
 
 -- what has been found, and counted
-pub record IsCountedWhole (r : Resolved) (ids : List Identity) (found : Found) (kids : List Identity) (enabled : List EnabledFeature) (work : Work) : Type 0 where
+pub record IsCountedWhole (r : Resolved) (s : SettingModel) (ids : List Identity) (found : Found) (kids : List Identity) (enabled : List EnabledFeature) (work : Work) : Type 0 where
   pub none_doubled : NoneDoubled r.metadata r.graph
   pub reads : AllZip Reads (node_texts r.graph) ids
   pub krates : AreAt ids found.krates.put kids
@@ -103,17 +104,17 @@ pub record IsCountedWhole (r : Resolved) (ids : List Identity) (found : Found) (
   pub features : HaveNumbers r found.features.put enabled
   pub features_once : AllPairs (λ a b. a ≢ b) found.features.put
   pub own : (n : ℕ) → Contains found.features.put n → IsOwn r n
-  pub counted : HasCountedAll r found work
+  pub counted : HasCountedAll r s found work
 
 -- its crates and features stand in another order, where none of them stands twice
 pub record AreMoved (kids others : List Identity) (enabled features : List EnabledFeature) : Type 0 where
   pub krates_moved : IsDistinct same_id kids → IsPermutation kids others
   pub features_moved : IsDistinct same_feature enabled → IsPermutation enabled features
 
-pub counts_each : EqualityTellsSame → (r : Resolved) (ids : List Identity) (found : Found) (kids others : List Identity) (enabled features : List EnabledFeature) (work : Work) → IsCountedWhole r ids found kids enabled work → AreMoved kids others enabled features
-    → CountsEach r (length others) features work
-counts_each tells r ids found kids others enabled features work whole moved =
-    let refers : EnabledFeature → ℕ → Type 0 = λ f k. HasReferences r (id_of f.krate) (text_view f.name) k in
+pub counts_each : EqualityTellsSame → (r : Resolved) (s : SettingModel) (ids : List Identity) (found : Found) (kids others : List Identity) (enabled features : List EnabledFeature) (work : Work) → IsCountedWhole r s ids found kids enabled work → AreMoved kids others enabled features
+    → CountsEach r s (length others) features work
+counts_each tells r s ids found kids others enabled features work whole moved =
+    let refers : EnabledFeature → ℕ → Type 0 = λ f k. HasReferences r s (id_of f.krate) (text_view f.name) k in
     let c = whole.counted in
     let t = c.counted.references.1 in
     let p = moved.krates_moved (distinct_kids tells r ids found.krates.put kids whole.none_doubled whole.reads whole.krates_once whole.krates) in

@@ -28,7 +28,8 @@ use Rattle.krates_document.proofs.FirstPlaces.{seen_at}
 use Rattle.krates_resolve.proofs.Growing.{used_grows, tried_grows}
 use Rattle.krates_resolve.proofs.Growth.{seen_from, seen_still, seen_there}
 use Rattle.krates_rules.proofs.OnlyOne.{one_dep}
-use Rattle.krates_resolve.proofs.Waking.{one_dep_place, wanted_once}
+use Rattle.krates_questions.proofs.DepPlaces.{one_dep_place}
+use Rattle.krates_resolve.proofs.Waking.{wanted_once}
 
 abbrev WithEdges : Found → Vec KeptEdge → Found
 WithEdges x v = record x { edges = v }

@@ -44,7 +44,7 @@ pub finds_named : (r : Resolved) (s : SettingModel) (trace : List NumberedStep) 
 unfolding questions
 finds_named r s trace n p g m lists = by_premise r s trace 3 n (Feature p m.feature) (Feature p g) m.found (named {p = p} {f = m.feature} {g = g} m.refers lists)
 
-pub finds_asked : (r : Resolved) (s : SettingModel) (trace : List NumberedStep) (n : ℕ) (e : Edge) (name : Text) (d : DependencyModel) → IsRequestStep r trace n e.parent name → IsReferent r e.parent name e.child → IsWanted r s e d → Stands r s e.child
+pub finds_asked : (r : Resolved) (s : SettingModel) (trace : List NumberedStep) (n : ℕ) (e : Edge) (name : Text) (d : DependencyModel) → IsRequestStep r trace n e.parent name → IsReferent r s.all_named e.parent name e.child → IsWanted r s e d → Stands r s e.child
     → MayFind r s trace (by_one 4 n) (Kept e)
 unfolding questions
 finds_asked r s trace n e name d m referent wanted stands =
@@ -52,20 +52,20 @@ finds_asked r s trace n e name d m referent wanted stands =
     let for_it : IsAskedFor (questions r s) f e = record { reference = m.reference; dep = name; refers = m.has.refers; asks = m.asks; referent = referent } in
     by_premise r s trace 4 n (Feature e.parent f) (Kept e) m.has.found (asked {e = e} {f = f} {d = d} for_it (record { wanted = wanted; stands = stands }))
 
-pub finds_strongly : (r : Resolved) (s : SettingModel) (trace : List NumberedStep) (n m : ℕ) (e : Edge) (name g : Text) → IsReferringStep r trace n e.parent (strong name g) → IsReferent r e.parent name e.child → HasStep r trace m (Kept e)
+pub finds_strongly : (r : Resolved) (s : SettingModel) (trace : List NumberedStep) (n m : ℕ) (e : Edge) (name g : Text) → IsReferringStep r trace n e.parent (strong name g) → IsReferent r s.all_named e.parent name e.child → HasStep r trace m (Kept e)
     → ListsFeature r e.child g → MayFind r s trace (by_two 4 n m) (Toggled e.parent e.child g)
 unfolding questions
 finds_strongly r s trace n m e name g a referent kept lists =
     by_premises r s trace 4 n m (Feature e.parent a.feature) (Kept e) (Toggled e.parent e.child g) a.found kept (toggled_strongly {e = e} {f = a.feature} {g = g} {c = name} a.refers referent lists)
 
-pub finds_weakly : (r : Resolved) (s : SettingModel) (trace : List NumberedStep) (n m : ℕ) (e : Edge) (name g : Text) → IsReferringStep r trace n e.parent (weak name g) → IsReferent r e.parent name e.child → HasStep r trace m (Kept e)
+pub finds_weakly : (r : Resolved) (s : SettingModel) (trace : List NumberedStep) (n m : ℕ) (e : Edge) (name g : Text) → IsReferringStep r trace n e.parent (weak name g) → IsReferent r s.all_named e.parent name e.child → HasStep r trace m (Kept e)
     → ListsFeature r e.child g → MayFind r s trace (by_two 7 n m) (Toggled e.parent e.child g)
 unfolding questions
 finds_weakly r s trace n m e name g a referent kept lists =
     by_premises r s trace 7 n m (Feature e.parent a.feature) (Kept e) (Toggled e.parent e.child g) a.found kept (toggled_weakly {e = e} {f = a.feature} {g = g} {c = name} a.refers referent lists)
 
 -- a feature that waited for the edge
-pub finds_woken : (r : Resolved) (s : SettingModel) (trace : List NumberedStep) (n m : ℕ) (p c : Id) (k : DepKindInfoModel) (g : Text) → IsAskingStep r trace p c g n → HasStep r trace m (Kept (edge_between p c k))
+pub finds_woken : (r : Resolved) (s : SettingModel) (trace : List NumberedStep) (n m : ℕ) (p c : Id) (k : DepKindInfoModel) (g : Text) → IsAskingStep r s trace p c g n → HasStep r trace m (Kept (edge_between p c k))
     → ListsFeature r c g → MayFind r s trace (by_two 7 n m) (Toggled p c g)
 finds_woken r s trace n m p c k g a kept lists =
     finds_weakly r s trace n m (edge_between p c k) a.name g (record { feature = a.feature; found = a.found; refers = a.refers }) a.referent kept lists

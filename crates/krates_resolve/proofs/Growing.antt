@@ -1,8 +1,9 @@
 -- What has been found stays found, and what stood in it stands in it.
-use Rattle.std.proofs.Common.{refl, ◌∙◌, inl, inr}
+use Rattle.std.proofs.Common.{ℕ, refl, ◌∙◌, inl, inr}
 use Rattle.krates_cm.specs.Document.{Text, DependencyModel}
 use Rattle.krates_text.specs.FeatureReference.{Reference, krate, weak, strong, simple}
 use Rattle.krates_rules.specs.Facts.{Id, Edge, Crate, Feature, Kept, Toggled}
+use Rattle.krates_resolve.specs.Heeding.{IsAskedAt, IsToggledStronglyAt, IsWaitingAt}
 use Rattle.krates_resolve.specs.Found.{IsEnabledBySome, IsToggledIn, HasUsed, IsTried, IsAsked, IsToggledStrongly, IsWaiting, IsFollowed, IsHeeded, IsRooted, IsExpanded, HasRoots, IsSound, Grows, Advances, IsAny}
 use Rattle.krates_rules.specs.Resolved.{Resolved}
 use Rattle.krates_rules.specs.Rules.{default_name}
@@ -50,8 +51,21 @@ asked_grows r s x y p name g h e same referent = tried_grows r s x y e IsAny g (
 pub strongly_grows : (r : Resolved) (s : SettingModel) (x y : Found) (p : Id) (name f : Text) → Grows r x y → IsToggledStrongly r s x p name f → IsToggledStrongly r s y p name f
 strongly_grows r s x y p name f g h e d same referent w st = toggled_grows r x y p e.child f g (h e d same referent w st)
 
-pub waiting_grows : (r : Resolved) (x y : Found) (p : Id) (name f : Text) → Grows r x y → IsWaiting r x p name f → IsWaiting r y p name f
-waiting_grows r x y p name f g h child place index referent dep = elim (h child place index referent dep) [
+pub waiting_grows : (r : Resolved) (s : SettingModel) (x y : Found) (p : Id) (name f : Text) → Grows r x y → IsWaiting r s x p name f → IsWaiting r s y p name f
+waiting_grows r s x y p name f g h child place index referent dep = elim (h child place index referent dep) [
+  | inl still ↦ g.waits p child place index f dep still
+  | inr is ↦ inr (toggled_grows r x y p child f g is)
+]
+
+-- what a reference gives by one dependency
+pub asked_at_grows : (r : Resolved) (s : SettingModel) (x y : Found) (p : Id) (place index : ℕ) → Grows r x y → IsAskedAt r s x p place index → IsAskedAt r s y p place index
+asked_at_grows r s x y p place index g h e same at = tried_grows r s x y e IsAny g (h e same at)
+
+pub strongly_at_grows : (r : Resolved) (s : SettingModel) (x y : Found) (p : Id) (place index : ℕ) (f : Text) → Grows r x y → IsToggledStronglyAt r s x p place index f → IsToggledStronglyAt r s y p place index f
+strongly_at_grows r s x y p place index f g h e d same at w st = toggled_grows r x y p e.child f g (h e d same at w st)
+
+pub waiting_at_grows : (r : Resolved) (x y : Found) (p : Id) (place index : ℕ) (f : Text) → Grows r x y → IsWaitingAt r x p place index f → IsWaitingAt r y p place index f
+waiting_at_grows r x y p place index f g h child dep = elim (h child dep) [
   | inl still ↦ g.waits p child place index f dep still
   | inr is ↦ inr (toggled_grows r x y p child f g is)
 ]
@@ -60,7 +74,7 @@ pub followed_grows : (r : Resolved) (s : SettingModel) (x y : Found) (p : Id) (r
 followed_grows r s x y p (simple f) g h = named_grows r x y p f g h
 followed_grows r s x y p (krate name) g h = asked_grows r s x y p name g h
 followed_grows r s x y p (strong name f) g h = (asked_grows r s x y p name g h.0, strongly_grows r s x y p name f g h.1)
-followed_grows r s x y p (weak name f) g h = waiting_grows r x y p name f g h
+followed_grows r s x y p (weak name f) g h = waiting_grows r s x y p name f g h
 
 pub heeded_grows : (r : Resolved) (s : SettingModel) (x y : Found) (p : Id) (f : Text) → Grows r x y → IsHeeded r s x p f → IsHeeded r s y p f
 heeded_grows r s x y p f g h reference has = followed_grows r s x y p reference g (h reference has)

@@ -374,7 +374,7 @@ put_step_has r trace v step f more names = subst (λ (steps : List NumberedStep)
 
 -- the name of a feature that an enabled one asks for weakly, by its step, of a dependency that isn't marked
 pub waiter_advances : (r : Resolved) (s : SettingModel) (x : Found) (l : Links) (place index : ℕ) (w : Waiting) → IsSound r s x → HasWaiter x.links l place index w
-    → ((p child : Id) → DepAt r p child place index → IsAskedWeakly r s p child w.name.now) → ((p child : Id) → DepAt r p child place index → IsAskingStep r x.trace.items p child w.name.now w.step)
+    → ((p child : Id) → DepAt r p child place index → IsAskedWeakly r s p child w.name.now) → ((p child : Id) → DepAt r p child place index → IsAskingStep r s x.trace.items p child w.name.now w.step)
     → (IsMarked x.links place index → ⊥) → Advances r s x (with_links x l)
 waiter_advances r s x l place index w sound more asked step unmarked =
     let y = with_links x l in
@@ -395,7 +395,7 @@ waiter_advances r s x l place index w sound more asked step unmarked =
           marked = λ p c k i n at m. sound.numbered.marked p c k i n at ((more.marks k i n).1 m);
           waiting = λ p c k i v at waits. elim (more.from k i v waits) [
             | inl o ↦ sound.numbered.waiting p c k i v at o
-            | inr same ↦ subst (λ (z : Waiting). IsAskingStep r x.trace.items p c z.name.now z.step) (sym same.2) (step p c (dep_there r p c k i place index same.0 same.1 at))
+            | inr same ↦ subst (λ (z : Waiting). IsAskingStep r s x.trace.items p c z.name.now z.step) (sym same.2) (step p c (dep_there r p c k i place index same.0 same.1 at))
           ];
         };
         placed = sound.placed;

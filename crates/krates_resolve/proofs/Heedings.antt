@@ -1,8 +1,9 @@
 -- What an enabled feature gives by its references, and what it may give.
-use Rattle.std.proofs.Common.{◌≡◌, ℕ, ◌<◌, List, [], ◌∷◌, length, get_or, map, option_map, Some, Contains, Result, Ok, Err, OnOk, String, Global, string_bytes, inl, inr, refl, sym, ap, ◌∙◌, subst, arith}
+use Rattle.std.proofs.Common.{◌≡◌, ℕ, ◌+◌, ◌<◌, List, [], ◌∷◌, ◌++◌, length, get_or, take, map, option_map, Some, Contains, Result, Ok, Err, OnOk, String, Global, string_bytes, inl, inr, refl, sym, ap, ◌∙◌, subst, arith}
 use Rattle.std.proofs.lemmas.List.{length-map}
 use Rattle.std.proofs.lemmas.Option.{slice_get-map, slice_get-get_or, slice_get_read, same_Some}
-use Rattle.std.specs.List.{slice_get}
+use Rattle.std.proofs.lemmas.List.Sums.{sum_by_push}
+use Rattle.std.specs.List.{AllZip, slice_get, sum}
 use Rattle.krates_cm.specs.Document.{Text, node_dep_view, text_view}
 use Rattle.krates_text.specs.FeatureReference.{Reference, weak, strong, simple, IsReference, HasOneReading}
 use Rattle.krates_ids.specs.Identity.{Identity}
@@ -11,8 +12,8 @@ use Rattle.krates_rules.specs.Derivation.{Derivable, follows, Among}
 use Rattle.krates_rules.specs.Facts.{Id, Edge, Fact, Crate, Feature, Kept}
 use Rattle.krates_questions.specs.FeatureTable.{listed_view}
 use Rattle.krates_questions.specs.FeatureValues.{AreNamed, AreValuesOf}
-use Rattle.krates_resolve.specs.Found.{HasFound, IsToggledIn, IsAsked, IsAskedWeakly, IsAskingStep, IsToggledStrongly, IsWaiting, WaitsOrIsToggled, IsFollowed, IsHeeded, IsValueOfEnabled, IsSound, Advances, AreTried, IsTried, IsAny, MayTry, MayName, MayToggle}
-use Rattle.krates_resolve.specs.Heeding.{IsAskedAt, IsReferringStep, IsValueStep, MayAsk, MayAskAt, HasEnabledReference}
+use Rattle.krates_resolve.specs.Found.{HasFound, IsAskedWeakly, IsAskingStep, IsFollowed, IsHeeded, IsValueOfEnabled, IsSound, Advances, AreTried, IsTried, IsAny, MayTry, MayName, MayToggle}
+use Rattle.krates_resolve.specs.Heeding.{IsAskedAt, IsToggledStronglyAt, IsReferringStep, IsValueStep, MayAsk, MayAskAt, HasEnabledReference}
 use Rattle.krates_rules.specs.Resolved.{DepAt, NodeAt, Resolved, NoNode, HasNode, HasDep, id_of}
 use Rattle.krates_resolve.specs.Links.{IsMarked, HasWaiter}
 use Rattle.krates_questions.specs.ListedFeatures.{listed_features}
@@ -23,7 +24,7 @@ use Rattle.krates_rules.specs.Questions.{Stands, edge_between, questions}
 use Rattle.krates_rules.specs.Referent.{IsReferent}
 use Rattle.krates_rules.specs.Rules.{Questions, IsAskedFor, feature_crate, named, lost_named, asked, toggled_strongly, lost_asked_package, lost_asked_node, lost_toggled_strongly, toggled_weakly, lost_toggled_weakly}
 use Rattle.krates_rules.specs.Setting.{SettingModel}
-use Rattle.krates_resolve.specs.Work.{HasReferences}
+use Rattle.krates_resolve.specs.Work.{CountsText, HasReferences, counted}
 use Rattle.krates_questions.specs.declared.feature_table.ListedFeature.{ListedFeature}
 use Rattle.krates_questions.proofs.StandingLaws.{derivable_stands}
 use Rattle.krates_resolve.specs.declared.found.Found.{Found}
@@ -32,6 +33,8 @@ use Rattle.krates_questions.specs.declared.lookup.Lookup.{Lookup}
 use Rattle.krates_questions.specs.declared.node_entry.NodeEntry.{NodeEntry}
 use Rattle.krates_questions.specs.declared.node_entry.NodeParts.{NodeParts}
 use Rattle.krates_rules.proofs.Readings.{ReadsOnce}
+use Rattle.krates_document.proofs.Zips.{zip_next}
+use Rattle.krates_resolve.proofs.Counted.{counted_more}
 use Rattle.krates_resolve.proofs.Entries.{one, undeclared_lost}
 use Rattle.krates_resolve.proofs.Growth.{waiter_advances, with_links}
 use Rattle.krates_resolve.proofs.Steps.{StepsStay}
@@ -42,8 +45,7 @@ use Rattle.krates_questions.proofs.Lookups.{one_id}
 use Rattle.krates_resolve.proofs.TriedParts.{between_tried}
 use Rattle.krates_questions.proofs.NodeParts.{dep_of_child, entry_here}
 use Rattle.krates_rules.proofs.Standings.{contains_at}
-use Rattle.krates_resolve.proofs.Waking.{one_dep_place, one_way}
-use Rattle.krates_questions.proofs.OneReferent.{one_referent}
+use Rattle.krates_resolve.proofs.Waking.{one_way}
 
 -- ---- derivations
 
@@ -68,7 +70,7 @@ may_name r s i g m = record {
 }
 
 -- what a reference may give that asks for the edge
-pub asked_may_try : (r : Resolved) (s : SettingModel) (e : Edge) (name : Text) → MayAsk r s e.parent name → IsReferent r e.parent name e.child → MayTry r s e IsAny
+pub asked_may_try : (r : Resolved) (s : SettingModel) (e : Edge) (name : Text) → MayAsk r s e.parent name → IsReferent r s.all_named e.parent name e.child → MayTry r s e IsAny
 unfolding questions
 asked_may_try r s e name m referent =
     let f = m.has.feature in
@@ -81,7 +83,7 @@ asked_may_try r s e name m referent =
       declared = undeclared_lost r s e (feature_keeps r s e.parent f m.has.enabled);
     }
 
-pub may_toggle_strongly : (r : Resolved) (s : SettingModel) (e : Edge) (name g : Text) → HasEnabledReference r s e.parent (strong name g) → IsReferent r e.parent name e.child → Derivable (questions r s) (Kept e) → MayToggle r s e.parent e.child g
+pub may_toggle_strongly : (r : Resolved) (s : SettingModel) (e : Edge) (name g : Text) → HasEnabledReference r s e.parent (strong name g) → IsReferent r s.all_named e.parent name e.child → Derivable (questions r s) (Kept e) → MayToggle r s e.parent e.child g
 unfolding questions
 may_toggle_strongly r s e name g m referent kept =
     let premises = two (questions r s) (Feature e.parent m.feature) (Kept e) m.enabled kept in
@@ -90,7 +92,7 @@ may_toggle_strongly r s e name g m referent kept =
       listed = λ lacks. follows (lost_toggled_strongly {e = e} {f = m.feature} {g = g} {c = name} m.refers referent lacks) premises;
     }
 
-pub may_toggle_weakly : (r : Resolved) (s : SettingModel) (e : Edge) (name g : Text) → HasEnabledReference r s e.parent (weak name g) → IsReferent r e.parent name e.child → Derivable (questions r s) (Kept e) → MayToggle r s e.parent e.child g
+pub may_toggle_weakly : (r : Resolved) (s : SettingModel) (e : Edge) (name g : Text) → HasEnabledReference r s e.parent (weak name g) → IsReferent r s.all_named e.parent name e.child → Derivable (questions r s) (Kept e) → MayToggle r s e.parent e.child g
 unfolding questions
 may_toggle_weakly r s e name g m referent kept =
     let premises = two (questions r s) (Feature e.parent m.feature) (Kept e) m.enabled kept in
@@ -98,8 +100,6 @@ may_toggle_weakly r s e name g m referent kept =
       toggled = λ lists. follows (toggled_weakly {e = e} {f = m.feature} {g = g} {c = name} m.refers referent lists) premises;
       listed = λ lacks. follows (lost_toggled_weakly {e = e} {f = m.feature} {g = g} {c = name} m.refers referent lacks) premises;
     }
-
--- ---- a name means one dependency
 
 -- ---- the dependency of a child
 
@@ -112,10 +112,6 @@ pub found_node : (r : Resolved) (x : Found) (i : Id) → HasFound r x (Crate i) 
 found_node r x i found none = none found.node.node (record { among = contains_at r.graph.nodes found.place found.node.node found.node.at; id = found.node.id })
 
 -- ---- a dependency that is asked for
-
--- nothing has that name
-pub none_asked : (r : Resolved) (s : SettingModel) (x : Found) (p : Id) (name : Text) → ((child : Id) → IsReferent r p name child → ⊥) → IsAsked r s x p name
-none_asked r s x p name none e same referent = absurd (none e.child referent)
 
 -- each edge of the entry's dependency has been tried
 pub entry_tried : (r : Resolved) (s : SettingModel) (x : Found) (y : NodeEntry) (e : Edge) → NoneDoubled r.metadata r.graph → IsEntry r y → parent_of y ≡ e.parent → child_of y ≡ e.child
@@ -140,59 +136,35 @@ tried_at once r s x parts y index e none p of tried there =
     let same = one_way once r (id_of parts.parent.now) (child_of y) e.parent e.child parts.place index (dep_of_entry r parts y index of is) there in
     entry_tried r s x y e none is (ap id_of of.parent ∙ same.0) same.1 tried
 
--- a name means the dependency at these places
-pub asked_there : (r : Resolved) (s : SettingModel) (x : Found) (p child : Id) (name : Text) (place index : ℕ) → IsReferent r p name child → DepAt r p child place index → IsAskedAt r s x p place index → IsAsked r s x p name
-asked_there r s x p child name place index is dep each e same referent = each e same (subst (λ (i : Id). DepAt r p i place index) (one_referent r p name child e.child is referent) dep)
-
-pub may_ask_there : ReadsOnce → (r : Resolved) (s : SettingModel) (p child : Id) (name : Text) (place index : ℕ) → MayAsk r s p name → IsReferent r p name child → DepAt r p child place index → MayAskAt r s p place index
+pub may_ask_there : ReadsOnce → (r : Resolved) (s : SettingModel) (p child : Id) (name : Text) (place index : ℕ) → MayAsk r s p name → IsReferent r s.all_named p name child → DepAt r p child place index → MayAskAt r s p place index
 may_ask_there once r s p child name place index may is dep other k at =
-    asked_may_try r s (edge_between p other k) name may (subst (IsReferent r p name) (one_way once r p child p other place index dep at).1 is)
+    asked_may_try r s (edge_between p other k) name may (subst (IsReferent r s.all_named p name) (one_way once r p child p other place index dep at).1 is)
 
 -- ---- a feature that is toggled strongly
 
-pub none_strongly : (r : Resolved) (s : SettingModel) (x : Found) (p : Id) (name g : Text) → ((child : Id) → IsReferent r p name child → ⊥) → IsToggledStrongly r s x p name g
-none_strongly r s x p name g none e d same referent w stands = absurd (none e.child referent)
-
-pub strongly_here : (r : Resolved) (s : SettingModel) (x : Found) (p child : Id) (name g : Text) → IsReferent r p name child → IsToggledIn r x p child g → IsToggledStrongly r s x p name g
-strongly_here r s x p child name g is toggled e d same referent w stands = subst (λ (i : Id). IsToggledIn r x p i g) (one_referent r p name child e.child is referent) toggled
-
 -- where no edge is kept that was asked for, none may be
-pub unmarked_strongly : (r : Resolved) (s : SettingModel) (x : Found) (p child : Id) (name g : Text) (place index : ℕ) → IsSound r s x → IsAsked r s x p name → IsReferent r p name child → DepAt r p child place index
-    → (IsMarked x.links place index → ⊥) → IsToggledStrongly r s x p name g
-unmarked_strongly r s x p child name g place index sound is_asked is dep unmarked e d same referent w stands =
-    let kept = (is_asked e same referent).kept d w tt stands in
-    let of_parent = subst (λ (i : Id). DepAt r i child place index) (sym same) dep in
-    let there = subst (λ (i : Id). DepAt r e.parent i place index) (one_referent r p name child e.child is referent) of_parent in
-    absurd (unmarked (sound.marked e place index kept there))
+pub unmarked_strongly : (r : Resolved) (s : SettingModel) (x : Found) (p : Id) (g : Text) (place index : ℕ) → IsSound r s x → IsAskedAt r s x p place index
+    → (IsMarked x.links place index → ⊥) → IsToggledStronglyAt r s x p place index g
+unmarked_strongly r s x p g place index sound is_asked unmarked e d same there w stands =
+    let kept = (is_asked e same there).kept d w tt stands in
+    absurd (unmarked (sound.marked e place index kept (subst (λ (i : Id). DepAt r i e.child place index) (sym same) there)))
 
 -- ---- a feature that waits
 
-pub none_waiting : (r : Resolved) (x : Found) (p : Id) (name g : Text) → ((child : Id) → IsReferent r p name child → ⊥) → IsWaiting r x p name g
-none_waiting r x p name g none child place index referent dep = absurd (none child referent)
-
-pub waiting_here : (r : Resolved) (x : Found) (p child : Id) (name g : Text) (place index : ℕ) → NoneDoubled r.metadata r.graph → IsReferent r p name child → DepAt r p child place index
-    → WaitsOrIsToggled r x p child place index g → IsWaiting r x p name g
-waiting_here r x p child name g place index none is dep here other i k referent there =
-    let same = one_referent r p name other child referent is in
-    let at = one_dep_place r p child place index i k none dep (subst (λ (c : Id). DepAt r p c i k) same there) in
-    let index_moved = subst (λ (n : ℕ). WaitsOrIsToggled r x p child place n g) at.1 here in
-    let moved = subst (λ (n : ℕ). WaitsOrIsToggled r x p child n k g) at.0 index_moved in
-    subst (λ (c : Id). WaitsOrIsToggled r x p c i k g) (sym same) moved
-
 -- one more feature waits, of a dependency to which no edge is kept yet
 pub wait_advances : ReadsOnce → (r : Resolved) (s : SettingModel) (x : Found) (links : Links) (p child : Id) (place index : ℕ) (w : Waiting) → IsSound r s x → HasWaiter x.links links place index w → DepAt r p child place index
-    → IsAskedWeakly r s p child w.name.now → IsAskingStep r x.trace.items p child w.name.now w.step → (IsMarked x.links place index → ⊥) → Advances r s x (with_links x links)
+    → IsAskedWeakly r s p child w.name.now → IsAskingStep r s x.trace.items p child w.name.now w.step → (IsMarked x.links place index → ⊥) → Advances r s x (with_links x links)
 wait_advances once r s x links p child place index w sound more dep weakly step unmarked =
     waiter_advances r s x links place index w sound more
     (λ q c there. let same = one_way once r p child q c place index dep there in subst (λ (i : Id). IsAskedWeakly r s i c w.name.now) same.0 (subst (λ (i : Id). IsAskedWeakly r s p i w.name.now) same.1 weakly))
     (λ q c there.
     let same = one_way once r p child q c place index dep there in
-    subst (λ (i : Id). IsAskingStep r x.trace.items i c w.name.now w.step) same.0 (subst (λ (i : Id). IsAskingStep r x.trace.items p i w.name.now w.step) same.1 step))
+    subst (λ (i : Id). IsAskingStep r s x.trace.items i c w.name.now w.step) same.0 (subst (λ (i : Id). IsAskingStep r s x.trace.items p i w.name.now w.step) same.1 step))
     unmarked
 
 -- the step is that of a feature with the weak reference, whose name means the child
-pub asking_step : (r : Resolved) (trace : List NumberedStep) (n : ℕ) (p child : Id) (name g : Text) → IsReferringStep r trace n p (weak name g) → IsReferent r p name child → IsAskingStep r trace p child g n
-asking_step r trace n p child name g m is = record { feature = m.feature; found = m.found; name = name; refers = m.refers; referent = is }
+pub asking_step : (r : Resolved) (s : SettingModel) (trace : List NumberedStep) (n : ℕ) (p child : Id) (name g : Text) → IsReferringStep r trace n p (weak name g) → IsReferent r s.all_named p name child → IsAskingStep r s trace p child g n
+asking_step r s trace n p child name g m is = record { feature = m.feature; found = m.found; name = name; refers = m.refers; referent = is }
 
 -- a text is the value of the feature of a step, so its reference is one of that
 pub referring_step : (r : Resolved) (trace : List NumberedStep) (n : ℕ) (p : Id) (text : Text) (reference : Reference) → IsValueStep r trace n p text → IsReference text reference → IsReferringStep r trace n p reference
@@ -206,7 +178,7 @@ referring_more r old new n p reference stay h = record { feature = h.feature; fo
 pub value_of_step : (r : Resolved) (trace : List NumberedStep) (n : ℕ) (p : Id) (f : Text) (values : List Text) (text : Text) → HasStep r trace n (Feature p f) → AreValuesOf r p f values → Contains values text → IsValueStep r trace n p text
 value_of_step r trace n p f values text found are among = record { feature = f; found = found; refers = λ reference is. (are reference).1 (record { text = text; among = among; is = is }) }
 
-pub asked_weakly : (r : Resolved) (s : SettingModel) (p child : Id) (name g : Text) → HasEnabledReference r s p (weak name g) → IsReferent r p name child → IsAskedWeakly r s p child g
+pub asked_weakly : (r : Resolved) (s : SettingModel) (p child : Id) (name g : Text) → HasEnabledReference r s p (weak name g) → IsReferent r s.all_named p name child → IsAskedWeakly r s p child g
 asked_weakly r s p child name g m is = record { feature = m.feature; enabled = m.enabled; name = name; refers = m.refers; referent = is }
 
 -- ---- a text is one reference
@@ -259,10 +231,30 @@ one_feature once r i j place number f g node at there =
     let same = same_Some (place, f) (there.place, g) (sym at ∙ there.at) in
     (one_id once r i j place node (subst (λ (n : ℕ). NodeAt r j n) (sym (ap (λ (w : ℕ × Text). w.0) same)) there.node), ap (λ (w : ℕ × Text). w.1) same)
 
--- an enabled feature has as many references as its list has values
-pub references_here : (r : Resolved) (s : SettingModel) (i : Id) (f : Text) (values : List Text) (n : ℕ) → Derivable (questions r s) (Feature i f) → AreNamed r i f values → n ≡ length values → HasReferences r i f n
+-- ---- how often references count
+
+-- those so far, as they are gone over
+pub record CountsSoFar (r : Resolved) (s : SettingModel) (i : Id) (values : List (String Global)) (k n : ℕ) : Type 0 where
+  pub counts : List ℕ
+  pub each : AllZip (CountsText r s.all_named i) (map text_view (take k values)) counts
+  pub count : n ≡ counted (sum counts)
+
+pub none_counted : (r : Resolved) (s : SettingModel) (i : Id) (values : List (String Global)) → CountsSoFar r s i values 0 0
+none_counted r s i values = record { counts = []; each = tt; count = refl }
+
+pub one_counted : (r : Resolved) (s : SettingModel) (i : Id) (values : List (String Global)) (k n m next : ℕ) (text : String Global) → k < length values → text ≡ get_or values k text → CountsText r s.all_named i (text_view text) m
+    → next ≡ counted (n + m) → CountsSoFar r s i values k n → CountsSoFar r s i values (k + 1) next
+one_counted r s i values k n m next text lt is here more h = record {
+  counts = h.counts ++ m ∷ [];
+  each = zip_next (CountsText r s.all_named i) text_view values k text h.counts m lt is here h.each;
+  count = more ∙ ap (λ (j : ℕ). counted (j + m)) h.count ∙ counted_more (sum h.counts) m ∙ ap counted (sym (sum_by_push (λ (j : ℕ). j) h.counts m));
+}
+
+-- an enabled feature has as many references as those of its list count
+pub references_here : (r : Resolved) (s : SettingModel) (i : Id) (f : Text) (values : List Text) (counts : List ℕ) → Derivable (questions r s) (Feature i f) → AreNamed r i f values → AllZip (CountsText r s.all_named i) values counts
+    → HasReferences r s i f (sum counts)
 unfolding questions
-references_here r s i f values n enabled are long =
+references_here r s i f values counts enabled are each =
     let stands : Stands r s i = derivable_stands (questions r s) enabled in
     let kept = stands.included in
-    record { pkg = kept.pkg; has_package = kept.has_package; count = long ∙ sym (ap length (are kept.pkg kept.has_package)) }
+    record { pkg = kept.pkg; has_package = kept.has_package; counts = counts; each = subst (λ (vs : List Text). AllZip (CountsText r s.all_named i) vs counts) (sym (are kept.pkg kept.has_package)) each; count = refl }

@@ -11,6 +11,7 @@ pub mod Heedings
 pub mod KeptSteps
 pub mod LinkLemmas
 pub mod Putting
+pub mod Referred
 pub mod Rooted
 pub mod Saturated
 pub mod Selected

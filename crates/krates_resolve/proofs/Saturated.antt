@@ -127,14 +127,14 @@ unfolding questions
 tried_there r s x e f done a found = asked_in r s x e.parent a.dep a.reference (done.heeded e.parent f found a.reference a.refers) a.asks e refl a.referent
 
 -- a strong reference over a kept edge toggles its feature
-strongly_there : (r : Resolved) (s : SettingModel) (x : Found) (e : Edge) (f g c : Text) → IsDone r s x → HasReference r e.parent f (strong c g) → IsReferent r e.parent c e.child
+strongly_there : (r : Resolved) (s : SettingModel) (x : Found) (e : Edge) (f g c : Text) → IsDone r s x → HasReference r e.parent f (strong c g) → IsReferent r s.all_named e.parent c e.child
     → HasFound r x (Feature e.parent f) → HasFound r x (Kept e) → IsToggledIn r x e.parent e.child g
 strongly_there r s x e f g c done refers referent found kept =
     let o = kept_open r s e (done.sound.derivable (Kept e) kept) in
     (done.heeded e.parent f found (strong c g) refers).1 e o.dependency refl referent o.wanted o.stands
 
 -- and so does a weak one
-weakly_there : (r : Resolved) (s : SettingModel) (x : Found) (e : Edge) (f g c : Text) → IsDone r s x → HasReference r e.parent f (weak c g) → IsReferent r e.parent c e.child
+weakly_there : (r : Resolved) (s : SettingModel) (x : Found) (e : Edge) (f g c : Text) → IsDone r s x → HasReference r e.parent f (weak c g) → IsReferent r s.all_named e.parent c e.child
     → HasFound r x (Feature e.parent f) → HasFound r x (Kept e) → IsToggledIn r x e.parent e.child g
 weakly_there r s x e f g c done refers referent found kept =
     let at = stands_in r s e (kept_open r s e (done.sound.derivable (Kept e) kept)) in

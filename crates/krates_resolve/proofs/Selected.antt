@@ -181,7 +181,7 @@ pub record IsInOrder (found : Found) (kids : List Identity) (enabled : List Enab
   pub toggled_rise : IsStrictlySortedBy toggled_cmp x.toggled.items
 
 pub selected : ReadsOnce → EqualityTellsSame → (r : Resolved) (s : SettingModel) (ids : List Identity) (found : Found) (kids : List Identity) (enabled : List EnabledFeature) (x : Selection)
-    → IsWhole r s ids found kids enabled → IsInOrder found kids enabled x → CountsEach r (length x.krates.items) x.features.items x.work → IsSelection r s x
+    → IsWhole r s ids found kids enabled → IsInOrder found kids enabled x → CountsEach r s (length x.krates.items) x.features.items x.work → IsSelection r s x
 selected once tells r s ids found kids enabled x whole order counts = record {
   facts = λ f. (forth f, back f);
   some = root;

@@ -4,9 +4,10 @@ use Rattle.krates_cm.specs.Document.{DependencyModel, DepKindInfoModel, NodeDepM
 use Rattle.krates_cm.specs.declared.dependency.Dependency.{Dependency}
 use Rattle.krates_resolve.specs.Counting.{AreCounted, NumberHasReferences}
 use Rattle.krates_resolve.specs.Found.{Advances, AreTried, IsAny, IsEdgeStep, HasFound, HasRoots, HasUsed, IsAsked, IsEnabledBySome, IsExpanded, IsFollowed, IsHeeded, IsRooted, IsSound, IsToggledIn, IsToggledStrongly, IsTried, IsValueOfEnabled, IsWaiting, MayName, MayToggle, MayTry, MayUse}
-use Rattle.krates_resolve.specs.Heeding.{HasEnabledReference, IsAskedAt, IsReferringStep, IsRequestStep, IsValueStep, MayAsk, MayAskAt}
+use Rattle.krates_resolve.specs.Heeding.{HasEnabledReference, IsAskedAt, IsToggledStronglyAt, IsWaitingAt, RefersTo, IsReferringStep, IsRequestStep, IsValueStep, MayAsk, MayAskAt}
 use Rattle.krates_questions.specs.NodeEntry.{child_of, krate_of, parent_of}
 use Rattle.krates_resolve.specs.Saturation.{AreDone, TakesNext}
+use Rattle.krates_resolve.specs.Work.{CountsName, CountsText, counted}
 use Rattle.krates_resolve.specs.Trace.{HasStep, MayFind, Names}
 use Rattle.krates_questions.specs.declared.basis.Basis.{Basis}
 use Rattle.krates_resolve.specs.declared.enabling.KeptNode.{KeptNode}
@@ -110,7 +111,19 @@ HasToggledKept b x parts = IsToggledStrongly (document_of b) b.setting.now x (kr
 
 -- the feature waits for an edge to the dependency of this name, or is toggled
 abbrev pub LetsWait : Basis → Found → Id → Text → Text → Type 0
-LetsWait b = IsWaiting (document_of b)
+LetsWait b = IsWaiting (document_of b) b.setting.now
+
+-- what a reference gives by the dependency at this place of the node: the feature is toggled where an edge to it may be kept
+abbrev pub HasToggledKeptAt : Basis → Found → NodeParts → ℕ → Text → Type 0
+HasToggledKeptAt b x parts index = IsToggledStronglyAt (document_of b) b.setting.now x (krate_of parts) parts.place index
+
+-- or it waits for an edge to it, or is toggled
+abbrev pub LetsWaitAt : Basis → Found → NodeParts → ℕ → Text → Type 0
+LetsWaitAt b x parts index = IsWaitingAt (document_of b) x (krate_of parts) parts.place index
+
+-- an enabled feature of the crate, found by this step, has a reference of this form, whose name means the dependency at the place
+abbrev pub IsReferredTo : Basis → Found → NodeParts → (Text → Reference) → ℕ → ℕ → Type 0
+IsReferredTo b x parts form step index = RefersTo (document_of b) b.setting.now x.trace.items (krate_of parts) form step parts.place index
 
 -- the reference has been followed
 abbrev pub HasFollowed : Basis → Found → Id → Reference → Type 0
@@ -159,13 +172,22 @@ HasExpandedTaken b x taken = (krate : Id) → IsNodeAt b krate taken → HasExpa
 abbrev pub HasHeededTaken : Basis → Found → ℕ → Type 0
 HasHeededTaken b x taken = (krate : Id) (f : Text) → IsFeatureAt b krate f taken → HasHeeded b x krate f
 
--- the feature that was taken has so many references
-abbrev pub TakenHasReferences : Basis → ℕ → ℕ → Type 0
-TakenHasReferences b = NumberHasReferences (document_of b)
+-- the feature that was taken has so many references, counted
+pub record TakenHasReferences (b : Basis) (taken n : ℕ) : Type 0 where
+  pub number : ℕ
+  pub has : NumberHasReferences (document_of b) b.setting.now taken number
+  pub count : n ≡ counted number
+
+-- the name of a dependency counts so often, and the text of a reference
+abbrev pub CountsNameOf : Basis → Id → Text → ℕ → Type 0
+CountsNameOf b = CountsName (document_of b) b.setting.now.all_named
+
+abbrev pub CountsTextOf : Basis → Id → Text → ℕ → Type 0
+CountsTextOf b = CountsText (document_of b) b.setting.now.all_named
 
 -- what was taken is counted
 abbrev pub HasCounted : Basis → Found → Work → Type 0
-HasCounted b = AreCounted (document_of b)
+HasCounted b = AreCounted (document_of b) b.setting.now
 
 -- whatever reference the text is, it has been followed
 abbrev pub HasFollowedText : Basis → Found → Id → Text → Type 0

@@ -104,28 +104,28 @@ pub record IsTried (r : Resolved) (s : SettingModel) (x : Found) (e : Edge) (tak
 
 -- all that an enabled feature gives that asks for the dependency of this name
 abbrev pub IsAsked : Resolved → SettingModel → Found → Id → Text → Type 0
-IsAsked r s x p name = (e : Edge) → e.parent ≡ p → IsReferent r p name e.child → IsTried r s x e IsAny
+IsAsked r s x p name = (e : Edge) → e.parent ≡ p → IsReferent r s.all_named p name e.child → IsTried r s x e IsAny
 
 -- where an edge to the dependency of this name may be kept, the feature is toggled
 abbrev pub IsToggledStrongly : Resolved → SettingModel → Found → Id → Text → Text → Type 0
 IsToggledStrongly r s x p name g =
-    (e : Edge) (d : DependencyModel) → e.parent ≡ p → IsReferent r p name e.child → IsWanted r s e d → Stands r s e.child → IsToggledIn r x p e.child g
+    (e : Edge) (d : DependencyModel) → e.parent ≡ p → IsReferent r s.all_named p name e.child → IsWanted r s e d → Stands r s e.child → IsToggledIn r x p e.child g
 
 -- the feature of the dependency waits for a kept edge, or is toggled
 abbrev pub WaitsOrIsToggled : Resolved → Found → Id → Id → ℕ → ℕ → Text → Type 0
 WaitsOrIsToggled r x p child place index g = Waits x.links place index g ⊎ IsToggledIn r x p child g
 
 -- and so the feature of the dependency of this name
-abbrev pub IsWaiting : Resolved → Found → Id → Text → Text → Type 0
-IsWaiting r x p name g =
-    (child : Id) (place index : ℕ) → IsReferent r p name child → DepAt r p child place index → WaitsOrIsToggled r x p child place index g
+abbrev pub IsWaiting : Resolved → SettingModel → Found → Id → Text → Text → Type 0
+IsWaiting r s x p name g =
+    (child : Id) (place index : ℕ) → IsReferent r s.all_named p name child → DepAt r p child place index → WaitsOrIsToggled r x p child place index g
 
 -- all that a reference of an enabled feature gives
 abbrev pub IsFollowed : Resolved → SettingModel → Found → Id → Reference → Type 0
 IsFollowed r s x p (simple g) = IsEnabledBySome r x p g
 IsFollowed r s x p (krate name) = IsAsked r s x p name
 IsFollowed r s x p (strong name g) = IsAsked r s x p name × IsToggledStrongly r s x p name g
-IsFollowed r s x p (weak name g) = IsWaiting r x p name g
+IsFollowed r s x p (weak name g) = IsWaiting r s x p name g
 
 -- all that an enabled feature gives
 abbrev pub IsHeeded : Resolved → SettingModel → Found → Id → Text → Type 0
@@ -173,7 +173,7 @@ pub record IsAskedWeakly (r : Resolved) (s : SettingModel) (p child : Id) (g : T
   pub enabled : Derivable (questions r s) (Feature p feature)
   pub name : Text
   pub refers : HasReference r p feature (weak name g)
-  pub referent : IsReferent r p name child
+  pub referent : IsReferent r s.all_named p name child
 
 -- ---- what has its step
 
@@ -189,12 +189,12 @@ abbrev pub IsEdgeStep : Resolved → List NumberedStep → Id → Id → ℕ →
 IsEdgeStep r trace p child step = (k : DepKindInfoModel) × HasStep r trace step (Kept (edge_between p child k))
 
 -- it is that of a feature with a weak reference that names the feature of the child
-pub record IsAskingStep (r : Resolved) (trace : List NumberedStep) (p child : Id) (g : Text) (step : ℕ) : Type 0 where
+pub record IsAskingStep (r : Resolved) (s : SettingModel) (trace : List NumberedStep) (p child : Id) (g : Text) (step : ℕ) : Type 0 where
   pub feature : Text
   pub found : HasStep r trace step (Feature p feature)
   pub name : Text
   pub refers : HasReference r p feature (weak name g)
-  pub referent : IsReferent r p name child
+  pub referent : IsReferent r s.all_named p name child
 
 -- the steps, the crates and features that were put, beside the numbers of their steps, and what is kept for each dependency
 pub record Traced : Type 0 where
@@ -216,11 +216,11 @@ traced x = record {
 }
 
 -- the numbers are those of the steps of what was put, is marked and waits
-pub record HaveTheirSteps (r : Resolved) (x : Traced) : Type 0 where
+pub record HaveTheirSteps (r : Resolved) (s : SettingModel) (x : Traced) : Type 0 where
   pub krates : AllZip (IsKrateStep r x.trace) x.krates x.krate_steps
   pub features : AllZip (IsFeatureStep r x.trace) x.features x.feature_steps
   pub marked : (p child : Id) (place index step : ℕ) → DepAt r p child place index → IsMarkedBy x.links place index step → IsEdgeStep r x.trace p child step
-  pub waiting : (p child : Id) (place index : ℕ) (w : Waiting) → DepAt r p child place index → IsWaiter x.links place index w → IsAskingStep r x.trace p child w.name.now w.step
+  pub waiting : (p child : Id) (place index : ℕ) (w : Waiting) → DepAt r p child place index → IsWaiter x.links place index w → IsAskingStep r s x.trace p child w.name.now w.step
 
 -- ---- what has been found is right
 
@@ -236,7 +236,7 @@ pub record IsSound (r : Resolved) (s : SettingModel) (x : Found) : Type 0 where
   -- each found fact has a step, and each step follows from earlier ones
   pub trace : IsTrace r s x.trace.items
   pub stepped : (f : Fact) → HasFound r x f → HasSomeStep r x.trace.items f
-  pub numbered : HaveTheirSteps r (traced x)
+  pub numbered : HaveTheirSteps r s (traced x)
   pub placed : All (IsPlaced r s) x.edges.items
   -- a kept edge
   pub reached : (e : Edge) → HasFound r x (Kept e) → HasFound r x (Crate e.child)

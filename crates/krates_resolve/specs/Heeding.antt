@@ -1,12 +1,13 @@
 -- What a reference of an enabled feature may give.
 use Rattle.std.specs.Prelude.{◌≡◌, ℕ, List}
-use Rattle.krates_cm.specs.Document.{Text, DepKindInfoModel}
+use Rattle.krates_cm.specs.Document.{Text, DependencyModel, DepKindInfoModel}
 use Rattle.krates_text.specs.FeatureReference.{IsReference, Reference}
 use Rattle.krates_rules.specs.Derivation.{Derivable}
 use Rattle.krates_rules.specs.Facts.{Id, Edge, Feature}
 use Rattle.krates_rules.specs.Features.{HasReference}
-use Rattle.krates_resolve.specs.Found.{IsAny, IsTried, MayTry}
-use Rattle.krates_rules.specs.Questions.{edge_between, questions}
+use Rattle.krates_resolve.specs.Found.{IsAny, IsToggledIn, IsTried, MayTry, WaitsOrIsToggled}
+use Rattle.krates_rules.specs.Questions.{IsWanted, Stands, edge_between, questions}
+use Rattle.krates_rules.specs.Referent.{IsReferent}
 use Rattle.krates_rules.specs.References.{Demands}
 use Rattle.krates_rules.specs.Resolved.{DepAt, Resolved}
 use Rattle.krates_rules.specs.Setting.{SettingModel}
@@ -52,3 +53,21 @@ MayAskAt r s p place index =
 -- each edge by the dependency at these places has been tried
 abbrev pub IsAskedAt : Resolved → SettingModel → Found → Id → ℕ → ℕ → Type 0
 IsAskedAt r s x p place index = (e : Edge) → e.parent ≡ p → DepAt r p e.child place index → IsTried r s x e IsAny
+
+-- where an edge by that dependency may be kept, the feature is toggled
+abbrev pub IsToggledStronglyAt : Resolved → SettingModel → Found → Id → ℕ → ℕ → Text → Type 0
+IsToggledStronglyAt r s x p place index g =
+    (e : Edge) (d : DependencyModel) → e.parent ≡ p → DepAt r p e.child place index → IsWanted r s e d → Stands r s e.child → IsToggledIn r x p e.child g
+
+-- the feature of that dependency waits for a kept edge, or is toggled
+abbrev pub IsWaitingAt : Resolved → Found → Id → ℕ → ℕ → Text → Type 0
+IsWaitingAt r x p place index g = (child : Id) → DepAt r p child place index → WaitsOrIsToggled r x p child place index g
+
+-- the step is that of an enabled feature of the crate with a reference of this form, whose name means the dependency at these places
+pub record RefersTo (r : Resolved) (s : SettingModel) (trace : List NumberedStep) (p : Id) (form : Text → Reference) (step place index : ℕ) : Type 0 where
+  pub name : Text
+  pub may : HasEnabledReference r s p (form name)
+  pub has_step : IsReferringStep r trace step p (form name)
+  pub child : Id
+  pub dep : DepAt r p child place index
+  pub is : IsReferent r s.all_named p name child

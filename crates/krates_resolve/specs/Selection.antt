@@ -62,7 +62,7 @@ pub record IsSelection (r : Resolved) (s : SettingModel) (x : Selection) : Type 
   pub placed : All (IsPlaced r s) x.edges.items
   pub features : IsStrictlySortedBy feature_cmp x.features.items
   pub toggled : IsStrictlySortedBy toggled_cmp x.toggled.items
-  pub work : CountsEach r (length x.krates.items) x.features.items x.work
+  pub work : CountsEach r s (length x.krates.items) x.features.items x.work
 
 -- it is that of the document under the setting
 abbrev pub IsSelectionOf : MetadataModel → SettingModel → Selection → Type 0

@@ -1,9 +1,9 @@
 //! What the references of an enabled feature give.
 
 ghost use Rattle.krates_questions.specs.NodeEntry.{krate_of};
-ghost use Rattle.krates_resolve.specs.Basis.{FindsAskedDep, FindsToggledAt, Has, HasAsked, HasAskedDep, HasAskingStep, HasFeatureStep, HasFollowedText, HasHeededTaken, HasReferenceStep, HasToggledAt, HasToggledKept, HasValueStep, IsRight, LetsWait, MayAskFor, MayAskForDep, MayFollow, MayFollowText, MayToggleAt, Moves, TakenHasReferences};
+ghost use Rattle.krates_resolve.specs.Basis.{CountsNameOf, CountsTextOf, FindsAskedDep, FindsToggledAt, Has, HasAsked, HasAskedDep, HasAskingStep, HasFeatureStep, HasFollowedText, HasHeededTaken, HasReferenceStep, HasToggledAt, HasToggledKept, HasToggledKeptAt, HasValueStep, IsReferredTo, IsRight, LetsWait, LetsWaitAt, MayAskFor, MayAskForDep, MayFollow, MayFollowText, MayToggleAt, Moves, TakenHasReferences};
 ghost use Rattle.krates_questions.specs.Basis.{HasParts, Refuses};
-ghost use Rattle.std.specs.Prelude.{◌≡◌, ◌<◌, Contains, IfErr, IfOk, OnOk, length};
+ghost use Rattle.std.specs.Prelude.{◌≡◌, ◌<◌, Contains, IfErr, IfOk, OnOk, length, max};
 ghost use Rattle.krates_text.specs.FeatureReference.{krate, strong, weak};
 ghost use Rattle.krates_rules.specs.Facts.{Crate, Feature};
 ghost use Rattle.krates_resolve.specs.Links.{IsMarked};
@@ -20,19 +20,19 @@ use krates_questions::basis::Basis;
 use krates_questions::features::feature_values;
 use krates_questions::lookup::node_place;
 use krates_questions::node_entry::{NodeParts, entry_at, parts_of};
-use krates_questions::referent::referent_of;
+use krates_questions::referent::referents_of;
 use krates_text::features::{Feature, ParsedFeature};
 
 /// Follows each reference of an enabled feature.
 ///
 /// It is handed the feature as it was taken, so that the references of each are followed once, and the step by which the feature
-/// was found. It answers how many references the feature has.
+/// was found. It answers how many references the feature has, as they count.
 pub(crate) fn heed<'a>(
     basis: &Basis<'a, '_>,
     taken: Taken,
     step: usize,
     found: &mut Found<'a>,
-) -> Result<usize, Error>
+) -> Result<u64, Error>
     requires lookup { IsLookup basis.now.lookup.now }
     requires sound { IsRight basis.now found.old }
     requires put { Contains found.old.features.put taken }
@@ -47,20 +47,22 @@ pub(crate) fn heed<'a>(
     let feature = basis.lookup.features.listed[taken.number()];
     let parts = parts_of(basis.lookup, feature.place);
     let values = feature_values(basis.lookup, parts.parent, feature.name);
+    let mut references: u64 = 0;
     for text in values {
-        follow(basis, &parts, text.as_str(), step, found)?;
+        let counts = follow(basis, &parts, text.as_str(), step, found)?;
+        references = references.saturating_add(counts as u64);
     }
-    Ok(values.len())
+    Ok(references)
 }
 
-/// Follows a reference of the feature of a kept crate that was enabled by this step.
+/// Follows a reference of the feature of a kept crate that was enabled by this step. It answers how often the reference counts.
 fn follow<'a>(
     basis: &Basis<'a, '_>,
     parts: &NodeParts<'a>,
     text: &'a str,
     step: usize,
     found: &mut Found<'a>,
-) -> Result<(), Error>
+) -> Result<usize, Error>
     requires lookup { IsLookup basis.now.lookup.now }
     requires parts { HasParts basis.now parts.now.place parts.now }
     requires sound { IsRight basis.now found.old }
@@ -69,6 +71,7 @@ fn follow<'a>(
     requires step { HasValueStep basis.now found.old step (krate_of parts.now) text.now }
     ensures advanced { OnOk result (Moves basis.now found.old found.new) }
     ensures followed { OnOk result (HasFollowedText basis.now found.new (krate_of parts.now) text.now) }
+    ensures counted { IfOk result (CountsTextOf basis.now (krate_of parts.now) text.now) }
     ensures refused { IfErr result (Refuses basis.now) }
 {
     krates_text::laws::one_reference();
@@ -79,7 +82,8 @@ fn follow<'a>(
                 place: parts.place,
             };
             let reason = Reason::by_one(3, step);
-            enable(basis, node, NamedFeature { name, reason }, found)
+            enable(basis, node, NamedFeature { name, reason }, found)?;
+            Ok(1)
         }
         Feature::Krate(krate) => ask(basis, parts, krate, step, found),
         Feature::Strong { krate, feature } => {
@@ -99,14 +103,22 @@ fn follow<'a>(
     }
 }
 
-/// Keeps the edges to the dependency of this name, also where it is optional: the feature of this step asks for them.
+/// How often a reference counts whose name means so many crates: once for each, and once where it means none.
+fn times(referents: usize) -> usize
+    ensures { result ≡ max referents 1 }
+{
+    referents.max(1)
+}
+
+/// Keeps the edges to the dependencies that the name means, also where they are optional: the feature of this step asks for
+/// them.
 fn ask<'a>(
     basis: &Basis<'a, '_>,
     parts: &NodeParts<'a>,
     name: &'a str,
     step: usize,
     found: &mut Found<'a>,
-) -> Result<(), Error>
+) -> Result<usize, Error>
     requires lookup { IsLookup basis.now.lookup.now }
     requires parts { HasParts basis.now parts.now.place parts.now }
     requires sound { IsRight basis.now found.old }
@@ -114,13 +126,16 @@ fn ask<'a>(
     requires step { HasAskingStep basis.now found.old step (krate_of parts.now) name.now }
     ensures advanced { OnOk result (Moves basis.now found.old found.new) }
     ensures asked { OnOk result (HasAsked basis.now found.new (krate_of parts.now) name.now) }
+    ensures counted { IfOk result (CountsNameOf basis.now (krate_of parts.now) name.now) }
     ensures refused { IfErr result (Refuses basis.now) }
 {
     laws::one_reading();
-    let Some(index) = referent_of(basis.lookup, parts, name) else {
-        return Ok(());
-    };
-    ask_once(basis, parts, index, Reason::by_one(4, step), found)
+    let all = basis.setting.is_all_named();
+    let referents = referents_of(basis.alloc, basis.lookup, parts, name, all)?;
+    for referent in &referents {
+        ask_once(basis, parts, referent.place, Reason::by_one(4, step), found)?;
+    }
+    Ok(times(referents.len()))
 }
 
 /// Keeps the edges by a dependency, also where it is optional, unless that was done before.
@@ -151,14 +166,15 @@ fn ask_once<'a>(
     Ok(())
 }
 
-/// Keeps the edges to the dependency of this name, also where it is optional, and toggles a feature of it where one is kept.
+/// Keeps the edges to the dependencies that the name means, also where they are optional, and toggles a feature of each to
+/// which one is kept.
 fn toggle_strongly<'a>(
     basis: &Basis<'a, '_>,
     parts: &NodeParts<'a>,
     name: &'a str,
     feature: Waiting<'a>,
     found: &mut Found<'a>,
-) -> Result<(), Error>
+) -> Result<usize, Error>
     requires lookup { IsLookup basis.now.lookup.now }
     requires parts { HasParts basis.now parts.now.place parts.now }
     requires sound { IsRight basis.now found.old }
@@ -167,13 +183,40 @@ fn toggle_strongly<'a>(
         (strong name.now feature.name.now) }
     ensures advanced { OnOk result (Moves basis.now found.old found.new) }
     ensures asked { OnOk result (HasAsked basis.now found.new (krate_of parts.now) name.now) }
-    ensures toggled { OnOk result (HasToggledKept basis.now found.new parts.now name.now feature.entry.name.now) }
+    ensures toggled { OnOk result (HasToggledKept basis.now found.new parts.now name.now
+        feature.entry.name.now) }
+    ensures counted { IfOk result (CountsNameOf basis.now (krate_of parts.now) name.now) }
+    ensures refused { IfErr result (Refuses basis.now) }
+{
+    let all = basis.setting.is_all_named();
+    let referents = referents_of(basis.alloc, basis.lookup, parts, name, all)?;
+    for referent in &referents {
+        toggle_at(basis, parts, referent.place, feature, found)?;
+    }
+    Ok(times(referents.len()))
+}
+
+/// Keeps the edges by a dependency, also where it is optional, and toggles a feature of it where one is kept.
+fn toggle_at<'a>(
+    basis: &Basis<'a, '_>,
+    parts: &NodeParts<'a>,
+    index: usize,
+    feature: Waiting<'a>,
+    found: &mut Found<'a>,
+) -> Result<(), Error>
+    requires lookup { IsLookup basis.now.lookup.now }
+    requires parts { HasParts basis.now parts.now.place parts.now }
+    requires sound { IsRight basis.now found.old }
+    requires within { index < length parts.now.children.now }
+    requires referred { IsReferredTo basis.now found.old parts.now (λ name. strong name feature.name.now)
+        feature.step index }
+    ensures advanced { OnOk result (Moves basis.now found.old found.new) }
+    ensures asked { OnOk result (HasAskedDep basis.now found.new parts.now index) }
+    ensures toggled { OnOk result (HasToggledKeptAt basis.now found.new parts.now index
+        feature.entry.name.now) }
     ensures refused { IfErr result (Refuses basis.now) }
 {
     laws::one_reading();
-    let Some(index) = referent_of(basis.lookup, parts, name) else {
-        return Ok(());
-    };
     ask_once(basis, parts, index, Reason::by_one(4, feature.step), found)?;
     let Some(kept) = found.links.kept(parts.place, index) else {
         return Ok(());
@@ -186,14 +229,14 @@ fn toggle_strongly<'a>(
     toggle_child(basis, parts, index, toggled, found)
 }
 
-/// Toggles a feature of the dependency of this name where an edge to it is kept, or lets it wait for one.
+/// Toggles a feature of each dependency that the name means and to which an edge is kept, or lets it wait for one.
 fn wait<'a>(
     basis: &Basis<'a, '_>,
     parts: &NodeParts<'a>,
     name: &'a str,
     feature: Waiting<'a>,
     found: &mut Found<'a>,
-) -> Result<(), Error>
+) -> Result<usize, Error>
     requires lookup { IsLookup basis.now.lookup.now }
     requires parts { HasParts basis.now parts.now.place parts.now }
     requires sound { IsRight basis.now found.old }
@@ -203,12 +246,36 @@ fn wait<'a>(
     ensures advanced { OnOk result (Moves basis.now found.old found.new) }
     ensures waiting { OnOk result (LetsWait basis.now found.new (krate_of parts.now) name.now
         feature.entry.name.now) }
+    ensures counted { IfOk result (CountsNameOf basis.now (krate_of parts.now) name.now) }
+    ensures refused { IfErr result (Refuses basis.now) }
+{
+    let all = basis.setting.is_all_named();
+    let referents = referents_of(basis.alloc, basis.lookup, parts, name, all)?;
+    for referent in &referents {
+        wait_at(basis, parts, referent.place, feature, found)?;
+    }
+    Ok(times(referents.len()))
+}
+
+/// Toggles a feature of a dependency where an edge to it is kept, or lets it wait for one.
+fn wait_at<'a>(
+    basis: &Basis<'a, '_>,
+    parts: &NodeParts<'a>,
+    index: usize,
+    feature: Waiting<'a>,
+    found: &mut Found<'a>,
+) -> Result<(), Error>
+    requires lookup { IsLookup basis.now.lookup.now }
+    requires parts { HasParts basis.now parts.now.place parts.now }
+    requires sound { IsRight basis.now found.old }
+    requires within { index < length parts.now.children.now }
+    requires referred { IsReferredTo basis.now found.old parts.now (λ name. weak name feature.name.now)
+        feature.step index }
+    ensures advanced { OnOk result (Moves basis.now found.old found.new) }
+    ensures waiting { OnOk result (LetsWaitAt basis.now found.new parts.now index feature.entry.name.now) }
     ensures refused { IfErr result (Refuses basis.now) }
 {
     laws::one_reading();
-    let Some(index) = referent_of(basis.lookup, parts, name) else {
-        return Ok(());
-    };
     if let Some(kept) = found.links.kept(parts.place, index) {
         let reason = Reason::by_two(7, feature.step, kept);
         let toggled = NamedFeature {

@@ -38,7 +38,8 @@ pub(crate) fn saturate<'a>(
     requires fresh { IsFresh work.old }
     ensures exact { IfOk result (HasExactly (resolved_view lookup.now) setting.now) }
     ensures sound { IfOk result (λ found. IsSound (resolved_view lookup.now) setting.now found) }
-    ensures counted { IfOk result (λ found. HasCountedAll (resolved_view lookup.now) found work.new) }
+    ensures counted { IfOk result
+        (λ found. HasCountedAll (resolved_view lookup.now) setting.now found work.new) }
     ensures refused { IfErr result (SelectionRefusal (questions (resolved_view lookup.now) setting.now)) }
 {
     let mut found = Found {

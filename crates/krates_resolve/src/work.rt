@@ -37,12 +37,12 @@ impl Work {
     }
 
     /// Counts a feature and its references.
-    pub(crate) fn count_feature(&mut self, references: usize)
+    pub(crate) fn count_feature(&mut self, references: u64)
         ensures features { self.new.features ≡ counted (self.old.features + 1) }
         ensures references { self.new.references ≡ counted (self.old.references + references) }
         ensures same { self.new.krates ≡ self.old.krates }
     {
         self.features = self.features.saturating_add(1);
-        self.references = self.references.saturating_add(references as u64);
+        self.references = self.references.saturating_add(references);
     }
 }

@@ -44,6 +44,15 @@ const LOST: &[Row] = &[
         "a b;x=b/nope|b",
         "lost feature: nope of path+file:///w/b#0.1.0",
     ),
+    // the least of two versions lists it, and the other doesn't
+    (
+        "a d?;x=d/j|d@0.10.0;j=|d@0.9.0 / nodes a d@0.10.0 d@0.9.0;x|d@0.10.0;j|d@0.9.0",
+        "+a+d@0.10.0, a>d@0.10.0 normal 0 as 0, a/x, d@0.10.0/j",
+    ),
+    (
+        "a d?;x=d/j|d@0.10.0;j=|d@0.9.0 / nodes a d@0.10.0 d@0.9.0;x|d@0.10.0;j|d@0.9.0 / names all",
+        "lost feature: j of path+file:///w/d#d@0.9.0",
+    ),
     (
         "a;x=y / nodes a;x",
         "lost feature: y of path+file:///w/a#0.1.0",

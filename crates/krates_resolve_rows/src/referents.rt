@@ -1,4 +1,4 @@
-//! Which dependency a feature reference means: the least by id, also by the name of its library, and over edges of any kind.
+//! Which dependency a feature reference means: the least by id or all, also by the name of its library, and over edges of any kind.
 
 use crate::selection::Selected;
 use krates_samples::table::{Row, hold};
@@ -19,6 +19,11 @@ const MEANT: &[Row] = &[
     (
         "a d;x=d/f|d@0.9.0;f=|d@0.10.0;f= / nodes a d@0.9.0 d@0.10.0;x|d@0.9.0;f|d@0.10.0;f",
         "+a+d@0.10.0+d@0.9.0, a>d@0.10.0 normal 0 as 0, a>d@0.9.0 normal 0 as 0, a/x, d@0.10.0/f",
+    ),
+    // all versions, where a name means all
+    (
+        "a d;x=d/f|d@0.9.0;f=|d@0.10.0;f= / nodes a d@0.9.0 d@0.10.0;x|d@0.9.0;f|d@0.10.0;f / names all",
+        "+a+d@0.10.0+d@0.9.0, a>d@0.10.0 normal 0 as 0, a>d@0.9.0 normal 0 as 0, a/x, d@0.10.0/f, d@0.9.0/f",
     ),
     // a feature that asks for a dependency for development
     ("a b&dev;x=b/y|b;y=", "+a+b, a>b dev 0 as 0, a/x, b/y"),

@@ -12,6 +12,7 @@ fn set_with(alloc: Global, setting: &mut Setting, section: &str) -> Result<(), F
     let (first, second) = text.split_once(' ').unwrap_or((text, ""));
     match setter {
         "workspace" => setting.workspace(first == "on"),
+        "names" => setting.all_named(first == "all"),
         "include" => setting.include_workspace_crates(alloc, words_of(alloc, text)?.as_slice())?,
         "ignore" => setting.ignore_kind(DepKind::from(kind_named(first)), scope_of(second)),
         "without" => setting.exclude(package_specs(alloc, text)?)?,

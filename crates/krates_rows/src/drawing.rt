@@ -132,6 +132,30 @@ const GRAPHS: &[Row] = &[
     // features that name each other, and one that names itself
     ("a;f=g g=f", "a 0/f 0/g | 1:0 1:2 2:0 2:1"),
     ("a;f=f", "a 0/f | 1:0 1:1"),
+    // a name that means the least of two versions, and both
+    (
+        "a d?;x=dep:d|d@0.10.0|d@0.9.0 / nodes a d@0.10.0 d@0.9.0;x|d@0.10.0|d@0.9.0",
+        "a[1] d@0.10.0 0/x | 0>1 2:0 2:1",
+    ),
+    (
+        "a d?;x=dep:d|d@0.10.0|d@0.9.0 / nodes a d@0.10.0 d@0.9.0;x|d@0.10.0|d@0.9.0 / names all",
+        "a[2] d@0.10.0 d@0.9.0 0/x | 0>1 0>2 3:0 3:1 3:2",
+    ),
+    // both, of which one is left out: an edge leads to each that is kept
+    (
+        "a d?;x=dep:d|d@0.10.0|d@0.9.0 / nodes a d@0.10.0 d@0.9.0;x|d@0.10.0|d@0.9.0 / names all / without d@0.10.0",
+        "a[1] d@0.9.0 0/x | 0>1 2:0 2:1",
+    ),
+    // a weak reference to both, which are kept for another reason
+    (
+        "a d;x=d?/f|d@0.10.0;f=|d@0.9.0;f= / nodes a d@0.10.0 d@0.9.0;x|d@0.10.0;f|d@0.9.0;f / names all",
+        "a[2] d@0.10.0 d@0.9.0 0/x 1/f 2/f | 0>1 0:4 0>2 0:5 3:0 3:4 3:5 4:1 5:2",
+    ),
+    // the same graph where each name has one meaning
+    (
+        "a b?;b=dep:b w=b?/j|b;j= / nodes a b;b w|b;j / names all",
+        "a[1] b 0/b 0/w 1/j | 0>1 0:4 2:0 2:1 3:0 3:4 4:1",
+    ),
     // a crate that needs itself for its tests
     ("a a&dev", "a[0] | 0>0(dev)"),
 ];

@@ -18,6 +18,9 @@ fn build_with(alloc: Global, builder: &mut Builder, section: &str) -> Result<(),
         "workspace" => {
             builder.workspace(first == "on");
         }
+        "names" => {
+            builder.all_named(first == "all");
+        }
         "include" => {
             builder.include_workspace_crates(words_of(alloc, text)?.as_slice())?;
         }

@@ -25,6 +25,15 @@ const COUNTED: &[Row] = &[
     ("a b|b a", "2, 0, 0"),
     // two features ask for one dependency, and one has the same reference twice
     ("a b?;x=dep:b y=dep:b,dep:b|b", "2, 2, 3"),
+    // a reference counts once for each crate that its name means, and once where it means none
+    (
+        "a d?;x=dep:d,dep:e,x|d@0.10.0|d@0.9.0 / nodes a d@0.10.0 d@0.9.0;x|d@0.10.0|d@0.9.0",
+        "2, 1, 3",
+    ),
+    (
+        "a d?;x=dep:d,dep:e,x|d@0.10.0|d@0.9.0 / nodes a d@0.10.0 d@0.9.0;x|d@0.10.0|d@0.9.0 / names all",
+        "3, 1, 4",
+    ),
     // a node that lists a feature twice, and a feature that the manifest lacks
     ("a;x=y y= / nodes a;x y x z", "1, 3, 1"),
 ];

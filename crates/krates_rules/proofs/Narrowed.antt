@@ -4,10 +4,12 @@ use Rattle.krates_cm.specs.Document.{Text, PackageModel}
 use Rattle.krates_ids.specs.declared.error.Error.{Error}
 use Rattle.krates_ids.specs.declared.error.Error.TheVariants as errors
 use Rattle.krates_text.specs.Passing.{TellsPassing}
-use Rattle.krates_rules.specs.Facts.{Id, Edge}
+use Rattle.krates_rules.specs.Facts.{Id, Edge, Fact}
 use Rattle.krates_rules.specs.Kind.{kind_of, ignores}
+use Rattle.krates_rules.specs.Naming.{IsNamedPart, naming}
 use Rattle.krates_rules.specs.Narrowing.{IsNarrower, excludes_more, ignores_more, asks_targets, LosesNothing, IsNarrowing}
 use Rattle.krates_rules.specs.Questions.{IsIncluded, questions}
+use Rattle.krates_rules.specs.Referent.{IsReferent}
 use Rattle.krates_rules.specs.Resolved.{Resolved}
 use Rattle.krates_rules.specs.Roots.{AsksForWorkspace, AsksForMembers, by_setting, without_root, by_manifest, HasManifest, IsRoot, of_graph, of_workspace, of_manifests}
 use Rattle.krates_rules.specs.SelectionRefusals.{SelectionRefusal, cause_of}
@@ -57,6 +59,7 @@ record LeavesOut (r : Resolved) (wide narrow : SettingModel) : Type 0 where
   excluded : (p : PackageModel) → IsExcluded wide p → IsExcluded narrow p
   ignored : (e : Edge) → IsIgnored r wide e → IsIgnored r narrow e
   passes : (cfg : Option Text) → Passes narrow cfg → Passes wide cfg
+  means : (i : Id) (name : Text) (c : Id) → IsReferent r narrow.all_named i name c → IsReferent r wide.all_named i name c
 
 included_wider : (r : Resolved) (wide narrow : SettingModel) (i : Id) → LeavesOut r wide narrow
     → IsIncluded r narrow i → IsIncluded r wide i
@@ -77,7 +80,7 @@ narrow_within r wide narrow w = record {
   lists = λ i f x. x;
   lacks = λ i f x. x;
   refers = λ i f reference x. x;
-  referent = λ i name c x. x;
+  referent = w.means;
   declared = λ e d x. x;
   wanted = λ e d x. record {
     place = x.place;
@@ -115,6 +118,7 @@ leaves_out r wide _ (excludes_more exclusions more) = record {
   excluded = λ p x. record { spec = x.spec; among = more x.spec x.among; fits = x.fits };
   ignored = λ e x. ignored_alike r _ _ e refl x;
   passes = λ cfg x. x;
+  means = λ i name c x. x;
 }
 leaves_out r wide _ (ignores_more ignored kind scope more) = record {
   manifests = refl;
@@ -122,6 +126,7 @@ leaves_out r wide _ (ignores_more ignored kind scope more) = record {
   excluded = λ p x. record { spec = x.spec; among = x.among; fits = x.fits };
   ignored = λ e x. ignored_more e x;
   passes = λ cfg x. x;
+  means = λ i name c x. x;
 }
   where
     ignored_more : (e : Edge) → IsIgnored r wide e → IsIgnored r (record wide { ignored = ignored }) e
@@ -133,9 +138,24 @@ leaves_out r wide _ (asks_targets targets none) = record {
   excluded = λ p x. record { spec = x.spec; among = x.among; fits = x.fits };
   ignored = λ e x. ignored_alike r _ _ e refl x;
   passes = λ cfg x. passes_wider (record wide { targets = targets }) wide none cfg x;
+  means = λ i name c x. x;
 }
 
--- ---- the law
+-- a name that means the least of what answers means no more than one that means all
+means_all : (r : Resolved) (i : Id) (name : Text) (c : Id) → IsReferent r false i name c → IsReferent r true i name c
+means_all r i name c x = record { is_named = x.is_named; least = λ off. absurd cc }
+
+means_more : (r : Resolved) (s : SettingModel) → LeavesOut r (naming s true) (naming s false)
+means_more r s = record {
+  manifests = refl;
+  workspace = refl;
+  excluded = λ p x. record { spec = x.spec; among = x.among; fits = x.fits };
+  ignored = λ e x. ignored_alike r _ _ e refl x;
+  passes = λ cfg x. x;
+  means = means_all r;
+}
+
+-- ---- the laws
 
 refused_narrower : (r : Resolved) (wide narrow : SettingModel) → Within (questions r narrow) (questions r wide)
     → LosesNothing (questions r wide) → (e : Error) → SelectionRefusal (questions r narrow) e
@@ -154,3 +174,6 @@ pub is_narrowing : IsNarrowing
 is_narrowing r wide narrow n =
     let w = narrow_within r wide narrow (leaves_out r wide narrow n) in
     record { facts = λ f d. derivable_within w d; refusals = λ none e h. refused_narrower r wide narrow w none e h }
+
+pub is_named_part : IsNamedPart
+is_named_part r s f d = derivable_within (narrow_within r (naming s true) (naming s false) (means_more r s)) d

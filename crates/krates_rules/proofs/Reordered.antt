@@ -1,5 +1,5 @@
 -- Documents that differ in the order of their lists alone answer the rules alike.
-use Rattle.std.proofs.Common.{◌≡◌, ◌↔◌, ℕ, List, [], ◌∷◌, map, Option, Some, None, Contains, IsPermutation, string_bytes, refl, sym, ap, ◌∙◌, subst}
+use Rattle.std.proofs.Common.{◌≡◌, ◌↔◌, ℕ, Bool, List, [], ◌∷◌, map, Option, Some, None, Contains, IsPermutation, string_bytes, refl, sym, ap, ◌∙◌, subst}
 use Rattle.std.proofs.lemmas.List.Sorted.{Contains-permutation, IsPermutation-sym, IsPermutation-map}
 use Rattle.std.proofs.lemmas.Option.{same_Some}
 use Rattle.std.specs.List.{AllZip}
@@ -175,10 +175,10 @@ named_same r t i name c w x =
       answers = answers_same r t c x.dep name w x.answers;
     }
 
-referent_same : (r t : Resolved) (i : Id) (name : Text) (c : Id) → SaySame r t → IsReferent r i name c → IsReferent t i name c
-referent_same r t i name c w x = record {
+referent_same : (r t : Resolved) (all : Bool) (i : Id) (name : Text) (c : Id) → SaySame r t → IsReferent r all i name c → IsReferent t all i name c
+referent_same r t all i name c w x = record {
   is_named = named_same r t i name c w x.is_named;
-  least = λ other y. x.least other (named_same t r i name other (swapped r t w) y);
+  least = λ off other y. x.least off other (named_same t r i name other (swapped r t w) y);
 }
 
 -- ---- edges
@@ -241,7 +241,7 @@ same_within r t s w = record {
   refers = λ i f reference x.
       let q = package_same r t i x.pkg w x.has_package in
       record { pkg = q.pkg; has_package = q.has_package; values = x.values; feature = sym (q.same.features f) ∙ x.feature; text = x.text; among = x.among; is = x.is };
-  referent = λ i name c x. referent_same r t i name c w x;
+  referent = λ i name c x. referent_same r t s.all_named i name c w x;
   declared = λ e d x. (x.0, declares_same r t e x.0 d w x.1);
   wanted = λ e d x. record {
     place = x.place;
@@ -450,7 +450,7 @@ say_alike r t w none = record {
   deps = λ e d c a b.
       let x = edge_same r t e d w a in
       one_dep t e.parent e.child x.node b.node d c none x.has_node b.has_node x.has_dep b.has_dep;
-  referents = λ i name c. (λ x. referent_same r t i name c w x, λ x. referent_same t r i name c (swapped r t w) x);
+  referents = λ all i name c. (λ x. referent_same r t all i name c w x, λ x. referent_same t r all i name c (swapped r t w) x);
 }
 
 says_both : (m n : MetadataModel) → Reorders m n → (g h : ResolveModel) → m.resolve ≡ Some g → n.resolve ≡ Some h → NoneDoubled n h → SayAlike (resolved m g) (resolved n h)

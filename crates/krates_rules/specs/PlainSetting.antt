@@ -11,4 +11,4 @@ abbrev pub nothing_ignored : IgnoredKinds
 nothing_ignored = record { of_members = no_kinds; of_others = no_kinds }
 
 abbrev pub plain_setting : SettingModel
-plain_setting = record { targets = []; manifests = []; exclusions = []; ignored = nothing_ignored; workspace = false }
+plain_setting = record { targets = []; manifests = []; exclusions = []; ignored = nothing_ignored; workspace = false; all_named = false }

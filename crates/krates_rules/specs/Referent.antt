@@ -1,5 +1,6 @@
 -- Which dependency a name in a feature reference means (Cargo Book, "Features" and "cargo metadata", `resolve`).
-use Rattle.std.specs.Prelude.{◌≡◌, ◌≢◌, ℕ, Contains}
+use Rattle.std.specs.Prelude.{◌≡◌, ◌≢◌, ◌↔◌, ℕ, List, Bool, false, Contains}
+use Rattle.std.specs.List.Sorted.{IsStrictlySortedBy}
 use Rattle.std.specs.declared.cmp.Ordering.{Ordering}
 use Rattle.std.specs.declared.cmp.Ordering.TheVariants.{Greater}
 use Rattle.krates_cm.specs.Document.{Text, TargetModel, PackageModel, NodeDepModel, NodeModel}
@@ -35,7 +36,12 @@ pub record AnswersIn (r : Resolved) (i : Id) (name : Text) (child : Id) : Type 0
   pub has_dep : HasDep node child dep
   pub answers : AnswersTo r child dep name
 
--- What a name means in a reference of the crate: the least, by id, of the dependencies of its node that answer to it.
-pub record IsReferent (r : Resolved) (i : Id) (name : Text) (child : Id) : Type 0 where
+-- What a name means in a reference of the crate: all dependencies of its node that answer to it, or the least of them alone, by id.
+pub record IsReferent (r : Resolved) (all : Bool) (i : Id) (name : Text) (child : Id) : Type 0 where
   pub is_named : AnswersIn r i name child
-  pub least : (other : Id) → AnswersIn r i name other → id_order child other ≢ Greater
+  pub least : all ≡ false → (other : Id) → AnswersIn r i name other → id_order child other ≢ Greater
+
+-- all that a name means, in the order of ids
+pub record AreReferents (r : Resolved) (all : Bool) (i : Id) (name : Text) (ids : List Id) : Type 0 where
+  pub exactly : (c : Id) → Contains ids c ↔ IsReferent r all i name c
+  pub ascending : IsStrictlySortedBy id_order ids

@@ -1,5 +1,5 @@
 -- Documents that differ in the order of their lists alone, and what doesn't depend on it.
-use Rattle.std.specs.Prelude.{◌≡◌, ◌↔◌, List, Option, Some, None, MatchOption, Contains, IsSomeAnd, IsPermutation}
+use Rattle.std.specs.Prelude.{◌≡◌, ◌↔◌, List, Bool, Option, Some, None, MatchOption, Contains, IsSomeAnd, IsPermutation}
 use Rattle.std.specs.List.{AllZip}
 use Rattle.krates_cm.specs.Document.{Text, PackageModel, NodeDepModel, NodeModel, ResolveModel, MetadataModel}
 use Rattle.krates_ids.specs.Correction.{named, with_features}
@@ -81,8 +81,8 @@ pub record SayAlike (r t : Resolved) : Type 0 where
   pub features : (i : Id) (n o : NodeModel) → HasNode r i n → HasNode t i o → (f : Text) → Contains n.features f ↔ Contains o.features f
   -- one dependency lists an edge
   pub deps : (e : Edge) (d c : NodeDepModel) → ListsEdge r e d → ListsEdge t e c → d ≡ c
-  -- a name means the same crate in the references of a crate
-  pub referents : (i : Id) (name : Text) (c : Id) → IsReferent r i name c ↔ IsReferent t i name c
+  -- a name means the same crates in the references of a crate
+  pub referents : (all : Bool) (i : Id) (name : Text) (c : Id) → IsReferent r all i name c ↔ IsReferent t all i name c
 
 -- what is resolved of one document is resolved of the other, and what refuses one refuses the other
 pub record ResolveAlike (m n : MetadataModel) : Type 0 where

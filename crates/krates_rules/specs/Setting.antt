@@ -27,6 +27,8 @@ pub record SettingModel : Type 0 where
   pub ignored : IgnoredKinds
   -- whether every member is asked for, also where the graph has a root
   pub workspace : Bool
+  -- whether a name in a feature reference means all dependencies that answer to it, and not the least of them alone
+  pub all_named : Bool
 
 -- ---- the manifest of a path
 

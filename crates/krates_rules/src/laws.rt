@@ -1,5 +1,6 @@
 //! Laws of resolution, for all documents and settings. Each is the contract of a function that does nothing.
 ghost use Rattle.krates_rules.specs.Checks.{AreComplete, AreSound, GivenIsDerivable, GivenIsPut, GivenStays, LastIsDerivable, PartsFollow};
+ghost use Rattle.krates_rules.specs.Naming.{IsNamedPart};
 ghost use Rattle.krates_rules.specs.Narrowing.{IsNarrowing};
 ghost use Rattle.krates_rules.specs.Reordering.{IsOrderFree};
 
@@ -15,6 +16,12 @@ pub fn reordering()
 /// left, or because memory ran out.
 pub fn narrowing()
     ensures { IsNarrowing }
+{}
+
+/// What is selected where a name in a feature reference means the least, by id, of the dependencies that answer to it, is a
+/// part of what is selected where it means all of them, under settings that are equal otherwise. So is what is lost.
+pub fn named_part()
+    ensures { IsNamedPart }
 {}
 
 /// The fact of each step of an accepted list of steps is derivable, and so the one that the list ends in.

@@ -1,6 +1,7 @@
 //! What the sections of a line set of a builder or of a setting.
 //!
 //! - `workspace on` and `workspace off`: whether every member is a root.
+//! - `names all` and `names least`: whether a name in a feature reference means all dependencies that answer to it.
 //! - `include PATHS`: the crates with these manifests are roots.
 //! - `ignore KIND SCOPE`: this kind of dependency is ignored for the crates of the scope.
 //! - `without SPECS`: the packages that one of these fits are left out.

@@ -5,7 +5,6 @@ use Rattle.krates_drawing.specs.SheetOrder.{IsOrdered}
 use Rattle.krates_drawing.specs.Views.{sheet_view}
 use Rattle.krates_questions.specs.DocumentModel.{as_resolved}
 use Rattle.krates_resolve.specs.Selection.{IsSelection}
-use Rattle.krates_rules.specs.Setting.{SettingModel}
 use Rattle.krates_drawing.proofs.DocumentSheets.{none_doubled_in}
 use Rattle.krates.proofs.DrawnLemmas.{if_ordered, if_sheet_told}
 use Rattle.krates.proofs.drawn.sheet_for.Goals as goal
@@ -15,8 +14,8 @@ sheet_of-requires c = record { distinct = none_doubled_in (metadata_view c.args.
 
 pub returns-clause-sheet : goal.returns-clause-sheet
 returns-clause-sheet c =
-    if_sheet_told (metadata_view c.args.metadata.now) c.args.selection (as_resolved c.in_ok-document.document) c.sheet_of.result c.in_ok-document.ensures c.sheet_of.ensures.sheet
+    if_sheet_told (metadata_view c.args.metadata.now) c.args.setting.now c.args.selection (as_resolved c.in_ok-document.document) c.sheet_of.result c.in_ok-document.ensures c.sheet_of.ensures.sheet
 
 pub returns-clause-ordered : goal.returns-clause-ordered
 returns-clause-ordered c =
-    if_ordered (metadata_view c.args.metadata.now) c.args.selection (as_resolved c.in_ok-document.document) c.sheet_of.result c.in_ok-document.ensures c.sheet_of.ensures.ordered
+    if_ordered (metadata_view c.args.metadata.now) c.args.setting.now c.args.selection (as_resolved c.in_ok-document.document) c.sheet_of.result c.in_ok-document.ensures c.sheet_of.ensures.ordered

@@ -2,7 +2,6 @@ use Rattle.std.proofs.Common.{refl, sym, subst}
 use Rattle.krates_cm.specs.Document.{DepKindInfoModel, dep_kind_info_view}
 use Rattle.krates_cm.specs.declared.resolve.DepKindInfo.{DepKindInfo}
 use Rattle.krates_derive.specs.Giving.{EdgeIn}
-use Rattle.krates_derive.specs.Told.{facts_view}
 use Rattle.krates_derive.specs.Claim.{document_in, facts_in}
 use Rattle.krates_rules.specs.Facts.{Edge}
 use Rattle.krates_rules.specs.Questions.{edge_between}

@@ -1,22 +1,30 @@
-use Rattle.std.proofs.Common.{◌≡◌, Bor, Some, None, option_map, ap, ◌∙◌, true, refl, sym, subst}
-use Rattle.std.proofs.lemmas.Option.{same_Some}
-use Rattle.std.proofs.lemmas.Result.{IfOk-weaker}
-use Rattle.krates_ids.specs.Identity.{Identity}
-use Rattle.krates_derive.specs.Giving.{EdgesIn}
+use Rattle.std.proofs.Common.{List, true, refl, sym, map, subst}
 use Rattle.krates_derive.specs.Claim.{document_in, facts_in}
+use Rattle.krates_derive.specs.Giving.{EdgesIn}
+use Rattle.krates_questions.specs.ReferentPlace.{referent_id}
+use Rattle.krates_questions.specs.declared.referent.Referent.{Referent}
 use Rattle.krates_rules.specs.Facts.{Id}
+use Rattle.krates_rules.specs.Referent.{AreReferents}
 use Rattle.krates_rules.specs.Resolved.{id_of}
+use Rattle.krates_derive.proofs.Places.{contains_read}
+use Rattle.krates_derive.proofs.Seen.{seen_more, each_seen}
 use Rattle.krates_derive.proofs.closing.are_edges_to_in.Goals as goal
 
-pub returns-in-Some : goal.returns-in-Some
-returns-in-Some c =
-    let seen = ap (option_map (λ (k : Bor Identity). id_of k.now)) c.in-Some.is in
-    IfOk-weaker c.are_edges_in.result _ _ (λ b told. (
-      λ t x is. (
-          let same : id_of c.in-Some.child.now ≡ x = same_Some (id_of c.in-Some.child.now) x (sym seen ∙ (c.meant.ensures x).0 is) in
-          subst (λ (i : Id). EdgesIn (document_in c.args.claim.now) c.args.claim.now.setting.now (facts_in c.args.claim.now) (id_of c.args.krate.now) i true) same (told.0 t)),
-      λ h. told.1 (h (id_of c.in-Some.child.now) ((c.meant.ensures (id_of c.in-Some.child.now)).1 seen)),
-    )) c.are_edges_in.ensures
+pub loop-referent-preserved : goal.loop-referent-preserved
+loop-referent-preserved c =
+    let P = λ (x : Referent). EdgesIn (document_in c.args.claim.now) c.args.claim.now.setting.now (facts_in c.args.claim.now) (id_of c.args.krate.now) (referent_id x) true in
+    seen_more P c.deref-referent-items.result.now c.loop-referent.referent-index c.referent-item.result c.loop-referent-test.true c.referent-item.is c.loop-referent.invariant (c.in_ok-are_edges_in.ensures.0 c.if-not-branch.false)
 
-pub returns-in-None : goal.returns-in-None
-returns-in-None c = (λ t x is. absurd (let e : option_map (λ (k : Bor Identity). id_of k.now) None ≡ Some x = sym (ap (option_map (λ (k : Bor Identity). id_of k.now)) c.in-None.is) ∙ (c.meant.ensures x).0 is in cc), λ h. refl)
+pub returns-then-not-branch : goal.returns-then-not-branch
+returns-then-not-branch c =
+    let xs = c.deref-referent-items.result.now in
+    let x = c.referent-item.result in
+    let are = subst (λ (ys : List Referent). AreReferents (document_in c.args.claim.now) c.args.claim.now.setting.now.all_named (id_of c.args.krate.now) c.args.dep.now (map referent_id ys)) (sym c.deref-referent-items.ensures.value) c.in_ok-referents.ensures in
+    let meant = (are.exactly (referent_id x)).0 (contains_read referent_id xs c.loop-referent.referent-index x c.loop-referent-test.true c.referent-item.is) in
+    (λ t. absurd cc, λ all. absurd (cc (c.in_ok-are_edges_in.ensures.1 (all (referent_id x) meant), c.if-not-branch.true)))
+
+pub returns : goal.returns
+returns c =
+    let xs = c.deref-referent-items.result.now in
+    let are = subst (λ (ys : List Referent). AreReferents (document_in c.args.claim.now) c.args.claim.now.setting.now.all_named (id_of c.args.krate.now) c.args.dep.now (map referent_id ys)) (sym c.deref-referent-items.ensures.value) c.in_ok-referents.ensures in
+    (λ t x is. each_seen referent_id (λ (i : Id). EdgesIn (document_in c.args.claim.now) c.args.claim.now.setting.now (facts_in c.args.claim.now) (id_of c.args.krate.now) i true) xs xs c.loop-referent.referent-index refl c.loop-referent-test.false c.loop-referent.invariant x ((are.exactly x).1 is), λ all. refl)

@@ -7,4 +7,4 @@ use Rattle.krates_derive.proofs.closing.are_values_in.Given as goal
 
 -- it holds of those so far
 abbrev pub invariant-loop-value : goal.invariant-loop-value
-invariant-loop-value l = SeenBelow (λ x. ValueIn (document_in l.claim) (facts_in l.claim) (id_of l.krate) (text_view x)) l.values l.value-index
+invariant-loop-value l = SeenBelow (λ x. ValueIn (document_in l.claim) l.claim.setting.now (facts_in l.claim) (id_of l.krate) (text_view x)) l.values l.value-index

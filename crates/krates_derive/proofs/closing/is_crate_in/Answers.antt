@@ -2,7 +2,6 @@ use Rattle.std.proofs.Common.{false, refl}
 use Rattle.krates_cm.specs.Document.{DepKindInfoModel}
 use Rattle.krates_ids.specs.Identity.{Identity}
 use Rattle.krates_derive.specs.Giving.{EdgeIn}
-use Rattle.krates_derive.specs.Told.{facts_view}
 use Rattle.krates_derive.specs.Claim.{document_in, facts_in}
 use Rattle.krates_rules.specs.Facts.{Id}
 use Rattle.krates_rules.specs.Questions.{edge_between}

@@ -1,7 +1,6 @@
 use Rattle.krates_cm.specs.Document.{DepKindInfoModel}
 use Rattle.krates_rules.specs.Questions.{edge_between}
 use Rattle.krates_derive.specs.Giving.{EdgeIn}
-use Rattle.krates_derive.specs.Told.{facts_view}
 use Rattle.std.proofs.Common.{false}
 use Rattle.krates_derive.proofs.Seen.{SeenBelow}
 use Rattle.krates_derive.specs.Claim.{document_in, facts_in}

@@ -1,6 +1,6 @@
 use Rattle.std.proofs.Common.{refl, subst}
 use Rattle.krates_cm.specs.Document.{dependency_view}
-use Rattle.krates_derive.specs.Told.{facts_view, told_edge}
+use Rattle.krates_derive.specs.Told.{told_edge}
 use Rattle.krates_derive.specs.Claim.{document_in, facts_in}
 use Rattle.krates_questions.specs.Need.{TellsNeed}
 use Rattle.krates_derive.proofs.Givings.{edge_nothing, edge_undeclared, edge_taken, edge_left}

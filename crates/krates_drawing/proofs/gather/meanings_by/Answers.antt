@@ -14,6 +14,6 @@ pub returns : goal.returns
 returns c =
     let r = as_resolved c.args.document.now in
     let i = id_of c.args.feature.now.krate in
-    ok_more _ (λ meanings. MeaningsTold r c.args.feature.now (map meaning_view meanings.items)) c.meanings_of.result
-    (λ meanings z. λ p h. subst (λ (vs : List Text). AllZip (IsMeaning r i) vs (map meaning_view meanings.items)) (sym (c.values-values.ensures.named p h) ∙ ap (values_of p.features) c.as_str.ensures.value) z)
+    ok_more _ (λ meanings. MeaningsTold r c.args.setting.now.all_named c.args.feature.now (map meaning_view meanings.items)) c.meanings_of.result
+    (λ meanings z. λ p h. subst (λ (vs : List Text). AllZip (IsMeaning r c.args.setting.now.all_named i) vs (map meaning_view meanings.items)) (sym (c.values-values.ensures.named p h) ∙ ap (values_of p.features) c.as_str.ensures.value) z)
     c.meanings_of.ensures

@@ -8,4 +8,4 @@ use Rattle.krates_drawing.specs.Views.{meaning_view}
 use Rattle.krates_drawing.proofs.meanings.meanings_of.Given as goal
 
 abbrev pub invariant-loop-text : goal.invariant-loop-text
-invariant-loop-text l = AllZip (IsMeaning (as_resolved l.document) (id_of l.krate)) (map text_view (take l.text-index l.values)) (map meaning_view l.meanings.items)
+invariant-loop-text l = AllZip (IsMeaning (as_resolved l.document) l.setting.all_named (id_of l.krate)) (map text_view (take l.text-index l.values)) (map meaning_view l.meanings.items)

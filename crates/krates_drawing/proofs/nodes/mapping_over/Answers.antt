@@ -1,6 +1,6 @@
 use Rattle.std.proofs.Common.{◌≡◌, length, rules, refl, sym, ap, ◌∙◌}
 use Rattle.std.proofs.lemmas.List.{with_items_is}
-use Rattle.krates_drawing.specs.Views.{link_view, sheet_view}
+use Rattle.krates_drawing.specs.Views.{sheet_view}
 use Rattle.krates_drawing.proofs.Mapped.{mapping_more, mapping_none}
 use Rattle.krates_drawing.proofs.nodes.mapping_over.Goals as goal
 

@@ -9,4 +9,4 @@ sheet_of-requires c = record { distinct = none_doubled_in (metadata_view c.args.
 
 pub returns : goal.returns
 returns c =
-    c.in_ok-sheet_of.ensures.ordered _ (selected_in (metadata_view c.args.metadata.now) _ c.in_ok-selection.selection (as_resolved c.in_ok-document.document) c.in_ok-selection.ensures.selected c.in_ok-document.ensures)
+    c.in_ok-sheet_of.ensures.ordered (selected_in (metadata_view c.args.metadata.now) _ c.in_ok-selection.selection (as_resolved c.in_ok-document.document) c.in_ok-selection.ensures.selected c.in_ok-document.ensures)

@@ -1,4 +1,4 @@
-use Rattle.std.proofs.Common.{sym, ◌∙◌, subst}
+use Rattle.std.proofs.Common.{false, sym, ◌∙◌, subst}
 use Rattle.std.proofs.lemmas.Option.{slice_get_within, same_Some}
 use Rattle.krates_ids.specs.Identity.{Identity}
 use Rattle.krates_rules.specs.Facts.{Id}
@@ -14,7 +14,7 @@ returns-in_default c child is = c.in_default.ensures is.is_named.node is.is_name
 pub returns-in_default-referent_of : goal.returns-in_default-referent_of
 returns-in_default-referent_of c child is =
     let r = resolved_view c.args.lookup.now in
-    c.in_default-referent_of.ensures child (subst (λ (i : Id). IsReferent r i c.args.name.now child) (sym c.in-Some.ensures.parent) is)
+    c.in_default-referent_of.ensures child (subst (λ (i : Id). IsReferent r false i c.args.name.now child) (sym c.in-Some.ensures.parent) is)
 
 pub entry_at-requires-clause-lengths : goal.entry_at-requires-clause-lengths
 entry_at-requires-clause-lengths c = sym (deps_long (resolved_view c.args.lookup.now) c.in-Some.parts.place c.in-Some.parts c.in-Some.ensures.parts)
@@ -28,5 +28,5 @@ returns c =
     let name = c.args.name.now in
     let at = c.in-Some-referent_of.ensures in
     let same = same_Some at.child c.entry_at.result.child.now (sym at.at ∙ c.entry_at.ensures.child) in
-    subst (λ (child : Identity). IsReferent r (id_of c.args.krate.now) name (id_of child)) same
-    (subst (λ (i : Id). IsReferent r i name (id_of at.child)) c.in-Some.ensures.parent at.is)
+    subst (λ (child : Identity). IsReferent r false (id_of c.args.krate.now) name (id_of child)) same
+    (subst (λ (i : Id). IsReferent r false i name (id_of at.child)) c.in-Some.ensures.parent at.is)

@@ -1,5 +1,5 @@
 use Rattle.std.proofs.Common.{refl, subst}
-use Rattle.std.proofs.lemmas.Result.{on_ok_weaker}
+use Rattle.std.proofs.lemmas.Result.{IfOk-weaker, on_ok_weaker}
 use Rattle.krates_cm.specs.Document.{Text}
 use Rattle.krates_text.specs.FeatureReference.{IsReference, krate, strong, weak, simple}
 use Rattle.krates_questions.specs.Lookup.{resolved_view}
@@ -49,14 +49,14 @@ wait-requires-clause-step c =
     let is = subst (λ (t : Text). IsReference t reference) c.from.ensures c.in-Weak.ensures in
     referring_step r c.args.found.now.trace.items c.args.step (id_of c.args.parts.now.parent.now) c.args.text.now reference c.requires.step is
 
-pub returns-in-Simple-clause-followed : goal.returns-in-Simple-clause-followed
-returns-in-Simple-clause-followed c =
+pub returns-in_ok-enable-in-Simple-clause-followed : goal.returns-in_ok-enable-in-Simple-clause-followed
+returns-in_ok-enable-in-Simple-clause-followed c =
     let r = resolved_view c.args.basis.now.lookup.now in
     let s = c.args.basis.now.setting.now in
     let text = c.args.text.now in
     let reference = simple c.in-Simple.name.now in
     let is = subst (λ (t : Text). IsReference t reference) c.from.ensures c.in-Simple.ensures in
-    on_ok_weaker c.enable.result (λ followed. followed_by r s c.enable.new.found (id_of c.args.parts.now.parent.now) text reference (c.one_reference.ensures text) is followed) c.enable.ensures.named
+    followed_by r s c.enable.new.found (id_of c.args.parts.now.parent.now) text reference (c.one_reference.ensures text) is c.in_ok-enable-in-Simple.ensures.named
 
 pub returns-in-Krate-clause-followed : goal.returns-in-Krate-clause-followed
 returns-in-Krate-clause-followed c =
@@ -85,3 +85,24 @@ returns-in-Weak-clause-followed c =
     let reference = weak c.in-Weak.krate.now c.in-Weak.feature.now in
     let is = subst (λ (t : Text). IsReference t reference) c.from.ensures c.in-Weak.ensures in
     on_ok_weaker c.wait.result (λ followed. followed_by r s c.wait.new.found (id_of c.args.parts.now.parent.now) text reference (c.one_reference.ensures text) is followed) c.wait.ensures.waiting
+
+pub returns-in_ok-enable-in-Simple-clause-counted : goal.returns-in_ok-enable-in-Simple-clause-counted
+returns-in_ok-enable-in-Simple-clause-counted c = record { reference = simple c.in-Simple.name.now; is = subst (λ (t : Text). IsReference t (simple c.in-Simple.name.now)) c.from.ensures c.in-Simple.ensures; counts = refl }
+
+pub returns-in-Krate-clause-counted : goal.returns-in-Krate-clause-counted
+returns-in-Krate-clause-counted c =
+    let reference = krate c.in-Krate.krate.now in
+    let is = subst (λ (t : Text). IsReference t reference) c.from.ensures c.in-Krate.ensures in
+    IfOk-weaker c.ask.result _ _ (λ n told. record { reference = reference; is = is; counts = told }) c.ask.ensures.counted
+
+pub returns-in-Strong-clause-counted : goal.returns-in-Strong-clause-counted
+returns-in-Strong-clause-counted c =
+    let reference = strong c.in-Strong.krate.now c.in-Strong.feature.now in
+    let is = subst (λ (t : Text). IsReference t reference) c.from.ensures c.in-Strong.ensures in
+    IfOk-weaker c.toggle_strongly.result _ _ (λ n told. record { reference = reference; is = is; counts = told }) c.toggle_strongly.ensures.counted
+
+pub returns-in-Weak-clause-counted : goal.returns-in-Weak-clause-counted
+returns-in-Weak-clause-counted c =
+    let reference = weak c.in-Weak.krate.now c.in-Weak.feature.now in
+    let is = subst (λ (t : Text). IsReference t reference) c.from.ensures c.in-Weak.ensures in
+    IfOk-weaker c.wait.result _ _ (λ n told. record { reference = reference; is = is; counts = told }) c.wait.ensures.counted

@@ -1,5 +1,4 @@
-use Rattle.std.proofs.Common.{ℕ, String, Global, length, map, refl, sym, subst, arith, string_bytes}
-use Rattle.std.proofs.lemmas.List.{length-map}
+use Rattle.std.proofs.Common.{ℕ, String, Global, map, refl, sym, subst, arith, string_bytes}
 use Rattle.krates_cm.specs.Document.{Text, text_view}
 use Rattle.krates_text.specs.FeatureReference.{Reference, IsReference}
 use Rattle.krates_rules.specs.Facts.{Id, Crate, Feature}
@@ -7,12 +6,14 @@ use Rattle.krates_resolve.specs.Found.{IsFollowed, IsHeeded, IsValueOfEnabled}
 use Rattle.krates_resolve.specs.Heeding.{IsValueStep}
 use Rattle.krates_questions.specs.Lookup.{resolved_view}
 use Rattle.krates_questions.specs.Numbering.{FeatureAt}
-use Rattle.krates_resolve.specs.Work.{HasReferences}
+use Rattle.std.specs.List.{sum}
+use Rattle.krates_resolve.specs.Work.{CountsText, HasReferences}
 use Rattle.krates_rules.specs.Resolved.{id_of}
 use Rattle.krates_resolve.proofs.Growing.{advances_refl, advances_trans, followed_grows}
 use Rattle.krates_questions.proofs.FeatureNumbers.{listed_place}
-use Rattle.krates_resolve.proofs.Heedings.{listed_here, listed_found, one_feature, value_at, value_of_enabled, value_of_step, heeded_here, references_here}
+use Rattle.krates_resolve.proofs.Heedings.{listed_here, listed_found, one_feature, value_at, value_of_enabled, value_of_step, heeded_here, none_counted, one_counted, references_here}
 use Rattle.krates_document.proofs.Seen.{seen_more, each_seen}
+use Rattle.krates_document.proofs.Zips.{zip_all}
 use Rattle.krates_resolve.proofs.heeding.heed.Goals as goal
 
 pub parts_of-parts-requires-clause-within : goal.parts_of-parts-requires-clause-within
@@ -23,7 +24,7 @@ parts_of-parts-requires-clause-within c =
     listed_place r c.number.result feature.place feature.name.now at
 
 pub loop-text-init : goal.loop-text-init
-loop-text-init c = (advances_refl (resolved_view c.args.basis.now.lookup.now) c.args.basis.now.setting.now c.args.found.now c.requires.sound, λ k d lt. absurd (omega (arith, lt)))
+loop-text-init c = (advances_refl (resolved_view c.args.basis.now.lookup.now) c.args.basis.now.setting.now c.args.found.now c.requires.sound, λ k d lt. absurd (omega (arith, lt)), none_counted (resolved_view c.args.basis.now.lookup.now) c.args.basis.now.setting.now (id_of c.parts_of-parts.result.parent.now) c.feature_values-values.result.now)
 
 pub follow-requires-clause-sound : goal.follow-requires-clause-sound
 follow-requires-clause-sound c = c.loop-text.invariant.0.sound
@@ -78,11 +79,12 @@ loop-text-preserved c =
     let x = c.loop-text.found in
     let y = c.follow.new.found in
     let inv = c.loop-text.invariant in
-    let step = c.in_ok-follow.ensures in
+    let step = c.in_ok-counts.ensures in
     let followed = subst (λ (t : Text). (reference : Reference) → IsReference t reference → IsFollowed r s y i reference) c.as_str.ensures.value step.followed in (
       advances_trans r s c.args.found.now x y inv.0 step.advanced,
       seen_more (λ (text : String Global). (reference : Reference) → IsReference (string_bytes text) reference → IsFollowed r s y i reference) c.feature_values-values.result.now c.loop-text.text-index c.text-item.result c.loop-text-test.true
           c.text-item.is (λ k d lt reference is. followed_grows r s x y i reference step.advanced.grows (inv.1 k d lt reference is)) followed,
+      one_counted r s i c.feature_values-values.result.now c.loop-text.text-index c.loop-text.references c.in_ok-counts.counts _ c.text-item.result c.loop-text-test.true c.text-item.is (subst (λ (t : Text). CountsText r s.all_named i t c.in_ok-counts.counts) c.as_str.ensures.value step.counted) c.saturating_add-references.ensures inv.2,
     )
 
 pub returns-clause-advanced : goal.returns-clause-advanced
@@ -104,7 +106,7 @@ returns-clause-heeded c krate f there =
     subst (λ (j : Id). IsHeeded r s x j f) same.0 (subst (λ (g : Text). IsHeeded r s x i g) same.1 heeded)
 
 pub returns-clause-counted : goal.returns-clause-counted
-returns-clause-counted c krate f there =
+returns-clause-counted c =
     let r = resolved_view c.args.basis.now.lookup.now in
     let s = c.args.basis.now.setting.now in
     let x = c.args.found.now in
@@ -113,8 +115,15 @@ returns-clause-counted c krate f there =
     let i = id_of c.parts_of-parts.result.parent.now in
     let at = listed_here c.args.basis.now.lookup.now s x c.args.taken number feature c.requires.lookup c.requires.sound c.requires.within c.number.ensures c.index-feature.ensures in
     let enabled = listed_found r x c.args.taken number i feature.place feature.name.now c.requires.put c.number.ensures at c.parts_of-parts.ensures.at in
-    let same = one_feature c.one_reading.ensures.once r i krate feature.place number feature.name.now f c.parts_of-parts.ensures.at at (subst (λ (k : ℕ). FeatureAt r krate f k) (sym c.number.ensures) there) in
+    let so_far = c.loop-text.invariant.2 in
     let texts = c.feature_values-values.result.now in
-    let n = length texts in
-    let here = references_here r s i feature.name.now (map text_view texts) n (c.requires.sound.derivable (Feature i feature.name.now) enabled) c.feature_values-values.ensures.named (sym (length-map texts text_view)) in
-    subst (λ (j : Id). HasReferences r j f n) same.0 (subst (λ (g : Text). HasReferences r i g n) same.1 here)
+    let each = zip_all (CountsText r s.all_named i) text_view texts c.loop-text.text-index so_far.counts (omega arith) so_far.each in
+    let n = sum so_far.counts in
+    let here = references_here r s i feature.name.now (map text_view texts) so_far.counts (c.requires.sound.derivable (Feature i feature.name.now) enabled) c.feature_values-values.ensures.named each in
+    record {
+      number = n;
+      has = λ krate f there. (
+          let same = one_feature c.one_reading.ensures.once r i krate feature.place number feature.name.now f c.parts_of-parts.ensures.at at (subst (λ (k : ℕ). FeatureAt r krate f k) (sym c.number.ensures) there) in
+          subst (λ (j : Id). HasReferences r s j f n) same.0 (subst (λ (g : Text). HasReferences r s i g n) same.1 here));
+      count = so_far.count;
+    }

@@ -4,10 +4,12 @@ use Rattle.krates_resolve.specs.Found.{Advances, IsFollowed}
 use Rattle.krates_questions.specs.Lookup.{resolved_view}
 use Rattle.krates_rules.specs.Resolved.{id_of}
 use Rattle.krates_document.proofs.Seen.{SeenBelow}
+use Rattle.krates_resolve.proofs.Heedings.{CountsSoFar}
 use Rattle.krates_resolve.proofs.heeding.heed.Given as goal
 
--- each reference so far has been followed
+-- each reference so far has been followed, and is counted
 abbrev pub invariant-loop-text : goal.invariant-loop-text
 invariant-loop-text l =
     Advances (resolved_view l.basis.lookup.now) l.basis.setting.now l.fn.found l.found
     × SeenBelow (λ (text : String Global). (reference : Reference) → IsReference (string_bytes text) reference → IsFollowed (resolved_view l.basis.lookup.now) l.basis.setting.now l.found (id_of l.parts.parent.now) reference) l.values l.text-index
+    × CountsSoFar (resolved_view l.basis.lookup.now) l.basis.setting.now (id_of l.parts.parent.now) l.values l.text-index l.references

@@ -1,81 +1,75 @@
-use Rattle.std.proofs.Common.{inl, inr, refl, subst}
-use Rattle.std.proofs.lemmas.Option.{slice_get_within}
-use Rattle.std.proofs.lemmas.Result.{on_ok_weaker}
+use Rattle.std.proofs.Common.{get_or}
 use Rattle.krates_questions.specs.Lookup.{resolved_view}
-use Rattle.krates_rules.specs.Questions.{edge_between}
-use Rattle.krates_rules.specs.Referent.{IsReferent}
-use Rattle.krates_rules.specs.Resolved.{id_of}
-use Rattle.krates_rules.specs.Facts.{Toggled}
-use Rattle.krates_resolve.proofs.Finding.{finds_weakly, for_reason}
-use Rattle.krates_resolve.proofs.Growth.{with_links}
-use Rattle.krates_resolve.proofs.Heedings.{none_waiting, waiting_here, wait_advances, asked_weakly, asking_step, may_toggle_weakly}
-use Rattle.krates_resolve.proofs.Waking.{one_way}
+use Rattle.krates_questions.specs.NodeEntry.{krate_of}
+use Rattle.krates_questions.specs.ReferentPlace.{referent_id}
+use Rattle.krates_questions.specs.declared.referent.Referent.{Referent}
+use Rattle.krates_document.proofs.Seen.{seen_more}
+use Rattle.krates_text.specs.FeatureReference.{weak}
+use Rattle.krates_resolve.specs.Heeding.{IsWaitingAt}
+use Rattle.krates_resolve.proofs.Growing.{advances_trans, waiting_at_grows}
+use Rattle.krates_resolve.proofs.Heedings.{referring_more}
+use Rattle.krates_resolve.proofs.Referred.{each_among, item_among, meant_here, referent_within, waiting_each}
 use Rattle.krates_resolve.proofs.heeding.wait.Goals as goal
 
-pub returns-in_default-clause-waiting : goal.returns-in_default-clause-waiting
-returns-in_default-clause-waiting c = none_waiting (resolved_view c.args.basis.now.lookup.now) c.args.found.now (id_of c.args.parts.now.parent.now) c.args.name.now c.args.feature.name.now c.in_default.ensures
-
-pub kept-requires : goal.kept-requires
-kept-requires c =
-    let at = c.in-Some.ensures in
-    c.requires.sound.has_links (id_of c.args.parts.now.parent.now) (id_of at.child) c.args.parts.now.place c.in-Some.index at.dep
-
-pub toggle_child-requires-clause-within : goal.toggle_child-requires-clause-within
-toggle_child-requires-clause-within c =
-    let at = c.in-Some.ensures in
-    slice_get_within c.args.parts.now.children.now c.in-Some.index at.child at.at
-
-pub toggle_child-requires-clause-marked : goal.toggle_child-requires-clause-marked
-toggle_child-requires-clause-marked c = (c.in-Some-kept.kept, c.in-Some-kept.ensures)
-
-pub toggle_child-requires-clause-may : goal.toggle_child-requires-clause-may
-toggle_child-requires-clause-may c child there =
-    let r = resolved_view c.args.basis.now.lookup.now in
-    let parent = id_of c.args.parts.now.parent.now in
-    let at = c.in-Some.ensures in
-    let same = (one_way c.one_reading.ensures.once r parent (id_of at.child) parent child c.args.parts.now.place c.in-Some.index at.dep there).1 in
-    let kept = c.requires.sound.kept parent child c.args.parts.now.place c.in-Some.index there (c.in-Some-kept.kept, c.in-Some-kept.ensures) in
-    may_toggle_weakly r c.args.basis.now.setting.now (edge_between parent child kept.0) c.args.name.now c.args.feature.name.now c.requires.may (subst (IsReferent r parent c.args.name.now) same at.is) kept.1
-
-pub returns-in-Some-kept-clause-waiting : goal.returns-in-Some-kept-clause-waiting
-returns-in-Some-kept-clause-waiting c =
-    let at = c.in-Some.ensures in
-    on_ok_weaker c.toggle_child.result
-    (λ toggled. waiting_here (resolved_view c.args.basis.now.lookup.now) c.toggle_child.new.found (id_of c.args.parts.now.parent.now) (id_of at.child) c.args.name.now c.args.feature.name.now c.args.parts.now.place c.in-Some.index
-    c.requires.lookup.distinct at.is at.dep (inr (toggled (id_of at.child) at.dep))) c.toggle_child.ensures.toggled
-
-pub toggle_child-requires-clause-step : goal.toggle_child-requires-clause-step
-toggle_child-requires-clause-step c child there lists =
+pub wait_at-requires-clause-within : goal.wait_at-requires-clause-within
+wait_at-requires-clause-within c =
     let r = resolved_view c.args.basis.now.lookup.now in
     let s = c.args.basis.now.setting.now in
-    let p = id_of c.args.parts.now.parent.now in
+    let parts = c.args.parts.now in
     let name = c.args.name.now in
-    let g = c.args.feature.name.now in
-    let m = c.in-Some-kept.kept in
-    let at = c.in-Some.ensures in
-    let trace = c.args.found.now.trace.items in
-    let referent = subst (IsReferent r p name) (one_way c.one_reading.ensures.once r p (id_of at.child) p child c.args.parts.now.place c.in-Some.index at.dep there).1 at.is in
-    let has = c.requires.sound.numbered.marked p child c.args.parts.now.place c.in-Some.index m there c.in-Some-kept.ensures in
-    for_reason r s trace _ _ (Toggled p child g) c.by_two-reason.ensures (finds_weakly r s trace c.args.feature.step m (edge_between p child has.0) name g c.requires.step referent has.1 lists)
+    let xs = c.deref-referent-items.result.now in
+    let meant = meant_here r s parts name c.is_all_named-all.result c.in_ok-referents.referents.items xs c.is_all_named-all.ensures c.deref-referent-items.ensures.value c.in_ok-referents.ensures in
+    let x = c.referent-item.result in
+    let among = item_among xs c.loop-referent.referent-index x c.loop-referent-test.true c.referent-item.is in
+    referent_within r s parts name xs x meant among
 
-pub let_wait-requires : goal.let_wait-requires
-let_wait-requires c =
-    let at = c.in-Some.ensures in
-    c.requires.sound.has_links (id_of c.args.parts.now.parent.now) (id_of at.child) c.args.parts.now.place c.in-Some.index at.dep
-
-pub returns-clause-advanced : goal.returns-clause-advanced
-returns-clause-advanced c =
+pub wait_at-requires-clause-referred : goal.wait_at-requires-clause-referred
+wait_at-requires-clause-referred c =
     let r = resolved_view c.args.basis.now.lookup.now in
     let s = c.args.basis.now.setting.now in
-    let at = c.in-Some.ensures in
-    let p = id_of c.args.parts.now.parent.now in
-    let child = id_of at.child in
+    let parts = c.args.parts.now in
+    let name = c.args.name.now in
+    let xs = c.deref-referent-items.result.now in
+    let meant = meant_here r s parts name c.is_all_named-all.result c.in_ok-referents.referents.items xs c.is_all_named-all.ensures c.deref-referent-items.ensures.value c.in_ok-referents.ensures in
+    let x = c.referent-item.result in
+    let among = item_among xs c.loop-referent.referent-index x c.loop-referent-test.true c.referent-item.is in
+    let at = meant.each x among in
+    let trace = c.loop-referent.found.trace.items in
+    record {
+      name = name;
+      may = c.requires.may;
+      has_step = referring_more r c.args.found.now.trace.items trace c.args.feature.step (krate_of parts) (weak name c.args.feature.name.now) c.loop-referent.invariant.0.grows.steps c.requires.step;
+      child = referent_id x;
+      dep = at.dep;
+      is = at.is;
+    }
+
+pub loop-referent-preserved : goal.loop-referent-preserved
+loop-referent-preserved c =
+    let r = resolved_view c.args.basis.now.lookup.now in
+    let s = c.args.basis.now.setting.now in
+    let parts = c.args.parts.now in
+    let name = c.args.name.now in
+    let xs = c.deref-referent-items.result.now in
+    let meant = meant_here r s parts name c.is_all_named-all.result c.in_ok-referents.referents.items xs c.is_all_named-all.ensures c.deref-referent-items.ensures.value c.in_ok-referents.ensures in
     let g = c.args.feature.name.now in
-    wait_advances c.one_reading.ensures.once r s c.args.found.now c.let_wait.new.self p child c.args.parts.now.place c.in-Some.index c.args.feature c.requires.sound c.in_ok-let_wait.ensures at.dep
-    (asked_weakly r s p child c.args.name.now g c.requires.may at.is) (asking_step r c.args.found.now.trace.items c.args.feature.step p child c.args.name.now g c.requires.step at.is) c.in_default-kept.ensures
+    let x = c.loop-referent.found in
+    let y = c.wait_at.new.found in
+    let inv = c.loop-referent.invariant in
+    let step = c.in_ok-wait_at.ensures in (
+      advances_trans r s c.args.found.now x y inv.0 step.advanced,
+      seen_more (λ (z : Referent). IsWaitingAt r y (krate_of parts) parts.place z.place g) xs c.loop-referent.referent-index c.referent-item.result c.loop-referent-test.true c.referent-item.is
+          (λ k d lt. waiting_at_grows r x y (krate_of parts) parts.place (get_or xs k d).place g step.advanced.grows (inv.1 k d lt)) step.waiting,
+    )
 
 pub returns-clause-waiting : goal.returns-clause-waiting
 returns-clause-waiting c =
-    let at = c.in-Some.ensures in
-    waiting_here (resolved_view c.args.basis.now.lookup.now) (with_links c.args.found.now c.let_wait.new.self) (id_of c.args.parts.now.parent.now) (id_of at.child) c.args.name.now c.args.feature.name.now c.args.parts.now.place c.in-Some.index
-    c.requires.lookup.distinct at.is at.dep (inl (record { waiter = c.args.feature; waits = c.in_ok-let_wait.ensures.waits; named = refl }))
+    let r = resolved_view c.args.basis.now.lookup.now in
+    let s = c.args.basis.now.setting.now in
+    let parts = c.args.parts.now in
+    let name = c.args.name.now in
+    let xs = c.deref-referent-items.result.now in
+    let meant = meant_here r s parts name c.is_all_named-all.result c.in_ok-referents.referents.items xs c.is_all_named-all.ensures c.deref-referent-items.ensures.value c.in_ok-referents.ensures in
+    let g = c.args.feature.name.now in
+    let x = c.loop-referent.found in
+    waiting_each r s x parts name g xs c.requires.lookup.distinct meant (each_among (λ (z : Referent). IsWaitingAt r x (krate_of parts) parts.place z.place g) xs c.loop-referent.referent-index c.loop-referent-test.false c.loop-referent.invariant.1)

@@ -79,7 +79,7 @@ returns-clause-selected c =
       toggled_rise = c.in_ok-in_order-2.ensures.ascending;
     } in
     let numbered = subst (λ (ns : List ℕ). HaveNumbers r ns enabled) c.numbers-3.ensures.put c.in_ok-features_at.ensures.numbers in
-    let counted : IsCountedWhole r ids found kids enabled x.work = record {
+    let counted : IsCountedWhole r s ids found kids enabled x.work = record {
       none_doubled = h.distinct;
       reads = h.ids.nodes;
       krates = whole.krates;
@@ -90,7 +90,7 @@ returns-clause-selected c =
       counted = c.in_ok-found.ensures.counted;
     } in
     let moved : AreMoved kids x.krates.items enabled x.features.items = record { krates_moved = c.in_ok-krates.ensures.whole; features_moved = c.in_ok-features.ensures.whole } in
-    let counts = counts_each c.comparison.ensures.equality r ids found kids x.krates.items enabled x.features.items x.work counted moved in
+    let counts = counts_each c.comparison.ensures.equality r s ids found kids x.krates.items enabled x.features.items x.work counted moved in
     let here = selected c.one_reading.ensures.once c.comparison.ensures.equality r s ids found kids enabled x whole order counts in
     let same : r ≡ resolved m g = ap (λ (d : Metadata). resolved (metadata_view d) (resolve_view look.resolve.now)) of.0 ∙ ap (λ (d : Resolve). resolved m (resolve_view d)) of.1 in
     record { graph = g; has_graph = ap (option_map resolve_view) c.in-Some.is; holds = subst (λ (r : Resolved). IsSelection r s x) same here }

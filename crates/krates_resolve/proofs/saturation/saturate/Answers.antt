@@ -28,7 +28,7 @@ loop-found-init c =
     let features = ap (λ (a : PutNumbers). a.taken) c.in_ok-new-2.ensures in
     let grows = step.advanced.grows in (
       done_start r c.args.setting.now _ c.put_roots.new.found krates features step.advanced step.roots,
-      counted_start r c.put_roots.new.found c.args.work.now c.requires.fresh (grows.krates_taken ∙ krates) (grows.features_taken ∙ features),
+      counted_start r c.args.setting.now c.put_roots.new.found c.args.work.now c.requires.fresh (grows.krates_taken ∙ krates) (grows.features_taken ∙ features),
     )
 
 pub returns-clause-exact : goal.returns-clause-exact
@@ -42,4 +42,4 @@ returns-clause-counted c =
     let taken = c.in_ok-take_next.ensures.taken in
     let done = taken.0 in
     let none = rw c.if-branch.false at taken.1 in
-    counted_end (resolved_view c.args.lookup.now) c.take_next.new.found c.take_next.new.work c.in_ok-take_next.ensures.counted done.krates_within done.features_within none.0 none.1
+    counted_end (resolved_view c.args.lookup.now) c.args.setting.now c.take_next.new.found c.take_next.new.work c.in_ok-take_next.ensures.counted done.krates_within done.features_within none.0 none.1

@@ -93,7 +93,7 @@ returns-in-Some-clause-counted c =
     let n = x.krates.taken + 1 in
     let same = same_agendas x c.take.new.self x.features (record x.krates { taken = n }) x.features c.in-Some.ensures.counted refl in
     let step = subst (λ (y : Found). Advances r s y z) same c.in_ok-expand.ensures.advanced in
-    crate_counted r x z c.args.work.now c.count_krate.new.self c.requires.counted step.grows c.requires.done.features_within c.count_krate.ensures
+    crate_counted r s x z c.args.work.now c.count_krate.new.self c.requires.counted step.grows c.requires.done.features_within c.count_krate.ensures
 
 pub returns-in_default-take-clause-counted : goal.returns-in_default-take-clause-counted
 returns-in_default-take-clause-counted c =
@@ -102,7 +102,7 @@ returns-in_default-take-clause-counted c =
     let still = unchanged x.krates c.take.new.self (x.krates.taken + 0) c.in_default.ensures.counted (omega arith) in
     let also = unchanged x.features c.take-2.new.self (x.features.taken + 0) c.in_default-take.ensures.counted (omega arith) in
     let same = same_agendas x c.take.new.self c.take-2.new.self x.krates x.features still also in
-    subst (λ (y : Found). AreCounted r y c.args.work.now) (sym same) c.requires.counted
+    subst (λ (y : Found). AreCounted r c.args.basis.now.setting.now y c.args.work.now) (sym same) c.requires.counted
 
 pub returns-clause-counted : goal.returns-clause-counted
 returns-clause-counted c =
@@ -116,8 +116,8 @@ returns-clause-counted c =
     let same = same_agendas x c.take.new.self c.take-2.new.self x.krates (record x.features { taken = m }) still e in
     let step = subst (λ (y : Found). Advances r s y z) same c.in_ok-references.ensures.advanced in
     let counts = c.count_feature.ensures in
-    feature_counted r x z c.args.work.now c.count_feature.new.self c.in-Some-take.taken c.in_ok-references.references c.requires.counted step.grows c.requires.done.features_within (sym c.take-2.ensures.first ∙ c.in-Some-take.is)
-    c.in_ok-references.ensures.counted counts.same counts.features counts.references
+    feature_counted r s x z c.args.work.now c.count_feature.new.self c.in-Some-take.taken c.in_ok-references.ensures.counted.number c.in_ok-references.references c.requires.counted step.grows c.requires.done.features_within (sym c.take-2.ensures.first ∙ c.in-Some-take.is)
+    c.in_ok-references.ensures.counted.has counts.same counts.features c.in_ok-references.ensures.counted.count counts.references
 
 pub index-step-requires : goal.index-step-requires
 index-step-requires c =

@@ -1,0 +1,4 @@
+use Rattle.krates_questions.proofs.questions.Document.referents.Goals as goal
+
+pub returns : goal.returns
+returns c = rw (← c.self.view_is, ← c.is_all_named.ensures) c.referents_in.ensures

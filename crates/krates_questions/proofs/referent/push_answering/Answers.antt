@@ -1,0 +1,23 @@
+use Rattle.std.proofs.Common.{refl}
+use Rattle.std.proofs.lemmas.Option.{slice_get-get_or, slice_get_within}
+use Rattle.krates_questions.specs.Lookup.{resolved_view}
+use Rattle.krates_questions.proofs.AllReferents.{gone_by, gone_put, none_gone}
+use Rattle.krates_questions.proofs.referent.push_answering.Goals.{then-is_lesser+in_ok-push, else-is_lesser}
+use Rattle.krates_questions.proofs.referent.push_answering.Goals as goal
+
+pub loop-there-preserved : goal.loop-there-preserved
+loop-there-preserved c =
+    let r = resolved_view c.args.lookup.now in
+    let parts = c.args.parts.now in
+    let name = c.args.name.now in
+    let xs = c.args.places.now in
+    let old = c.args.referents.now.items in
+    let l = c.loop-there in
+    elim c.if-is_lesser.branch [
+      | then-is_lesser+in_ok-push w ↦ rw (w.referents-is, w.in_ok-push.ensures.items)
+          (gone_put r parts name xs l.there-index _ old l.referents.items _ c.is_lesser.result c.loop-there-test.true c.is_lesser.ensures w.if-is_lesser.true refl (let at = c.is_lesser.ensures.0 w.if-is_lesser.true in slice_get-get_or parts.children.now _ _ (slice_get_within parts.children.now _ at.0 at.1.at)) l.invariant)
+      | else-is_lesser w ↦ rw w.referents-is (gone_by r parts name xs l.there-index _ old l.referents.items c.is_lesser.result c.loop-there-test.true c.is_lesser.ensures w.if-is_lesser.false l.invariant)
+    ]
+
+pub loop-there-init : goal.loop-there-init
+loop-there-init c = none_gone (resolved_view c.args.lookup.now) c.args.parts.now c.args.name.now c.args.places.now c.args.referents.now.items

@@ -1,0 +1,13 @@
+use Rattle.krates_questions.specs.Lookup.{resolved_view}
+use Rattle.krates_questions.specs.NodeEntry.{krate_of}
+use Rattle.krates_questions.specs.declared.referent.Referent.{Referent}
+use Rattle.krates_resolve.specs.Found.{Advances}
+use Rattle.krates_resolve.specs.Heeding.{IsAskedAt}
+use Rattle.krates_document.proofs.Seen.{SeenBelow}
+use Rattle.krates_resolve.proofs.heeding.ask.Given as goal
+
+-- the edges to each so far have been tried
+abbrev pub invariant-loop-referent : goal.invariant-loop-referent
+invariant-loop-referent l =
+    Advances (resolved_view l.basis.lookup.now) l.basis.setting.now l.fn.found l.found
+    × SeenBelow (λ (x : Referent). IsAskedAt (resolved_view l.basis.lookup.now) l.basis.setting.now l.found (krate_of l.parts) l.parts.place x.place) l.referent-items l.referent-index
