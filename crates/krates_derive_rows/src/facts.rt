@@ -6,8 +6,8 @@
 //! - `a>b/f`: a feature of the first crate toggles one of the second.
 //!
 //! A step is the number of its rule, its fact, and the numbers of the steps that it uses, as `4 a>b 1`; a semicolon divides
-//! steps. A line begins with a document, has the sections `ignore KIND`, `without SPECS` and `names all` where something is set, and ends with
-//! the section `steps` or the section `facts`.
+//! steps. A line begins with a document, has the sections `ignore KIND`, `without SPECS` and `names all` where something is set, and
+//! ends with the section `steps` or the section `facts`.
 
 use krates_derive::{CheckError, Derivation, Fact, Step};
 use krates_document::Setting;

@@ -66,6 +66,29 @@ fn keeps_every_member_where_asked(rt: HostRuntime) -> Result<(), Fail> {
     hold::<Listed>(rt.alloc(), EVERY_MEMBER)
 }
 
+const LEAST: &str =
+    "0 |+ path+file:///w/a#0.1.0\n+ path+file:///w/d#d@0.10.0\n- path+file:///w/d#d@0.9.0\n";
+
+const ALL: &str =
+    "0 |+ path+file:///w/a#0.1.0\n+ path+file:///w/d#d@0.10.0\n+ path+file:///w/d#d@0.9.0\n";
+
+// A feature of the only member asks for a dependency by a name to which two versions answer.
+const NAMED: &[Row] = &[
+    (
+        "< a d?;x=dep:d|d@0.10.0|d@0.9.0 / nodes a d@0.10.0 d@0.9.0;x|d@0.10.0|d@0.9.0",
+        LEAST,
+    ),
+    (
+        "--all-named < a d?;x=dep:d|d@0.10.0|d@0.9.0 / nodes a d@0.10.0 d@0.9.0;x|d@0.10.0|d@0.9.0",
+        ALL,
+    ),
+];
+
+#[test]
+fn keeps_all_that_is_named_where_asked(rt: HostRuntime) -> Result<(), Fail> {
+    hold::<Listed>(rt.alloc(), NAMED)
+}
+
 /// Whether a run with these words over two bytes tells the usage line, leaves both bytes unread, and writes nothing.
 struct Unread;
 
@@ -84,6 +107,8 @@ impl Question for Unread {
 const NO_OPTIONS: &[Row] = &[
     ("--nope", "2 usage, 2 left|"),
     ("--workspace nope", "2 usage, 2 left|"),
+    ("--all-named nope", "2 usage, 2 left|"),
+    ("--all-name", "2 usage, 2 left|"),
     ("--ignore-kind", "2 usage, 2 left|"),
     ("--ignore-kind all", "2 usage, 2 left|"),
     ("--exclude", "2 usage, 2 left|"),

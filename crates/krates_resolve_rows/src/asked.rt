@@ -55,6 +55,22 @@ fn referent(alloc: Global, asked: &Document<'_>, words: &str) -> Result<String, 
     Ok(String::from_str(alloc, told)?)
 }
 
+/// The names of the crates that a name means to a crate under a setting.
+fn referents(
+    alloc: Global,
+    asked: &Document<'_>,
+    setting: &Setting,
+    words: &str,
+) -> Result<String, Fail> {
+    let (krate, name) = words.split_once(' ').unwrap_or((words, ""));
+    let krate = kid_of(alloc, krate)?;
+    let mut told = String::new(alloc);
+    for referent in asked.referents(alloc, setting, &krate, name)? {
+        told.push_str(referent.id.name())?;
+    }
+    Ok(told)
+}
+
 /// The names of the roots.
 fn roots(alloc: Global, asked: &Document<'_>, setting: &Setting) -> Result<String, Fail> {
     let mut told = String::new(alloc);
@@ -98,6 +114,7 @@ impl Question for Asked {
         let (name, words) = question.split_once(' ').unwrap_or((question, ""));
         match name {
             "referent" => referent(alloc, &asked, words),
+            "referents" => referents(alloc, &asked, &setting, words),
             "declared" => declared(alloc, &asked, words),
             "open" => is_open(alloc, &asked, &setting, words),
             _ => roots(alloc, &asked, &setting),
@@ -112,6 +129,10 @@ const REFERENTS: &[Row] = &[
     // a crate without dependencies, and one that isn't of the document
     ("referent n z", "none"),
     ("referent q z", "none"),
+    // what is meant under a setting
+    ("referents m z", "z"),
+    ("referents m q", ""),
+    ("referents m z / names all", "z"),
 ];
 
 #[test]
