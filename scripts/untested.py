@@ -16,7 +16,7 @@ import sys
 ROOT = pathlib.Path(__file__).resolve().parent.parent
 CRATES = (
     "krates_text krates_graph krates_cm krates_cm_write krates_cargo krates_ids krates_rules krates_document krates_questions "
-    "krates_resolve krates_derive krates_drawing krates krates_cli"
+    "krates_resolve krates_derive krates_explain krates_drawing krates krates_cli"
 ).split()
 
 IMPL = re.compile(r"^impl(?:<[^>]*>)? (?:[\w<>' ,:]+ for )?(\w+)")

@@ -9,6 +9,7 @@ pub mod DirectDependents
 pub mod Division
 pub mod Drawn
 pub mod Enabled
+pub mod Explained
 pub mod GetDeps
 pub mod GetNode
 pub mod Indexed
@@ -22,4 +23,5 @@ pub mod Members
 pub mod Node
 pub mod NodeOrder
 pub mod ResolvedDependency
+pub mod Why
 pub mod WorkspaceMembers
