@@ -31,6 +31,9 @@ use Rattle.krates_rules.specs.Setting.{SettingModel}
 use Rattle.krates.specs.Build.{AreKeptMembers, AreThosePackages, HasOneEach, IsBuilt, IsResolvable, KeepsCrate}
 use Rattle.krates.specs.DirectDependents.{IsDependent}
 use Rattle.krates.specs.Division.{IsAmong, IsDivision, sheet_ids}
+use Rattle.krates_explain.specs.Explanation.{explained_steps}
+use Rattle.krates_explain.specs.declared.kept.Explanation.{Explanation}
+use Rattle.krates.specs.Explained.{IsExplainedBy}
 use Rattle.krates.specs.Drawn.{IsNumbered, IsSheetFor, node_spot}
 use Rattle.krates.specs.Enabled.{AreEnabledSets}
 use Rattle.krates.specs.Kept.{AreFeatures, AreNodes, IsEnabledIn, names_in_each}
@@ -97,6 +100,10 @@ facts_same r all [] (n ∷ ns) h = absurd h
 facts_same r all (f ∷ fs) [] h = absurd h
 facts_same r all (f ∷ fs) (n ∷ ns) h =
     ap (λ gs. feature_fact f ∷ gs) (facts_same r all fs ns h.1) ∙ ap (λ i. Feature i (text_view f.name) ∷ map named_fact ns) (sym h.0.krate) ∙ ap (λ t. Feature n.krate t ∷ map named_fact ns) (sym h.0.name)
+
+-- those of the selection are those of the sheet
+pub facts_named : (m : MetadataModel) (s : SettingModel) (t : Sheet) → (h : IsSheetFor m s (sheet_view t)) → map feature_fact h.holds.selection.features.items ≡ map named_fact (sheet_view t).features
+facts_named m s t h = facts_same (resolved m h.graph) h.holds.selection.features.items (sheet_view t).features h.holds.is_sheet.features
 
 -- ---- the graph of the sheet
 
@@ -206,8 +213,9 @@ pub is_built : {F N E : Type 0} (filters : F → Package → F → Type 0) (made
     → FoldsTo filters before (krate_packages d.others.items) after → Selects (metadata_view m) s found → IsResolvable (metadata_view m) → IsNumbered g
     → AreKeptMembers (metadata_view m) (crate_ids g.nodes) members
     → ((i : Id) → HasOneEach (metadata_view m) s i → (p q : ℕ) → StandsAt (crate_ids g.nodes) i p → q < length (crate_ids g.nodes) → DependsOn (map node_spot g.nodes) p q ↔ IsDependent g.nodes g.edges q p)
-    → IsBuilt filters made made_edge m s before after (record { graph = g; members = members; workspace_root = text_view m.workspace_root; work = found.work })
-is_built filters made made_edge m s t d g members before after found h b w run selected resolvable numbered listed agree =
+    → (e : Explanation) → IsExplainedBy (metadata_view m) s (explained_steps e)
+    → IsBuilt filters made made_edge m s before after (record { graph = g; members = members; workspace_root = text_view m.workspace_root; work = found.work; explanation = e })
+is_built filters made made_edge m s t d g members before after found h b w run selected resolvable numbered listed agree e explained =
     let x = h.holds.selection in
     let facts = facts_same (resolved (metadata_view m) h.graph) s.all_named x.features.items (sheet_view t).features h.holds.is_sheet.features in
     record {
@@ -228,4 +236,5 @@ is_built filters made made_edge m s t d g members before after found h b w run s
       root = refl;
       work = (found, selected, refl);
       reported = record { ids = krate_ids d.others.items; others = krate_packages d.others.items; not_kept = b.others; run = run };
+      explained = explained;
     }

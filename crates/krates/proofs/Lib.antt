@@ -8,6 +8,7 @@ pub mod DivisionLemmas
 pub mod DrawnLemmas
 pub mod EdgeNumbers
 pub mod EnabledLemmas
+pub mod ExplainedLemmas
 pub mod FeatureNodes
 pub mod FeaturesDrawn
 pub mod JoinedLemmas
@@ -27,3 +28,4 @@ pub mod OrderedIds
 pub mod ReachedLemmas
 pub mod SeenLemmas
 pub mod SelectionFacts
+pub mod WhyLemmas

@@ -66,7 +66,7 @@ crate_apart i = record { edge = λ e h. cc h; feature = λ e h. cc h; toggled = 
 lost_apart : (c : Cause) → IsApart (Lost c)
 lost_apart c = record { edge = λ e h. cc h; feature = λ e h. cc h; toggled = λ e h. cc h }
 
-crate_among : (x : Selection) (i : Id) → Contains (facts_of x) (Crate i) → IsAmong x.krates.items i
+pub crate_among : (x : Selection) (i : Id) → Contains (facts_of x) (Crate i) → IsAmong x.krates.items i
 crate_among x i c =
     let w = mapped_of crate_fact x.krates.items (Crate i) (crate_only x (Crate i) (crate_apart i) (member_of (facts_of x) (Crate i) c)) in
     let same : id_of w.from ≡ i = cc (w.is) in

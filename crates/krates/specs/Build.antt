@@ -27,6 +27,7 @@ use Rattle.krates_resolve.specs.Selection.{IsSelectionOf}
 use Rattle.krates_resolve.specs.declared.selection.Selection.{Selection}
 use Rattle.krates.specs.Indexed.{Answering, Sees}
 use Rattle.krates.specs.DirectDependents.{IsDependent}
+use Rattle.krates.specs.Explained.{IsExplainedBy, steps_of}
 use Rattle.krates.specs.Drawn.{HasSheet, IsDrawn, IsNumbered, node_spot}
 use Rattle.krates.specs.Kept.{KeptCrates, HasEnabled, ids_of, values_of}
 
@@ -135,6 +136,8 @@ pub record IsBuilt {F N E : Type 0} (filters : F → Package → F → Type 0) (
   -- the work is that of the document's selection, in which each crate, each feature and each reference is counted once
   pub work : (x : Selection) × IsSelectionOf (metadata_view m) s x × (k.work ≡ x.work)
   pub reported : IsReported filters m s before after
+  -- the kept steps follow, and have exactly the facts with a derivation
+  pub explained : IsExplainedBy (metadata_view m) s (steps_of k)
 
 -- ---- refusals
 

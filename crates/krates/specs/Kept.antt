@@ -7,6 +7,7 @@ use Rattle.std.specs.Ordering.{nat_cmp, ordering_then}
 use Rattle.std.specs.declared.alloc.Global.{Global}
 use Rattle.std.specs.declared.cmp.Ordering.{Ordering}
 use Rattle.krates_cm.specs.Document.{Text}
+use Rattle.krates_explain.specs.declared.kept.Explanation.{Explanation}
 use Rattle.krates_graph.specs.Graph.{StoredGraph}
 use Rattle.krates_ids.specs.Identity.{Identity, id_cmp}
 use Rattle.krates_rules.specs.Facts.{Id}
@@ -15,12 +16,13 @@ use Rattle.krates_resolve.specs.declared.work.Work.{Work}
 use Rattle.krates.specs.Node.{crate_ids, crate_values, crate_features, CratesFirst, feature_names, names_in}
 use Rattle.krates.specs.declared.node.Node.{Node}
 
--- the graph, the numbers of the members of the workspace, its path, and how much work it was
+-- the graph, the numbers of the members of the workspace, its path, how much work it was, and why all of that is kept
 pub record KeptCrates (N E : Type 0) : Type 0 where
   pub graph : StoredGraph (Node N) E
   pub members : List ℕ
   pub workspace_root : Text
   pub work : Work
+  pub explanation : Explanation
 
 -- the ids of the kept crates
 abbrev pub ids_of : {N E : Type 0} → KeptCrates N E → List Identity

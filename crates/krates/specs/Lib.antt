@@ -9,6 +9,7 @@ pub mod DirectDependents
 pub mod Division
 pub mod Drawn
 pub mod Enabled
+pub mod Explained
 pub mod GetDeps
 pub mod GetNode
 pub mod Indexed
@@ -23,4 +24,5 @@ pub mod Neighbours
 pub mod Node
 pub mod NodeOrder
 pub mod ResolvedDependency
+pub mod Why
 pub mod WorkspaceMembers

@@ -14,11 +14,12 @@ ghost use Rattle.krates.specs.BuilderModel.{AsksForCrates, at_targets, excluding
 ghost use Rattle.krates.specs.Indexed.{IsAskable, Sees};
 
 use crate::division::divide;
-use crate::drawn::{graph_of, sheet_for};
+use crate::drawn::{graph_of, sketch_of};
+use crate::explained::explanation_of;
 use crate::filter::{OnFilter, report};
 use crate::from_package::FromPackage;
 use crate::indexed::{IndexSource, seen_through};
-use crate::kept::Krates;
+use crate::kept::{Findings, Krates};
 use crate::members::members_of;
 use krates_cm::Metadata;
 use krates_drawing::laws as drawing_laws;
@@ -318,11 +319,13 @@ fn build_admitted<N: FromPackage + Drop, E: FromEdge + Drop, F: OnFilter>(
     };
     let selection = select(alloc, &metadata, &ids, setting)?;
     let work = selection.work;
-    let sheet = sheet_for(alloc, &metadata, &ids, setting, selection)?;
-    let division = divide(alloc, metadata.packages, ids.packages, &sheet.krates)?;
+    let sketch = sketch_of(alloc, &metadata, &ids, setting, selection)?;
+    let division = divide(alloc, metadata.packages, ids.packages, &sketch.sheet.krates)?;
     let count = division.kept.len();
-    let graph = graph_of(alloc, limits, sheet, division.kept)?;
+    let explanation = explanation_of(alloc, &division.kept, sketch.steps)?;
+    let graph = graph_of(alloc, limits, sketch.sheet, division.kept)?;
     let members = members_of(alloc, graph.raw_nodes(), &ids.members)?;
     report(division.others, filter);
-    Ok(Krates::new(graph, count, members, metadata.workspace_root, work))
+    let findings = Findings { work, explanation };
+    Ok(Krates::new(graph, count, members, metadata.workspace_root, findings))
 }

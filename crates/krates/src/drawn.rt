@@ -14,9 +14,13 @@ ghost use Rattle.krates_drawing.specs.Stored.{IsStoredAs};
 ghost use Rattle.krates_drawing.specs.Views.{arrow_view, sheet_view};
 ghost use Rattle.krates_ids.specs.declared.error.Error.TheVariants.{Memory};
 ghost use Rattle.krates_rules.specs.Admission.{IsAdmitted};
-ghost use Rattle.krates_resolve.specs.Selection.{IsSelectionOf};
+ghost use Rattle.krates_explain.specs.Tables.{AreStepsOf};
+ghost use Rattle.krates_questions.specs.DocumentModel.{as_resolved};
+ghost use Rattle.krates_resolve.specs.Explained.{IsExplained, IsExplainedOf};
+ghost use Rattle.krates_resolve.specs.Selection.{IsSelection, IsSelectionOf};
 ghost use Rattle.krates_rules.specs.Resolved.{id_of};
 ghost use Rattle.krates.specs.Drawn.{IsSheetFor};
+ghost use Rattle.krates.specs.Explained.{AreStepsFor};
 ghost use Rattle.krates.specs.KeptGraph.{IsGraphOf};
 ghost use Rattle.krates.specs.Krate.{krate_ids};
 ghost use Rattle.krates.specs.MadeNodes.{IsMade};
@@ -27,33 +31,67 @@ use crate::krate::Krate;
 use crate::node::Node;
 use crate::nodes::{nodes_of, parts_of, store_nodes};
 use krates_cm::{Metadata, Package};
-use krates_document::Setting;
 use krates_drawing::edge::Arrow;
 use krates_drawing::gather::sheet_of;
 use krates_drawing::limits::{Limits, plan_within};
 use krates_drawing::sheet::{Named, Sheet};
 use krates_drawing::store::{FromEdge, StoreError, store_arrows};
+use krates_explain::{KeptStep, kept_steps};
 use krates_graph::graph::Graph;
 use krates_ids::Error;
-use krates_resolve::{Document, EnabledFeature, Ids, Selection};
+use krates_questions::basis::Basis;
+use krates_resolve::{Document, EnabledFeature, Ids, Selection, Setting};
 use std::alloc::{AllocError, Global};
 
-/// The sheet of what is selected of a document under a setting.
-pub(crate) fn sheet_for(
+/// What is drawn of a selection, and the steps that explain it.
+#[derive(Drop)]
+pub(crate) struct Sketch {
+    pub(crate) sheet: Sheet,
+    pub(crate) steps: Vec<KeptStep>,
+}
+
+/// The sheet of what is selected of a document, and its steps.
+pub(crate) fn sketch_of(
     alloc: Global,
     metadata: &Metadata,
     ids: &Ids,
     setting: &Setting,
     selection: Selection,
-) -> Result<Sheet, AllocError>
+) -> Result<Sketch, AllocError>
     requires admitted { IsAdmitted (metadata_view metadata.now) (ids_view ids.now) }
-    ensures sheet { IfOk result (λ sheet. IsSelectionOf (metadata_view metadata.now) setting.now selection
-        → IsSheetFor (metadata_view metadata.now) setting.now (sheet_view sheet)) }
-    ensures ordered { IfOk result (λ sheet. IsSelectionOf (metadata_view metadata.now) setting.now selection
-        → IsOrdered sheet) }
+    requires selected { IsSelectionOf (metadata_view metadata.now) setting.now selection }
+    requires explained { IsExplainedOf (metadata_view metadata.now) setting.now selection }
+    ensures sheet { IfOk result (λ sketch. IsSelectionOf (metadata_view metadata.now) setting.now selection
+        → IsSheetFor (metadata_view metadata.now) setting.now (sheet_view sketch.sheet)) }
+    ensures ordered { IfOk result (λ sketch. IsSelectionOf (metadata_view metadata.now) setting.now selection
+        → IsOrdered sketch.sheet) }
+    ensures steps { IfOk result (λ sketch. AreStepsFor (metadata_view metadata.now) setting.now
+        selection.krates.items sketch.steps.items) }
 {
     let document = Document::new(alloc, metadata, ids)?;
-    sheet_of(alloc, &document, setting, selection)
+    let steps = steps_of(alloc, &document, setting, &selection)?;
+    let sheet = sheet_of(alloc, &document, setting, selection)?;
+    Ok(Sketch { sheet, steps })
+}
+
+/// The steps of a selection, with its crates by number.
+fn steps_of(
+    alloc: Global,
+    document: &Document<'_>,
+    setting: &Setting,
+    selection: &Selection,
+) -> Result<Vec<KeptStep>, AllocError>
+    requires selected { IsSelection (as_resolved document.now) setting.now selection.now }
+    requires explained { IsExplained (as_resolved document.now) setting.now selection.now }
+    ensures { IfOk result (λ steps. AreStepsOf (as_resolved document.now) setting.now
+        selection.now.krates.items selection.now.steps.items steps.items) }
+{
+    let basis = Basis {
+        alloc,
+        lookup: document.lookup(),
+        setting,
+    };
+    kept_steps(&basis, &selection.krates, &selection.steps)
 }
 
 /// The enabled features of a sheet.

@@ -3,16 +3,25 @@
 ghost use Rattle.std.specs.Prelude.{◌≡◌, ◌<◌, ◌^◌, length, string_bytes};
 ghost use Rattle.std.specs.Iterator.{YieldsFirstRef, item_count};
 ghost use Rattle.krates.specs.Direct.{AreConnected};
+ghost use Rattle.krates.specs.Explained.{AreExplained};
 ghost use Rattle.krates.specs.Kept.{AreCrateNumbers, AreFeatures, AreNodes, AreOrdered, ids_of, values_of};
 ghost use Rattle.krates.specs.Node.{CratesFirst, crate_ids};
 
 use crate::node::Node;
 use krates_cm::Package;
 use krates_drawing::edge::Edge;
+use krates_explain::Explanation;
 use krates_graph::graph::{Graph, NodeId};
 use krates_resolve::Work;
 use std::alloc::Global;
 use std::marker::Model;
+
+/// The work that a build was, and why all that it keeps is kept.
+#[derive(Drop)]
+pub(crate) struct Findings {
+    pub(crate) work: Work,
+    pub(crate) explanation: Explanation,
+}
 
 /// The graph of the crates that a build keeps, and the path of the workspace.
 ///
@@ -25,11 +34,13 @@ pub struct Krates<N = Package, E = Edge> {
     members: Vec<NodeId>,
     workspace_root: String,
     work: Work,
+    explanation: Explanation,
 }
 
 impl<N, E> Model for Krates<N, E> {
     ghost use Rattle.std.specs.Prelude.{◌≡◌, length, string_bytes};
     ghost use Rattle.krates.specs.Direct.{AreConnected};
+    ghost use Rattle.krates.specs.Explained.{AreExplained};
     ghost use Rattle.krates.specs.Kept.{AreCrateNumbers, AreNodes, KeptCrates};
     ghost use Rattle.krates.specs.Node.{crate_ids};
 
@@ -40,32 +51,36 @@ impl<N, E> Model for Krates<N, E> {
       members = k.members.items;
       workspace_root = string_bytes k.workspace_root;
       work = k.work;
+      explanation = k.explanation;
     } };
 
     ghost invariant = { λ k. AreNodes k.graph.nodes
         × (k.count ≡ length (crate_ids k.graph.nodes))
         × AreCrateNumbers k.graph.nodes k.members.items
-        × AreConnected k.graph.nodes k.graph.edges };
+        × AreConnected k.graph.nodes k.graph.edges
+        × AreExplained k.graph.nodes k.explanation };
 }
 
 impl<N, E> Krates<N, E> {
-    /// This graph, with so many crates, of which these are members, of a workspace at this path, found by this work.
+    /// This graph, with so many crates, of which these are members, of a workspace at this path, as it was found.
     pub(crate) fn new(
         graph: Graph<Node<N>, E>,
         count: usize,
         members: Vec<NodeId>,
         workspace_root: String,
-        work: Work,
+        findings: Findings,
     ) -> Krates<N, E>
         requires nodes { AreNodes graph.nodes }
         requires counted { count ≡ length (crate_ids graph.nodes) }
         requires members { AreCrateNumbers graph.nodes members.items }
         requires connected { AreConnected graph.nodes graph.edges }
+        requires explained { AreExplained graph.nodes findings.explanation }
         ensures { result ≡ record {
           graph = graph;
           members = members.items;
           workspace_root = string_bytes workspace_root;
-          work = work;
+          work = findings.work;
+          explanation = findings.explanation;
         } }
     {
         Krates {
@@ -73,7 +88,8 @@ impl<N, E> Krates<N, E> {
             count,
             members,
             workspace_root,
-            work,
+            work: findings.work,
+            explanation: findings.explanation,
         }
     }
 
@@ -121,6 +137,14 @@ impl<N, E> Krates<N, E> {
         ensures crates { AreCrateNumbers self.now.graph.nodes result.now }
     {
         self.members.as_slice()
+    }
+
+    /// The steps by which all that is kept is kept.
+    pub(crate) fn explanation(&self) -> &Explanation
+        ensures explanation { result.now ≡ self.now.explanation }
+        ensures explained { AreExplained self.now.graph.nodes result.now }
+    {
+        &self.explanation
     }
 
     /// What gives memory.

@@ -17,6 +17,7 @@ pub mod derive;
 mod division;
 mod drawn;
 mod enabled;
+mod explained;
 mod filter;
 mod from_package;
 mod indexed;

@@ -45,7 +45,7 @@ pub(crate) fn features_at<N>(nodes: &[Node<N>], number: usize) -> Option<&Enable
 }
 
 /// The node of a number.
-fn node_at<N>(nodes: &[Node<N>], number: usize) -> Option<&Node<N>>
+pub(crate) fn node_at<N>(nodes: &[Node<N>], number: usize) -> Option<&Node<N>>
     ensures { option_map (λ node. node.now) result ≡ slice_get nodes.now number }
 {
     nodes.get(number)

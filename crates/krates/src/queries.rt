@@ -3,6 +3,7 @@
 mod direct;
 mod direct_dependencies;
 mod direct_dependents;
+mod facts;
 mod get_deps;
 mod get_enabled_features;
 mod get_node;
@@ -15,6 +16,7 @@ mod nid_for_kid;
 mod node_for_kid;
 mod resolved_dependency;
 mod search_matches;
+mod why;
 mod workspace_members;
 
 pub use direct_dependencies::DirectDependency;

@@ -1,5 +1,7 @@
 //! Both checks by what a builder has set.
 
+ghost use Rattle.std.specs.Prelude.{◌≡◌, IfOk, None, OnOk};
+
 use crate::closed_lists::{ADDED, LOST};
 use crate::derivations::{DECLARED, ORDERED, STRONG};
 use crate::facts::{facts_of, steps_of, told};
@@ -11,7 +13,9 @@ use std::alloc::Global;
 use std::test::Fail;
 
 /// Sets of a builder what a section of a line asks.
-fn set(alloc: Global, builder: &mut Builder, section: &str) -> Result<(), Fail> {
+fn set(alloc: Global, builder: &mut Builder, section: &str) -> Result<(), Fail>
+    ensures index { OnOk result (builder.new.index ≡ builder.old.index) }
+{
     let (setter, text) = section.split_once(' ').unwrap_or((section, ""));
     if setter == "ignore" {
         builder.ignore_kind(DepKind::from(kind_named(text)), Scope::All);
@@ -26,8 +30,10 @@ fn set(alloc: Global, builder: &mut Builder, section: &str) -> Result<(), Fail> 
     Ok(())
 }
 
-/// A builder that is set as the sections of a line ask.
-pub(crate) fn builder_of(alloc: Global, line: &str) -> Result<Builder, Fail> {
+/// A builder without an index that is set as the sections of a line ask.
+pub(crate) fn builder_of(alloc: Global, line: &str) -> Result<Builder, Fail>
+    ensures no_index { IfOk result (λ builder. builder.index ≡ None) }
+{
     let mut builder = Builder::new(alloc);
     for section in line.split(" / ") {
         set(alloc, &mut builder, section)?;

@@ -13,6 +13,8 @@ mod closed_lists;
 #[cfg(test)]
 mod derivations;
 #[cfg(test)]
+mod explained;
+#[cfg(test)]
 mod facts;
 #[cfg(test)]
 mod indexed;

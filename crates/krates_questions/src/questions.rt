@@ -78,6 +78,14 @@ impl<'a> Document<'a> {
         Ok(Document { lookup })
     }
 
+    /// The document, looked up by number. Time O(1).
+    pub fn lookup(&self) -> &Lookup<'a>
+        ensures lookup { IsLookup result.now }
+        ensures document { resolved_view result.now ≡ as_resolved self.now }
+    {
+        &self.lookup
+    }
+
     /// The least that a name means in a feature reference of a crate, as `dep:NAME` or `NAME/FEATURE`: the first, by id, of the
     /// dependencies of its node that answer to the name (Cargo Book, "Features" and "cargo metadata", `resolve`).
     ///

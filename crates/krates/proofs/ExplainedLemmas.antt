@@ -1,0 +1,198 @@
+-- The steps of a selection explain what a build keeps.
+use Rattle.std.proofs.Common.{◌≡◌, ◌<◌, ℕ, List, [], ◌∷◌, map, length, get_or, Option, Some, option_map, Contains, refl, sym, ap, ◌∙◌, subst, arith}
+use Rattle.std.proofs.lemmas.List.{length-map}
+use Rattle.std.proofs.lemmas.Option.{get_or_from_slice_get, slice_get-get_or, slice_get-map, slice_get_within}
+use Rattle.std.specs.List.{slice_get}
+use Rattle.std.specs.List.Sorted.{IsStrictlySortedBy}
+use Rattle.krates_cm.specs.Document.{MetadataModel, Text, metadata_view, text_view}
+use Rattle.krates_cm.specs.declared.metadata.Metadata.{Metadata}
+use Rattle.krates_cm.specs.declared.package.Package.{Package}
+use Rattle.krates_drawing.proofs.Members.{contains_of, member_of}
+use Rattle.krates_drawing.specs.Views.{sheet_view}
+use Rattle.krates_drawing.specs.declared.edge.Edge.{Edge}
+use Rattle.krates_drawing.specs.declared.sheet.Sheet.{Sheet}
+use Rattle.krates_explain.proofs.KeptCrates.{same_in}
+use Rattle.krates_explain.proofs.PickedSteps.{seen_back}
+use Rattle.krates_explain.specs.Explanation.{AreBelow, explained_steps}
+use Rattle.krates_explain.specs.KeptFacts.{Enables, IsBelow, KeepsCrate, KeepsEdge, KeptModel, Toggles, fact_in, facts_in, id_at, kept_view, no_id, step_in, steps_in}
+use Rattle.krates_explain.specs.Tables.{AreStepsOf, IsKeptIn}
+use Rattle.krates_explain.specs.declared.kept.Explanation.{Explanation}
+use Rattle.krates_explain.specs.declared.kept.KeptStep.{KeptStep}
+use Rattle.krates_graph.specs.Graph.{StoredGraph}
+use Rattle.krates_ids.specs.Identity.{Identity, empty_identity, id_cmp}
+use Rattle.krates_resolve.specs.Explained.{IsExplained, IsExplainedOf}
+use Rattle.krates_resolve.specs.Selection.{IsSelection}
+use Rattle.krates_resolve.specs.declared.selection.Selection.{Selection}
+use Rattle.krates_rules.proofs.ListsOfSteps.{contained_derived}
+use Rattle.krates_rules.proofs.OnlyOne.{place_in}
+use Rattle.krates_rules.proofs.Standings.{contains_at}
+use Rattle.krates_rules.specs.Derivation.{Derivable}
+use Rattle.krates_rules.specs.Facts.{Id, Fact, Crate, Feature}
+use Rattle.krates_rules.specs.Questions.{questions}
+use Rattle.krates_rules.specs.Resolved.{HasGraphWith, Resolved, StandsAt, id_of, resolved}
+use Rattle.krates_rules.specs.Setting.{SettingModel}
+use Rattle.krates_rules.specs.StepParts.{HaveOwnFacts}
+use Rattle.krates_rules.specs.Steps.{EachFollows, StepModel}
+use Rattle.krates.proofs.BuildLemmas.{Builds, enabled}
+use Rattle.krates.proofs.DrawnLemmas.{facts_named}
+use Rattle.krates.proofs.EnabledLemmas.{stands_at_some}
+use Rattle.krates.proofs.FeatureNodes.{feature_member}
+use Rattle.krates.proofs.NodeLemmas.{as_many_features, place_at}
+use Rattle.krates.proofs.OrderedIds.{Compares, HasLike, one_order}
+use Rattle.krates.proofs.SelectionFacts.{Selects, crate_among, kept_among}
+use Rattle.krates.specs.Drawn.{IsSheetFor}
+use Rattle.krates.specs.Explained.{AreExplained, AreStepsFor, HasStepOf, IsExplainedBy, node_says}
+use Rattle.krates.specs.Kept.{AreNodes, IsEnabledIn}
+use Rattle.krates.specs.KeptGraph.{IsGraphOf, named_fact}
+use Rattle.krates.specs.Krate.{krate_ids}
+use Rattle.krates.specs.Node.{crate_features, crate_ids}
+use Rattle.krates.specs.declared.division.Division.{Division}
+use Rattle.krates.specs.declared.node.Node.{Node}
+use Rattle.krates.specs.declared.node.Node.TheVariants as nodes_are
+
+-- ---- the steps of a selection
+
+-- the document's graph is one
+pub explained_in : (m : MetadataModel) (s : SettingModel) (x : Selection) (r : Resolved) → IsExplainedOf m s x → HasGraphWith m (λ g. r ≡ resolved m g) → IsExplained r s x
+explained_in m s x r e h =
+    let same : e.graph ≡ h.graph = cc (e.has_graph, h.has_graph) in
+    rw h.holds (subst (λ g. IsExplained (resolved m g) s x) same e.holds)
+
+-- the crates with a derivation are those of the selection
+pub crates_in : (r : Resolved) (s : SettingModel) (x : Selection) → IsSelection r s x → (i : Id) → Derivable (questions r s) (Crate i) → IsKeptIn x.krates.items i
+crates_in r s x sel i d = stands_at_some x.krates.items i (member_of (map id_of x.krates.items) i (crate_among x i ((sel.facts (Crate i)).0 d)))
+
+-- a fact of a list of steps stands in one of them
+step_with : (steps : List StepModel) (f : Fact) → Contains (facts_in steps) f → (x : StepModel) × Contains steps x × (x.fact ≡ f)
+step_with steps f c =
+    let at = place_in (facts_in steps) f c in
+    let w = seen_back (λ (x : StepModel). x.fact) steps at.0 f at.1 in
+    (w.0, contains_at steps at.0 w.0 w.1, w.2)
+
+pub steps_for : (m : MetadataModel) (s : SettingModel) (x : Selection) (r : Resolved) (steps : List KeptStep) → Selects m s x → IsExplainedOf m s x → HasGraphWith m (λ g. r ≡ resolved m g)
+    → AreStepsOf r s x.krates.items x.steps.items steps → AreStepsFor m s x.krates.items steps
+steps_for m s x r steps sel e h a =
+    let told = steps_in x.krates.items steps in
+    let at = explained_in m s x r e h in
+    let selected = (let same : sel.graph ≡ h.graph = cc (sel.has_graph, h.has_graph) in subst (λ g. IsSelection (resolved m g) s x) same sel.holds) in
+    let here : IsSelection r s x = rw h.holds selected in
+    let follows : EachFollows (questions (resolved m h.graph) s) told = subst (λ (z : Resolved). EachFollows (questions z s) told) h.holds a.follows in
+    record {
+      below = a.below;
+      backward = a.backward;
+      own = a.own;
+      explained = record {
+        follows = record { graph = h.graph; has_graph = h.has_graph; holds = follows };
+        facts = λ f. (
+          λ d. (
+              let same : d.graph ≡ h.graph = cc (d.has_graph, h.has_graph) in
+              let there : Derivable (questions (resolved m h.graph) s) f = subst (λ g. Derivable (questions (resolved m g) s) f) same d.holds in
+              let derived : Derivable (questions r s) f = rw h.holds there in
+              a.facts f (at.stepped f ((here.facts f).0 derived))),
+          λ c. (
+              let w = step_with told f c in
+              record { graph = h.graph; has_graph = h.has_graph; holds = subst (Derivable (questions (resolved m h.graph) s)) w.2 (contained_derived (questions (resolved m h.graph) s) told follows w.0 w.1) }),
+        );
+      };
+    }
+
+-- ---- the same of other ids that are equal
+
+same_at : (is js : List Identity) (n : ℕ) → map id_of is ≡ map id_of js → id_at is n ≡ id_at js n
+same_at is js n e = ap (λ (ids : List Id). get_or ids n no_id) e
+
+same_fact : (is js : List Identity) → map id_of is ≡ map id_of js → (f : KeptModel) → fact_in is f ≡ fact_in js f
+same_fact is js e (KeepsCrate n) = ap (λ (i : Id). Crate i) (same_at is js n e)
+same_fact is js e (Enables n f) = ap (λ (i : Id). Feature i f) (same_at is js n e)
+same_fact is js e (KeepsEdge p c k t) = rw (same_at is js p e, same_at is js c e) refl
+same_fact is js e (Toggles p c f) = rw (same_at is js p e, same_at is js c e) refl
+
+same_steps : (is js : List Identity) → map id_of is ≡ map id_of js → (steps : List KeptStep) → steps_in is steps ≡ steps_in js steps
+same_steps is js e [] = refl
+same_steps is js e (x ∷ xs) =
+    let one : step_in is x ≡ step_in js x = rw (same_fact is js e (kept_view x.fact)) refl in
+    ap (λ (y : StepModel). y ∷ steps_in is xs) one ∙ ap (λ ys. step_in js x ∷ ys) (same_steps is js e xs)
+
+moved : (m : MetadataModel) (s : SettingModel) (is js : List Identity) (steps : List KeptStep) → map id_of is ≡ map id_of js → AreStepsFor m s js steps → AreStepsFor m s is steps
+moved m s is js steps e a =
+    let same = same_steps is js e steps in
+    let long : length is ≡ length js = sym (length-map is id_of) ∙ ap (λ (ids : List Id). length ids) e ∙ length-map js id_of in
+    record {
+      below = subst (λ n. AreBelow n steps) (sym long) a.below;
+      backward = a.backward;
+      own = subst HaveOwnFacts (sym same) a.own;
+      explained = subst (IsExplainedBy m s) (sym same) a.explained;
+    }
+
+-- the ids of the kept packages are those of the selection, place by place
+kept_same : Compares → (m : Metadata) (s : SettingModel) (d : Division) (x : Selection) → Builds m s d → Selects (metadata_view m) s x → map id_of (krate_ids d.kept.items) ≡ map id_of x.krates.items
+kept_same o m s d x b sel =
+    let ids : List Identity = krate_ids d.kept.items in
+    let chosen : List Identity = x.krates.items in
+    let there : HasLike ids chosen = λ i z.
+    (let k = (kept_among (metadata_view m) s x sel i).0 ((b.kept i).1 (contains_of (map id_of ids) i z)) in
+    member_of (map id_of chosen) i k) in
+    let back : HasLike chosen ids = λ i z.
+    member_of (map id_of ids) i ((b.kept i).0 ((kept_among (metadata_view m) s x sel i).1 (contains_of (map id_of chosen) i z))) in
+    one_order o.total ids chosen b.packages.ascending sel.holds.krates there back
+
+kept_steps : Compares → (m : Metadata) (s : SettingModel) (d : Division) (x : Selection) (e : Explanation) (steps : List KeptStep) → Builds m s d → Selects (metadata_view m) s x → e.kids.items ≡ krate_ids d.kept.items → e.steps.items ≡ steps
+    → AreStepsFor (metadata_view m) s x.krates.items steps → AreStepsFor (metadata_view m) s e.kids.items e.steps.items
+kept_steps o m s d x e steps b sel kids same a =
+    let ids : map id_of e.kids.items ≡ map id_of x.krates.items = ap (λ (is : List Identity). map id_of is) kids ∙ kept_same o m s d x b sel in
+    subst (λ (xs : List KeptStep). AreStepsFor (metadata_view m) s e.kids.items xs) (sym same) (moved (metadata_view m) s e.kids.items x.krates.items steps ids a)
+
+pub explained_by : Compares → (m : Metadata) (s : SettingModel) (d : Division) (x : Selection) (e : Explanation) (steps : List KeptStep) → Builds m s d → Selects (metadata_view m) s x → e.kids.items ≡ krate_ids d.kept.items → e.steps.items ≡ steps
+    → AreStepsFor (metadata_view m) s x.krates.items steps → IsExplainedBy (metadata_view m) s (explained_steps e)
+explained_by o m s d x e steps b sel kids same a = (kept_steps o m s d x e steps b sel kids same a).explained
+
+-- ---- each node has a step
+
+has_step : Compares → (kids : List Identity) (steps : List KeptStep) (v : KeptModel) → IsStrictlySortedBy id_cmp kids → AreBelow (length kids) steps → IsBelow (length kids) v → Contains (facts_in (steps_in kids steps)) (fact_in kids v) → HasStepOf steps v
+has_step o kids steps v sorted all low c =
+    let at = place_in (facts_in (steps_in kids steps)) (fact_in kids v) c in
+    let y = seen_back (λ (x : StepModel). x.fact) (steps_in kids steps) at.0 (fact_in kids v) at.1 in
+    let z = seen_back (step_in kids) steps at.0 y.0 y.1 in
+    let below : IsBelow (length kids) (kept_view z.0.fact) = subst (λ (x : KeptStep). IsBelow (length kids) (kept_view x.fact)) (get_or_from_slice_get steps at.0 z.0 z.0 z.1) (all at.0 z.0 (slice_get_within steps at.0 z.0 z.1)) in
+    let says = ap (λ (x : StepModel). x.fact) z.2 ∙ y.2 in
+    (at.0, record { step = z.0; at = z.1; says = same_in o.tells kids sorted (kept_view z.0.fact) v below low says })
+
+-- the crate of the number has the id at its place
+pub crate_id : (ids : List Identity) (n : ℕ) (id : Identity) → slice_get ids n ≡ Some id → id_at ids n ≡ id_of id
+crate_id ids n id at = get_or_from_slice_get (map id_of ids) n (id_of id) no_id (slice_get-map id_of ids n ∙ ap (λ (o : Option Identity). option_map id_of o) at)
+
+module _ {N : Type 0} (o : Compares) (nodes : List (Node N)) (steps : List KeptStep) (are : AreNodes nodes) (all : AreBelow (length (crate_ids nodes)) steps)
+    (crates : (i : Id) → Contains (map id_of (crate_ids nodes)) i → Contains (facts_in (steps_in (crate_ids nodes) steps)) (Crate i))
+    (features : (i : Id) (f : Text) → IsEnabledIn (crate_ids nodes) (crate_features nodes) i f → Contains (facts_in (steps_in (crate_ids nodes) steps)) (Feature i f)) where
+  each_node : (n : ℕ) (node : Node N) → slice_get nodes n ≡ Some node → HasStepOf steps (node_says n node)
+  each_node n (nodes_are.Krate id krate sets mapping) at =
+      let here = (place_at nodes n id krate sets mapping are.first at).0 in
+      let is = crate_id (crate_ids nodes) n id here in
+      let among : Contains (map id_of (crate_ids nodes)) (id_of id) = contains_at (map id_of (crate_ids nodes)) n (id_of id) (slice_get-map id_of (crate_ids nodes) n ∙ ap (λ (x : Option Identity). option_map id_of x) here) in
+      has_step o (crate_ids nodes) steps (KeepsCrate n) are.ordered.ascending all (slice_get_within (crate_ids nodes) n id here) (subst (λ i. Contains (facts_in (steps_in (crate_ids nodes) steps)) (Crate i)) (sym is) (crates (id_of id) among))
+  each_node n (nodes_are.Feature k name) at =
+      let member = feature_member nodes n k (text_view name) (record { node = nodes_are.Feature k name; at = at; is = (refl, refl) }) in
+      let named = (are.features.exactly k (text_view name)).0 (contains_of _ _ member) in
+      let low : k < length (crate_ids nodes) = omega (arith, as_many_features nodes, slice_get_within (crate_features nodes) k named.names named.at) in
+      let w = slice_get-get_or (crate_ids nodes) k empty_identity low in
+      let stands : StandsAt (crate_ids nodes) (id_at (crate_ids nodes) k) k = record { there = get_or (crate_ids nodes) k empty_identity; at = w; same = sym (crate_id (crate_ids nodes) k (get_or (crate_ids nodes) k empty_identity) w) } in
+      let enabled_in : IsEnabledIn (crate_ids nodes) (crate_features nodes) (id_at (crate_ids nodes) k) (text_view name) = record { names = named.names; theirs = record { place = k; stands = stands; at = named.at }; among = named.among } in
+      has_step o (crate_ids nodes) steps (Enables k (text_view name)) are.ordered.ascending all low (features (id_at (crate_ids nodes) k) (text_view name) enabled_in)
+
+pub explains : Compares → {N E : Type 0} (made : Package → N → Type 0) (made_edge : Edge → E → Type 0) (m : Metadata) (s : SettingModel) (t : Sheet) (d : Division) (g : StoredGraph (Node N) E) (x : Selection) (e : Explanation) (steps : List KeptStep)
+    → IsSheetFor (metadata_view m) s (sheet_view t) → Builds m s d → IsGraphOf made made_edge (sheet_view t) d.kept.items g → AreNodes g.nodes → Selects (metadata_view m) s x
+    → e.kids.items ≡ krate_ids d.kept.items → e.steps.items ≡ steps → AreStepsFor (metadata_view m) s x.krates.items steps → AreExplained g.nodes e
+explains o made made_edge m s t d g x e steps h b w are sel kids same a =
+    let k = kept_steps o m s d x e steps b sel kids same a in
+    let ids : e.kids.items ≡ crate_ids g.nodes = kids ∙ sym w.ids in
+    let z = subst (λ (is : List Identity). AreStepsFor (metadata_view m) s is e.steps.items) ids k in
+    let facts = facts_named (metadata_view m) s t h in
+    let enabled_is = enabled m s h.holds.selection d (λ i f. IsEnabledIn (crate_ids g.nodes) (crate_features g.nodes) i f) (map named_fact (sheet_view t).features) (record { graph = h.graph; has_graph = h.has_graph; holds = h.holds.selected }) b facts w.enabled in
+    let crates : (i : Id) → Contains (map id_of (crate_ids g.nodes)) i → Contains (facts_in (steps_in (crate_ids g.nodes) e.steps.items)) (Crate i) = λ i c. (z.explained.facts (Crate i)).0 ((b.kept i).1 (subst (λ (is : List Identity). Contains (map id_of is) i) w.ids c)) in
+    let features : (i : Id) (f : Text) → IsEnabledIn (crate_ids g.nodes) (crate_features g.nodes) i f → Contains (facts_in (steps_in (crate_ids g.nodes) e.steps.items)) (Feature i f) = λ i f c. (z.explained.facts (Feature i f)).0 ((enabled_is i f).1 c) in
+    record {
+      ids = ids;
+      explanation = record { below = k.below; backward = k.backward };
+      own = k.own;
+      each = each_node o g.nodes e.steps.items are z.below crates features;
+    }

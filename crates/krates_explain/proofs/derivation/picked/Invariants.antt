@@ -1,0 +1,11 @@
+use Rattle.std.proofs.Common.{All}
+use Rattle.krates_derive.specs.declared.derivation.Step.{Step}
+use Rattle.krates_explain.specs.Explanation.{HasTheseIds}
+use Rattle.krates_explain.proofs.PickedSteps.{EachSoFar, IsPickedStep}
+use Rattle.krates_explain.proofs.derivation.picked.Given as goal
+
+-- each step so far is the chosen one, and its ids are these
+abbrev pub invariant-loop-place : goal.invariant-loop-place
+invariant-loop-place l =
+    EachSoFar (IsPickedStep l.explanation l.part.chosen.items l.part.uses.items) l.place l.steps.items
+    × All (λ (x : Step). HasTheseIds l.explanation.kids.items x.fact) l.steps.items

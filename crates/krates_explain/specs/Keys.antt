@@ -1,0 +1,57 @@
+-- Facts as keys of a map, and the order of the keys.
+use Rattle.std.specs.Prelude.{◌≡◌, ◌↔◌, ℕ, ◌<◌, ◌≤◌, List, All, MatchOption, Option, Some, length, option_map, slice_get}
+use Rattle.std.specs.BTreeMap.{BTreeMap, get}
+use Rattle.std.specs.declared.cmp.Ordering.{Ordering}
+use Rattle.krates_cm.specs.Document.{text_view}
+use Rattle.krates_cm.specs.declared.dependency.DependencyKind.{DependencyKind}
+use Rattle.krates_cm.specs.declared.dependency.DependencyKind.TheVariants as written
+use Rattle.krates_explain.specs.KeptFacts.{KeptModel, KeepsCrate, KeepsEdge, Enables, Toggles}
+use Rattle.krates_explain.specs.contracts.key.FactKeyOrd.TheImpl as key_order
+use Rattle.krates_explain.specs.declared.key.EdgeKey.{EdgeKey}
+use Rattle.krates_explain.specs.declared.key.FactKey.{FactKey}
+use Rattle.krates_explain.specs.declared.key.FactKey.TheVariants as keys
+use Rattle.krates_explain.specs.declared.key.Purpose.{Purpose}
+use Rattle.krates_explain.specs.declared.key.Purpose.TheVariants as purposes
+use Rattle.krates_steps.specs.Part.{SameFact}
+
+-- the kind as the document writes it
+abbrev pub purpose_view : Purpose → DependencyKind
+purpose_view purposes.Normal = written.Normal
+purpose_view purposes.Build = written.Build
+purpose_view purposes.Dev = written.Development
+
+-- the edge
+abbrev pub edge_view : EdgeKey → KeptModel
+edge_view e = KeepsEdge e.parent e.child (purpose_view e.purpose) (option_map text_view e.cfg.now)
+
+-- the fact
+abbrev pub key_view : FactKey → KeptModel
+key_view (keys.Crate krate) = KeepsCrate krate
+key_view (keys.Feature feature) = Enables feature.krate feature.name.now
+key_view (keys.Kept edge) = edge_view edge
+key_view (keys.Toggled toggle) = Toggles toggle.by toggle.feature.krate toggle.feature.name.now
+
+-- the derived order
+abbrev pub key_cmp : FactKey → FactKey → Ordering
+key_cmp = (key_order.ghosts).cmp
+
+-- ---- numbers of facts
+
+-- the fact stands at the place, and at no later one
+pub record IsLastAt (all : List KeptModel) (f : KeptModel) (n : ℕ) : Type 0 where
+  pub at : slice_get all n ≡ Some f
+  pub last : (m : ℕ) → slice_get all m ≡ Some f → m ≤ n
+
+-- that place, or none where the fact isn't among them
+abbrev pub IsLastPlace : List KeptModel → KeptModel → Option ℕ → Type 0
+IsLastPlace all f answer = MatchOption answer ((n : ℕ) → slice_get all n ≡ Some f → ⊥) (IsLastAt all f)
+
+-- the map has the last place of each of these facts
+abbrev pub ArePlaces : List KeptModel → BTreeMap FactKey ℕ → Type 0
+ArePlaces all places = (k : FactKey) → IsLastPlace all (key_view k) (get key_cmp places k)
+
+-- The same facts have the same numbers, and no others.
+pub record AreFactNumbers (all : List KeptModel) (numbers : List ℕ) : Type 0 where
+  pub long : length numbers ≡ length all
+  pub low : All (λ n. n < length all) numbers
+  pub same : (j k : ℕ) (f g : KeptModel) → slice_get all j ≡ Some f → slice_get all k ≡ Some g → SameFact numbers j k ↔ (f ≡ g)

@@ -1,0 +1,123 @@
+//! Facts as keys of a map. Their texts are lent, and two keys compare as equal where they are the same fact.
+
+ghost use Rattle.std.specs.Prelude.{◌≡◌, IfOk};
+ghost use Rattle.krates_derive.specs.Told.{written_of};
+ghost use Rattle.krates_explain.specs.KeptFacts.{kept_view};
+ghost use Rattle.krates_explain.specs.Keys.{edge_view, key_view, purpose_view};
+
+use crate::kept::KeptFact;
+use krates_cm::DependencyKind;
+use krates_rules::DepKind;
+use std::alloc::{AllocError, Global};
+
+/// For what a dependency is needed, in an order.
+#[derive(Clone, Copy, PartialEq, Eq, PartialOrd, Ord)]
+pub(crate) enum Purpose {
+    /// For the package itself.
+    Normal,
+    /// For the build script.
+    Build,
+    /// For tests, examples and benchmarks.
+    Dev,
+}
+
+/// A feature.
+#[derive(Clone, Copy, PartialEq, Eq, PartialOrd, Ord)]
+pub(crate) struct FeatureKey<'a> {
+    /// The number of its crate.
+    pub krate: usize,
+    /// Its name.
+    pub name: &'a str,
+}
+
+/// An edge.
+#[derive(Clone, Copy, PartialEq, Eq, PartialOrd, Ord)]
+pub(crate) struct EdgeKey<'a> {
+    /// The number of the crate that has the dependency.
+    pub parent: usize,
+    /// The number of the crate that it depends on.
+    pub child: usize,
+    /// For what it is needed.
+    pub purpose: Purpose,
+    /// The target that it is needed for.
+    pub cfg: &'a Option<String>,
+}
+
+/// A toggled feature.
+#[derive(Clone, Copy, PartialEq, Eq, PartialOrd, Ord)]
+pub(crate) struct ToggleKey<'a> {
+    /// The number of the crate whose feature enables it.
+    pub by: usize,
+    /// The feature.
+    pub feature: FeatureKey<'a>,
+}
+
+/// A fact.
+#[derive(Clone, Copy, PartialEq, Eq, PartialOrd, Ord)]
+pub(crate) enum FactKey<'a> {
+    /// The crate is kept.
+    Crate(usize),
+    /// The feature is enabled.
+    Feature(FeatureKey<'a>),
+    /// The edge is kept.
+    Kept(EdgeKey<'a>),
+    /// The feature is toggled.
+    Toggled(ToggleKey<'a>),
+}
+
+/// For what a dependency of this kind is needed.
+pub(crate) fn purpose_of(kind: DependencyKind) -> Purpose
+    ensures { purpose_view result ≡ kind }
+{
+    match kind {
+        DependencyKind::Normal => Purpose::Normal,
+        DependencyKind::Build => Purpose::Build,
+        DependencyKind::Development => Purpose::Dev,
+    }
+}
+
+/// The kind of a dependency that is needed for this.
+fn kind_for(purpose: Purpose) -> DepKind
+    ensures { written_of result ≡ purpose_view purpose }
+{
+    match purpose {
+        Purpose::Normal => DepKind::Normal,
+        Purpose::Build => DepKind::Build,
+        Purpose::Dev => DepKind::Dev,
+    }
+}
+
+/// The fact of a key, with copies of its texts.
+pub(crate) fn fact_of(alloc: Global, key: &FactKey<'_>) -> Result<KeptFact, AllocError>
+    ensures { IfOk result (λ fact. kept_view fact ≡ key_view key.now) }
+{
+    match key {
+        FactKey::Crate(krate) => Ok(KeptFact::Crate { krate: *krate }),
+        FactKey::Feature(feature) => {
+            Ok(KeptFact::Feature {
+                krate: feature.krate,
+                name: String::from_str(alloc, feature.name)?,
+            })
+        }
+        FactKey::Kept(edge) => edge_of(edge),
+        FactKey::Toggled(toggle) => {
+            Ok(KeptFact::Toggled {
+                by: toggle.by,
+                krate: toggle.feature.krate,
+                name: String::from_str(alloc, toggle.feature.name)?,
+            })
+        }
+    }
+}
+
+/// The edge of a key.
+fn edge_of(edge: &EdgeKey<'_>) -> Result<KeptFact, AllocError>
+    ensures { IfOk result (λ fact. kept_view fact ≡ edge_view edge.now) }
+{
+    Ok(KeptFact::Kept {
+        parent: edge.parent,
+        child: edge.child,
+        kind: kind_for(edge.purpose),
+        cfg: edge.cfg.clone()?,
+    })
+}
