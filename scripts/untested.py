@@ -26,7 +26,7 @@ SHOWN_BY = {
     # what a setting has is asked of the setting
     "ignores": ("IgnoredKinds::with", "IgnoredKinds::has"),
     # a checker with an index looks at the corrected document
-    "check_closed": ("corrected", "Document::means", "Document::meant"),
+    "check_closed": ("corrected", "Document::means"),
     # as what an edge is declared: by name, version and source
     "Document::declared": (
         "version_of declared_of is_name_of folded_order named_places places_under declared_at declared_places entry_at parts_of is_same_info"
@@ -36,10 +36,14 @@ SHOWN_BY = {
     "Document::lists": ("feature_number",),
     "Document::values": ("feature_values",),
     "Document::referent": ("referent_of",),
+    "Document::referents": ("referents_of",),
     "Document::roots": ("choice_of",),
     "Document::presence": ("standing_of",),
     # the graph of a build: its sheet, nodes and edges, and how they are stored
     "build_with_metadata": "count_of given_by meanings_by draw_nodes plan store_arrows in_order".split(),
+    # the steps that a build keeps, and those of them that lead to a node
+    "facts": ("kept_steps", "Document::lookup"),
+    "why": ("derivation_of",),
 }
 
 IMPL = re.compile(r"^impl(?:<[^>]*>)? (?:[\w<>' ,:]+ for )?(\w+)")

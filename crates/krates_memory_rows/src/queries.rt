@@ -101,3 +101,54 @@ impl Call for Filtered {
 fn crates_without_a_kind(rt: HostRuntime) -> Result<(), Fail> {
     starved::<Filtered>(&rt)
 }
+
+/// Asks why the second crate is there.
+struct Why;
+
+impl Call for Why {
+    type Given = Krates;
+
+    fn given(alloc: Global) -> Result<Krates, Fail> {
+        krates(alloc)
+    }
+
+    fn is_granted(_alloc: Global, given: Krates, little: Little) -> Result<bool, Fail> {
+        let answer = given.why(NodeId::new(1));
+        drop(little);
+        match answer {
+            Ok(Some(derivation)) => granted(derivation.steps.len() == 3),
+            Ok(None) => granted(false),
+            Err(AllocError) => refused(true),
+        }
+    }
+}
+
+#[test]
+fn why_a_crate_is_there(rt: HostRuntime) -> Result<(), Fail> {
+    starved::<Why>(&rt)
+}
+
+/// Asks for all that is kept, as facts.
+struct Facts;
+
+impl Call for Facts {
+    type Given = Krates;
+
+    fn given(alloc: Global) -> Result<Krates, Fail> {
+        krates(alloc)
+    }
+
+    fn is_granted(_alloc: Global, given: Krates, little: Little) -> Result<bool, Fail> {
+        let answer = given.facts();
+        drop(little);
+        match answer {
+            Ok(facts) => granted(facts.len() == 7),
+            Err(AllocError) => refused(true),
+        }
+    }
+}
+
+#[test]
+fn all_facts(rt: HostRuntime) -> Result<(), Fail> {
+    starved::<Facts>(&rt)
+}

@@ -236,6 +236,7 @@ impl Question for Set {
         let (name, words) = question.split_once(' ').unwrap_or((question, ""));
         match name {
             "passes" => passes(alloc, &setting, words),
+            "names" => Ok(format!(in alloc; "{}", setting.is_all_named())?),
             "ignores" => ignores(alloc, &setting, words),
             _ => excluded(alloc, &setting),
         }
@@ -272,6 +273,9 @@ const LEFT_OUT: &[Row] = &[
     ("excluded / without n", "+m-n+z+b-c"),
     ("ignores dev member / ignore dev non-workspace", "false"),
     ("ignores dev other / ignore dev non-workspace", "true"),
+    ("names", "false"),
+    ("names / names all", "true"),
+    ("names / names all / names least", "false"),
 ];
 
 #[test]
