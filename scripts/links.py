@@ -17,7 +17,7 @@ HEADING = re.compile(r"^#+ (.*)$", re.M)
 
 def anchor(heading):
     """The anchor that a page's heading gets where it is shown as HTML."""
-    words = re.sub(r"[`*_]|\[|\]\([^)]*\)", "", heading).strip().lower()
+    words = re.sub(r"[`*]|\[|\]\([^)]*\)", "", heading).strip().lower()
     return re.sub(r"[^\w\- ]", "", words).replace(" ", "-")
 
 

@@ -25,7 +25,7 @@ ROOMS = {
     "the command": ("#f3eefb", ["krates_cargo"]),
     "what is believed": ("#fdf3d8", ["krates_rules"]),
     "questions and search": ("#e9f7ec", ["krates_document", "krates_questions", "krates_resolve", "krates_steps"]),
-    "the graph": ("#e6f6f6", ["krates_graph", "krates_drawing"]),
+    "the graph": ("#e6f6f6", ["krates_graph", "krates_drawing", "krates_queries"]),
     "why": ("#f1f0e4", ["krates_steps", "krates_explain"]),
     "checkers without a search": ("#fdeaea", ["krates_derive"]),
     "for callers": ("#eceff1", ["krates", "krates_cli", "krates_list", "krates_print", "krates_reports"]),

@@ -18,13 +18,13 @@ use Rattle.krates_rules.specs.Facts.{Id}
 use Rattle.krates_rules.specs.Resolved.{StandsAt, id_of, resolved}
 use Rattle.krates_rules.specs.Setting.{SettingModel}
 use Rattle.krates.specs.Build.{HasOneEach}
-use Rattle.krates.specs.Direct.{AreConnected, value_at, value_in}
-use Rattle.krates.specs.DirectDependents.{IsDependent}
-use Rattle.krates.specs.Drawn.{IsDrawing, IsSheetFor, node_spot}
-use Rattle.krates.specs.Node.{crate_ids, CratesFirst}
-use Rattle.krates.specs.declared.node.Node.{Node}
-use Rattle.krates.specs.declared.node.Node.TheVariants.{Krate, Feature}
-use Rattle.krates.proofs.EdgeNumbers.{got}
+use Rattle.krates_queries.specs.Direct.{AreConnected, value_at, value_in}
+use Rattle.krates_queries.specs.DirectDependents.{IsDependent}
+use Rattle.krates_queries.specs.Drawn.{IsDrawing, IsSheetFor, node_spot}
+use Rattle.krates_queries.specs.Node.{crate_ids, CratesFirst}
+use Rattle.krates_queries.specs.declared.node.Node.{Node}
+use Rattle.krates_queries.specs.declared.node.Node.TheVariants.{Krate, Feature}
+use Rattle.krates_queries.proofs.EdgeNumbers.{got}
 
 -- lists that match are of one length
 pub zip_length : {A B : Type 0} (R : A → B → Type 0) (xs : List A) (ys : List B) → AllZip R xs ys → length xs ≡ length ys
@@ -32,13 +32,6 @@ zip_length R [] [] z = refl
 zip_length R [] (y ∷ ys) z = absurd z
 zip_length R (x ∷ xs) [] z = absurd z
 zip_length R (x ∷ xs) (y ∷ ys) z = ap suc (zip_length R xs ys z.1)
-
--- no more crates than nodes
-pub as_few_crates : {N : Type 0} (nodes : List (Node N)) (n : ℕ) → n < length (crate_ids nodes) → n < length nodes
-as_few_crates [] n lt = lt
-as_few_crates (Krate i k f m ∷ nodes) zero lt = omega arith
-as_few_crates (Krate i k f m ∷ nodes) (suc n) lt = let more = as_few_crates nodes n (omega arith) in omega (arith, more)
-as_few_crates (Feature k name ∷ nodes) n lt = let more = as_few_crates nodes n lt in omega (arith, more)
 
 -- ---- connected
 

@@ -23,7 +23,8 @@ use Rattle.krates.specs.declared.division.Division.{Division}
 use Rattle.krates.specs.declared.krate.Krate.{Krate}
 use Rattle.krates_drawing.proofs.Members.{Member, member_of, contains_of, mapped_of, member_map, kept_of, member_filter}
 use Rattle.krates.proofs.MappedLists.{map_filter, zip_maps}
-use Rattle.krates.proofs.OrderedIds.{Compares, id_of_equal, is_among}
+use Rattle.krates_queries.proofs.OrderedIds.{Compares, id_of_equal}
+use Rattle.krates.proofs.SearchedKrates.{is_among}
 
 -- a text is read as at most one id
 abbrev pub ReadsOnce : Type 0

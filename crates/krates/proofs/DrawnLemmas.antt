@@ -29,21 +29,21 @@ use Rattle.krates_rules.specs.Facts.{Id, Fact, Feature}
 use Rattle.krates_rules.specs.Resolved.{HasGraphWith, Resolved, StandsAt, id_of, resolved}
 use Rattle.krates_rules.specs.Setting.{SettingModel}
 use Rattle.krates.specs.Build.{AreKeptMembers, AreThosePackages, HasOneEach, IsBuilt, IsResolvable, KeepsCrate}
-use Rattle.krates.specs.DirectDependents.{IsDependent}
+use Rattle.krates_queries.specs.DirectDependents.{IsDependent}
 use Rattle.krates.specs.Division.{IsAmong, IsDivision, sheet_ids}
 use Rattle.krates_explain.specs.Explanation.{explained_steps}
 use Rattle.krates_explain.specs.declared.kept.Explanation.{Explanation}
-use Rattle.krates.specs.Explained.{IsExplainedBy}
-use Rattle.krates.specs.Drawn.{IsNumbered, IsSheetFor, node_spot}
+use Rattle.krates_queries.specs.Explained.{IsExplainedBy}
+use Rattle.krates_queries.specs.Drawn.{IsNumbered, IsSheetFor, node_spot}
 use Rattle.krates.specs.Enabled.{AreEnabledSets}
-use Rattle.krates.specs.Kept.{AreFeatures, AreNodes, IsEnabledIn, names_in_each}
+use Rattle.krates_queries.specs.Kept.{AreFeatures, AreNodes, IsEnabledIn, names_in_each}
 use Rattle.krates.specs.KeptGraph.{IsGraphOf, named_fact}
 use Rattle.krates.specs.Krate.{krate_ids, krate_packages}
 use Rattle.krates.specs.MadeNodes.{IsMade}
-use Rattle.krates.specs.Node.{crate_ids, crate_values, crate_features, CratesFirst}
+use Rattle.krates_queries.specs.Node.{crate_ids, crate_values, crate_features, CratesFirst}
 use Rattle.krates.specs.declared.division.Division.{Division}
 use Rattle.krates.specs.declared.krate.Krate.{Krate}
-use Rattle.krates.specs.declared.node.Node.{Node}
+use Rattle.krates_queries.specs.declared.node.Node.{Node}
 use Rattle.krates.proofs.BuildLemmas.{Builds, builds, enabled}
 use Rattle.krates.proofs.MadeLemmas.{AreDrawnNodes, alike, first_alike, mapped_length}
 use Rattle.krates_drawing.proofs.DocumentSheets.{selected_in}
@@ -51,7 +51,7 @@ use Rattle.krates_drawing.proofs.Members.{member_of, contains_of, member_map}
 use Rattle.krates.proofs.EnabledLemmas.{stands_at_some}
 use Rattle.krates.proofs.FeaturesDrawn.{HaveCrates, are_features}
 use Rattle.krates.proofs.DivisionLemmas.{ReadsOnce}
-use Rattle.krates.proofs.OrderedIds.{Compares, HasLike, one_order}
+use Rattle.krates_queries.proofs.OrderedIds.{Compares, HasLike, one_order}
 use Rattle.krates.proofs.SelectionFacts.{Selects, feature_kept, kept_among}
 
 -- ---- the sheet

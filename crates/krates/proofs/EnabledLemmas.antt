@@ -12,13 +12,13 @@ use Rattle.krates_rules.specs.Resolved.{id_of, StandsAt}
 use Rattle.krates_resolve.specs.Selection.{feature_fact}
 use Rattle.krates_resolve.specs.declared.selection.EnabledFeature.{EnabledFeature}
 use Rattle.krates.specs.Enabled.{AreEnabledSets, IsPut}
-use Rattle.krates.specs.Kept.{IsEnabledIn, names_in_each}
+use Rattle.krates_queries.specs.Kept.{IsEnabledIn, names_in_each}
 use Rattle.krates.specs.Krate.{krate_ids}
-use Rattle.krates.specs.Node.{names_in}
+use Rattle.krates_queries.specs.Node.{names_in}
 use Rattle.krates.specs.declared.krate.Krate.{Krate}
 use Rattle.krates_drawing.proofs.Members.{Member, member_of, contains_of, member_append, member_left, member_right}
 use Rattle.krates.proofs.NamesIn.{GetsName}
-use Rattle.krates.proofs.OrderedIds.{stands_within}
+use Rattle.krates_queries.proofs.OrderedIds.{stands_within}
 
 -- ---- by recursion on the lists
 

@@ -33,22 +33,23 @@ use Rattle.krates_rules.specs.Resolved.{HasGraphWith, Resolved, StandsAt, id_of,
 use Rattle.krates_rules.specs.Setting.{SettingModel}
 use Rattle.krates_rules.specs.StepParts.{HaveOwnFacts}
 use Rattle.krates_rules.specs.Steps.{EachFollows, StepModel}
+use Rattle.krates_queries.proofs.CrateIds.{crate_id}
 use Rattle.krates.proofs.BuildLemmas.{Builds, enabled}
 use Rattle.krates.proofs.DrawnLemmas.{facts_named}
 use Rattle.krates.proofs.EnabledLemmas.{stands_at_some}
-use Rattle.krates.proofs.FeatureNodes.{feature_member}
-use Rattle.krates.proofs.NodeLemmas.{as_many_features, place_at}
-use Rattle.krates.proofs.OrderedIds.{Compares, HasLike, one_order}
+use Rattle.krates_queries.proofs.FeatureNodes.{feature_member}
+use Rattle.krates_queries.proofs.NodeLemmas.{as_many_features, place_at}
+use Rattle.krates_queries.proofs.OrderedIds.{Compares, HasLike, one_order}
 use Rattle.krates.proofs.SelectionFacts.{Selects, crate_among, kept_among}
-use Rattle.krates.specs.Drawn.{IsSheetFor}
-use Rattle.krates.specs.Explained.{AreExplained, AreStepsFor, HasStepOf, IsExplainedBy, node_says}
-use Rattle.krates.specs.Kept.{AreNodes, IsEnabledIn}
+use Rattle.krates_queries.specs.Drawn.{IsSheetFor}
+use Rattle.krates_queries.specs.Explained.{AreExplained, AreStepsFor, HasStepOf, IsExplainedBy, node_says}
+use Rattle.krates_queries.specs.Kept.{AreNodes, IsEnabledIn}
 use Rattle.krates.specs.KeptGraph.{IsGraphOf, named_fact}
 use Rattle.krates.specs.Krate.{krate_ids}
-use Rattle.krates.specs.Node.{crate_features, crate_ids}
+use Rattle.krates_queries.specs.Node.{crate_features, crate_ids}
 use Rattle.krates.specs.declared.division.Division.{Division}
-use Rattle.krates.specs.declared.node.Node.{Node}
-use Rattle.krates.specs.declared.node.Node.TheVariants as nodes_are
+use Rattle.krates_queries.specs.declared.node.Node.{Node}
+use Rattle.krates_queries.specs.declared.node.Node.TheVariants as nodes_are
 
 -- ---- the steps of a selection
 
@@ -156,10 +157,6 @@ has_step o kids steps v sorted all low c =
     let below : IsBelow (length kids) (kept_view z.0.fact) = subst (λ (x : KeptStep). IsBelow (length kids) (kept_view x.fact)) (get_or_from_slice_get steps at.0 z.0 z.0 z.1) (all at.0 z.0 (slice_get_within steps at.0 z.0 z.1)) in
     let says = ap (λ (x : StepModel). x.fact) z.2 ∙ y.2 in
     (at.0, record { step = z.0; at = z.1; says = same_in o.tells kids sorted (kept_view z.0.fact) v below low says })
-
--- the crate of the number has the id at its place
-pub crate_id : (ids : List Identity) (n : ℕ) (id : Identity) → slice_get ids n ≡ Some id → id_at ids n ≡ id_of id
-crate_id ids n id at = get_or_from_slice_get (map id_of ids) n (id_of id) no_id (slice_get-map id_of ids n ∙ ap (λ (o : Option Identity). option_map id_of o) at)
 
 module _ {N : Type 0} (o : Compares) (nodes : List (Node N)) (steps : List KeptStep) (are : AreNodes nodes) (all : AreBelow (length (crate_ids nodes)) steps)
     (crates : (i : Id) → Contains (map id_of (crate_ids nodes)) i → Contains (facts_in (steps_in (crate_ids nodes) steps)) (Crate i))

@@ -23,16 +23,16 @@ use Rattle.krates_rules.specs.Facts as facts
 use Rattle.krates_rules.specs.Referent.{id_order}
 use Rattle.krates_rules.specs.Resolved.{id_of, StandsAt}
 use Rattle.krates.specs.Division.{IsAmong}
-use Rattle.krates.specs.Drawn.{node_spot}
-use Rattle.krates.specs.Kept.{AreFeatures, IsEnabledIn, IsNameAt, feature_order}
+use Rattle.krates_queries.specs.Drawn.{node_spot}
+use Rattle.krates_queries.specs.Kept.{AreFeatures, IsEnabledIn, IsNameAt, feature_order}
 use Rattle.krates.specs.KeptGraph.{named_fact}
-use Rattle.krates.specs.Node.{crate_ids, crate_features, feature_names}
-use Rattle.krates.specs.declared.node.Node.{Node}
-use Rattle.krates.specs.declared.node.Node.TheVariants.{Krate, Feature}
+use Rattle.krates_queries.specs.Node.{crate_ids, crate_features, feature_names}
+use Rattle.krates_queries.specs.declared.node.Node.{Node}
+use Rattle.krates_queries.specs.declared.node.Node.TheVariants.{Krate, Feature}
 use Rattle.krates.proofs.EnabledLemmas.{listed_at}
 use Rattle.krates_drawing.proofs.Members.{Member, member_of, contains_of, mapped_of, member_map}
-use Rattle.krates.proofs.NodeLemmas.{as_many_features}
-use Rattle.krates.proofs.OrderedIds.{Compares, equal_of, id_of_equal, one_place, stands_same, stands_within}
+use Rattle.krates_queries.proofs.NodeLemmas.{as_many_features}
+use Rattle.krates_queries.proofs.OrderedIds.{Compares, equal_of, id_of_equal, one_place, stands_same, stands_within}
 
 -- ---- the names of the features are those of the sheet
 

@@ -14,7 +14,7 @@ use Rattle.krates_rules.specs.Resolved.{ReadsAs}
 use Rattle.krates.specs.Build.{HasIdAmong, AreThosePackages}
 use Rattle.krates.specs.BuildLaws.{IsSamePackage, ListAlike}
 use Rattle.krates.proofs.DivisionLemmas.{ReadsOnce}
-use Rattle.krates.proofs.OrderedIds.{never_less}
+use Rattle.krates_queries.proofs.OrderedIds.{never_less}
 use Rattle.krates_drawing.proofs.Members.{Member, member_of, contains_of, mapped_of, member_map}
 
 -- ---- lists in strict order

@@ -17,13 +17,13 @@ use Rattle.krates_drawing.specs.declared.nodes.Spot.TheVariants as drawn
 use Rattle.krates_ids.specs.Identity.{Identity}
 use Rattle.krates_rules.specs.Facts.{Id}
 use Rattle.krates_rules.specs.Resolved.{id_of}
-use Rattle.krates.specs.Drawn.{node_spot}
+use Rattle.krates_queries.specs.Drawn.{node_spot}
 use Rattle.krates.specs.Krate.{krate_ids, krate_packages}
 use Rattle.krates.specs.MadeNodes.{AreNodesWith, IsMade, crate_node, feature_in, mapping_in}
-use Rattle.krates.specs.Node.{crate_ids, crate_values, crate_features, CratesFirst, names_in}
+use Rattle.krates_queries.specs.Node.{crate_ids, crate_values, crate_features, CratesFirst, names_in}
 use Rattle.krates.specs.declared.krate.Krate.{Krate}
-use Rattle.krates.specs.declared.node.Node.{Node}
-use Rattle.krates.specs.declared.node.Node.TheVariants as node
+use Rattle.krates_queries.specs.declared.node.Node.{Node}
+use Rattle.krates_queries.specs.declared.node.Node.TheVariants as node
 
 -- one more pair
 pub zip_push : {A B : Type 0} (R : A → B → Type 0) (xs : List A) (ys : List B) (x : A) (y : B) → AllZip R xs ys → R x y → AllZip R (xs ++ x ∷ []) (ys ++ y ∷ [])

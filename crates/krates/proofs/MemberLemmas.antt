@@ -12,12 +12,12 @@ use Rattle.krates_ids.specs.Identity.{Identity, Reads}
 use Rattle.krates_rules.specs.Admission.{IsAdmitted, IdsModel}
 use Rattle.krates_rules.specs.Resolved.{IsMember, StandsAt, id_of, resolved}
 use Rattle.krates.specs.Build.{AreKeptMembers}
-use Rattle.krates.specs.Kept.{AreCrateNumbers}
+use Rattle.krates_queries.specs.Kept.{AreCrateNumbers}
 use Rattle.krates.specs.Members.{AreNumbersOf, IsNumberOf}
-use Rattle.krates.specs.Node.{crate_ids}
-use Rattle.krates.specs.declared.node.Node.{Node}
+use Rattle.krates_queries.specs.Node.{crate_ids}
+use Rattle.krates_queries.specs.declared.node.Node.{Node}
 use Rattle.krates.proofs.DivisionLemmas.{ReadsOnce}
-use Rattle.krates.proofs.OrderedIds.{stands_within}
+use Rattle.krates_queries.proofs.OrderedIds.{stands_within}
 use lib.Dec.{eqb}
 
 -- ---- id after id

@@ -11,7 +11,7 @@ use Rattle.std.specs.Prelude.{String}
 use Rattle.std.specs.Str.{bytes_eq}
 use Rattle.std.specs.declared.alloc.Global.{Global}
 use Rattle.krates_cm.specs.Document.{Text, text_view}
-use Rattle.krates.specs.Node.{names_in}
+use Rattle.krates_queries.specs.Node.{names_in}
 use Rattle.krates_drawing.proofs.Members.{Member}
 
 -- whether one of the keys has these bytes

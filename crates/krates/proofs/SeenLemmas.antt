@@ -15,7 +15,7 @@ use Rattle.krates_ids.specs.declared.error.Error.TheVariants as errors
 use Rattle.krates_rules.specs.Setting.{SettingModel}
 use Rattle.krates.specs.Build.{IsResolvable, IsBuilt, GraphRefusal, BuildRefusal}
 use Rattle.krates.specs.BuildLaws.{IsSeenBy}
-use Rattle.krates.specs.Kept.{KeptCrates}
+use Rattle.krates_queries.specs.Kept.{KeptCrates}
 use Rattle.krates_document.specs.CorrectedDocument.{IsCorrectedPackage, IsCorrectedDocument}
 use Rattle.krates.specs.Indexed.{Answering, IsSeen, Sees}
 

@@ -26,10 +26,10 @@ use Rattle.krates_rules.specs.Setting.{SettingModel}
 use Rattle.krates_resolve.specs.Selection.{IsSelectionOf}
 use Rattle.krates_resolve.specs.declared.selection.Selection.{Selection}
 use Rattle.krates.specs.Indexed.{Answering, Sees}
-use Rattle.krates.specs.DirectDependents.{IsDependent}
-use Rattle.krates.specs.Explained.{IsExplainedBy, steps_of}
-use Rattle.krates.specs.Drawn.{HasSheet, IsDrawn, IsNumbered, node_spot}
-use Rattle.krates.specs.Kept.{KeptCrates, HasEnabled, ids_of, values_of}
+use Rattle.krates_queries.specs.DirectDependents.{IsDependent}
+use Rattle.krates_queries.specs.Explained.{IsExplainedBy, steps_of}
+use Rattle.krates_queries.specs.Drawn.{HasSheet, IsDrawn, IsNumbered, node_spot}
+use Rattle.krates_queries.specs.Kept.{KeptCrates, HasEnabled, ids_of, values_of}
 
 -- ---- the document
 

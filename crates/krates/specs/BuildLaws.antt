@@ -20,9 +20,9 @@ use Rattle.krates_rules.specs.Resolved.{id_of}
 use Rattle.krates_rules.specs.Setting.{SettingModel}
 use Rattle.krates.specs.Build.{IsResolvable, IsDerived, KeepsCrate, DropsCrate, IsLost, AreThosePackages, IsRefusedSeeing}
 use Rattle.krates_document.specs.CorrectedDocument.{IsCorrectedDocument}
-use Rattle.krates.specs.Drawn.{CanBeNumbered, IsSheetFor}
+use Rattle.krates_queries.specs.Drawn.{CanBeNumbered, IsSheetFor}
 use Rattle.krates.specs.Indexed.{HasNames}
-use Rattle.krates.specs.Kept.{AreOrdered}
+use Rattle.krates_queries.specs.Kept.{AreOrdered}
 
 -- the document that is looked at: with an answer of an index that whose packages are corrected by it, and else the given one
 abbrev pub IsSeenBy : Option IndexAnswer → Metadata → Metadata → Type 0

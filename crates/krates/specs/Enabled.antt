@@ -8,7 +8,7 @@ use Rattle.krates_rules.specs.Facts.{Id, Feature}
 use Rattle.krates_resolve.specs.Selection.{feature_fact}
 use Rattle.krates_resolve.specs.declared.selection.EnabledFeature.{EnabledFeature}
 use Rattle.krates.specs.Division.{IsAmong}
-use Rattle.krates.specs.Kept.{names_in_each, IsEnabledIn}
+use Rattle.krates_queries.specs.Kept.{names_in_each, IsEnabledIn}
 
 -- the name is in the set of the crate exactly if the feature is one of these, and the crate one of those with these ids
 abbrev pub AreEnabledSets : List Identity → List EnabledFeature → List (BTreeSet (String Global)) → Type 0

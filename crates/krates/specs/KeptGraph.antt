@@ -8,12 +8,12 @@ use Rattle.krates_drawing.specs.declared.edge.Edge.{Edge}
 use Rattle.krates_graph.specs.Graph.{StoredGraph}
 use Rattle.krates_rules.specs.Facts.{Id, Fact, Feature}
 use Rattle.krates.specs.Division.{IsAmong}
-use Rattle.krates.specs.Drawn.{IsDrawing}
-use Rattle.krates.specs.Kept.{IsEnabledIn}
+use Rattle.krates_queries.specs.Drawn.{IsDrawing}
+use Rattle.krates_queries.specs.Kept.{IsEnabledIn}
 use Rattle.krates.specs.Krate.{krate_ids, krate_packages}
-use Rattle.krates.specs.Node.{crate_ids, crate_values, crate_features, CratesFirst}
+use Rattle.krates_queries.specs.Node.{crate_ids, crate_values, crate_features, CratesFirst}
 use Rattle.krates.specs.declared.krate.Krate.{Krate}
-use Rattle.krates.specs.declared.node.Node.{Node}
+use Rattle.krates_queries.specs.declared.node.Node.{Node}
 
 abbrev pub named_fact : Named → Fact
 named_fact n = Feature n.krate n.name

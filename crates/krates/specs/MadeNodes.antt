@@ -10,8 +10,8 @@ use Rattle.krates_drawing.specs.declared.nodes.Spot.TheVariants as drawn
 use Rattle.krates_ids.specs.declared.error.Error.{Error}
 use Rattle.krates_ids.specs.declared.error.Error.TheVariants as errors
 use Rattle.krates.specs.declared.krate.Krate.{Krate}
-use Rattle.krates.specs.declared.node.Node.{Node}
-use Rattle.krates.specs.declared.node.Node.TheVariants as node
+use Rattle.krates_queries.specs.declared.node.Node.{Node}
+use Rattle.krates_queries.specs.declared.node.Node.TheVariants as node
 
 abbrev Set : Type 0
 Set = BTreeSet (String Global)

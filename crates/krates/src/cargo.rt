@@ -10,11 +10,11 @@ ghost use Rattle.krates.specs.Indexed.{IsAskable, Sees};
 
 use crate::builder::Builder;
 use crate::filter::OnFilter;
-use crate::from_package::FromPackage;
-use crate::kept::Krates;
 use krates_cargo::MetadataCommand;
 use krates_drawing::store::FromEdge;
 use krates_ids::{BuildIndexCache, Error};
+use krates_queries::from_package::FromPackage;
+use krates_queries::kept::Krates;
 use std::process::Processes;
 
 impl Builder {

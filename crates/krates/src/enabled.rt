@@ -8,7 +8,7 @@ ghost use Rattle.krates.specs.Enabled.{AreEnabledSets, IsPut};
 ghost use Rattle.krates.specs.Krate.{krate_ids};
 
 use crate::krate::{Krate, place_of};
-use crate::node::EnabledFeatures;
+use krates_queries::node::EnabledFeatures;
 use krates_resolve::EnabledFeature;
 use std::alloc::{AllocError, Global};
 use std::collections::BTreeSet;

@@ -19,22 +19,15 @@ mod drawn;
 mod enabled;
 mod explained;
 mod filter;
-mod from_package;
 mod indexed;
-mod kept;
 mod krate;
 pub mod laws;
 mod members;
-mod node;
 mod nodes;
-mod numbers;
-mod queries;
 
 pub use builder::Builder;
 pub use filter::{FilterFn, NoneFilter, OnFilter};
-pub use from_package::{FromPackage, KrateDetails};
 pub use indexed::IndexSource;
-pub use kept::{Krates, KratesIter};
 pub use krates_cargo::{Cmd, LockOptions};
 pub use krates_cm::{Metadata, Package, PackageId};
 pub use krates_drawing::edge::Edge;
@@ -42,12 +35,16 @@ pub use krates_drawing::store::FromEdge;
 pub use krates_graph::graph::{EdgeId, NodeId};
 pub use krates_graph::{agenda, graph};
 pub use krates_ids::{Error, IdError, Kid, Lost, PkgSpec};
+pub use krates_queries::from_package::{FromPackage, KrateDetails};
+pub use krates_queries::kept::{Krates, KratesIter};
+pub use krates_queries::node::{EnabledFeatures, Node};
+pub use krates_queries::queries::{
+    Deps, DirectDependency, DirectDependent, KrateMatch, Matches, Members,
+};
 pub use krates_resolve::{DepKind, Scope, Work};
 pub use krates_text::features::{Feature, ParsedFeature};
 pub use krates_text::target::Target;
 pub use krates_text::{path, target};
-pub use node::{EnabledFeatures, Node};
-pub use queries::{Deps, DirectDependency, DirectDependent, KrateMatch, Matches, Members};
 pub use semver;
 
 /// The document of `cargo metadata`, and the command whose output it is.

@@ -2,14 +2,14 @@
 
 ghost use Rattle.std.specs.Prelude.{IfOk};
 ghost use Rattle.std.specs.List.Sorted.{IsStrictlyIncreasing};
-ghost use Rattle.krates.specs.Kept.{AreNodes};
+ghost use Rattle.krates_queries.specs.Kept.{AreNodes};
 ghost use Rattle.krates.specs.Members.{AreNumbersOf};
-ghost use Rattle.krates.specs.Node.{crate_ids};
+ghost use Rattle.krates_queries.specs.Node.{crate_ids};
 
-use crate::node::Node;
-use crate::numbers::number_of;
 use krates_graph::graph::NodeId;
 use krates_ids::Kid;
+use krates_queries::node::Node;
+use krates_queries::numbers::number_of;
 use std::alloc::{AllocError, Global};
 
 /// The numbers of the crates that have one of these ids, ascending, each once. Ids of other crates are left out.

@@ -4,13 +4,13 @@ ghost use Rattle.std.specs.Prelude.{◌≡◌, ◌++◌, [], IfErr, IfOk, OnOk, 
 ghost use Rattle.std.specs.List.{AllZip, zip};
 ghost use Rattle.krates.specs.MadeNodes.{CountRefusal, IsMade, crate_node, feature_in, mapping_in};
 
-use crate::from_package::FromPackage;
 use crate::krate::Krate;
-use crate::node::{EnabledFeatures, Node};
 use krates_cm::Package;
 use krates_drawing::nodes::Spot;
 use krates_graph::graph::{Graph, GraphError, NodeId};
 use krates_ids::Error;
+use krates_queries::from_package::FromPackage;
+use krates_queries::node::{EnabledFeatures, Node};
 use std::alloc::{AllocError, Global};
 
 /// What was drawn, without the packages: the mappings of the crates, and the nodes of the features.

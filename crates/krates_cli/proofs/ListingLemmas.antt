@@ -16,7 +16,7 @@ use Rattle.krates.specs.Build.{AreThosePackages, BuildRefusal, KeepsCrate, IsBui
 use Rattle.krates.specs.Indexed.{Answering, Sees}
 use Rattle.krates_cli.specs.declared.run_error.RunError.{RunError}
 use Rattle.krates_cli.specs.declared.run_error.RunError.TheVariants as errors
-use Rattle.krates.specs.Kept.{KeptCrates, ids_of, values_of}
+use Rattle.krates_queries.specs.Kept.{KeptCrates, ids_of, values_of}
 use Rattle.krates_cli.specs.CargoListing.{CargoRefusal, IsCargoListing}
 use Rattle.krates_cli.specs.Counted.{AppendsFront}
 use Rattle.krates_cli.specs.Lines.{kept_lines, reported_lines}

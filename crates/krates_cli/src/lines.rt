@@ -1,7 +1,7 @@
 //! The lines that are written.
 
 ghost use Rattle.std.specs.Prelude.{◌≡◌, ◌++◌, IfOk, OnOk, string_bytes};
-ghost use Rattle.krates.specs.Kept.{values_of};
+ghost use Rattle.krates_queries.specs.Kept.{values_of};
 ghost use Rattle.krates_cli.specs.Lines.{kept_lines, line};
 
 use krates::{Krates, Package};

@@ -27,12 +27,12 @@ use Rattle.krates_rules.specs.declared.kind.DepKind.{DepKind}
 use Rattle.krates_rules.specs.declared.kind.Scope.TheVariants as scopes
 use Rattle.krates.specs.Build.{AreKeptMembers, HasMember, IsMemberAt, KeepsCrate}
 use Rattle.krates.specs.BuildLaws.{IsBuildNarrowing, IsSeenBy}
-use Rattle.krates.specs.Drawn.{IsDrawing, IsSheetFor, node_spot}
-use Rattle.krates.specs.Kept.{KeptCrates, ids_of}
-use Rattle.krates.specs.KratesFiltered.{AreReached, IsReached, line_view}
-use Rattle.krates.specs.Node.{CratesFirst, crate_ids}
-use Rattle.krates.specs.declared.node.Node.{Node}
-use Rattle.krates.specs.declared.node.Node.TheVariants.{Krate, Feature}
+use Rattle.krates_queries.specs.Drawn.{IsDrawing, IsSheetFor, node_spot}
+use Rattle.krates_queries.specs.Kept.{KeptCrates, ids_of}
+use Rattle.krates_queries.specs.KratesFiltered.{AreReached, IsReached, line_view}
+use Rattle.krates_queries.specs.Node.{CratesFirst, crate_ids}
+use Rattle.krates_queries.specs.declared.node.Node.{Node}
+use Rattle.krates_queries.specs.declared.node.Node.TheVariants.{Krate, Feature}
 use Rattle.krates_rows.specs.Rebuilt.{AreRebuilt, HoldsRebuilt, IgnoresToo, IsListed, Keeps, ListsRebuilt}
 
 -- ---- stored edges are the drawn ones

@@ -17,9 +17,9 @@ use Rattle.krates_rules.specs.declared.kind.IgnoredKinds.{IgnoredKinds}
 use Rattle.krates_rules.specs.declared.kind.Scope.TheVariants as scopes
 use Rattle.krates.specs.Build.{Answers, AreKeptMembers, KeepsCrate}
 use Rattle.krates.specs.BuildLaws.{IsSeenBy}
-use Rattle.krates.specs.Direct.{value_at}
-use Rattle.krates.specs.Drawn.{IsDrawn}
-use Rattle.krates.specs.Kept.{KeptCrates, ids_of}
+use Rattle.krates_queries.specs.Direct.{value_at}
+use Rattle.krates_queries.specs.Drawn.{IsDrawn}
+use Rattle.krates_queries.specs.Kept.{KeptCrates, ids_of}
 
 -- ---- a build and a rebuild
 

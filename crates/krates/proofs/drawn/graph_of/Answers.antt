@@ -4,7 +4,7 @@ use Rattle.krates_drawing.specs.Views.{arrow_view, sheet_view}
 use Rattle.krates_drawing.specs.declared.edge.Arrow.{Arrow}
 use Rattle.krates_resolve.specs.Selection.{feature_fact}
 use Rattle.krates_resolve.specs.declared.selection.EnabledFeature.{EnabledFeature}
-use Rattle.krates.specs.Drawn.{node_spot}
+use Rattle.krates_queries.specs.Drawn.{node_spot}
 use Rattle.krates.specs.Enabled.{AreEnabledSets}
 use Rattle.krates.specs.Krate.{krate_ids}
 use Rattle.krates.specs.declared.krate.Krate.{Krate}

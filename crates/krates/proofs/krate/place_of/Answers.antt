@@ -2,7 +2,8 @@ use Rattle.std.proofs.Common.{rules, ◌≡◌}
 use Rattle.std.proofs.lemmas.Fn.{always_returns_same}
 use Rattle.krates_ids.specs.Identity.{id_cmp}
 use Rattle.krates.specs.declared.krate.Krate.{Krate}
-use Rattle.krates.proofs.OrderedIds.{Compares, number_found, no_number}
+use Rattle.krates_queries.proofs.OrderedIds.{Compares}
+use Rattle.krates.proofs.SearchedKrates.{number_found, no_number}
 use Rattle.krates.proofs.krate.place_of.Goals as goal
 
 pub returns-in-Ok : goal.returns-in-Ok

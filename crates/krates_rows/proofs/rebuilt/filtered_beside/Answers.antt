@@ -1,6 +1,6 @@
 use Rattle.std.proofs.Common.{subst}
 use Rattle.std.proofs.lemmas.Result.{IfOk-weaker}
-use Rattle.krates.specs.Node.{CratesFirst}
+use Rattle.krates_queries.specs.Node.{CratesFirst}
 use Rattle.krates_rows.proofs.Listed.{holds_rebuilt}
 use Rattle.krates_rows.proofs.rebuilt.filtered_beside.Goals as goal
 

@@ -1,7 +1,0 @@
-use Rattle.std.proofs.Common.{◌≡◌, length, ap}
-use Rattle.krates.specs.Kept.{KeptCrates, values_of, ids_of}
-use Rattle.krates.proofs.NodeLemmas.{as_many_values}
-use Rattle.krates.proofs.kept.Krates.krates.Goals as goal
-
-pub returns-clause-matched : goal.returns-clause-matched
-returns-clause-matched g c = as_many_values c.args.self.now.graph.nodes

@@ -1,0 +1,10 @@
+pub mod EdgeNumbers
+pub mod FeatureNodes
+pub mod JoinedLemmas
+pub mod CrateIds
+pub mod MatchLemmas
+pub mod NodeLemmas
+pub mod NeighbourLemmas
+pub mod OrderedIds
+pub mod ReachedLemmas
+pub mod WhyLemmas

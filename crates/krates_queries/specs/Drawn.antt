@@ -1,0 +1,51 @@
+-- The stored graph beside what is drawn of a document.
+use Rattle.std.specs.Prelude.{◌≡◌, ◌<◌, ◌^◌, length, map}
+use Rattle.std.specs.List.{AllZip}
+use Rattle.krates_cm.specs.Document.{MetadataModel, text_view}
+use Rattle.krates_drawing.specs.Drawing.{Spot, CrateSpot, FeatureSpot, lines, spots}
+use Rattle.krates_drawing.specs.Sheet.{Sheet, IsSheet}
+use Rattle.krates_drawing.specs.Stored.{IsStoredAs}
+use Rattle.krates_drawing.specs.declared.edge.Edge.{Edge}
+use Rattle.krates_graph.specs.Graph.{StoredGraph}
+use Rattle.krates_resolve.specs.Selection.{IsSelection}
+use Rattle.krates_resolve.specs.declared.selection.Selection.{Selection}
+use Rattle.krates_rules.specs.Resolved.{HasGraphWith, Resolved, id_of, resolved}
+use Rattle.krates_rules.specs.Setting.{SettingModel}
+use Rattle.krates_queries.specs.declared.node.Node.{Node}
+use Rattle.krates_queries.specs.declared.node.Node.TheVariants.{Krate, Feature}
+
+-- the drawn node that a node stands for: a crate with its mapping, or a feature of the crate of a number
+abbrev pub node_spot : {N : Type 0} → Node N → Spot
+node_spot (Krate id krate features mapping) = CrateSpot (id_of id) mapping.items
+node_spot (Feature krate_index name) = FeatureSpot krate_index (text_view name)
+
+-- the nodes and the edges are the drawn ones, number by number, and the edges carry what is made of them
+pub record IsDrawing {N E : Type 0} (made : Edge → E → Type 0) (t : Sheet) (g : StoredGraph (Node N) E) : Type 0 where
+  pub nodes : map node_spot g.nodes ≡ spots t
+  pub edges : AllZip (IsStoredAs made) (lines t) g.edges
+
+-- the sheet is that of exactly what has a derivation
+pub record HasSheet (r : Resolved) (s : SettingModel) (t : Sheet) : Type 0 where
+  pub selection : Selection
+  pub selected : IsSelection r s selection
+  pub is_sheet : IsSheet r s selection t
+
+-- the sheet is that of what is selected of the document
+abbrev pub IsSheetFor : MetadataModel → SettingModel → Sheet → Type 0
+IsSheetFor m s t = HasGraphWith m (λ g. HasSheet (resolved m g) s t)
+
+-- The graph is the drawing of exactly what has a derivation.
+pub record IsDrawn {N E : Type 0} (made : Edge → E → Type 0) (m : MetadataModel) (s : SettingModel) (g : StoredGraph (Node N) E) : Type 0 where
+  pub sheet : Sheet
+  pub is_sheet : IsSheetFor m s sheet
+  pub drawing : IsDrawing made sheet g
+
+-- there are no more nodes and no more edges than can be numbered
+pub record IsNumbered {N E : Type 0} (g : StoredGraph (Node N) E) : Type 0 where
+  pub nodes : length g.nodes < 2 ^ 32
+  pub edges : length g.edges < 2 ^ 32
+
+-- the same of what is drawn
+pub record CanBeNumbered (t : Sheet) : Type 0 where
+  pub nodes : length (spots t) < 2 ^ 32
+  pub edges : length (lines t) < 2 ^ 32

@@ -1,0 +1,16 @@
+pub mod Direct
+pub mod DirectDependencies
+pub mod DirectDependents
+pub mod Drawn
+pub mod Explained
+pub mod GetDeps
+pub mod GetNode
+pub mod Kept
+pub mod KratesFiltered
+pub mod Matches
+pub mod Neighbours
+pub mod Node
+pub mod NodeOrder
+pub mod ResolvedDependency
+pub mod Why
+pub mod WorkspaceMembers

@@ -1,0 +1,8 @@
+//! The graph that a build keeps, and its queries.
+#![tactic(auto)]
+
+pub mod from_package;
+pub mod kept;
+pub mod node;
+pub mod numbers;
+pub mod queries;

@@ -1,0 +1,46 @@
+//! The nodes of the graph.
+
+ghost use Rattle.krates_queries.specs.Node.{node_text};
+
+use krates_graph::graph::NodeId;
+use krates_ids::Kid;
+use std::collections::BTreeSet;
+use std::fmt;
+
+/// The enabled features of a crate, in the order of their names as bytes.
+pub type EnabledFeatures = BTreeSet<String>;
+
+/// A node of the graph: a kept crate, or an enabled feature of one.
+#[derive(Debug, Drop)]
+pub enum Node<N> {
+    /// A kept crate.
+    Krate {
+        /// Its id, as the text of its package's id is read.
+        id: Kid,
+        /// What was made of its package.
+        krate: N,
+        /// The names of its enabled features.
+        features: EnabledFeatures,
+        /// For each declared dependency of its package the number of the crate that it means, where one is kept for it.
+        dep_mapping: Vec<Option<NodeId>>,
+    },
+    /// An enabled feature of a kept crate.
+    Feature {
+        /// The number of its crate.
+        krate_index: NodeId,
+        /// Its name.
+        name: String,
+    },
+}
+
+/// `crate ` and the crate as it is printed, or `feature ` and the name.
+impl<N: fmt::Display> fmt::Display for Node<N> {
+    ghost output = { node_text N.output };
+
+    fn fmt<W: fmt::Write>(&self, f: &mut fmt::Formatter<W>) -> fmt::Result {
+        match self {
+            Node::Krate { krate, .. } => write!(f, "crate {krate}"),
+            Node::Feature { name, .. } => write!(f, "feature {name}"),
+        }
+    }
+}

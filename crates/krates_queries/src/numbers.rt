@@ -1,0 +1,60 @@
+//! Crates among the nodes of a graph, found by their ids.
+
+ghost use Rattle.std.specs.Prelude.{◌≡◌, ◌↔◌, ◌<◌, ℕ, Some, length, option_map, slice_get};
+ghost use Rattle.krates_rules.specs.Resolved.{id_of, StandsAt};
+ghost use Rattle.krates_queries.specs.Kept.{AreNodes};
+ghost use Rattle.krates_queries.specs.Node.{crate_ids, crate_features, names_in};
+ghost use Rattle.krates_queries.specs.NodeOrder.{node_cmp};
+
+use crate::node::{EnabledFeatures, Node};
+use krates_ids::{Kid, laws};
+use std::cmp::Ordering;
+
+/// How a node stands to an id: a crate by its own, and a feature behind every crate.
+fn compare<N>(node: &Node<N>, kid: &Kid) -> Ordering
+    ensures { result ≡ node_cmp node.now kid.now }
+{
+    match node {
+        Node::Krate { id, .. } => id.cmp(kid),
+        Node::Feature { .. } => Ordering::Greater,
+    }
+}
+
+/// The number of the crate with an id, where there is one.
+pub fn number_of<N>(nodes: &[Node<N>], kid: &Kid) -> Option<usize>
+    requires { AreNodes nodes.now }
+    ensures { (n : ℕ) → (result ≡ Some n) ↔ StandsAt (crate_ids nodes.now) (id_of kid.now) n }
+{
+    laws::comparison();
+    match nodes.binary_search_by(|node| compare(node, kid)) {
+        Ok(place) => Some(place),
+        Err(_) => None,
+    }
+}
+
+/// The enabled features of the crate of a number, where there is one.
+pub(crate) fn features_at<N>(nodes: &[Node<N>], number: usize) -> Option<&EnabledFeatures>
+    requires { AreNodes nodes.now }
+    ensures { option_map (λ features. names_in features.now) result ≡ slice_get (crate_features nodes.now) number }
+{
+    match node_at(nodes, number) {
+        Some(Node::Krate { features, .. }) => Some(features),
+        Some(Node::Feature { .. }) => None,
+        None => None,
+    }
+}
+
+/// The node of a number.
+pub(crate) fn node_at<N>(nodes: &[Node<N>], number: usize) -> Option<&Node<N>>
+    ensures { option_map (λ node. node.now) result ≡ slice_get nodes.now number }
+{
+    nodes.get(number)
+}
+
+/// The node that stands at a number.
+pub(crate) fn standing_at<N>(nodes: &[Node<N>], number: usize) -> &Node<N>
+    requires { number < length nodes.now }
+    ensures { slice_get nodes.now number ≡ Some result.now }
+{
+    &nodes[number]
+}

@@ -1,0 +1,98 @@
+//! Crates that are joined by an edge.
+
+ghost use Rattle.std.specs.Prelude.{◌≡◌, ◌++◌, ◌↔◌, ℕ, Contains, IfOk, OnOk, map, option_map};
+ghost use Rattle.std.specs.List.Sorted.{IsStrictlySortedBy};
+ghost use Rattle.std.specs.Ordering.{nat_cmp};
+ghost use Rattle.krates_drawing.specs.Views.{listed};
+ghost use Rattle.krates_queries.specs.Direct.{Joined, is_feature_of as is_feature, joined_all, joined_by, value_at};
+ghost use Rattle.krates_queries.specs.Neighbours.{AreInOrder, first_edge};
+
+use crate::node::Node;
+use crate::queries::neighbours::{Neighbour, edge_of};
+use krates_graph::graph::{EdgeId, NodeId};
+use std::alloc::{AllocError, Global};
+
+/// What stands for the crate of a number; none for a feature and for no node.
+pub(crate) fn krate_at<N>(nodes: &[Node<N>], number: NodeId) -> Option<&N>
+    ensures { option_map (λ krate. krate.now) result ≡ value_at nodes.now number }
+{
+    match nodes.get(number.index()) {
+        Some(Node::Krate { krate, .. }) => Some(krate),
+        Some(Node::Feature { .. }) => None,
+        None => None,
+    }
+}
+
+/// Whether the number is that of a feature of the crate of another.
+pub(crate) fn is_feature_of<N>(nodes: &[Node<N>], krate: NodeId, number: NodeId) -> bool
+    ensures { result ≡ is_feature nodes.now krate number }
+{
+    match nodes.get(number.index()) {
+        Some(Node::Feature { krate_index, .. }) => *krate_index == krate,
+        Some(Node::Krate { .. }) => false,
+        None => false,
+    }
+}
+
+/// A crate that an edge joins to a node, as a query answers it.
+pub(crate) trait FromJoined<'a, N> {
+    /// The crate, its number, and that of the edge.
+    ghost joined: { Self → Joined N };
+
+    /// The answer for a crate, its number, and that of an edge.
+    fn from_joined(krate: &'a N, node_id: NodeId, edge_id: EdgeId) -> Self
+    where
+        Self: Sized,
+        ensures { joined result ≡ record { krate = krate.now; node = node_id; edge = edge_id } };
+}
+
+/// Adds the crate of a number, with the first edge by which it is a neighbour; nothing where it is none.
+fn push_joined<'a, N, J: FromJoined<'a, N> + Drop>(
+    nodes: &'a [Node<N>],
+    neighbours: &[Neighbour],
+    number: NodeId,
+    found: &mut Vec<J>,
+) -> Result<(), AllocError>
+    requires { AreInOrder neighbours.now }
+    ensures { OnOk result (map J.joined found.new.items ≡ map J.joined found.old.items
+        ++ listed (joined_by number (value_at nodes.now number) (first_edge neighbours.now number))) }
+{
+    let Some(krate) = krate_at(nodes, number) else {
+        return Ok(());
+    };
+    let Some(edge_id) = edge_of(neighbours, number) else {
+        return Ok(());
+    };
+    match found.push(J::from_joined(krate, number, edge_id)) {
+        Ok(()) => Ok(()),
+        Err(_) => Err(AllocError),
+    }
+}
+
+/// The crates of these numbers that are neighbours, each with the first edge by which it is one.
+pub(crate) fn joined<'a, N, J: FromJoined<'a, N> + Drop>(
+    alloc: Global,
+    nodes: &'a [Node<N>],
+    neighbours: &[Neighbour],
+    numbers: &[NodeId],
+) -> Result<Vec<J>, AllocError>
+    requires { AreInOrder neighbours.now }
+    ensures { IfOk result (λ found. map J.joined found.items
+        ≡ joined_all (value_at nodes.now) (first_edge neighbours.now) numbers.now) }
+{
+    let mut found = Vec::new(alloc);
+    for number in numbers {
+        push_joined(nodes, neighbours, *number, &mut found)?;
+    }
+    Ok(found)
+}
+
+/// The numbers in order, each once.
+pub(crate) fn in_order(mut numbers: Vec<NodeId>) -> Vec<NodeId>
+    ensures ascending { IsStrictlySortedBy nat_cmp result.items }
+    ensures same { (n : ℕ) → Contains result.items n ↔ Contains numbers.items n }
+{
+    numbers.sort_unstable();
+    numbers.dedup();
+    numbers
+}

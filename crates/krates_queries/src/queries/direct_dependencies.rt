@@ -1,0 +1,130 @@
+//! The crates on which a crate depends directly.
+
+ghost use Rattle.std.specs.Prelude.{◌≡◌, ◌++◌, ◌<◌, IfOk, OnOk, Some, length, map, slice_get};
+ghost use Rattle.krates_drawing.specs.Views.{listed};
+ghost use Rattle.krates_queries.specs.DirectDependencies.{AreDependencies, dependency_view, home, named_by, numbers_in, target_in, targets_from};
+
+use crate::kept::Krates;
+use crate::node::Node;
+use crate::queries::direct::{FromJoined, in_order, joined};
+use crate::queries::neighbours::{Neighbour, ordered};
+use krates_graph::graph::{Direction, EdgeId, Graph, NodeId};
+use std::alloc::{AllocError, Global};
+
+/// A crate on which another depends directly.
+#[derive(Debug, Drop)]
+pub struct DirectDependency<'a, N> {
+    /// What stands for the package of the crate.
+    pub krate: &'a N,
+    /// The number of the crate.
+    pub node_id: NodeId,
+    /// The least edge from the other to the crate or to a feature of it.
+    pub edge_id: EdgeId,
+}
+
+/// The numbers that a mapping names.
+fn numbers_of(alloc: Global, mapping: &[Option<NodeId>]) -> Result<Vec<NodeId>, AllocError>
+    ensures { IfOk result (λ numbers. numbers.items ≡ numbers_in mapping.now) }
+{
+    let mut numbers = Vec::new(alloc);
+    for entry in mapping {
+        if let Some(number) = entry {
+            numbers.push(*number)?;
+        }
+    }
+    Ok(numbers)
+}
+
+/// The numbers that a node's mapping names.
+fn named<N>(alloc: Global, node: &Node<N>) -> Result<Vec<NodeId>, AllocError>
+    ensures { IfOk result (λ numbers. numbers.items ≡ named_by (Some node.now)) }
+{
+    match node {
+        Node::Krate { dep_mapping, .. } => numbers_of(alloc, dep_mapping),
+        Node::Feature { .. } => Ok(Vec::new(alloc)),
+    }
+}
+
+impl<'a, N> FromJoined<'a, N> for DirectDependency<'a, N> {
+    ghost joined = { dependency_view };
+
+    fn from_joined(krate: &'a N, node_id: NodeId, edge_id: EdgeId) -> DirectDependency<'a, N> {
+        DirectDependency {
+            krate,
+            node_id,
+            edge_id,
+        }
+    }
+}
+
+/// The number of the crate of a node: that of a feature's crate, and else the node's own.
+fn home_of<N>(nodes: &[Node<N>], number: NodeId) -> NodeId
+    ensures { result ≡ home nodes.now number }
+{
+    match nodes.get(number.index()) {
+        Some(Node::Feature { krate_index, .. }) => *krate_index,
+        Some(Node::Krate { .. }) => number,
+        None => number,
+    }
+}
+
+/// Adds the crate to which an edge leads, or to a feature of which it does.
+fn push_target<N, E>(
+    graph: &Graph<Node<N>, E>,
+    edge: EdgeId,
+    targets: &mut Vec<Neighbour>,
+) -> Result<(), AllocError>
+    ensures { OnOk result (targets.new.items ≡ targets.old.items
+        ++ listed (target_in graph.now.nodes edge (slice_get graph.now.edges edge))) }
+{
+    let Some((_, target)) = graph.edge_endpoints(edge) else {
+        return Ok(());
+    };
+    let krate = home_of(graph.raw_nodes(), target);
+    targets.push(Neighbour { krate, edge })?;
+    Ok(())
+}
+
+/// The crates to which the edges from a node lead, or to features of which they do.
+fn targets_of<N, E>(
+    alloc: Global,
+    graph: &Graph<Node<N>, E>,
+    from: NodeId,
+) -> Result<Vec<Neighbour>, AllocError>
+    ensures { IfOk result (λ targets. targets.items ≡ targets_from graph.now.nodes graph.now.edges from) }
+{
+    let mut targets = Vec::new(alloc);
+    for id in graph.edge_numbers(from, Direction::Outgoing) {
+        push_target(graph, *id, &mut targets)?;
+    }
+    Ok(targets)
+}
+
+impl<N, E> Krates<N, E> {
+    /// The crates that the declared dependencies of a crate mean, each once, by number, with the least edge to each;
+    /// none for a feature. There has to be a node of that number. The only refusal is running out of memory.
+    ///
+    /// Time: O(n log n), where n counts the declared dependencies of the crate and the edges from it.
+    ///
+    /// ```text
+    /// if node.index() < krates.graph().node_count() {
+    ///     for found in &krates.direct_dependencies(node)? {
+    ///         println!(rt; "needs {}", found.krate.name)?;
+    ///     }
+    /// }
+    /// ```
+    pub fn direct_dependencies(
+        &self,
+        node: NodeId,
+    ) -> Result<Vec<DirectDependency<'_, N>>, AllocError>
+        requires stands { node < length self.now.graph.nodes }
+        ensures { IfOk result (λ found. AreDependencies self.now.graph.nodes self.now.graph.edges node
+            (map dependency_view found.items)) }
+    {
+        let alloc = self.alloc();
+        let graph = self.graph();
+        let numbers = in_order(named(alloc, &graph[node])?);
+        let targets = ordered(targets_of(alloc, graph, node)?);
+        joined(alloc, graph.raw_nodes(), &targets, &numbers)
+    }
+}

@@ -1,0 +1,34 @@
+//! All that is kept, as facts.
+
+ghost use Rattle.std.specs.Prelude.{◌≡◌, All, IfOk};
+ghost use Rattle.krates_derive.specs.Told.{facts_view};
+ghost use Rattle.krates_explain.specs.Explanation.{HasTheseIds};
+ghost use Rattle.krates_explain.specs.KeptFacts.{facts_in};
+ghost use Rattle.krates_rules.specs.StepParts.{HaveOwnFacts};
+ghost use Rattle.krates_queries.specs.Explained.{steps_of};
+ghost use Rattle.krates_queries.specs.Kept.{ids_of};
+
+use crate::kept::Krates;
+use krates_derive::Fact;
+use krates_explain::facts_of;
+use std::alloc::AllocError;
+
+impl<N, E> Krates<N, E> {
+    /// All that is kept, as facts, each once: the crates, the edges, the enabled features, and the features that other crates'
+    /// features enable. Of a build these are exactly the facts that have a derivation, so `derive::check_closed` accepts the
+    /// list for its document and setting. Ids are those of the kept crates, with their texts.
+    ///
+    /// Each fact comes behind those from which it was found to follow. The only error is running out of memory. Time O(n) in
+    /// the facts.
+    ///
+    /// ```text
+    /// println!(rt; "{} facts", krates.facts()?.len())?;
+    /// ```
+    pub fn facts(&self) -> Result<Vec<Fact>, AllocError>
+        ensures facts { IfOk result (λ facts. facts_view facts.items ≡ facts_in (steps_of self.now)) }
+        ensures once { HaveOwnFacts (steps_of self.now) }
+        ensures ids { IfOk result (λ facts. All (HasTheseIds (ids_of self.now)) facts.items) }
+    {
+        facts_of(self.alloc(), self.explanation())
+    }
+}

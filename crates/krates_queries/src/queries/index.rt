@@ -1,0 +1,59 @@
+//! Crates by their number.
+
+ghost use Rattle.std.specs.Prelude.{◌≡◌, ◌<◌, Some, length, slice_get};
+ghost use Rattle.krates_queries.specs.Kept.{AreNodes, ids_of, values_of};
+ghost use Rattle.krates_queries.specs.Node.{crate_ids, crate_values};
+
+use crate::kept::Krates;
+use crate::node::Node;
+use crate::numbers::standing_at;
+use krates_graph::graph::NodeId;
+use std::ops::Index;
+
+/// What stands for the package of the crate of a number, which has to be below `len()`. Time O(1).
+///
+/// ```text
+/// let first = &krates[NodeId::new(0)];
+/// ```
+impl<N, E> Index<NodeId> for Krates<N, E> {
+    type Output = N;
+
+    ghost can_index = { λ krates id. id < length (ids_of krates) };
+
+    ghost index_gives = { λ krates id krate. slice_get (values_of krates) id ≡ Some krate };
+
+    fn index(&self, id: NodeId) -> &N {
+        krate_at(self.nodes(), id.index())
+    }
+}
+
+/// The same by a plain number.
+///
+/// ```text
+/// for number in 0..krates.len() {
+///     println!(rt; "{number}: {}", krates[number].name)?;
+/// }
+/// ```
+impl<N, E> Index<usize> for Krates<N, E> {
+    type Output = N;
+
+    ghost can_index = { λ krates number. number < length (ids_of krates) };
+
+    ghost index_gives = { λ krates number krate. slice_get (values_of krates) number ≡ Some krate };
+
+    fn index(&self, number: usize) -> &N {
+        krate_at(self.nodes(), number)
+    }
+}
+
+/// What stands for the package of the crate of this number.
+fn krate_at<N>(nodes: &[Node<N>], number: usize) -> &N
+    requires first { AreNodes nodes.now }
+    requires stands { number < length (crate_ids nodes.now) }
+    ensures { slice_get (crate_values nodes.now) number ≡ Some result.now }
+{
+    match standing_at(nodes, number) {
+        Node::Krate { krate, .. } => krate,
+        Node::Feature { .. } => unreachable!(),
+    }
+}

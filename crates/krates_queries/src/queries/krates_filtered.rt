@@ -1,0 +1,171 @@
+//! The crates that members reach without edges of a kind.
+
+ghost use Rattle.std.specs.Prelude.{◌≡◌, ◌↔◌, ◌++◌, ℕ, ◌<◌, ◌^◌, All, Contains, IfOk, IsTrue, OnOk, length, map, option_map, slice_get};
+ghost use Rattle.std.specs.List.{filter_map};
+ghost use Rattle.krates_drawing.specs.Paths.{Passes};
+ghost use Rattle.krates_drawing.specs.Views.{listed, tie_view};
+ghost use Rattle.krates_graph.specs.Graph.{HasEnds, numbers_at};
+ghost use Rattle.krates_graph.specs.declared.graph.edge.Direction.TheVariants.{Outgoing};
+ghost use Rattle.krates_queries.specs.Direct.{value_at};
+ghost use Rattle.krates_queries.specs.KratesFiltered.{AreReached, Grows, IsReached, IsTarget, IsTargetOf};
+
+use crate::kept::Krates;
+use crate::node::Node;
+use crate::queries::direct::{in_order, krate_at};
+use krates_drawing::edge::Edge;
+use krates_graph::agenda::Agenda;
+use krates_graph::graph::{Direction, EdgeId, Graph, GraphEdge, NodeId};
+use krates_resolve::DepKind;
+use std::alloc::{AllocError, Global};
+
+/// Whether an edge has no kind or another one.
+fn passes(kind: DepKind, edge: &Edge) -> bool
+    ensures { IsTrue result ↔ Passes kind (tie_view edge.now) }
+{
+    match edge {
+        Edge::Dep { kind: other, .. } => *other != kind,
+        Edge::DepFeature { kind: other, .. } => *other != kind,
+        Edge::Feature => true,
+    }
+}
+
+/// The edge of a number.
+fn edge_at(edges: &[GraphEdge<Edge>], id: EdgeId) -> Option<&GraphEdge<Edge>>
+    ensures { option_map (λ edge. edge.now) result ≡ slice_get edges.now id }
+{
+    edges.get(id.index())
+}
+
+/// Puts the target of an edge, where the edge passes.
+fn put_target(kind: DepKind, edges: &[GraphEdge<Edge>], id: EdgeId, agenda: &mut Agenda)
+    requires { All (HasEnds agenda.old.size) edges.now }
+    ensures { Grows (IsTarget kind edges.now id) agenda.old agenda.new }
+{
+    if let Some(edge) = edge_at(edges, id) {
+        if passes(kind, &edge.weight) {
+            agenda.put(edge.target.index());
+        }
+    }
+}
+
+/// Puts the targets of the edges of these numbers that pass.
+fn put_targets(kind: DepKind, edges: &[GraphEdge<Edge>], ids: &[EdgeId], agenda: &mut Agenda)
+    requires { All (HasEnds agenda.old.size) edges.now }
+    ensures { Grows (IsTargetOf kind edges.now ids.now) agenda.old agenda.new }
+{
+    for id in ids {
+        put_target(kind, edges, *id, agenda);
+    }
+}
+
+/// Puts these numbers.
+fn put_all(numbers: &[NodeId], agenda: &mut Agenda)
+    requires { All (λ n. n < agenda.old.size) numbers.now }
+    ensures { Grows (Contains numbers.now) agenda.old agenda.new }
+{
+    for number in numbers {
+        agenda.put(number.index());
+    }
+}
+
+/// The nodes that are reached from these over edges that pass. Each is followed once.
+fn reached<N>(
+    alloc: Global,
+    kind: DepKind,
+    graph: &Graph<Node<N>, Edge>,
+    starts: &[NodeId],
+) -> Result<Agenda, AllocError>
+    requires starts { All (λ n. n < length graph.now.nodes) starts.now }
+    requires numbered { length graph.now.nodes < 2 ^ 32 }
+    ensures put { IfOk result (λ agenda. (n : ℕ) → Contains agenda.put n
+        ↔ IsReached kind graph.now.edges starts.now n) }
+    ensures size { IfOk result (λ agenda. agenda.size ≡ length graph.now.nodes) }
+{
+    let mut agenda = Agenda::new(alloc, graph.node_count())?;
+    put_all(starts, &mut agenda);
+    while let Some(taken) = agenda.take() {
+        let node = NodeId::new(taken.number() as u32);
+        let ids = graph.edge_numbers(node, Direction::Outgoing);
+        put_targets(kind, graph.raw_edges(), ids, &mut agenda);
+    }
+    Ok(agenda)
+}
+
+/// The numbers as those of nodes.
+fn as_nodes(alloc: Global, numbers: &[usize]) -> Result<Vec<NodeId>, AllocError>
+    requires { All (λ n. n < 2 ^ 32) numbers.now }
+    ensures { IfOk result (λ nodes. nodes.items ≡ numbers.now) }
+{
+    let mut nodes = Vec::new(alloc);
+    for number in numbers {
+        nodes.push(NodeId::new(*number as u32))?;
+    }
+    Ok(nodes)
+}
+
+/// Adds what stands for the crate of a number, where it is one.
+fn push_krate<'a, N>(
+    nodes: &'a [Node<N>],
+    number: NodeId,
+    krates: &mut Vec<&'a N>,
+) -> Result<(), AllocError>
+    ensures { OnOk result (map (λ krate. krate.now) krates.new.items
+        ≡ map (λ krate. krate.now) krates.old.items ++ listed (value_at nodes.now number)) }
+{
+    match krate_at(nodes, number) {
+        Some(krate) => match krates.push(krate) {
+            Ok(()) => Ok(()),
+            Err(_) => Err(AllocError),
+        },
+        None => Ok(()),
+    }
+}
+
+/// What stands for the crates among nodes of these numbers, in their order.
+fn krates_among<'a, N>(
+    alloc: Global,
+    nodes: &'a [Node<N>],
+    numbers: &[NodeId],
+) -> Result<Vec<&'a N>, AllocError>
+    ensures { IfOk result (λ krates. map (λ krate. krate.now) krates.items
+        ≡ filter_map (value_at nodes.now) numbers.now) }
+{
+    let mut krates = Vec::new(alloc);
+    for number in numbers {
+        push_krate(nodes, *number, &mut krates)?;
+    }
+    Ok(krates)
+}
+
+impl<N> Krates<N, Edge> {
+    /// The crates that the kept members of the workspace reach over edges that have no kind or another one, in the
+    /// order of their ids, the members included. What a build keeps that ignores this kind for all crates is among
+    /// them, where the graph of the document has no root or one of the members. The only refusal is running out of
+    /// memory.
+    ///
+    /// Time: O(n log n + e), where n counts the nodes of the graph and e the edges from those that are reached, each of which is
+    /// looked at once.
+    ///
+    /// The crates that only dev dependencies bring, since both lists are in the order of the ids:
+    ///
+    /// ```text
+    /// let others = krates.krates_filtered(DepKind::Dev)?;
+    /// let mut left = others.as_slice();
+    /// for krate in krates.krates() {
+    ///     match left.split_first() {
+    ///         Some((first, rest)) if first.id == krate.id => left = rest,
+    ///         _ => writeln!(text, "{}", krate.name())?,
+    ///     }
+    /// }
+    /// ```
+    pub fn krates_filtered(&self, kind: DepKind) -> Result<Vec<&N>, AllocError>
+        ensures { IfOk result (λ krates. AreReached kind self.now.graph.nodes self.now.graph.edges self.now.members
+            (map (λ krate. krate.now) krates.items)) }
+    {
+        let alloc = self.alloc();
+        let graph = self.graph();
+        let agenda = reached(alloc, kind, graph, self.members())?;
+        let numbers = in_order(as_nodes(alloc, agenda.numbers())?);
+        krates_among(alloc, graph.raw_nodes(), &numbers)
+    }
+}

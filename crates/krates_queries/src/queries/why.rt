@@ -1,0 +1,54 @@
+//! Why a node is there.
+
+ghost use Rattle.std.specs.Prelude.{◌≡◌, IfOk};
+ghost use Rattle.krates_explain.specs.KeptFacts.{subject_view};
+ghost use Rattle.krates_queries.specs.Explained.{node_says};
+ghost use Rattle.krates_queries.specs.Why.{TellsWhy};
+
+use crate::kept::Krates;
+use crate::node::Node;
+use crate::numbers::node_at;
+use krates_derive::Derivation;
+use krates_explain::{Subject, derivation_of, step_of};
+use krates_graph::graph::NodeId;
+use std::alloc::AllocError;
+
+impl<N, E> Krates<N, E> {
+    /// Why a node is there: a list of steps that ends in its crate or its feature, each with its rule, its fact, and the
+    /// numbers of the steps that it uses. `Some` exactly for a node.
+    ///
+    /// No fact stands twice, and each step but the last is used by a later one. Ids are those of the kept crates, with their
+    /// texts. The list is accepted by `derive::check` for the document and the setting of the build. Which derivation it is,
+    /// where there are several, is left open.
+    ///
+    /// The only error is running out of memory. Time O(n) in the facts of the build.
+    ///
+    /// ```text
+    /// if let Some(derivation) = krates.why(node)? {
+    ///     println!(rt; "{} steps", derivation.steps.len())?;
+    /// }
+    /// ```
+    pub fn why(&self, node: NodeId) -> Result<Option<Derivation>, AllocError>
+        ensures { IfOk result (TellsWhy self.now node) }
+    {
+        let Some(there) = node_at(self.nodes(), node.index()) else {
+            return Ok(None);
+        };
+        let subject = subject_of(node.index(), there);
+        let Some(number) = step_of(&self.explanation().steps, &subject) else {
+            unreachable!()
+        };
+        let derivation = derivation_of(self.alloc(), self.explanation(), number)?;
+        Ok(Some(derivation))
+    }
+}
+
+/// What the node of a number says.
+fn subject_of<N>(number: usize, node: &Node<N>) -> Subject<'_>
+    ensures { subject_view result ≡ node_says number node.now }
+{
+    match node {
+        Node::Krate { .. } => Subject::Crate(number),
+        Node::Feature { krate_index, name } => Subject::Feature(krate_index.index(), name.as_str()),
+    }
+}
