@@ -40,7 +40,7 @@ SHOWN_BY = {
     "Document::roots": ("choice_of",),
     "Document::presence": ("standing_of",),
     # the graph of a build: its sheet, nodes and edges, and how they are stored
-    "build_with_metadata": "count_of given_by meanings_by draw_nodes plan store_arrows in_order".split(),
+    "build_with_metadata": "count_of given_by meanings_by draw_nodes plan store_arrows in_order Krates::new".split(),
     # the steps that a build keeps, and those of them that lead to a node
     "facts": ("kept_steps", "Document::lookup"),
     "why": ("derivation_of",),
