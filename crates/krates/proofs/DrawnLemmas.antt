@@ -103,7 +103,7 @@ facts_same r all (f ∷ fs) (n ∷ ns) h =
 
 -- those of the selection are those of the sheet
 pub facts_named : (m : MetadataModel) (s : SettingModel) (t : Sheet) → (h : IsSheetFor m s (sheet_view t)) → map feature_fact h.holds.selection.features.items ≡ map named_fact (sheet_view t).features
-facts_named m s t h = facts_same (resolved m h.graph) h.holds.selection.features.items (sheet_view t).features h.holds.is_sheet.features
+facts_named m s t h = facts_same (resolved m h.graph) s.all_named h.holds.selection.features.items (sheet_view t).features h.holds.is_sheet.features
 
 -- ---- the graph of the sheet
 
