@@ -111,6 +111,11 @@ const EXPLAINED: &[Row] = &[
         "a real?&as=alias;x=dep:alias|real / nodes a real&as=alias;x|real",
         "3 nodes true, 4 facts true",
     ),
+    // two versions, which a feature asks for by one name
+    (
+        "a d?;x=dep:d|d@0.10.0|d@0.9.0 / nodes a d@0.10.0 d@0.9.0;x|d@0.10.0|d@0.9.0 / names all",
+        "4 nodes true, 6 facts true",
+    ),
     // an edge that two features ask for has one step
     ("a b?;x=dep:b y=dep:b|b", "4 nodes true, 5 facts true"),
 ];

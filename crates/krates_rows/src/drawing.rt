@@ -156,6 +156,18 @@ const GRAPHS: &[Row] = &[
         "a b?;b=dep:b w=b?/j|b;j= / nodes a b;b w|b;j / names all",
         "a[1] b 0/b 0/w 1/j | 0>1 0:4 2:0 2:1 3:0 3:4 4:1",
     ),
+    (
+        "a b;x=b/nope|b / nodes a b;x|b / without b / names all",
+        "a[-] 0/x | 1:0",
+    ),
+    (
+        "a d|d@0.10.0|d@0.9.0 / nodes a d@0.10.0 d@0.9.0|d@0.10.0|d@0.9.0 / names all",
+        "a[2] d@0.10.0 d@0.9.0 | 0>1 0>2",
+    ),
+    (
+        "a b? b&dev;w=b?/j|b;j= / nodes a b&normal&dev;w|b;j / names all",
+        "a[-][1] b 0/w 1/j | 0>1(dev) 0:3 2:0 2:3 3:1",
+    ),
     // a crate that needs itself for its tests
     ("a a&dev", "a[0] | 0>0(dev)"),
 ];
