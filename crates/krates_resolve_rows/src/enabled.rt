@@ -72,3 +72,39 @@ const OF_AN_EXCLUDED_CRATE: &[Row] = &[("a b;x=b/nope|b / without b", "+a, a/x")
 fn lost_features_of_an_excluded_crate(rt: HostRuntime) -> Result<(), Fail> {
     hold::<Selected>(rt.alloc(), OF_AN_EXCLUDED_CRATE)
 }
+
+// Where each name has one meaning, it is the same whether a name means the least or all.
+const WITH_ALL_NAMED: &[Row] = &[
+    (
+        "a b?;s=b/k w=b?/j|b;j= k= / names all",
+        "+a+b, a>b normal 0 as 0, a/s, a/w, b/j, b/k",
+    ),
+    (
+        "a b? b&dev;w=b?/j|b;j= / nodes a b&normal&dev;w|b;j / names all",
+        "+a+b, a>b dev 1 as 1, a/w, b/j",
+    ),
+    (
+        "a md-5?;x=md-5/std|md-5&lib=md5;std= / nodes a md-5&as=md5;x|md-5;std / names all",
+        "+a+md-5, a>md-5 normal 0 as 0, a/x, md-5/std",
+    ),
+    ("a;x=nope/y / names all", "+a, a/x"),
+    ("a / nodes a;x / names all", "+a, a/x"),
+    ("a b!|b / names all", "+a+b, a>b normal 0 as 0"),
+    (
+        "a;x=y / nodes a;x / names all",
+        "lost feature: y of path+file:///w/a#0.1.0",
+    ),
+    (
+        "a b&with=z|b / names all",
+        "lost feature: z of path+file:///w/b#0.1.0",
+    ),
+    (
+        "a b;x=b/nope|b / names all",
+        "lost feature: nope of path+file:///w/b#0.1.0",
+    ),
+];
+
+#[test]
+fn names_of_one_meaning(rt: HostRuntime) -> Result<(), Fail> {
+    hold::<Selected>(rt.alloc(), WITH_ALL_NAMED)
+}
