@@ -82,7 +82,8 @@ fn asks_among<'a>(basis: &Basis<'a, '_>, krate: &'a Kid, values: &[String], chil
 
 /// Whether the reference asks for the edges to another crate.
 fn asks_by<'a>(basis: &Basis<'a, '_>, krate: &'a Kid, text: &str, child: &Kid) -> bool
-    ensures { IsTrue result ↔ AsksBy (document_of basis.now) basis.now.setting.now (id_of krate.now) text.now (id_of child.now) }
+    ensures { IsTrue result ↔ AsksBy (document_of basis.now) basis.now.setting.now (id_of krate.now) text.now
+        (id_of child.now) }
 {
     laws::one_reference();
     match ParsedFeature::from(text).feat() {

@@ -33,7 +33,8 @@ pub fn kept_steps<'a>(
     requires ascending { IsStrictlySortedBy id_cmp krates.now }
     requires trace { IsTrace (document_of basis.now) basis.now.setting.now steps.now }
     requires crates { (i : Id) → Derives basis.now (Crate i) → IsKeptIn krates.now i }
-    ensures { IfOk result (λ kept. AreStepsOf (document_of basis.now) basis.now.setting.now krates.now steps.now kept.items) }
+    ensures { IfOk result (λ kept. AreStepsOf (document_of basis.now) basis.now.setting.now krates.now
+        steps.now kept.items) }
 {
     laws::one_reading();
     laws::comparison();
