@@ -17,7 +17,7 @@ fn answer_of(rt: &HostRuntime) -> io::Result<Output> {
     Ok(answer(rt.alloc(), words.as_slice(), value)?)
 }
 
-/// Writes the answer, and answers its status.
+/// Writes the answer, and returns its status.
 fn write_answer(rt: &HostRuntime) -> io::Result<u8> {
     let answer = answer_of(rt)?;
     rt.stdout().write_all(&answer.stdout)?;

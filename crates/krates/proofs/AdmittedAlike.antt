@@ -1,4 +1,4 @@
--- Of documents that differ in order alone, both are admitted or neither.
+-- Documents that differ only in order are both admitted or both refused.
 use Rattle.std.proofs.Common.{◌≡◌, List, [], ◌∷◌, map, Option, Some, None, IsPermutation, refl, sym, ap, ◌∙◌, subst}
 use Rattle.std.proofs.lemmas.List.Sorted.{IsPermutation-sym, IsPermutation-map}
 use Rattle.std.proofs.lemmas.Option.{same_Some}
@@ -11,7 +11,7 @@ use Rattle.krates_rules.specs.Reordering.{ReordersPackage, ReordersPackages, Reo
 use Rattle.krates.specs.Build.{IsResolvable}
 use Rattle.krates.proofs.MovedLists.{moved_zip, zip_turned}
 
--- ---- the other way round
+-- ---- the other direction
 
 package_turned : (a b : PackageModel) → ReordersPackage a b → ReordersPackage b a
 package_turned a b w = record {
@@ -73,7 +73,7 @@ node_texts_moved g h w =
     let same = same_texts ReordersNode (λ (x : NodeModel). x.id) g.nodes w.nodes w.each (λ a b r. sym (ap (λ (x : NodeModel). x.id) r.rest)) in
     subst (λ ts. IsPermutation ts (node_texts h)) (sym same) moved
 
--- texts with their ids, one by one
+-- a text with its id, which has a version
 record ReadsVersion (t : Text) (i : Identity) : Type 0 where
   reads : Reads t i
   version : HasVersion i
@@ -122,7 +122,7 @@ graph_there None b g w is = absurd cc
 graph_there (Some x) None g w is = absurd w
 graph_there (Some x) (Some h) g w is = (h, refl, subst (λ y. ReordersGraph y h) (same_Some x g is) w)
 
--- where one can be resolved, the other can
+-- if one can be resolved, the other can
 pub resolvable_there : (m n : MetadataModel) → Reorders m n → ResolveAlike m n → IsResolvable m → IsResolvable n
 resolvable_there m n w alike r =
     let a = r.admitted in

@@ -35,9 +35,9 @@ package_ids m ids a = subst (λ ts. AllZip Reads ts ids.packages) (texts_of m.pa
 pub ids_distinct : (m : MetadataModel) (ids : IdsModel) → IsAdmitted m ids → AreDistinct ids.packages
 ids_distinct m ids a id t = a.none_doubled id (doubled_package (twice_texts (package_texts m) ids.packages id a.read.packages t))
 
--- ---- those packages
+-- ---- packages with certain ids
 
--- ids that are the same in one sense are so in another
+-- ids for which one property holds where another does
 pub those_same : (all : List Package) (P Q : Id → Type 0) (ids : List Identity) (listed : List Package) → ((i : Id) → P i ↔ Q i) → AreThosePackages all P ids listed → AreThosePackages all Q ids listed
 those_same all P Q ids listed iff h = record {
   read = h.read;
@@ -48,7 +48,7 @@ those_same all P Q ids listed iff h = record {
   );
 }
 
--- a package that is listed has an id beside it, and the other way round
+-- each package that is listed has an id in the list of ids, and the other way round
 record Beside (ids : List Identity) (pkg : Package) : Type 0 where
   id : Identity
   member : Member ids id
@@ -72,7 +72,7 @@ beside_id (p ∷ ps) [] h id m = absurd m
 beside_id (p ∷ ps) (i ∷ ids) h id (inl e) = record { pkg = p; member = inl refl; reads = subst (λ (x : Identity). Reads (id_view p.id) x) e h.0 }
 beside_id (p ∷ ps) (i ∷ ids) h id (inr m) = let w = beside_id ps ids h.1 id m in record { pkg = w.pkg; member = inr w.member; reads = w.reads }
 
--- where each of those ids has a package, the ids of the list are exactly those
+-- if each of these ids has a package, the ids of the list are exactly these
 pub exactly_those : ReadsOnce → (all : List Package) (P : Id → Type 0) (ids : List Identity) (listed : List Package) → AreThosePackages all P ids listed
     → ((i : Id) → P i → (pkg : Package) × Contains all pkg × ReadsAs (id_view pkg.id) i)
     → (i : Id) → P i ↔ Contains (map id_of ids) i
@@ -93,7 +93,7 @@ exactly_those once all P ids listed h has i = (
 
 -- ---- what is kept
 
--- what is kept has a package
+-- a kept crate has a package
 pub has_package : (m : Metadata) (s : SettingModel) (i : Id) → KeepsCrate (metadata_view m) s i → (pkg : Package) × Contains m.packages.items pkg × ReadsAs (id_view pkg.id) i
 has_package m s i h =
     let stands : Stands (resolved (metadata_view m) h.graph) s i = unfold questions in derivable_stands (questions (resolved (metadata_view m) h.graph) s) h.holds in
@@ -101,7 +101,7 @@ has_package m s i h =
     let w = mapped_of package_view m.packages.items stands.included.pkg (member_of _ stands.included.pkg found.among) in
     (w.from, contains_of m.packages.items w.from w.member, subst (λ (p : PackageModel). ReadsAs p.id i) (sym w.is) found.id)
 
--- all that a build says of what it keeps
+-- all that a build says about what it keeps
 pub record Builds (m : Metadata) (s : SettingModel) (d : Division) : Type 0 where
   pub kept : (i : Id) → KeepsCrate (metadata_view m) s i ↔ Contains (map id_of (krate_ids d.kept.items)) i
   pub some : (i : Id) × KeepsCrate (metadata_view m) s i
@@ -132,7 +132,7 @@ builds once m s x selected d those sel div =
       others = those_same m.packages.items (λ i. IsAmong selected i → ⊥) (DropsCrate (metadata_view m) s) (krate_ids d.others.items) (krate_packages d.others.items) (λ i. not_iff _ _ (iff i)) div.others;
     }
 
--- the features that are the selection's are the enabled ones
+-- the features of the selection are the enabled ones
 pub enabled : (m : Metadata) (s : SettingModel) (x : Selection) (d : Division) (P : Id → Text → Type 0) (facts : List Fact) → Selects (metadata_view m) s x → Builds m s d
     → map feature_fact x.features.items ≡ facts → ((i : Id) (f : Text) → P i f ↔ (IsAmong (krate_ids d.kept.items) i × Contains facts (Feature i f)))
     → (i : Id) (f : Text) → IsDerived (metadata_view m) s (Feature i f) ↔ P i f

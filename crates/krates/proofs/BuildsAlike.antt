@@ -1,4 +1,4 @@
--- Builds of documents that differ in order alone.
+-- Builds of documents that differ only in order.
 use Rattle.std.proofs.Common.{◌≡◌, ◌↔◌, List, [], ◌∷◌, Bool, true, false, ◌||◌, Option, refl, sym, ap, ◌∙◌, subst, inl, inr}
 use Rattle.std.proofs.Math.Bool.{or_comm}
 use Rattle.std.proofs.lemmas.Option.{same_Some}
@@ -73,14 +73,14 @@ names_same m n w names =
 
 -- ---- refusals
 
--- a sheet of the first is a sheet of the second, where no id of that is doubled
+-- a sheet for the first document is one for the second, if no id is doubled in that
 pub sheet_for_there : IsSheetThere → (p q : MetadataModel) (s : SettingModel) (t : Sheet) → Reorders p q → IsResolvable q → IsSheetFor p s t → IsSheetFor q s t
 sheet_for_there law p q s t w r h =
     let a = r.admitted in
     let there = law p q w h.graph a.graph h.has_graph a.has_graph a.none_doubled s h.holds.selection h.holds.selected t h.holds.is_sheet in
     record { graph = a.graph; has_graph = a.has_graph; holds = record { selection = h.holds.selection; selected = there.0; is_sheet = there.1 } }
 
--- and what is drawn of both is the same
+-- and both are drawn the same
 drawn_same : IsDrawnAlike → (p q : MetadataModel) (s : SettingModel) (t v : Sheet) → Reorders p q → IsResolvable q → IsSheetFor p s t → IsSheetFor q s v → DrawAlike t v
 drawn_same law p q s t v w r h k =
     let a = r.admitted in

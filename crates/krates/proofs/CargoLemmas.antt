@@ -1,4 +1,4 @@
--- What a build of a document is, where cargo may have written the document.
+-- What a build gives of a document that cargo may have written.
 use Rattle.std.proofs.Common.{Option, Result, Ok, Err, IfOk, IfErr, OnOk}
 use Rattle.krates_cm.specs.Document.{metadata_view}
 use Rattle.krates_cm.specs.declared.metadata.Metadata.{Metadata}

@@ -1,4 +1,4 @@
--- What an answer of an index corrects of documents that differ in order alone differs in order alone.
+-- Documents that differ only in order still do after they are corrected by the same answer of an index.
 use Rattle.std.proofs.Common.{◌≡◌, List, Option, Some, None, refl, sym, ap, ◌∙◌, subst}
 use Rattle.std.proofs.lemmas.List.Sorted.{IsPermutation-sym}
 use Rattle.std.specs.List.{AllZip}
@@ -12,7 +12,7 @@ use Rattle.krates_document.specs.CorrectedDocument.{IsCorrectedDocument}
 use Rattle.krates_document.proofs.CorrectedDocument.{views_corrected, rest_kept}
 use Rattle.krates.proofs.MovedLists.{moved_zip, zipped_through}
 
--- a package has one correction, but for the order of its features
+-- a package has only one correction, up to the order of its features
 abbrev pub OneCorrection : Type 0
 OneCorrection = (index : IndexModel) (before a b : PackageModel) → IsCorrected index before a → IsCorrected index before b
     → (b ≡ with_features a b.features) × ((name : Text) → named a.features name ≡ named b.features name)
@@ -46,7 +46,7 @@ correction_same a b index corrected same h = record {
   no_other = λ name none r. h.no_other name (sym (joined_same a b index same name) ∙ none) (λ x. r (refers_same b a index (λ n. sym (same n)) name x));
 }
 
--- a correction of the one is, with the features that it gives, one of the other
+-- a correction of the one package, with the features that it gives, is a correction of the other
 moved_correction : (index : IndexModel) (a c : PackageModel) (others : FeaturesModel) → ((name : Text) → named a.features name ≡ named others name) → IsCorrected index (with_features a others) c
     → (d : PackageModel) × IsCorrected index a d × ((name : Text) → named d.features name ≡ named c.features name) × (c ≡ with_features d c.features)
 moved_correction index a c others same (unknown none is) =

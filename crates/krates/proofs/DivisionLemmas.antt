@@ -26,7 +26,7 @@ use Rattle.krates.proofs.MappedLists.{map_filter, zip_maps}
 use Rattle.krates_queries.proofs.OrderedIds.{Compares, id_of_equal}
 use Rattle.krates.proofs.SearchedKrates.{is_among}
 
--- a text is read as at most one id
+-- a text reads as at most one id
 abbrev pub ReadsOnce : Type 0
 ReadsOnce = (t : Text) (a b : Identity) → Reads t a → Reads t b → a ≡ b
 
@@ -95,7 +95,7 @@ less_of Less a b = refl
 less_of Equal a b = absurd cc
 less_of Greater a b = absurd cc
 
--- in order and distinct is in strict order
+-- sorted without doubles is strictly sorted
 strictly : Compares → (krates : List Krate) → IsSorted krate_cmp krates → IsDistinct same (krate_ids krates) → IsStrictlySortedBy id_cmp (krate_ids krates)
 strictly o [] s distinct = sorted_from_all_adjacent o.total [] empty_identity (λ k lt. absurd (omega arith))
 strictly o (first ∷ more) s distinct =
@@ -116,7 +116,7 @@ record Paired (krates : List Krate) (pkg : Package) : Type 0 where
   member : Member krates krate
   is : krate.pkg ≡ pkg
 
--- what the packages are, in another order
+-- the packages with their ids, in another order
 record AreFor (ps : List Package) (krates : List Krate) : Type 0 where
   reads : (k : Krate) → Member krates k → Reads (id_view k.pkg.id) k.id
   listed : (k : Krate) → Member krates k → Contains ps k.pkg
@@ -135,7 +135,7 @@ are_for ps ids krates h perm =
           record { krate = w.from; member = member_of krates w.from (Contains-permutation pairs krates w.from perm (contains_of pairs w.from w.member)); is = w.is };
     }
 
--- what is listed of them
+-- which packages are listed
 listed_of : (ps : List Package) (krates : List Krate) (q : Identity → Bool) (P : Id → Type 0) → AreFor ps krates → ((i : Identity) → (q i ≡ true) ↔ P (id_of i))
     → (pkg : Package) → Contains (krate_packages (filter (λ k. q k.id) krates)) pkg → Contains ps pkg × HasIdAmong P pkg
 listed_of ps krates q P are tells pkg c =
@@ -200,7 +200,7 @@ divides o once ps ids selected krates d h distinct perm sorted kept others =
       others = rw others (those once ps krates (λ i. not (has_same selected i)) (λ i. IsAmong selected i → ⊥) are ascending (tells_not o selected));
     }
 
--- where the crates are divided at all
+-- the division, if it succeeds
 pub if_divides : Compares → ReadsOnce → (ps : List Package) (ids selected : List Identity) (krates : List Krate) (r : Result Division AllocError)
     → AllZip Reads (map (λ p. id_view p.id) ps) ids → AreDistinct ids → IsPermutation (paired ps ids) krates → IsSorted krate_cmp krates
     → IfOk r (λ d. d.kept.items ≡ filter (is_selected selected) krates) → IfOk r (λ d. d.others.items ≡ filter (λ k. not (is_selected selected k)) krates) → IfOk r (IsDivision ps selected)

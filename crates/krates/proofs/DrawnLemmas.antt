@@ -1,4 +1,4 @@
--- The graph of what is kept, put together.
+-- The graph of what is kept, assembled.
 use Rattle.std.proofs.Common.{◌≡◌, ◌↔◌, ◌∙◌, ℕ, Bool, ◌<◌, ◌^◌, List, [], ◌∷◌, All, Contains, Result, Ok, Err, IfOk, length, map, refl, sym, ap, subst}
 use Rattle.std.specs.BTreeSet.{BTreeSet}
 use Rattle.std.specs.List.{AllZip, FoldsTo}
@@ -66,7 +66,7 @@ sheet_told m s x r t sel h f =
       holds = record { selection = x; selected = rw (← h.holds) selected; is_sheet = rw (← h.holds) (f selected) };
     }
 
--- of a call that may refuse
+-- for a call that may be refused
 pub if_sheet_told : {E : Type 0} (m : MetadataModel) (s : SettingModel) (x : Selection) (r : Resolved) (result : Result Sheet E) → HasGraphWith m (λ g. r ≡ resolved m g)
     → IfOk result (λ t. IsSelection r s x → IsSheet r s x (sheet_view t)) → IfOk result (λ t. Selects m s x → IsSheetFor m s (sheet_view t))
 if_sheet_told m s x r (Ok t) h f = λ sel. sheet_told m s x r (sheet_view t) sel h f
@@ -101,7 +101,7 @@ facts_same r all (f ∷ fs) [] h = absurd h
 facts_same r all (f ∷ fs) (n ∷ ns) h =
     ap (λ gs. feature_fact f ∷ gs) (facts_same r all fs ns h.1) ∙ ap (λ i. Feature i (text_view f.name) ∷ map named_fact ns) (sym h.0.krate) ∙ ap (λ t. Feature n.krate t ∷ map named_fact ns) (sym h.0.name)
 
--- those of the selection are those of the sheet
+-- the features of the selection are those of the sheet
 pub facts_named : (m : MetadataModel) (s : SettingModel) (t : Sheet) → (h : IsSheetFor m s (sheet_view t)) → map feature_fact h.holds.selection.features.items ≡ map named_fact (sheet_view t).features
 facts_named m s t h = facts_same (resolved m h.graph) s.all_named h.holds.selection.features.items (sheet_view t).features h.holds.is_sheet.features
 
@@ -145,11 +145,11 @@ are_nodes krates nodes e first s few features numbered =
       numbered = numbered;
     }
 
--- ends that stand, said of other lists of the same lengths
+-- ends that stand, for other lists of the same lengths
 pub stand_there : (n m : ℕ) (ls ks : List Line) → All (HasEnds n) ls → n ≡ m → ls ≡ ks → All (HasEnds m) ks
 stand_there n m ls ks h e f = subst (λ xs. All (HasEnds m) xs) f (subst (λ x. All (HasEnds x) ls) e h)
 
--- ---- what a build has in hand
+-- ---- the parts of a build
 
 -- the ids of the sheet are those of the selection
 selected_ids : (m : MetadataModel) (s : SettingModel) (t : Sheet) → (h : IsSheetFor m s (sheet_view t)) → map id_of (sheet_ids t.krates.items) ≡ map id_of h.holds.selection.krates.items
@@ -158,7 +158,7 @@ selected_ids m s t h = viewed_ids t.krates.items ∙ sym (ids_same (resolved m h
 selects : (m : MetadataModel) (s : SettingModel) (t : model.Sheet) → (h : IsSheetFor m s t) → Selects m s h.holds.selection
 selects m s t h = record { graph = h.graph; has_graph = h.has_graph; holds = h.holds.selected }
 
--- the division of a sheet divides into what has to be kept and the rest
+-- dividing by a sheet gives what has to be kept and the rest
 pub builds_sheet : ReadsOnce → (m : Metadata) (s : SettingModel) (t : Sheet) (d : Division) → IsSheetFor (metadata_view m) s (sheet_view t)
     → IsDivision m.packages.items (sheet_ids t.krates.items) d → Builds m s d
 builds_sheet once m s t d h div = builds once m s h.holds.selection (sheet_ids t.krates.items) d (selected_ids (metadata_view m) s t h) (selects (metadata_view m) s (sheet_view t) h) div
@@ -192,7 +192,7 @@ have_crates m s t d h b f member =
     let kept = feature_kept (metadata_view m) s x (selects (metadata_view m) s (sheet_view t) h) i name (subst (λ fs. Contains fs fact) (sym facts) here) in
     stands_at_some (krate_ids d.kept.items) i (member_of (map id_of (krate_ids d.kept.items)) i ((b.kept i).0 kept))
 
--- the nodes of the graph are in order
+-- the nodes of the graph are sorted
 pub graph_nodes : Compares → {N E : Type 0} (made : Package → N → Type 0) (made_edge : Edge → E → Type 0) (m : Metadata) (s : SettingModel) (t : Sheet) (d : Division) (g : StoredGraph (Node N) E)
     → IsSheetFor (metadata_view m) s (sheet_view t) → IsOrdered t → Builds m s d → IsGraphOf made made_edge (sheet_view t) d.kept.items g → length d.kept.items < 2 ^ 32 → length g.nodes < 2 ^ 32 → AreNodes g.nodes
 graph_nodes o made made_edge m s t d g h ordered b w few numbered =
@@ -203,11 +203,11 @@ graph_nodes o made made_edge m s t d g h ordered b w few numbered =
     subst (λ (is : List Identity). IsEnabledIn (crate_ids g.nodes) (crate_features g.nodes) i f ↔ (IsAmong is i × Contains (map named_fact (sheet_view t).features) (Feature i f))) (sym w.ids) (w.enabled i f) in
     are_nodes d.kept.items g.nodes w.ids w.first b.packages.ascending few (are_features o t g.nodes w.drawing.nodes ids ascending have ordered.features enabled_by) numbered
 
--- the ends of the edges of a sheet stand
+-- both ends of each edge of a sheet are nodes
 pub sheet_stands : EndsStand → (m : MetadataModel) (s : SettingModel) (t : model.Sheet) → IsSheetFor m s t → All (HasEnds (length (spots t))) (lines t)
 sheet_stands stand m s t h = stand (resolved m h.graph) s h.holds.selection h.holds.selected t h.holds.is_sheet
 
--- all that a build says of what it keeps and reports
+-- all that a build says about what it keeps and reports
 pub is_built : {F N E : Type 0} (filters : F → Package → F → Type 0) (made : Package → N → Type 0) (made_edge : Edge → E → Type 0) (m : Metadata) (s : SettingModel) (t : Sheet) (d : Division)
     (g : StoredGraph (Node N) E) (members : List ℕ) (before after : F) (found : Selection) → IsSheetFor (metadata_view m) s (sheet_view t) → Builds m s d → IsGraphOf made made_edge (sheet_view t) d.kept.items g
     → FoldsTo filters before (krate_packages d.others.items) after → Selects (metadata_view m) s found → IsResolvable (metadata_view m) → IsNumbered g

@@ -1,4 +1,4 @@
--- Putting enabled features into sets, one for each crate.
+-- Putting enabled features into sets, one set for each crate.
 use Rattle.std.proofs.Common.{◌≡◌, ◌↔◌, ◌⊎◌, ℕ, zero, suc, ◌<◌, List, [], ◌∷◌, ◌++◌, length, get_or, map, All, Some, slice_get, slice_set, Contains, refl, sym, ap, ◌∙◌, subst, inl, inr, arith}
 use Rattle.std.proofs.lemmas.List.{get_or-map, length-map, map-append, map-set}
 use Rattle.std.proofs.lemmas.Option.{slice_get-get_or}
@@ -22,7 +22,7 @@ use Rattle.krates_queries.proofs.OrderedIds.{stands_within}
 
 -- ---- by recursion on the lists
 
--- the name is in a list beside the id
+-- the name is in the list of the id
 abbrev Beside : List Identity → List (List Text) → Id → Text → Type 0
 Beside [] ls i f = ⊥
 Beside (x ∷ ids) [] i f = ⊥
@@ -56,9 +56,9 @@ enabled_in (x ∷ ids) (l ∷ ls) i f (inr more) =
       among = w.among;
     }
 
--- ---- one place is set
+-- ---- one set is replaced
 
--- to the left what is beside the ids after the list at the place is set, to the right what was
+-- what stands beside the ids after one list is replaced, from what stood there before
 set_beside : (ids : List Identity) (ls : List (List Text)) (n : ℕ) (x : Identity) (l : List Text) (name : Text) → slice_get ids n ≡ Some x → n < length ls
     → ((d : List Text) (f : Text) → Member l f ↔ (Member (get_or ls n d) f ⊎ (name ≡ f)))
     → (i : Id) (f : Text) → Beside ids (slice_set ls n l) i f ↔ (Beside ids ls i f ⊎ ((id_of x ≡ i) × (name ≡ f)))
@@ -134,7 +134,7 @@ put_there ids feature sets place set stands lt gets i f =
       ]))),
     )
 
--- where its crate isn't listed, nothing is changed
+-- if its crate isn't listed, nothing changes
 pub put_nowhere : (ids : List Identity) (feature : EnabledFeature) (sets : List (BTreeSet (String Global))) → ((n : ℕ) → StandsAt ids (id_of feature.krate) n → ⊥) → IsPut ids feature sets sets
 put_nowhere ids feature sets none i f = (
   λ h. inl h,
@@ -183,7 +183,7 @@ one_more_enabled ids features feature before after so put i f =
       ],
     )
 
--- ---- what the body has in hand
+-- ---- the places in the code
 
 -- a place where an id stands has a set
 pub place_within : (krates : List Krate) (sets : List (BTreeSet (String Global))) (id : Id) (n : ℕ) → length sets ≡ length krates → StandsAt (krate_ids krates) id n → n < length sets

@@ -53,17 +53,17 @@ use Rattle.krates_queries.specs.declared.node.Node.TheVariants as nodes_are
 
 -- ---- the steps of a selection
 
--- the document's graph is one
+-- a document has only one graph
 pub explained_in : (m : MetadataModel) (s : SettingModel) (x : Selection) (r : Resolved) → IsExplainedOf m s x → HasGraphWith m (λ g. r ≡ resolved m g) → IsExplained r s x
 explained_in m s x r e h =
     let same : e.graph ≡ h.graph = cc (e.has_graph, h.has_graph) in
     rw h.holds (subst (λ g. IsExplained (resolved m g) s x) same e.holds)
 
--- the crates with a derivation are those of the selection
+-- the derivable crates are those of the selection
 pub crates_in : (r : Resolved) (s : SettingModel) (x : Selection) → IsSelection r s x → (i : Id) → Derivable (questions r s) (Crate i) → IsKeptIn x.krates.items i
 crates_in r s x sel i d = stands_at_some x.krates.items i (member_of (map id_of x.krates.items) i (crate_among x i ((sel.facts (Crate i)).0 d)))
 
--- a fact of a list of steps stands in one of them
+-- a fact of a list of steps belongs to one of the steps
 step_with : (steps : List StepModel) (f : Fact) → Contains (facts_in steps) f → (x : StepModel) × Contains steps x × (x.fact ≡ f)
 step_with steps f c =
     let at = place_in (facts_in steps) f c in
@@ -97,7 +97,7 @@ steps_for m s x r steps sel e h a =
       };
     }
 
--- ---- the same of other ids that are equal
+-- ---- the same for equal ids
 
 same_at : (is js : List Identity) (n : ℕ) → map id_of is ≡ map id_of js → id_at is n ≡ id_at js n
 same_at is js n e = ap (λ (ids : List Id). get_or ids n no_id) e
@@ -125,7 +125,7 @@ moved m s is js steps e a =
       explained = subst (IsExplainedBy m s) (sym same) a.explained;
     }
 
--- the ids of the kept packages are those of the selection, place by place
+-- the ids of the kept packages are those of the selection, in the same order
 kept_same : Compares → (m : Metadata) (s : SettingModel) (d : Division) (x : Selection) → Builds m s d → Selects (metadata_view m) s x → map id_of (krate_ids d.kept.items) ≡ map id_of x.krates.items
 kept_same o m s d x b sel =
     let ids : List Identity = krate_ids d.kept.items in

@@ -1,4 +1,4 @@
--- The features of a drawn graph: they are in the order of the sheet, and those that the crates have enabled.
+-- The features of a drawn graph stand in the order of the sheet, and are those enabled for the crates.
 use Rattle.std.proofs.Common.{◌≡◌, ◌↔◌, ◌∙◌, ℕ, zero, suc, ◌<◌, List, [], ◌∷◌, ◌++◌, Bool, true, false, cond, Contains, Some, slice_get, length, get_or, map, refl, sym, ap, subst, inl, inr, arith, Ordering, Less, Equal, Greater}
 use Rattle.std.proofs.lemmas.Bool.{cases_order}
 use Rattle.std.proofs.lemmas.Map.Keys.{Less-from_sorted}
@@ -36,7 +36,7 @@ use Rattle.krates_queries.proofs.OrderedIds.{Compares, equal_of, id_of_equal, on
 
 -- ---- the names of the features are those of the sheet
 
--- the number of its crate and the name
+-- the number of its crate, and its name
 abbrev pub named_key : sheet.Sheet → sheet.Named → ℕ × Text
 named_key t n = (crate_number t n.krate, n.name)
 
@@ -87,7 +87,7 @@ number_is o (x ∷ ids) (k ∷ ks) i (suc n) e s h =
     ap (λ b. cond b 0 (suc (place_of (is_crate i) ks))) (not_equal k.id i apart (id_eq k.id i) refl)
     ∙ ap suc (number_is o ids ks i n rest s.1 (record { there = h.there; at = h.at; same = h.same }))
 
--- ---- numbers are in the order of ids
+-- ---- numbers follow the order of ids
 
 less_number : (m n : ℕ) → m < n → (r : Ordering) → MatchOrdering r (m < n) (m ≡ n) (n < m) → r ≡ Less
 less_number m n lt Less h = refl
@@ -136,7 +136,7 @@ unfolding IsStrictlySortedBy
 into R S f g [] h s = tt
 into R S f g (x ∷ xs) h s = (all_into R S f g x xs (λ b m. h x b (inl refl) (inr m)) s.0, into R S f g xs (λ a b m n. h a b (inr m) (inr n)) s.1)
 
--- the crate of each feature stands among these
+-- the crate of each feature is in this list
 abbrev pub HaveCrates : List Identity → List Named → Type 0
 HaveCrates ids fs = (f : Named) → Member fs f → (n : ℕ) × StandsAt ids (id_of f.feature.krate) n
 
@@ -168,7 +168,7 @@ keys_seen : (t : Sheet) (fs : List Named) → map (named_key (sheet_view t)) (ma
 keys_seen t [] = refl
 keys_seen t (f ∷ fs) = ap (λ xs. key_of t f ∷ xs) (keys_seen t fs)
 
--- ---- the features are in order, and those that the crates have enabled
+-- ---- the features are sorted, and are those enabled for the crates
 
 pub are_features : Compares → {N : Type 0} (t : Sheet) (nodes : List (Node N)) → map node_spot nodes ≡ spots (sheet_view t) → map id_of (crate_ids nodes) ≡ map (λ (k : sheet.Krate). k.id) (sheet_view t).krates
     → IsStrictlySortedBy id_cmp (crate_ids nodes) → HaveCrates (crate_ids nodes) t.features.items → IsStrictlySortedBy feature_cmp (map (λ (f : Named). f.feature) t.features.items)

@@ -1,4 +1,4 @@
--- Of documents that differ in order alone, the same packages are listed where the same ids are asked for.
+-- Documents that differ only in order list the same packages for the same ids.
 use Rattle.std.proofs.Common.{◌≡◌, ◌↔◌, List, [], ◌∷◌, IsPermutation, Less, refl, sym, ap, ◌∙◌, subst, inl, inr}
 use Rattle.std.proofs.lemmas.List.Sorted.{IsPermutation-sym, Contains-permutation}
 use Rattle.std.specs.Cmp.{IsTotalOrder}
@@ -22,11 +22,11 @@ use Rattle.krates_drawing.proofs.Members.{Member, member_of, contains_of, mapped
 abbrev Listed : Type 0
 Listed = Package × Identity
 
--- the packages are the same, and have the same id beside them
+-- the packages are the same and have the same id
 abbrev IsAlike : Listed → Listed → Type 0
 IsAlike a b = IsSamePackage a.0 b.0 × (a.1 ≡ b.1)
 
--- each of the first list has its like in the second
+-- each of the first list has its counterpart in the second
 record Like (x : Listed) (ys : List Listed) : Type 0 where
   other : Listed
   member : Member ys other
@@ -94,7 +94,7 @@ each i [] j h m = absurd m
 each i (k ∷ ids) j h (inl e) = subst (λ z. id_cmp i z ≡ Less) e h.0
 each i (k ∷ ids) j h (inr m) = each i ids j h.1 m
 
--- what is paired, and what a pair is of
+-- a pair, and the package and id that it is made of
 record Paired (xs : List Package) (ids : List Identity) (z : Listed) : Type 0 where
   pkg : Member xs z.0
   id : Member ids z.1
@@ -189,7 +189,7 @@ same_back p q y w m =
 same_text : (x y : Package) → IsSamePackage x y → id_view y.id ≡ id_view x.id
 same_text x y w = ap (λ (z : PackageModel). z.id) w.rest
 
--- a package of the first that is listed is like one of the second that is listed
+-- a listed package of the first document has a counterpart among those of the second
 like_there : ReadsOnce → (p q : Metadata) (P Q : Id → Type 0) (is js : List Identity) (xs ys : List Package) → Reorders (metadata_view p) (metadata_view q) → ((i : Id) → P i → Q i)
     → AreThosePackages p.packages.items P is xs → AreThosePackages q.packages.items Q js ys → (z : Listed) → Member (zip xs is) z → Like z (zip ys js)
 like_there once p q P Q is js xs ys w iff x y z m =

@@ -1,4 +1,4 @@
--- Nodes made of what was drawn and of packages, one by one and as lists.
+-- Nodes made from what was drawn and from packages, one by one and as lists.
 use Rattle.std.proofs.Common.{◌≡◌, ◌∙◌, ℕ, suc, List, [], ◌∷◌, ◌++◌, flat_map, length, map, Option, refl, sym, ap, subst}
 use Rattle.std.specs.BTreeSet.{BTreeSet}
 use Rattle.std.specs.Global.{Vec}
@@ -65,13 +65,13 @@ parted t (k ∷ ks) fs (drawn.Krate id m ∷ xs) e =
 
 -- ---- nodes that are made of both
 
--- the features hold no crate
+-- the features contain no crate
 no_crates : (xs : List Spot) → (crate_ids (flat_map feature_in xs) ≡ []) × (crate_values (flat_map feature_in xs) ≡ []) × (crate_features (flat_map feature_in xs) ≡ []) × CratesFirst (flat_map feature_in xs)
 no_crates [] = (refl, refl, refl, tt)
 no_crates (drawn.Krate id m ∷ xs) = no_crates xs
 no_crates (drawn.Feature krate_index name ∷ xs) = let w = no_crates xs in (w.0, w.1, w.2, w.0)
 
--- all that is said of the nodes
+-- all that is said about the nodes
 pub record AreMadeOf (t : Sheet) (krates : List Krate) (sets : List Set) (nodes : List (Node Package)) : Type 0 where
   pub ids : crate_ids nodes ≡ krate_ids krates
   pub values : crate_values nodes ≡ krate_packages krates
@@ -149,7 +149,7 @@ many : {X Y : Type 0} (f : X → Y) (xs : List X) → length xs ≡ length (map 
 many f [] = refl
 many f (x ∷ xs) = ap suc (many f xs)
 
--- the same, of what a body has in hand
+-- the same, for the values in the code
 pub drawn_from : (t : Sheet) (krates : List Krate) (sets : List Set) (xs : List Spot) (maps : List Mapping) (features nodes : List (Node Package)) → length sets ≡ length krates → map spot_view xs ≡ spots t
     → map id_of (krate_ids krates) ≡ map (λ (k : sheet.Krate). k.id) t.krates → map (λ (m : Mapping). m.items) maps ≡ flat_map mapping_in xs → features ≡ flat_map feature_in xs
     → nodes ≡ map crate_node (zip krates (zip sets maps)) ++ features → AreDrawnNodes t krates sets nodes
@@ -159,7 +159,7 @@ drawn_from t krates sets xs maps features nodes e d i m f n =
 pub count_of : {X Y : Type 0} (f : X → Y) (xs : List X) (ys : List Y) → map f xs ≡ ys → length xs ≡ length ys
 count_of f xs ys e = many f xs ∙ ap length e
 
--- ---- values in the place of packages
+-- ---- other values in place of packages
 
 pub record AreAlike {N : Type 0} (made : Package → N → Type 0) (xs : List (Node Package)) (ys : List (Node N)) : Type 0 where
   pub ids : crate_ids ys ≡ crate_ids xs

@@ -3,7 +3,7 @@ use Rattle.std.proofs.Common.{◌≡◌, List, [], ◌∷◌, map, filter, Bool,
 use Rattle.std.specs.List.{AllZip}
 use Rattle.krates_drawing.proofs.Members.{Member}
 
--- a filter by what a function gives, before or after it
+-- filtering by the values of a function, before or after applying it
 map_filter_step : {X Y : Type 0} (f : X → Y) (q : Y → Bool) (x : X) (xs : List X) (b : Bool) → map f (filter (λ z. q (f z)) xs) ≡ filter q (map f xs)
     → map f (cond b (x ∷ filter (λ z. q (f z)) xs) (filter (λ z. q (f z)) xs)) ≡ cond b (f x ∷ filter q (map f xs)) (filter q (map f xs))
 map_filter_step f q x xs true e = ap (λ ys. f x ∷ ys) e

@@ -1,4 +1,4 @@
--- The numbers of the crates that have one of some ids, and those of the kept members of a document.
+-- The numbers of the crates with given ids, and those of a document's kept members.
 use Rattle.std.proofs.Common.{◌≡◌, ◌↔◌, ◌⊎◌, ◌∙◌, ℕ, ◌+◌, ◌<◌, List, [], ◌∷◌, ◌++◌, All, Contains, Some, length, take, get_or, refl, sym, ap, subst, inl, inr}
 use Rattle.std.proofs.lemmas.List.{take_more}
 use Rattle.std.proofs.lemmas.List.Elements.{Contains-append_left, Contains-get_or, Contains-push, Contains-push_cases}
@@ -70,7 +70,7 @@ pub numbers_same : (ids wanted : List Identity) (i : ℕ) (x : Identity) (number
 numbers_same ids wanted i x numbers lt is so none =
     subst (λ (ws : List Identity). AreNumbersOf ids ws numbers) (sym (taken wanted i x lt is)) (left_out ids (take i wanted) x numbers so none)
 
--- ---- in order, each once
+-- ---- sorted, each once
 
 pub numbers_once : (ids wanted : List Identity) (numbers sorted : List ℕ) → IsPermutation numbers sorted → AreNumbersOf ids wanted numbers → AreNumbersOf ids wanted (dedup eqb sorted)
 numbers_once ids wanted numbers sorted p so n = (

@@ -1,4 +1,4 @@
--- Two lists that go place by place, the first of which is put in another order: the second can be put in an order that goes with it.
+-- Two matching lists, the first of which is permuted: the second can be permuted to match it.
 use Rattle.std.proofs.Common.{◌≡◌, ℕ, zero, suc, ◌<◌, List, [], ◌∷◌, length, get_or, IsPermutation, refl, ap, arith}
 use Rattle.std.proofs.lemmas.List.Sorted.{IsPermutation-keeps, IsPermutation-refl, length_permutation as length_moved}
 use Rattle.std.specs.List.{AllZip, slice_set, swap}
@@ -30,7 +30,7 @@ same_length R [] (u ∷ us) z = absurd z
 same_length R (x ∷ xs) [] z = absurd z
 same_length R (x ∷ xs) (u ∷ us) z = ap suc (same_length R xs us z.1)
 
--- the second list in an order that goes with ys
+-- the second list, permuted to match `ys`
 pub record MovedZip {A B : Type 0} (R : A → B → Type 0) (ys : List A) (us : List B) : Type 0 where
   pub list : List B
   pub zip : AllZip R ys list
@@ -52,7 +52,7 @@ moved_zip {B = B} R xs ys us moved z =
       };
     }) ys moved
 
--- two lists that go with one go with each other
+-- two lists that match a third match each other
 pub zipped_through : {A B C : Type 0} (R : A → B → Type 0) (S : A → C → Type 0) (T : B → C → Type 0) (xs : List A) (us : List B) (vs : List C) → AllZip R xs us → AllZip S xs vs
     → ((a : A) (b : B) (c : C) → R a b → S a c → T b c) → AllZip T us vs
 zipped_through R S T [] [] [] r s h = tt

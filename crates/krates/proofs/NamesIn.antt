@@ -1,4 +1,4 @@
--- The names in a set, before and after one more.
+-- The names in a set, before and after one more is inserted.
 use Rattle.std.proofs.Common.{◌≡◌, ◌↔◌, ◌⊎◌, List, [], ◌∷◌, map, Bool, true, false, cond, ◌||◌, string_bytes, refl, sym, ap, ◌∙◌, inl, inr}
 use Rattle.std.proofs.Math.Bool.{or_comm}
 use Rattle.std.proofs.lemmas.Map.Text.{is_eq-slice_cmp}

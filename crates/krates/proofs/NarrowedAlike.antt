@@ -1,4 +1,4 @@
--- A build under a narrower setting keeps a part, whatever correction of the document by one answer of an index each build looks at.
+-- A build under a narrower setting keeps a part, however one answer of an index corrected the document for each build.
 use Rattle.std.proofs.Common.{◌≡◌, List, [], ◌∷◌, Option, Some, None, true, false, Contains, refl, sym, ap, subst}
 use Rattle.std.proofs.lemmas.List.Sorted.{IsPermutation-refl}
 use Rattle.std.specs.List.{AllZip}
@@ -24,7 +24,7 @@ use Rattle.krates.proofs.ListedAlike.{same_there}
 use Rattle.krates.proofs.NarrowedBuilds.{part, packages_part, sheets_part, refusals}
 use Rattle.krates.proofs.SeenLemmas.{resolvable_seen}
 
--- ---- a document differs from itself in order alone
+-- ---- a document differs from itself only in order
 
 own_packages : (xs : List PackageModel) → AllZip ReordersPackage xs xs
 own_packages [] = tt

@@ -24,7 +24,7 @@ use Rattle.krates.proofs.DivisionLemmas.{ReadsOnce}
 use Rattle.krates_drawing.proofs.Members.{Member, member_of}
 use Rattle.krates.proofs.SelectionFacts.{derived_of}
 
--- ---- a document that is admitted has no other refusal
+-- ---- an admitted document has no other refusal
 
 partner : {A B : Type 0} (R : A → B → Type 0) (xs : List A) (us : List B) (a : A) → AllZip R xs us → Member xs a → (u : B) × Member us u × R a u
 partner R [] us a z m = absurd m
@@ -68,7 +68,7 @@ none_invalid once m g ids t a (bad_version n among c i reads none) =
 pub part : IsNarrowing → (p : MetadataModel) (wide narrow : SettingModel) → IsNarrower wide narrow → (f : Fact) → IsDerived p narrow f → IsDerived p wide f
 part law p wide narrow step f h = record { graph = h.graph; has_graph = h.has_graph; holds = (law (resolved p h.graph) wide narrow step).facts f h.holds }
 
--- each package that is listed of what is kept under the narrower is listed of what is kept under the wider
+-- each package listed as kept under the narrower setting is listed as kept under the wider one
 pub packages_part : (p : Metadata) (wide narrow : SettingModel) → ((f : Fact) → IsDerived (metadata_view p) narrow f → IsDerived (metadata_view p) wide f) → (is js : List Identity) (xs ys : List Package)
     → AreThosePackages p.packages.items (KeepsCrate (metadata_view p) narrow) is xs → AreThosePackages p.packages.items (KeepsCrate (metadata_view p) wide) js ys
     → (pkg : Package) → Contains xs pkg → Contains ys pkg

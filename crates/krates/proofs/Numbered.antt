@@ -91,7 +91,7 @@ numbered made t g d w = record {
   edges = below (length g.edges) (length (lines t)) (zipped (IsStoredAs made) (lines t) g.edges d.edges) w.edges;
 }
 
--- of a call that may refuse
+-- for a call that may be refused
 pub if_within : {X : Type 0} (limits : Limits) (t : Sheet) (result : Result X Error) → IsWithin limits t → IfOk result (λ _. IsWithin limits t)
 if_within limits t (Ok x) w = w
 if_within limits t (Err e) w = tt
@@ -101,7 +101,7 @@ pub if_memory : {X : Type 0} (limits : Limits) (t : Sheet) (result : Result X Er
 if_memory limits t (Ok x) h = tt
 if_memory limits t (Err e) h = subst (DrawingRefusal limits t) (sym h) tt
 
--- the crates are among the nodes
+-- there are no more crates than nodes
 no_more_crates : {N : Type 0} (nodes : List (Node N)) → length (crate_ids nodes) ≤ length nodes
 no_more_crates [] = omega arith
 no_more_crates (node.Krate id krate features mapping ∷ nodes) = let le = no_more_crates nodes in omega (arith, le)
@@ -110,7 +110,7 @@ no_more_crates (node.Feature krate_index name ∷ nodes) = let le = no_more_crat
 few_crates : {N : Type 0} (nodes : List (Node N)) (n : ℕ) → n ≡ length (crate_ids nodes) → length nodes < 2 ^ 32 → n < 2 ^ 32
 few_crates nodes n e lt = let le = no_more_crates nodes in omega (arith, e, le, lt)
 
--- where the nodes can be numbered, so can the crates, and the nodes are in order
+-- if the nodes can be numbered, so can the crates, and the nodes are sorted
 pub numbered_graph : Compares → {N E : Type 0} (made : Package → N → Type 0) (made_edge : Edge → E → Type 0) (m : Metadata) (s : SettingModel) (t : SheetOf) (d : Division) (g : StoredGraph (Node N) E)
     → IsSheetFor (metadata_view m) s (sheet_view t) → IsOrdered t → Builds m s d → IsGraphOf made made_edge (sheet_view t) d.kept.items g → IsNumbered g → AreNodes g.nodes
 numbered_graph o made made_edge m s t d g h ordered b w n =

@@ -1,4 +1,4 @@
--- What a search by ids finds among crates with their packages, which are in order.
+-- What a search by id finds among sorted crates with their packages.
 use Rattle.std.proofs.Common.{◌≡◌, ◌↔◌, ℕ, ◌<◌, List, [], ◌∷◌, length, get_or, map, true, false, ◌||◌, refl, sym, ap, ◌∙◌, subst, inl, inr, arith, HoldsAt, Ordering, Less, Equal, Greater}
 use Rattle.std.proofs.Math.Bool.{or_comm}
 use Rattle.std.proofs.lemmas.List.{get_or-map, length-map}
@@ -27,14 +27,14 @@ not_at o key xs x i p k d lt e = elim (slice_get_cases xs k).1 [
   | inr past ↦ absurd (omega (arith, past.0))
 ]
 
--- what a search by ids finds is among them
+-- an id that the search finds is among them
 pub has_found : Compares → {X : Type 0} (key : X → Identity) (xs : List X) (x : Identity) (i : ℕ) → i < length xs → HoldsAt (λ y. id_cmp (key y) x ≡ Equal) xs i → true ≡ has_same (map key xs) x
 has_found o key xs x i lt at = elim (slice_get_cases xs i).1 [
   | inl (d, low, got, is) ↦ sym (list_any_at (λ y. is_eq (id_cmp y x)) (map key xs) i x (rw length-map lt) (ap (λ y. is_eq (id_cmp y x)) (get_or-map key xs i d x lt) ∙ ap is_eq (at d)))
   | inr past ↦ absurd (omega (arith, past.0))
 ]
 
--- where it finds none, the id isn't among them
+-- an id that it doesn't find isn't
 pub has_none : Compares → {X : Type 0} (key : X → Identity) (xs : List X) (x : Identity) (i : ℕ) → IsStrictlySortedBy id_cmp (map key xs)
     → (IsNonDecreasingBy (λ y. ordering_index (id_cmp (key y) x)) xs → IsPartitionPoint (λ y. id_cmp (key y) x ≡ Less) (λ y. id_cmp (key y) x ≡ Greater) xs i) → false ≡ has_same (map key xs) x
 has_none o key xs x i s parts =
@@ -60,7 +60,7 @@ same_member o (i ∷ ids) x (inr m) = rw (same_member o ids x m) (or_comm (is_eq
 pub is_among : Compares → (ids : List Identity) (x : Identity) → (has_same ids x ≡ true) ↔ IsAmong ids (id_of x)
 is_among o ids x = (λ h. contains_of (map id_of ids) (id_of x) (member_same o ids x h), λ c. same_member o ids x (member_of (map id_of ids) (id_of x) c))
 
--- ---- an id's place among crates in order
+-- ---- an id's place among sorted crates
 
 -- the place that the search found
 pub number_found : Compares → (krates : List Krate) (kid : Identity) (place : ℕ) → IsStrictlySortedBy id_cmp (krate_ids krates) → place < length krates

@@ -1,4 +1,4 @@
--- A correction changes no id, so that a document whose packages are corrected is admitted with the same ids.
+-- A correction changes no id, so a document whose packages are corrected is admitted with the same ids.
 use Rattle.std.proofs.Common.{◌≡◌, List, [], ◌∷◌, Option, Some, None, map, refl, sym, ap, ◌∙◌, subst}
 use Rattle.std.specs.List.{AllZip}
 use Rattle.krates_cm.specs.Document.{MetadataModel, ResolveModel, PackageModel, id_view, package_view, metadata_view}
@@ -19,7 +19,7 @@ use Rattle.krates_queries.specs.Kept.{KeptCrates}
 use Rattle.krates_document.specs.CorrectedDocument.{IsCorrectedPackage, IsCorrectedDocument}
 use Rattle.krates.specs.Indexed.{Answering, IsSeen, Sees}
 
--- the texts of the ids are those that they were
+-- the texts of the ids are unchanged
 same_texts : (answer : IndexAnswer) (xs ys : List Package) → AllZip (IsCorrectedPackage answer) xs ys
     → map (λ (p : PackageModel). p.id) (map package_view ys) ≡ map (λ (p : PackageModel). p.id) (map package_view xs)
 same_texts answer [] [] h = refl
@@ -60,12 +60,12 @@ pub admitted_seen : {S : Type 0} (may_answer : Answering S) (index : Option S) (
 admitted_seen may_answer None given seen ids is_seen a = subst (λ (m : Metadata). IsAdmitted (metadata_view m) ids) (sym is_seen) a
 admitted_seen may_answer (Some source) given seen ids is_seen a = admitted_corrected is_seen.answer given seen ids is_seen.corrected a
 
--- so what is looked at of a document that can be resolved can be resolved
+-- so if the document that was given can be resolved, the corrected one can
 pub resolvable_seen : (answer : Option IndexAnswer) (given seen : Metadata) → IsSeenBy answer given seen → IsResolvable (metadata_view given) → IsResolvable (metadata_view seen)
 resolvable_seen None given seen is_seen r = subst (λ (m : Metadata). IsResolvable (metadata_view m)) (sym is_seen) r
 resolvable_seen (Some answer) given seen is_seen r = record { ids = r.ids; admitted = admitted_corrected answer given seen r.ids is_seen r.admitted }
 
--- ---- what is said of the document that is looked at
+-- ---- what is said about the document that is resolved
 
 pub sees_built : {S F N E : Type 0} (may_answer : Answering S) (index : Option S) (given seen : Metadata) (s : SettingModel) (filters : F → Package → F → Type 0) (made : Package → N → Type 0)
     (made_edge : Edge → E → Type 0) (before after : F) (result : Result (KeptCrates N E) Error) → IsSeen may_answer index given seen → IfOk result (IsBuilt filters made made_edge seen s before after)

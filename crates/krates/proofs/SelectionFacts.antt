@@ -1,4 +1,4 @@
--- Which crates and causes are among the facts of a selection, and of the document and the setting.
+-- Which crates and causes are among the facts of a selection, a document and a setting.
 use Rattle.std.proofs.Common.{◌≡◌, ◌↔◌, List, ◌++◌, map, Some, Contains, sym, subst, inl, inr}
 use Rattle.krates_cm.specs.Document.{MetadataModel, ResolveModel, Text}
 use Rattle.krates_rules.specs.Derivation.{Derivable, follows}
@@ -18,7 +18,7 @@ use Rattle.krates_drawing.proofs.Members.{Member, member_of, contains_of, mapped
 
 -- ---- the facts of a selection
 
--- the fact is none of an edge or a feature
+-- the fact is neither of an edge nor of a feature
 record IsApart (f : Fact) : Type 0 where
   edge : (e : KeptEdge) → edge_fact e ≡ f → ⊥
   feature : (e : EnabledFeature) → feature_fact e ≡ f → ⊥
@@ -27,7 +27,7 @@ record IsApart (f : Fact) : Type 0 where
 not_mapped : {X : Type 0} (fact : X → Fact) (f : Fact) → ((x : X) → fact x ≡ f → ⊥) → (xs : List X) → Member (map fact xs) f → ⊥
 not_mapped fact f none xs m = let w = mapped_of fact xs f m in none w.from w.is
 
--- such a fact is one of the crates
+-- such a fact is a fact of the crates
 crate_only : (x : Selection) (f : Fact) → IsApart f → Member (facts_of x) f → Member (map crate_fact x.krates.items) f
 crate_only x f apart m = elim (member_append (map crate_fact x.krates.items) _ f m) [
   | inl here ↦ here
@@ -40,7 +40,7 @@ crate_only x f apart m = elim (member_append (map crate_fact x.krates.items) _ f
   ]
 ]
 
--- a feature is one of the features
+-- a fact of a feature is a fact of the features
 feature_only : (x : Selection) (i : Id) (f : Text) → Member (facts_of x) (Feature i f) → Member (map feature_fact x.features.items) (Feature i f)
 feature_only x i f m = elim (member_append (map crate_fact x.krates.items) _ (Feature i f) m) [
   | inl krate ↦ absurd (not_mapped crate_fact (Feature i f) (λ k h. cc h) x.krates.items krate)
@@ -85,7 +85,7 @@ no_lost_among x c h =
 
 -- ---- the facts of a document
 
--- of one graph there is one answer
+-- for one graph there is one answer
 pub derived_at : (m : MetadataModel) (s : SettingModel) (g : ResolveModel) (f : Fact) → m.resolve ≡ Some g → IsDerived m s f → Derivable (questions (resolved m g) s) f
 derived_at m s g f is h =
     let same : h.graph ≡ g = cc (h.has_graph, is) in
@@ -103,7 +103,7 @@ kept_among m s x h i = (
   λ a. derived_of m s h.graph (Crate i) h.has_graph ((h.holds.facts (Crate i)).1 (among_crate x i a)),
 )
 
--- a feature that is derived is one of the features of the selection, and its crate is kept
+-- a derivable feature is one of the features of the selection, and its crate is kept
 pub enabled_among : (m : MetadataModel) (s : SettingModel) (x : Selection) → Selects m s x → (i : Id) (f : Text) → IsDerived m s (Feature i f) ↔ (KeepsCrate m s i × Contains (map feature_fact x.features.items) (Feature i f))
 enabled_among m s x h i f = (
   λ d.
@@ -119,7 +119,7 @@ enabled_among m s x h i f = (
   λ both. derived_of m s h.graph (Feature i f) h.has_graph ((h.holds.facts (Feature i f)).1 (among_features x i f both.1)),
 )
 
--- the crate of such a feature has to be kept
+-- the crate of such a feature is kept
 pub feature_kept : (m : MetadataModel) (s : SettingModel) (x : Selection) → Selects m s x → (i : Id) (f : Text) → Contains (map feature_fact x.features.items) (Feature i f) → KeepsCrate m s i
 feature_kept m s x h i f c =
     let derived = derived_of m s h.graph (Feature i f) h.has_graph ((h.holds.facts (Feature i f)).1 (among_features x i f c)) in

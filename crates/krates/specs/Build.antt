@@ -1,6 +1,6 @@
 -- What a build keeps of a document, what it reports, and why it is refused.
 --
--- Which crates are kept is said by derivations alone: by what the document and the setting answer to the rules.
+-- Which crates are kept is said by derivations alone: by what the document and the setting answer the rules.
 use Rattle.std.specs.Prelude.{ℕ, ◌≡◌, ◌⊎◌, ◌↔◌, ◌≤◌, ◌<◌, ◌^◌, List, Option, map, Contains, length, ⊤}
 use Rattle.std.specs.List.{AllZip, FoldsTo}
 use Rattle.std.specs.List.Sorted.{IsStrictlyIncreasing, IsStrictlySortedBy}
@@ -38,11 +38,11 @@ pub record IsResolvable (m : MetadataModel) : Type 0 where
   pub ids : IdsModel
   pub admitted : IsAdmitted m ids
 
--- of what the document's graph and the setting answer to the rules, this holds
+-- this holds of what the document's graph and the setting answer the rules
 abbrev pub Answers : MetadataModel → SettingModel → (Questions → Type 0) → Type 0
 Answers m s P = HasGraphWith m (λ g. P (questions (resolved m g) s))
 
--- the fact has a derivation from the roots by the rules
+-- the fact is derivable from the roots by the rules
 abbrev pub IsDerived : MetadataModel → SettingModel → Fact → Type 0
 IsDerived m s f = Answers m s (λ q. Derivable q f)
 
@@ -50,7 +50,7 @@ IsDerived m s f = Answers m s (λ q. Derivable q f)
 abbrev pub KeepsCrate : MetadataModel → SettingModel → Id → Type 0
 KeepsCrate m s i = IsDerived m s (Crate i)
 
--- the crate has no derivation
+-- the crate isn't derivable
 abbrev pub DropsCrate : MetadataModel → SettingModel → Id → Type 0
 DropsCrate m s i = KeepsCrate m s i → ⊥
 
@@ -99,7 +99,7 @@ pub record IsMemberAt (m : MetadataModel) (ids : List Identity) (n : ℕ) : Type
   pub listed : HasMember m member
   pub kept : StandsAt ids member n
 
--- the numbers of exactly the kept members, ascending, so each once, also where the document lists one twice
+-- the numbers of exactly the kept members, ascending, each once even if the document lists one twice
 pub record AreKeptMembers (m : MetadataModel) (ids : List Identity) (numbers : List ℕ) : Type 0 where
   pub ascending : IsStrictlyIncreasing numbers
   pub exactly : (n : ℕ) → Contains numbers n ↔ IsMemberAt m ids n
@@ -117,12 +117,12 @@ AgreeDirectly k p d = DependsOn (map node_spot k.graph.nodes) p d ↔ IsDependen
 -- All that is true of what a build keeps of a document, and of what it reports.
 pub record IsBuilt {F N E : Type 0} (filters : F → Package → F → Type 0) (made : Package → N → Type 0) (made_edge : Edge → E → Type 0) (m : Metadata) (s : SettingModel) (before after : F) (k : KeptCrates N E) : Type 0 where
   pub resolvable : IsResolvable (metadata_view m)
-  -- the crates with a derivation are kept, and no others
+  -- the derivable crates are kept, and no others
   pub kept : (i : Id) → KeepsCrate (metadata_view m) s i ↔ Contains (map id_of (ids_of k)) i
   pub some : (i : Id) × KeepsCrate (metadata_view m) s i
   pub none_lost : (c : Cause) → IsLost (metadata_view m) s c → ⊥
   pub values : AreMadeOfThose made m.packages.items (KeepsCrate (metadata_view m) s) (ids_of k) (values_of k)
-  -- of the kept crates the features with a derivation are enabled, and no others
+  -- of the kept crates the derivable features are enabled, and no others
   pub enabled : (i : Id) (f : Text) → IsDerived (metadata_view m) s (Feature i f) ↔ HasEnabled k i f
   -- the graph is the drawing of what is kept, number by number
   pub drawn : IsDrawn made_edge (metadata_view m) s k.graph
@@ -136,7 +136,7 @@ pub record IsBuilt {F N E : Type 0} (filters : F → Package → F → Type 0) (
   -- the work is that of the document's selection, in which each crate, each feature and each reference is counted once
   pub work : (x : Selection) × IsSelectionOf (metadata_view m) s x × (k.work ≡ x.work)
   pub reported : IsReported filters m s before after
-  -- the kept steps follow, and have exactly the facts with a derivation
+  -- the kept steps follow, and have exactly the derivable facts
   pub explained : IsExplainedBy (metadata_view m) s (steps_of k)
 
 -- ---- refusals
@@ -158,7 +158,7 @@ GraphRefusal m s errors.Memory = ⊤
 GraphRefusal m s _ = ⊥
 
 -- The first class that is true of the document counts, and the cause is true; memory may always run out. Whether the document
--- can be resolved is asked of it as it is given, and all else of it as it is looked at.
+-- can be resolved is asked of it as it is given, and all else of it as it is resolved.
 abbrev pub BuildRefusal : {S : Type 0} → Answering S → Option S → Metadata → SettingModel → Error → Type 0
 BuildRefusal may_answer index m s errors.NoResolveGraph = AdmissionRefusal (metadata_view m) errors.NoResolveGraph
 BuildRefusal may_answer index m s (errors.InvalidId t) = AdmissionRefusal (metadata_view m) (errors.InvalidId t)
@@ -169,7 +169,7 @@ BuildRefusal may_answer index m s errors.TooMany = IsResolvable (metadata_view m
 BuildRefusal may_answer index m s errors.Memory = ⊤
 BuildRefusal may_answer index m s _ = ⊥
 
--- the same of a build that is given m and looks at p
+-- the same for a build that is given `m` and resolves `p`
 abbrev pub IsRefusedSeeing : Metadata → Metadata → SettingModel → Error → Type 0
 IsRefusedSeeing m p s errors.NoResolveGraph = AdmissionRefusal (metadata_view m) errors.NoResolveGraph
 IsRefusedSeeing m p s (errors.InvalidId t) = AdmissionRefusal (metadata_view m) (errors.InvalidId t)
@@ -180,6 +180,6 @@ IsRefusedSeeing m p s errors.TooMany = IsResolvable (metadata_view m) × GraphRe
 IsRefusedSeeing m p s errors.Memory = ⊤
 IsRefusedSeeing m p s _ = ⊥
 
--- the same without an index, where the document is looked at as it is given
+-- the same without an index, where the document is resolved as it is given
 abbrev pub BuildRefusalAsGiven : Metadata → SettingModel → Error → Type 0
 BuildRefusalAsGiven m s e = IsRefusedSeeing m m s e

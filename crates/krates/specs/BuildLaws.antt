@@ -1,4 +1,4 @@
--- What two builds have in common: of documents that differ in order alone, and under a setting and one that keeps less.
+-- What two builds have in common: of documents that differ only in order, and under a setting and one that keeps less.
 use Rattle.std.specs.Prelude.{◌≡◌, ◌⊎◌, ◌↔◌, List, Option, Some, None, true, false, Contains, map}
 use Rattle.std.specs.List.{AllZip}
 use Rattle.krates_cm.specs.Document.{metadata_view, package_view}
@@ -24,7 +24,7 @@ use Rattle.krates_queries.specs.Drawn.{CanBeNumbered, IsSheetFor}
 use Rattle.krates.specs.Indexed.{HasNames}
 use Rattle.krates_queries.specs.Kept.{AreOrdered}
 
--- the document that is looked at: with an answer of an index that whose packages are corrected by it, and else the given one
+-- the document that is resolved: with an answer of an index, the one whose packages it corrects; otherwise the given one
 abbrev pub IsSeenBy : Option IndexAnswer → Metadata → Metadata → Type 0
 IsSeenBy None given seen = seen ≡ given
 IsSeenBy (Some answer) given seen = IsCorrectedDocument answer given seen
@@ -42,11 +42,11 @@ pub record ListAlike (p q : Metadata) (P Q : Id → Type 0) : Type 0 where
   pub packages : (is js : List Identity) (xs ys : List Package) → AreThosePackages p.packages.items P is xs
       → AreThosePackages q.packages.items Q js ys → AllZip IsSamePackage xs ys
 
--- Builds of the documents m and n, which look at p and q, keep and report the same, and are refused alike.
+-- Builds of the documents `m` and `n`, which resolve `p` and `q`, keep and report the same, and are refused alike.
 pub record BuildAlike (m n p q : Metadata) (s : SettingModel) : Type 0 where
   -- an index is asked for the same names
   pub names : (names : PackageNames) → HasNames m.packages.items names ↔ HasNames n.packages.items names
-  -- the same crates, features and edges have derivations
+  -- the same crates, features and edges are derivable
   pub facts : (f : Fact) → IsDerived (metadata_view p) s f ↔ IsDerived (metadata_view q) s f
   -- the ids are equal place by place, so kept crates have the same numbers
   pub kept : ListAlike p q (KeepsCrate (metadata_view p) s) (KeepsCrate (metadata_view q) s)
@@ -57,13 +57,13 @@ pub record BuildAlike (m n p q : Metadata) (s : SettingModel) : Type 0 where
   pub sheets : IsResolvable (metadata_view m) → (t : Sheet) → IsSheetFor (metadata_view p) s t ↔ IsSheetFor (metadata_view q) s t
   pub refused : (e : Error) → IsRefusedSeeing m p s e ↔ IsRefusedSeeing n q s e
 
--- What is looked at of two documents differs in order alone, so it resolves alike and builds alike.
+-- What is resolved of two documents differs only in order, so it resolves alike and builds alike.
 pub record IsSeenAlike (m n p q : Metadata) : Type 0 where
   pub reorders : Reorders (metadata_view p) (metadata_view q)
   pub resolves : ResolveAlike (metadata_view p) (metadata_view q)
   pub builds : (s : SettingModel) → BuildAlike m n p q s
 
--- builds of documents that differ in order alone are alike, without an index or with one answer of it
+-- builds of documents that differ only in order are alike, without an index or with one answer of it
 abbrev pub IsBuildOrderFree : Type 0
 IsBuildOrderFree = (answer : Option IndexAnswer) (m n p q : Metadata) → Reorders (metadata_view m) (metadata_view n)
     → IsSeenBy answer m p → IsSeenBy answer n q → IsSeenAlike m n p q
@@ -89,16 +89,16 @@ pub record ListsSame (listed : List Package) (pkg : Package) : Type 0 where
   pub among : Contains listed other
   pub same : IsSamePackage pkg other
 
--- The narrower setting keeps of q a part of what the wider one keeps of p: both are what is looked at of the document m.
+-- The narrower setting keeps of `q` a part of what the wider one keeps of `p`: both are what is resolved of the document `m`.
 pub record KeepsPart (m p q : Metadata) (wide narrow : SettingModel) : Type 0 where
-  -- each fact with a derivation under the narrower has one under the wider, those of what is lost included
+  -- each fact that is derivable under the narrower setting is derivable under the wider one, lost facts too
   pub facts : (f : Fact) → IsDerived (metadata_view q) narrow f → IsDerived (metadata_view p) wide f
-  -- so each package that the narrower keeps is one that the wider keeps
+  -- so each package that the narrower setting keeps is one that the wider keeps
   pub packages : (is js : List Identity) (xs ys : List Package) → AreThosePackages q.packages.items (KeepsCrate (metadata_view q) narrow) is xs
       → AreThosePackages p.packages.items (KeepsCrate (metadata_view p) wide) js ys → (pkg : Package) → Contains xs pkg → ListsSame ys pkg
   -- the crates, the edges and the features that are drawn are a part, and no more nodes and edges are
   pub drawn : IsResolvable (metadata_view m) → (t v : Sheet) → IsSheetFor (metadata_view q) narrow t → IsSheetFor (metadata_view p) wide v → DrawsNoMore t v
-  -- where the wider build succeeds, the narrower is refused only since no crate is left, or out of memory
+  -- if the wider build succeeds, the narrower is refused only because no crate is left, or when out of memory
   pub refusals : (ids : List Identity) → Succeeds m p wide ids → (e : Error) → IsRefusedSeeing m q narrow e
       → (e ≡ NoRootKrates) ⊎ (e ≡ Memory)
 
@@ -107,7 +107,7 @@ abbrev pub IsBuildNarrowing : Type 0
 IsBuildNarrowing = (answer : Option IndexAnswer) (m p q : Metadata) (wide narrow : SettingModel) → IsNarrower wide narrow
     → IsSeenBy answer m p → IsSeenBy answer m q → KeepsPart m p q wide narrow
 
--- of one document that is looked at, each package that the narrower setting keeps is kept by the wider one
+-- of one document that is resolved, each package that the narrower setting keeps is kept by the wider one
 abbrev pub KeepsPackages : Type 0
 KeepsPackages = (p : Metadata) (wide narrow : SettingModel) → IsNarrower wide narrow → (is js : List Identity) (xs ys : List Package)
     → AreThosePackages p.packages.items (KeepsCrate (metadata_view p) narrow) is xs
@@ -118,7 +118,7 @@ KeepsPackages = (p : Metadata) (wide narrow : SettingModel) → IsNarrower wide 
 -- What is kept of q where a name means the least that answers to it is a part of what is kept of p where it means all: both are
 -- what is looked at of one document. So where both builds succeed, the crates, features and edges of the first stand in the second.
 pub record KeepsNamedPart (p q : Metadata) (s : SettingModel) : Type 0 where
-  -- each fact with a derivation where it means the least has one where it means all, those of what is lost included
+  -- each fact that is derivable where it means the least is derivable where it means all, lost facts too
   pub facts : (f : Fact) → IsDerived (metadata_view q) (naming s false) f → IsDerived (metadata_view p) (naming s true) f
   -- so each package that is kept where it means the least is kept where it means all
   pub packages : (is js : List Identity) (xs ys : List Package) → AreThosePackages q.packages.items (KeepsCrate (metadata_view q) (naming s false)) is xs

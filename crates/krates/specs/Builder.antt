@@ -1,4 +1,4 @@
--- What the setters of a builder leave.
+-- A builder after its setters.
 use Rattle.std.specs.Prelude.{◌≡◌, Result}
 use Rattle.std.specs.Borrow.{RestsIfErr, RattleType, MutBor, Fml}
 use Rattle.std.specs.declared.alloc.AllocError.{AllocError}

@@ -10,7 +10,7 @@ use Rattle.krates_rules.specs.Setting.{SettingModel}
 use Rattle.krates.specs.Build.{BuildRefusal}
 use Rattle.krates.specs.Indexed.{Answering}
 
--- some output of a cargo that ended well has this document, and this holds of it
+-- some output of a cargo that succeeded has this document, and this holds of it
 pub record IsWritten (P : Metadata → Type 0) : Type 0 where
   pub metadata : Metadata
   pub written : IsSomeAnswer (metadata_view metadata)

@@ -21,7 +21,7 @@ sheet_ids krates = map (λ k. k.id) krates
 abbrev pub IsAmong : List Identity → Id → Type 0
 IsAmong ids i = Contains (map id_of ids) i
 
--- whether one of the list compares as equal to the id
+-- whether an id of the list compares as equal to this one
 abbrev pub has_same : List Identity → Identity → Bool
 has_same ids id = list_any (λ i. is_eq (id_cmp i id)) ids
 

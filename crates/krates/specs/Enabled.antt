@@ -14,7 +14,7 @@ use Rattle.krates_queries.specs.Kept.{names_in_each, IsEnabledIn}
 abbrev pub AreEnabledSets : List Identity → List EnabledFeature → List (BTreeSet (String Global)) → Type 0
 AreEnabledSets ids features sets = (i : Id) (f : Text) → IsEnabledIn ids (names_in_each sets) i f ↔ (IsAmong ids i × Contains (map feature_fact features) (Feature i f))
 
--- the sets have, beside what was in them before, the feature where its crate is one of those with these ids
+-- the sets have, besides what was in them before, the feature, if its crate is one of those with these ids
 abbrev pub IsPut : List Identity → EnabledFeature → List (BTreeSet (String Global)) → List (BTreeSet (String Global)) → Type 0
 IsPut ids feature before after =
     (i : Id) (f : Text) → IsEnabledIn ids (names_in_each after) i f ↔ (IsEnabledIn ids (names_in_each before) i f ⊎ (IsAmong ids i × (feature_fact feature ≡ Feature i f)))

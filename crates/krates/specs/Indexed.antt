@@ -1,4 +1,4 @@
--- The document that a build looks at: the one that it is given, or that with each package corrected by what an index answers.
+-- The document that a build resolves: the one that it is given, or that with each package corrected by what an index answers.
 use Rattle.std.specs.Prelude.{◌≡◌, List, Option, Some, None, ⊤}
 use Rattle.std.specs.BTreeSet.{contains_text}
 use Rattle.std.specs.List.{list_any}
@@ -10,7 +10,7 @@ use Rattle.krates_ids.specs.declared.index.IndexAnswer.{IndexAnswer}
 use Rattle.krates_ids.specs.declared.index.PackageNames.{PackageNames}
 use Rattle.krates_document.specs.CorrectedDocument.{IsCorrectedDocument}
 
--- the set has the name of each package, and no other
+-- the set has exactly the names of the packages
 abbrev pub HasNames : List Package → PackageNames → Type 0
 HasNames packages s = (t : Text) → contains_text s.names t ≡ list_any (λ p. bytes_eq (text_view p.name) t) packages
 
@@ -31,12 +31,12 @@ pub record IsAnswered (may_answer : PackageNames → IndexAnswer → Type 0) (gi
   pub is_answer : may_answer names answer
   pub corrected : IsCorrectedDocument answer given seen
 
--- without an index the document is looked at as it is, and else as it is corrected
+-- without an index the document is resolved as it is, with one as it is corrected
 abbrev pub IsSeen : {S : Type 0} → Answering S → Option S → Metadata → Metadata → Type 0
 IsSeen may_answer None given seen = seen ≡ given
 IsSeen may_answer (Some source) given seen = IsAnswered (may_answer source) given seen
 
--- of the document that is looked at, this holds
+-- this holds of the document that is resolved
 pub record Sees {S : Type 0} (may_answer : Answering S) (index : Option S) (given : Metadata) (P : Metadata → Type 0) : Type 0 where
   pub seen : Metadata
   pub is_seen : IsSeen may_answer index given seen

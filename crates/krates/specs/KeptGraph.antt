@@ -18,7 +18,7 @@ use Rattle.krates_queries.specs.declared.node.Node.{Node}
 abbrev pub named_fact : Named → Fact
 named_fact n = Feature n.krate n.name
 
--- The graph is the drawing of the sheet; its crates are these, with what is made of their packages, and their enabled features
+-- The graph is the drawing of the sheet; its crates are these, with what is made from their packages, and their enabled features
 -- are those of the sheet.
 pub record IsGraphOf {N E : Type 0} (made : Package → N → Type 0) (made_edge : Edge → E → Type 0) (t : Sheet) (krates : List Krate) (g : StoredGraph (Node N) E) : Type 0 where
   pub drawing : IsDrawing made_edge t g

@@ -1,4 +1,4 @@
--- How nodes are made of what was drawn and of packages.
+-- How nodes are made from what was drawn and from packages.
 use Rattle.std.specs.Prelude.{◌≡◌, ◌<◌, ℕ, List, [], ◌∷◌, ◌++◌, Option, String, flat_map, map, ⊤}
 use Rattle.std.specs.BTreeSet.{BTreeSet}
 use Rattle.std.specs.Global.{Vec}
@@ -45,7 +45,7 @@ pub record AreNodesWith (krates : List Krate) (sets : List (BTreeSet (String Glo
 
 -- ---- with values in the place of packages
 
--- the node is the same, but for a value that is made of its package
+-- the node is the same, except for a value that is made from its package
 abbrev pub IsMade : {N : Type 0} → (Package → N → Type 0) → Node Package → Node N → Type 0
 IsMade made (node.Krate id pkg features mapping) (node.Krate i krate fs m) = (i ≡ id) × (fs ≡ features) × (m ≡ mapping) × made pkg krate
 IsMade made (node.Feature krate_index name) (node.Feature k n) = (k ≡ krate_index) × (n ≡ name)

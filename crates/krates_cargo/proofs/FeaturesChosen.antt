@@ -1,4 +1,4 @@
--- What choosing features answers, said of another answer with the same refusal.
+-- What a call that chooses features says, carried over to another result with the same refusal.
 use Rattle.std.proofs.Common.{◌≡◌, sym, ap, subst}
 use Rattle.std.specs.Prelude.{◌↔◌, Result, Ok, Err}
 use Rattle.krates_cm.specs.declared.error.Error.{Error}
@@ -24,12 +24,12 @@ refused A e = Err e
 not_refused : {A : Type 0} (x : A) (e : Error) → done x ≡ refused A e → ⊥
 not_refused x e same = subst IsRefused (sym same) tt
 
--- of a success
+-- a success
 pub once_of_ok : {A : Type 0} (c : CommandModel) (features : Features) (t : Unit {0}) → (IsChosen c features → done t ≡ refused (Unit {0}) errors.FeaturesTwice)
     → (x : A) → done x ≡ refused A errors.FeaturesTwice ↔ IsChosen c features
 once_of_ok c features t once x = ((λ same. absurd (not_refused x errors.FeaturesTwice same)), (λ is. absurd (not_refused t errors.FeaturesTwice (once is))))
 
--- of a refusal
+-- a refusal
 pub once_of_err : (A : Type 0) (c : CommandModel) (features : Features) (e : Error) → IsNotChosen c features e
     → (IsChosen c features → refused (Unit {0}) e ≡ refused (Unit {0}) errors.FeaturesTwice) → refused A e ≡ refused A errors.FeaturesTwice ↔ IsChosen c features
 once_of_err A c features e is_refused once =

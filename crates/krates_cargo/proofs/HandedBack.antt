@@ -1,4 +1,4 @@
--- A `&mut` that is lent to a helper and comes back, and then is handed back to the caller, or is given up with an error.
+-- A `&mut` that is lent to a helper, comes back, and is then returned to the caller or given up with an error.
 use Rattle.std.proofs.Common.{ℕ, Bool, true, false, List, [], ◌∷◌, refl, MutBor}
 use Rattle.std.specs.Bool.{MatchBool}
 use Rattle.std.specs.Prelude.{Result, Ok, Err}
@@ -33,7 +33,7 @@ module _ {M : Type 1} {𝓤 : Ura M} (𝓛 : Logic 𝓤) (R : RattleType) where
   open 𝓛 use {A, H}
 
   module _ (γ : GName) where
-    -- a reference that is handed back under its own name follows itself
+    -- a reference that is returned under its own name follows itself
     pub itself : ent 𝓤 (sem 𝓛 ftrue) (sem 𝓛 (follows R R γ γ (λ w. w)))
     itself =
         let From : R.Denot → R.Denot → Fml = λ z w. fsep (feq R.Denot z w) (fauth γ (R.coded.code w)) in
@@ -42,27 +42,27 @@ module _ {M : Type 1} {𝓤 : Ura M} (𝓛 : Logic 𝓤) (R : RattleType) where
         keep ! (0 ∷ []) $ feq_i ! R.Denot z z refl $ fjoin ! $ fpack ! R.Denot (From z) z $ done !) in
         record { apply = λ a p. (said.apply a p, back.apply a p) }
 
-    -- handed back, and P says so of each last value
+    -- returned, where `P` holds of each last value
     pub itself_so : (v : R.Denot) (P : R.Denot → R.Denot → Type 0) (P₀ : R.Denot → Type 0) → ((w : R.Denot) → P w w) → P₀ v → ent 𝓤 (sem 𝓛 ftrue) (sem 𝓛 (follows_so R R γ (maybe.some γ) P P₀))
     unfolding follows_by such_by
     itself_so v P P₀ h h₀ =
         qed 𝓛 (‵ ftrue ∷ []) ∵ use1 𝓛 (‵ (follows R R γ γ (λ w. w))) itself $
         fpack ! ((s : (R.Denot → R.Denot) × R.Denot) × ((w : R.Denot) → P w (s.0 w)) × P₀ s.1) (λ s. follows_by R.Denot R.Denot R.coded.code R.coded.code γ (maybe.some γ) s.0.0 s.0.1) (((λ w. w), v), h, h₀) $ done !
 
-    -- given up at v
+    -- given up at `v`
     pub rests_so : (v : R.Denot) (P : R.Denot → R.Denot → Type 0) (P₀ : R.Denot → Type 0) → ((w : R.Denot) → P w v) → P₀ v → ent 𝓤 (sem 𝓛 (fres γ (R.coded.code v))) (sem 𝓛 (follows_so R R γ maybe.none P P₀))
     unfolding follows_by such_by
     rests_so v P P₀ h h₀ =
         qed 𝓛 (‵ (fres γ (R.coded.code v)) ∷ []) ∵
         fpack ! ((s : (R.Denot → R.Denot) × R.Denot) × ((w : R.Denot) → P w (s.0 w)) × P₀ s.1) (λ s. follows_by R.Denot R.Denot R.coded.code R.coded.code γ maybe.none s.0.0 s.0.1) (((λ _. v), v), h, h₀) $ done !
 
-  -- ---- r, for κ
+  -- ---- `r`, for the lifetime `κ`
   module _ (r : MutBor R.Denot) (κ : Lft) where
-    -- the reference for κ' at an address
+    -- the reference for a lifetime, at an address
     abbrev pub Ref : Lft → RattleType
     Ref κ' = MutRef (named 0) κ' R
 
-    -- r with another value behind it
+    -- `r` with another value behind it
     abbrev pub left : R.Denot → MutBor R.Denot
     left w = record r { now = w }
 
@@ -76,7 +76,7 @@ module _ {M : Type 1} {𝓤 : Ura M} (𝓛 : Logic 𝓤) (R : RattleType) where
     err_val = vstruct (vcons (vint w8 1) (vcons (vstruct vnil) vnil))
 
     module _ (q : Share) where
-      -- what the lender keeps of r while it is lent for α under the name δ
+      -- what the lender keeps of `r` while it is lent for `α` under the name `δ`
       abbrev pub Kept : ℕ → GName → Fml
       Kept α δ = LentAgain R κ (α ∷ []) q r.ghost_name r.ref_ptr.0 r.ref_ptr.1 δ r.now
 
@@ -90,7 +90,7 @@ module _ {M : Type 1} {𝓤 : Ura M} (𝓛 : Logic 𝓤) (R : RattleType) where
           show ! (λ (α' : ℕ). ex 𝓤 (λ (δ' : GName). sep 𝓤 (sem 𝓛 ((Ref (α' ∷ [])).own_val (record r { ghost_name = δ' }) (mut_vals r))) (sep 𝓤 (sem 𝓛 (Kept α' δ')) (sem 𝓛 (flft (α' ∷ []) full_share))))) α $
           show ! (λ (δ' : GName). sep 𝓤 (sem 𝓛 ((Ref (α ∷ [])).own_val (record r { ghost_name = δ' }) (mut_vals r))) (sep 𝓤 (sem 𝓛 (Kept α δ')) (sem 𝓛 (flft (α ∷ []) full_share)))) δ $ done !))
 
-      -- it comes back at the last value of the loan
+      -- it comes back with the last value of the loan
       pub returned : (α : ℕ) (δ : GName) (w : R.Denot) → ent 𝓤 (sep 𝓤 (sem 𝓛 (flft (α ∷ []) full_share)) (sep 𝓤 (sem 𝓛 (Kept α δ)) (sem 𝓛 (fres δ (R.coded.code w)))))
           (H.⇛ (sep 𝓤 (sem 𝓛 ((Ref κ).own_val (left w) (mut_vals r))) (sem 𝓛 (flft κ q))))
       returned α δ w =
@@ -99,17 +99,17 @@ module _ {M : Type 1} {𝓤 : Ura M} (𝓛 : Logic 𝓤) (R : RattleType) where
           (comes_back 𝓛 R (named 0) κ (α ∷ []) q r.ghost_name r.ref_ptr.0 r.ref_ptr.1 δ r.now w) $ await ! tt $ at_once ! $ done !
 
     module _ (P : R.Denot → Type 0) where
-      -- what the caller learns of the reference that it lent
+      -- what the caller learns about the reference that it lent
       abbrev pub Rests : Result (MutBor R.Denot) AllocError → Fml
       Rests answer = RestsIfErr R r (λ b. b.ghost_name) answer P
 
-      -- handed back
+      -- returned
       pub handed : (w : R.Denot) → ent 𝓤 (sem 𝓛 ((Ref κ).own_val (left w) (mut_vals r))) (sep 𝓤 (sem 𝓛 (Rests (Ok (left w)))) (sem 𝓛 (Answer.own_val (Ok (left w)) (ok_val ∷ []))))
       handed w =
           qed 𝓛 (‵ ((Ref κ).own_val (left w) (mut_vals r)) ∷ []) ∵ use1 𝓛 (‵ (Answer.own_val (Ok (left w)) (ok_val ∷ []))) (ok_of 𝓛 (Ref κ) AE.the_row (left w) (vptr r.ref_ptr.0 r.ref_ptr.1)) $
           nothing ! $ use1 𝓛 (‵ (Rests (Ok (left w)))) (itself_so r.ghost_name r.now _ _ (λ v. refl) tt) $ done !
 
-      -- given up at a value of which P holds
+      -- given up at a value of which `P` holds
       pub given_up : (w : R.Denot) → P w → ent 𝓤 (sem 𝓛 ((Ref κ).own_val (left w) (mut_vals r))) (sep 𝓤 (sem 𝓛 (Rests (Err (record {})))) (sem 𝓛 (Answer.own_val (Err (record {})) (err_val ∷ []))))
       given_up w holds =
           qed 𝓛 (‵ ((Ref κ).own_val (left w) (mut_vals r)) ∷ []) ∵ fsplit3 ! $ move ! (1 ∷ []) $ use1 𝓛 (‵ (fres r.ghost_name (R.coded.code w))) (𝓛.names.obs-res r.ghost_name (R.coded.code w)) $
@@ -121,12 +121,12 @@ module _ {M : Type 1} {𝓤 : Ura M} (𝓛 : Logic 𝓤) (R : RattleType) where
 pub beside : {M : Type 1} (𝓤 : Ura M) {φ : Type 0} (P : SProp 𝓤) → φ → ent 𝓤 P (sep 𝓤 P (fact 𝓤 φ))
 beside 𝓤 {φ} P x = via 𝓤 (sep 𝓤 (emp 𝓤) P) (emp∗ 𝓤 P) (via 𝓤 (sep 𝓤 (fact 𝓤 φ) P) (mono_l 𝓤 P (fact_i 𝓤 φ (emp 𝓤) x)) (comm∗ 𝓤 (fact 𝓤 φ) P))
 
--- two facts are shown, and what is left of the goal is P
+-- two facts are shown, and the rest of the goal is `P`
 pub says_both : {M : Type 1} {𝓤 : Ura M} {𝓛 : Logic 𝓤} {K : Type 0} {Γ : List (Item 𝓤)} → K → {φ ψ : Type 0} {P : SProp 𝓤} → φ → ψ
     → Step K 𝓛 Γ (prop P) Γ (prop (sep 𝓤 P (sep 𝓤 (fact 𝓤 φ) (fact 𝓤 ψ))))
 says_both {𝓤 = 𝓤} t {φ} {ψ} {P} x y = step (λ s. record { prf = via 𝓤 P s.prf (via 𝓤 (sep 𝓤 P (fact 𝓤 φ)) (beside 𝓤 P x) (mono_r 𝓤 P (beside 𝓤 (fact 𝓤 φ) y))) })
 
--- ---- by a test
+-- ---- by the value of a test
 pub when_true : (b : Bool) (P Q : Type 0) → T b → MatchBool b P Q → P
 when_true true P Q t h = h
 when_true false P Q t h = absurd t

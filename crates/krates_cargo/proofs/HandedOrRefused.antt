@@ -1,5 +1,5 @@
--- A `&mut` that is lent to a helper which answers `Result<(), _>`: what the answer holds, and the reference that is handed back,
--- or given up with the error of that answer.
+-- A `&mut` that is lent to a helper which returns a `Result<(), _>`: what the result holds, and the reference that is
+-- returned, or given up with the error of that result.
 use Rattle.std.proofs.Common.{List, [], ◌∷◌, ◌++◌, refl, ap, ◌∙◌, MutBor}
 use Rattle.std.specs.Prelude.{Result, Ok, Err}
 use Rattle.std.specs.Borrow.{RestsIfErr}
@@ -23,11 +23,11 @@ use denote.RattleType.{RattleType}
 use denote.Ref.{mut_vals}
 use denote.Steps.{nothing}
 
--- the error of a call that reads or runs `cargo metadata`
+-- the error of a call that reads the output of `cargo metadata` or runs it
 abbrev pub E : RattleType
 E = Cause.the_row
 
--- the answer of the helper
+-- the result of the helper
 abbrev pub Told : RattleType
 Told = RS.the_row unit E
 
@@ -52,9 +52,9 @@ module _ {M : Type 1} {𝓤 : Ura M} (𝓛 : Logic 𝓤) where
       feq_i ! (List Val) (v ∷ []) (err_told w ∷ []) (e ∙ ap (λ us. live 1 (of_list us) ∷ []) (e' ∙ ap (λ vs. vs ++ []) e'')) $ keep ! (0 ∷ 1 ∷ []) $
       show ! (λ (w : Val). sep 𝓤 (sem 𝓛 (feq (List Val) (v ∷ []) (err_told w ∷ []))) (sem 𝓛 (E.own_val x (w ∷ [])))) w $ done !))))))
 
-  -- ---- r, for κ
+  -- ---- `r`, for the lifetime `κ`
   module _ (R : RattleType) (r : MutBor R.Denot) (κ : Lft) where
-    -- the answer that hands r on
+    -- the result that passes `r` on
     abbrev pub Answer : RattleType
     Answer = RS.the_row (Ref 𝓛 R r κ κ) E
 
@@ -62,18 +62,18 @@ module _ {M : Type 1} {𝓤 : Ura M} (𝓛 : Logic 𝓤) where
     ok_val = live 0 (of_list (vptr r.ref_ptr.0 r.ref_ptr.1 ∷ []))
 
     module _ (P : R.Denot → Type 0) where
-      -- what the caller learns of the reference that it lent
+      -- what the caller learns about the reference that it lent
       abbrev pub Rests : Result (MutBor R.Denot) E.Denot → Fml
       Rests answer = RestsIfErr R r (λ b. b.ghost_name) answer P
 
-      -- handed back
+      -- returned
       pub handed : (w : R.Denot) → ent 𝓤 (sem 𝓛 ((Ref 𝓛 R r κ κ).own_val (left 𝓛 R r κ w) (mut_vals r))) (sep 𝓤 (sem 𝓛 (Rests (Ok (left 𝓛 R r κ w)))) (sem 𝓛 (Answer.own_val (Ok (left 𝓛 R r κ w)) (ok_val ∷ []))))
       handed w =
           qed 𝓛 (‵ ((Ref 𝓛 R r κ κ).own_val (left 𝓛 R r κ w) (mut_vals r)) ∷ []) ∵
           use1 𝓛 (‵ (Answer.own_val (Ok (left 𝓛 R r κ w)) (ok_val ∷ []))) (ok_of 𝓛 (Ref 𝓛 R r κ κ) E (left 𝓛 R r κ w) (vptr r.ref_ptr.0 r.ref_ptr.1)) $
           nothing ! $ use1 𝓛 (‵ (Rests (Ok (left 𝓛 R r κ w)))) (itself_so 𝓛 R r.ghost_name r.now _ _ (λ v. refl) tt) $ done !
 
-      -- given up at a value of which P holds, with an error
+      -- given up at a value of which `P` holds, with an error
       pub given_up : (w : R.Denot) → P w → (x : E.Denot) (u : Val) → ent 𝓤 (sep 𝓤 (sem 𝓛 ((Ref 𝓛 R r κ κ).own_val (left 𝓛 R r κ w) (mut_vals r))) (sem 𝓛 (E.own_val x (u ∷ []))))
           (sep 𝓤 (sem 𝓛 (Rests (Err x))) (sem 𝓛 (Answer.own_val (Err x) (err_told u ∷ []))))
       given_up w holds x u =
@@ -82,7 +82,7 @@ module _ {M : Type 1} {𝓤 : Ura M} (𝓛 : Logic 𝓤) where
           use1 𝓛 (‵ (Rests (Err x))) (rests_so 𝓛 R r.ghost_name w _ _ (λ v. tt) holds) $ keep ! (3 ∷ 0 ∷ []) $
           use1 𝓛 (‵ (Answer.own_val (Err x) (err_told u ∷ []))) (err_of 𝓛 (Ref 𝓛 R r κ κ) E x u) $ move ! (1 ∷ []) $ done !
 
--- four facts are shown, and what is left of the goal is P
+-- four facts are shown, and the rest of the goal is `P`
 pub says_four : {M : Type 1} {𝓤 : Ura M} {𝓛 : Logic 𝓤} {K : Type 0} {Γ : List (Item 𝓤)} → K → {φ₁ φ₂ φ₃ φ₄ : Type 0} {P : SProp 𝓤} → φ₁ → φ₂ → φ₃ → φ₄
     → Step K 𝓛 Γ (prop P) Γ (prop (sep 𝓤 P (sep 𝓤 (fact 𝓤 φ₁) (sep 𝓤 (fact 𝓤 φ₂) (sep 𝓤 (fact 𝓤 φ₃) (fact 𝓤 φ₄))))))
 says_four {𝓤 = 𝓤} t {φ₁} {φ₂} {φ₃} {φ₄} {P} w x y z = step (λ s. record {

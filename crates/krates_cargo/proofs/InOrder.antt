@@ -1,4 +1,4 @@
--- Lists of strings in order, and the lists of their texts.
+-- Sorted lists of strings, and the lists of their texts.
 use Rattle.std.proofs.Common.{◌≡◌, ℕ, zero, suc, ◌<◌, List, [], ◌∷◌, length, get_or, map, Contains, String, refl, ap, sym, subst, arith}
 use Rattle.std.proofs.lemmas.List.Kept.{Any-dedup, Contains-from_dedup, IsStrictlySortedBy-dedup}
 use Rattle.std.proofs.lemmas.List.Sorted.{Contains-permutation, IsPermutation-sym}
@@ -23,7 +23,7 @@ at_map f (z ∷ zs) x (suc k) lt e = let w = at_map f zs x k (omega arith) e in 
 pub mapped : {X Y : Type 0} (f : X → Y) (xs : List X) (x : X) → Contains xs x → Contains (map f xs) (f x)
 mapped f xs x c = at_map f xs x c.0 c.1 c.2
 
--- an element that the function takes to this one
+-- an element that the function maps to this one
 pub record From {X Y : Type 0} (f : X → Y) (xs : List X) (y : Y) : Type 0 where
   pub from : X
   pub among : Contains xs from
@@ -50,9 +50,9 @@ unfolding IsStrictlySortedBy
 texts_rise [] h = tt
 texts_rise (x ∷ xs) h = (all_texts (λ t. slice_cmp nat_cmp (text_view x) t ≡ Less) xs h.0, texts_rise xs h.1)
 
--- ---- sorted, and each once
+-- ---- sorted without doubles
 
--- of those that are equal to an element one is left, and has its text
+-- of the elements that equal this one, one is left, and it has the same text
 left_of : (xs : List (String Global)) (x : String Global) → Contains xs x → Contains (map text_view (dedup string_eq xs)) (text_view x)
 left_of xs x c =
     let a = Any-dedup string_eq_equiv xs x c in

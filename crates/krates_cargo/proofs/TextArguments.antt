@@ -1,4 +1,4 @@
--- A list of texts that a function is handed by value, in a walk by hand.
+-- A list of texts that is passed by value, in a walk by hand.
 use Rattle.std.specs.contracts.alloc.Global as Global-row
 use Rattle.std.proofs.alloc.Global.TheLaws as Global-laws
 use Rattle.std.specs.contracts.impls.GlobalAllocator.TheImpl as impl

@@ -1,4 +1,4 @@
--- Why a run has no document, from why its output has none.
+-- Why a run gives no document: because its output doesn't.
 use Rattle.std.proofs.Common.{Bool, Result, Ok, Err, IfErr}
 use Rattle.krates_cm.specs.Document.{Text}
 use Rattle.krates_cm.specs.declared.error.Error.{Error}

@@ -12,7 +12,7 @@ use Rattle.krates_cm.specs.Document.{Text, text_view}
 use Rattle.krates_cm.proofs.CopyLemmas.{same_list}
 use Rattle.krates_cargo.specs.Command.{variables_view}
 
--- an entry, as clauses see it
+-- an entry, as the clauses see it
 abbrev texts : String Global × String Global → Text × Text
 texts e = (text_view e.0, text_view e.1)
 
@@ -21,7 +21,7 @@ map-match f Less xs ys zs = refl
 map-match f Equal xs ys zs = refl
 map-match f Greater xs ys zs = refl
 
--- a variable that is put into the map is put among what clauses see of it
+-- inserting a variable into the map inserts it into what the clauses see
 pub seen_insert : (es : List (String Global × String Global)) (name value : String Global)
     → map texts (insert_entry string_cmp es name value) ≡ insert_entry (slice_cmp nat_cmp) (map texts es) (text_view name) (text_view value)
 seen_insert [] name value = refl
@@ -36,6 +36,6 @@ IsSameText s t = text_view t ≡ text_view s
 abbrev EntryCopied : String Global × String Global → String Global × String Global → Type 0
 EntryCopied e f = IsSameText e.0 f.0 × IsSameText e.1 f.1
 
--- a copy of the variables looks as they do
+-- a copy of the variables has the same view
 pub same_variables : (m n : BTreeMap (String Global) (String Global)) → IsClone IsSameText IsSameText m n → variables_view n ≡ variables_view m
 same_variables m n h = same_list EntryCopied texts (λ e f same. λ i. (same.0 i, same.1 i)) m.entries n.entries h

@@ -1,4 +1,4 @@
--- Variables set one after another, in the order of a map.
+-- Variables that are set one after another, in the order of a map.
 use Rattle.std.proofs.Common.{◌≡◌, Bool, Less, true, false, cond, List, [], ◌∷◌, Option, Some, None, String, refl, sym, ap, ◌∙◌, map, fold}
 use Rattle.std.proofs.lemmas.Bool.{false_from_ne_true}
 use Rattle.std.proofs.lemmas.Map.Text.{is_eq-slice_cmp}
@@ -19,24 +19,24 @@ Entry = String Global × String Global
 abbrev pub entry_view : Entry → Text × Text
 entry_view e = (text_view e.0, text_view e.1)
 
--- what a command says of a name after one more is set
+-- what a command says about a name after one more variable is set
 abbrev pub said_next : Text → Option (Option Text) → Entry → Option (Option Text)
 said_next name said e = cond (bytes_eq (text_view e.0) name) (Some (Some (text_view e.1))) said
 
--- and after these are set in order
+-- and after all of these are set, in order
 abbrev pub said_after : Text → Option (Option Text) → List Entry → Option (Option Text)
 said_after name said es = fold (said_next name) said es
 
--- what the variables say of the name
+-- what the variables say about the name
 abbrev pub said_by : Text → List Entry → Option (Option Text)
 said_by name es = option_map Some (lookup (bytes_eq name) (map entry_view es))
 
--- those of other names change nothing
+-- variables of other names change nothing
 kept_after : (name : Text) (said : Option (Option Text)) (es : List Entry) → AllByRecursion (λ e. bytes_eq (text_view e.0) name ≡ false) es → said_after name said es ≡ said
 kept_after name said [] others = refl
 kept_after name said (e ∷ es) others = ap (λ b. said_after name (cond b (Some (Some (text_view e.1))) said) es) others.0 ∙ kept_after name said es others.1
 
--- a name that is below another isn't that
+-- a name that is less than another differs from it
 differ : (x y : String Global) → string_cmp x y ≡ Less → text_view x ≡ text_view y → ⊥
 differ x y below same = absurd (cc (sym (is_eq-slice_cmp (text_view x) (text_view y)) ∙ ap is_eq below, (bytes_eq-Decides (text_view x) (text_view y)).1 same))
 
@@ -65,7 +65,7 @@ first_said name e es false is below rest =
     ∙ rest
     ∙ sym (ap (λ b. option_map Some (cond b (Some v) (lookup (bytes_eq name) (map entry_view es)))) (turned (text_view e.0) name false is))
 
--- where nothing was said before, and names stand once
+-- for all variables, where nothing was said before and each name stands once
 pub said_all : (name : Text) (es : List Entry) → IsStrictlySortedBy string_cmp (keys_of es) → said_after name None es ≡ said_by name es
 unfolding IsStrictlySortedBy
 said_all name [] sorted = refl

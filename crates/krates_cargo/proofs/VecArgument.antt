@@ -1,4 +1,4 @@
--- A `Vec` that a function is handed by value, in a walk by hand: its type, its laws and its machine value.
+-- A `Vec` that is passed by value, in a walk by hand: its type, its laws and its machine value.
 use Rattle.std.specs.contracts.vec.Vec as Vec-row
 use Rattle.std.proofs.vec.Vec.TheLaws as Vec-laws
 use Rattle.std.specs.contracts.alloc.Global as Global-row

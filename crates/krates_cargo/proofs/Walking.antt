@@ -1,4 +1,4 @@
--- The steps of walks by hand.
+-- Steps of walks by hand.
 pub use Rattle.std.proofs.Common.{ℕ, List, [], ◌∷◌, refl, ap, lit<}
 pub use Rattle.std.proofs.raw_atomic.Walks.{proved}
 pub use base.Fml.{ftrue, flft}

@@ -1,4 +1,4 @@
--- What is asked of cargo beside a command, and the command that says it.
+-- What a tool asks of cargo, and the command that says so.
 use Rattle.std.specs.Prelude.{◌≡◌, ◌↔◌, Bool, false, List, [], ◌∷◌, ◌++◌, Option, Some, None, Contains, codes, ⊤}
 use Rattle.std.specs.Option.{option_map}
 use Rattle.std.specs.List.Sorted.{IsStrictlySortedBy}
@@ -40,7 +40,7 @@ pub record IsInOrder (given names : List Text) : Type 0 where
   pub rises : IsStrictlySortedBy (slice_cmp nat_cmp) names
   pub same : (name : Text) → Contains names name ↔ Contains given name
 
--- the options that are said, the features being these names
+-- the options, where these are the features
 abbrev pub options_with : OptionsModel → List Text → List Text
 options_with o names =
     flag o.no_default_features (codes "--no-default-features")
@@ -56,11 +56,11 @@ abbrev pub or_here : Text → Text
 or_here [] = codes "."
 or_here (byte ∷ dir) = byte ∷ dir
 
--- a manifest is asked for as `Cargo.toml`, and without one none
+-- a manifest is passed as `Cargo.toml`, and without one nothing is passed
 abbrev pub manifest_of : Option Text → Option Text
 manifest_of manifest = option_map (λ _. codes "Cargo.toml") manifest
 
--- the directory is the parent of the manifest, and without one the directory that is set
+-- the directory is the parent of the manifest, or without one the directory that is set
 abbrev pub IsPlace : Option Text → Option Text → Option Text → Type 0
 IsPlace None dir here = here ≡ option_map or_here dir
 IsPlace (Some manifest) dir here =
@@ -92,7 +92,7 @@ pub record IsCommandOf (o : OptionsModel) (c : CommandModel) : Type 0 where
     other_options = options_with o names;
   }
 
--- no other refusal is had
+-- no other refusal is possible
 abbrev pub IsParentlessOrMemory : Error → Type 0
 IsParentlessOrMemory errors.NoManifestParent = ⊤
 IsParentlessOrMemory errors.Memory = ⊤

@@ -16,7 +16,7 @@ begins_object line = slice_index line 0 == 123
 abbrev pub json_line : Text → Option Text
 json_line output = find begins_object (lines output)
 
--- cargo ended well, what it wrote is a text, and this is its JSON line
+-- cargo succeeded, what it wrote is a text, and this is its JSON line
 pub record Answers (success : Bool) (stdout line : Text) : Type 0 where
   pub ended_well : success ≡ true
   pub is_text : IsUtf8 stdout
@@ -28,7 +28,7 @@ pub record IsAnswer (success : Bool) (stdout : Text) (m : MetadataModel) : Type 
   pub answers : Answers success stdout line
   pub document : IsDocument line m
 
--- the JSON line is no document, for this reason
+-- the JSON line isn't a document, for this reason
 pub record IsNoDocument (success : Bool) (stdout : Text) (e : Error) : Type 0 where
   pub line : Text
   pub answers : Answers success stdout line

@@ -48,7 +48,7 @@ with_features o names = record o { features = o.features ++ names }
 abbrev pub with_options : OptionsModel → List Text → OptionsModel
 with_options o options = record o { other_options = o.other_options ++ options }
 
--- ---- after a refusal all is as it was
+-- ---- after a refusal nothing has changed
 
 abbrev pub RestsCommand : {E : Type 0} → MutBor CommandModel → Result (MutBor CommandModel) E → Fml
 RestsCommand c r = RestsIfErr command.the_row c (λ b. b.ghost_name) r (λ new. new ≡ c.now)

@@ -133,7 +133,7 @@ impl MetadataCommand {
         }
     }
 
-    /// The program to run as cargo, in place of the one that is handed in to `exec`. Never refused. Time O(1).
+    /// The program to run as cargo, in place of the one that is passed to `exec`. Never refused. Time O(1).
     ///
     /// ```text
     /// command.cargo_path(String::from_str(alloc, "/usr/bin/cargo")?);
@@ -214,7 +214,7 @@ impl MetadataCommand {
         self
     }
 
-    /// The command with these settings alone.
+    /// The command with only these settings.
     pub(crate) fn asking(
         alloc: Global,
         cargo_path: Option<String>,
@@ -350,7 +350,7 @@ impl MetadataCommand {
 
     /// Reads a document: the JSON value of the text (RFC 8259), then the metadata of that value.
     ///
-    /// It is refused as `Json` where the text is no JSON, and as `Value` where its value isn't read. It may instead
+    /// It is refused as `Json` if the text isn't JSON, and as `Value` if its value isn't read. It may instead
     /// return `Memory`. Time O(length).
     ///
     /// ```text

@@ -1,4 +1,4 @@
-//! The command `cargo metadata`: what it is asked, the words that it is run with, and what is read of its answer.
+//! The command `cargo metadata`: what is asked of it, the words that it is run with, and what is read from its output.
 #![tactic(auto)]
 
 pub mod command;

@@ -1,4 +1,4 @@
-//! What is asked of cargo, as the command line of a tool asks it.
+//! What is asked of cargo, as on the command line of a tool.
 
 ghost use Rattle.std.specs.Prelude.{◌≡◌, ◌↔◌, Some, true, IfOk, IfErr, map};
 ghost use Rattle.std.specs.Option.{option_map};
@@ -27,7 +27,7 @@ pub struct LockOptions {
     pub offline: bool,
 }
 
-/// What is asked of `cargo metadata`, as the options of a tool ask it. It becomes a command by `into_command`.
+/// What is asked of `cargo metadata`, as by the options of a tool. It becomes a command by `into_command`.
 ///
 /// The setters may be called in any order. Names of features and other options are added to those that are set; in
 /// everything else the last call counts. Each returns the value, so that calls chain. Those that add can run out of
@@ -108,7 +108,7 @@ impl Cmd {
         self
     }
 
-    /// The manifest whose workspace is asked for. Cargo is run in its directory, whatever other one is set. Never
+    /// The manifest whose workspace is asked for. Cargo is run in its directory, whatever other directory is set. Never
     /// refused here: a path without parent is refused by `into_command`. Time O(1).
     ///
     /// ```text
@@ -122,7 +122,7 @@ impl Cmd {
         self
     }
 
-    /// The directory to run cargo in, where no manifest is set. Never refused. Time O(1).
+    /// The directory to run cargo in, if no manifest is set. Never refused. Time O(1).
     ///
     /// ```text
     /// cmd.current_dir(String::from_str(alloc, "/w/a")?);
@@ -316,7 +316,7 @@ fn in_order(alloc: Global, names: &[String]) -> Result<Vec<String>, AllocError>
     Ok(sorted)
 }
 
-/// The directory that is set, where one is.
+/// The directory that is set, if one is.
 fn directory_set(alloc: Global, dir: &Option<String>) -> Result<Option<String>, AllocError>
     ensures { IfOk result (λ d. option_map text_view d ≡ option_map or_here (option_map text_view dir.now)) }
 {

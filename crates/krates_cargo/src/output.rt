@@ -1,4 +1,4 @@
-//! What is read of cargo's output.
+//! What is read from cargo's output.
 
 ghost use Rattle.std.specs.Prelude.{◌≡◌, [], IfOk, IfErr, false};
 ghost use Rattle.std.specs.Option.{option_map};
@@ -22,11 +22,11 @@ impl MetadataCommand {
         output.lines().find(|line| begins_object(line))
     }
 
-    /// The metadata in what cargo wrote, and whether it ended well.
+    /// The metadata in what cargo wrote, given whether cargo succeeded.
     ///
-    /// Where it didn't, the answer is `CargoMetadata` with what it wrote to standard error, or `ErrUtf8` where that is no text.
-    /// Where it did, the answer is `Utf8` where standard output is no text, `NoJson` where no line of it begins with `{`, and
-    /// else what `parse` answers for the first such line. It may instead return `Memory`. Time O(length of what was written), and
+    /// If it failed, this is refused as `CargoMetadata` with what it wrote to standard error, or as `ErrUtf8` if that isn't UTF-8.
+    /// If it succeeded, this is refused as `Utf8` if standard output isn't UTF-8, and as `NoJson` if no line of it begins with
+    /// `{`; otherwise it returns what `parse` returns for the first such line. It may instead return `Memory`. Time O(length of what was written), and
     /// that of `parse`.
     pub fn interpret(
         alloc: Global,

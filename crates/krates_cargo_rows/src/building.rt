@@ -25,7 +25,7 @@ impl OnFilter for Count {
     }
 }
 
-/// The last word of a run of cargo, and how what is told of its build begins, with how many packages the filter was called.
+/// The last word of a run of cargo, and how the answer of its build begins, with how many packages the filter was called.
 const BUILDS: &[(&str, &str)] = &[
     ("x", "0 reported, 2 kept"),
     (
@@ -46,7 +46,7 @@ const BUILDS: &[(&str, &str)] = &[
     ),
 ];
 
-/// What is told of a build by this command.
+/// The answer of a build by this command.
 fn told(rt: &HostRuntime, command: MetadataCommand) -> Result<String, Fail> {
     let alloc = rt.alloc();
     let mut count = Count { packages: 0 };

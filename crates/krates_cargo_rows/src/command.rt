@@ -1,4 +1,4 @@
-//! The command: the words that cargo is run with, the command of a tool's options, and what is read of cargo's output.
+//! The command: the words that cargo is run with, the command of a tool's options, and what is read from cargo's output.
 
 use krates_cargo::{Cmd, Features, LockOptions, MetadataCommand};
 use krates_cm::Error;
@@ -46,7 +46,7 @@ const PROCESSES: &[Row] = &[
     ),
 ];
 
-/// Texts, and what is read of them, or how the refusal begins.
+/// Texts, and what is read from them, or how the refusal begins.
 const PARSED: &[Row] = &[
     (DOCUMENT, "2 packages"),
     ("{", "failed to interpret `cargo metadata`'s json: "),
@@ -85,7 +85,7 @@ const JSON_LINES: &[(&str, Option<&str>)] = &[
     ("", None),
 ];
 
-/// Whether cargo ended well, what it wrote to standard output and to standard error, and what is read of it.
+/// Whether cargo succeeded, what it wrote to standard output and to standard error, and what is read from it.
 const READ: &[(bool, &[u8], &[u8], &str)] = &[
     (
         true,
@@ -280,7 +280,7 @@ fn process(alloc: Global, line: &str) -> Result<String, Fail> {
     Ok(shown(alloc, &command.clone()?)?)
 }
 
-/// What is read of a text.
+/// What is read from a text.
 fn parsed(alloc: Global, text: &str) -> Result<String, AllocError> {
     match MetadataCommand::parse(alloc, text) {
         Ok(metadata) => format!(in alloc; "{} packages", metadata.packages.len()),
@@ -288,7 +288,7 @@ fn parsed(alloc: Global, text: &str) -> Result<String, AllocError> {
     }
 }
 
-/// What is read of cargo's output.
+/// What is read from cargo's output.
 fn read(alloc: Global, success: bool, stdout: &[u8], stderr: &[u8]) -> Result<String, AllocError> {
     match MetadataCommand::interpret(alloc, success, stdout, stderr) {
         Ok(metadata) => format!(in alloc; "{} packages", metadata.packages.len()),
@@ -298,7 +298,7 @@ fn read(alloc: Global, success: bool, stdout: &[u8], stderr: &[u8]) -> Result<St
 
 /// What the lines of a table ask.
 trait Question {
-    /// What a line is answered.
+    /// The answer to a line.
     fn told(alloc: Global, line: &str) -> Result<String, Fail>;
 }
 

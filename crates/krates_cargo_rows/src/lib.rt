@@ -1,6 +1,6 @@
 //! The command, and runs of cargo by a stand-in: worked examples whose answers are known.
 //!
-//! A test isn't handed the path of another program, so this test program is its own stand-in: cargo's first word is `metadata`,
+//! A test doesn't get the path of another program, so this test program is its own stand-in: cargo's first word is `metadata`,
 //! and the test of this name does what `fake-cargo` does.
 #![tactic(auto)]
 
@@ -16,7 +16,7 @@ mod stand_in;
 #[cfg(test)]
 use std::test::Fail;
 
-/// Stands in for cargo, where words follow.
+/// Stands in for cargo, if words follow.
 #[cfg(test)]
 #[test]
 fn metadata(rt: HostRuntime) -> Result<(), Fail> {

@@ -6,7 +6,7 @@ use krates_stand_in::answer;
 use std::io::Write;
 use std::test::Fail;
 
-/// The last word of a run, and how what is read of it begins.
+/// The last word of a run, and how what is read from it begins.
 const RUNS: &[(&str, &str)] = &[
     ("x", "2 packages"),
     (
@@ -35,7 +35,7 @@ const RUNS: &[(&str, &str)] = &[
     ),
 ];
 
-/// Writes what the last word says, where words follow the name of the test, and answers the status.
+/// Writes what the last word says, if words follow the name of the test, and returns the status.
 pub(crate) fn run(rt: &HostRuntime) -> Result<u8, Fail> {
     let mut words = Vec::new(rt.alloc());
     for word in std::env::args(rt)?.skip(1) {

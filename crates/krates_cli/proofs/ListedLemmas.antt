@@ -1,4 +1,4 @@
--- A text that has a listing is refused for nothing that is said of it.
+-- A text that has a listing isn't refused for anything in the text.
 use Rattle.std.proofs.Common.{◌≡◌, ℕ, zero, suc, ◌<◌, List, [], ◌∷◌, length, get_or, Contains, Option, Some, None, IsSome, IsUtf8, refl, ap, sym, ◌∙◌, subst, inl, inr, arith, string_bytes}
 use Rattle.std.proofs.lemmas.Option.{none-some, same_Some}
 use Rattle.std.specs.List.{AllZip, AllByRecursion}
@@ -26,16 +26,16 @@ use Rattle.krates_cli.specs.Options.{OptionsModel, IsCommandLine, setting_of}
 use Rattle.krates_cli.specs.declared.run_error.RunError.{RunError}
 use Rattle.krates_cli.specs.declared.run_error.RunError.TheVariants as errors
 
--- a text is read as one id
+-- a text reads as at most one id
 abbrev pub ReadsOnce : Type 0
 ReadsOnce = (t : Text) (a b : Identity) → Reads t a → Reads t b → a ≡ b
 
--- a text is one document
+-- a text reads as at most one document
 one_document : (text : Text) (a b : MetadataModel) → IsDocument text a → IsDocument text b → a ≡ b
 one_document text a b (d, reads, is) (e, also, was) =
     same_Some a b (sym is ∙ ap (λ x. (metadata [] x).value) (same_Some d e (sym reads ∙ also)) ∙ was)
 
--- a document is refused as none for nothing but memory
+-- a text that is a document is refused only when out of memory
 document_refused : (text : Text) (m : MetadataModel) (cause : cm.Error) → IsDocument text m → IsRefusal text cause → cause ≡ cm_errors.Memory
 document_refused text m (cm_errors.Json e) (d, reads, is) none = absurd (none-some d (sym none ∙ reads))
 document_refused text m (cm_errors.Value e) (d, reads, is) (other, also, none, fault) =
@@ -49,7 +49,7 @@ document_refused text m cm_errors.NoJson document refused = absurd refused
 document_refused text m cm_errors.FeaturesTwice document refused = absurd refused
 document_refused text m cm_errors.NoManifestParent document refused = absurd refused
 
--- what stands beside an element of related lists
+-- what stands beside an element of a related list
 beside : {A B : Type 0} (R : A → B → Type 0) (xs : List A) (ys : List B) (x : A) (k : ℕ) → AllZip R xs ys → k < length xs → get_or xs k x ≡ x
     → (y : B) × Contains ys y × R x y
 beside R [] ys x k zip lt is = absurd (omega arith)
@@ -64,7 +64,7 @@ each P [] x k h lt is = absurd (omega arith)
 each P (a ∷ xs) x zero h lt is = subst P is h.0
 each P (a ∷ xs) x (suc k) h lt is = each P xs x k h.1 (omega arith) is
 
--- an id of a dependency that stands among the nodes, with its version
+-- the id of a node's dependency
 dep_id : (g : ResolveModel) (ids : List (List Identity)) (n : NodeModel) (t : Text) → AllZip AreDepIds g.nodes ids → Contains g.nodes n → Contains (dep_texts n) t
     → (i : Identity) × Reads t i × HasVersion i
 dep_id g ids n t zip node dep =
@@ -77,7 +77,7 @@ root_id None root t is e = absurd (none-some t e)
 root_id (Some u) None t is e = absurd is
 root_id (Some u) (Some i) t is e = (i, subst (λ v. Reads v i) (same_Some u t e) is)
 
--- of an admitted document each text that has to be an id is read
+-- in an admitted document each text that has to be an id reads as one
 stands_read : (m : MetadataModel) (g : ResolveModel) (ids : IdsModel) (t : Text) → AreIdsOf m g ids → StandsForId m g t → (i : Identity) × Reads t i
 stands_read m g ids t are (of_package c) = let w = beside Reads (package_texts m) ids.packages t c.0 are.packages c.1 c.2 in (w.0, w.2)
 stands_read m g ids t are (of_member c) = let w = beside Reads m.workspace_members ids.members t c.0 are.members c.1 c.2 in (w.0, w.2)
@@ -91,11 +91,11 @@ none_invalid once m g ids t are (bad_version n c d i reads none) =
     let w = dep_id g ids.deps n t are.deps c d in
     w.2 (subst (λ (j : Identity). version_named j.version ≡ None) (once t i w.0 reads w.1) none)
 
--- what holds of a document's graph, of the graph that it is known to have
+-- a property of the graph that a document has
 of_graph : (m : MetadataModel) (P : ResolveModel → Type 0) (g : ResolveModel) → m.resolve ≡ Some g → HasGraphWith m P → P g
 of_graph m P g has h = subst P (same_Some h.graph g (sym h.has_graph ∙ has)) h.holds
 
--- a document that is divided is refused for nothing but memory, and more crates than can be numbered
+-- a document that can be divided is refused only when out of memory or for too many nodes
 divided_refused : ReadsOnce → (s : SettingModel) (m n : Metadata) (kept others : List Package) (cause : build.Error) → metadata_view n ≡ metadata_view m
     → IsSplit s m kept others → BuildRefusalAsGiven n s cause → (cause ≡ build_errors.Memory → ⊥) → cause ≡ build_errors.TooMany
 divided_refused once s m n kept others build_errors.NoResolveGraph same split refused limited =
@@ -122,7 +122,7 @@ divided_refused once s m n kept others build_errors.Memory same split refused li
 divided_refused once s m n kept others (build_errors.Metadata _) same split refused limited = absurd refused
 divided_refused once s m n kept others (build_errors.InvalidPkgSpec _) same split refused limited = absurd refused
 
--- a run over a text that has a listing is refused for a cause that isn't the text's
+-- a run over a text that has a listing is refused only for another cause than the text
 pub listed_refused : ReadsOnce → (s : SettingModel) (bytes lines : Text) (cause : RunError) → IsUtf8 bytes → IsListing s bytes lines → RunRefusal s bytes cause → IsOutside cause
 listed_refused once s bytes lines errors.Read utf8 listing refused = tt
 listed_refused once s bytes lines errors.Utf8 utf8 listing refused = refused utf8
@@ -134,16 +134,16 @@ listed_refused once s bytes lines (errors.Build cause) utf8 listing (_, refused)
 listed_refused once s bytes lines errors.Write utf8 listing refused = tt
 listed_refused once s bytes lines errors.Memory utf8 listing refused = tt
 
--- words ask for one thing
+-- words ask for only one thing
 abbrev pub AskOnce : Type 0
 AskOnce = (words : List Text) (a b : OptionsModel) → IsCommandLine words a → IsCommandLine words b → a ≡ b
 
--- what refuses lines that are read refuses a run
+-- a refusal of lines that are read is a refusal of a run
 read_refused : (cargo : Option Text) (s : SettingModel) (bytes : Text) (cause : RunError) → cargo ≡ None → LinesRefusal cargo s (Some bytes) cause → RunRefusal s bytes cause
 read_refused None s bytes cause none refused = refused
 read_refused (Some program) s bytes cause none refused = absurd (none-some program (sym none))
 
--- the same of the words and of what is to be read
+-- the same, of the words and of what remains to be read
 pub asked_refused : ReadsOnce → AskOnce → (words : List Text) (remaining : Option Text) (cause : RunError) → AskForListing words remaining → IsCause words remaining cause → IsOutside cause
 asked_refused once alone words remaining cause listed (inl memory) = subst IsOutside (sym memory) tt
 asked_refused once alone words None cause listed (inr asked) = absurd listed.2.1
@@ -152,6 +152,6 @@ asked_refused once alone words (Some bytes) cause listed (inr asked) =
     let refused = subst (λ (o : OptionsModel). LinesRefusal o.cargo (setting_of o) (Some bytes) cause) same asked.2 in
     listed_refused once (setting_of listed.0) bytes listed.2.1.1.0 cause listed.2.1.0 listed.2.1.1.1 (read_refused listed.0.cargo (setting_of listed.0) bytes cause listed.2.0 refused)
 
--- what holds where a program is asked for, of the words that ask for this
+-- a property of the words where they ask for a program
 pub where_program : AskOnce → (words : List Text) (o : OptionsModel) (P : Type 0) → IsCommandLine words o → (IsSome o.cargo → P) → AskForProgram words → P
 where_program alone words o P line h asked = h (subst (λ (a : OptionsModel). IsSome a.cargo) (alone words asked.0 o asked.1 line) asked.2)

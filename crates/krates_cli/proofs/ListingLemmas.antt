@@ -1,4 +1,4 @@
--- What a refused build says of a text.
+-- What a refused build means for a text.
 use Rattle.std.proofs.Common.{◌≡◌, ◌∷◌, ◌++◌, List, [], true, Option, None, Some, IfSome, IsUtf8, Result, Ok, Err, IfOk, IfErr, String, Global, string_bytes, refl, sym, ap, subst, ◌∙◌}
 use Rattle.std.specs.List.{AllZip}
 use Rattle.std.specs.Prelude.{⊤}
@@ -27,12 +27,12 @@ use Rattle.krates_cli.specs.declared.reported.Reported.{Reported}
 use Rattle.krates_cli.proofs.ReportedLemmas.{all_reported}
 use Rattle.krates_cli.specs.RunError.{BuildErrorBecomes, ParseErrorBecomes}
 
--- of a refusal that isn't a failed write
+-- a refusal other than a failed write
 abbrev NoWrite : RunError → Type 0
 NoWrite errors.Write = ⊥
 NoWrite _ = ⊤
 
--- without an index the document is looked at as it is given
+-- without an index the document is resolved as it is given
 pub as_given : {S : Type 0} (may_answer : Answering S) (m : Metadata) (P : Metadata → Type 0) → Sees may_answer None m P → P m
 as_given may_answer m P h = subst P h.is_seen h.holds
 
@@ -59,7 +59,7 @@ unbuilt s m cause errors.Utf8 refused becomes = absurd becomes
 unbuilt s m cause (errors.Parse same) refused becomes = absurd becomes
 unbuilt s m cause errors.Write refused becomes = absurd becomes
 
--- and neither has its text
+-- nor has its text
 pub text_unlisted : (s : SettingModel) (text : Text) (m : Metadata) (e : RunError) → IsDocument text (metadata_view m) → IsUnlisted s m e → ListingRefusal s text e
 text_unlisted s text m (errors.Build cause) document unlisted = record { metadata = m; document = document; unbuilt = unlisted }
 text_unlisted s text m errors.Memory document unlisted = tt
@@ -68,7 +68,7 @@ text_unlisted s text m errors.Utf8 document unlisted = absurd unlisted
 text_unlisted s text m (errors.Parse cause) document unlisted = absurd unlisted
 text_unlisted s text m errors.Write document unlisted = absurd unlisted
 
--- nor a run of cargo that wrote it; it is no failed write
+-- nor has a run of cargo that wrote it; and that isn't a failed write
 pub cargo_unlisted : (s : SettingModel) (m : Metadata) (e : RunError) → IsSomeAnswer (metadata_view m) → IsUnlisted s m e → CargoRefusal s e × (e ≡ errors.Write → ⊥)
 cargo_unlisted s m (errors.Build cause) written unlisted = (record { metadata = m; written = written; holds = unlisted }, λ is. subst NoWrite is tt)
 cargo_unlisted s m errors.Memory written unlisted = (tt, λ is. subst NoWrite is tt)
@@ -97,7 +97,7 @@ pub cargo_refused : {A : Type 0} (s : SettingModel) (m : Metadata) (r : Result A
 cargo_refused s m (Ok x) written unlisted = unlisted
 cargo_refused s m (Err e) written unlisted = cargo_unlisted s m e written unlisted
 
--- a run of cargo without a document has no listing, and is no failed write
+-- a run of cargo without a document has no listing, and that isn't a failed write
 pub cargo_unrun : (s : SettingModel) (cause : cm.Error) (e : RunError) → IsUnrun cause → ParseErrorBecomes cause e → CargoRefusal s e × (e ≡ errors.Write → ⊥)
 cargo_unrun s cause (errors.Parse same) unrun becomes = (
   record { unrun = subst IsUnrun (sym becomes.0) unrun; not_memory = λ is_memory. becomes.1 (sym becomes.0 ∙ is_memory) },
@@ -109,7 +109,7 @@ cargo_unrun s cause errors.Utf8 unrun becomes = absurd becomes
 cargo_unrun s cause (errors.Build same) unrun becomes = absurd becomes
 cargo_unrun s cause errors.Write unrun becomes = absurd becomes
 
--- a package stands for itself
+-- a package is reported as itself
 abbrev pub IsItself : Package → Package → Type 0
 IsItself pkg value = value ≡ pkg
 
@@ -119,7 +119,7 @@ itself [] (y ∷ ys) h = absurd h
 itself (x ∷ xs) [] h = absurd h
 itself (x ∷ xs) (y ∷ ys) h = ap (λ (p : Package). p ∷ xs) (sym h.0) ∙ ap (λ ps. y ∷ ps) (itself xs ys h.1)
 
--- what a build without an index keeps and reports of a document is its listing
+-- what a build without an index keeps and reports is the listing of the document
 pub listed : {S : Type 0} (may_answer : Answering S) (index : Option S) (s meant : SettingModel) (lines told : Text) (m : Metadata) (made_edge : Edge → Edge → Type 0) (kept : KeptCrates Package Edge) (before after : Reported) → index ≡ None → s ≡ meant
     → IsResolvable (metadata_view m) → Sees may_answer index m (λ seen. IsBuilt Reports IsItself made_edge seen s before after kept) → lines_in before ≡ [] → is_whole after ≡ true → told ≡ lines_in after
     → lines ≡ kept_lines (values_of kept) ++ told → IsListingOf meant m lines
@@ -144,7 +144,7 @@ listed may_answer index s meant lines told m made_edge kept before after none sa
       written = written ∙ ap (λ ls. kept_lines (values_of kept) ++ ls) others;
     })
 
--- a beginning of the listing of what was read is written
+-- what was written is the beginning of the listing of what was read
 pub begun : (s : SettingModel) (remaining : Option Text) (read text lines written : Text) (old new : Option Text) → IfSome remaining (λ left. read ≡ left) → IsUtf8 text → text ≡ read
     → IsListing s text lines → written ≡ lines → AppendsFront old new written → IfSome remaining (λ bytes. WritesBeginning s bytes old new)
 begun s None read text lines written old new all utf8 same listing is front = all

@@ -1,4 +1,4 @@
--- How options are read from the front of words.
+-- How options are read from the front of the words.
 use Rattle.std.proofs.Common.{◌≡◌, ◌⊎◌, ◌++◌, ◌||◌, Bool, true, false, List, [], ◌∷◌, Option, None, Some, bytes_eq, codes, drop, refl, sym, ap, inl, inr, ⊎_elim, subst, ◌∙◌, append_assoc, append-nil}
 use Rattle.std.proofs.Math.Bool.{or-true, or-false}
 use Rattle.std.proofs.lemmas.Bool.{false≢true}
@@ -12,7 +12,7 @@ use Rattle.krates_cli.specs.declared.options.OptionsError.TheVariants as errors
 
 -- ---- one option
 
--- what an option with a value is
+-- what an option with a value asks for
 abbrev pub IsAsked : Text → Text → Wish → Type 0
 IsAsked option value every_member = ⊥
 IsAsked option value every_namesake = ⊥
@@ -45,7 +45,7 @@ IsFlag option every_member = option ≡ codes "--workspace"
 IsFlag option every_namesake = option ≡ codes "--all-named"
 IsFlag option _ = ⊥
 
--- an option with a value is none of them
+-- an option with a value isn't one of these
 no_flag : (option value : Text) (wish flag : Wish) → AsksWith option value wish → IsFlag option flag → ⊥
 no_flag option value wish every_member asks e = no_word option value (codes "--workspace") wish refl refl refl refl refl asks e
 no_flag option value wish every_namesake asks e = no_word option value (codes "--all-named") wish refl refl refl refl refl asks e
@@ -54,7 +54,7 @@ no_flag option value wish (at_target t) asks e = e
 no_flag option value wish (without_package s) asks e = e
 no_flag option value wish (by_program c) asks e = e
 
--- and each asks for one thing
+-- and each of these asks for one thing
 same_flag : (option : Text) (a b : Wish) → IsFlag option a → IsFlag option b → a ≡ b
 same_flag option every_member every_member p q = refl
 same_flag option every_member every_namesake p q = differ option (codes "--workspace") (codes "--all-named") p q refl refl
@@ -73,7 +73,7 @@ same_flag option (at_target t) b p q = absurd p
 same_flag option (without_package s) b p q = absurd p
 same_flag option (by_program c) b p q = absurd p
 
--- an option of another name asks for nothing
+-- an option with another name asks for nothing
 pub no_value : (option value : Text) → (option ≡ codes "--ignore-kind" → ⊥) → (option ≡ codes "--target" → ⊥) → (option ≡ codes "--exclude" → ⊥) → (option ≡ codes "--cargo" → ⊥) → IsNoValue option value
 no_value option value no_kind no_target no_spec no_cargo wish (ignore_kind h) = no_kind refl
 no_value option value no_kind no_target no_spec no_cargo wish target = no_target refl
@@ -86,7 +86,7 @@ no_spec_value option value is none wish target = differ option (codes "--target"
 no_spec_value option value is none wish (exclude {spec = spec} h) = none spec h
 no_spec_value option value is none wish cargo = differ option (codes "--cargo") (codes "--exclude") refl is refl refl
 
--- a value that is no specification is refused, and running out of memory stays that
+-- a value that isn't a specification is refused, and running out of memory stays that
 pub spec_refused : (option value : Text) (why same : OptionsError) → option ≡ codes "--exclude" → IsUnread ((spec : Specification) → IsSpec value spec.name spec.version spec.url → ⊥) why
     → same ≡ why → IsUnread (IsNoValue option value) same
 spec_refused option value errors.Unknown same is none e = subst (IsUnread (IsNoValue option value)) (sym e) (no_spec_value option value is none)
@@ -157,9 +157,9 @@ begins words wish rest workspace = inl (codes "--workspace", refl, refl)
 begins words wish rest all_named = inl (codes "--all-named", refl, refl)
 begins words wish rest (valued {option = option} {value = value} h) = inr (option, value, h, refl)
 
--- ---- whole words
+-- ---- all words
 
--- what is asked by both, the first before the second
+-- what both ask for, the first before the second
 abbrev pub joined : OptionsModel → OptionsModel → OptionsModel
 joined a b = record {
   workspace = a.workspace || b.workspace;
@@ -174,7 +174,7 @@ later_still : (first : Option Text) (program : Text) (last : Option Text) → la
 later_still first program None = refl
 later_still first program (Some other) = refl
 
--- a wish at the end of the first stands before the second
+-- a wish at the end of the first may stand at the front of the second
 moves_over : (a b : OptionsModel) (wish : Wish) → joined (and_wish a wish) b ≡ joined a (with_wish wish b)
 moves_over a b every_member = ap (λ x. record (joined a b) { workspace = x }) (sym (or-true a.workspace))
 moves_over a b every_namesake = ap (λ x. record (joined a b) { all_named = x }) (sym (or-true a.all_named))
@@ -207,7 +207,7 @@ joined_plain a = λ i. record {
   all_named = or-false a.all_named i;
 }
 
--- So far this is asked, and these words are left: they are a command line exactly where all words are.
+-- this was asked for so far, and these words are left: they are a command line exactly where all words are one
 pub record AreReadTo (all : List Text) (asked : OptionsModel) (left : List Text) : Type 0 where
   pub whole : (o : OptionsModel) → IsCommandLine left o → IsCommandLine all (joined asked o)
   pub back : (o : OptionsModel) → IsCommandLine all o → (p : OptionsModel) × IsCommandLine left p
@@ -223,7 +223,7 @@ abbrev is_none : List Text → Bool
 is_none [] = true
 is_none (word ∷ words) = false
 
--- there are words
+-- there is a word
 some_words : (option : Text) (values : List Text) → option ∷ values ≡ [] → ⊥
 some_words option values e = false≢true (ap is_none e)
 
@@ -252,11 +252,11 @@ rests words wish other rest left (inl (flag, named, has)) (inr (option, value, a
 rests words wish other rest left (inr (option, value, asks, is)) (inl (flag, named, has)) = absurd (no_flag option value wish other asks (subst (λ o. IsFlag o other) (ap first (sym has ∙ is)) named))
 rests words wish other rest left (inr a) (inr b) = ap (λ l. drop 2 l) (sym a.3 ∙ b.3)
 
--- the words that follow an option are these alone
+-- an option leaves only these words
 pub same_rest : (words : List Text) (wish other : Wish) (rest left : List Text) → AsksFirst words wish rest → AsksFirst words other left → rest ≡ left
 same_rest words wish other rest left asks also = rests words wish other rest left (begins words wish rest asks) (begins words other left also)
 
--- what follows the first option of a command line is one
+-- what follows the first option of a command line is a command line
 follows : (words : List Text) (o : OptionsModel) (rest : List Text) (wish : Wish) → AsksFirst words wish rest → LineBegins words o → (p : OptionsModel) × IsCommandLine rest p
 follows words o rest wish asks (inl none) = absurd (nothing_first words rest wish asks none.0)
 follows words o rest wish asks (inr (left, other, p, also, line, is)) = (p, subst (λ l. IsCommandLine l p) (same_rest words other wish left rest also asks) line)
@@ -277,11 +277,11 @@ one_read all old new left words rest split adds before = record {
 pub all_read : (all : List Text) (o : OptionsModel) (left : List Text) → left ≡ [] → AreReadTo all o left → IsCommandLine all o
 all_read all o left none are = subst (λ a. IsCommandLine all a) (joined_plain o) (are.whole plain_options (subst (λ l. IsCommandLine l plain_options) (sym none) no_words))
 
--- words of which some are left that begin with no option are no command line
+-- if the words left begin with no option, all words are no command line
 unknown_left : (all : List Text) (o : OptionsModel) (option : Text) (left values : List Text) → left ≡ option ∷ values → BeginsUnknown (option ∷ values) → AreReadTo all o left → IsUnknown all
 unknown_left all o option left values split unknown are p line = let (q, line_left) = are.back p line in never option values q unknown (line_begins (option ∷ values) q (subst (λ l. IsCommandLine l q) split line_left))
 
--- words aren't read where what is left of them isn't, and running out of memory stays that
+-- words are refused where the words left are, and running out of memory stays that
 pub unread_left : (all : List Text) (o : OptionsModel) (option : Text) (left values : List Text) (why same : OptionsError) → left ≡ option ∷ values
     → IsUnread (BeginsUnknown (option ∷ values)) why → same ≡ why → AreReadTo all o left → IsUnread (IsUnknown all) same
 unread_left all o option left values errors.Unknown same split unknown e are = subst (IsUnread (IsUnknown all)) (sym e) (unknown_left all o option left values split unknown are)
@@ -289,7 +289,7 @@ unread_left all o option left values errors.Memory same split unknown e are = su
 
 -- ---- one reading
 
--- specifications are read in one way
+-- specifications have one reading
 abbrev pub OneReading : Type 0
 OneReading = (t : Text) (a b : Specification) → IsSpec t a.name a.version a.url → IsSpec t b.name b.version b.url → a ≡ b
 
@@ -337,7 +337,7 @@ wishes one words a b rest left (inr (option, value, asks, is)) (inr (other, also
 same_wish : OneReading → (words : List Text) (a b : Wish) (rest left : List Text) → AsksFirst words a rest → AsksFirst words b left → a ≡ b
 same_wish one words a b rest left asks also = wishes one words a b rest left (begins words a rest asks) (begins words b left also)
 
--- words are read in one way, where specifications are
+-- words have one reading, where specifications have
 pub same_line : OneReading → (words : List Text) (a b : OptionsModel) → IsCommandLine words a → IsCommandLine words b → a ≡ b
 same_line one words a b no_words second = ⊎_elim (λ none. sym none.1) (λ some. absurd (nothing_first [] some.0 some.1 some.3 refl)) (line_begins [] b second)
 same_line one words a b (one_more {rest = rest} {wish = wish} {o = o} asks line) second =

@@ -1,4 +1,4 @@
--- What a run of the filter collects that makes a line of each package.
+-- What the filter that makes a line of each package collects in a run.
 use Rattle.std.proofs.Common.{◌≡◌, List, [], ◌∷◌, ◌++◌, true, codes, sym, ap, ◌∙◌, subst, append-nil, append_assoc}
 use Rattle.std.specs.List.{FoldsTo}
 use Rattle.krates_cm.specs.declared.package.Package.{Package}
@@ -6,7 +6,7 @@ use Rattle.krates_cli.specs.Lines.{line, reported_lines}
 use Rattle.krates_cli.specs.Reported.{Reports, lines_in, is_whole}
 use Rattle.krates_cli.specs.declared.reported.Reported.{Reported}
 
--- a run with memory to its end has added the line of every package
+-- a run that never ran out of memory added the line of every package
 pub all_reported : (old : Reported) (packages : List Package) (new : Reported) → FoldsTo Reports old packages new → is_whole new ≡ true
     → (is_whole old ≡ true) × (lines_in new ≡ lines_in old ++ reported_lines packages)
 all_reported old [] new ends whole =

@@ -14,7 +14,7 @@ lines_append k (y ∷ ys) x =
     let e : k + 1 + length ys ≡ k + suc (length ys) = omega arith in
     ap (λ (t : Text). step_line k y ++ t) (lines_append (k + 1) ys x ∙ ap (λ (n : ℕ). lines_from (k + 1) ys ++ step_line n x) e) ∙ sym (append_assoc (step_line k y) (lines_from (k + 1) ys) (step_line (k + suc (length ys)) x))
 
--- one line more
+-- one more line
 pub lines_more : (xs : List Step) (i : ℕ) (x : Step) → i < length xs → x ≡ get_or xs i x → lines_from 0 (take (i + 1) xs) ≡ lines_from 0 (take i xs) ++ step_line i x
 lines_more xs i x lt is =
     let more : take (i + 1) xs ≡ take i xs ++ x ∷ [] = take_more xs i x lt ∙ ap (λ (y : Step). take i xs ++ y ∷ []) (sym is) in
@@ -28,6 +28,6 @@ further_append (y ∷ ys) x =
     ∙ ap (λ (t : Text). codes ", " ++ t) (sym (append_assoc (decimal y) (further_uses ys) (codes ", " ++ decimal x)))
     ∙ sym (append_assoc (codes ", ") (decimal y ++ further_uses ys) (codes ", " ++ decimal x))
 
--- one number more
+-- one more number
 pub further_more : (xs : List ℕ) (i : ℕ) → i < length xs → further_uses (take (i + 1) xs) ≡ further_uses (take i xs) ++ (codes ", " ++ decimal (get_or xs i 0))
 further_more xs i lt = ap further_uses (take_more xs i 0 lt) ∙ further_append (take i xs) (get_or xs i 0)

@@ -1,4 +1,4 @@
--- A copy looks as its original: of each kind of field.
+-- A copy has the same view as its original, for each kind of field.
 use Rattle.std.proofs.Common.{◌≡◌, ℕ, List, [], ◌∷◌, map, Option, None, Some, String, Global, string_bytes, refl, ap}
 use Rattle.std.specs.BTreeMap.{BTreeMap, IsClone}
 use Rattle.std.specs.Global.{Vec}
@@ -16,26 +16,26 @@ use Rattle.krates_cm.specs.declared.package_id.PackageId.{PackageId}
 
 -- ---- lists and maps
 
--- of a list, where that holds of each item
+-- a list, where each copied item has the same view
 pub same_list : {X A : Type 0} (R : X → X → Type 0) (seen : X → A) → ((x y : X) → R x y → seen y ≡ seen x) → (xs ys : List X) → AllZip R xs ys → map seen ys ≡ map seen xs
 same_list R seen same [] [] h = refl
 same_list R seen same [] (y ∷ ys) h = absurd h
 same_list R seen same (x ∷ xs) [] h = absurd h
 same_list R seen same (x ∷ xs) (y ∷ ys) h = λ i. same x y h.0 i ∷ same_list R seen same xs ys h.1 i
 
--- each text of the second list reads as that of the first
+-- each text of the second list has the bytes of the first
 abbrev TextsCopied : Vec (String Global) → Vec (String Global) → Type 0
 TextsCopied v w = AllZip (λ s t. string_bytes t ≡ string_bytes s) v.items w.items × (vec_len w ≡ vec_len v)
 
--- of a list of texts
+-- a list of texts
 pub same_texts : (v w : Vec (String Global)) → TextsCopied v w → texts_view w ≡ texts_view v
 same_texts v w h = same_list (λ s t. string_bytes t ≡ string_bytes s) text_view (λ s t same. same) v.items w.items h.0
 
--- of a list of ids
+-- a list of ids
 pub same_ids : (v w : Vec PackageId) → AllZip (λ id copy. id_view copy ≡ id_view id) v.items w.items × (vec_len w ≡ vec_len v) → ids_view w ≡ ids_view v
 same_ids v w h = same_list (λ id copy. id_view copy ≡ id_view id) id_view (λ id copy same. same) v.items w.items h.0
 
--- of a list whose items are copied as they are
+-- a list whose items are copied as they are
 pub same_items : {X : Type 0} (xs ys : List X) → AllZip (λ x y. y ≡ x) xs ys → ys ≡ xs
 same_items [] [] h = refl
 same_items [] (y ∷ ys) h = absurd h
@@ -51,13 +51,13 @@ EntryCopied e f = (string_bytes f.0 ≡ string_bytes e.0) × TextsCopied e.1 f.1
 same_entry : (e f : String Global × Vec (String Global)) → EntryCopied e f → entry_view f ≡ entry_view e
 same_entry e f h = λ i. (h.0 i, same_texts e.1 f.1 h.1 i)
 
--- of the features of a package
+-- the features of a package
 pub same_features : (m n : BTreeMap (String Global) (Vec (String Global))) → IsClone (λ s t. string_bytes t ≡ string_bytes s) TextsCopied m n → features_view n ≡ features_view m
 same_features m n h = same_list EntryCopied entry_view same_entry m.entries n.entries h
 
 -- ---- versions and requirements
 
--- a copy of a version has the same first identifiers
+-- a copy of a version has the same pre-release identifier
 same_pre : (v w : Version) (a b : Option (String Global)) → versions.is_clone (record v { pre = record { identifier = a } }) (record w { pre = record { identifier = b } })
     → pre_text (record { identifier = b }) ≡ pre_text (record { identifier = a })
 same_pre v w None None h = refl
@@ -65,7 +65,7 @@ same_pre v w None (Some t) h = absurd h.1.1.1.0
 same_pre v w (Some s) None h = absurd h.1.1.1.0
 same_pre v w (Some s) (Some t) h = h.1.1.1.0
 
--- and the same last ones
+-- and the same build identifier
 same_build : (v w : Version) (a b : Option (String Global)) → versions.is_clone (record v { build = record { identifier = a } }) (record w { build = record { identifier = b } })
     → build_text (record { identifier = b }) ≡ build_text (record { identifier = a })
 same_build v w None None h = refl
@@ -91,7 +91,7 @@ same_patch c d None (Some y) h = absurd h.1.1.1.0
 same_patch c d (Some x) None h = absurd h.1.1.1.0
 same_patch c d (Some x) (Some y) h = ap (λ n. Some n) h.1.1.1.0
 
--- and the same identifiers
+-- and the same pre-release identifier
 same_compared : (c d : Comparator) (a b : Option (String Global)) → comparators.is_clone (record c { pre = record { identifier = a } }) (record d { pre = record { identifier = b } })
     → pre_text (record { identifier = b }) ≡ pre_text (record { identifier = a })
 same_compared c d None None h = refl

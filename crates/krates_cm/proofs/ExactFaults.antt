@@ -1,4 +1,4 @@
--- Some fault is true exactly where nothing is read: of each way to put readings together, and so of each table.
+-- There is a fault exactly where nothing is read: for each way to combine readings, and so for each table.
 use Rattle.std.proofs.Common.{◌≡◌, ◌⊎◌, List, Option, Some, None, ℕ, refl, inl, inr, ◌∷◌, []}
 use Rattle.std.specs.Prelude.{codes, ⊤, option_and_then, true}
 use Rattle.serde_json.specs.Data.{Data, null, Items, no_items, item, Members, no_members, member}
@@ -10,7 +10,7 @@ use Rattle.krates_cm.specs.Tables.{dependency_kind, target_kind, crate_type, edi
 use Rattle.krates_cm.specs.declared.dependency.DependencyKind.TheVariants.{Normal}
 use Rattle.krates_cm.specs.declared.target.Edition.TheVariants.{E2015}
 
--- ---- the ways to put readings together
+-- ---- the ways to combine readings
 
 as_exact : {A : Type 0} (x : A) → IsExact (read_as x)
 as_exact x = record { unread = λ fault h. absurd h; faulty = λ h. absurd cc }

@@ -1,4 +1,4 @@
--- What the questions of a document rest on: membership by a test, and the path of a manifest.
+-- What the questions to a document rest on: membership by a test, and the path of a manifest.
 use Rattle.std.proofs.Common.{◌≡◌, ◌↔◌, ℕ, ◌+◌, ◌<◌, List, [], ◌∷◌, ◌++◌, length, map, take, get_or, cond, ◌||◌, bytes_eq, Bool, true, false, IsTrue, Contains, refl, sym, ap, ◌∙◌, arith, length-append, append-nil, rules, tests}
 use Rattle.std.specs.Prelude.{codes, filter}
 use Rattle.std.proofs.lemmas.List.{get_or_default, map-append}
@@ -63,7 +63,7 @@ same_last (a ∷ xs) (b ∷ ys) x y e =
     let rest = same_last xs ys x y cc in
     (λ i. heads i ∷ rest.0 i, rest.1)
 
--- the path is that of the manifest, where its parent is the directory and it ends in `Cargo.toml`
+-- it is the manifest's path where its parent is the directory and its last component is `Cargo.toml`
 pub manifest_told : (directory path parent : List ℕ) (b : Bool) → IsParent path parent → components parent ≡ components directory
     → (IsTrue b ↔ ((front : List (List ℕ)) × (components path ≡ front ++ codes "Cargo.toml" ∷ []))) → IsTrue b ↔ IsManifestIn directory path
 manifest_told directory path parent b is same told = (
@@ -74,7 +74,7 @@ manifest_told directory path parent b is same told = (
   λ manifest. told.1 (components directory, manifest),
 )
 
--- ---- packages of some ids
+-- ---- packages with certain ids
 
 any_seen : {X Y : Type 0} (seen : X → Y) (test : Y → Bool) (xs : List X) → list_any test (map seen xs) ≡ list_any (λ x. test (seen x)) xs
 any_seen seen test [] = refl

@@ -1,4 +1,4 @@
--- Members that are taken out of an object, one after the other.
+-- Members that are taken out of an object, one after another.
 use Rattle.std.proofs.Common.{◌≡◌, ℕ, List, [], ◌∷◌, Some, Bool, true, false, cond, String, Global, string_bytes, nat_cmp, bytes_eq, refl, sym, ap, ◌∙◌}
 use Rattle.std.proofs.lemmas.Map.Text.{is_eq-slice_cmp}
 use Rattle.std.proofs.lemmas.Slice.Eq.{bytes_eq-Decides}
@@ -6,7 +6,7 @@ use Rattle.std.specs.BTreeMap.{is_at}
 use Rattle.std.specs.Cmp.Lexicographic.{slice_cmp}
 use Rattle.std.specs.Map.{lookup, remove_entry}
 
--- whether a key reads as this
+-- whether a key reads as this name
 abbrev pub reads_as : List ℕ → String Global → Bool
 reads_as name = is_at (λ k. slice_cmp nat_cmp name (string_bytes k))
 
@@ -20,7 +20,7 @@ found_past : {X : Type 0} (b : Bool) (o : String Global → Bool) (e : String Gl
 found_past true o e es left differ same = rw (differ refl) refl
 found_past false o e es left differ same = ap (cond (o e.0) (Some e.1)) same
 
--- what another name finds stays
+-- what is found under another name stays
 pub others_stay : {X : Type 0} (taken other : List ℕ) → bytes_eq other taken ≡ false → (es : List (String Global × X)) → lookup (reads_as other) (remove_entry (reads_as taken) es) ≡ lookup (reads_as other) es
 others_stay taken other differ [] = refl
 others_stay taken other differ (e ∷ es) = found_past (reads_as taken e.0) (reads_as other) e es (remove_entry (reads_as taken) es) (apart taken other differ e.0) (others_stay taken other differ es)

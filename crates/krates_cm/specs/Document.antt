@@ -71,7 +71,7 @@ pub record DepKindInfoModel : Type 0 where
   pub kind : DependencyKind
   pub target : Option Text
 
--- a kind and a target, seen so
+-- a kind and a target, as clauses see them
 abbrev pub dep_kind_info_view : DepKindInfo → DepKindInfoModel
 dep_kind_info_view k = record { kind = k.kind; target = option_map text_view k.target }
 
@@ -81,7 +81,7 @@ pub record NodeDepModel : Type 0 where
   pub pkg : Text
   pub dep_kinds : List DepKindInfoModel
 
--- a dependency of a node, seen so
+-- a dependency of a node, as clauses see it
 abbrev pub node_dep_view : NodeDep → NodeDepModel
 node_dep_view d = record {
   name = text_view d.name;
@@ -96,7 +96,7 @@ pub record NodeModel : Type 0 where
   pub dependencies : List Text
   pub features : List Text
 
--- a node, seen so
+-- a node, as clauses see it
 abbrev pub node_view : Node → NodeModel
 node_view n = record {
   id = id_view n.id;
@@ -110,7 +110,7 @@ pub record ResolveModel : Type 0 where
   pub nodes : List NodeModel
   pub root : Option Text
 
--- the resolved graph, seen so
+-- the resolved graph, as clauses see it
 abbrev pub resolve_view : Resolve → ResolveModel
 resolve_view r = record { nodes = map node_view r.nodes.items; root = option_map id_view r.root }
 
@@ -130,7 +130,7 @@ pub record DependencyModel : Type 0 where
   pub registry : Option Text
   pub path : Option Text
 
--- a declared dependency, seen so
+-- a declared dependency, as clauses see it
 abbrev pub dependency_view : Dependency → DependencyModel
 dependency_view d = record {
   name = text_view d.name;
@@ -158,7 +158,7 @@ pub record TargetModel : Type 0 where
   pub test : Bool
   pub doc : Bool
 
--- a target, seen so
+-- a target, as clauses see it
 abbrev pub target_view : Target → TargetModel
 target_view t = record {
   name = text_view t.name;
@@ -207,7 +207,7 @@ pub record PackageModel : Type 0 where
   pub default_run : Option Text
   pub rust_version : Option VersionModel
 
--- a package, seen so
+-- a package, as clauses see it
 abbrev pub package_view : Package → PackageModel
 package_view p = record {
   name = text_view p.name;
@@ -254,7 +254,7 @@ pub record MetadataModel : Type 0 where
   pub workspace_metadata : Data
   pub version : ℕ
 
--- the whole document, seen so
+-- the whole document, as clauses see it
 abbrev pub metadata_view : Metadata → MetadataModel
 metadata_view m = record {
   packages = map package_view m.packages.items;

@@ -1,4 +1,4 @@
--- When a text is no document.
+-- When a text isn't a document.
 use Rattle.std.specs.Prelude.{◌≡◌, [], Some, None, ⊤}
 use Rattle.serde_json.specs.Data.{Data}
 use Rattle.serde_json.specs.Errors.{IsMemory}
@@ -12,11 +12,11 @@ use Rattle.krates_cm.specs.declared.error.Error.TheVariants as errors
 use Rattle.krates_cm.specs.declared.read_error.ReadError.{ReadError}
 use Rattle.krates_cm.specs.declared.read_error.ReadError.TheVariants as read_errors
 
--- The text is JSON, and this is what the tables read of it.
+-- The text is JSON, and this is what the tables read from it.
 abbrev pub IsDocument : Text → MetadataModel → Type 0
 IsDocument text m = (d : Data) × (read text ≡ Some d) × ((metadata [] d).value ≡ Some m)
 
--- The text is no JSON, or its data no metadata, for a fault that is true of it. Memory may always run out.
+-- The text isn't JSON, or its data isn't metadata, by a fault that is true of it. Memory may always run out.
 abbrev pub IsRefusal : Text → Error → Type 0
 IsRefusal text (errors.Json e) = read text ≡ None
 IsRefusal text (errors.Value e) = (d : Data) × (read text ≡ Some d) × ((metadata [] d).value ≡ None) × (metadata [] d).IsFault (fault_of e)

@@ -1,4 +1,4 @@
--- What is asked of a document: its root, the packages of its workspace, the files that a package names.
+-- What can be asked of a document: its root, the packages of its workspace, the files that a package names.
 use Rattle.std.specs.Prelude.{◌≡◌, ◌⊎◌, ℕ, List, [], ◌∷◌, ◌++◌, Option, None, Some, option_and_then, MatchOption, codes, bytes_eq, filter}
 use Rattle.std.specs.List.{AllWithin, All, find, list_any, slice_get}
 use Rattle.std.specs.Path.{path_join}
@@ -19,7 +19,7 @@ package_of packages id = find (λ p. bytes_eq (id_view p.id) id) packages
 abbrev pub packages_among : List Package → List Text → List Package
 packages_among packages ids = filter (λ p. list_any (λ id. bytes_eq id (id_view p.id)) ids) packages
 
--- the first with a property, or none where none has it
+-- the first with a property, or none if nothing has it
 abbrev pub IsFirst : {X : Type 0} → (X → Type 0) → List X → Option X → Type 0
 IsFirst P xs first = MatchOption first (All (λ x. P x → ⊥) xs)
     (λ x. P x × (place : ℕ) × (slice_get xs place ≡ Some x) × AllWithin (λ y. P y → ⊥) xs 0 place)

@@ -1,4 +1,4 @@
--- What is read of JSON data, and what is wrong with data that isn't read.
+-- What is read from JSON data, and what is wrong with data that isn't read.
 use Rattle.std.specs.Prelude.{◌≡◌, ◌⊎◌, ℕ, List, [], ◌∷◌, Bool, Option, Some, None, option_and_then, Result, Ok, Err, ⊤}
 use Rattle.serde_json.specs.Data.{Data, Items, no_items, item, Members, no_members, member}
 use Rattle.serde_json.specs.Find.{get, as_null, as_bool, as_number, as_u64, as_str, as_array, as_object}
@@ -6,7 +6,7 @@ use Rattle.krates_cm.specs.Faults.{Fault, fault_of, missing, wrong_type}
 use Rattle.krates_cm.specs.declared.read_error.ReadError.{ReadError}
 use Rattle.krates_cm.specs.declared.read_error.ReadError.TheVariants as errors
 
--- What is read, where the data is readable, and each fault that is true of it.
+-- What is read, if the data is readable, and each fault that is true of it.
 pub record Reading (A : Type 0) : Type 1 where
   pub value : Option A
   pub IsFault : Fault → Type 0
@@ -21,7 +21,7 @@ Gives view (Err e) reading = (e ≡ errors.Memory) ⊎ ((reading.value ≡ None)
 abbrev pub Reader : Type 0 → Type 1
 Reader A = List ℕ → Data → Reading A
 
--- ---- how readings are put together
+-- ---- how readings are combined
 
 abbrev pub read_as : {A : Type 0} → A → Reading A
 read_as x = record { value = Some x; IsFault = λ fault. ⊥ }
@@ -51,7 +51,7 @@ first then second = record {
   IsFault = λ fault. first.IsFault fault ⊎ ((first.value ≡ Some tt) × second.IsFault fault);
 }
 
--- what is made of a part of the data that may be there
+-- what is made of a part of the data that may be missing
 abbrev pub found : {A B : Type 0} → Reading A → (B → Reading A) → Option B → Reading A
 found absent read None = absent
 found absent read (Some x) = read x
@@ -76,7 +76,7 @@ whole key d = typed key read_as (option_and_then as_u64 (as_number d))
 abbrev pub any : Reader Data
 any key d = read_as d
 
--- what a text stands for, where it stands for something
+-- what a text stands for, if it stands for anything
 abbrev pub named : {A : Type 0} → Fault → (List ℕ → Option A) → Reader A
 named wrong meaning key d = typed key (λ s. record { value = meaning s; IsFault = λ fault. (fault ≡ wrong) × (meaning s ≡ None) }) (as_str d)
 
@@ -90,7 +90,7 @@ null_as x read key d = found (read key d) (λ _. read_as x) (as_null d)
 abbrev pub present : {A : Type 0} → Reader A → Reader (Option A)
 present read key d = read_as (λ x. Some x) <*> read key d
 
--- null is none
+-- null is `None`
 abbrev pub nullable : {A : Type 0} → Reader A → Reader (Option A)
 nullable read = null_as None (present read)
 
@@ -125,7 +125,7 @@ required read key d = found (refused (missing key)) (read key) (get key d)
 abbrev pub or_default : {A : Type 0} → Reader A → A → Reader A
 or_default read default key d = found (read_as default) (read key) (get key d)
 
--- a field that may be absent or null, and then has none
+-- a field that may be absent or null, and then is `None`
 abbrev pub optional : {A : Type 0} → Reader A → Reader (Option A)
 optional read = or_default (nullable read) None
 

@@ -8,11 +8,11 @@ use semver::VersionReq;
 pub struct Dependency {
     /// The name of the package that is depended on.
     pub name: String,
-    /// Where that package comes from; none for a path.
+    /// Where that package comes from; `None` for a path.
     pub source: Option<String>,
     /// The versions that the manifest accepts.
     pub req: VersionReq,
-    /// For what the dependency is needed.
+    /// What the dependency is needed for.
     pub kind: DependencyKind,
     /// Whether it is left out unless a feature asks for it.
     pub optional: bool,
@@ -22,15 +22,15 @@ pub struct Dependency {
     pub features: Vec<String>,
     /// The target that the dependency is for: a triple or a `cfg(..)` expression.
     pub target: Option<String>,
-    /// The name under which the manifest knows the dependency, where it isn't the package's.
+    /// The name under which the manifest knows the dependency, if it isn't the package's.
     pub rename: Option<String>,
-    /// The index of the registry, where it isn't crates.io.
+    /// The index of the registry, if it isn't crates.io.
     pub registry: Option<String>,
     /// The directory of the package, for a path dependency.
     pub path: Option<String>,
 }
 
-/// For what a dependency is needed (Cargo Book, "Specifying Dependencies").
+/// The kind of a dependency: what it is needed for (Cargo Book, "Specifying Dependencies").
 #[derive(Clone, Copy, Debug, PartialEq, Eq, Hash)]
 pub enum DependencyKind {
     /// For the package itself.

@@ -12,7 +12,7 @@ use std::alloc::Global;
 
 /// Reads a document: the JSON value of the text (RFC 8259), then the metadata of that value.
 ///
-/// The answer is `Json` where the text is no JSON, and `Value` where its value isn't read. It may instead be `Memory`. Time
+/// Returns `Json` if the text isn't JSON, and `Value` if its value isn't read. It may instead return `Memory`. Time
 /// O(n log n) in the length of the text.
 ///
 /// ```text

@@ -8,7 +8,7 @@ use std::alloc::AllocError;
 use std::io;
 use std::str::Utf8Error;
 
-/// Why a call that reads or runs `cargo metadata` has no answer.
+/// Why a call that runs `cargo metadata` or reads its output gives no document.
 #[derive(Debug, Drop, thiserror::Error)]
 pub enum Error {
     /// Cargo ended with a failure, and wrote this to standard error.
@@ -20,13 +20,13 @@ pub enum Error {
     /// Cargo couldn't be run.
     #[error("failed to start `cargo metadata`: {0}")]
     Io(io::Error),
-    /// What cargo wrote to standard output is no text.
+    /// What cargo wrote to standard output isn't UTF-8.
     #[error("cannot convert the stdout of `cargo metadata`: {0}")]
     Utf8(Utf8Error),
-    /// What cargo wrote to standard error is no text.
+    /// What cargo wrote to standard error isn't UTF-8.
     #[error("cannot convert the stderr of `cargo metadata`: {0}")]
     ErrUtf8(Utf8Error),
-    /// A text is no JSON (RFC 8259), or nests deeper than is read.
+    /// A text isn't JSON (RFC 8259), or nests deeper than is read.
     #[error("failed to interpret `cargo metadata`'s json: {0}")]
     Json(serde_json::Error),
     /// No line of cargo's output begins a JSON object.

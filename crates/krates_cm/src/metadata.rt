@@ -5,7 +5,7 @@ use crate::package_id::PackageId;
 use crate::resolve::Resolve;
 use serde_json::Value;
 
-/// What `cargo metadata --format-version 1` says of a workspace
+/// What `cargo metadata --format-version 1` says about a workspace
 /// (Cargo Book, "cargo metadata", "JSON format").
 #[derive(Debug, Drop)]
 pub struct Metadata {
@@ -15,7 +15,7 @@ pub struct Metadata {
     pub workspace_members: Vec<PackageId>,
     /// The default members of the workspace.
     pub workspace_default_members: WorkspaceDefaultMembers,
-    /// The resolved dependency graph; none where cargo was told not to resolve.
+    /// The resolved dependency graph; `None` if cargo was told not to resolve.
     pub resolve: Option<Resolve>,
     /// The path of the workspace.
     pub workspace_root: String,
@@ -23,13 +23,12 @@ pub struct Metadata {
     pub target_directory: String,
     /// The path of the directory for intermediate files.
     pub build_directory: Option<String>,
-    /// The free-form table `workspace.metadata`; null where there is none.
+    /// The free-form table `workspace.metadata`; null if there is none.
     pub workspace_metadata: Value,
     /// The version of the document's format.
     pub version: usize,
 }
 
-/// The default members of the workspace; none where the document doesn't name them,
-/// as before cargo 1.71.
+/// The default members of the workspace; `None` if the document doesn't name them, as before cargo 1.71.
 #[derive(Debug, Drop)]
 pub struct WorkspaceDefaultMembers(pub Option<Vec<PackageId>>);

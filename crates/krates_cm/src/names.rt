@@ -15,7 +15,7 @@ use std::fmt;
 use std::str::FromStr;
 use thiserror::Error;
 
-/// A text that names no value of its type.
+/// The text isn't the name of a value of its type.
 #[derive(Clone, Copy, Debug, Error)]
 pub enum UnknownName {
     #[error("unknown target kind")]

@@ -21,9 +21,9 @@ pub struct Package {
     pub authors: Vec<String>,
     /// Its id.
     pub id: PackageId,
-    /// Where it comes from; none for a path.
+    /// Where it comes from; `None` for a path.
     pub source: Option<Source>,
-    /// What it says of itself.
+    /// What it says about itself.
     pub description: Option<String>,
     /// The dependencies that it declares, in the order of the document.
     pub dependencies: Vec<Dependency>,
@@ -51,11 +51,11 @@ pub struct Package {
     pub documentation: Option<String>,
     /// The edition of Rust that it is written in.
     pub edition: Edition,
-    /// The free-form table `package.metadata`; null where there is none.
+    /// The free-form table `package.metadata`; null if there is none.
     pub metadata: Value,
     /// The native library that it links to.
     pub links: Option<String>,
-    /// The registries that it may be published to; none where it may go to any.
+    /// The registries that it may be published to; `None` if it may go to any.
     pub publish: Option<Vec<String>>,
     /// The program that `cargo run` runs.
     pub default_run: Option<String>,

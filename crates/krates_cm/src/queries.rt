@@ -1,4 +1,4 @@
-//! What is asked of a document: its root, the packages of its workspace, the files that a package names.
+//! What can be asked of a document: its root, the packages of its workspace, the files that a package names.
 
 ghost use Rattle.std.specs.Prelude.{◌≡◌, ◌↔◌, Contains, IfOk, IsSome, IsTrue, Some, bytes_eq, map, option_copied, option_map};
 ghost use Rattle.std.specs.List.{list_any};
@@ -15,8 +15,8 @@ use std::alloc::{AllocError, Global};
 use std::ops::Index;
 
 impl Metadata {
-    /// The package that the document was made for: with a resolved graph the first whose id is that of
-    /// the graph's root, and none where it has no root; without one the first whose manifest is `Cargo.toml`
+    /// The package that the document was made for: with a resolved graph the first whose id is that of the graph's root, and
+    /// `None` if it has no root; without one the first whose manifest is `Cargo.toml`
     /// in the workspace's root, paths being compared by components. Time `O(packages)`.
     ///
     /// ```text
@@ -38,7 +38,7 @@ impl Metadata {
         }
     }
 
-    /// The first package of this id; none where the document has none. Time `O(packages)`.
+    /// The first package of this id; `None` if the document has none. Time `O(packages)`.
     ///
     /// ```text
     /// for member in metadata.workspace_members.iter() {
@@ -72,8 +72,8 @@ impl Metadata {
         )
     }
 
-    /// The packages whose ids are those of default members, in the order of the document; none where the
-    /// document names no default members. The only error is running out of memory. Time `O(packages · members)`.
+    /// The packages whose ids are those of default members, in the order of the document; `None` if the document names no default
+    /// members. The only error is running out of memory. Time `O(packages · members)`.
     ///
     /// ```text
     /// let defaults = metadata.workspace_default_packages(alloc)?;
@@ -107,7 +107,7 @@ impl Index<&PackageId> for Metadata {
 }
 
 impl WorkspaceDefaultMembers {
-    /// The default members, in the order of the document; none where it doesn't name them. Time O(1).
+    /// The default members, in the order of the document; `None` if it doesn't name them. Time O(1).
     ///
     /// ```text
     /// let named = metadata.workspace_default_members.as_slice();
@@ -123,7 +123,7 @@ impl WorkspaceDefaultMembers {
 }
 
 impl Package {
-    /// The path of the licence file, where the manifest names one: joined to the manifest's directory. The only error
+    /// The path of the licence file, if the manifest names one: joined to the manifest's directory. The only error
     /// is running out of memory. Time O(length of the paths).
     ///
     /// ```text
@@ -138,7 +138,7 @@ impl Package {
         beside(alloc, self.manifest_path.as_str(), &self.license_file)
     }
 
-    /// The path of the readme, where the manifest names one: joined to the manifest's directory. The only error is
+    /// The path of the readme, if the manifest names one: joined to the manifest's directory. The only error is
     /// running out of memory. Time O(length of the paths).
     ///
     /// ```text

@@ -6,8 +6,7 @@ ghost use Rattle.krates_cm.specs.declared.read_error.ReadError.TheVariants.{Memo
 use std::alloc::{AllocError, AllocFailed};
 use thiserror::Error;
 
-/// What is wrong with a JSON value that isn't read. Where several refusals are true of a value,
-/// which one is named is left open.
+/// What is wrong with a JSON value that isn't read. If several refusals are true of a value, it is left open which one is named.
 #[derive(Clone, Copy, Debug, Error)]
 pub enum ReadError {
     /// An object lacks this key.
@@ -17,25 +16,25 @@ pub enum ReadError {
     /// null isn't allowed. The key is empty for the whole value.
     #[error("wrong type at key: {0}")]
     WrongType(&'static str),
-    /// A text is no semantic version.
+    /// A text isn't a semantic version.
     #[error("bad version")]
     BadVersion,
-    /// A text is no version requirement.
+    /// A text isn't a version requirement.
     #[error("bad version requirement")]
     BadReq,
-    /// A text names no dependency kind.
+    /// A text isn't the name of a dependency kind.
     #[error("bad dependency kind")]
     BadKind,
-    /// A text names no target kind.
+    /// A text isn't the name of a target kind.
     #[error("bad target kind")]
     BadTargetKind,
-    /// A text names no crate type.
+    /// A text isn't the name of a crate type.
     #[error("bad crate type")]
     BadCrateType,
-    /// A text names no edition.
+    /// A text isn't the name of an edition.
     #[error("bad edition")]
     BadEdition,
-    /// A text is no version of Rust.
+    /// A text isn't a version of Rust.
     #[error("bad rust version")]
     BadRustVersion,
     /// Memory ran out.

@@ -8,7 +8,7 @@ use crate::package_id::PackageId;
 pub struct Resolve {
     /// The nodes, one for each package that cargo resolved.
     pub nodes: Vec<Node>,
-    /// The package that the document was made for; none for a virtual workspace.
+    /// The package that the document was made for; `None` for a virtual workspace.
     pub root: Option<PackageId>,
 }
 
@@ -32,14 +32,14 @@ pub struct NodeDep {
     pub name: String,
     /// The id of the package that is depended on.
     pub pkg: PackageId,
-    /// For what and for which targets it is needed.
+    /// What it is needed for, and for which targets.
     pub dep_kinds: Vec<DepKindInfo>,
 }
 
 /// One way in which a node needs a dependency.
 #[derive(Debug, Drop)]
 pub struct DepKindInfo {
-    /// For what it is needed.
+    /// What it is needed for.
     pub kind: DependencyKind,
     /// The target that it is needed for: a triple or a `cfg(..)` expression.
     pub target: Option<String>,

@@ -1,4 +1,4 @@
--- Packages and whole documents that were read are written as data that reads as them.
+-- Packages and whole documents that were read are written as data that reads as them again.
 use Rattle.std.proofs.Common.{◌≡◌, List, [], ◌∷◌, Option, Some, None, refl}
 use Rattle.std.specs.Prelude.{codes, MatchOption}
 use Rattle.serde_json.specs.Data.{Data, null, boolean, number, string, array, object, Items, no_items, item}
@@ -16,7 +16,7 @@ use Rattle.krates_cm_write.proofs.ReadAgain.{ReadsBack, NeverNull, text_again, w
 use Rattle.krates_cm_write.proofs.ReadBefore.{RustNamed, PackageNamed, EachNamed}
 use Rattle.krates_cm_write.proofs.VersionsAgain.{named_again, rust_again}
 
--- ---- what is known of data twice
+-- ---- two facts about the same data
 
 both_there : (P Q : Data → Type 0) (o : Option Data) → MatchOption o ⊥ P → MatchOption o ⊥ Q → MatchOption o ⊥ (λ d. P d × Q d)
 both_there P Q None p q = p
@@ -107,7 +107,7 @@ settings_again key m d names w =
 abbrev DependencyWrittenAgain : Writer DependencyModel
 DependencyWrittenAgain m d = DependencyWritten m d × RequirementReads m d
 
--- whose versions some texts name, and whose requirements read back
+-- the data of a package whose versions have texts and whose requirements read back
 abbrev pub PackageWrittenAgain : Writer PackageModel
 PackageWrittenAgain m d = (PackageWritten m d × PackageRequirementsRead m d) × PackageNamed m
 

@@ -1,4 +1,4 @@
--- What was written is read again: of each way to put data together, and so of each table.
+-- What is written reads back: for each way to combine data, and so for each table.
 use Rattle.std.proofs.Common.{◌≡◌, ℕ, List, [], ◌∷◌, true, false, Option, Some, None, refl, sym, subst, nat_cmp, length, suc, arith}
 use Rattle.std.proofs.lemmas.Bool.Decides.{nat_tests}
 use Rattle.std.specs.Prelude.{codes, MatchOption, MatchBool, is_some, not, ◌==◌}
@@ -137,7 +137,7 @@ default_again read W again default key x d h = found_again (read_as default) (re
 pub optional_again : {A : Type 0} (read : Reader A) (W : Writer A) → NeverNull W → ReadsBack read W → (key : Text) (x : Option A) (d : Data) → MatchOption (get key d) ⊥ (OptionWritten W x) → (optional read key d).value ≡ Some x
 optional_again read W never again key x d h = default_again (nullable read) (OptionWritten W) (nullable_again read W never again) None key x d h
 
--- a key that is left out for none
+-- a key that is left out for `None`
 pub only_some_again : {A : Type 0} (read : Reader (Option A)) (W : Writer (Option A)) → ReadsBack read W → (key : Text) (x : Option A) (d : Data)
     → MatchBool (is_some x) (MatchOption (get key d) ⊥ (W x)) (get key d ≡ None) → (or_default read None key d).value ≡ Some x
 only_some_again read W again key None d h = rw h refl
@@ -152,7 +152,7 @@ only_any_again : {A : Type 0} (read : Reader A) (W : Writer A) → ReadsBack rea
 only_any_again read W again key [] d h = rw h refl
 only_any_again read W again key (x ∷ xs) d h = default_again (list read) (ListWritten W) (list_again read W again) [] key (x ∷ xs) d (rw (suc_apart (length xs)) at h)
 
--- a list that null doesn't stand for
+-- a list for which null doesn't stand
 pub present_again : {A : Type 0} (read : Reader A) (W : Writer A) → ReadsBack read W → (key : Text) (x : Option A) (d : Data)
     → MatchBool (is_some x) (MatchOption (get key d) ⊥ (OptionWritten W x)) (get key d ≡ None) → (or_default (present read) None key d).value ≡ Some x
 present_again read W again key None d h = rw h refl
@@ -185,7 +185,7 @@ members_told (row true name W rest) (member n d ms) key h =
     (here_or_later (slice_cmp nat_cmp key name) (Says rest key) W d (get_member key ms) h.1 (members_told rest ms key h.2))
 members_told (row false name W rest) ms key h = always_so (slice_cmp nat_cmp key name) (Says rest key (get_member key ms)) (members_told rest ms key h)
 
--- an object of a table has under each key what the table says
+-- under each key an object of a table has what the table says
 pub told : (table : Table) (d : Data) (key : Text) → ObjectWritten table d → Says table key (get key d)
 told table (object ms) key h = members_told table ms key h
 told table null key h = absurd h

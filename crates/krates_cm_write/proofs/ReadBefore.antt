@@ -1,4 +1,4 @@
--- What was read has versions that some texts name: the tables, read backwards.
+-- The versions that were read each have a text: the tables, read backwards.
 use Rattle.std.proofs.Common.{◌≡◌, List, [], ◌∷◌, Option, Some, None, refl, ap, subst}
 use Rattle.std.specs.Prelude.{codes, ⊤}
 use Rattle.std.proofs.lemmas.Option.{same_Some}
@@ -11,7 +11,7 @@ use Rattle.krates_cm.specs.PackageParts.{SettingsModel}
 use Rattle.krates_cm.specs.Reading.{Reading, applied, if_read, named, found, refused, read_as, nullable, items, list}
 use Rattle.krates_cm.specs.Tables.{rust_version, settings, package_reader, metadata}
 
--- ---- functions of several readings
+-- ---- readings combined
 
 if_read_told : {A : Type 0} (u : Option ⊤) (o : Option A) (x : A) → if_read u o ≡ Some x → o ≡ Some x
 if_read_told None o x h = absurd cc
@@ -74,11 +74,11 @@ found_told : {A : Type 0} (wrong : Fault) (read : Data → Reading A) (o : Optio
 found_told wrong read None x h = absurd cc
 found_told wrong read (Some d) x h = (d, h)
 
--- some text names the version
+-- the version has a text
 abbrev pub VersionNamed : VersionModel → Type 0
 VersionNamed v = (s : Text) × (version_named s ≡ Some v)
 
--- some text names the version of Rust, if there is one
+-- the version of Rust has a text, if there is one
 abbrev pub RustNamed : Option VersionModel → Type 0
 RustNamed None = ⊤
 RustNamed (Some v) = (s : Text) × (rust_version_named s ≡ Some v)
@@ -107,7 +107,7 @@ settings_told key d s h =
     let (_, _, _, _, _, rust, is, made) = six_read _ _ _ _ _ _ _ s h in
     subst RustNamed (ap (λ p. p.rust_version) made) (optional_rust (codes "rust_version") (get (codes "rust_version") d) rust is)
 
--- some texts name the versions of a package
+-- each version of a package has a text
 pub record PackageNamed (p : PackageModel) : Type 0 where
   pub version : VersionNamed p.version
   pub rust_version : RustNamed p.rust_version

@@ -1,4 +1,4 @@
--- Versions that were read are written as texts that read as them.
+-- Versions that were read are written as texts that read as them again.
 use Rattle.std.proofs.Common.{◌≡◌, ℕ, ◌+◌, ◌<◌, ◌^◌, [], ◌∷◌, ◌++◌, Bool, true, false, cond, ◌||◌, Some, None, Ok, Err, Result, refl, sym, ap, ◌∙◌, subst, arith, append-nil, append_assoc, count_by, ◌%◌, inl, inr}
 use Rattle.std.specs.Prelude.{codes, ◌==◌}
 use Rattle.std.specs.Fmt.{decimal}
@@ -23,7 +23,7 @@ ok_from : {T E : Type 0} (r : Result T E) (x : T) → result_ok r ≡ Some x →
 ok_from (Ok y) x h = ap (λ z. Ok z) (same_Some y x h)
 ok_from (Err e) x h = absurd cc
 
--- a version that some text names is named by the text that is written for it
+-- a version that has a text is also read from the text that is written for it
 pub named_again : (s : Text) (v : VersionModel) → version_named s ≡ Some v → version_named (parts_text v) ≡ Some v
 named_again s v h = ap result_ok (version_parts-complete v (version_parts-sound s v (ok_from (version_parts s) v h)).1)
 
@@ -68,7 +68,7 @@ long_dots : (a b c : ℕ) → a < 2 ^ 64 → b < 2 ^ 64 → c < 2 ^ 64 → HasDo
 long_dots a b c x y z = join_dots (decimal a) (46 ∷ (decimal b ++ (46 ∷ decimal c))) 0 2 (decimal_dots a x)
     (after_dot (decimal b ++ (46 ∷ decimal c)) 1 (join_dots (decimal b) (46 ∷ decimal c) 0 1 (decimal_dots b y) (after_dot (decimal c) 0 (decimal_dots c z))))
 
--- what a text without minus and plus names
+-- what a text without minus and plus reads as
 named_plain : (t : Text) → has_extra t ≡ false → rust_version_named t ≡ version_named (with_patch t)
 named_plain t h = ap (λ b. cond b None (version_named (with_patch t))) h
 
@@ -132,7 +132,7 @@ rust_again_plain s v plain h =
     let is = three_numbers v (ap has_extra sound.0 ∙ with_patch_plain s plain) in
     subst (λ (w : VersionModel). rust_version_named (rust_version_text w) ≡ Some w) (sym is) (plain_again v.0 v.1 v.2 (subst (λ (w : VersionModel). IsValid w) is sound.1))
 
--- a version of Rust that some text names is named by the text that is written for it
+-- a version of Rust that has a text is also read from the text that is written for it
 pub rust_again : (s : Text) (v : VersionModel) → rust_version_named s ≡ Some v → rust_version_named (rust_version_text v) ≡ Some v
 rust_again s v h = elim (cases_Bool (has_extra s)) [
   | inl extra ↦ absurd (none_some v (sym (ap (λ b. cond b None (version_named (with_patch s))) extra) ∙ h))

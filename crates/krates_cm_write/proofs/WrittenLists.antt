@@ -29,7 +29,7 @@ put_last : (fs : List (Text × Data)) (f : Text × Data) (ms : Members) → put_
 put_last [] f ms = refl
 put_last (g ∷ fs) f ms = put_last fs f (put g.0 g.1 ms)
 
--- one more member is put in
+-- one more member is put
 pub member_next : {X : Type 0} (seen : X → Text × Data) (xs : List X) (x : X) (old new : Members) → old ≡ put_all (map seen xs) no_members → new ≡ put (seen x).0 (seen x).1 old → new ≡ put_all (map seen (xs ++ x ∷ [])) no_members
 member_next seen xs x old new so_far is = rw map-append (is ∙ ap (put (seen x).0 (seen x).1) so_far ∙ sym (put_last (map seen xs) (seen x) no_members))
 

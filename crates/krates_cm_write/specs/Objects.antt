@@ -1,4 +1,4 @@
--- How JSON data is put together that is written for a value.
+-- How the JSON data that is written for a value is made.
 use Rattle.std.specs.Prelude.{◌≡◌, ℕ, List, [], ◌∷◌, Bool, true, false, Option, Some, None, ⊤}
 use Rattle.serde_json.specs.Data.{Data, null, boolean, number, unsigned, string, array, object, Items, no_items, item, Members, no_members, member, put}
 use Rattle.krates_cm.specs.Document.{Text}
@@ -22,7 +22,7 @@ WholeWritten n d = d ≡ number (unsigned n)
 abbrev pub AnyWritten : Writer Data
 AnyWritten m d = d ≡ m
 
--- none is null
+-- `None` is null
 abbrev pub OptionWritten : {A : Type 0} → Writer A → Writer (Option A)
 OptionWritten W None d = d ≡ null
 OptionWritten W (Some x) d = W x d
@@ -67,7 +67,7 @@ first also rest = first rest
 abbrev pub always : Text → (Data → Type 0) → Table → Table
 always key W rest = row true key W rest
 
--- a key that is there only where something is so
+-- a key that is only there if something holds
 abbrev pub only_where : Bool → Text → (Data → Type 0) → Table → Table
 only_where there key W rest = row there key W rest
 

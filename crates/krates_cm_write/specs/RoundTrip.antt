@@ -11,11 +11,11 @@ use Rattle.krates_cm_write.specs.Objects.{Writer, ListWritten}
 abbrev pub WasRead : {A : Type 0} → Reader A → A → Type 0
 WasRead read x = (key : Text) × (d : Data) × ((read key d).value ≡ Some x)
 
--- Whatever may be written for a value that was read, and is as it has to be, reads as that value.
+-- Whatever may be written for a value that was read, if it meets the condition, reads as that value.
 abbrev pub WrittenIsRead : {A : Type 0} → Reader A → Writer A → Writer A → Type 0
 WrittenIsRead {A} read Written Has = (x : A) (d : Data) → WasRead read x → Written x d → Has x d → (key : Text) → (read key d).value ≡ Some x
 
--- what stands under a key is so
+-- a property of what stands under a key
 abbrev pub Under : Text → (Data → Type 0) → Data → Type 0
 Under key W d = MatchOption (get key d) ⊥ W
 

@@ -55,7 +55,7 @@ EditionWritten edition d = d ≡ string (edition_text edition)
 abbrev pub VersionWritten : Writer VersionModel
 VersionWritten v d = d ≡ string (parts_text v)
 
--- a version of Rust: major and minor, and the patch where it isn't 0
+-- a version of Rust: major and minor, and the patch if it isn't 0
 abbrev pub rust_version_text : VersionModel → Text
 rust_version_text v = if v.2 == 0 then decimal v.0 ++ (46 ∷ decimal v.1) else decimal v.0 ++ (46 ∷ (decimal v.1 ++ (46 ∷ decimal v.2)))
 

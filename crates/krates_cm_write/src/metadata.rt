@@ -11,7 +11,7 @@ use krates_cm::{Metadata, WorkspaceDefaultMembers};
 use serde_json::Value;
 use std::alloc::{AllocError, Global};
 
-/// None is null; a document leaves the key out.
+/// `None` is null; a document leaves the key out.
 impl ToValue for WorkspaceDefaultMembers {
     ghost Model = { Option (List Text) };
 

@@ -85,7 +85,7 @@ impl ToValue for Value {
     }
 }
 
-/// None is null.
+/// `None` is null.
 impl<T: ToValue> ToValue for Option<T> {
     ghost Model = { Option T.Model };
 

@@ -1,4 +1,4 @@
--- What a check says of the steps that it has gone over, and of the document.
+-- What a check says about the steps so far, and about the document.
 use Rattle.std.proofs.Common.{◌≡◌, ◌↔◌, Bool, IsTrue, inl, inr, ℕ, suc, ◌+◌, ◌<◌, ◌≤◌, List, [], ◌∷◌, length, get_or, Some, option_map, refl, sym, ap, ◌∙◌, subst, arith}
 use Rattle.std.proofs.lemmas.Bool.{cases_lt}
 use Rattle.std.proofs.lemmas.Option.{slice_get-map, slice_get-get_or, same_Some}
@@ -32,7 +32,7 @@ earlier_at steps number i y within lt = record {
 one_earlier : (steps : List StepModel) (number i : ℕ) (f g : Fact) → IsEarlier steps number i f → IsEarlier steps number i g → f ≡ g
 one_earlier steps number i f g a b = sym a.has ∙ ap (λ (x : StepModel). x.fact) (same_Some a.step b.step (sym a.at ∙ b.at)) ∙ b.has
 
--- what is used has one list of facts
+-- the steps used determine one list of facts
 one_list : (steps : List StepModel) (number : ℕ) (uses : List ℕ) (ps qs : List Fact) → AllZip (IsEarlier steps number) uses ps → AllZip (IsEarlier steps number) uses qs → ps ≡ qs
 one_list steps number [] [] [] a b = refl
 one_list steps number [] (p ∷ ps) qs a b = absurd a
@@ -65,14 +65,14 @@ double (x ∷ []) a b = absurd (omega (arith, a))
 double (x ∷ y ∷ []) a b = refl
 double (x ∷ y ∷ z ∷ xs) a b = absurd (omega (arith, b))
 
--- one step is used
+-- the step uses one other step
 pub one_used : (q : Questions) (steps : List Step) (number : ℕ) (x : Step) (ys : List ℕ) (y : Step) (b : Bool) → number < length steps → ys ≡ x.uses.items → 1 ≤ length ys → length ys < 2
     → get_or ys 0 0 < number → (IsTrue b ↔ Rule q x.rule (fact_view (get_or steps (get_or ys 0 0) y).fact ∷ []) (fact_view x.fact)) → IsTrue b ↔ StepFollows q (steps_view steps) number (step_view x)
 one_used q steps number x ys y b within is least most lt told =
     let z = subst (λ us. AllZip (IsEarlier (steps_view steps) number) us (fact_view (get_or steps (get_or ys 0 0) y).fact ∷ [])) (sym (single ys least most) ∙ is) (earlier_at steps number (get_or ys 0 0) y within lt, tt) in
     follows_told q (steps_view steps) number (step_view x) _ b z told
 
--- two are
+-- the step uses two other steps
 pub two_used : (q : Questions) (steps : List Step) (number : ℕ) (x : Step) (ys : List ℕ) (y z : Step) (b : Bool) → number < length steps → ys ≡ x.uses.items → 2 ≤ length ys → length ys < 3
     → get_or ys 0 0 < number → get_or ys 1 0 < number
     → (IsTrue b ↔ Rule q x.rule (fact_view (get_or steps (get_or ys 0 0) y).fact ∷ fact_view (get_or steps (get_or ys 1 0) z).fact ∷ []) (fact_view x.fact)) → IsTrue b ↔ StepFollows q (steps_view steps) number (step_view x)
@@ -87,13 +87,13 @@ no_many q n (a ∷ []) f le r = absurd (omega (arith, le))
 no_many q n (a ∷ b ∷ []) f le r = absurd (omega (arith, le))
 no_many q n (a ∷ b ∷ c ∷ ds) f le r = elim r [ ]
 
--- no step uses more
+-- no rule takes more than two
 pub many_used : (q : Questions) (steps : List Step) (number : ℕ) (x : Step) (ys : List ℕ) → ys ≡ x.uses.items → 3 ≤ length ys → StepFollows q (steps_view steps) number (step_view x) → ⊥
 many_used q steps number x ys is le s =
     let same = ap length is ∙ long_alike (steps_view steps) number x.uses.items s.premises s.uses in
     no_many q x.rule s.premises (fact_view x.fact) (subst (λ (n : ℕ). 3 ≤ n) same le) s.rule
 
--- ---- the list so far
+-- ---- the steps so far
 
 -- one more step follows
 pub one_more : (q : Questions) (steps : List Step) (number : ℕ) (x : Step) → number < length steps → x ≡ get_or steps number x → StepFollows q (steps_view steps) number (step_view x)
@@ -108,14 +108,14 @@ one_more q steps number x lt is here h k y low at = elim (cases_lt k number) [
       subst (λ n. StepFollows q (steps_view steps) n y) e (subst (StepFollows q (steps_view steps) number) same here))
 ]
 
--- a step that doesn't is the first
+-- a step that doesn't follow is the first such step
 pub first_fails : (q : Questions) (steps : List Step) (number : ℕ) (x : Step) → number < length steps → x ≡ get_or steps number x → (StepFollows q (steps_view steps) number (step_view x) → ⊥)
     → ((k : ℕ) (y : StepModel) → k < number → slice_get (steps_view steps) k ≡ Some y → StepFollows q (steps_view steps) k y) → FailsFirst q (steps_view steps) number
 first_fails q steps number x lt is fails before = record { step = step_view x; at = step_at steps number x lt is; fails = fails; before = before }
 
 -- ---- of a document
 
--- what is said of a document that can be resolved
+-- what is promised about a document that can be resolved
 pub answering : (m : MetadataModel) (s : SettingModel) (ids : IdsModel) (r : Resolved) (P : Questions → Type 0) → IsAdmitted m ids → HasGraphWith m (λ g. r ≡ resolved m g) → P (questions r s) → Answers m s P
 answering m s ids r P admitted has h = record {
   ids = ids;

@@ -1,4 +1,4 @@
--- What a document gives from single facts, and when all of it stands in a list.
+-- What a document gives from single facts, and when all of that stands in a list.
 use Rattle.std.proofs.Common.{◌≡◌, ◌↔◌, List, [], ◌∷◌, Bool, true, false, IsTrue, Contains, inl, inr, refl, sym, subst}
 use Rattle.krates_cm.specs.Document.{Text, DependencyModel, DepKindInfoModel}
 use Rattle.krates_derive.specs.Giving.{AskedAmongIn, AskedByIn, AskedIn, EdgesToIn, NamedIn, ToggledIn, IsTaken, ChildIn, EdgeIn, RootsIn, CrateIn, FeatureIn, KeptIn, FactIn, ValueIn, DepIn}
@@ -52,14 +52,14 @@ edge_left r s fs e ask d w other = record {
   declared = λ is l. w.not_loose l;
 }
 
--- only an edge that is listed gives something
+-- only an edge that the document lists gives anything
 pub edge_listed : (r : Resolved) (s : SettingModel) (fs : List Fact) (p c : Id) (k : DepKindInfoModel) (ask : Bool) → (ListsKind r p c k → EdgeIn r s fs (edge_between p c k) ask) → EdgeIn r s fs (edge_between p c k) ask
 edge_listed r s fs p c k ask h = record {
   child = λ d w t. (h (record { dep = w.declared.declares.dep; lists = w.declared.declares.lists })).child d w t;
   declared = λ is l. (h (record { dep = l.dep; lists = l.lists })).declared is l;
 }
 
--- and only one to a crate that its parent's node has as a dependency
+-- and only one to a crate on which the node of its parent depends
 pub edge_of_child : (r : Resolved) (s : SettingModel) (fs : List Fact) (p c : Id) (k : DepKindInfoModel) (ask : Bool) → (HasChild r p c → EdgeIn r s fs (edge_between p c k) ask) → EdgeIn r s fs (edge_between p c k) ask
 edge_of_child r s fs p c k ask h = edge_listed r s fs p c k ask (λ l. h (record { node = l.lists.node; has_node = l.lists.has_node; dep = l.dep; has_dep = l.lists.has_dep }))
 
@@ -119,7 +119,7 @@ value_weak {text} h r s fs p dep g b x told = (
         let other : g ≡ n = cc in
         subst (λ m. DepIn r s fs p d m) other (subst (λ m. DepIn r s fs p m g) one (told.0 t))
 
--- each text among the values, and so each reference of the feature
+-- it holds of each text among the values, and so of each reference of the feature
 pub values_in : (r : Resolved) (s : SettingModel) (fs : List Fact) (p : Id) (f : Text) (values : List Text) → AreValuesOf r p f values
     → ((text : Text) → Contains values text → ValueIn r s fs p text)
     ↔ (((g : Text) → HasReference r p f (simple g) → NamedIn r fs p g) × ((weakly : Bool) (dep g : Text) → HasReference r p f (toggling weakly dep g) → DepIn r s fs p dep g))
@@ -144,11 +144,11 @@ asked_told {text} h r s fs p a dep b x asks only told = (
   λ all. told.1 (λ c means. all c (record { reference = a; is = x; dep = dep; asks = asks; referent = means })),
 )
 
--- or for nothing
+-- a reference that asks for nothing
 pub asked_nothing : {text : Text} → HasOneReading text → (r : Resolved) (s : SettingModel) (fs : List Fact) (p : Id) (a : Reference) → IsReference text a → ((dep : Text) → Demands a dep → ⊥) → AskedByIn r s fs p text
 asked_nothing {text} h r s fs p a x none c by = absurd (asks_nothing h r s p c a x none by)
 
--- each text among the values, and so the feature
+-- it holds of each text among the values, and so of the feature
 pub asked_in : (r : Resolved) (s : SettingModel) (fs : List Fact) (p : Id) (f : Text) (values : List Text) → AreValuesOf r p f values → AskedAmongIn r s fs p values ↔ AskedIn r s fs p f
 asked_in r s fs p f values are = (
   λ h c asks k. (let a = (are asks.reference).0 asks.refers in h a.text a.among c (record { reference = asks.reference; is = a.is; dep = asks.dep; asks = asks.asks; referent = asks.referent }) k),
@@ -169,7 +169,7 @@ told_not_lost (told.Feature k n) c e = absurd cc
 told_not_lost (told.Kept p d k t) c e = absurd cc
 told_not_lost (told.Toggled p d n) c e = absurd cc
 
--- no fact that is told is lost
+-- no fact of the caller's list is lost
 pub none_lost : (xs : List ToldFact) (c : Cause) → Contains (facts_view xs) (Lost c) → ⊥
 none_lost xs c h =
     let at = place_in (facts_view xs) (Lost c) h in
@@ -274,7 +274,7 @@ fact_given r s fs (Kept e) lost closed here = kept_given r s fs e lost closed he
 fact_given r s fs (Toggled p c g) lost closed here = closed _ _ _ (toggled_feature {p = p} {c = c} {g = g}) (one (Contains fs) (Toggled p c g) here)
 fact_given r s fs (Lost c) lost closed here = tt
 
--- all that the roots and the facts give stands in the list, so it is closed
+-- all that the roots and the facts give stands in the list, so the list is closed
 facts_closed : (r : Resolved) (s : SettingModel) (fs : List Fact) → RootsIn r s fs → ((f : Fact) → Contains fs f → FactIn r s fs f) → IsClosed (questions r s) fs
 unfolding questions
 facts_closed r s fs roots facts n ps x (root_crate {p} root stands) from = (roots p root).kept stands
@@ -308,7 +308,7 @@ facts_closed r s fs roots facts n ps x (toggled_feature {p} {c} {g}) from = fact
 facts_closed r s fs roots facts n ps x (lost_toggled_weakly {e} {f} {g} {c} has is lacks) from =
     absurd (((facts (Feature e.parent f) (from _ (inl refl))).toggled true c g has e.child is e (from _ (inr (inl refl))) refl refl).listed lacks)
 
--- a list without what is lost is closed exactly where all of that stands in it
+-- a list without lost facts is closed exactly where all of that stands in it
 pub closed_told : (r : Resolved) (s : SettingModel) (xs : List ToldFact) → (RootsIn r s (facts_view xs) × ((f : Fact) → Contains (facts_view xs) f → FactIn r s (facts_view xs) f)) ↔ IsClosed (questions r s) (facts_view xs)
 closed_told r s xs = (
   λ h. facts_closed r s (facts_view xs) h.0 h.1,

@@ -1,4 +1,4 @@
--- A list of facts that is put into a set, fact by fact.
+-- A list of facts that is inserted into a set, fact by fact.
 use Rattle.std.proofs.Common.{◌≡◌, ◌↔◌, ◌<◌, ◌≤◌, ℕ, ◌+◌, List, [], ◌∷◌, ◌++◌, length, get_or, take, Bool, true, false, cond, IsTrue, Ordering, Less, Equal, Greater, Contains, inl, inr, refl, sym, ap, ◌∙◌, subst, arith}
 use Rattle.std.proofs.lemmas.List.{take_more, take_all, map-append}
 use Rattle.std.proofs.lemmas.List.Elements.{Contains-append_left, Contains-push, Contains-push_cases}
@@ -36,7 +36,7 @@ key_step false o fs f g there back h = (
   λ c. elim (Contains-push_cases fs f g c) [ inl x ↦ h.1 x | inr e ↦ absurd (let no : false ≡ true = back e in cc) ],
 )
 
--- a set without a key has no fact
+-- a set without keys has no fact
 pub keys_none : (set : BTreeSet FactKey) → set.keys ≡ [] → HasKeys set []
 keys_none set e k = rw e (λ t. absurd cc, λ c. absurd (none_there (key_view k) c))
 
@@ -46,7 +46,7 @@ keys_put tells old new fs k grown h q =
     subst (λ (b : Bool). IsTrue b ↔ Contains (fs ++ key_view k ∷ []) (key_view q)) (sym (grown q))
     (key_step (is_eq (key_cmp k q)) (contains key_cmp old q) fs (key_view k) (key_view q) (λ t. key_to tells k q (is_equal (key_cmp k q) t)) (λ e. equal_is (key_cmp k q) (key_from tells k q e)) (h q))
 
--- one more of a list
+-- one more fact of the list
 seen_step : (xs : List ToldFact) (i : ℕ) (x : ToldFact) → i < length xs → x ≡ get_or xs i x → facts_view (take i xs) ++ fact_view x ∷ [] ≡ facts_view (take (i + 1) xs)
 seen_step xs i x lt is =
     let more = take_more xs i x lt ∙ ap (λ y. take i xs ++ y ∷ []) (sym is) in
@@ -87,7 +87,7 @@ pairs_put tells old new fs p c e from to grown h q =
     (λ t. (let w = pair_to tells p c q (is_equal (order_of_pair p c q) t) in (sym from ∙ w.0, sym to ∙ w.1)))
     (λ x y. equal_is (order_of_pair p c q) (pair_from tells p c q (from ∙ x) (to ∙ y))) (h q))
 
--- a fact that isn't an edge adds none
+-- a fact that isn't an edge adds no pair
 pub pairs_same : (set : BTreeSet Pair) (fs : List Fact) (f : Fact) → ((e : Edge) → f ≡ Kept e → ⊥) → HasPairs set fs → HasPairs set (fs ++ f ∷ [])
 pairs_same set fs f other h q = (
   λ t. (let w = (h q).0 t in (w.0, Contains-append_left fs (f ∷ []) (Kept w.0) w.1, w.2, w.3)),

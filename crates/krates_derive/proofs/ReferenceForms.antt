@@ -1,4 +1,4 @@
--- What the one reference that a text is asks for.
+-- What a text asks for, as the one reference that it is.
 use Rattle.std.proofs.Common.{◌≡◌, ◌↔◌, Bool, IsTrue, not, true, false, refl, sym, ◌∙◌, subst}
 use Rattle.krates_cm.specs.Document.{Text}
 use Rattle.krates_derive.specs.Referring.{AsksBy, TogglesBy, toggling}
@@ -9,11 +9,11 @@ use Rattle.krates_rules.specs.Resolved.{Resolved}
 use Rattle.krates_rules.specs.Setting.{SettingModel}
 use Rattle.krates_text.specs.FeatureReference.{Reference, weak, strong, simple, IsReference, HasOneReading}
 
--- the text is no other reference
+-- a text is only one reference
 pub one_form : {text : Text} → HasOneReading text → (a b : Reference) → IsReference text a → IsReference text b → a ≡ b
 one_form h a b x y = h.only a x ∙ sym (h.only b y)
 
--- no simple reference
+-- a text that is another reference isn't a simple one
 pub not_simple : {text : Text} → HasOneReading text → (a : Reference) (name : Text) → IsReference text a → ((n : Text) → a ≡ simple n → ⊥) → IsReference text (simple name) → ⊥
 not_simple h a name x other y = other name (one_form h a (simple name) x y)
 
@@ -23,7 +23,7 @@ simple_told {text} h other name b x told = (
   λ y. told.1 (let e : simple other ≡ simple name = one_form h (simple other) (simple name) x y in cc),
 )
 
--- it asks for what it names
+-- a reference asks for what it names
 pub asks_told : {text : Text} → HasOneReading text → (r : Resolved) (s : SettingModel) (p child : Id) (a : Reference) (dep : Text) (b : Bool) → IsReference text a → Demands a dep → ((other : Text) → Demands a other → other ≡ dep)
     → (IsTrue b ↔ IsReferent r s.all_named p dep child) → IsTrue b ↔ AsksBy r s p text child
 asks_told {text} h r s p child a dep b x asks only told = (
@@ -33,7 +33,7 @@ asks_told {text} h r s p child a dep b x asks only told = (
       subst (λ d. IsReferent r s.all_named p d child) (only y.dep (subst (λ z. Demands z y.dep) same y.asks)) y.referent),
 )
 
--- or for nothing
+-- a reference that demands nothing asks for nothing
 pub asks_nothing : {text : Text} → HasOneReading text → (r : Resolved) (s : SettingModel) (p child : Id) (a : Reference) → IsReference text a → ((dep : Text) → Demands a dep → ⊥) → AsksBy r s p text child → ⊥
 asks_nothing {text} h r s p child a x none y =
     let same : y.reference ≡ a = one_form h y.reference a y.is x in
@@ -73,7 +73,7 @@ weak_told {text} h r s p child true dep g name b x told = (
       (refl, named, subst (λ d. IsReferent r s.all_named p d child) same y.referent)),
 )
 
--- what is neither toggles nothing
+-- a reference of neither form toggles nothing
 pub toggles_nothing : {text : Text} → HasOneReading text → (r : Resolved) (s : SettingModel) (p child : Id) (weakly : Bool) (name : Text) (a : Reference) → IsReference text a
     → ((d g : Text) → a ≡ strong d g → ⊥) → ((d g : Text) → a ≡ weak d g → ⊥) → TogglesBy r s p weakly text child name → ⊥
 toggles_nothing {text} h r s p child true name a x not_strong not_weak y = not_weak y.dep name (one_form h _ _ x y.is)

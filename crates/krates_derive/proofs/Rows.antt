@@ -1,4 +1,4 @@
--- The rows of the rules, each with what it asks.
+-- The rules row by row: what each of them asks.
 use Rattle.std.proofs.Common.{◌≡◌, ◌↔◌, ℕ, [], ◌∷◌, Bool, true, false, inl, inr, refl, sym, subst}
 use Rattle.krates_cm.specs.Document.{Text}
 use Rattle.krates_derive.specs.Following.{MayKeep, MustKeep, AsksForFeature, TogglesOver}
@@ -12,7 +12,7 @@ use Rattle.krates_rules.specs.Rules.{Questions, Rule, root_crate, root_feature, 
 use Rattle.krates_rules.specs.Setting.{SettingModel}
 use Rattle.krates_text.specs.FeatureReference.{simple}
 
--- one after the other
+-- two equivalences in a row
 pub through : {A B C : Type 0} → A ↔ B → B ↔ C → A ↔ C
 through f g = (λ a. g.0 (f.0 a), λ c. f.1 (g.1 c))
 
@@ -118,7 +118,7 @@ enabled_row q n p c d g h = (to, back n d h)
     back : (n : ℕ) (d : Id) (h : Text) → Rule q n (Toggled p c g ∷ []) (Feature d h) → (n ≡ 7) × (c ≡ d) × (g ≡ h)
     back n d h toggled_feature = (refl, refl, refl)
 
--- the number of the rule for weak references, and for strong ones
+-- the number of the rule for weak references, or for strong ones
 abbrev pub number_of : Bool → ℕ
 number_of true = 7
 number_of false = 4

@@ -1,4 +1,4 @@
--- What is said of the document that is looked at, where there is an index and where there is none.
+-- The document that is checked: corrected by the index, if there is one.
 use Rattle.std.proofs.Common.{Option}
 use Rattle.krates_cm.specs.Document.{MetadataModel, metadata_view}
 use Rattle.krates_cm.specs.declared.metadata.Metadata.{Metadata}
@@ -14,7 +14,7 @@ use Rattle.krates_derive.specs.declared.derivation.CheckError.TheVariants as ref
 pub sees : (index : Option IndexModel) (m seen : MetadataModel) (P : MetadataModel → Type 0) → IsSeenThrough index m seen → P seen → SeesThrough index m P
 sees index m seen P is h = record { seen = seen; is_seen = is; holds = h }
 
--- a refusal of the document that is looked at
+-- a refusal of the document that is checked
 pub refused_through : (index : Option IndexModel) (m seen : MetadataModel) (R : MetadataModel → CheckError → Type 0) (e : CheckError) → IsSeenThrough index m seen → R seen e → IsRefusedThrough index m R e
 refused_through index m seen R refusals.Document is h = sees index m seen (λ x. R x refusals.Document) is h
 refused_through index m seen R refusals.Empty is h = sees index m seen (λ x. R x refusals.Empty) is h
@@ -22,6 +22,6 @@ refused_through index m seen R (refusals.Step number) is h = sees index m seen (
 refused_through index m seen R refusals.Memory is h = tt
 refused_through index m seen R refusals.Open is h = sees index m seen (λ x. R x refusals.Open) is h
 
--- a document whose packages are corrected is corrected as it is read
+-- a document whose packages are corrected is the corrected document of the definition
 pub corrected_by : (answer : IndexAnswer) (m p : Metadata) → IsCorrectedDocument answer m p → IsCorrectedBy (index_view answer) (metadata_view m) (metadata_view p)
 corrected_by answer m p h = record { packages = views_corrected answer m p h; nothing_else = rest_kept answer m p h }

@@ -1,4 +1,4 @@
--- What a check goes by.
+-- What a check is made against.
 use Rattle.krates_derive.specs.declared.basis.Basis.{Basis}
 use Rattle.krates_questions.specs.DocumentModel.{as_resolved}
 use Rattle.krates_rules.specs.Questions.{questions}

@@ -1,4 +1,4 @@
--- What the check of a list of facts goes by.
+-- What the check of a list of facts is made against.
 use Rattle.std.specs.Prelude.{List}
 use Rattle.krates_derive.specs.Told.{facts_view}
 use Rattle.krates_derive.specs.declared.closing.Claim.{Claim}

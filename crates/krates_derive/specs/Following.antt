@@ -1,4 +1,4 @@
--- What a document and a setting say of single facts, as the rows of the rules ask it.
+-- What a document and a setting say about single facts, for each row of the rules.
 use Rattle.std.specs.Prelude.{◌≡◌, ◌⊎◌, ℕ, Bool, IsTrue, Contains, true, false}
 use Rattle.krates_cm.specs.Document.{Text, DependencyModel}
 use Rattle.krates_derive.specs.Referring.{Asks, Toggles}
@@ -20,7 +20,7 @@ IsRooted r s rule p = (rule ≡ 1) × IsRoot r s p × Stands r s p
 abbrev pub IsRootedFeature : Resolved → SettingModel → ℕ → Id → Text → Type 0
 IsRootedFeature r s rule p f = (rule ≡ 1) × IsRoot r s p × Stands r s p × ListsFeature r p f
 
--- the feature of the first crate names that of the other, which is the same crate and lists it
+-- the feature of the first crate names the second feature, whose crate is the same and lists it
 abbrev pub IsNamedBy : Resolved → ℕ → Id → Text → Id → Text → Type 0
 IsNamedBy r rule p f c g = (rule ≡ 3) × (p ≡ c) × HasReference r p f (simple g) × ListsFeature r p g
 
@@ -45,11 +45,11 @@ pub record MustKeep (r : Resolved) (s : SettingModel) (e : Edge) : Type 0 where
   pub required : dependency.optional ≡ false
   pub stands : Stands r s e.child
 
--- the dependency asks for the feature by default
+-- the dependency enables the feature by default
 abbrev pub AsksDefault : DependencyModel → Text → Type 0
 AsksDefault d g = (d.uses_default_features ≡ true) × (g ≡ default_name)
 
--- by its list or by default
+-- in its list of features, or by default
 abbrev pub AsksFeature : DependencyModel → Text → Type 0
 AsksFeature d g = Contains d.features g ⊎ AsksDefault d g
 
@@ -59,7 +59,7 @@ pub record AsksForFeature (r : Resolved) (e : Edge) (g : Text) : Type 0 where
   pub declared : IsDeclaredAs r e dependency
   pub asks : AsksFeature dependency g
 
--- the form is right, the feature is the one that is toggled, and the name means the child
+-- the reference has the right form, it names this feature, and its dependency's name means the child
 abbrev pub IsToggleOf : Resolved → SettingModel → Bool → Id → Text → Text → Id → Text → Type 0
 IsToggleOf r s is_form p dep g child name = IsTrue is_form × (g ≡ name) × IsReferent r s.all_named p dep child
 

@@ -1,4 +1,4 @@
--- What single facts give by one rule, and when all of it stands in a list.
+-- What single facts give by one rule, and when all of that stands in a list.
 use Rattle.std.specs.Prelude.{◌≡◌, List, Bool, true, false, Contains, ⊤}
 use Rattle.krates_cm.specs.Document.{Text, DependencyModel, DepKindInfoModel}
 use Rattle.krates_derive.specs.Referring.{Asks, AsksBy, toggling}
@@ -14,17 +14,17 @@ use Rattle.krates_text.specs.FeatureReference.{IsReference, simple}
 
 -- ---- by single facts
 
--- the feature stands in the list where it is listed, and isn't lost
+-- the feature stands in the list if it is listed, and isn't lost
 pub record NamedIn (r : Resolved) (fs : List Fact) (i : Id) (g : Text) : Type 0 where
   pub enabled : ListsFeature r i g → Contains fs (Feature i g)
   pub listed : LacksFeature r i g → ⊥
 
--- the toggled feature stands in the list where it is listed, and isn't lost
+-- the toggled feature stands in the list if it is listed, and isn't lost
 pub record ToggledIn (r : Resolved) (fs : List Fact) (p c : Id) (g : Text) : Type 0 where
   pub toggled : ListsFeature r c g → Contains fs (Toggled p c g)
   pub listed : LacksFeature r c g → ⊥
 
--- whether the dependency is taken: where it is asked for, or isn't optional
+-- whether the dependency is taken: it is asked for, or isn't optional
 abbrev pub IsTaken : Bool → DependencyModel → Type 0
 IsTaken true d = ⊤
 IsTaken false d = d.optional ≡ false

@@ -34,13 +34,13 @@ IsClosedRefused m s fs refusals.Memory = ⊤
 IsClosedRefused m s fs refusals.Empty = ⊥
 IsClosedRefused m s fs (refusals.Step number) = ⊥
 
--- why a document isn't read
+-- why a document can't be checked
 abbrev pub IsUnread : MetadataModel → CheckError → Type 0
 IsUnread m refusals.Document = IsTurnedAway m
 IsUnread m refusals.Memory = ⊤
 IsUnread m _ = ⊥
 
--- why the document that is looked at is refused; memory may always run out
+-- why the document that is checked is refused; memory may always run out
 abbrev pub IsRefusedThrough : Option IndexModel → MetadataModel → (MetadataModel → CheckError → Type 0) → CheckError → Type 0
 IsRefusedThrough index m R refusals.Document = SeesThrough index m (λ seen. R seen refusals.Document)
 IsRefusedThrough index m R refusals.Empty = SeesThrough index m (λ seen. R seen refusals.Empty)

@@ -1,4 +1,4 @@
--- What is told: facts, steps and edges, as the rules see them.
+-- A caller's facts, steps and edges, as the rules see them.
 use Rattle.std.specs.Prelude.{List, map, option_map}
 use Rattle.krates_cm.specs.Document.{text_view}
 use Rattle.krates_cm.specs.declared.dependency.DependencyKind.{DependencyKind}
@@ -23,7 +23,7 @@ written_of kinds.Normal = written.Normal
 written_of kinds.Build = written.Build
 written_of kinds.Dev = written.Development
 
--- the fact that is told
+-- the caller's fact
 abbrev pub fact_view : ToldFact → Fact
 fact_view (told.Crate krate) = Crate (id_of krate)
 fact_view (told.Feature krate name) = Feature (id_of krate) (text_view name)
@@ -34,14 +34,14 @@ fact_view (told.Toggled parent child name) = Toggled (id_of parent) (id_of child
 abbrev pub facts_view : List ToldFact → List Fact
 facts_view facts = map fact_view facts
 
--- the step that is told
+-- the caller's step
 abbrev pub step_view : Step → StepModel
 step_view x = record { rule = x.rule; fact = fact_view x.fact; uses = x.uses.items }
 
 abbrev pub steps_view : List Step → List StepModel
 steps_view steps = map step_view steps
 
--- the edge whose parts are lent
+-- the edge with these borrowed parts
 abbrev pub told_edge : ToldEdge → Edge
 told_edge e = record {
   parent = id_of e.parent.now;
@@ -58,7 +58,7 @@ told_feature f = Feature (id_of f.krate.now) f.name.now
 abbrev pub told_toggle : ToldToggle → Fact
 told_toggle t = Toggled (id_of t.by.now) (id_of t.krate.now) t.name.now
 
--- the fact whose parts are lent
+-- the fact with these borrowed parts
 abbrev pub told_fact : Told → Fact
 told_fact (lent.Crate krate) = Crate (id_of krate.now)
 told_fact (lent.Feature feature) = told_feature feature

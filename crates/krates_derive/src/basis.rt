@@ -1,10 +1,10 @@
-//! What a check goes by.
+//! What a check is made against.
 
 use krates_document::Setting;
 use krates_questions::Document;
 use std::alloc::Global;
 
-/// What a check goes by: a document and a setting.
+/// What a check is made against: a document and a setting.
 #[derive(Clone, Copy)]
 pub(crate) struct Basis<'a, 's> {
     /// What memory comes from.

@@ -1,7 +1,7 @@
 //! Whether a list has all that follows from it by one rule.
 //!
-//! For each fact there is one question: whether all that it gives stands in the list. What two facts give is asked of the
-//! feature among them, with the edges that the list has.
+//! For each fact there is one question: whether all that it gives stands in the list. What a feature gives together with an edge
+//! is asked with the feature, for the edges in the list.
 
 ghost use Rattle.std.specs.Prelude.{◌↔◌, IfOk, IsTrue, map};
 ghost use Rattle.krates_cm.specs.Document.{dependency_view, text_view};
@@ -26,7 +26,7 @@ use krates_questions::{Document, Need, Presence};
 use krates_text::{features, laws};
 use std::alloc::{AllocError, Global};
 
-/// What the check of a list of facts goes by: a document, a setting, and the list.
+/// What the check of a list of facts is made against: a document, a setting, and the list.
 #[derive(Clone, Copy)]
 pub(crate) struct Claim<'a, 's> {
     /// What memory comes from.
@@ -220,7 +220,7 @@ fn are_edges_in<'a>(
     Ok(true)
 }
 
-/// Whether all that an edge gives stands in the list, where it is asked for, or by its parent.
+/// Whether all that an edge gives stands in the list, if a feature asks for it or its parent needs it.
 fn is_edge_in<'a>(
     claim: &Claim<'a, '_>,
     edge: &ToldEdge<'a>,
@@ -242,14 +242,14 @@ fn is_edge_in<'a>(
     }
 }
 
-/// Whether a dependency is taken: where it is asked for, or isn't optional.
+/// Whether a dependency is taken: if it is asked for, or isn't optional.
 fn is_taken(asked: bool, dependency: &Dependency) -> bool
     ensures { IsTrue result ↔ IsTaken asked (dependency_view dependency.now) }
 {
     asked || !dependency.optional
 }
 
-/// Whether a wanted edge stands in the list where its child stands, and nothing is lost.
+/// Whether a wanted edge stands in the list if its child stands, and nothing is lost.
 fn is_child_in<'a>(claim: &Claim<'a, '_>, edge: &ToldEdge<'a>) -> bool
     ensures { IsTrue result
         ↔ ChildIn (document_in claim.now) claim.now.setting.now (facts_in claim.now) (told_edge edge.now) }
@@ -353,7 +353,7 @@ fn is_value_in<'a>(claim: &Claim<'a, '_>, krate: &'a Kid, text: &'a str) -> Resu
     }
 }
 
-/// Whether a feature of what a name means is toggled, where the list has an edge there.
+/// Whether a feature of what a name means is toggled, if the list has an edge there.
 fn is_dep_in<'a>(
     claim: &Claim<'a, '_>,
     krate: &'a Kid,
@@ -375,7 +375,7 @@ fn is_dep_in<'a>(
     Ok(true)
 }
 
-/// Whether a feature of a crate is toggled, where the list has an edge there.
+/// Whether a feature of a crate is toggled, if the list has an edge there.
 fn is_meant_in<'a>(claim: &Claim<'a, '_>, krate: &'a Kid, child: &'a Kid, name: &'a str) -> bool
     ensures { IsTrue result
         ↔ MeantIn (document_in claim.now) (facts_in claim.now) (id_of krate.now) (id_of child.now) name.now }
@@ -388,7 +388,7 @@ fn is_meant_in<'a>(claim: &Claim<'a, '_>, krate: &'a Kid, child: &'a Kid, name: 
 
 // ---- features
 
-/// Whether a toggled feature stands in the list where its crate lists it, and isn't lost.
+/// Whether a toggled feature stands in the list if its crate lists it, and isn't lost.
 fn is_toggled_in<'a>(claim: &Claim<'a, '_>, by: &'a Kid, krate: &'a Kid, name: &'a str) -> bool
     ensures { IsTrue result
         ↔ ToggledIn (document_in claim.now) (facts_in claim.now) (id_of by.now) (id_of krate.now) name.now }
@@ -405,7 +405,7 @@ fn is_toggled_in<'a>(claim: &Claim<'a, '_>, by: &'a Kid, krate: &'a Kid, name: &
     ))
 }
 
-/// Whether a feature stands in the list where its crate lists it, and isn't lost.
+/// Whether a feature stands in the list if its crate lists it, and isn't lost.
 fn is_named_in<'a>(claim: &Claim<'a, '_>, krate: &'a Kid, name: &'a str) -> bool
     ensures { IsTrue result
         ↔ NamedIn (document_in claim.now) (facts_in claim.now) (id_of krate.now) name.now }
@@ -441,7 +441,7 @@ fn are_names_in<'a>(claim: &Claim<'a, '_>, krate: &'a Kid, names: &'a [String]) 
     true
 }
 
-/// Whether the default feature stands in the list, where a declared dependency uses it.
+/// Whether the default feature stands in the list, if a declared dependency uses it.
 fn is_default_in<'a>(claim: &Claim<'a, '_>, krate: &'a Kid, uses: bool) -> bool
     ensures { IsTrue result ↔ DefaultIn (document_in claim.now) (facts_in claim.now) (id_of krate.now) uses }
 {

@@ -25,7 +25,7 @@ pub enum Fact {
         parent: Kid,
         /// The crate that it depends on.
         child: Kid,
-        /// For what it is needed.
+        /// What it is needed for.
         kind: DepKind,
         /// The target that it is needed for, as the document writes it.
         cfg: Option<String>,

@@ -1,4 +1,4 @@
-//! Facts as keys of a set. Their parts are lent, and two keys compare as equal where they are the same fact.
+//! Facts as keys of a set. Their parts are borrowed, and two keys compare as equal where they are the same fact.
 
 ghost use Rattle.std.specs.Prelude.{◌≡◌};
 ghost use Rattle.krates_derive.specs.FactKey.{edge_view, key_view, purpose_view};
@@ -18,7 +18,7 @@ pub(crate) struct Pair<'a> {
     pub child: &'a Kid,
 }
 
-/// For what a dependency is needed, in an order.
+/// The kind of a dependency, with an order.
 #[derive(Clone, Copy, PartialEq, Eq, PartialOrd, Ord)]
 pub(crate) enum Purpose {
     /// For the package itself.
@@ -34,7 +34,7 @@ pub(crate) enum Purpose {
 pub(crate) struct EdgeKey<'a> {
     /// The crates.
     pub pair: Pair<'a>,
-    /// For what it is needed.
+    /// What it is needed for.
     pub purpose: Purpose,
     /// The target that it is needed for.
     pub cfg: &'a Option<String>,
@@ -96,7 +96,7 @@ pub(crate) fn edge_key<'a>(edge: &ToldEdge<'a>) -> EdgeKey<'a>
     }
 }
 
-/// For what a dependency of this kind is needed.
+/// The kind, as a key.
 fn purpose_of(kind: DepKind) -> Purpose
     ensures { purpose_view result ≡ written_of kind }
 {

@@ -14,7 +14,7 @@ use std::alloc::{AllocError, Global};
 use std::collections::BTreeSet;
 use std::marker::Model;
 
-/// A list of facts that is asked for single ones, which are found by halves.
+/// A list of facts in which single facts are looked up, by binary search.
 #[derive(Drop)]
 pub(crate) struct FactSet<'a> {
     /// The list.
@@ -39,7 +39,7 @@ impl<'a> Model for FactSet<'a> {
 }
 
 impl<'a> FactSet<'a> {
-    /// The list, ready to be asked.
+    /// The list, ready for look-ups.
     pub(crate) fn of(alloc: Global, facts: &'a [Fact]) -> Result<FactSet<'a>, AllocError>
         ensures { IfOk result (λ set. set ≡ facts.now) }
     {

@@ -23,7 +23,7 @@ use std::alloc::{AllocError, Global};
 
 // ---- edges
 
-/// What there is for an edge.
+/// What is needed for an edge.
 pub(crate) fn need_of<'a>(
     alloc: Global,
     document: &Document<'a>,
@@ -36,7 +36,7 @@ pub(crate) fn need_of<'a>(
     document.need(alloc, setting, edge.parent, edge.child, &info)
 }
 
-/// As what an edge is declared.
+/// The dependency that an edge is declared as.
 pub(crate) fn declaration_of<'a>(
     alloc: Global,
     document: &Document<'a>,
@@ -60,7 +60,7 @@ fn may_keep<'a>(basis: &Basis<'a, '_>, edge: &ToldEdge<'a>) -> Result<bool, Allo
     }
 }
 
-/// Whether an edge has to be kept where its parent is.
+/// Whether an edge has to be kept if its parent is.
 fn must_keep<'a>(basis: &Basis<'a, '_>, edge: &ToldEdge<'a>) -> Result<bool, AllocError>
     ensures { IfOk result
         (λ b. IsTrue b ↔ MustKeep (document_of basis.now) basis.now.setting.now (told_edge edge.now)) }

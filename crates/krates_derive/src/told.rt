@@ -1,4 +1,4 @@
-//! Parts of facts, lent.
+//! Parts of facts, borrowed.
 
 ghost use Rattle.std.specs.Prelude.{◌≡◌, ◌↔◌, IfOk, IsTrue};
 ghost use Rattle.krates_cm.specs.Document.{dep_kind_info_view};
@@ -19,7 +19,7 @@ pub(crate) struct ToldEdge<'a> {
     pub parent: &'a Kid,
     /// The crate that it depends on.
     pub child: &'a Kid,
-    /// For what it is needed.
+    /// What it is needed for.
     pub kind: DepKind,
     /// The target that it is needed for.
     pub cfg: &'a Option<String>,
@@ -45,7 +45,7 @@ pub(crate) struct ToldToggle<'a> {
     pub name: &'a str,
 }
 
-/// A fact whose parts are lent.
+/// A fact whose parts are borrowed.
 #[derive(Clone, Copy)]
 pub(crate) enum Told<'a> {
     /// The crate is kept.
@@ -58,7 +58,7 @@ pub(crate) enum Told<'a> {
     Toggled(ToldToggle<'a>),
 }
 
-/// The fact, with its parts lent.
+/// The fact, with its parts borrowed.
 pub(crate) fn lent<'a>(fact: &'a Fact) -> Told<'a>
     ensures { told_fact result ≡ fact_view fact.now }
 {

@@ -1,4 +1,4 @@
--- How the parts of a document's ids make the whole.
+-- How the parts of a document's ids make up the whole.
 use Rattle.std.proofs.Common.{◌≡◌, ℕ, zero, suc, ◌<◌, List, [], ◌∷◌, length, get_or, Contains, Some, lit<, refl, ap, sym, ◌∙◌, subst, inl, inr, arith, string_bytes, map}
 use Rattle.std.specs.List.{AllZip, AllByRecursion}
 use Rattle.std.specs.Prelude.{String}
@@ -21,11 +21,11 @@ use Rattle.krates_rules.specs.Facts.{Id}
 use Rattle.krates_rules.specs.Resolved.{id_of}
 use Rattle.krates_rules.proofs.Readings.{left_of, right_of, ReadsOnce}
 
--- no text with a fault is read
+-- a text with a fault isn't read as an id
 abbrev pub FaultsAreUnread : Type 0
 FaultsAreUnread = (t : Text) (i : Identity) (fault : Fault) → Reads t i → IsFault t fault → ⊥
 
--- an id that is handed back with a true fault is no id
+-- an id that is returned with its true fault isn't one
 pub back_unread : (id copy back : PackageId) (fault : Fault) → FaultsAreUnread → string_bytes copy.repr ≡ string_bytes id.repr → back ≡ copy → IsFault (id_view copy) fault
     → Contains (id_view id ∷ []) (id_view back) × ((i : Identity) → Reads (id_view back) i → ⊥)
 back_unread id copy back fault law same is true_of =
@@ -46,7 +46,7 @@ dep_texts_of n = map-map (λ d. d.pkg) node_dep_view n.deps.items
 
 -- ---- a refusal by its class
 
--- what follows of the text of each invalid id, and of running out of memory, follows of the refusal
+-- what follows from each invalid id, and from running out of memory, follows from the refusal
 invalid_so : (P : Text → Type 0) (R : Error → Type 0) → ((t : String Global) → P (string_bytes t) → R (errors.InvalidId t)) → R errors.Memory → (e : Error) → IsInvalidBy P e → R e
 invalid_so P R so memory (errors.InvalidId t) h = so t h
 invalid_so P R so memory errors.Memory h = memory
@@ -58,7 +58,7 @@ invalid_so P R so memory (errors.Doubled x) h = absurd h
 invalid_so P R so memory (errors.Lost x) h = absurd h
 invalid_so P R so memory errors.TooMany h = absurd h
 
--- and of each doubled id
+-- and from each doubled id
 doubled_so : (P : Id → Type 0) (R : Error → Type 0) → ((kid : Identity) → P (id_of kid) → R (errors.Doubled kid)) → R errors.Memory → (e : Error) → IsDoubledBy P e → R e
 doubled_so P R so memory (errors.Doubled kid) h = so kid h
 doubled_so P R so memory errors.Memory h = memory
@@ -70,9 +70,9 @@ doubled_so P R so memory (errors.InvalidId x) h = absurd h
 doubled_so P R so memory (errors.Lost x) h = absurd h
 doubled_so P R so memory errors.TooMany h = absurd h
 
--- ---- what is wrong with an id is wrong with the document
+-- ---- a fault of an id is a fault of the document
 
--- a bad dependency of a node is one of the nodes
+-- an invalid id of a node's dependency is one of the nodes
 pub bad_node : (nodes : List NodeModel) (n : NodeModel) → Contains nodes n → (e : Error) → InvalidDepRefusal (dep_texts n) e → InvalidNodeRefusal nodes e
 bad_node nodes n among = invalid_so (λ t. Contains (dep_texts n) t × IsBadText t) (InvalidNodeRefusal nodes) (λ t h. (n, among, h.0, h.1)) tt
 
@@ -101,7 +101,7 @@ twice_nodes ids = doubled_so (IsDoubledAmong ids.nodes) (DoubledWithinRefusal id
 pub twice_deps : (ids : IdsModel) (e : Error) → DoubledInRefusal ids.deps e → DoubledWithinRefusal ids e
 twice_deps ids = doubled_so (λ id. (list : List Identity) × Contains ids.deps list × IsDoubledAmong list id) (DoubledWithinRefusal ids) (λ kid h. among_deps h.0 h.1 h.2) tt
 
--- an id that is doubled among the ids of texts is doubled in the texts
+-- an id that is doubled among the ids is doubled in their texts
 pub twice_texts : (texts : List Text) (ids : List Identity) (id : Id) → AllZip Reads texts ids → IsDoubledAmong ids id → IsDoubledIn texts id
 twice_texts texts ids id z t =
     let one = left_of Reads texts ids t.first t.one z t.at_first in

@@ -2,7 +2,7 @@
 use Rattle.std.proofs.Common.{◌≡◌, ℕ, zero, suc, ◌+◌, ◌<◌, ◌≤◌, List, [], ◌∷◌, length, get_or, slice_set, refl, subst, arith}
 use Rattle.std.specs.List.{AllZip}
 
--- the elements before this place stand in the relation to those that they were, and the others are those that they were
+-- the elements before this place are related to the old ones, and the others are the old ones
 abbrev pub SoFar : {A : Type 0} → (A → A → Type 0) → ℕ → List A → List A → Type 0
 SoFar R zero before after = after ≡ before
 SoFar R (suc n) [] after = ⊥

@@ -1,4 +1,4 @@
--- What a correction of a document says of what is read in it.
+-- How a corrected document relates to the one before it.
 use Rattle.std.proofs.Common.{◌≡◌, ap}
 use Rattle.std.specs.List.{AllZip}
 use Rattle.krates_cm.specs.Document.{metadata_view, package_view}

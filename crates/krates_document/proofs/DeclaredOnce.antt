@@ -5,14 +5,14 @@ use Rattle.std.proofs.lemmas.Option.{same_Some}
 use Rattle.krates_cm.specs.Document.{DependencyModel, DepKindInfoModel}
 use Rattle.krates_rules.specs.DeclaredDependency.{DependencyEntry, FirstAt, Fits, FitsBySource, SeveralFit, IsFirstPlace, IsDeclared, IsUndeclared}
 
--- the first element is one, and so is its place
+-- there is only one first element, at one place
 pub one_first : {A : Type 0} (P : A → Type 0) (xs : List A) (j k : ℕ) (x y : A) → FirstAt P xs j x → FirstAt P xs k y → (j ≡ k) × (x ≡ y)
 one_first P xs j k x y a b = elim (cases_order j k) [
   | inl e ↦ (e, same_Some x y (sym a.here ∙ ap (λ n. slice_get xs n) e ∙ b.here))
   | inr r ↦ elim r [ inl lt ↦ absurd (b.before j x lt a.here a.holds) | inr lt ↦ absurd (a.before k y lt b.here b.holds) ]
 ]
 
--- at most one dependency is declared, at one place
+-- only one dependency is the declared one, at one place
 pub declared_once : (ds : List DependencyModel) (n : DependencyEntry) (k : DepKindInfoModel) (p q : ℕ) (d e : DependencyModel) → IsDeclared ds n k p d → IsDeclared ds n k q e → (p ≡ q) × (d ≡ e)
 declared_once ds n k p q d e (inl a) (inl b) = one_first (Fits n k) ds p q d e a.1 b.1
 declared_once ds n k p q d e (inl a) (inr b) = absurd (a.0 b.0)
@@ -26,12 +26,12 @@ declared_stands ds n k place d (inr a) = a.1.here
 
 -- ---- how it is found
 
--- where none fits, none is declared
+-- where none fits, none is the declared one
 pub none_fits : (ds : List DependencyModel) (n : DependencyEntry) (k : DepKindInfoModel) → ((place : ℕ) (d : DependencyModel) → slice_get ds place ≡ Some d → Fits n k d → ⊥) → IsUndeclared ds n k
 none_fits ds n k none place d (inl a) = none place d a.1.here a.1.holds
 none_fits ds n k none place d (inr a) = none place d a.1.here a.1.holds.fits
 
--- where none fits behind the first, the first is declared
+-- where none fits after the first, the first is the declared one
 pub one_fits : (ds : List DependencyModel) (n : DependencyEntry) (k : DepKindInfoModel) (place : ℕ) (d : DependencyModel) → FirstAt (Fits n k) ds place d
     → ((j : ℕ) (e : DependencyModel) → place < j → slice_get ds j ≡ Some e → Fits n k e → ⊥) → IsDeclared ds n k place d
 one_fits ds n k place d first none = inl (
@@ -42,7 +42,7 @@ one_fits ds n k place d first none = inl (
   first,
 )
 
--- where another fits behind the first, several fit
+-- where another fits after the first, several fit
 pub several_fit : (ds : List DependencyModel) (n : DependencyEntry) (k : DepKindInfoModel) (place j : ℕ) (d e : DependencyModel) → FirstAt (Fits n k) ds place d → place < j → slice_get ds j ≡ Some e → Fits n k e → SeveralFit ds n k
 several_fit ds n k place j d e first apart at fits = record {
   first = place;
@@ -56,7 +56,7 @@ several_fit ds n k place j d e first apart at fits = record {
   other_fits = fits;
 }
 
--- where several fit, the first of them that has the source is declared
+-- where several fit, the first of them with the same source is the declared one
 pub first_of_source : (ds : List DependencyModel) (n : DependencyEntry) (k : DepKindInfoModel) (r : Option ℕ) → SeveralFit ds n k → IsFirstPlace (FitsBySource n k) ds r
     → MatchOption r (IsUndeclared ds n k) (λ place. (d : DependencyModel) × IsDeclared ds n k place d)
 first_of_source ds n k (Some place) several found = (found.0, inr (several, found.1))

@@ -1,4 +1,4 @@
--- A list of ids, gone over with a set of those that were seen: none stands twice.
+-- A list of ids, gone over with a set of those seen before: none stands twice.
 use Rattle.std.proofs.Common.{◌≡◌, ℕ, zero, suc, ◌+◌, ◌<◌, ◌≤◌, List, [], ◌∷◌, ◌++◌, length, get_or, take, Bool, true, false, ◌||◌, Some, not, Ordering, Less, Equal, Greater, refl, sym, ap, ◌∙◌, inl, inr, arith, subst, ◌↔◌, Bor}
 use Rattle.std.proofs.Math.Bool.{or_assoc, or_comm}
 use Rattle.std.proofs.lemmas.Bool.{cases_lt}
@@ -14,7 +14,7 @@ use Rattle.krates_document.specs.AdmissionSteps.{IsDoubledAmong, AreDistinct}
 use Rattle.krates_rules.specs.Facts.{Id}
 use Rattle.krates_rules.specs.Resolved.{id_of}
 
--- the order tells ids that are the same
+-- the order says which ids are the same
 abbrev pub OrderTellsSame : Type 0
 OrderTellsSame = (a b : Identity) → (id_cmp a b ≡ Equal) ↔ IsSameId a b
 
@@ -92,7 +92,7 @@ distinct_push tells xs x distinct none id t = elim (cases_lt t.second (length xs
       absurd (cc (found, none)))
 ]
 
--- one more id, that wasn't seen
+-- one more id, which wasn't seen before
 pub distinct_more : OrderTellsSame → (ids : List Identity) (i : ℕ) (x : Identity) → i < length ids → x ≡ get_or ids i x → AreDistinct (take i ids) → has_id (take i ids) x ≡ false → AreDistinct (take (i + 1) ids)
 distinct_more tells ids i x lt is distinct none = subst AreDistinct (sym (take_more ids i x lt ∙ ap (λ y. take i ids ++ y ∷ []) (sym is))) (distinct_push tells (take i ids) x distinct none)
 
@@ -125,7 +125,7 @@ get_take (x ∷ xs) zero k a h = absurd cc
 get_take (x ∷ xs) (suc i) zero a h = (omega arith, h)
 get_take (x ∷ xs) (suc i) (suc k) a h = let w = get_take xs i k a h in (omega (arith, w.0), w.1)
 
--- an id that was seen stands twice
+-- an id that was seen before stands twice
 pub seen_twice : OrderTellsSame → (ids : List Identity) (i : ℕ) (x : Identity) → i < length ids → x ≡ get_or ids i x → has_id (take i ids) x ≡ true → IsDoubledAmong ids (id_of x)
 seen_twice tells ids i x lt is has =
     let w = place_of (take i ids) x has in

@@ -1,10 +1,10 @@
--- The first element of a list with a property, where the elements are seen by a view.
+-- The first element of a list with a property of its view.
 use Rattle.std.proofs.Common.{◌≡◌, inl, inr, ℕ, ◌<◌, List, length, get_or, map, sym, ap, ◌∙◌, subst, arith, Option, Some, None, slice_get, option_map, MatchOption, HoldsAt, Contains}
 use Rattle.std.proofs.lemmas.Option.{none-some, same_Some, slice_get-map, slice_get-get_or, slice_get_cases}
 use Rattle.std.specs.List.{AllWithin}
 use Rattle.krates_rules.specs.DeclaredDependency.{FirstAt, IsFirstPlace}
 
--- what is seen at a place is an element of the list there
+-- an element of the view at a place is the view of the element at that place
 pub seen_at : {A B : Type 0} (f : A → B) (xs : List A) (k : ℕ) (y : B) → slice_get (map f xs) k ≡ Some y → (x : A) × (k < length xs) × (f (get_or xs k x) ≡ y)
 seen_at f xs k y here =
     elim (slice_get_cases xs k).1 [
@@ -30,7 +30,7 @@ first_here f P xs i lt holds none =
       | inr r ↦ absurd (omega arith)
     ]
 
--- what `position` answers of a list, said of what is seen
+-- what `position` finds in a list, in terms of the views
 pub first_place : {A B : Type 0} (f : A → B) (P : B → Type 0) (xs : List A) (r : Option ℕ)
     → MatchOption r (AllWithin (λ x. P (f x) → ⊥) xs 0 (length xs)) (λ i. (i < length xs) × HoldsAt (λ x. P (f x)) xs i × AllWithin (λ x. P (f x) → ⊥) xs 0 i)
     → IsFirstPlace P (map f xs) r
@@ -39,9 +39,9 @@ first_place f P xs None none = λ k y here p.
     none k s.0 (omega arith) s.1 (subst P (sym s.2) p)
 first_place f P xs (Some i) found = first_here f P xs i found.0 found.1 found.2
 
--- ---- where the place is looked for of an element that is there
+-- ---- the place of an element that is in the list
 
--- one is found
+-- a place is found
 pub some_there : {A B : Type 0} (f : A → B) (xs : List A) (v : B) (r : Option ℕ)
     → MatchOption r (AllWithin (λ x. f x ≡ v → ⊥) xs 0 (length xs)) (λ i. (i < length xs) × HoldsAt (λ x. f x ≡ v) xs i × AllWithin (λ x. f x ≡ v → ⊥) xs 0 i)
     → Contains (map f xs) v → r ≡ None → ⊥
@@ -50,7 +50,7 @@ some_there f xs v None none (k, lt, is) e =
     none k s.0 (omega arith) s.1 s.2
 some_there f xs v (Some i) found c e = absurd cc
 
--- and it is the first
+-- and it is the first one
 pub first_there : {A B : Type 0} (f : A → B) (xs : List A) (v : B) (r : Option ℕ) (i : ℕ)
     → MatchOption r (AllWithin (λ x. f x ≡ v → ⊥) xs 0 (length xs)) (λ i. (i < length xs) × HoldsAt (λ x. f x ≡ v) xs i × AllWithin (λ x. f x ≡ v → ⊥) xs 0 i)
     → r ≡ Some i → FirstAt (λ y. y ≡ v) (map f xs) i v

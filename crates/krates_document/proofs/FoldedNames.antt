@@ -1,4 +1,4 @@
--- The order of names in which '-' and '_' are one character.
+-- The order of names in which '-' and '_' are the same.
 use Rattle.std.proofs.Common.{◌≡◌, ℕ, ◌+◌, ◌-◌, ◌<◌, ◌≤◌, ◌⊎◌, [], ◌∷◌, length, drop, get_or, Ordering, Less, Equal, Greater, inl, inr, refl, sym, ap, ◌∙◌, arith}
 use Rattle.std.proofs.lemmas.Bool.Decides.{nat_tests}
 use Rattle.std.proofs.lemmas.Cmp.{on_total, nat_list_cmp_total}
@@ -27,13 +27,13 @@ step_more xs ys i a b o lt below x y is =
     let same = is ∙ ap (λ n. nat_cmp n b) x ∙ ap (λ n. nat_cmp (folded_byte (get_or xs i 0)) n) y in
     step_order xs ys i 0 0 lt below ∙ ap (λ r. ordering_then r rest) (sym same)
 
--- bytes that differ decide
+-- bytes that differ decide the order
 pub decided : (o rest : Ordering) → (o ≡ Equal → ⊥) → ordering_then o rest ≡ o
 decided Less rest other = refl
 decided Equal rest other = absurd (other refl)
 decided Greater rest other = refl
 
--- where nothing is left of one, the lengths of what is left decide
+-- where one name has ended, the remaining lengths decide
 one_ended : (xs ys : Text) → (length xs ≡ 0) ⊎ (length ys ≡ 0) → slice_cmp nat_cmp xs ys ≡ nat_cmp (length xs) (length ys)
 one_ended [] [] h = refl
 one_ended [] (y ∷ ys) h = grind (arith, nat_tests)

@@ -1,4 +1,4 @@
--- The least of the candidates that fits is the first declared dependency that fits.
+-- The least candidate that fits is the first declared dependency that fits.
 use Rattle.std.proofs.Common.{◌≡◌, ◌⊎◌, ◌↔◌, ℕ, ◌+◌, ◌<◌, ◌≤◌, List, [], ◌∷◌, ◌++◌, length, map, take, get_or, Bool, true, false, IsTrue, IfSome, Option, Some, None, Contains, option_map, slice_get, cond, nat_lt, refl, sym, ap, ◌∙◌, subst, arith, inl, inr}
 use Rattle.std.proofs.lemmas.Bool.{cases_lt}
 use Rattle.std.proofs.lemmas.Bool.Decides.{nat_tests}
@@ -24,7 +24,7 @@ module _ (x : Wanted) where
   abbrev Among : List ℕ → ℕ → Type 0
   Among all k = IsWantedAmong x all k
 
-  -- one more place, which fits and is below the least
+  -- one more place, which fits and is less than the least
   pub least_put : (done : List ℕ) (n : ℕ) (least : Option ℕ) → x.from ≤ n → IsBelow n least → FitsAt x n → IsLeast (Among done) least → IsLeast (Among (done ++ n ∷ [])) (Some n)
   least_put done n None le below fits none = (
     record { among = Contains-push done n; from_there = le; fits = fits },
@@ -41,7 +41,7 @@ module _ (x : Wanted) where
     ],
   )
 
-  -- one more place, which isn't below the least or doesn't fit
+  -- one more place, which isn't less or doesn't fit
   pub least_stays : (done : List ℕ) (n : ℕ) (least : Option ℕ) → (x.from ≤ n → IsBelow n least → FitsAt x n → ⊥) → IsLeast (Among done) least → IsLeast (Among (done ++ n ∷ [])) least
   least_stays done n None other none = λ k h. elim (Contains-push_cases done n k h.among) [
     | inl old ↦ none k (record { among = old; from_there = h.from_there; fits = h.fits })
@@ -58,7 +58,7 @@ module _ (x : Wanted) where
     ],
   )
 
-  -- the place of an item, as the code goes over it
+  -- the place of one more item
   more : (xs : List NamedPlace) (i : ℕ) (d : NamedPlace) → i < length xs → places_in (take (i + 1) xs) ≡ places_in (take i xs) ++ (get_or xs i d).place ∷ []
   more xs i d lt =
       ap places_in (take_more xs i d lt) ∙ rw map-append refl
@@ -105,13 +105,13 @@ module _ (x : Wanted) where
     | inr w ↦ subst (λ j. IsLeast (Among (xs ++ ys)) (Some j)) (sym w.1) (right xs ys n other.0, λ k h. elim (either xs ys k h) [ inl l ↦ (let up = one.1 k l in omega (arith, up, w.0)) | inr r ↦ other.1 k r ])
   ]
 
--- ---- each that fits is a candidate
+-- ---- whatever fits is a candidate
 
 same_byte : (a b : ℕ) → IsByteOf a b → folded_byte a ≡ folded_byte b
 same_byte a b (inl e) = ap folded_byte e
 same_byte a b (inr e) = ap folded_byte e.0 ∙ sym (ap folded_byte e.1)
 
--- a resolved name and the declared one are one where '-' is '_'
+-- a resolved name equals the declared one once '-' counts as '_'
 pub same_folded : (xs ys : Text) → IsNameOf xs ys → folded xs ≡ folded ys
 same_folded [] [] h = refl
 same_folded [] (y ∷ ys) h = absurd h
@@ -164,7 +164,7 @@ first_least x places all (Some p) h c low found = (
   },
 )
 
--- none fits behind the first
+-- no other fits after the first
 pub one_found : (x : Wanted) (places : List NamedPlace) (all : Candidates) (p : ℕ) (d : DependencyModel) (r : Option ℕ) → AreDeclaredPlaces (map dependency_view x.declared.now) places → AreCandidates places x.sought.now all
     → x.from ≡ p + 1 → x.by_source ≡ false → FirstAt (Fits (entry_in x.sought.now) (kind_in x.sought.now)) (map dependency_view x.declared.now) p d → IsLeast (IsWantedAmong x (among all)) r → is_some r ≡ false
     → IsDeclared (map dependency_view x.declared.now) (entry_in x.sought.now) (kind_in x.sought.now) p d
@@ -173,7 +173,7 @@ one_found x places all p d None h c from plain first none is =
     one_fits (map dependency_view x.declared.now) (entry_in x.sought.now) (kind_in x.sought.now) p d first (λ j e lt at fits.
     none j (fits_among x places all j e h c (omega (arith, from, lt)) at (subst (λ b. FitsWhere b (entry_in x.sought.now) (kind_in x.sought.now) e) (sym plain) fits)))
 
--- another does
+-- another fits
 pub several_found : (x : Wanted) (all : List ℕ) (p : ℕ) (d : DependencyModel) (r : Option ℕ) → x.from ≡ p + 1 → FirstAt (Fits (entry_in x.sought.now) (kind_in x.sought.now)) (map dependency_view x.declared.now) p d
     → IsLeast (IsWantedAmong x all) r → is_some r ≡ true → SeveralFit (map dependency_view x.declared.now) (entry_in x.sought.now) (kind_in x.sought.now)
 several_found x all p d None from first none is = absurd cc

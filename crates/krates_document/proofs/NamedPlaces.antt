@@ -1,4 +1,4 @@
--- Places in order, found by halves under a name and a target.
+-- Places in order, found by binary search for a name and a target.
 use Rattle.std.proofs.Common.{◌≡◌, ℕ, zero, suc, ◌+◌, ◌-◌, ◌<◌, ◌≤◌, List, [], ◌∷◌, ◌++◌, length, map, take, drop, get_or, true, false, Some, Contains, option_map, Ordering, Less, Equal, Greater, refl, sym, ap, ◌∙◌, subst, arith, inl, inr}
 use Rattle.std.proofs.lemmas.Bool.{cases_lt}
 use Rattle.std.proofs.lemmas.Cmp.{on_total, then_total, nat_list_cmp_total, tied_itself, upto}
@@ -20,7 +20,7 @@ use Rattle.krates_document.proofs.FirstPlaces.{seen_at}
 key_total : IsTotalOrder key_cmp
 key_total = then_total (on_total (λ (k : Text × Text). k.0) nat_list_cmp_total) (on_total (λ (k : Text × Text). k.1) nat_list_cmp_total)
 
--- ---- keys rise
+-- ---- keys ascend
 
 front_lt : (o p q : Ordering) → is_lt (ordering_then o (ordering_then p q)) ≡ false → is_lt (ordering_then o p) ≡ false
 front_lt Less p q h = h
@@ -80,7 +80,7 @@ parted_le : (xs : List NamedPlace) (q : Text × Text) → AreInOrder xs → IsPa
 parted_le xs q sorted i j d le lt h =
     gt_le (key_cmp (key_of (get_or xs i d)) q) (upto key_total (key_of (get_or xs i d)) (key_of (get_or xs j d)) q (rises xs i j d sorted le lt) (le_gt (key_cmp (key_of (get_or xs j d)) q) h))
 
--- what is left behind a place is in order too
+-- what is left after a place is in order too
 drop_sorted : (xs : List NamedPlace) (n : ℕ) → AreInOrder xs → AreInOrder (drop n xs)
 drop_sorted xs n sorted k d low lt =
     let here = get_or-drop n xs k d in
@@ -102,7 +102,7 @@ place_among run x k (n, lt, is) e =
     let here : slice_get (places_in run) n ≡ Some k = slice_get-map place run n ∙ ap (option_map place) (slice_get-get_or run n x lt ∙ ap (λ y. Some y) is) ∙ ap (λ m. Some m) e in
     (n, slice_get_within (places_in run) n k here, get_or_from_slice_get (places_in run) n k k here)
 
--- those under the key stand between those before and those behind
+-- the places under the key are those after the lesser and before the greater ones
 pub under_run : (xs rest run : List NamedPlace) (first count : ℕ) (name target : Text) → rest ≡ drop first xs → run ≡ take count rest
     → AllWithin (λ y. is_lt (key_cmp (key_of y) (sought_key name target)) ≡ true) xs 0 first → AllWithin (λ y. is_le (key_cmp (key_of y) (sought_key name target)) ≡ false) rest count (length rest)
     → (k : ℕ) → StandsUnder xs name target k → Contains (places_in run) k
@@ -133,7 +133,7 @@ under_run xs rest run first count name target is_rest is_run before behind k s =
           ])
     ]
 
--- ---- how places are put
+-- ---- how places are added
 
 stands_push : (all : List NamedPlace) (y : NamedPlace) (name target : Text) (k : ℕ) → StandsUnder all name target k → StandsUnder (all ++ y ∷ []) name target k
 stands_push all y name target k s = record { there = s.there; among = Contains-append_left all (y ∷ []) s.there s.among; key = s.key; is = s.is }
@@ -142,7 +142,7 @@ stands_push all y name target k s = record { there = s.there; among = Contains-a
 abbrev pub StandBelow : {A : Type 0} → (A → Text) → (A → Text) → List A → List NamedPlace → ℕ → Type 0
 StandBelow {A} name target items places end = (k : ℕ) (x : A) → k < end → slice_get items k ≡ Some x → StandsUnder places (name x) (target x) k
 
--- one more
+-- one more item
 pub stand_more : {A : Type 0} (name target : A → Text) (items : List A) (places : List NamedPlace) (n : ℕ) (x : A) (y : NamedPlace) → n < length items → x ≡ get_or items n x → key_of y ≡ sought_key (name x) (target x) → y.place ≡ n
     → StandBelow name target items places n → StandBelow name target items (places ++ y ∷ []) (n + 1)
 stand_more name target items places n x y lt is key place h k z below at = elim (cases_lt k n) [
@@ -154,7 +154,7 @@ stand_more name target items places n x y lt is key place h k z below at = elim 
       subst (λ v. StandsUnder (places ++ y ∷ []) (name v) (target v) k) one (record { there = y; among = Contains-push places y; key = key; is = place ∙ same }))
 ]
 
--- all, put in order
+-- all items, sorted
 pub all_stand : {A : Type 0} (name target : A → Text) (items : List A) (places sorted : List NamedPlace) (n : ℕ) → length items ≤ n → IsPermutation places sorted → AreInOrder sorted → StandBelow name target items places n
     → AreNamed name target items sorted
 all_stand name target items places sorted n le moved order h = record {
@@ -164,7 +164,7 @@ all_stand name target items places sorted n le moved order h = record {
       record { there = s.there; among = Contains-permutation places sorted s.there moved s.among; key = s.key; is = s.is };
 }
 
--- ---- what is found by name of items that are seen by a view
+-- ---- what is found by name, for items with a view
 
 pub named_seen : {A B : Type 0} (f : A → B) (name target : B → Text) (xs : List A) (places : List NamedPlace) → AreNamed (λ x. name (f x)) (λ x. target (f x)) xs places → AreNamed name target (map f xs) places
 named_seen f name target xs places h = record {

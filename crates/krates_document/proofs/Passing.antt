@@ -1,8 +1,8 @@
--- A target text passes, or it doesn't.
+-- Whether a target text passes is determined.
 use Rattle.std.proofs.Common.{◌≡◌, ◌↔◌, ℕ, List, Bool, true, false, IsTrue, refl}
 use Rattle.krates_text.specs.Passing.{Asked, TellsPassing}
 
--- what is told of a text is told of it alone
+-- the answer for a text is the only one
 pub told_passing : (text : List ℕ) (targets : List Asked) (b : Bool) → TellsPassing text targets b → IsTrue b ↔ TellsPassing text targets true
 told_passing text targets true h = (λ t. h, λ p. refl)
 told_passing text targets false h = (

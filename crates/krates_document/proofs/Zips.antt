@@ -1,4 +1,4 @@
--- Lists that are made item by item, each item in a relation to one of another list.
+-- Lists that are made item by item, each item related to one of another list.
 use Rattle.std.proofs.Common.{◌≡◌, ℕ, ◌+◌, ◌<◌, ◌≤◌, List, [], ◌∷◌, ◌++◌, length, get_or, take, map, sym, ap, ◌∙◌, subst, Contains}
 use Rattle.std.proofs.lemmas.List.{map-append, length-map, get_or-map, get_or_default, take_more, take_all}
 use Rattle.std.specs.List.{AllZip, AllByRecursion}
@@ -9,37 +9,37 @@ zip_push R [] (b ∷ ys) x y h here = absurd h
 zip_push R (a ∷ xs) [] x y h here = absurd h
 zip_push R (a ∷ xs) (b ∷ ys) x y h here = (h.0, zip_push R xs ys x y h.1 here)
 
--- one more item is made
+-- one more item
 pub zip_next : {X A B : Type 0} (R : A → B → Type 0) (seen : X → A) (xs : List X) (i : ℕ) (x : X) (ys : List B) (y : B) → i < length xs → x ≡ get_or xs i x
     → R (seen x) y → AllZip R (map seen (take i xs)) ys → AllZip R (map seen (take (i + 1) xs)) (ys ++ y ∷ [])
 zip_next R seen xs i x ys y lt is here so_far =
     let more : take (i + 1) xs ≡ take i xs ++ x ∷ [] = take_more xs i x lt ∙ ap (λ z. take i xs ++ z ∷ []) (sym is) in
     rw (more, map-append) (zip_push R (map seen (take i xs)) ys (seen x) y so_far here)
 
--- the same, of an item that is read with a default
+-- one more item, read with a default
 pub zip_read : {X A B : Type 0} (R : A → B → Type 0) (seen : X → A) (xs : List X) (i : ℕ) (d : X) (ys : List B) (y : B) → i < length xs
     → R (seen (get_or xs i d)) y → AllZip R (map seen (take i xs)) ys → AllZip R (map seen (take (i + 1) xs)) (ys ++ y ∷ [])
 zip_read R seen xs i d ys y lt here so_far = zip_next R seen xs i (get_or xs i d) ys y lt (get_or_default xs i d (get_or xs i d) lt) here so_far
 
--- all are made
+-- all items
 pub zip_all : {X A B : Type 0} (R : A → B → Type 0) (seen : X → A) (xs : List X) (i : ℕ) (ys : List B) → length xs ≤ i → AllZip R (map seen (take i xs)) ys → AllZip R (map seen xs) ys
 zip_all R seen xs i ys le h = subst (λ zs. AllZip R (map seen zs) ys) (take_all i xs le) h
 
--- two lists that go place by place, as they are seen
+-- lists related item by item are related by their views
 pub zip_mapped : {A B C D : Type 0} (R : A → B → Type 0) (S : C → D → Type 0) (f : A → C) (g : B → D) (xs : List A) (us : List B) → AllZip R xs us → ((a : A) (b : B) → R a b → S (f a) (g b)) → AllZip S (map f xs) (map g us)
 zip_mapped R S f g [] [] z h = tt
 zip_mapped R S f g [] (u ∷ us) z h = absurd z
 zip_mapped R S f g (x ∷ xs) [] z h = absurd z
 zip_mapped R S f g (x ∷ xs) (u ∷ us) z h = (h x u z.0, zip_mapped R S f g xs us z.1 h)
 
--- ---- what holds of each item
+-- ---- properties of each item
 
--- of one more that was made
+-- one more item that was made
 pub each_push : {A : Type 0} (P : A → Type 0) (xs : List A) (x : A) → AllByRecursion P xs → P x → AllByRecursion P (xs ++ x ∷ [])
 each_push P [] x h here = (here, tt)
 each_push P (y ∷ xs) x h here = (h.0, each_push P xs x h.1 here)
 
--- of one more that was looked at
+-- one more item that was looked at
 pub each_next : {X A : Type 0} (P : A → Type 0) (seen : X → A) (xs : List X) (i : ℕ) (x : X) → i < length xs → x ≡ get_or xs i x
     → P (seen x) → AllByRecursion P (map seen (take i xs)) → AllByRecursion P (map seen (take (i + 1) xs))
 each_next P seen xs i x lt is here so_far =
@@ -49,6 +49,6 @@ each_next P seen xs i x lt is here so_far =
 pub each_all : {X A : Type 0} (P : A → Type 0) (seen : X → A) (xs : List X) (i : ℕ) → length xs ≤ i → AllByRecursion P (map seen (take i xs)) → AllByRecursion P (map seen xs)
 each_all P seen xs i le h = subst (λ zs. AllByRecursion P (map seen zs)) (take_all i xs le) h
 
--- an item that was looked at is one of those that are seen
+-- the view of an item that was looked at is among the views
 pub one_seen : {X A : Type 0} (seen : X → A) (xs : List X) (i : ℕ) (x : X) → i < length xs → x ≡ get_or xs i x → Contains (map seen xs) (seen x)
 one_seen seen xs i x lt is = (i, rw length-map lt, get_or-map seen xs i x (seen x) lt ∙ ap seen (sym is))

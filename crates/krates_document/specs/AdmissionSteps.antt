@@ -10,7 +10,7 @@ use Rattle.krates_rules.specs.Facts.{Id}
 use Rattle.krates_rules.specs.Resolved.{id_of}
 use Rattle.std.specs.List.{AllByRecursion}
 
--- an id is invalid, and P says so of its text; memory may always run out
+-- an id is invalid, and `P` holds of its text; memory may always run out
 abbrev pub IsInvalidBy : (Text → Type 0) → Error → Type 0
 IsInvalidBy P (errors.InvalidId t) = P (string_bytes t)
 IsInvalidBy P errors.Memory = ⊤
@@ -20,15 +20,15 @@ IsInvalidBy P _ = ⊥
 abbrev pub InvalidIdRefusal : MetadataModel → ResolveModel → Error → Type 0
 InvalidIdRefusal m g = IsInvalidBy (IsInvalidId m g)
 
--- the text is no id
+-- the text isn't an id
 abbrev pub IsNoId : Text → Type 0
 IsNoId t = (i : Identity) → Reads t i → ⊥
 
--- one of the texts is no id
+-- one of the texts isn't an id
 abbrev pub UnreadRefusal : List Text → Error → Type 0
 UnreadRefusal texts = IsInvalidBy (λ t. Contains texts t × IsNoId t)
 
--- the text is no id, or that of a dependency without a semantic version
+-- the text isn't an id, or is one of a dependency without a semantic version
 abbrev pub IsBadText : Text → Type 0
 IsBadText t = IsNoId t ⊎ ((i : Identity) × Reads t i × (version_named i.version ≡ None))
 
@@ -36,7 +36,7 @@ IsBadText t = IsNoId t ⊎ ((i : Identity) × Reads t i × (version_named i.vers
 abbrev pub InvalidDepRefusal : List Text → Error → Type 0
 InvalidDepRefusal texts = IsInvalidBy (λ t. Contains texts t × IsBadText t)
 
--- a dependency of one of the nodes is
+-- a dependency of one of the nodes has a bad id
 abbrev pub InvalidNodeRefusal : List NodeModel → Error → Type 0
 InvalidNodeRefusal nodes = IsInvalidBy (λ t. (n : NodeModel) × Contains nodes n × Contains (dep_texts n) t × IsBadText t)
 
@@ -47,7 +47,7 @@ IsDoubledAmong ids id = HoldsTwice (λ i. id_of i ≡ id) ids
 abbrev pub AreDistinct : List Identity → Type 0
 AreDistinct ids = (id : Id) → IsDoubledAmong ids id → ⊥
 
--- an id is doubled, and P says so of it; memory may always run out
+-- an id is doubled, and `P` holds of it; memory may always run out
 abbrev pub IsDoubledBy : (Id → Type 0) → Error → Type 0
 IsDoubledBy P (errors.Doubled kid) = P (id_of kid)
 IsDoubledBy P errors.Memory = ⊤

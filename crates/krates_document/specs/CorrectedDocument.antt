@@ -7,12 +7,12 @@ use Rattle.krates_cm.specs.declared.package.Package.{Package}
 use Rattle.krates_ids.specs.Correction.{IsCorrected, index_view}
 use Rattle.krates_ids.specs.declared.index.IndexAnswer.{IndexAnswer}
 
--- the package is corrected by this answer, and nothing of it but its features is changed
+-- the package is corrected by this answer, and only its features have changed
 pub record IsCorrectedPackage (answer : IndexAnswer) (before after : Package) : Type 0 where
   pub corrected : IsCorrected (index_view answer) (package_view before) (package_view after)
   pub nothing_else : after ≡ record before { features = after.features }
 
--- each package is corrected by this answer, and nothing else of the document is changed
+-- each package is corrected by this answer, and nothing else in the document has changed
 pub record IsCorrectedDocument (answer : IndexAnswer) (before after : Metadata) : Type 0 where
   pub packages : AllZip (IsCorrectedPackage answer) before.packages.items after.packages.items
   pub nothing_else : after ≡ record before { packages = after.packages }

@@ -1,4 +1,4 @@
--- Where declared dependencies stand, by name and target, and which of them are looked at.
+-- Where declared dependencies stand, by name and target, and which of them are considered.
 use Rattle.std.specs.Prelude.{◌≡◌, ◌≤◌, ◌++◌, ℕ, Bool, false, true, List, Option, Some, None, MatchOption, Contains, map, slice_get, unwrap_or, cond, nat_lt, ◌<◌, ⊤}
 use Rattle.semver.specs.Identifiers.{parts_of}
 use Rattle.krates_cm.specs.Document.{Text, DependencyModel, DepKindInfoModel, dep_kind_info_view, dependency_view, node_dep_view}
@@ -11,7 +11,7 @@ use Rattle.krates_document.specs.declared.declared_dependency.Sought.{Sought}
 use Rattle.krates_document.specs.declared.declared_dependency.Wanted.{Wanted}
 use Rattle.krates_document.specs.declared.named_places.NamedPlace.{NamedPlace}
 
--- ---- what is looked for
+-- ---- what is sought
 
 -- the dependency of a node, with its id
 abbrev pub entry_in : Sought → DependencyEntry
@@ -27,7 +27,7 @@ HasItsVersion x = version_named x.kid.now.version ≡ Some (parts_of x.version.n
 
 -- ---- where declared dependencies stand
 
--- under which text a target stands
+-- the text under which a target stands
 abbrev pub target_key : Option Text → Text
 target_key target = unwrap_or target no_target
 
@@ -35,7 +35,7 @@ target_key target = unwrap_or target no_target
 abbrev pub AreDeclaredPlaces : List DependencyModel → List NamedPlace → Type 0
 AreDeclaredPlaces = AreNamed declared_name (λ d. target_key d.target)
 
--- each place under one of the two names of what is looked for, and its target, is among them
+-- each place under one of the two names that are sought, and the target, is among these
 pub record AreCandidates (places : List NamedPlace) (x : Sought) (all : Candidates) : Type 0 where
   pub of_dep : (k : ℕ) → StandsUnder places (entry_in x).dep.name (target_key (kind_in x).target) k → Contains (places_in all.of_dep.now) k
   pub of_package : (k : ℕ) → StandsUnder places (entry_in x).id.name (target_key (kind_in x).target) k → Contains (places_in all.of_package.now) k
@@ -50,11 +50,11 @@ among all = places_in all.of_dep.now ++ places_in all.of_package.now
 abbrev pub IsLeast : (ℕ → Type 0) → Option ℕ → Type 0
 IsLeast P least = MatchOption least ((k : ℕ) → P k → ⊥) (λ n. P n × ((k : ℕ) → P k → n ≤ k))
 
--- below the other number, or there is no other
+-- less than the other number, or there is no other
 abbrev pub IsBelow : ℕ → Option ℕ → Type 0
 IsBelow n other = MatchOption other ⊤ (λ m. n < m)
 
--- the declared dependency fits; where its source is asked for, it has that too
+-- the declared dependency fits; if the source counts, it has that too
 abbrev pub FitsWhere : Bool → DependencyEntry → DepKindInfoModel → DependencyModel → Type 0
 FitsWhere false = Fits
 FitsWhere true = FitsBySource
@@ -62,19 +62,19 @@ FitsWhere true = FitsBySource
 abbrev pub FitsAs : Wanted → DependencyModel → Type 0
 FitsAs x = FitsWhere x.by_source (entry_in x.sought.now) (kind_in x.sought.now)
 
--- such a one stands at the place
+-- a declared dependency that fits stands at the place
 pub record FitsAt (x : Wanted) (place : ℕ) : Type 0 where
   pub dependency : DependencyModel
   pub at : slice_get (map dependency_view x.declared.now) place ≡ Some dependency
   pub fits : FitsAs x dependency
 
--- and the place is one of these, and not below the least that is wanted
+-- and the place is one of these, from the least place that is wanted on
 pub record IsWantedAmong (x : Wanted) (places : List ℕ) (place : ℕ) : Type 0 where
   pub among : Contains places place
   pub from_there : x.from ≤ place
   pub fits : FitsAt x place
 
--- the lesser of two numbers, where there are any
+-- the lesser of two numbers, if there are any
 abbrev pub lesser : Option ℕ → Option ℕ → Option ℕ
 lesser None other = other
 lesser (Some one) None = Some one

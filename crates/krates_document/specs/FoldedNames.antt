@@ -1,4 +1,4 @@
--- Names in an order in which '-' and '_' are one character.
+-- The order of names in which '-' and '_' are the same.
 use Rattle.std.specs.Prelude.{◌==◌, ℕ, Bool, cond, map}
 use Rattle.std.specs.declared.cmp.Ordering.{Ordering}
 use Rattle.std.specs.Cmp.Lexicographic.{slice_cmp}
@@ -11,11 +11,11 @@ use Rattle.krates_document.specs.declared.folded_name.FoldedName.{FoldedName}
 abbrev pub folded_byte : ℕ → ℕ
 folded_byte byte = cond (byte == hyphen) underscore byte
 
--- each byte of the name so
+-- the name, each '-' as '_'
 abbrev pub folded : Text → Text
 folded name = map folded_byte name
 
--- how two names compare by their bytes, where '-' is '_'
+-- how two names compare by their bytes, with '-' as '_'
 abbrev pub folded_order : Text → Text → Ordering
 folded_order = on folded (slice_cmp nat_cmp)
 

@@ -1,4 +1,4 @@
--- Places of a list by the names that stand there.
+-- The places of a list by the names of what stands there.
 use Rattle.std.specs.Prelude.{◌≡◌, ℕ, List, [], Some, Contains, map, slice_get}
 use Rattle.std.specs.declared.cmp.Ordering.{Ordering}
 use Rattle.std.specs.Cmp.Lexicographic.{slice_cmp}
@@ -26,14 +26,14 @@ place_cmp = then_cmp (on (λ x. x.name) name_cmp) (then_cmp (on (λ x. x.target.
 abbrev pub AreInOrder : List NamedPlace → Type 0
 AreInOrder = IsSorted place_cmp
 
--- the place stands under the name, '-' as '_', and the target
+-- the place stands under the name, with '-' as '_', and the target
 pub record StandsUnder (all : List NamedPlace) (name target : Text) (place : ℕ) : Type 0 where
   pub there : NamedPlace
   pub among : Contains all there
   pub key : key_of there ≡ sought_key name target
   pub is : there.place ≡ place
 
--- the text of no target
+-- the text that stands for no target
 abbrev pub no_target : Text
 no_target = []
 

@@ -1,4 +1,4 @@
--- What the setters that append leave of a setting.
+-- A setting after the setters that append.
 use Rattle.std.specs.Prelude.{List, ◌++◌}
 use Rattle.krates_ids.specs.PackageSpecification.{Specification}
 use Rattle.krates_rules.specs.Setting.{SettingModel}
@@ -8,6 +8,6 @@ use Rattle.krates_text.specs.Passing.{Asked}
 abbrev pub with_exclusions : SettingModel → List Specification → SettingModel
 with_exclusions s specs = record s { exclusions = s.exclusions ++ specs }
 
--- these targets are asked too
+-- these targets are asked for too
 abbrev pub with_targets : SettingModel → List Asked → SettingModel
 with_targets s targets = record s { targets = s.targets ++ targets }

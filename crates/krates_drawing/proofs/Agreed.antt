@@ -1,4 +1,4 @@
--- A crate's mapping names the crates into which its edges lead.
+-- A crate's mapping names exactly the crates to which its edges lead.
 use Rattle.std.proofs.Common.{◌≡◌, ◌⊎◌, inl, inr, ℕ, zero, suc, ◌+◌, ◌<◌, ◌≤◌, true, List, [], ◌∷◌, filter, length, Option, Some, None, option_map, Contains, slice_get, refl, sym, ap, ◌∙◌, subst, arith}
 use Rattle.std.proofs.lemmas.Bool.{cases_lt}
 use Rattle.std.proofs.lemmas.Bool.Decides.{Decides-eqb}
@@ -25,9 +25,9 @@ use Rattle.krates_drawing.proofs.Drawn.{has_drawn}
 use Rattle.krates_drawing.proofs.NodeNumbers.{both, and_true, id_is, id_same, HasCrate, Stands, crate_stands, feature_stands, crate_node, feature_node, one_number}
 use Rattle.krates_rules.proofs.OnlyOne.{one_package}
 
--- ---- ends of one crate
+-- ---- ends that belong to one crate
 
--- the crate of an end
+-- the crate that an end belongs to
 abbrev owner : End → Id
 owner (AtCrate q) = q
 owner (AtFeature q f) = q
@@ -49,7 +49,7 @@ mapping_at (FeatureSpot q f) = []
 mapping_of : (a : Id) (m : List (Option ℕ)) (s : Spot) → s ≡ CrateSpot a m → m ≡ mapping_at s
 mapping_of a m s e = ap mapping_at (sym e)
 
--- a node that is a feature of the crate with a number
+-- a node that is a feature of the crate of this number
 feature_owner : (t : Sheet) (e : End) (d : ℕ) (f : Text) → Stands t e → slice_get (spots t) (number t e) ≡ Some (FeatureSpot d f) → crate_number t (owner e) ≡ d
 feature_owner t _ d f (crate_stands {p} m) e = let w = crate_node t p m in absurd (cc (w.at, e))
 feature_owner t _ d f (feature_stands {p} {f = g} m) e = let w = feature_node t p g m in cc (w, e)
@@ -68,7 +68,7 @@ last_there : {A : Type 0} (o : Option A) (xs : List A) (y : A) → Member xs y �
 last_there o [] y m = absurd m
 last_there o (x ∷ xs) y m = last_some x xs
 
--- an edge from p to q has the declared dependency at k
+-- an edge from `p` to `q` whose declared dependency is at `k`
 pub record Claim (t : Sheet) (p q : Id) (k : ℕ) : Type 0 where
   pub between : Between t p q
   pub at : between.link.place ≡ k
@@ -92,7 +92,7 @@ claimant_of t p k q e = elim (last_of None (filter (claims (from_crate t p) k) t
   | inr m ↦ (let w = kept_of (claims (from_crate t p) k) t.krates q m in (w.0, claim_of t p q.id k w.1))
 ]
 
--- some crate claims what one does
+-- if any crate claims the place, one does so last
 some_claimant : (t : Sheet) (p : Id) (k : ℕ) (q : Krate) → Member t.krates q → Claim t p q.id k → (z : Krate) × (claimant t (from_crate t p) k ≡ Some z)
 some_claimant t p k q m w = last_there None (filter (claims (from_crate t p) k) t.krates) q (member_filter (claims (from_crate t p) k) t.krates q (claim_by t p q.id k w) m)
 
@@ -186,7 +186,7 @@ place_below r s t k l none h at among e =
     let below = declared_here w.pkg.dependencies l.place (h.edge_of l among).is_link.dependency _ _ _ _ w.declared in
     subst (λ n. l.place < n) (ap (λ (z : PackageModel). length z.dependencies) same ∙ sym c.declared) below
 
--- what claims a declared dependency is one crate
+-- only one crate claims a declared dependency
 one_claims : (r : Resolved) (s : SettingModel) (t : Sheet) (p q z : Id) (k : ℕ) → Holds r s t → OneEach r s p → Claim t p q k → Claim t p z k → q ≡ z
 one_claims r s t p q z k h one a b =
     let same : a.between.link.edge.child ≡ b.between.link.edge.child = one k a.between.link.edge b.between.link.edge (kept_at r s t p q k h a) (kept_at r s t p z k h b) in

@@ -1,4 +1,4 @@
--- Which edges are drawn, from end to end.
+-- Which edges are drawn, from which end to which.
 use Rattle.std.proofs.Common.{◌≡◌, inl, inr, List, [], ◌∷◌, map, filter, true, refl, sym, ap, ◌∙◌, subst}
 use Rattle.std.specs.List.{flat_map}
 use Rattle.krates_cm.specs.Document.{Text}
@@ -9,15 +9,15 @@ use Rattle.krates_drawing.specs.Sheet.{Krate, Link, Meaning, OwnFeature, Crates,
 use Rattle.krates_drawing.proofs.Members.{Member, member_append, member_left, member_right, mapped_of, member_map, kept_of, member_filter, spread_of, member_spread, passing_of, member_any}
 use Rattle.krates_drawing.proofs.NodeNumbers.{both, and_true, id_is, id_same, HasCrate}
 
--- an edge is drawn from one end to the other, and says this
+-- an edge is drawn from one end to another, with this weight
 pub data IsArrow (t : Sheet) : End → End → Tie → Type 0 where
   -- a kept edge that gives no feature
   dep : (l : Link) → Member t.links l → l.given ≡ [] → IsArrow t (AtCrate l.edge.parent) (AtCrate l.edge.child) (Dep (kind_of l.edge.kind) l.edge.cfg)
   -- each feature that a kept edge gives
   dep_feature : (l : Link) (g : Text) → Member t.links l → Member l.given g → IsArrow t (AtCrate l.edge.parent) (AtFeature l.edge.child g) (DepFeature (kind_of l.edge.kind) l.edge.cfg)
-  -- each feature that a crate toggles, where it has a kept edge to its crate
+  -- each feature that a crate toggles, if a kept edge leads to the feature's crate
   toggles : (g : Toggle) (l : Link) → Member t.toggled g → Member t.links l → l.edge.parent ≡ g.by → l.edge.child ≡ g.krate → IsArrow t (AtCrate g.by) (AtFeature g.krate g.name) Feature
-  -- an enabled feature, to its crate
+  -- an enabled feature, to its own crate
   own : (n : Named) → Member t.features n → IsArrow t (AtFeature n.krate n.name) (AtCrate n.krate) Feature
   -- to what its references name
   names : (n : Named) (g : Text) → Member t.features n → Member n.meanings (OwnFeature g) → IsArrow t (AtFeature n.krate n.name) (AtFeature n.krate g) Feature
@@ -26,7 +26,7 @@ pub data IsArrow (t : Sheet) : End → End → Tie → Type 0 where
   names_feature : (n : Named) (ids : List Id) (g : Text) (l : Link) → Member t.features n → Member n.meanings (FeatureOf ids g) → Member ids l.edge.child → Member t.links l → l.edge.parent ≡ n.krate
       → IsArrow t (AtFeature n.krate n.name) (AtFeature l.edge.child g) Feature
 
--- the line is that of an arrow
+-- a line is that of some arrow
 pub record Drawn (t : Sheet) (x : Line) : Type 0 where
   pub from : End
   pub to : End
@@ -58,7 +58,7 @@ leads_of t p q h =
 pub leads_by : (t : Sheet) (p q : Id) → Between t p q → leads_to (from_crate t p) q ≡ true
 leads_by t p q b = member_any (is_to q) (from_crate t p) b.link (in_from t p b.link b.member b.parent) (subst (λ i. id_eq b.link.edge.child i ≡ true) b.child (id_same b.link.edge.child))
 
--- ---- each drawn line is that of an arrow
+-- ---- each drawn line is that of some arrow
 
 use_of : (t : Sheet) (l : Link) (gs : List Text) (x : Line) → Member t.links l → l.given ≡ gs → Member (uses t l gs) x → Drawn t x
 unfolding uses
@@ -126,7 +126,7 @@ drawn_of t x m = elim (member_append (flat_map (crate_lines t) t.krates) _ x m) 
   | inr more ↦ (let w = spread_of (feature_lines t) t.features x more in feature_of t w.from x w.member w.there)
 ]
 
--- ---- each arrow has its line, where the ends of kept edges are kept
+-- ---- each arrow has its line, if the ends of kept edges are kept
 
 abbrev pub KeepsEnds : Sheet → Type 0
 KeepsEnds t = (l : Link) → Member t.links l → HasCrate t l.edge.parent × HasCrate t l.edge.child

@@ -1,4 +1,4 @@
--- The crates to which edges in order lead.
+-- The crates to which sorted edges lead.
 use Rattle.std.proofs.Common.{◌≡◌, ℕ, zero, suc, ◌+◌, ◌-◌, ◌<◌, Bool, true, false, not, ◌||◌, List, [], ◌∷◌, ◌++◌, length, get_or, slice_get, take, map, filter, cond, Option, Some, None, option_map, Ordering, Less, Equal, Greater, refl, sym, ap, ◌∙◌, subst, inl, inr, arith, rules}
 use Rattle.std.proofs.lemmas.Bool.{cases_lt}
 use Rattle.std.proofs.lemmas.List.{map_more}
@@ -42,13 +42,13 @@ equal_order a b =
 id_step : (a b : Id) (r : Ordering) → id_order a b ≡ r → is_eq r ≡ true → a ≡ b
 id_step a b r e t = id_is a b (sym (equal_order a b) ∙ ap is_eq e ∙ t)
 
--- neither above nor equal is below
+-- neither above nor equal means below
 below : (r : Ordering) → (r ≡ Greater → ⊥) → (is_eq r ≡ true → ⊥) → r ≡ Less
 below Less h k = refl
 below Equal h k = absurd (k refl)
 below Greater h k = absurd (h refl)
 
--- neither above the other: equal
+-- neither above the other means equal
 level : (a b : Id) → (id_order a b ≡ Greater → ⊥) → (id_order b a ≡ Greater → ⊥) → (r : Ordering) → id_order a b ≡ r → a ≡ b
 level a b h k Less e = absurd (k (order_total.antisymm b a ∙ ap ordering_reverse e))
 level a b h k Equal e = id_step a b Equal e refl
@@ -75,7 +75,7 @@ any_more p (y ∷ ys) x = step (p y) (list_any p ys) (p x) (list_any p (ys ++ x 
     step true b c d e = refl
     step false b c d e = e
 
--- the edges that a loop has seen, and the next
+-- the edges seen in a loop, and the next one
 pub seen_more : (p : model.Link → Bool) (mine : List Link) (i : ℕ) (x : Link) → i < length mine → x ≡ get_or mine i x
     → list_any p (map link_view (take (i + 1) mine)) ≡ (list_any p (map link_view (take i mine)) || p (link_view x))
 seen_more p mine i x lt e =
@@ -105,7 +105,7 @@ seen_of p mine i h =
     taken (x ∷ xs) (suc m) zero lt = (omega arith, omega arith)
     taken (x ∷ xs) (suc m) (suc k) lt = let w = taken xs m k (omega (arith, lt)) in (omega (arith, w.0), omega (arith, w.1))
 
--- a crate to which an edge leads that was seen isn't above the next
+-- a crate to which a seen edge leads isn't above that of the next edge
 pub not_above : (p : model.Link → Bool) (mine : List Link) (i : ℕ) (x : Link) (z : Id) → AreByChild mine → i < length mine → x ≡ get_or mine i x → Seen p mine i → ((l : model.Link) → p l ≡ true → id_eq l.edge.child z ≡ true)
     → id_order z (id_of x.edge.child) ≡ Greater → ⊥
 not_above p mine i x z by lt e w leads greater =
@@ -113,7 +113,7 @@ not_above p mine i x z by lt e w leads greater =
     let here : get_or mine w.place x ≡ w.link = same_default mine w.place x w.link w.within ∙ w.is in
     by w.place i x w.earlier lt (ap (λ (l : Link). id_cmp l.edge.child (get_or mine i x).edge.child) here ∙ ap (λ (l : Link). id_cmp w.link.edge.child l.edge.child) (sym e) ∙ ap (λ j. id_order j (id_of x.edge.child)) child ∙ greater)
 
--- ---- the crates in order
+-- ---- sorted crates
 
 pub crates_in_order : (ks : List Krate) → IsStrictlySortedBy id_cmp (map (λ k. k.id) ks) → IsStrictlySortedBy id_order (map (λ (q : model.Krate). q.id) (map krate_view ks))
 crates_in_order ks h = subst (IsStrictlySortedBy id_order) (fused ks) (sorted_as id_cmp id_order (λ (k : Krate). k.id) (λ (k : Krate). id_of k.id) (λ a b. refl) ks h)
@@ -131,7 +131,7 @@ these c q = equal_order q.id c
 
 -- ---- the crates to which edges lead
 
--- the next edge leads to a crate to which none led: it comes behind the others
+-- the next edge leads to a crate to which none led before: that comes after the others
 pub child_more : (ks : List Krate) (mine : List Link) (i : ℕ) (x : Link) → IsStrictlySortedBy id_cmp (map (λ k. k.id) ks) → AreByChild mine → i < length mine → x ≡ get_or mine i x
     → leads_to (map link_view (take i mine)) (id_of x.edge.child) ≡ false
     → filter (λ q. leads_to (map link_view (take (i + 1) mine)) q.id) (map krate_view ks) ≡ filter (λ q. leads_to (map link_view (take i mine)) q.id) (map krate_view ks) ++ filter (is_crate (id_of x.edge.child)) (map krate_view ks)
@@ -146,7 +146,7 @@ child_more ks mine i x sorted by lt e new =
     ∙ joined order_total (λ (q : model.Krate). q.id) seen c (map krate_view ks) (crates_in_order ks sorted) low
     ∙ ap (λ l. filter seen (map krate_view ks) ++ l) (filter_same next (is_crate c) (map krate_view ks) (these c))
 
--- it leads to one to which another led
+-- the next edge leads to a crate to which another led before
 pub child_again : (ks : List Krate) (mine : List Link) (i : ℕ) (x : Link) → i < length mine → x ≡ get_or mine i x
     → leads_to (map link_view (take i mine)) (id_of x.edge.child) ≡ true
     → filter (λ q. leads_to (map link_view (take (i + 1) mine)) q.id) (map krate_view ks) ≡ filter (λ q. leads_to (map link_view (take i mine)) q.id) (map krate_view ks)
@@ -165,7 +165,7 @@ child_again ks mine i x lt e old =
 pub first_at_start : (mine : List Link) → IsFirstTo mine 0 true
 first_at_start mine d = refl
 
--- an edge that was seen leads to the crate of the next: so does the one before that
+-- if a seen edge leads to the same crate as the next, so does the edge right before it
 before_same : (mine : List Link) (k : ℕ) (d : Link) → AreByChild mine → k + 1 < length mine → Seen (is_to (id_of (get_or mine (k + 1) d).edge.child)) mine (k + 1)
     → id_eq (id_of (get_or mine k d).edge.child) (id_of (get_or mine (k + 1) d).edge.child) ≡ true
 before_same mine k d by lt w = elim (cases_lt w.place k) [
@@ -230,23 +230,23 @@ none_at : (c : Id) (xs : List model.Krate) → slice_get xs (place_of (is_crate 
 none_at c [] at = refl
 none_at c (x ∷ xs) at = none_step c x xs (is_crate c x) (none_at c xs) at
 
--- the crate at its number is the only one of its id
+-- the crate under its number is the only one with its id
 pub only_crate : (ks : List Krate) (c : Id) (n : ℕ) (k : Krate) → IsStrictlySortedBy id_cmp (map (λ k. k.id) ks) → n ≡ place_of (is_crate c) (map krate_view ks) → slice_get ks n ≡ Some k → filter (is_crate c) (map krate_view ks) ≡ krate_view k ∷ []
 only_crate ks c n k sorted is at =
     only_at c (map krate_view ks) (krate_view k) (crates_in_order ks sorted) (ap (slice_get (map krate_view ks)) (sym is) ∙ slice_get-map krate_view ks n ∙ ap (option_map krate_view) at)
 
--- where none stands at its number, there is none
+-- if no crate stands under its number, there is none
 pub no_crate : (ks : List Krate) (c : Id) (n : ℕ) → n ≡ place_of (is_crate c) (map krate_view ks) → slice_get ks n ≡ None → filter (is_crate c) (map krate_view ks) ≡ []
 no_crate ks c n is at = none_at c (map krate_view ks) (ap (slice_get (map krate_view ks)) (sym is) ∙ slice_get-map krate_view ks n ∙ ap (option_map krate_view) at)
 
--- no edge leads nowhere
+-- without edges, no crate is led to
 pub none_yet : (ks : List model.Krate) → filter (λ (q : model.Krate). leads_to [] q.id) ks ≡ []
 none_yet [] = refl
 none_yet (k ∷ ks) = none_yet ks
 
 -- ---- its number
 
--- crates of one id have one number
+-- crates with the same id have the same number
 number_stays : (t : model.Sheet) (c : Id) (x : model.Krate) (xs : List model.Krate) (b : Bool) → is_crate c x ≡ b
     → last_from (Some (crate_number t c)) (map (λ (k : model.Krate). crate_number t k.id) (filter (is_crate c) xs)) ≡ Some (crate_number t c)
     → last_from (Some (crate_number t c)) (map (λ (k : model.Krate). crate_number t k.id) (cond b (x ∷ filter (is_crate c) xs) (filter (is_crate c) xs))) ≡ Some (crate_number t c)
@@ -275,7 +275,7 @@ no_number : (c : Id) (xs : List model.Krate) → (place_of (is_crate c) xs < len
 no_number c [] h = refl
 no_number c (x ∷ xs) h = no_number_step c x xs (is_crate c x) h (no_number c xs)
 
--- the number of a crate that is kept, and of one that isn't
+-- the number of a crate, kept or not
 pub number_found : (t : model.Sheet) (c : Id) (o : Option ℕ) (n : ℕ) → n ≡ crate_number t c → n < length t.krates → Some n ≡ number_of t c o
 number_found t c o n is lt = ap (λ m. Some m) is ∙ sym (last_number t c o t.krates (subst (λ m. m < length t.krates) is lt))
 
@@ -286,7 +286,7 @@ not_twice : (b : Bool) → not (not b) ≡ b
 not_twice true = refl
 not_twice false = refl
 
--- whether an edge is the first, by the one before it
+-- an edge is the first to its crate if the one before it leads elsewhere
 pub first_again : (mine : List Link) (place : ℕ) (d before here : Link) (answer : Bool) → AreByChild mine → place < length mine → (place ≡ 0 → ⊥) → before ≡ get_or mine (place - 1) before → here ≡ get_or mine place here
     → answer ≡ not (id_eq (id_of before.edge.child) (id_of here.edge.child))
     → leads_to (map link_view (take place mine)) (id_of (get_or mine place d).edge.child) ≡ not answer
@@ -300,7 +300,7 @@ first_again mine place d before here answer by lt some at_before at_here is =
     there ∙ ap (λ (l : Link). id_eq (id_of l.edge.child) (id_of (get_or mine place d).edge.child)) one ∙ ap (λ (l : Link). id_eq (id_of before.edge.child) (id_of l.edge.child)) two
     ∙ sym (ap not is ∙ not_twice (id_eq (id_of before.edge.child) (id_of here.edge.child)))
 
--- the same, of the edges up to a place
+-- the same, for the edges up to a place
 pub child_again_at : (ks : List Krate) (mine : List Link) (place : ℕ) → place < length mine → ((d : Link) → leads_to (map link_view (take place mine)) (id_of (get_or mine place d).edge.child) ≡ true)
     → filter (λ q. leads_to (map link_view (take (place + 1) mine)) q.id) (map krate_view ks) ≡ filter (λ q. leads_to (map link_view (take place mine)) q.id) (map krate_view ks)
 child_again_at ks [] place lt old = absurd (omega (arith, lt))

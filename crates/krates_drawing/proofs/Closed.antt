@@ -1,4 +1,4 @@
--- In the lists of a selection each end of each drawn edge is a node.
+-- For the lists of a selection, both ends of each drawn edge are nodes.
 use Rattle.std.proofs.Common.{◌≡◌, inl, inr, List, [], ◌∷◌, Bool, true, false, Option, Some, None, unwrap_or, cond, refl, sym, subst}
 use Rattle.std.specs.List.{AllZip, list_any}
 use Rattle.std.specs.Str.{bytes_eq}
@@ -29,9 +29,9 @@ keeps_ends r s t h l m =
     let d = h.link_of l m in
     (h.crate_in l.edge.parent (kept_by (questions r s) l.edge d).parent, h.crate_in l.edge.child (child_kept (questions r s) l.edge d))
 
--- ---- what a kept edge gives is enabled
+-- ---- what a kept edge enables is enabled
 
--- the feature is one that the dependency names, or `default` by use
+-- a feature that the dependency names, or `default` if that is used
 data AskedFor (d : DependencyModel) (g : Text) : Type 0 where
   by_name : Member d.features g → AskedFor d g
   by_use : d.uses_default_features ≡ true → g ≡ default_name → AskedFor d g
@@ -69,9 +69,9 @@ given_enabled r s t l g h at m =
           subst (λ x. Derivable q (Feature l.edge.child x)) (sym is) plain)
     ]
 
--- ---- a feature that is asked for is enabled, as nothing is lost
+-- ---- a feature that is asked for is enabled, since nothing is lost
 
--- the feature is one of the sheet, where it is enabled if it is listed and lost if it isn't
+-- a feature that is enabled if it is listed and lost otherwise is one of the sheet
 found_step : (r : Resolved) (s : SettingModel) (t : Sheet) (i : Id) (g : Text) (b : Bool) → list_any (is_feature i g) t.features ≡ b → Holds r s t
     → (ListsFeature r i g → Derivable (questions r s) (Feature i g)) → (LacksFeature r i g → Derivable (questions r s) (Lost (LostFeature i g))) → HasFeature t i g
 found_step r s t i g true e h enabled lost =
@@ -89,7 +89,7 @@ found r s t i g h enabled lost = found_step r s t i g (list_any (is_feature i g)
 
 -- ---- the references of a feature
 
--- the feature has a reference, and it names this
+-- the feature has a reference that names this
 record IsNaming (r : Resolved) (s : SettingModel) (n : Named) (m : Meaning) : Type 0 where
   reference : Reference
   has : HasReference r n.krate n.name reference
@@ -126,7 +126,7 @@ own_enabled r s t n g (references.weak c f) h d has is = absurd is
 pub toggle_enabled : (q : Questions) (p c : Id) (g : Text) → Derivable q (Toggled p c g) → Derivable q (Feature c g)
 toggle_enabled q p c g d = follows (rules.toggled_feature {p = p} {c = c} {g = g}) (one q (Toggled p c g) d)
 
--- a reference of the parent's feature to the child's feature enables that, where the edge is kept
+-- a reference from a feature of the parent to a feature of the child enables that feature, if the edge is kept
 other_enabled : (r : Resolved) (s : SettingModel) (t : Sheet) (e : Edge) (f g : Text) (ids : List Id) (reference : Reference) → Holds r s t → Derivable (questions r s) (Kept e) → Derivable (questions r s) (Feature e.parent f)
     → HasReference r e.parent f reference → Names r s.all_named e.parent reference (FeatureOf ids g) → Member ids e.child → HasFeature t e.child g
 unfolding questions
@@ -158,7 +158,7 @@ named_enabled r s t n ids g l h at among means kept e =
     let is = subst (λ i. Names r s.all_named i w.reference (FeatureOf ids g)) (sym e) w.names_it in
     other_enabled r s t l.edge n.name g ids w.reference h (h.link_of l kept) d has is means
 
--- ---- each arrow's ends
+-- ---- both ends of each arrow
 
 feature_there : (t : Sheet) (n : Named) → Member t.features n → Stands t (AtFeature n.krate n.name)
 feature_there t n at = feature_stands {p = n.krate} {f = n.name} (record { named = n; member = at; krate = refl; name = refl })

@@ -1,4 +1,4 @@
--- What holds of derivations, whatever a document and a setting answer.
+-- Laws of derivations that hold for any questions.
 use Rattle.std.proofs.Common.{◌≡◌, inl, inr, ℕ, false, List, [], ◌∷◌, refl, sym, subst}
 use Rattle.std.specs.Bool.{⊤}
 use Rattle.krates_cm.specs.Document.{Text, DependencyModel}
@@ -21,15 +21,15 @@ two q f h d k g (inr m) = one q h k g m
 
 -- ---- induction
 
--- it holds of what follows by one rule from what it holds of
+-- a property passes from the premises of each rule to its conclusion
 abbrev pub IsClosedUnder : Questions → (Fact → Type 0) → Type 0
 IsClosedUnder q P = (rule : ℕ) (premises : List Fact) (f : Fact) → Rule q rule premises f → ((g : Fact) → Among g premises → P g) → P f
 
--- and so it holds of every derivable fact
+-- such a property holds of every derivable fact
 pub closed_under : (q : Questions) (P : Fact → Type 0) → IsClosedUnder q P → (f : Fact) → Derivable q f → P f
 closed_under q P c _ (follows r ds) = c _ _ _ r (λ g m. closed_under q P c g (ds g m))
 
--- ---- what is below a fact
+-- ---- what a fact is derived from
 
 pub crate_of_feature : (q : Questions) (p : Id) (f : Text) → Derivable q (Feature p f) → Derivable q (Crate p)
 crate_of_feature q p f d = follows (feature_crate {p = p} {f = f}) (one q (Feature p f) d)
@@ -37,7 +37,7 @@ crate_of_feature q p f d = follows (feature_crate {p = p} {f = f}) (one q (Featu
 pub child_kept : (q : Questions) (e : Edge) → Derivable q (Kept e) → Derivable q (Crate e.child)
 child_kept q e d = follows (target {e = e}) (one q (Kept e) d)
 
--- an edge is kept since its parent is, and as it is open
+-- an edge is kept because its parent is, and because it is open
 pub record KeptBy (q : Questions) (e : Edge) : Type 0 where
   pub dep : DependencyModel
   pub opened : Open q e dep
@@ -55,7 +55,7 @@ kept_from q _ _ _ _ ds = tt
 pub kept_by : (q : Questions) (e : Edge) → Derivable q (Kept e) → KeptBy q e
 kept_by q e (follows r ds) = kept_from q _ _ (Kept e) r ds
 
--- where no feature is enabled, an edge is kept since its parent needs it
+-- if no feature is enabled, an edge is kept because its parent needs it
 pub record NeededBy (q : Questions) (e : Edge) : Type 0 where
   pub dep : DependencyModel
   pub opened : Open q e dep
@@ -92,7 +92,7 @@ toggled_from q _ _ _ _ ds = tt
 pub toggled_by : (q : Questions) (p c : Id) (g : Text) → Derivable q (Toggled p c g) → ToggledBy q p c
 toggled_by q p c g (follows r ds) = toggled_from q _ _ (Toggled p c g) r ds
 
--- ---- a kept crate stands
+-- ---- a kept crate has a package and a node
 
 abbrev StandsFor : Questions → Fact → Type 0
 StandsFor q (Crate p) = q.Stands p

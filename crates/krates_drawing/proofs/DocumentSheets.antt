@@ -1,4 +1,4 @@
--- A document has one graph: what is promised of a document, or of what is selected of it, holds of the document that is asked.
+-- A document has only one graph, so what is promised of it, or of a selection of it, holds of the document that is asked.
 use Rattle.std.proofs.Common.{◌≡◌, subst}
 use Rattle.krates_cm.specs.Document.{MetadataModel}
 use Rattle.krates_resolve.specs.Selection.{IsSelection, IsSelectionOf}

@@ -1,4 +1,4 @@
--- Of a part of what a sheet has, no more lines are drawn.
+-- A smaller sheet draws no more lines.
 use Rattle.std.proofs.Common.{◌≤◌, List, [], ◌∷◌, length, map, filter, arith}
 use Rattle.std.proofs.lemmas.List.{length-map}
 use Rattle.krates_cm.specs.Document.{Text}

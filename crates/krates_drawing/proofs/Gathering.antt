@@ -1,4 +1,4 @@
--- What is gathered of a selection is its sheet.
+-- What is gathered from a selection is its sheet.
 use Rattle.std.proofs.Common.{◌≡◌, Bool, inl, inr, ℕ, List, [], ◌∷◌, map, zip, Some, slice_get, filter, refl, sym, ap, ◌∙◌, subst}
 use Rattle.std.proofs.lemmas.List.Elements.{All-contains}
 use Rattle.std.proofs.lemmas.Option.{none-some, same_Some}
@@ -42,7 +42,7 @@ krate_told : (r : Resolved) (i : Identity) (n : ℕ) → (NoPackage r (id_of i) 
 krate_told r i n some (no_package none) = absurd (some none)
 krate_told r i n some (counted p h e) = record { id = refl; pkg = p; has_package = h; declared = e }
 
--- the declared dependency of the edge stands at its place in the list of any package of the parent
+-- the declared dependency of an edge stands at its place in the list of the parent's package
 at_place : (r : Resolved) (s : SettingModel) (e : KeptEdge) (w : IsPlaced r s e) (p : PackageModel) → NoneDoubled r.metadata r.graph → HasPackage r (id_of e.parent) p → slice_get p.dependencies e.declared ≡ Some w.dependency
 at_place r s e w p none h =
     let a = w.declared.declares in
@@ -116,9 +116,9 @@ gathered r s x ns gs ms t none h counts givens names ks ls fs ts = record {
   toggled = ap (λ v. map toggle_of v.items) ts;
 }
 
--- ---- its order
+-- ---- the order of the sheet
 
--- of pairs that are put together, the first parts are the first list
+-- the first parts of the pairs that are made are the first list
 first_parts : {A B C D : Type 0} (R : A → B → Type 0) (make : A → C → D) (back : D → A) (see : C → B) (xs : List A) (zs : List C) → ((x : A) (z : C) → back (make x z) ≡ x) → AllZip R xs (map see zs)
     → map back (map (λ pair. make pair.0 pair.1) (zip xs zs)) ≡ xs
 first_parts R make back see [] [] same z = refl

@@ -1,4 +1,4 @@
--- Stretches of lists in order, and what a search by halves finds in them.
+-- Runs of equal elements in sorted lists, and what a binary search finds of them.
 use Rattle.std.proofs.Common.{◌≡◌, ℕ, zero, suc, ◌+◌, ◌<◌, ◌≤◌, Bool, true, false, List, [], ◌∷◌, length, get_or, take, drop, map, filter, cond, Result, Ok, Err, Ordering, Less, Equal, Greater, refl, sym, ap, ◌∙◌, subst, inl, inr, arith}
 use Rattle.std.proofs.lemmas.Bool.{cases_lt}
 use Rattle.std.proofs.lemmas.Map.Keys.{Less-from_sorted}
@@ -8,7 +8,7 @@ use Rattle.std.specs.List.Sorted.{IsBinarySearchResult, IsNonDecreasingBy, IsPar
 use Rattle.std.specs.Ordering.{is_eq, is_lt, ordering_index, ordering_reverse}
 use Rattle.krates_drawing.specs.Drawing.{place_of}
 
--- ---- a stretch
+-- ---- a run
 
 pub none_before : {A : Type 0} (p : A → Bool) (xs : List A) (n : ℕ) → ((k : ℕ) (d : A) → k < n → k < length xs → p (get_or xs k d) ≡ false) → filter p xs ≡ filter p (drop n xs)
 none_before p xs zero h = refl
@@ -34,9 +34,9 @@ drop_within xs zero k lt = omega (arith, lt)
 drop_within [] (suc n) k lt = absurd (omega (arith, lt))
 drop_within (x ∷ xs) (suc n) k lt = let m = drop_within xs n k lt in omega (arith, m)
 
--- ---- how elements compare with what is looked for
+-- ---- how elements compare with the one sought
 
--- an element that isn't below, of which a later one is equal, is equal
+-- an element that isn't below, before an equal one, is equal
 equal_between : (r s : Ordering) → ordering_index r ≤ ordering_index s → is_lt r ≡ false → is_eq s ≡ true → is_eq r ≡ true
 equal_between Less s le a b = absurd cc
 equal_between Equal s le a b = refl
@@ -58,11 +58,11 @@ below_unequal Less e = refl
 below_unequal Equal e = absurd cc
 below_unequal Greater e = refl
 
--- what is below comes first
+-- elements below come first
 pub below_first : {A : Type 0} (ord : A → Ordering) (xs : List A) → IsNonDecreasingBy (λ y. ordering_index (ord y)) xs → IsPartitionedBy (λ y. is_lt (ord y)) xs
 below_first ord xs rises i j d le lt e = below_between (ord (get_or xs i d)) (ord (get_or xs j d)) (rises i j d le lt) e
 
--- behind it, what is equal comes first
+-- after them come the equal ones
 pub equal_first : {A : Type 0} (ord : A → Ordering) (xs : List A) (n : ℕ) → IsNonDecreasingBy (λ y. ordering_index (ord y)) xs → IsPartitionPoint (λ y. is_lt (ord y) ≡ true) (λ y. is_lt (ord y) ≡ false) xs n → IsPartitionedBy (λ y. is_eq (ord y)) (drop n xs)
 equal_first ord xs n rises parted i j d le lt e =
     let within : n + j < length xs = drop_within xs n j lt in
@@ -70,14 +70,14 @@ equal_first ord xs n rises parted i j d le lt e =
     let there : is_eq (ord (get_or xs (n + j) d)) ≡ true = ap (λ z. is_eq (ord z)) (sym (get_drop xs n j d)) ∙ e in
     ap (λ z. is_eq (ord z)) (get_drop xs n i d) ∙ equal_between (ord (get_or xs (n + i) d)) (ord (get_or xs (n + j) d)) (rises (n + i) (n + j) d (omega (arith, le)) within) here there
 
--- those that are equal are one stretch
+-- equal elements form one run
 pub stretch : {A : Type 0} (ord : A → Ordering) (xs : List A) (n m : ℕ) → IsPartitionPoint (λ y. is_lt (ord y) ≡ true) (λ y. is_lt (ord y) ≡ false) xs n
     → IsPartitionPoint (λ y. is_eq (ord y) ≡ true) (λ y. is_eq (ord y) ≡ false) (drop n xs) m → filter (λ y. is_eq (ord y)) xs ≡ take m (drop n xs)
 stretch ord xs n m low high =
     none_before (λ y. is_eq (ord y)) xs n (λ k d lt within. below_unequal (ord (get_or xs k d)) (low.0 k d (omega arith) lt))
     ∙ all_front (λ y. is_eq (ord y)) (drop n xs) m (λ k d lt within. high.0 k d (omega arith) lt) (λ k d le within. high.1 k d le within)
 
--- ---- the order of a list, beside what is looked for
+-- ---- the order of a list, relative to the element sought
 
 module _ {K : Type 0} {R : K → K → Ordering} (o : IsTotalOrder R) where
   step : (x y q : K) (r s : Ordering) → R x q ≡ r → R y q ≡ s → R x y ≡ Less → ordering_index r ≤ ordering_index s
@@ -107,7 +107,7 @@ module _ {K : Type 0} {R : K → K → Ordering} (o : IsTotalOrder R) where
         subst (λ k. ordering_index (R (key (get_or xs i d)) q) ≤ ordering_index (R (key (get_or xs k d)) q)) e (omega arith))
   ]
 
-  -- what isn't above compares no higher
+  -- an element that isn't above compares no higher
   pub weakly : (x y q : K) (r : Ordering) → R x y ≡ r → (r ≡ Greater → ⊥) → ordering_index (R x q) ≤ ordering_index (R y q)
   weakly x y q Less e low = step x y q (R x q) (R y q) refl refl e
   weakly x y q Equal e low = let same : R x q ≡ R y q = o.congr x y q e in subst (λ r. ordering_index (R x q) ≤ ordering_index r) same (omega arith)
@@ -121,7 +121,7 @@ module _ {K : Type 0} {R : K → K → Ordering} (o : IsTotalOrder R) where
         subst (λ k. ordering_index (R (key (get_or xs i d)) q) ≤ ordering_index (R (key (get_or xs k d)) q)) e (omega arith))
   ]
 
--- in a list in order, one element is below another
+-- in a sorted list an earlier element is below a later one
 pub below_later : {A K : Type 0} (R : K → K → Ordering) (key : A → K) (xs : List A) (i j : ℕ) (d : A) → IsStrictlySortedBy R (map key xs) → i < j → j < length xs → R (key (get_or xs i d)) (key (get_or xs j d)) ≡ Less
 below_later R key xs i j d sorted l lt =
     let later = Less-from_sorted R (map key xs) i j (key d) sorted l (rw length-map lt) in
@@ -129,7 +129,7 @@ below_later R key xs i j d sorted l lt =
     let y = get_or-map key xs j d (key d) lt in
     ap (λ z. R z (key (get_or xs j d))) (sym x) ∙ ap (λ z. R (get_or (map key xs) i (key d)) z) (sym y) ∙ later
 
--- ---- a stretch, as it is cut out
+-- ---- a run, cut out
 
 pub get_take : {A : Type 0} (xs : List A) (m k : ℕ) (d : A) → k < m → get_or (take m xs) k d ≡ get_or xs k d
 get_take xs zero k d lt = absurd (omega (arith, lt))
@@ -143,7 +143,7 @@ take_within [] (suc m) k lt = absurd (omega (arith, lt))
 take_within (x ∷ xs) (suc m) zero lt = (omega arith, omega arith)
 take_within (x ∷ xs) (suc m) (suc k) lt = let w = take_within xs m k (omega (arith, lt)) in (omega (arith, w.0), omega (arith, w.1))
 
--- a stretch of a list, cut out by two searches
+-- a run of a list that two searches cut out
 pub record IsCut {A : Type 0} (ord : A → Ordering) (xs mine : List A) : Type 0 where
   pub n : ℕ
   pub m : ℕ
@@ -161,11 +161,11 @@ cut ord xs one two rest mine n m first second back front rises low high =
     let higher = subst (λ l. IsPartitionPoint (λ y. is_eq (ord y) ≡ true) (λ y. is_eq (ord y) ≡ false) l m) behind (high (subst (λ l. IsPartitionedBy (λ y. is_eq (ord y)) l) (sym behind) (equal_first ord xs n rises lower))) in
     record { n = n; m = m; low = lower; high = higher; is = front ∙ ap (take m) behind }
 
--- it has what is equal
+-- it has exactly the equal elements
 pub cut_is : {A : Type 0} (ord : A → Ordering) (xs mine : List A) → IsCut ord xs mine → mine ≡ filter (λ y. is_eq (ord y)) xs
 cut_is ord xs mine w = w.is ∙ sym (stretch ord xs w.n w.m w.low w.high)
 
--- where an element of the stretch stands
+-- where an element of the run stands
 pub record StandsIn {A : Type 0} (ord : A → Ordering) (xs mine : List A) (from k : ℕ) (d : A) : Type 0 where
   pub within : from + k < length xs
   pub same : get_or mine k d ≡ get_or xs (from + k) d
@@ -183,7 +183,7 @@ stands_in ord xs mine w k d lt =
 
 -- ---- a place
 
--- the place that a search answers, or the length
+-- the place that a search returns, or the length
 abbrev pub place_in : ℕ → Result ℕ ℕ → ℕ
 place_in n (Ok i) = i
 place_in n (Err i) = n
@@ -219,7 +219,7 @@ module _ {K : Type 0} {R : K → K → Ordering} (o : IsTotalOrder R) where
       let turned : R q (key (get_or xs n d)) ≡ Equal = o.antisymm q (key (get_or xs n d)) ∙ ap ordering_reverse e in
       cc (less, other, turned)))
 
-  -- the place of the first that is equal, as a search by halves finds it
+  -- the place of the first equal element, as a binary search finds it
   pub searched : {A : Type 0} (key : A → K) (xs : List A) (q : K) (r : Result ℕ ℕ) → IsStrictlySortedBy R (map key xs) → IsSearchInRange r (length xs) → IsBinarySearchResult (λ y. R (key y) q) xs r
       → place_of (λ y. is_eq (R (key y) q)) xs ≡ place_in (length xs) r
   searched key xs q (Ok n) sorted lt h =

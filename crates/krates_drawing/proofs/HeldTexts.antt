@@ -1,4 +1,4 @@
--- Texts that are put into a set, one by one.
+-- Texts that are inserted into a set, one by one.
 use Rattle.std.proofs.Common.{◌≡◌, ℕ, ◌||◌, Bool, true, false, cond, List, refl, sym, ap, ◌∙◌}
 use Rattle.std.proofs.lemmas.Map.Text.{is_eq-slice_cmp}
 use Rattle.std.proofs.lemmas.Slice.Eq.{bytes_eq-Decides}
@@ -18,7 +18,7 @@ swapped true false c = refl
 swapped false true c = refl
 swapped false false c = refl
 
--- a text that is put isn't looked for among the rest any more
+-- a text that was inserted is no longer looked for in the rest
 pub put_one : (x q : List ℕ) (new old rest : Bool) → new ≡ cond (is_eq (slice_cmp nat_cmp x q)) true old → (new || rest) ≡ (old || (bytes_eq q x || rest))
 put_one x q new old rest e =
     ap (λ b. b || rest) (e ∙ ap (λ b. cond b true old) (is_eq-slice_cmp x q ∙ either_way x q (bytes_eq x q) (bytes_eq q x) refl refl)) ∙ swapped (bytes_eq q x) old rest

@@ -1,4 +1,4 @@
--- What the lists of a sheet hold, in terms of derivations.
+-- What the lists of a sheet hold, by derivations.
 use Rattle.std.proofs.Common.{◌≡◌, inl, inr, length, map, Contains, sym, ap, ◌∙◌, subst}
 use Rattle.krates_cm.specs.Document.{Text, PackageModel, text_view}
 use Rattle.krates_ids.specs.Identity.{Identity}
@@ -44,7 +44,7 @@ pub record CountOf (r : Resolved) (k : Krate) : Type 0 where
   pub has_package : HasPackage r k.id pkg
   pub declared : k.declared ≡ length pkg.dependencies
 
--- the lists hold exactly what has a derivation
+-- the lists hold exactly what is derivable
 pub record Holds (r : Resolved) (s : SettingModel) (t : Sheet) : Type 0 where
   pub crate_in : (p : Id) → Derivable (questions r s) (Crate p) → HasCrate t p
   pub crate_of : (k : Krate) → Member t.krates k → Derivable (questions r s) (Crate k.id)
@@ -61,7 +61,7 @@ pub record Holds (r : Resolved) (s : SettingModel) (t : Sheet) : Type 0 where
 
 -- ---- the four lists
 
--- the fact is that of an element of one of the lists
+-- the fact belongs to an element of one of the lists
 pub data From (x : Selection) (f : Fact) : Type 0 where
   from_crate : (i : Identity) → Member x.krates.items i → crate_fact i ≡ f → From x f
   from_edge : (e : KeptEdge) → Member x.edges.items e → edge_fact e ≡ f → From x f

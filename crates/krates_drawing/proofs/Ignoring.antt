@@ -1,4 +1,4 @@
--- A setting that ignores one more kind, for every crate.
+-- A setting that ignores one more kind, for all crates.
 use Rattle.std.proofs.Common.{◌≡◌, inl, inr, true, false, refl, sym, ◌∙◌}
 use Rattle.krates_cm.specs.Document.{DependencyModel}
 use Rattle.krates_rules.specs.Facts.{Id, Edge}
@@ -14,7 +14,7 @@ use Rattle.krates_rules.specs.declared.kind.Scope.TheVariants as scopes
 abbrev pub ignoring : SettingModel → IgnoredKinds → SettingModel
 ignoring s ignored = record s { ignored = ignored }
 
--- ---- the crates that are asked for are the same
+-- ---- the same crates are asked for
 
 workspace_alike : (r : Resolved) (s z : SettingModel) → s.manifests ≡ z.manifests → AsksForWorkspace r s → AsksForWorkspace r z
 workspace_alike r s z e w = record { manifest = w.manifest; alone = sym e ∙ w.alone; parent = w.parent; is_parent = w.is_parent; is_root = w.is_root }
@@ -45,7 +45,7 @@ other_kind r s g k e more not same =
     let told : (b : _) → ignores g (kind_of e.kind) b ≡ true = λ b. (more (kind_of e.kind) b).1 (inr (same, tt)) in
     not (of_other (λ member. not (of_member member (told true))) (told false))
 
--- and an edge of another kind that wasn't ignored still isn't
+-- and an edge of another kind that wasn't ignored before still isn't
 pub not_ignored : (r : Resolved) (s : SettingModel) (g : IgnoredKinds) (k : DepKind) (e : Edge) → IgnoresMore s.ignored g k scopes.All → (kind_of e.kind ≡ k → ⊥) → (IsIgnored r s e → ⊥) → IsIgnored r (ignoring s g) e → ⊥
 not_ignored r s g k e more other not (of_member member told) = elim ((more (kind_of e.kind) true).0 told) [ inl before ↦ not (of_member member before) | inr now ↦ other now.0 ]
 not_ignored r s g k e more other not (of_other other_crate told) = elim ((more (kind_of e.kind) false).0 told) [ inl before ↦ not (of_other other_crate before) | inr now ↦ other now.0 ]

@@ -1,4 +1,4 @@
--- Filters of a list in order by one test or another.
+-- Filtering a sorted list by either of two tests.
 use Rattle.std.proofs.Common.{◌≡◌, Bool, true, false, ◌||◌, List, [], ◌∷◌, ◌++◌, map, filter, cond, Option, Some, Ordering, Less, Equal, Greater, refl, sym, ap, ◌∙◌}
 use Rattle.std.specs.Cmp.{IsTotalOrder}
 use Rattle.std.specs.List.{AllByRecursion}
@@ -30,11 +30,11 @@ each_under key P [] h = tt
 each_under key P (x ∷ xs) h = (h.0, each_under key P xs h.1)
 
 module _ {K : Type 0} {R : K → K → Ordering} (o : IsTotalOrder R) where
-  -- below something equal is below
+  -- what is below an equal element is below
   above_equal : (x c z : K) → R x c ≡ Equal → R x z ≡ Less → R z c ≡ Greater
   above_equal x c z e l = let turned : R c z ≡ Less = sym (o.congr x c z e) ∙ l in o.antisymm z c ∙ ap ordering_reverse turned
 
-  -- behind an element that is equal, nothing passes that has to be below or equal
+  -- after an equal element nothing passes that would have to be below or equal
   behind : {A : Type 0} (key : A → K) (p : A → Bool) (c : K) (x : A) (xs : List A) → ((z : A) → p z ≡ true → R (key z) c ≡ Greater → ⊥) → R (key x) c ≡ Equal → AllByRecursion (λ y. R (key x) y ≡ Less) (map key xs) → filter p xs ≡ []
   behind key p c x xs low e all = none_pass p xs (each_from (λ z. R (key x) (key z) ≡ Less) (λ z. p z ≡ false) xs (λ z l. not_true (p z) (λ t. low z t (above_equal (key x) c (key z) e l))) (each_under key (λ k. R (key x) k ≡ Less) xs all))
 
@@ -58,7 +58,7 @@ module _ {K : Type 0} {R : K → K → Ordering} (o : IsTotalOrder R) where
   joined_step key p c x xs true Greater e f low all more = let l = low x e in absurd (cc (l, f))
   joined_step key p c x xs false Greater e f low all more = more
 
-  -- what passes the first test is below what passes the second: it comes before it
+  -- what passes the first test is below what passes the second, so it comes first
   pub joined : {A : Type 0} (key : A → K) (p : A → Bool) (c : K) (xs : List A) → IsStrictlySortedBy R (map key xs) → ((z : A) → p z ≡ true → R (key z) c ≡ Less)
       → filter (either p (λ z. is_eq (R (key z) c))) xs ≡ filter p xs ++ filter (λ z. is_eq (R (key z) c)) xs
   unfolding IsStrictlySortedBy
@@ -83,7 +83,7 @@ module _ {K : Type 0} {R : K → K → Ordering} (o : IsTotalOrder R) where
   last_step key p c x xs true Greater l e f low all more = absurd (low x e f)
   last_step key p c x xs false Greater l e f low all more = more l
 
-  -- what passes the first test isn't above what passes the second: the last of both is that of the second, where it has one
+  -- what passes the first test isn't above what passes the second: the last of both is the last of the second, if it has one
   pub last_joined : {A : Type 0} (key : A → K) (p : A → Bool) (c : K) (xs : List A) (l : Option A) → IsStrictlySortedBy R (map key xs) → ((z : A) → p z ≡ true → R (key z) c ≡ Greater → ⊥)
       → last_from l (filter (either p (λ z. is_eq (R (key z) c))) xs) ≡ last_from (last_from l (filter p xs)) (filter (λ z. is_eq (R (key z) c)) xs)
   unfolding IsStrictlySortedBy

@@ -1,4 +1,4 @@
--- What a declared dependency is mapped to, edge by edge.
+-- Which crate a declared dependency is mapped to, edge by edge.
 use Rattle.std.proofs.Common.{◌≡◌, ℕ, ◌+◌, ◌<◌, ◌==◌, Bool, true, false, ◌||◌, ◌&&◌, List, [], ◌∷◌, length, get_or, take, map, filter, arith, cond, Option, Some, None, option_map, slice_get, replicate, Greater, refl, sym, ap, ◌∙◌}
 use Rattle.std.specs.List.{range_with_len}
 use Rattle.std.specs.List.Sorted.{IsStrictlySortedBy}
@@ -22,7 +22,7 @@ seen_last : {A B : Type 0} (f : A → B) (o : Option A) (xs : List A) → option
 seen_last f o [] = refl
 seen_last f o (x ∷ xs) = seen_last f (Some x) xs
 
--- what the edges map to, and what one more does
+-- what the edges so far map to, and what one more changes
 more_step : (t : model.Sheet) (ks : List Krate) (mine : List Link) (i : ℕ) (x : Link) (place : ℕ) (b : Bool) → ((link_view x).place == place) ≡ b → t.krates ≡ map krate_view ks → IsStrictlySortedBy id_cmp (map (λ k. k.id) ks) → AreByChild mine → i < length mine → x ≡ get_or mine i x
     → mapped t (map link_view (take (i + 1) mine)) place ≡ cond b (number_of t (id_of x.edge.child) (mapped t (map link_view (take i mine)) place)) (mapped t (map link_view (take i mine)) place)
 more_step t ks mine i x place false e krates sorted by lt is =
@@ -61,7 +61,7 @@ mapped_more : (t : model.Sheet) (ks : List Krate) (mine : List Link) (i : ℕ) (
     → mapped t (map link_view (take (i + 1) mine)) place ≡ claimed_of t (link_view x) place (mapped t (map link_view (take i mine)) place)
 mapped_more t ks mine i x place krates sorted by lt is = more_step t ks mine i x place ((link_view x).place == place) refl krates sorted by lt is
 
--- no edge, no crate
+-- without edges nothing is mapped
 mapped_none : (t : model.Sheet) (place : ℕ) → mapped t [] place ≡ None
 mapped_none t place = ap (λ l. option_map (λ (q : model.Krate). crate_number t q.id) (last_from None l)) (none t.krates)
   where
@@ -75,7 +75,7 @@ mapped_none t place = ap (λ l. option_map (λ (q : model.Krate). crate_number t
 pub mapping_none : (t : model.Sheet) (count : ℕ) → replicate count None ≡ map (mapped t []) (range_with_len 0 count)
 mapping_none t count = all_alike (mapped t []) None (mapped_none t) 0 count
 
--- what one more edge makes of it
+-- the mapping after one more edge
 pub mapping_more : (t : model.Sheet) (ks : List Krate) (mine : List Link) (i : ℕ) (x : Link) (count : ℕ) (old new : List (Option ℕ)) → t.krates ≡ map krate_view ks → IsStrictlySortedBy id_cmp (map (λ k. k.id) ks) → AreByChild mine → i < length mine → x ≡ get_or mine i x
     → old ≡ map (mapped t (map link_view (take i mine))) (range_with_len 0 count) → IsClaimed t (link_view x) old new → new ≡ map (mapped t (map link_view (take (i + 1) mine))) (range_with_len 0 count)
 mapping_more t ks mine i x count old new krates sorted by lt is before claimed =

@@ -1,4 +1,4 @@
--- A sheet of a narrower setting is a part of that of the wider one.
+-- The sheet of a narrower setting is a part of the sheet of the wider one.
 use Rattle.std.proofs.Common.{◌≡◌, Bool, List, [], ◌∷◌, ◌∙◌, Contains, ℕ, map, refl, sym, subst}
 use Rattle.std.proofs.lemmas.List.Elements.{All-contains}
 use Rattle.std.specs.List.{AllZip}
@@ -29,7 +29,7 @@ use Rattle.krates_drawing.proofs.Parts.{LikePart, likes_part, made_part}
 use Rattle.krates_drawing.proofs.SaidAlike.{SaidAlike, declared_alike, place_alike}
 use Rattle.krates_drawing.proofs.Zips.{zip_there}
 
--- ---- one document says the same as itself
+-- ---- a document says the same as itself
 
 say_itself : (r : Resolved) → NoneDoubled r.metadata r.graph → SayAlike r r
 say_itself r none = record {
@@ -57,16 +57,16 @@ said_itself r s none =
 
 -- ---- what a kept edge says under the wider setting
 
--- what is kept isn't ignored
+-- a kept edge isn't ignored
 kept_regarded : (r : Resolved) (s : SettingModel) (e : Edge) → Derivable (questions r s) (Kept e) → IsIgnored r s e → ⊥
 unfolding questions
 kept_regarded r s e d = (kept_by (questions r s) e d).opened.wanted.declared.not_ignored
 
--- an edge is declared under one setting as under another that doesn't ignore it
+-- what declares an edge under one setting declares it under any that doesn't ignore it
 declared_wider : (r : Resolved) (s z : SettingModel) (e : Edge) (place : ℕ) (d : DependencyModel) → (IsIgnored r z e → ⊥) → IsDeclaredAt r s e place d → IsDeclaredAt r z e place d
 declared_wider r s z e place d regarded h = record { declares = h.declares; not_ignored = regarded }
 
--- selections under two settings, of which the first has the facts of the second
+-- selections under two settings, where the second has all facts of the first
 record Narrowed (r : Resolved) (s z : SettingModel) (x y : Selection) : Type 0 where
   none : NoneDoubled r.metadata r.graph
   carries : Carries (questions r s) (questions r z)

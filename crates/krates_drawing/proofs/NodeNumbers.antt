@@ -1,4 +1,4 @@
--- The numbers of nodes: each node that stands has its own.
+-- The numbers of nodes: each node has its own.
 use Rattle.std.proofs.Common.{◌≡◌, ◌⊎◌, inl, inr, ℕ, zero, suc, ◌+◌, ◌<◌, Bool, true, false, ◌&&◌, List, [], ◌∷◌, ◌++◌, length, map, option_map, Some, slice_get, cond, refl, sym, ap, ◌∙◌, subst, arith}
 use Rattle.std.proofs.lemmas.Option.{slice_get-map, slice_get_within, same_Some}
 use Rattle.std.specs.Cmp.Lexicographic.{bytes_decides}
@@ -45,7 +45,7 @@ pub record HasCrate (t : Sheet) (p : Id) : Type 0 where
   pub member : Member t.krates krate
   pub id : krate.id ≡ p
 
--- the feature is
+-- the feature is one of the sheet
 pub record HasFeature (t : Sheet) (p : Id) (f : Text) : Type 0 where
   pub named : Named
   pub member : Member t.features named
@@ -63,7 +63,7 @@ feature_passes t p f h = and_true _ _ (subst (λ i. id_eq h.named.krate i ≡ tr
 
 -- ---- places
 
--- the element at the place of the first that passes
+-- the first element that passes, at its place
 pub record At {A : Type 0} (p : A → Bool) (xs : List A) : Type 0 where
   pub found : A
   pub member : Member xs found
@@ -107,7 +107,7 @@ crate_end k = AtCrate k.id
 abbrev pub feature_end : Named → End
 feature_end n = AtFeature n.krate n.name
 
--- what is drawn of each crate and of each feature stands at the numbers of these
+-- what is drawn for each crate and for each feature stands under its number
 crate_at : {A : Type 0} (t : Sheet) (of_crate : Krate → A) (of_feature : Named → A) (p : Id) → HasCrate t p → (k : Krate) × (k.id ≡ p) × Member t.krates k × (slice_get (map of_crate t.krates ++ map of_feature t.features) (crate_number t p) ≡ Some (of_crate k))
 crate_at t of_crate of_feature p h =
     let w = at_place (is_crate p) t.krates h.krate h.member (crate_passes t p h) in
@@ -136,7 +136,7 @@ feature_node t p f h =
     let w = feature_at t (crate_spot t) (feature_spot t) p f h in
     w.3 ∙ ap (λ i. Some (FeatureSpot (crate_number t i) w.0.name)) w.1 ∙ ap (λ x. Some (FeatureSpot (crate_number t p) x)) w.2
 
--- ---- ends of their own
+-- ---- different ends have different numbers
 
 abbrev ends : Sheet → List End
 ends t = map crate_end t.krates ++ map feature_end t.features
@@ -147,11 +147,11 @@ end_at t _ (feature_stands {p} {f} h) =
     let w = feature_at t crate_end feature_end p f h in
     w.3 ∙ ap (λ i. Some (AtFeature i w.0.name)) w.1 ∙ ap (λ x. Some (AtFeature p x)) w.2
 
--- nodes that stand have numbers of their own
+-- nodes with the same number are the same
 pub one_number : (t : Sheet) (a b : End) → Stands t a → Stands t b → number t a ≡ number t b → a ≡ b
 one_number t a b sa sb e = same_Some a b (sym (end_at t a sa) ∙ ap (slice_get (ends t)) e ∙ end_at t b sb)
 
--- and these are below the number of nodes
+-- a node's number is below the number of nodes
 pub number_below : (t : Sheet) (e : End) → Stands t e → number t e < length (spots t)
 number_below t _ (crate_stands {p} h) = let w = crate_node t p h in slice_get_within (spots t) (crate_number t p) _ w.at
 number_below t _ (feature_stands {p} {f} h) = slice_get_within (spots t) (feature_number t p f) _ (feature_node t p f h)

@@ -1,4 +1,4 @@
--- Of documents that say the same, one sheet is drawn from.
+-- Documents that say the same have the same sheet.
 use Rattle.std.proofs.Common.{◌≡◌, ◌↔◌, ℕ, Bool, true, false, List, [], ◌∷◌, map, filter, Contains, Ordering, cond, length, unwrap_or, refl, sym, ap, ◌∙◌, subst}
 use Rattle.std.proofs.lemmas.List.Elements.{All-contains}
 use Rattle.std.specs.Cmp.Rules.{comparing}
@@ -104,9 +104,9 @@ toggle_order = record { total = search (comparing, rules) depth 9; same = toggle
 ids_order : Respects id_order (λ (a b : Id). a ≡ b)
 ids_order = record { total = search (comparing, rules) depth 9; same = λ a b x y p q. ap (λ i. id_order i b) p ∙ ap (id_order x) q }
 
--- ---- each element has its like
+-- ---- each element has its counterpart
 
--- the facts of one selection are among those of the other
+-- the facts of one selection are facts of the other
 abbrev pub Carries : Questions → Questions → Type 0
 Carries a b = (f : Fact) → Derivable a f → Derivable b f
 
@@ -175,7 +175,7 @@ toggled_zip r u s x y w = alike toggled_cmp SameToggle x.toggled.items y.toggled
     (λ e m. let k = toggle_likes r u s s x y (there r u s w.say) w.first w.second e m in record { partner = k.0; member = k.1; related = turn_toggle k.0 e k.2 })
     (λ e m. let k = toggle_likes u r s s y x (back r u s w.say) w.second w.first e m in record { partner = k.0; member = k.1; related = k.2 })
 
--- ---- what stands beside them
+-- ---- what stands beside them in the sheet
 
 krate_same : (i j : Id) (m n : ℕ) → i ≡ j → m ≡ n → (let k : Krate = record { id = i; declared = m } in k) ≡ record { id = j; declared = n }
 krate_same i j m n a b = ap (λ (z : Id). record { id = z; declared = m }) a ∙ ap (λ (z : ℕ). record { id = j; declared = z }) b
@@ -257,7 +257,7 @@ names_same r u s i (references.weak d g) m n w p q =
     let b = weakly_named u s.all_named i d g n q in
     a.1 ∙ (ap (λ ids. FeatureOf ids g) (ids_same r u s i d a.0 b.0 w a.2 b.2) ∙ sym b.1)
 
--- each text is one reference
+-- each text is only one reference
 abbrev pub ReadsOneReference : Type 0
 ReadsOneReference = (text : Text) → HasOneReading text
 

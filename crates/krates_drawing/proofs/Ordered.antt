@@ -1,11 +1,11 @@
--- Two lists in strict order, each element of which has its like in the other, are alike place by place.
+-- Two strictly sorted lists whose elements have counterparts in each other are alike place by place.
 use Rattle.std.proofs.Common.{◌≡◌, inl, inr, List, [], ◌∷◌, Ordering, Less, refl, sym, ap, ◌∙◌, subst}
 use Rattle.std.specs.Cmp.{IsTotalOrder}
 use Rattle.std.specs.List.{AllByRecursion, AllZip}
 use Rattle.std.specs.List.Sorted.{IsStrictlySortedBy}
 use Rattle.krates_drawing.proofs.Members.{Member, Partner}
 
--- what is like stands in the same order
+-- related elements are in the same order
 pub record Respects {A : Type 0} (c : A → A → Ordering) (S : A → A → Type 0) : Type 0 where
   pub total : IsTotalOrder c
   pub same : (a b x y : A) → S a x → S b y → c a b ≡ c x y
@@ -18,7 +18,7 @@ each P (x ∷ xs) z h (inr m) = each P xs z h.1 m
 pub strict : {A : Type 0} (c : A → A → Ordering) → IsTotalOrder c → (a b : A) → c a b ≡ Less → c b a ≡ Less → ⊥
 strict c o a b l m = let e = o.antisymm a b in cc (e, l, m)
 
--- each element of the first has its like in the second
+-- each element of the first has its counterpart in the second
 abbrev pub HasLikes : {A : Type 0} → (A → A → Type 0) → List A → List A → Type 0
 HasLikes {A} S xs ys = (x : A) → Member xs x → Partner S x ys
 
@@ -52,7 +52,7 @@ later_likes c S x y xs ys o hx like all z m =
       | inr later ↦ record { partner = p.partner; member = later; related = p.related }
     ]
 
--- the same from the second to the first
+-- the same, from the second to the first
 turned : {A : Type 0} (c : A → A → Ordering) (S : A → A → Type 0) → Respects c S → Respects c (IsBack S)
 turned c S o = record { total = o.total; same = λ a b x y p q. sym (o.same x y a b p q) }
 
@@ -65,7 +65,7 @@ alike c S (x ∷ xs) (y ∷ ys) o hx hy there back =
     let first = first_like c S x y xs ys o hx hy (there x (inl refl)) (back y (inl refl)) in
     (first, alike c S xs ys o hx.1 hy.1 (later_likes c S x y xs ys o hx first there) (later_likes c (IsBack S) y x ys xs (turned c S o) hy first back))
 
--- what is made of like elements, place by place
+-- what is made of related elements, place by place
 pub made_same : {A B : Type 0} (S : A → A → Type 0) (R Q : A → B → Type 0) (xs ys : List A) (ts us : List B) → AllZip S xs ys → AllZip R xs ts → AllZip Q ys us → ((a b : A) (t u : B) → S a b → R a t → Q b u → t ≡ u) → ts ≡ us
 made_same S R Q [] [] [] [] s r q h = refl
 made_same S R Q [] [] (t ∷ ts) us s r q h = absurd r
@@ -85,7 +85,7 @@ equal_zip [] (y ∷ ys) z = absurd z
 equal_zip (x ∷ xs) [] z = absurd z
 equal_zip (x ∷ xs) (y ∷ ys) z = ap (λ a. a ∷ xs) z.0 ∙ ap (λ zs. y ∷ zs) (equal_zip xs ys z.1)
 
--- what is like itself
+-- a list is related to itself
 pub itself : {A : Type 0} (xs : List A) → AllZip (λ a b. a ≡ b) xs xs
 itself [] = tt
 itself (x ∷ xs) = (refl, itself xs)

@@ -23,7 +23,7 @@ filter_leaves : {X : Type 0} (c : Bool) (y : X) (xs ys : List X) → IsPart xs y
 filter_leaves true y xs ys h = leaves_out h
 filter_leaves false y xs ys h = h
 
--- what passes of a part is a part of what passes by a wider test
+-- a wider test leaves a larger part
 pub part_filter : {X : Type 0} (p q : X → Bool) (xs ys : List X) → ((x : X) → p x ≡ true → q x ≡ true) → IsPart xs ys → IsPart (filter p xs) (filter q ys)
 part_filter p q _ _ more nothing = nothing
 part_filter p q _ _ more (keeps {x} {xs} {ys} h) = filter_keeps (p x) (q x) x (filter p xs) (filter q ys) (more x) (part_filter p q xs ys more h)
@@ -37,7 +37,7 @@ any_leaves : (b d : Bool) → d ≡ true → (b || d) ≡ true
 any_leaves true d h = refl
 any_leaves false d h = h
 
--- what some element of a part passes, some element of the whole passes
+-- if some element of a part passes, some element of the whole does
 pub part_any : {X : Type 0} (p : X → Bool) (xs ys : List X) → IsPart xs ys → list_any p xs ≡ true → list_any p ys ≡ true
 part_any p _ _ nothing h = h
 part_any p _ _ (keeps {x} {xs} {ys} w) h = any_keeps (p x) (list_any p xs) (list_any p ys) (part_any p xs ys w) h
@@ -53,14 +53,14 @@ part_length _ _ (leaves_out {y} {xs} {ys} h) = let le = part_length xs ys h in o
 sums : (a b c d : ℕ) → a ≤ c → b ≤ d → a + b ≤ c + d
 sums a b c d le me = omega (arith, le, me)
 
--- of two lists, one behind the other
+-- of two lists, one after another
 pub joined_length : {X : Type 0} (xs ys zs ws : List X) → length xs ≤ length zs → length ys ≤ length ws → length (xs ++ ys) ≤ length (zs ++ ws)
 joined_length xs ys zs ws le me = rw (length-append xs ys, length-append zs ws) (sums (length xs) (length ys) (length zs) (length ws) le me)
 
 longer : {X : Type 0} (xs ys zs : List X) → length xs ≤ length zs → length xs ≤ length (ys ++ zs)
 longer xs ys zs le = rw (length-append ys zs) (omega (arith, le))
 
--- where no element has more, a part has no more
+-- if no element gives more, a part gives no more
 pub spread_length : {X Y : Type 0} (f g : X → List Y) (xs ys : List X) → ((x : X) → length (f x) ≤ length (g x)) → IsPart xs ys → length (flat_map f xs) ≤ length (flat_map g ys)
 spread_length f g _ _ more nothing = omega arith
 spread_length f g _ _ more (keeps {x} {xs} {ys} h) = joined_length (f x) (flat_map f xs) (g x) (flat_map g ys) (more x) (spread_length f g xs ys more h)
@@ -71,13 +71,13 @@ mapped_length f g xs ys h = rw (length-map xs f, length-map ys g) (part_length x
 
 -- ---- lists in strict order
 
--- each element has its like in the second list, in order
+-- each element has its counterpart in the second list, in order
 pub data LikePart {A : Type 0} (S : A → A → Type 0) : List A → List A → Type 0 where
   like_nothing : LikePart S [] []
   like_keeps : {x y : A} {xs ys : List A} → S x y → LikePart S xs ys → LikePart S (x ∷ xs) (y ∷ ys)
   like_leaves : {y : A} {xs ys : List A} → LikePart S xs ys → LikePart S xs (y ∷ ys)
 
--- where the first element's like comes later, the likes of all do
+-- if the counterpart of the first element comes later, so do those of the others
 all_later : {A : Type 0} (c : A → A → Ordering) (S : A → A → Type 0) (x y p : A) (xs ys : List A) → Respects c S → IsStrictlySortedBy c (x ∷ xs) → IsStrictlySortedBy c (y ∷ ys) → Member ys p → S x p
     → HasLikes S (x ∷ xs) (y ∷ ys) → HasLikes S (x ∷ xs) ys
 unfolding IsStrictlySortedBy
@@ -107,7 +107,7 @@ likes_part c S (x ∷ xs) (y ∷ ys) o hx hy all =
       | inr later ↦ like_leaves (likes_part c S (x ∷ xs) ys o hx hy.1 (all_later c S x y p.partner xs ys o hx hy later p.related all))
     ]
 
--- what is made of like elements is a part
+-- what is made of related elements is a part
 pub made_part : {A B : Type 0} (S : A → A → Type 0) (R Q : A → B → Type 0) (xs ys : List A) (ts us : List B) → LikePart S xs ys → AllZip R xs ts → AllZip Q ys us
     → ((a b : A) (t u : B) → S a b → R a t → Q b u → t ≡ u) → IsPart ts us
 made_part S R Q _ _ [] [] like_nothing r q h = nothing

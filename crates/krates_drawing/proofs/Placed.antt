@@ -1,4 +1,4 @@
--- Crates and features of a sheet stand at their numbers; what their mappings name and where their edges lead.
+-- Crates and features of a sheet stand under their numbers: what their mappings name and where their edges lead.
 use Rattle.std.proofs.Common.{◌≡◌, ◌⊎◌, inl, inr, ℕ, zero, suc, ◌+◌, Bool, true, false, cond, List, [], ◌∷◌, ◌++◌, map, length, Option, Some, Contains, slice_get, Ordering, Less, Equal, Greater, refl, sym, ap, ◌∙◌, subst, arith, nat_cmp}
 use Rattle.std.proofs.lemmas.Cmp.{nat_list_cmp_total}
 use Rattle.std.proofs.lemmas.Option.{none-some, same_Some}
@@ -28,7 +28,7 @@ use Rattle.krates_drawing.proofs.Holding.{holds}
 use Rattle.krates_drawing.proofs.Members.{Member, member_of, contains_of, mapped_of}
 use Rattle.krates_drawing.proofs.NodeNumbers.{both, and_true, id_is, id_same, text_is, text_same, HasCrate, crate_node}
 
--- ---- not below itself
+-- ---- nothing is below itself
 
 turned : (o : Ordering) → o ≡ ordering_reverse o → o ≡ Less → ⊥
 turned Less e h = cc e
@@ -58,7 +58,7 @@ feature_not_below a b s t e f h =
     let names : slice_cmp nat_cmp s s ≡ Less = ap (slice_cmp nat_cmp s) f ∙ then_less (id_order a b) (slice_cmp nat_cmp s t) ids h in
     turned (slice_cmp nat_cmp s s) (nat_list_cmp_total.antisymm s s) names
 
--- ---- crates at their numbers
+-- ---- crates under their numbers
 
 crate_below : (r : Resolved) (i : Identity) (is : List Identity) (ks : List Krate) (p : ℕ) (k : Krate) → AllZip (IsKrate r) is ks → AllByRecursion (λ j. id_cmp i j ≡ Less) is → slice_get ks p ≡ Some k
     → id_order (id_of i) k.id ≡ Less
@@ -81,7 +81,7 @@ own_crate r (i ∷ is) (x ∷ xs) z sorted (suc p) k at =
     let fails : is_crate k.id x ≡ false = not_same (is_crate k.id x) (λ h. id_not_below (id_of i) k.id (sym z.0.id ∙ id_is x.id k.id h) below) in
     ap (λ b. cond b 0 (suc (place_of (is_crate k.id) xs))) fails ∙ ap suc (own_crate r is xs z.1 sorted.1 p k at)
 
--- ---- features at theirs
+-- ---- features under theirs
 
 feature_below : (r : Resolved) (whole : Bool) (f : EnabledFeature) (fs : List EnabledFeature) (ns : List Named) (j : ℕ) (n : Named) → AllZip (IsNamed r whole) fs ns → AllByRecursion (λ g. feature_cmp f g ≡ Less) fs → slice_get ns j ≡ Some n
     → ordering_then (id_order (id_of f.krate) n.krate) (slice_cmp nat_cmp (text_view f.name) n.name) ≡ Less
@@ -111,7 +111,7 @@ own_feature r whole (f ∷ fs) (x ∷ xs) z sorted (suc j) n at =
 
 -- ---- nodes by number
 
--- a node is that of a crate, or that of a feature
+-- a node is the node of a crate or of a feature
 data NodeAt (t : Sheet) (p : ℕ) (s : Spot) : Type 0 where
   of_crate : (k : Krate) → slice_get t.krates p ≡ Some k → crate_spot t k ≡ s → NodeAt t p s
   of_feature : (j : ℕ) (n : Named) → slice_get t.features j ≡ Some n → length t.krates + j ≡ p → feature_spot t n ≡ s → NodeAt t p s

@@ -1,4 +1,4 @@
--- What a build keeps that ignores one more kind is what kept members reach without it.
+-- A build that ignores one more kind keeps exactly what kept members reach without edges of that kind.
 use Rattle.std.proofs.Common.{◌≡◌, inl, inr, ℕ, List, Contains, refl, sym, ap, ◌∙◌, subst}
 use Rattle.std.specs.Bool.{⊤}
 use Rattle.krates_rules.specs.Derivation.{Among, Derivable, follows}
@@ -30,13 +30,13 @@ use Rattle.krates_drawing.proofs.NodeNumbers.{Stands, crate_stands, one_number}
 
 -- ---- the two builds
 
--- a selection of the first setting, beside a setting that ignores one more kind
+-- a selection under the first setting, beside a setting that ignores one more kind
 record Pair (r : Resolved) (s : SettingModel) (g : IgnoredKinds) (k : DepKind) (t : Sheet) : Type 0 where
   more : IgnoresMore s.ignored g k scopes.All
   holds : Holds r s t
   within : (f : Fact) → Derivable (questions r (ignoring s g)) f → Derivable (questions r s) f
 
--- the node is reached without the kind
+-- the node is reached without edges of the kind
 abbrev ReachesEnd : Resolved → DepKind → Sheet → End → Type 0
 ReachesEnd r k t e = Reaches k (lines t) (IsMemberNumber r t) (number t e)
 
@@ -74,7 +74,7 @@ edge_reached r s g k t w e d here =
     subst (λ (z : Edge). ReachesEnd r k t (AtCrate z.child)) l.is
     (child_reached r s g k t w l.link l.member (λ same. other (ap (λ (z : Edge). kind_of z.kind) (sym l.is) ∙ same)) (subst (λ (z : Edge). ReachesEnd r k t (AtCrate z.parent)) (sym l.is) here))
 
--- what is reached of a fact
+-- the crate of a fact is reached
 abbrev ReachedFor : Resolved → DepKind → Sheet → Fact → Type 0
 ReachedFor r k t (Crate p) = ReachesEnd r k t (AtCrate p)
 ReachedFor r k t (Feature p f) = ReachesEnd r k t (AtCrate p)
@@ -124,7 +124,7 @@ filtered_in r s g k t w has p d = record {
 
 -- ---- and no other, where no feature is enabled and each member is a root
 
--- the crate is kept by the second; no feature is enabled
+-- the crate is kept under the second setting, with no feature enabled
 abbrev KeepsEnd : Questions → End → Type 0
 KeepsEnd q (AtCrate p) = Derivable q (Crate p)
 KeepsEnd q (AtFeature p f) = ⊥
@@ -149,7 +149,7 @@ arrow_keeps r s g k t w none _ _ _ (names n f at among) passes here = absurd her
 arrow_keeps r s g k t w none _ _ _ (names_crate n ids l at among means kept e) passes here = absurd here
 arrow_keeps r s g k t w none _ _ _ (names_feature n ids f l at among means kept e) passes here = absurd here
 
--- the number is that of a node, which is kept by the second
+-- the number of a node that is kept under the second setting
 record KeptNumber (r : Resolved) (s : SettingModel) (g : IgnoredKinds) (t : Sheet) (n : ℕ) : Type 0 where
   end : End
   stands : Stands t end

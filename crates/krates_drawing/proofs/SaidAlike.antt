@@ -1,4 +1,4 @@
--- What documents that differ in order alone say of crates, edges and names under a setting.
+-- What documents that differ only in order say about crates, edges and names under a setting.
 use Rattle.std.proofs.Common.{◌≡◌, ◌↔◌, ℕ, Contains, Some, sym, ap, ◌∙◌, subst}
 use Rattle.std.proofs.lemmas.Option.{same_Some}
 use Rattle.krates_cm.specs.Document.{Text, DependencyModel, DepKindInfoModel, PackageModel, NodeDepModel, NodeModel, ResolveModel, MetadataModel}
@@ -15,7 +15,7 @@ use Rattle.krates_resolve.specs.Selection.{edge_view, IsPlaced}
 use Rattle.krates_resolve.specs.declared.selection.KeptEdge.{KeptEdge}
 use Rattle.krates_document.proofs.DeclaredOnce.{one_first, declared_once}
 
--- the same is said of each fact, package, node, edge and name
+-- both say the same about each fact, package, node, edge and name
 pub record SaidAlike (r u : Resolved) (s : SettingModel) : Type 0 where
   pub facts : (f : Fact) → Derivable (questions r s) f ↔ Derivable (questions u s) f
   pub packages : (i : Id) (p q : PackageModel) → HasPackage r i p → HasPackage u i q → ReordersPackage p q
@@ -26,7 +26,7 @@ pub record SaidAlike (r u : Resolved) (s : SettingModel) : Type 0 where
 
 -- ---- the declared dependency
 
--- packages that differ in the order of their features declare the same
+-- packages that differ only in the order of their features declare the same dependencies
 pub dependencies_same : (p q : PackageModel) → ReordersPackage p q → p.dependencies ≡ q.dependencies
 dependencies_same p q w = sym (ap (λ (x : PackageModel). x.dependencies) w.rest)
 
@@ -52,7 +52,7 @@ place_alike r u s w a b same p q =
 
 -- ---- the whole
 
--- what has a derivation from the document has one from its graph
+-- what is derivable from the document is derivable from its graph
 derived : (m : MetadataModel) (g : ResolveModel) (s : SettingModel) (f : Fact) → m.resolve ≡ Some g → HasDerivation m s f → Derivable (questions (resolved m g) s) f
 derived m g s f has x = subst (λ z. Derivable (questions (resolved m z) s) f) (same_Some x.graph g (sym x.has_graph ∙ has)) x.holds
 

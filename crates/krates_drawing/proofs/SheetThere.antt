@@ -1,4 +1,4 @@
--- What is selected of a document is selected of one that differs from it in order alone, with the same sheet.
+-- A selection of a document is a selection of any that differs only in order, with the same sheet.
 use Rattle.std.proofs.Common.{◌≡◌, ℕ, List, [], length, unwrap_or, sym, ap, ◌∙◌, subst}
 use Rattle.std.proofs.lemmas.List.Elements.{All-contains, All-from_recursion}
 use Rattle.std.specs.List.{AllZip}
@@ -36,7 +36,7 @@ record Carried (r u : Resolved) (s : SettingModel) (x : Selection) : Type 0 wher
   deps : SayAlike r u
   selected : IsSelection r s x
 
--- ---- what stands in the first stands in the second
+-- ---- what stands in the first document stands in the second
 
 kept_there : (u : Resolved) (s : SettingModel) (i : Id) → Derivable (questions u s) (Crate i) → Stands u s i
 unfolding questions
@@ -59,7 +59,7 @@ feature_stands r u s x w f m =
 
 -- ---- the declared dependency
 
--- an edge that is kept there is declared there as it is here
+-- an edge that is kept in the second is declared there as in the first
 record DeclaredThere (r u : Resolved) (s : SettingModel) (e : Edge) (place : ℕ) (d : DependencyModel) (dep : NodeDepModel) : Type 0 where
   declared : IsDeclaredAt u s e place d
   same : dep ≡ declared.declares.dep

@@ -1,4 +1,4 @@
--- The ends of all drawn edges are nodes.
+-- Both ends of each drawn edge are nodes.
 use Rattle.std.proofs.Common.{List, [], ◌∷◌, length, inl, inr, refl, subst}
 use Rattle.std.proofs.lemmas.List.Elements.{All-from_recursion}
 use Rattle.std.specs.List.{AllByRecursion}

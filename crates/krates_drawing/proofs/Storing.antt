@@ -8,7 +8,7 @@ use Rattle.krates_drawing.specs.Stored.{IsStoredAs, LeadsAlong}
 use Rattle.krates_drawing.specs.declared.edge.Edge.{Edge}
 use Rattle.krates_drawing.proofs.Members.{member_of, contains_of, partner_of, swapped}
 
--- edges lead in the stored graph where drawn ones lead
+-- stored edges lead where drawn ones lead
 pub stored_leads : {E : Type 0} (made : Edge → E → Type 0) (nodes : List Spot) (ls : List Line) (gs : List (GraphEdge E)) (p d : ℕ) → AllZip (IsStoredAs made) ls gs → LeadsTo nodes ls p d ↔ LeadsAlong nodes gs p d
 stored_leads {E} made nodes ls gs p d z = (
   λ w.

@@ -29,7 +29,7 @@ then_eq Greater b = refl
 and_same : (a b c d : Bool) → a ≡ c → b ≡ d → (a && b) ≡ (c && d)
 and_same a b c d e f = ap (λ x. x && b) e ∙ ap (λ x. c && x) f
 
--- ids are equal by test where they compare so
+-- the test of equal ids agrees with their order
 pub equal_ids : (a b : Identity) → is_eq (id_cmp a b) ≡ id_eq (id_of a) (id_of b)
 equal_ids a b =
     let name = slice_cmp nat_cmp a.name b.name in
@@ -39,20 +39,20 @@ equal_ids a b =
     then_eq version source ∙ and_same _ _ _ _ (is_eq-slice_cmp a.version b.version) (is_eq-slice_cmp a.source b.source) in
     then_eq name (ordering_then version source) ∙ and_same _ _ _ _ (is_eq-slice_cmp a.name b.name) inner
 
--- and so are ids with names
+-- so does the test of ids with names
 pub equal_named : (a b : Identity) (f g : Text) → is_eq (ordering_then (id_cmp a b) (slice_cmp nat_cmp f g)) ≡ (id_eq (id_of a) (id_of b) && bytes_eq f g)
 equal_named a b f g = then_eq (id_cmp a b) (slice_cmp nat_cmp f g) ∙ and_same _ _ _ _ (equal_ids a b) (is_eq-slice_cmp f g)
 
--- and pairs of ids
+-- and of pairs of ids
 pub equal_pairs : (a b c d : Identity) → is_eq (ordering_then (id_cmp a b) (id_cmp c d)) ≡ (id_eq (id_of a) (id_of b) && id_eq (id_of c) (id_of d))
 equal_pairs a b c d = then_eq (id_cmp a b) (id_cmp c d) ∙ and_same _ _ _ _ (equal_ids a b) (equal_ids c d)
 
--- ---- tests of what is seen
+-- ---- tests of views
 
 step_place : (b c : Bool) (m n : ℕ) → b ≡ c → m ≡ n → cond b 0 (suc m) ≡ cond c 0 (suc n)
 step_place b c m n e f = ap (λ x. cond x 0 (suc m)) e ∙ ap (λ k. cond c 0 (suc k)) f
 
--- the place among what is seen is the place among all
+-- the first place among the views is the first place among the elements
 pub place_seen : {A B : Type 0} (v : A → B) (p : B → Bool) (q : A → Bool) (xs : List A) → ((x : A) → q x ≡ p (v x)) → place_of p (map v xs) ≡ place_of q xs
 place_seen v p q [] same = refl
 place_seen v p q (x ∷ xs) same = step_place (p (v x)) (q x) (place_of p (map v xs)) (place_of q xs) (sym (same x)) (place_seen v p q xs same)
@@ -63,7 +63,7 @@ step_filter v true false x ys xs e f = absurd cc
 step_filter v false true x ys xs e f = absurd cc
 step_filter v false false x ys xs e f = f
 
--- what is left of what is seen is what is seen of what is left
+-- filtering the views gives the views of what the filter leaves
 pub filter_seen : {A B : Type 0} (v : A → B) (p : B → Bool) (q : A → Bool) (xs : List A) → ((x : A) → q x ≡ p (v x)) → filter p (map v xs) ≡ map v (filter q xs)
 filter_seen v p q [] same = refl
 filter_seen v p q (x ∷ xs) same = step_filter v (p (v x)) (q x) x (filter p (map v xs)) (filter q xs) (sym (same x)) (filter_seen v p q xs same)
@@ -85,7 +85,7 @@ pair_cmp a b = ordering_then (id_cmp a.0 b.0) (id_cmp a.1 b.1)
 pub pairs_total : IsTotalOrder pair_cmp
 pairs_total = search (comparing, rules) depth 9
 
--- ---- lists in order, seen otherwise
+-- ---- lists sorted by another view
 
 all_as : {A B C : Type 0} (R : B → B → Ordering) (S : C → C → Ordering) (f : A → B) (g : A → C) → ((a b : A) → S (g a) (g b) ≡ R (f a) (f b)) → (x : A) (xs : List A) → AllByRecursion (λ y. R (f x) y ≡ Less) (map f xs) → AllByRecursion (λ y. S (g x) y ≡ Less) (map g xs)
 all_as R S f g same x [] h = tt
@@ -99,11 +99,11 @@ sorted_as R S f g same (x ∷ xs) h = (all_as R S f g same x xs h.0, sorted_as R
 abbrev pub feature_key : Named → Identity × Text
 feature_key n = (n.feature.krate, text_view n.feature.name)
 
--- features in order, by crate and name
+-- sorted features, by crate and name
 pub features_in_order : (xs : List Named) → IsStrictlySortedBy feature_cmp (map (λ n. n.feature) xs) → IsStrictlySortedBy named_cmp (map feature_key xs)
 features_in_order xs h = sorted_as feature_cmp named_cmp (λ (n : Named). n.feature) feature_key (λ a b. refl) xs h
 
--- ---- kept edges and toggled features in order
+-- ---- sorted kept edges and toggled features
 
 first_low : (a b : Ordering) → ordering_then a b ≡ Less → a ≡ Greater → ⊥
 first_low Less b e g = cc g
@@ -120,11 +120,11 @@ second_low Less b c same e g = cc same
 second_low Equal b c same e g = first_low b c e g
 second_low Greater b c same e g = cc same
 
--- edges in order rise by parent
+-- the parents of sorted edges never fall
 pub links_by_parent : (xs : List Link) (p : Identity) → IsStrictlySortedBy place_cmp (map (λ l. l.edge) xs) → IsNonDecreasingBy (λ (l : Link). ordering_index (id_cmp l.edge.parent p)) xs
 links_by_parent xs p sorted = rises_weakly ids_total (λ (l : Link). l.edge.parent) xs p (λ i j d l lt. first_low _ _ (below_later place_cmp (λ (l : Link). l.edge) xs i j d sorted l lt))
 
--- edges from a crate in order rise by child
+-- the children of sorted edges from one crate never fall
 pub links_by_child : (mine : List Link) (q : Identity) → AreByChild mine → IsNonDecreasingBy (λ (l : Link). ordering_index (id_cmp l.edge.child q)) mine
 links_by_child mine q by = rises_weakly ids_total (λ (l : Link). l.edge.child) mine q by
 
@@ -142,7 +142,7 @@ toggled_by_pair xs p q sorted =
     let b = get_or xs j d in
     pair_low (id_cmp a.by b.by) (id_cmp a.krate b.krate) (slice_cmp nat_cmp (text_view a.name) (text_view b.name)) (below_later toggled_cmp (λ (t : ToggledFeature). t) xs i j d (subst (IsStrictlySortedBy toggled_cmp) (sym (itself xs)) sorted) l lt))
 
--- the edges from a crate are in order by child
+-- the edges from one crate are sorted by child
 pub cut_by_child : (xs mine : List Link) (p : Identity) → IsStrictlySortedBy place_cmp (map (λ l. l.edge) xs) → IsCut (λ (l : Link). id_cmp l.edge.parent p) xs mine → AreByChild mine
 cut_by_child xs mine p sorted w i j d l lt greater =
     let here = stands_in (λ (l : Link). id_cmp l.edge.parent p) xs mine w i d (omega (arith, l, lt)) in
@@ -170,7 +170,7 @@ step_any : {A : Type 0} (b : Bool) (x : A) (xs : List A) (rest : Bool) → rest 
 step_any true x xs rest e = sym (ap not (not_none (length xs)))
 step_any false x xs rest e = e
 
--- some element passes where those that pass aren't none
+-- some element passes if the filter leaves any
 pub any_filter : {A : Type 0} (p : A → Bool) (xs : List A) → list_any p xs ≡ not (length (filter p xs) == 0)
 any_filter p [] = refl
 any_filter p (x ∷ xs) = step_any (p x) x (filter p xs) (list_any p xs) (any_filter p xs)

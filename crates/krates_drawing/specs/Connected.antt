@@ -38,6 +38,6 @@ pub record IsConnected (t : Sheet) : Type 0 where
   -- the node of a crate has the number of the crate
   pub crates : (p : ℕ) (id : Id) (mapping : List (Option ℕ)) → slice_get (spots t) p ≡ Some (CrateSpot id mapping) → IsNumbered t id p
 
--- so it is of the sheet of every selection
+-- it holds of the sheet of every selection
 abbrev pub AreConnected : Type 0
 AreConnected = (r : Resolved) (s : SettingModel) (x : Selection) → IsSelection r s x → (t : Sheet) → IsSheet r s x t → IsConnected t

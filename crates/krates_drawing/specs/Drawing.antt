@@ -13,7 +13,7 @@ use Rattle.krates_drawing.specs.Sheet.{Krate, Link, Meaning, OwnFeature, Crates,
 abbrev pub id_eq : Id → Id → Bool
 id_eq a b = bytes_eq a.name b.name && (bytes_eq a.version b.version && bytes_eq a.source b.source)
 
--- the place of the first element that passes; past the end where none does
+-- the place of the first element that passes; past the end if none does
 abbrev pub place_of : {A : Type 0} → (A → Bool) → List A → ℕ
 place_of p [] = 0
 place_of p (x ∷ xs) = if p x then 0 else suc (place_of p xs)
@@ -37,7 +37,7 @@ is_feature q f n = id_eq n.krate q && bytes_eq n.name f
 abbrev pub crate_number : Sheet → Id → ℕ
 crate_number t q = place_of (is_crate q) t.krates
 
--- behind all crates, the place of a feature among the enabled ones
+-- after all crates, the place of a feature among the enabled ones
 abbrev pub feature_number : Sheet → Id → Text → ℕ
 feature_number t q f = length t.krates + place_of (is_feature q f) t.features
 
@@ -66,7 +66,7 @@ line t from to tie = record { source = number t from; target = number t to; tie 
 
 -- ---- first part: what each crate uses
 
--- a `Dep` where the kept edge gives no feature, else a `DepFeature` for each that it gives
+-- a `Dep` if the kept edge gives no feature, otherwise a `DepFeature` for each that it gives
 unfoldable pub uses : Sheet → Link → List Text → List Line
 uses t l [] = line t (AtCrate l.edge.parent) (AtCrate l.edge.child) (Dep (kind_of l.edge.kind) l.edge.cfg) ∷ []
 uses t l (f ∷ fs) = map (λ g. line t (AtCrate l.edge.parent) (AtFeature l.edge.child g) (DepFeature (kind_of l.edge.kind) l.edge.cfg)) (f ∷ fs)
@@ -131,7 +131,7 @@ lines t = flat_map (crate_lines t) t.krates ++ flat_map (feature_lines t) t.feat
 
 -- ---- the mapping of a crate
 
--- the last of a list, or the one before where the list is empty
+-- the last of a list, or the one before if the list is empty
 abbrev pub last_from : {A : Type 0} → Option A → List A → Option A
 last_from o [] = o
 last_from o (x ∷ xs) = last_from (Some x) xs

@@ -1,4 +1,4 @@
--- What is printed of an edge.
+-- The text that is printed for an edge.
 use Rattle.std.specs.Prelude.{◌++◌, [], Option, Some, None, codes}
 use Rattle.krates_cm.specs.Document.{Text}
 use Rattle.krates_rules.specs.declared.kind.DepKind.{DepKind}
@@ -11,7 +11,7 @@ purpose_text kinds.Normal = []
 purpose_text kinds.Build = codes "(build)"
 purpose_text kinds.Dev = codes "(dev)"
 
--- a blank and the target in quotes, where the edge is for one
+-- a blank and the target in quotes, if the edge is for one
 abbrev pub target_text : Option Text → Text
 target_text None = []
 target_text (Some cfg) = codes " '" ++ cfg ++ codes "'"

@@ -1,4 +1,4 @@
--- What is found in a document of kept crates and edges, or what isn't there.
+-- What is found in a document about kept crates and edges, or what is missing there.
 use Rattle.std.specs.Prelude.{◌≡◌, ℕ, Bool, List, Some, None, filter, length, slice_get}
 use Rattle.std.specs.List.{AllZip}
 use Rattle.krates_cm.specs.Document.{Text, text_view, DependencyModel, PackageModel, NodeModel}
@@ -20,6 +20,6 @@ pub data GivenTold (r : Resolved) (e : KeptEdge) (given : List Text) : Type 0 wh
   gives : (p : PackageModel) (n : NodeModel) (d : DependencyModel) → HasPackage r (id_of e.parent) p → HasNode r (id_of e.child) n → slice_get p.dependencies e.declared ≡ Some d
       → given ≡ filter (has_text n.features) (asked_by d) → GivenTold r e given
 
--- what the references of the feature name, where its crate has a package
+-- what the references of the feature name, if its crate has a package
 abbrev pub MeaningsTold : Resolved → Bool → EnabledFeature → List Meaning → Type 0
 MeaningsTold r all f meanings = (p : PackageModel) → HasPackage r (id_of f.krate) p → AllZip (IsMeaning r all (id_of f.krate)) (values_of p.features (text_view f.name)) meanings

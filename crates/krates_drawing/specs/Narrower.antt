@@ -9,7 +9,7 @@ use Rattle.krates_resolve.specs.declared.selection.Selection.{Selection}
 use Rattle.krates_drawing.specs.Drawing.{lines, spots}
 use Rattle.krates_drawing.specs.Sheet.{Sheet, IsSheet}
 
--- the first list is the second, but for elements that are left out
+-- the first list is the second with some elements left out
 pub data IsPart {X : Type 0} : List X → List X → Type 0 where
   nothing : IsPart [] []
   keeps : {x : X} {xs ys : List X} → IsPart xs ys → IsPart (x ∷ xs) (x ∷ ys)

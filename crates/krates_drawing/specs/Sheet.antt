@@ -1,4 +1,4 @@
--- A selection with what drawing has to know of it: beside each crate, edge and feature what the document says of it.
+-- A selection with what drawing has to know: beside each crate, edge and feature what the document says about it.
 use Rattle.std.specs.Prelude.{◌≡◌, ℕ, Bool, List, [], ◌∷◌, ◌++◌, filter, length, map, if◌then◌else◌}
 use Rattle.std.specs.List.{AllZip, list_any}
 use Rattle.std.specs.Str.{bytes_eq}

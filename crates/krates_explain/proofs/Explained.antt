@@ -40,7 +40,7 @@ use Rattle.krates_steps.specs.Picked.{ArePicked, FirstsFollow, FirstsHaveOwnFact
 abbrev pub uses_of : List NumberedStep → List Uses
 uses_of steps = map (λ (x : NumberedStep). x.reason.uses) steps
 
--- the steps use what their numbers say
+-- the steps use what their numbers stand for
 pub shown_uses : (r : Resolved) (steps : List NumberedStep) (whole : List StepModel) → AllZip (IsShown r) steps whole → UseThese whole (uses_of steps)
 shown_uses r [] [] z = refl
 shown_uses r [] (y ∷ ys) z = absurd z
@@ -57,7 +57,7 @@ follow_backward q whole uses these each k x at u among =
     let e = right_of (IsEarlier whole k) y.0.uses f.premises j.0 u f.uses (ap (λ us. slice_get us j.0) y.2 ∙ j.1) in
     e.2.before
 
--- each fact of a trace is one about kept crates
+-- each fact of a trace is about kept crates
 pub kept_facts : (t : Tables) (s : SettingModel) (steps : List NumberedStep) → (tr : IsTrace (document_in t) s steps) → ((i : Id) → Derivable (questions (document_in t) s) (Crate i) → IsKeptIn (kids_in t) i) → AreKeptFacts t steps
 kept_facts t s steps tr crates k d lt =
     let r = document_in t in
@@ -66,14 +66,14 @@ kept_facts t s steps tr crates k d lt =
     let derived = contained_derived (questions r s) tr.steps tr.follows w.0 (contains_at tr.steps k w.0 w.1) in
     record { fact = w.0.fact; names = w.2.fact; kept = kept_crates (questions r s) r (kids_in t) crates x.fact w.0.fact w.2.fact derived }
 
--- what stands at a place
+-- an element at a place
 kept_at : {A : Type 0} (xs : List A) (j : ℕ) → j < length xs → (y : A) × (slice_get xs j ≡ Some y)
 kept_at [] j low = absurd (omega (arith, low))
 kept_at (x ∷ xs) zero low = (x, refl)
 kept_at (x ∷ xs) (suc j) low = kept_at xs j (omega (arith, low))
 
 module _ (tells : OrderTellsSame) (t : Tables) (s : SettingModel) (steps : List NumberedStep) (keys : List FactKey) (sorted : IsStrictlySortedBy id_cmp (kids_in t)) (tr : IsTrace (document_in t) s steps) (keyed : AllZip (IsKeyOf t) (numbered_facts steps) keys) where
-  -- a step of the derivation has a key, which says its fact
+  -- each step of the derivation has a key, which says its fact
   key_of : (k : ℕ) (x : StepModel) → slice_get tr.steps k ≡ Some x → (key : FactKey) × (slice_get keys k ≡ Some key) × (fact_in (kids_in t) (key_view key) ≡ x.fact) × IsBelow (length (kids_in t)) (key_view key)
   key_of k x at =
       let fact : NumberedStep → NumberedFact = λ y. y.fact in
@@ -87,7 +87,7 @@ module _ (tells : OrderTellsSame) (t : Tables) (s : SettingModel) (steps : List 
       let same : w.0 ≡ key = same_Some w.0 key (sym w.1 ∙ there) in
       (ap (λ (z : FactKey). fact_in (kids_in t) (key_view z)) (sym same) ∙ w.2, subst (λ (z : FactKey). IsBelow (length (kids_in t)) (key_view z)) same w.3)
 
-  -- steps have the same number exactly where they have the same fact
+  -- two steps have the same number exactly where they have the same fact
   pub have_facts : (numbers : List ℕ) → AreFactNumbers (map key_view keys) numbers → HaveTheseFacts tr.steps numbers
   have_facts numbers n j k x y at there =
       let a = key_of j x at in
@@ -97,7 +97,7 @@ module _ (tells : OrderTellsSame) (t : Tables) (s : SettingModel) (steps : List 
         λ e. same.1 (same_in tells (kids_in t) sorted (key_view a.0) (key_view b.0) a.3 b.3 (a.2 ∙ e ∙ sym b.2)),
       )
 
-  -- what a chosen step stands for
+  -- the step that a chosen step stands for
   picked_at : (part : List Uses) (chosen : List ℕ) (number : ℕ) (z : KeptStep) → IsChosenIn keys steps chosen part number z → IsPicked tr.steps chosen part number (step_in (kids_in t) z)
   picked_at part chosen number z c =
       let old = right_of (IsShown (document_in t)) steps tr.steps c.number c.is.step tr.shown c.is.step_at in
@@ -148,7 +148,7 @@ module _ (tells : OrderTellsSame) (t : Tables) (s : SettingModel) (steps : List 
       contains_at (facts_in (steps_in (kids_in t) kept)) now f
       (slice_get-map step (steps_in (kids_in t) kept) now ∙ ap (option_map step) (slice_get-map (step_in (kids_in t)) kept now ∙ ap (option_map (step_in (kids_in t))) z.1) ∙ ap (λ (g : Fact). Some g) (p.fact ∙ same ∙ is))
 
-  -- the first steps explain what the trace does
+  -- the first steps explain all that the trace does
   pub steps_are : ReadsOnce → FirstsFollow → FirstsHaveOwnFacts → (numbers : List ℕ) (uses part : List Uses) (chosen : List ℕ) (kept : List KeptStep) → AreFactNumbers (map key_view keys) numbers → uses ≡ uses_of steps
       → IsPartBy (SameFact numbers) uses chosen part → HaveOwnNumbers numbers chosen → ((k : ℕ) → k < length uses → IsChosenFor numbers chosen k) → AreChosen keys steps chosen part kept
       → AreStepsOf (document_in t) s (kids_in t) steps kept

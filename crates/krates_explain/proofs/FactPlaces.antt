@@ -1,4 +1,4 @@
--- The last places of facts among keys, filled place by place, and the numbers that they give.
+-- The last place of each fact among the keys, filled place by place, and the numbers that they give.
 use Rattle.std.proofs.Common.{◌≡◌, ◌↔◌, ℕ, ◌+◌, ◌<◌, ◌≤◌, List, [], ◌∷◌, length, get_or, map, Bool, true, false, cond, Option, Some, None, MatchOption, option_map, Ordering, Less, Equal, Greater, refl, sym, ap, ◌∙◌, subst, inl, inr, arith}
 use Rattle.std.proofs.lemmas.Bool.{cases_order}
 use Rattle.std.proofs.lemmas.List.{length-map}
@@ -23,7 +23,7 @@ equal_is o e = rw e refl
 
 -- ---- the map, filled place by place
 
--- the fact stands at the place, and at no later one below this
+-- the fact stands at this place, and at no later one below the bound
 pub record IsLastBelow (all : List KeptModel) (x : KeptModel) (i n : ℕ) : Type 0 where
   pub at : slice_get all n ≡ Some x
   pub last : (m : ℕ) → m < i → slice_get all m ≡ Some x → m ≤ n
@@ -34,7 +34,7 @@ IsPlaceBelow all x i answer = MatchOption answer ((n : ℕ) → n < i → slice_
 abbrev pub ArePlacesBelow : List KeptModel → ℕ → BTreeMap FactKey ℕ → Type 0
 ArePlacesBelow all i m = (q : FactKey) → IsPlaceBelow all (key_view q) i (get key_cmp m q)
 
--- what the map answers for a fact, where the new one is the same or another
+-- what the map returns for a fact, whether the new one is the same or another
 place_step : (all : List KeptModel) (i : ℕ) (k q : KeptModel) (o : Option ℕ) (b : Bool) → slice_get all i ≡ Some k → (b ≡ true → k ≡ q) → (k ≡ q → b ≡ true) → IsPlaceBelow all q i o → IsPlaceBelow all q (i + 1) (cond b (Some i) o)
 place_step all i k q o true here there back h = record { at = here ∙ ap (λ (x : KeptModel). Some x) (there refl); last = λ m lt s. omega (arith, lt) }
 place_step all i k q (Some n) false here there back h = record {
@@ -55,7 +55,7 @@ place_step all i k q None false here there back h = λ n lt s. elim (cases_order
   | inr r ↦ elim r [ inl l ↦ h n l s | inr l ↦ absurd (omega arith) ]
 ]
 
--- one more fact is put in
+-- one more fact is inserted
 pub places_more : (xs : List FactKey) (i : ℕ) (k : FactKey) (old new : BTreeMap FactKey ℕ) → i < length xs → k ≡ get_or xs i k
     → ((q : FactKey) → get key_cmp new q ≡ cond (is_eq (key_cmp k q)) (Some i) (get key_cmp old q)) → ArePlacesBelow (map key_view xs) i old → ArePlacesBelow (map key_view xs) (i + 1) new
 places_more xs i k old new lt is grown h q =
@@ -78,7 +78,7 @@ places_whole xs i m le h q =
 abbrev pub HasPlace : List KeptModel → KeptModel → ℕ → Type 0
 HasPlace all x n = IsLastAt all x n
 
--- a fact that is among them has a place
+-- a fact that is among the keys has a place
 pub place_there : (xs : List FactKey) (i : ℕ) (k : FactKey) (m : BTreeMap FactKey ℕ) → i < length xs → k ≡ get_or xs i k → ArePlaces (map key_view xs) m → get key_cmp m k ≡ None → ⊥
 place_there xs i k m lt is h none =
     let here : slice_get (map key_view xs) i ≡ Some (key_view k) = slice_get-map key_view xs i ∙ ap (option_map key_view) (slice_get_read xs (length xs) i k refl lt is) in

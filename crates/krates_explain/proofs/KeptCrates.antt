@@ -1,4 +1,4 @@
--- The crates of a derivable fact are kept, and facts by number are told apart by what they say.
+-- The crates of a derivable fact are kept, and facts by number differ where what they say differs.
 use Rattle.std.proofs.Common.{◌≡◌, ◌<◌, inl, inr, ℕ, List, [], ◌∷◌, get_or, length, Equal, refl, sym, ap, ◌∙◌, subst, arith}
 use Rattle.std.proofs.lemmas.Bool.{cases_order}
 use Rattle.std.specs.Bool.{⊤}
@@ -18,7 +18,7 @@ use Rattle.krates_rules.specs.Facts.{Id, Edge, Fact, Crate, Feature, Kept, Toggl
 use Rattle.krates_rules.specs.Resolved.{Resolved, id_of}
 use Rattle.krates_rules.specs.Rules.{Questions, Rule, feature_crate, asked, toggled_strongly, required, target, toggled_weakly}
 
--- ---- what is below a fact
+-- ---- what a fact is derived from
 
 one : (q : Questions) (f : Fact) → Derivable q f → (g : Fact) → Among g (f ∷ []) → Derivable q g
 one q f d g (inl e) = subst (λ z. Derivable q z) (sym e) d
@@ -30,7 +30,7 @@ crate_of_feature q p f d = follows (feature_crate {p = p} {f = f}) (one q (Featu
 child_kept : (q : Questions) (e : Edge) → Derivable q (Kept e) → Derivable q (Crate e.child)
 child_kept q e d = follows (target {e = e}) (one q (Kept e) d)
 
--- the crate that has the dependency is kept
+-- the crate with the dependency is kept
 abbrev ParentFrom : Questions → Fact → Type 0
 ParentFrom q (Kept e) = Derivable q (Crate e.parent)
 ParentFrom q _ = ⊤
@@ -43,7 +43,7 @@ parent_from q _ _ _ _ ds = tt
 parent_kept : (q : Questions) (e : Edge) → Derivable q (Kept e) → Derivable q (Crate e.parent)
 parent_kept q e (follows r ds) = parent_from q _ _ (Kept e) r ds
 
--- a feature is toggled over a kept edge
+-- a feature is toggled through a kept edge
 abbrev ToggledFrom : Questions → Fact → Type 0
 ToggledFrom q (Toggled p c g) = Derivable q (Crate p) × Derivable q (Crate c)
 ToggledFrom q _ = ⊤
@@ -56,7 +56,7 @@ toggled_from q _ _ _ _ ds = tt
 toggled_kept : (q : Questions) (p c : Id) (g : Text) → Derivable q (Toggled p c g) → Derivable q (Crate p) × Derivable q (Crate c)
 toggled_kept q p c g (follows r ds) = toggled_from q _ _ (Toggled p c g) r ds
 
--- the crates of a fact that has numbers are kept
+-- the crates of a derivable fact that has numbers are kept
 pub kept_crates : (q : Questions) (r : Resolved) (kids : List Identity) → ((i : Id) → Derivable q (Crate i) → IsKeptIn kids i) → (n : NumberedFact) (f : Fact) → Names r n f → Derivable q f → HasKeptCrates kids f
 kept_crates q r kids crates (numbered.Crate place) f names d = subst (HasKeptCrates kids) (sym names.is) (crates names.krate (subst (Derivable q) names.is d))
 kept_crates q r kids crates (numbered.Feature number) f names d = subst (HasKeptCrates kids) (sym names.is) (crates names.krate (crate_of_feature q names.krate names.name (subst (Derivable q) names.is d)))
@@ -88,7 +88,7 @@ one_number tells kids sorted i j a b e = elim (cases_order i j) [
   | inr r ↦ elim r [ inl low ↦ absurd (apart tells kids sorted i j low b e) | inr low ↦ absurd (apart tells kids sorted j i low a (sym e)) ]
 ]
 
--- facts that say the same are the same
+-- facts by number that say the same are the same
 pub same_in : OrderTellsSame → (kids : List Identity) → IsStrictlySortedBy id_cmp kids → (f g : KeptModel) → IsBelow (length kids) f → IsBelow (length kids) g → fact_in kids f ≡ fact_in kids g → f ≡ g
 same_in tells kids sorted (KeepsCrate i) (KeepsCrate j) a b e =
     let x : id_at kids i ≡ id_at kids j = cc in

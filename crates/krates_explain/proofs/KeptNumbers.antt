@@ -21,7 +21,7 @@ use Rattle.krates_rules.specs.Admission.{AreDepIds, dep_texts}
 use Rattle.krates_rules.specs.Facts.{Id}
 use Rattle.krates_rules.specs.Resolved.{DepAt, NodeAt, id_of}
 
--- ---- what a search answers
+-- ---- what a search returns
 
 pub not_found : (ids : List Identity) (q : Identity) (r : Result ℕ ℕ) (i : ℕ) → IsKeptIn ids (id_of q) → r ≡ Err i → IsNumberOf (map id_of ids) (id_of q) (result_ok r) → ⊥
 not_found ids q r i kept e found =
@@ -35,14 +35,14 @@ found_id ids q r n e found =
 
 -- ---- what stands at a place
 
--- the node at the place has the id there
+-- the node at a place has the id at that place
 pub node_there : (d : Lookup) (place : ℕ) (k : Identity) → IsLookup d → place < length d.ids.now.nodes.items → k ≡ get_or d.ids.now.nodes.items place k → NodeAt (resolved_view d) (id_of k) place
 node_there d place k h lt is =
     let nodes = d.ids.now.nodes.items in
     let w = at_place (λ (n : NodeModel). n.id) (resolved_view d).graph.nodes nodes (id_of k) place h.ids.nodes (record { there = k; at = slice_get_read nodes (length nodes) place k refl lt is; same = refl }) in
     record { node = w.0; at = w.1; id = w.2 }
 
--- the ids at the place are those of the dependencies of the node there
+-- the ids at a place are those of the dependencies of the node there
 pub child_ids : (d : Lookup) (p c : Id) (place index : ℕ) (ids : Vec Identity) → IsLookup d → (w : DepAt (resolved_view d) p c place index) → place < length d.ids.now.deps.items → ids ≡ get_or d.ids.now.deps.items place ids
     → AreDepIds w.node.node ids.items
 child_ids d p c place index ids h w lt is =
@@ -57,7 +57,7 @@ child_read n ids index dep z at =
     let pkg : NodeDepModel → Text = λ e. e.pkg in
     right_of Reads (dep_texts n) ids index dep.pkg z.read (slice_get-map pkg n.deps index ∙ ap (option_map pkg) at)
 
--- it is that of the crate that the dependency leads to
+-- it is the id of the crate to which the dependency leads
 pub child_is : ReadsOnce → (d : Lookup) (p c : Id) (place index : ℕ) (ids : List Identity) (k : Identity) → (w : DepAt (resolved_view d) p c place index) → AreDepIds w.node.node ids → index < length ids → k ≡ get_or ids index k → id_of k ≡ c
 child_is once d p c place index ids k w z lt is =
     let y = child_read w.node.node ids index w.dep z w.at in

@@ -17,7 +17,7 @@ use Rattle.krates_resolve.specs.declared.trace.NumberedFact.TheVariants as numbe
 use Rattle.krates_rules.specs.Facts.{Id, Edge, Crate, Feature, Kept, Toggled}
 use Rattle.krates_rules.specs.Resolved.{NodeAt}
 
--- the feature that stands at the number
+-- the feature of this number
 pub feature_is : (t : Tables) (number place n : ℕ) (name : Text) (i : Id) (f : Text) → (at : FeatureAt (document_in t) i f number) → slice_get (listed_features (document_in t)) number ≡ Some (place, name)
     → ((j : Id) → NodeAt (document_in t) j place → id_at (kids_in t) n ≡ j) → (id_at (kids_in t) n ≡ i) × (name ≡ f)
 feature_is t number place n name i f at here is =

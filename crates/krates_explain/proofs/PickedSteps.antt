@@ -23,13 +23,13 @@ pushed_at [] y (suc k) x at = absurd cc
 pushed_at (z ∷ zs) y zero x at = inl at
 pushed_at (z ∷ zs) y (suc k) x at = elim (pushed_at zs y k x at) [ inl h ↦ inl h | inr h ↦ inr (ap suc h.0, h.1) ]
 
--- what stands in a list as it is seen stands in the list
+-- an element of the list of views is the view of an element
 pub seen_back : {A B : Type 0} (f : A → B) (xs : List A) (k : ℕ) (y : B) → slice_get (map f xs) k ≡ Some y → (x : A) × (slice_get xs k ≡ Some x) × (f x ≡ y)
 seen_back f [] k y at = absurd cc
 seen_back f (x ∷ xs) zero y at = (x, refl, same_Some (f x) y at)
 seen_back f (x ∷ xs) (suc k) y at = seen_back f xs k y at
 
--- each so far holds at its place
+-- the property holds of each element so far, at its place
 pub record EachSoFar {A : Type 0} (P : ℕ → A → Type 0) (n : ℕ) (xs : List A) : Type 0 where
   pub long : length xs ≡ n
   pub each : (k : ℕ) (x : A) → slice_get xs k ≡ Some x → P k x
@@ -46,7 +46,7 @@ one_more P n xs y h here = record {
   ];
 }
 
--- ---- a part, told
+-- ---- a part, as steps with ids
 
 abbrev pub IsPickedStep : Explanation → List ℕ → List Uses → ℕ → Step → Type 0
 IsPickedStep e chosen part k x = IsPicked (explained_steps e) chosen part k (step_view x)
@@ -80,7 +80,7 @@ all_picked e chosen items part n steps same low high h = record {
 
 -- ---- chosen steps
 
--- one more is chosen
+-- one more step is chosen
 pub chosen_next : (keys : List FactKey) (steps : List NumberedStep) (chosen items : List ℕ) (part : List Uses) (place : ℕ) (key : FactKey) (u : Uses) (old new : List KeptStep) (y : KeptStep) (d : NumberedStep) → new ≡ old ++ y ∷ []
     → y.rule ≡ (get_or steps (get_or items place 0) d).reason.rule → y.uses ≡ u → kept_view y.fact ≡ key_view key → items ≡ chosen → place < length items → length part ≡ length chosen → length keys ≡ length steps → All (λ n. n < length steps) chosen
     → key ≡ get_or keys (get_or items place 0) key → u ≡ get_or part place u → EachSoFar (IsChosenIn keys steps chosen part) place old → EachSoFar (IsChosenIn keys steps chosen part) (place + 1) new

@@ -1,4 +1,4 @@
--- Parts of the kept steps, told.
+-- Parts of the kept steps, with ids in place of numbers.
 use Rattle.std.proofs.Common.{◌≡◌, ℕ, ◌+◌, ◌<◌, List, [], ◌∷◌, ◌++◌, All, None, length, get_or, take, refl, sym, ap, ◌∙◌, subst, arith}
 use Rattle.std.proofs.lemmas.List.{map-append, take_more}
 use Rattle.std.proofs.lemmas.Option.{slice_get-get_or, slice_get_within, get_or_from_slice_get}
@@ -15,12 +15,12 @@ use Rattle.krates_rules.specs.declared.uses.Uses.{Uses}
 use Rattle.krates_steps.specs.Part.{IsPartBy}
 use Rattle.krates_steps.specs.Picked.{UseThese}
 
--- the steps use what their numbers say
+-- the steps use what their numbers stand for
 pub use_these : (kids : List Identity) (steps : List KeptStep) → UseThese (steps_in kids steps) (uses_in steps)
 use_these kids [] = refl
 use_these kids (x ∷ xs) = ap (λ us. numbers_used x.uses ∷ us) (use_these kids xs)
 
--- what is chosen stands in the whole list
+-- what is chosen is a place of the whole list
 pub chosen_low : (Same : ℕ → ℕ → Type 0) (steps part : List Uses) (chosen : List ℕ) → IsPartBy Same steps chosen part → All (λ n. n < length steps) chosen
 chosen_low Same steps part chosen p k d lt =
     let none : Uses = record { first = None; second = None } in
@@ -28,7 +28,7 @@ chosen_low Same steps part chosen p k d lt =
     let r = p.each k (get_or part k none) (slice_get-get_or part k none within) in
     subst (λ n. n < length steps) (sym (get_or_from_slice_get chosen k r.before d r.chosen_at)) (slice_get_within steps r.before r.old r.at)
 
--- one more fact is told
+-- one more fact
 pub facts_more : (kids : List Identity) (xs : List KeptStep) (i : ℕ) (x : KeptStep) (old : List ToldFact) (y : ToldFact) → i < length xs → x ≡ get_or xs i x → fact_view y ≡ fact_in kids (kept_view x.fact)
     → facts_view old ≡ facts_in (steps_in kids (take i xs)) → facts_view (old ++ y ∷ []) ≡ facts_in (steps_in kids (take (i + 1) xs))
 facts_more kids xs i x old y lt is told h =

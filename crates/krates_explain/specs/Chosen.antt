@@ -7,7 +7,7 @@ use Rattle.krates_explain.specs.declared.key.FactKey.{FactKey}
 use Rattle.krates_resolve.specs.declared.trace.NumberedStep.{NumberedStep}
 use Rattle.krates_rules.specs.declared.uses.Uses.{Uses}
 
--- the step has the fact of the key and the rule at this place, and uses these
+-- the step has the fact of the key and the rule at this place, and uses these steps
 pub record IsChosenAt (keys : List FactKey) (steps : List NumberedStep) (number : ℕ) (uses : Uses) (x : KeptStep) : Type 0 where
   pub key : FactKey
   pub key_at : slice_get keys number ≡ Some key

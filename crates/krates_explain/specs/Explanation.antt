@@ -33,7 +33,7 @@ pub record IsExplanation (e : Explanation) : Type 0 where
   pub below : AreBelow (length e.kids.items) e.steps.items
   pub backward : AreBackward (uses_in e.steps.items)
 
--- the step that says this, or none where no step does
+-- the number of the step with this fact
 pub record IsStepOf (steps : List KeptStep) (f : KeptModel) (number : ℕ) : Type 0 where
   pub step : KeptStep
   pub at : slice_get steps number ≡ Some step
@@ -42,9 +42,9 @@ pub record IsStepOf (steps : List KeptStep) (f : KeptModel) (number : ℕ) : Typ
 abbrev pub TellsStep : List KeptStep → KeptModel → Option ℕ → Type 0
 TellsStep steps f answer = MatchOption answer (All (λ (x : KeptStep). kept_view x.fact ≡ f → ⊥) steps) (IsStepOf steps f)
 
--- ---- what is told
+-- ---- derivations, with ids
 
--- the ids in the fact are of these, with their texts
+-- the ids in the fact are among these, with their texts
 abbrev pub HasTheseIds : List Identity → ToldFact → Type 0
 HasTheseIds kids (told.Crate krate) = Contains kids krate
 HasTheseIds kids (told.Feature krate name) = Contains kids krate

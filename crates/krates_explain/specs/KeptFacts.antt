@@ -1,4 +1,4 @@
--- Facts by the numbers of the kept crates, and what they say where the crates have these ids.
+-- Facts by the numbers of the kept crates, and what they say for crates with these ids.
 use Rattle.std.specs.Prelude.{ℕ, ◌<◌, List, [], Option, get_or, map, option_map}
 use Rattle.krates_cm.specs.Document.{Text, text_view}
 use Rattle.krates_cm.specs.declared.dependency.DependencyKind.{DependencyKind}
@@ -14,7 +14,7 @@ use Rattle.krates_rules.specs.Resolved.{id_of}
 use Rattle.krates_rules.specs.Steps.{StepModel}
 use Rattle.krates_rules.specs.Uses.{numbers_used}
 
--- a fact, the crates by number
+-- a fact, with crates by number
 pub data KeptModel : Type 0 where
   KeepsCrate : (krate : ℕ) → KeptModel
   Enables : (krate : ℕ) (name : Text) → KeptModel
@@ -41,7 +41,7 @@ IsBelow n (Toggles by krate name) = (by < n) × (krate < n)
 
 -- ---- what they say
 
--- the id of a number that none has
+-- the id under a number that no crate has
 abbrev pub no_id : Id
 no_id = record { name = []; version = []; source = [] }
 
@@ -52,7 +52,7 @@ id_at kids n = get_or (map id_of kids) n no_id
 abbrev pub edge_in : List Identity → ℕ → ℕ → DependencyKind → Option Text → Edge
 edge_in kids parent child kind cfg = record { parent = id_at kids parent; child = id_at kids child; kind = kind; cfg = cfg }
 
--- the fact, of crates with these ids
+-- the fact, for crates with these ids
 abbrev pub fact_in : List Identity → KeptModel → Fact
 fact_in kids (KeepsCrate krate) = Crate (id_at kids krate)
 fact_in kids (Enables krate name) = Feature (id_at kids krate) name

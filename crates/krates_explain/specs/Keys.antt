@@ -37,12 +37,12 @@ key_cmp = (key_order.ghosts).cmp
 
 -- ---- numbers of facts
 
--- the fact stands at the place, and at no later one
+-- the fact stands at this place, and at no later one
 pub record IsLastAt (all : List KeptModel) (f : KeptModel) (n : ℕ) : Type 0 where
   pub at : slice_get all n ≡ Some f
   pub last : (m : ℕ) → slice_get all m ≡ Some f → m ≤ n
 
--- that place, or none where the fact isn't among them
+-- that place, or none if the fact isn't among them
 abbrev pub IsLastPlace : List KeptModel → KeptModel → Option ℕ → Type 0
 IsLastPlace all f answer = MatchOption answer ((n : ℕ) → slice_get all n ≡ Some f → ⊥) (IsLastAt all f)
 
@@ -50,7 +50,7 @@ IsLastPlace all f answer = MatchOption answer ((n : ℕ) → slice_get all n ≡
 abbrev pub ArePlaces : List KeptModel → BTreeMap FactKey ℕ → Type 0
 ArePlaces all places = (k : FactKey) → IsLastPlace all (key_view k) (get key_cmp places k)
 
--- The same facts have the same numbers, and no others.
+-- The same facts have the same numbers, and different facts different ones.
 pub record AreFactNumbers (all : List KeptModel) (numbers : List ℕ) : Type 0 where
   pub long : length numbers ≡ length all
   pub low : All (λ n. n < length all) numbers

@@ -1,4 +1,4 @@
--- Numbered facts by the numbers of the kept crates.
+-- The facts of a search, by the numbers of the kept crates.
 use Rattle.std.specs.Prelude.{◌≡◌, ℕ, ◌<◌, List, All, Contains, length, map}
 use Rattle.krates_cm.specs.Document.{Text}
 use Rattle.krates_explain.specs.Explanation.{AreBelow, uses_in}
@@ -30,7 +30,7 @@ document_in t = resolved_view t.lookup.now
 abbrev pub kids_in : Tables → List Identity
 kids_in t = t.krates.now
 
--- the document is looked up, and the crates are in order
+-- the look-ups are those of the document, and the crates are sorted
 pub record IsTables (t : Tables) : Type 0 where
   pub lookup : IsLookup t.lookup.now
   pub ascending : AreNumbered (map id_of t.krates.now)
@@ -41,7 +41,7 @@ pub record IsTables (t : Tables) : Type 0 where
 abbrev pub IsKeptIn : List Identity → Id → Type 0
 IsKeptIn kids i = (n : ℕ) × StandsAt kids i n
 
--- the crates of the fact are
+-- the crates of the fact are among these
 abbrev pub HasKeptCrates : List Identity → Fact → Type 0
 HasKeptCrates kids (Crate i) = IsKeptIn kids i
 HasKeptCrates kids (Feature i f) = IsKeptIn kids i
@@ -62,14 +62,14 @@ pub record IsKeptFeature (t : Tables) (number : ℕ) : Type 0 where
   pub at : FeatureAt (document_in t) krate name number
   pub kept : IsKeptIn (kids_in t) krate
 
--- the edge at these places is one between kept crates
+-- the edge at these places is between kept crates
 pub record IsKeptEdge (t : Tables) (place index kind : ℕ) : Type 0 where
   pub edge : Edge
   pub at : EdgeAt (document_in t) edge place index kind
   pub parent : IsKeptIn (kids_in t) edge.parent
   pub child : IsKeptIn (kids_in t) edge.child
 
--- the fact is one about kept crates
+-- the fact is about kept crates
 pub record IsKeptFact (t : Tables) (n : NumberedFact) : Type 0 where
   pub fact : Fact
   pub names : Names (document_in t) n fact
@@ -80,7 +80,7 @@ AreKeptFacts t steps = All (λ (x : NumberedStep). IsKeptFact t x.fact) steps
 
 -- ---- their keys
 
--- the crate with this number is that of the node at the place
+-- the crate with this number is the crate of the node at this place
 pub record IsNumberAt (t : Tables) (place n : ℕ) : Type 0 where
   pub is : (i : Id) → NodeAt (document_in t) i place → id_at (kids_in t) n ≡ i
   pub below : n < length (kids_in t)
@@ -106,7 +106,8 @@ numbered_facts steps = map (λ (x : NumberedStep). x.fact) steps
 
 -- ---- the kept steps
 
--- The kept steps follow, each from earlier ones, no fact stands twice among them, each fact that has a step has one among them, and its crates are numbered.
+-- The kept steps each follow from earlier ones; no fact stands twice among them; each fact that has a step has one among them;
+-- and the crates are numbered.
 pub record AreStepsOf (r : Resolved) (s : SettingModel) (kids : List Identity) (trace : List NumberedStep) (steps : List KeptStep) : Type 0 where
   pub below : AreBelow (length kids) steps
   pub backward : AreBackward (uses_in steps)

@@ -1,4 +1,4 @@
--- What one more put number changes in an agenda, and what its marks say.
+-- What an agenda is after one more number was put, and what its marks say.
 use Rattle.std.proofs.Common.{◌≡◌, ◌≢◌, ℕ, zero, suc, ◌+◌, ◌<◌, ◌≤◌, ◌==◌, List, [], ◌∷◌, ◌++◌, Bool, true, false, cond, ◌||◌, length, get_or, set, replicate, refl, sym, ◌∙◌, inl, inr, arith, length-append}
 use Rattle.std.specs.List.{Contains, count_by, list_any}
 use Rattle.std.proofs.lemmas.Bool.{cases_lt, eqb-true}
@@ -30,7 +30,7 @@ not_Contains-from_among put number h w =
     let found = list_any_at (λ other. other == number) put w.0 number w.1 same in
     cc
 
--- the marks after one more
+-- the marks after one more number was put
 marked-push : (marks : List Bool) (put : List ℕ) (n : ℕ) → n < length marks
     → ((number : ℕ) → get_or marks number false ≡ is_among put number)
     → (number : ℕ) → get_or (set marks n true) number false ≡ is_among (put ++ n ∷ []) number
@@ -51,7 +51,7 @@ marked-push marks put n within h number =
     or-false true = refl
     or-false false = refl
 
--- one more mark is one more in the count
+-- one more mark raises the count by one
 count_by-mark : (marks : List Bool) (n : ℕ) → n < length marks → get_or marks n false ≡ false
     → count_by (λ mark. mark) (set marks n true) ≡ count_by (λ mark. mark) marks + 1
 count_by-mark marks n within unmarked =
@@ -59,7 +59,7 @@ count_by-mark marks n within unmarked =
     let before = rw unmarked at counts in
     omega (arith, before)
 
--- there is room for a number without a mark
+-- while a number has no mark there is room for it
 pub room_for : (marks : List Bool) (put : List ℕ) (taken capacity n : ℕ) → IsMarked marks put taken capacity
     → n < length marks → get_or marks n false ≡ false → length put < capacity
 room_for marks put taken capacity n h within unmarked =
@@ -87,7 +87,7 @@ IsMarked-push marks put taken capacity more n h grown within unmarked =
       };
     }
 
--- one more taken
+-- the agenda after one more number was taken
 pub IsMarked-take : (marks : List Bool) (put : List ℕ) (taken capacity : ℕ) → IsMarked marks put taken capacity
     → taken < length put → IsMarked marks put (taken + 1) capacity
 IsMarked-take marks put taken capacity h more = record {
@@ -111,7 +111,7 @@ IsMarked-nil size capacity fits =
       orderly = record { distinct = λ i j d before after. absurd (omega arith); below = All-nil (λ number. number < length (replicate size false)); within = omega arith; reached = omega arith };
     }
 
--- the mark that was read, whatever stands past the marks
+-- the mark that was read, whatever is returned past the marks
 pub mark_read : (marks : List Bool) (n : ℕ) (mark : Bool) → n < length marks → mark ≡ get_or marks n mark → get_or marks n false ≡ mark
 mark_read [] n mark within read = absurd (omega arith)
 mark_read (x ∷ marks) zero mark within read = sym read

@@ -1,4 +1,4 @@
--- How the lists of edge numbers change with the edges, and what they give back.
+-- How the lists of edge numbers change with the edges, and which edges they give.
 use Rattle.std.proofs.Common.{◌≡◌, ◌≢◌, ℕ, zero, suc, ◌+◌, ◌<◌, ◌==◌, List, [], ◌∷◌, ◌++◌, Bool, true, false, cond, Some, length, get_or, set, map, refl, sym, ◌∙◌, ap, inl, inr, arith, length-append}
 use Rattle.std.specs.List.{All, enumerate_from, filter, slice_get}
 use Rattle.std.proofs.lemmas.Bool.Decides.{eqb_tells}
@@ -12,7 +12,7 @@ use Rattle.krates_graph.specs.declared.graph.edge.GraphEdge.{GraphEdge}
 use Rattle.krates_graph.specs.Graph.{HasEnds, edges_at, end_of, is_at, numbered, numbers_at}
 use Rattle.krates_graph.specs.Adjacency.{Indexes, IsIndexed}
 
--- a node without edges is read like no node
+-- a node without edges reads like no node
 pub get_or-push_nil : {A : Type 0} (lists : List (List A)) (node : ℕ) → get_or (lists ++ [] ∷ []) node [] ≡ get_or lists node []
 get_or-push_nil [] zero = refl
 get_or-push_nil [] (suc node) = refl
@@ -26,7 +26,7 @@ enumerate_from-push n (y ∷ ys) x =
     let e : (n + 1) + length ys ≡ n + length (y ∷ ys) = omega arith in
     ap (λ zs. (n, y) ∷ zs) (enumerate_from-push (n + 1) ys x ∙ ap (λ k. enumerate_from (n + 1) ys ++ (k, x) ∷ []) e)
 
--- the edges of a node, after one more edge
+-- the edges of a node after one more edge
 pub edges_at-push : {E : Type 0} (edges : List (GraphEdge E)) (e : GraphEdge E) (node : ℕ) (d : Direction)
     → edges_at (edges ++ e ∷ []) node d ≡ edges_at edges node d ++ cond (end_of d e == node) ((length edges, e) ∷ []) []
 edges_at-push edges e node d =
@@ -34,7 +34,7 @@ edges_at-push edges e node d =
     ap (filter (is_at node d)) (enumerate_from-push 0 edges e ∙ ap (λ n. enumerate_from 0 edges ++ (n, e) ∷ []) k)
     ∙ filter-append (is_at node d) (enumerate_from 0 edges) ((length edges, e) ∷ [])
 
--- their numbers, at the node where the edge is found and at any other
+-- their numbers, at the node where the edge is added and at any other
 pub numbers_at-push : {E : Type 0} (edges : List (GraphEdge E)) (e : GraphEdge E) (node : ℕ) (d : Direction)
     → numbers_at (edges ++ e ∷ []) node d ≡ numbers_at edges node d ++ cond (end_of d e == node) (length edges ∷ []) []
 numbers_at-push {E} edges e node d =
@@ -76,7 +76,7 @@ numbers_at-below {E} edges node d =
         let lt : k < length edges = omega (arith, h, length-enumerate_from 0 edges) in
         rw (get_or-enumerate_from 0 edges k x lt) (omega arith)
 
--- the edges of the numbers that a filter leaves, where the rest of all edges begins at number n
+-- the edges of the numbers that a filter leaves, where the remaining edges begin at number `n`
 numbered-filter : {E : Type 0} (all : List (GraphEdge E)) (test : ℕ × GraphEdge E → Bool) (n : ℕ) (rest : List (GraphEdge E))
     → ((k : ℕ) → slice_get all (n + k) ≡ slice_get rest k)
     → numbered all (map (λ (p : ℕ × GraphEdge E). p.0) (filter test (enumerate_from n rest))) ≡ filter test (enumerate_from n rest)
@@ -96,7 +96,7 @@ pub numbered-numbers_at : {E : Type 0} (edges : List (GraphEdge E)) (node : ℕ)
 numbered-numbers_at edges node d =
     numbered-filter edges (is_at node d) 0 edges (λ k. let s : 0 + k ≡ k = omega arith in ap (slice_get edges) s)
 
--- the ends of edges are nodes still, after one more node
+-- the ends of edges are still nodes after one more node
 pub HasEnds-more : {E : Type 0} (n : ℕ) (edges : List (GraphEdge E)) → All (HasEnds n) edges → All (HasEnds (n + 1)) edges
 HasEnds-more n edges h = All-weaker (HasEnds n) (HasEnds (n + 1)) (λ e w. (omega arith, omega arith)) edges h
 

@@ -48,12 +48,12 @@ numbered_edge r = (r.id, edge_of r)
 abbrev pub HasEnds : {E : Type 0} → ℕ → GraphEdge E → Type 0
 HasEnds n edge = (edge.source < n) × (edge.target < n)
 
--- the value that a refusal hands back
+-- the value that a refusal gives back
 abbrev pub value_in : {T : Type 0} → GraphError T → T
 value_in (Full value) = value
 value_in (Memory value) = value
 
--- refused since a limit is reached
+-- refused because a limit is reached
 abbrev pub IsFull : {A T : Type 0} → Result A (GraphError T) → Type 0
 IsFull (Ok _) = ⊥
 IsFull (Err (Full _)) = Unit {0}

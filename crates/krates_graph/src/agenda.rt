@@ -1,4 +1,4 @@
-//! Work that is handed out once: numbers are put, and taken in the order of their puts.
+//! Work that is handed out once: numbers are put, and taken in the order in which they were put.
 ghost use Rattle.std.specs.Prelude.{◌≡◌, [], ◌∷◌, ◌++◌, ◌+◌, ◌<◌, IfOk, IsTrue, ◌↔◌, Contains, if◌then◌else◌, is_some, length, slice_get, ℕ, vec_capacity};
 ghost use Rattle.std.specs.Bool.{OnFalse, OnTrue};
 ghost use Rattle.krates_graph.specs.Agenda.{IsMarked, IsOrderly, PutNumbers};
@@ -6,8 +6,7 @@ ghost use Rattle.krates_graph.specs.Agenda.{IsMarked, IsOrderly, PutNumbers};
 use std::alloc::{AllocError, Global};
 use std::marker::Model;
 
-/// The numbers below a size that were put, each once, in the order of their puts, and how many of them
-/// were taken. Room for all of them is made at the start, so that no later call takes memory.
+/// The numbers below a size that were put, each once, in the order in which they were put, and how many of them were taken. Room for all of them is made at the start, so that no later call takes memory.
 #[derive(Debug, Drop)]
 pub struct Agenda {
     marks: Vec<bool>,
@@ -23,8 +22,8 @@ impl Model for Agenda {
     ghost invariant = { λ a. IsMarked a.marks.items a.numbers.items a.next (vec_capacity a.numbers) };
 }
 
-/// A number that an agenda handed out. Only [`Agenda::take`] makes one, and it can't be copied: who is
-/// passed it by value knows that the number was taken once.
+/// A number that an agenda handed out. Only [`Agenda::take`] makes one, and it can't be copied: whoever receives one by value
+/// knows that the number was taken once.
 #[derive(Debug, Drop)]
 pub struct Taken {
     number: usize,
@@ -77,7 +76,7 @@ impl Agenda {
         true
     }
 
-    /// Takes the number that was put first among those that were not taken yet; none where all were. Time O(1).
+    /// Takes the number that was put first among those not taken yet; `None` if all were taken. Time O(1).
     ///
     /// ```text
     /// while let Some(taken) = agenda.take() {
@@ -96,7 +95,7 @@ impl Agenda {
         Some(Taken { number })
     }
 
-    /// The numbers that were put, in the order of their puts. Time O(1).
+    /// The numbers that were put, in that order. Time O(1).
     pub fn numbers(&self) -> &[usize]
         ensures put { result.now ≡ self.now.put }
         ensures orderly { IsOrderly self.now }

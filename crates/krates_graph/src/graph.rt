@@ -52,7 +52,7 @@ impl<N, E> Model for Graph<N, E> {
 }
 
 impl<N, E> Graph<N, E> {
-    /// An empty graph, which takes at most so many nodes and edges. Time O(1).
+    /// An empty graph, which takes at most this many nodes and edges. Time O(1).
     ///
     /// ```text
     /// let mut graph: Graph<&str, u32> = Graph::with_limits(alloc, 2, 1);
@@ -71,8 +71,7 @@ impl<N, E> Graph<N, E> {
     }
 
     /// Appends a node, under the next number. `Full` comes exactly where the limit is reached, `Memory` where there
-    /// was no room; each hands the value back and leaves the graph as it was. Time O(1), but where room has to be
-    /// made.
+    /// was no room; each hands the value back and leaves the graph as it was. Time O(1), unless room has to be made.
     ///
     /// ```text
     /// let a = graph.add_node("a")?;
@@ -104,8 +103,8 @@ impl<N, E> Graph<N, E> {
     }
 
     /// Appends an edge between two nodes, under the next number. `Full` comes exactly where the limit is reached,
-    /// `Memory` where there was no room; each hands the weight back and leaves the graph as it was. Time O(1), but
-    /// where room has to be made.
+    /// `Memory` where there was no room; each hands the weight back and leaves the graph as it was. Time O(1), unless room has to
+    /// be made.
     ///
     /// ```text
     /// let edge = graph.add_edge(a, b, 7)?;
@@ -242,7 +241,7 @@ impl<N, E> Graph<N, E> {
     }
 }
 
-/// The node of that number, of which there has to be one.
+/// The node of that number, which has to exist.
 impl<N, E> Index<NodeId> for Graph<N, E> {
     type Output = N;
 

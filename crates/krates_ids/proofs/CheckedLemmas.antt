@@ -1,4 +1,4 @@
--- What the steps of reading a specification leave of its checks.
+-- Which checks remain after each step of reading a specification.
 use Rattle.std.proofs.Common.{◌≡◌, [], ◌∷◌, ◌++◌, Bool, true, false, refl, sym, ◌∙◌}
 use Rattle.std.specs.Prelude.{◌⊎◌, ◌==◌, if◌then◌else◌, length, Option, Some, None, Ok, Err, codes}
 use Rattle.std.specs.List.{ends_with}
@@ -12,7 +12,7 @@ use Rattle.krates_ids.specs.SpecificationAnswers.{version_outcome}
 use Rattle.krates_ids.proofs.SpecificationLemmas.{Ok≢Err, version_read}
 use Rattle.krates_ids.proofs.SpecificationLawLemmas.{IsFragment-some, IsUrl-some}
 
--- the first check that is true stays the first
+-- the first check that refuses stays the first
 checked-refused : {A B : Type 0} (cs ds : Checks) (a : A) (b : B) (t : Text) → Err t ≡ checked cs a → Err t ≡ checked (cs ++ ds) b
 checked-refused [] ds a b t e = absurd (Ok≢Err (sym e))
 checked-refused ((true, u) ∷ cs) ds a b t e =
@@ -20,7 +20,7 @@ checked-refused ((true, u) ∷ cs) ds a b t e =
     rw same refl
 checked-refused ((false, u) ∷ cs) ds a b t e = checked-refused cs ds a b t e
 
--- where none is true, the later ones are left
+-- where none refuses, the later checks remain
 checked-passed : {A B : Type 0} (cs ds : Checks) (a v : A) (b : B) → Ok v ≡ checked cs a → (v ≡ a) × (checked (cs ++ ds) b ≡ checked ds b)
 checked-passed [] ds a v b e = (cc, refl)
 checked-passed ((true, u) ∷ cs) ds a v b e = absurd (Ok≢Err e)

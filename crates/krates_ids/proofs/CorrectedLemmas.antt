@@ -1,4 +1,4 @@
--- That the steps of a correction make the corrected features, and that to correct twice is to correct once.
+-- The steps of a correction give the corrected features, and correcting twice is correcting once.
 use Rattle.std.proofs.Common.{◌≡◌, ◌↔◌, List, [], ◌∷◌, Option, Some, None, sym, ap, ◌∙◌, Contains}
 use Rattle.krates_cm.specs.Document.{Text, FeaturesModel}
 use Rattle.krates_ids.specs.Correction.{named, or_else, joined, Features, Refers, dependency_reference, IsCorrection}
@@ -10,7 +10,7 @@ refers_along f g same name r = record { feature = r.feature; values = r.values; 
 pub some_is_not_none : {A : Type 0} (found : Option A) (x : A) → found ≡ Some x → found ≡ None → ⊥
 some_is_not_none found x some none = let e = sym some ∙ none in cc
 
--- where the features of both are joined, and what is referred to is added
+-- the features of both are joined, and the references to what is missing are added
 pub corrected_by_steps : (manifest index whole corrected : FeaturesModel) (names : List Text) → ((name : Text) → named whole name ≡ joined manifest index name)
     → ((name : Text) → Contains names name ↔ ((named whole name ≡ None) × Refers (named whole) name))
     → ((name : Text) → Contains names name → named corrected name ≡ Some (dependency_reference name ∷ []))

@@ -1,4 +1,4 @@
--- Each text is read as an id, or has a fault.
+-- Each text reads as an id or has a fault.
 use Rattle.std.proofs.Common.{◌≡◌, ℕ, ◌+◌, ◌*◌, ◌<◌, zero, suc, [], ◌∷◌, ◌++◌, length, Bool, true, false, refl, subst, sym, inl, inr, ⊎_elim, arith}
 use Rattle.std.specs.Prelude.{◌⊎◌, None, slice_index}
 use Rattle.std.specs.Char.{digit_value}
@@ -15,7 +15,7 @@ use Rattle.krates_text.proofs.CutsLemmas.{FirstCut-lacks, FirstCut-or, LastCut-o
 use Rattle.krates_ids.proofs.OpaqueLemmas.{FindsSource-without_hash, IsBody-unclosed, IsBody-hash_before, IsBody-hash, IsOpaqueForm-one_blank, IsOpaqueForm-not_opened, IsOpaqueForm-no_source, IsOpaqueForm-found, EndsWith-body}
 use Rattle.krates_ids.proofs.StableLemmas.{NameInLeft-no_slash, StandsInLeft-git, StandsInLeft-git_plain, StandsInLeft-plain, IsStableForm-no_hash, IsStableForm-slash, IsStableForm-question_mark, IsStableForm-no_name, IsSource-not_git, IsSource-no_query, IsSource-slash}
 
--- it is true, or it isn't
+-- it holds, or it doesn't
 abbrev Decided : Type 0 → Type 0
 Decided P = P ⊎ (P → ⊥)
 
@@ -54,7 +54,7 @@ plain_source t body none (inl h) = inl (h.0, record { end = closing ∷ []; is =
 plain_source t body none (inr unclosed) =
     inr (λ h. FindsSource-without_hash t body None none (λ front is. unclosed (front, is)) h.0 h.1)
 
--- the source in the body of a text that is cut at its last '#', before what ends it
+-- the source in the body of a text that is cut at its last '#', before what follows the source
 cut_source : (t body x tail : Text) → EndsWith t body → LastCut hash_sign t x tail → Decided ((front : Text) × ComesBeforeLast closing tail front) → Lacks hash_sign body ⊎ ((source m : Text) × LastCut hash_sign body source m) → Decided ((source : Text) × IsBody t body source)
 cut_source t body x tail w cut (inr unclosed) inner =
     inr (λ h. IsBody-unclosed t body x tail cut (λ front is. unclosed (front, is)) h.0 h.1)
@@ -105,7 +105,7 @@ name_or left =
 abbrev IsStable : Text → Type 0
 IsStable t = (left fragment name version : Text) × IsStableForm t left fragment name version
 
--- a fragment without '@', by what it has
+-- a fragment without '@', by what it contains
 alone_or : (t x f : Text) → Lacks blank t → LastCut hash_sign t x f → Lacks at_sign f → Lacks slash f ⊎ ((a b : Text) × FirstCut slash f a b) → Lacks question_mark f ⊎ ((a b : Text) × FirstCut question_mark f a b) → Decided ((n : Text) × NameInLeft x n) → Decided (IsStable t)
 alone_or t x f whole cut none (inr h) query name =
     inr (λ s. IsStableForm-slash t x f cut none (λ lacks. FirstCut-lacks lacks h.2) s.0 s.1 s.2 s.3 s.4)
@@ -162,7 +162,7 @@ all_or P each (suc n) = all_step P n (all_or P each n) (each n)
 escapes_or : (q : Text) → Decided (AreEscapes q)
 escapes_or q = all_or (IsEscapedAt q) (escaped_or q) (length q)
 
--- ---- the source of a left part: it has one, or a bad escape
+-- ---- the source of a left part: there is one, or a bad escape
 
 abbrev IsBadQuery : Text → Type 0
 IsBadQuery left = (front query : Text) × IsGitQuery left front query × (AreEscapes query → ⊥)

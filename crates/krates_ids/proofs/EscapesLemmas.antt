@@ -1,4 +1,4 @@
--- Laws of escapes: what is decoded is UTF-8, and a text without '%' stays as it is.
+-- Laws of escapes: what is decoded is UTF-8, and a text without '%' is unchanged.
 use Rattle.std.proofs.Common.{◌≡◌, ◌≢◌, ℕ, ◌+◌, ◌<◌, ◌≤◌, zero, suc, [], ◌∷◌, ◌++◌, length, get_or, Bool, true, false, ◌&&◌, refl, sym, ap, ◌∙◌, inl, inr, ⊎_elim, arith, append-nil, length-append}
 use Rattle.std.specs.Char.{digit_value, encode_utf8, IsScalar}
 use Rattle.std.specs.Str.{IsUtf8, encode_utf8_all, all_scalars}
@@ -13,7 +13,7 @@ use Rattle.krates_ids.specs.Separators.{percent_sign}
 use Rattle.krates_text.proofs.CutsLemmas.{Lacks-from_reads}
 use Rattle.krates_ids.proofs.SpansLemmas.{IsUtf8-after_cut, IsUtf8-ascii_first}
 
--- bytes before which no '%' stands are kept
+-- a beginning without '%' is kept
 percent_decode-plain : (x y : Text) → Lacks percent_sign x → percent_decode (x ++ y) ≡ x ++ percent_decode y
 percent_decode-plain [] y none = refl
 percent_decode-plain (b ∷ x) y none =
@@ -72,7 +72,7 @@ first_is c rest b q is e =
 abbrev DecodesToText : ℕ → Type 0
 DecodesToText n = (q : Text) → length q ≤ n → IsUtf8 q → AreEscapes q → IsUtf8 (percent_decode q)
 
--- where an escape comes first
+-- an escape comes first
 after_escape : (n b : ℕ) (q : Text) → b ≡ percent_sign → length q ≤ n → IsUtf8 (b ∷ q) → AreEscapes (b ∷ q) → DecodesToText n → IsUtf8 (percent_decode (b ∷ q))
 after_escape n b [] is short text good more = absurd (omega (arith, (good 0 (omega arith) is).0))
 after_escape n b (high ∷ []) is short text good more = absurd (omega (arith, (good 0 (omega arith) is).0))
@@ -89,7 +89,7 @@ pub both_true : (x y : Bool) → (x && y) ≡ true → (x ≡ true) × (y ≡ tr
 both_true true y e = (refl, e)
 both_true false y e = absurd (false≢true e)
 
--- where a character comes first that is no '%'
+-- a character other than '%' comes first
 after_char : (n b : ℕ) (q cs : Text) → b ≢ percent_sign → length q ≤ n → all_scalars cs ≡ true → encode_utf8_all cs ≡ b ∷ q → AreEscapes (b ∷ q) → DecodesToText n → IsUtf8 (percent_decode (b ∷ q))
 after_char n b q [] other short valid is good more = absurd (cc)
 after_char n b q (c ∷ cs) other short valid is good more =
@@ -103,7 +103,7 @@ after_char n b q (c ∷ cs) other short valid is good more =
     omega (arith, length-append (encode_utf8 c) (encode_utf8_all cs), length-encode c, (len_utf8_bounds c).0) in
     rw decoded (IsUtf8-append (encode_utf8 c) _ (IsUtf8-encode c both.0) (more (encode_utf8_all cs) shorter (cs, (both.1, refl)) good_rest))
 
--- by the number of bytes that are left
+-- by induction on the number of bytes left
 decoded_text_by : (n : ℕ) (q : Text) → length q ≤ n → IsUtf8 q → AreEscapes q → IsUtf8 (percent_decode q)
 decoded_text_by n [] short text good = rw percent_decode-nil IsUtf8-nil
 decoded_text_by zero (b ∷ q) short text good = absurd (omega arith)

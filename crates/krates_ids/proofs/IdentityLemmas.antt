@@ -1,4 +1,4 @@
--- Laws of reading: a text is at most one id, and a text with a fault is none.
+-- Laws of reading: a text reads as at most one id, and a text with a fault reads as none.
 use Rattle.std.proofs.Common.{◌≡◌, ◌∷◌, ◌++◌, Bool, true, false, refl, sym, ◌∙◌, inl, inr}
 use Rattle.std.specs.Prelude.{◌⊎◌}
 use Rattle.percent_encoding.specs.Percent.{percent_decode}
@@ -72,7 +72,7 @@ Reads-once t a b (inr h) (inr k) = ReadsStable-once t a b h k
 
 -- ---- no reading beside a fault
 
--- where the source reads, the query of the text is good
+-- where the source reads, the query has no bad escape
 source_good : (t left fragment name version source query : Text) → IsStableForm t left fragment name version → IsSource left source → HasGitQuery t query → AreEscapes query
 source_good t left fragment name version source query form (as_written none is) h =
     let same = LastCut-once h.form.cut form.cut in
@@ -102,7 +102,7 @@ IsFault-once t bad_escape no_opaque_form h k = absurd (k.0 h.1.form.no_blank)
 IsFault-once t bad_escape no_stable_form h k = absurd (k.1 h.1.left h.1.fragment h.1.name h.1.version h.1.form)
 IsFault-once t bad_escape bad_escape h k = refl
 
--- a text with an escape to be decoded is read
+-- a text with escapes to decode is read
 pub Reads-decodable : (t : Text) → NeedsDecoding t → (id : Identity) × Reads t id
 Reads-decodable t needs =
     let q = needs.git_query in
@@ -118,7 +118,7 @@ Reads-decodable t needs =
       }),
     )
 
--- ---- the reading, from the spans of the parts
+-- ---- the reading, from the spans of its parts
 
 pub Reads-stable : (t left fragment name version source text : Text) (parts : Parts) → IsStableForm t left fragment name version → IsSource left source → text ≡ source ++ hash_sign ∷ fragment → MarksParts text parts name version source → Reads t (identity_of text parts false)
 Reads-stable t left fragment name version source text parts form source_is is marks =

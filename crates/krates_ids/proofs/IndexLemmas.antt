@@ -1,4 +1,4 @@
--- What an answer has of a package: the first version that equals the package's.
+-- What an answer of an index has of a package: the first version that equals the package's.
 use Rattle.std.proofs.Common.{◌≡◌, ◌≢◌, inl, inr, ℕ, ◌<◌, List, length, get_or, map, refl, sym, ap, ◌∙◌, subst, arith, Option, Some, None, slice_get, option_map, MatchOption, String, Global}
 use Rattle.std.proofs.lemmas.Option.{none-some, same_Some, slice_get-map, slice_get-get_or, slice_get_cases}
 use Rattle.std.specs.BTreeMap.{BTreeMap, get_by_text}
@@ -14,7 +14,7 @@ use Rattle.krates_ids.specs.declared.index.IndexKrate.{IndexKrate}
 use Rattle.krates_ids.specs.declared.index.IndexKrateVersion.{IndexKrateVersion}
 use Rattle.krates_ids.proofs.CorrectionLemmas.{named-entries}
 
--- what is seen at a place is an element of the list there
+-- an element of the view at a place is the view of the element at that place
 seen_at : {A B : Type 0} (f : A → B) (xs : List A) (k : ℕ) (y : B) → slice_get (map f xs) k ≡ Some y → (x : A) × (k < length xs) × (f (get_or xs k x) ≡ y)
 seen_at f xs k y here =
     elim (slice_get_cases xs k).1 [
@@ -22,7 +22,7 @@ seen_at f xs k y here =
       | inr r ↦ absurd (none-some y (sym (slice_get-map f xs k ∙ ap (option_map f) r.1) ∙ here))
     ]
 
--- the equal version at a place is the first, where none before it is equal
+-- an equal version is the first one where none before it is equal
 pub first_equal : (versions : List IndexKrateVersion) (version : VersionModel) (i : ℕ) (x : IndexKrateVersion) → i < length versions → x ≡ get_or versions i x → parts_of x.version ≡ version
     → AllWithin (λ v. parts_of v.version ≢ version) versions 0 i → IsFirstEqual (map index_version_view versions) version i (features_view x.features)
 first_equal versions version i x lt is same none = record {
@@ -35,7 +35,7 @@ first_equal versions version i x lt is same none = record {
       none k s.0 (omega arith) low (ap (λ w. w.version) s.2 ∙ e);
 }
 
--- there is no first one, where none is equal
+-- there is no first equal version where none is equal
 pub none_equal : (versions : List IndexKrateVersion) (version : VersionModel) → AllWithin (λ v. parts_of v.version ≢ version) versions 0 (length versions)
     → (place : ℕ) (features : FeaturesModel) → IsFirstEqual (map index_version_view versions) version place features → ⊥
 none_equal versions version none place features first =
@@ -46,7 +46,7 @@ none_equal versions version none place features first =
 pub answer_at : (answer : IndexAnswer) (name : Text) (found : Option (Option IndexKrate)) → get_by_text answer.krates name ≡ found → named (index_view answer) name ≡ option_map (option_map index_krate_view) found
 answer_at answer name found is = named-entries text_view (option_map index_krate_view) answer.krates.entries name ∙ ap (option_map (option_map index_krate_view)) is
 
--- the package is indexed as its version is found among the versions of its crate
+-- the package is indexed if its version is found among those of its crate
 pub indexed_as : (index : IndexModel) (pkg : PackageModel) (versions : List IndexVersionModel) (r : Option (Bor (BTreeMap (String Global) (Vec (String Global))))) → pkg.source ≡ Some crates_io → named index pkg.name ≡ Some (Some versions)
     → MatchOption r ((place : ℕ) (features : FeaturesModel) → IsFirstEqual versions pkg.version place features → ⊥) (λ features. (place : ℕ) × IsFirstEqual versions pkg.version place (features_view features.now))
     → MatchOption r ((features : FeaturesModel) → IsIndexed index pkg features → ⊥) (λ features. IsIndexed index pkg (features_view features.now))
@@ -56,7 +56,7 @@ indexed_as index pkg versions None source is none =
     none i.version.1 features (subst (λ vs. IsFirstEqual vs pkg.version i.version.1 features) same i.version.3)
 indexed_as index pkg versions (Some features) source is found = record { source = source; version = (versions, found.0, is, found.1) }
 
--- no package is indexed whose crate the answer lacks
+-- a package is not indexed where the answer lacks its crate
 pub not_indexed : (index : IndexModel) (pkg : PackageModel) (features : FeaturesModel) (found : Option (Option (List IndexVersionModel))) → named index pkg.name ≡ found
     → ((versions : List IndexVersionModel) → found ≡ Some (Some versions) → ⊥) → IsIndexed index pkg features → ⊥
 not_indexed index pkg features found is lacks i = lacks i.version.0 (sym is ∙ i.version.2)

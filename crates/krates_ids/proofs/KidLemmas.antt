@@ -1,4 +1,4 @@
--- What the two ways of reading a stable id give: its text as it was written, or with its query decoded.
+-- What the two ways of reading a stable id give: its text as it is written, or with its query decoded.
 use Rattle.std.proofs.Common.{◌≡◌, ℕ, ◌∷◌, ◌++◌, false, refl}
 use Rattle.std.specs.Prelude.{Option, Ok, Err}
 use Rattle.std.proofs.lemmas.Str.{IsUtf8-string_bytes}
@@ -18,12 +18,12 @@ use Rattle.krates_ids.proofs.RefusalsLemmas.{Converts-reads, Converts-fault}
 use Rattle.krates_ids.proofs.SpansLemmas.{AreSpans-marks}
 use Rattle.krates_ids.proofs.StableLemmas.{IsWithSource-written, IsWithSource-decoded}
 
--- what `parts_in` says of the spans that it answers
+-- what `parts_in` says of the spans that it returns
 abbrev pub GivesParts : Text → Text → Text → Text → Option ℕ → Parts → Type 0
 GivesParts text fragment name version place parts =
     (source : Text) → IsWithSource text source fragment name version place → MarksParts text parts name version source
 
--- what makes the answer of a read: the spans are in order, and the text reads
+-- an id is read: its spans are in order, and its text reads
 abbrev pub ReadsAs : PackageId → Text → Parts → Type 0
 ReadsAs id text parts = AreSpans text parts × Converts id (Ok (identity_of text parts false))
 

@@ -16,7 +16,7 @@ use Rattle.krates_ids.proofs.SpansLemmas.{IsUtf8-after_cut, IsUtf8-ascii_first}
 
 -- ---- the source in a body
 
--- in a text without '#': what `before_end` answers is the source
+-- in a text without '#', what `before_end` returns is the source
 pub FindsSource-without_hash : (t body : Text) (r : Option (Bor Text)) → Lacks hash_sign t → ComesBeforeEnd closing body r → FindsSource t body r
 FindsSource-without_hash t body None none unclosed = λ source b.
     ⊎_elim (λ e. unclosed source (b.is ∙ ap (λ z. source ++ z) e.1)) (λ e. LastCut-lacks none e.cut) b.ends
@@ -43,7 +43,7 @@ IsBody-hash t body x tail front source m w cut close inner =
 
 -- ---- the whole form, from the cuts that find it
 
--- the name, the version and what follows are where the blanks cut
+-- the name, the version and the rest are what the blanks separate
 form_cuts : (t n v s x y v' z : Text) → FirstCut blank t x y → FirstCut blank y v' z → (o : IsOpaqueForm t n v s) → (x ≡ n) × (v' ≡ v) × (z ≡ opening ∷ (s ++ o.end))
 form_cuts t n v s x y v' z f g o =
     let a = FirstCut-once f (record { is = o.is; lacks = o.name_whole }) in
@@ -87,7 +87,7 @@ StandsAt-version t x y v z i text f g at =
       text_after = IsUtf8-ascii_first blank z (omega arith) (IsUtf8-after_cut blank y v z (omega arith) text_y g.is);
     }
 
--- what follows the source begins with an ASCII character, and is text
+-- what follows the source is UTF-8 and begins with an ASCII character
 IsUtf8-opaque_end : (t end : Text) → IsUtf8 t → IsOpaqueEnd t end → IsUtf8 end
 IsUtf8-opaque_end t end text (inl e) = rw e.1 (IsUtf8-ascii_first closing [] (omega arith) IsUtf8-nil)
 IsUtf8-opaque_end t end text (inr e) =

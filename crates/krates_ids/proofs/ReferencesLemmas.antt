@@ -1,4 +1,4 @@
--- The simple references among the values of features: one more value is looked at, or one more name is added.
+-- The simple references among the values of features, after one more value is looked at or one more name is added.
 use Rattle.std.proofs.Common.{◌≡◌, ◌↔◌, ◌⊎◌, inl, inr, List, [], ◌∷◌, ◌++◌, Option, Some, None, Bool, true, false, cond, refl, sym, ap, ◌∙◌, subst, Contains}
 use Rattle.std.specs.Str.{bytes_eq}
 use Rattle.std.proofs.lemmas.List.Elements.{Contains-push, Contains-push_cases, Contains-append_left}
@@ -7,7 +7,7 @@ use Rattle.krates_text.specs.FeatureReference.{IsReference, HasOneReading, simpl
 use Rattle.krates_ids.specs.Correction.{named, Features, Refers, dependency_reference}
 use Rattle.krates_ids.proofs.CorrectionLemmas.{eq_from_true, true_from_eq}
 
--- a value with both properties is looked at, and added
+-- a value that passes both tests is looked at and added
 pub value_added : (names values : List Text) (value : Text) (Before P Q : Text → Type 0) → P value → Q value → (name : Text)
     → Contains names name ↔ (Before name ⊎ (Contains values name × P name × Q name))
     → Contains (names ++ value ∷ []) name ↔ (Before name ⊎ (Contains (values ++ value ∷ []) name × P name × Q name))
@@ -25,7 +25,7 @@ value_added names values value Before P Q p q name so_far = (
   ],
 )
 
--- a value without them is looked at, and passed over
+-- a value that doesn't is looked at and passed over
 pub value_passed : (names values : List Text) (value : Text) (Before P Q : Text → Type 0) → (P value → Q value → ⊥) → (name : Text)
     → Contains names name ↔ (Before name ⊎ (Contains values name × P name × Q name))
     → Contains names name ↔ (Before name ⊎ (Contains (values ++ value ∷ []) name × P name × Q name))
@@ -45,7 +45,7 @@ abbrev pub HasValue : FeaturesModel → Text → Type 0
 HasValue [] t = ⊥
 HasValue (e ∷ es) t = Contains e.1 t ⊎ HasValue es t
 
--- what stands at the first entry, or behind it
+-- what stands in the first entry, or after it
 value_in_front : (b : Bool) (e : Text × List Text) (es : FeaturesModel) (found : Option (List Text)) (values : List Text) (t : Text) → cond b (Some e.1) found ≡ Some values → Contains values t
     → (found ≡ Some values → HasValue es t) → HasValue (e ∷ es) t
 value_in_front true e es found values t is among later = let same : e.1 ≡ values = cc in inl (subst (λ x. Contains x t) (sym same) among)
@@ -57,18 +57,18 @@ has_value [] feature values t is among = absurd cc
 has_value (e ∷ es) feature values t is among =
     value_in_front (bytes_eq feature e.0) e es (named es feature) values t is among (λ later. has_value es feature values t later among)
 
--- whichever of two equal values is taken
+-- either of two equal values
 either : (b : Bool) (q value : Text) (old : Option (List Text)) → (b ≡ true → q ≡ value) → old ≡ Some (dependency_reference q ∷ [])
     → cond b (Some (dependency_reference value ∷ [])) old ≡ Some (dependency_reference q ∷ [])
 either true q value old same e = ap (λ n. Some (dependency_reference n ∷ [])) (sym (same refl))
 either false q value old same e = e
 
--- the second, where the test is not true
+-- the second value, where the test fails
 other : {A : Type 0} (b : Bool) (x y : A) → (b ≡ true → ⊥) → cond b x y ≡ y
 other true x y h = absurd (h refl)
 other false x y h = refl
 
--- a name that was put is found, and so are those before
+-- a name that was added is found, and so are those before it
 pub reference_added : (names : List Text) (value : Text) (old new : Text → Option (List Text))
     → ((q : Text) → new q ≡ cond (bytes_eq q value) (Some (dependency_reference value ∷ [])) (old q))
     → ((q : Text) → Contains names q → old q ≡ Some (dependency_reference q ∷ []))
@@ -79,7 +79,7 @@ reference_added names value old new put before q c =
       | inr same ↦ put q ∙ rw (true_from_eq q value (sym same)) (ap (λ n. Some (dependency_reference n ∷ [])) same)
     ]
 
--- a name that is none of these has what it had
+-- under any other name stands what stood before
 pub reference_kept : (names : List Text) (value : Text) (old new first : Text → Option (List Text))
     → ((q : Text) → new q ≡ cond (bytes_eq q value) (Some (dependency_reference value ∷ [])) (old q))
     → ((q : Text) → (Contains names q → ⊥) → old q ≡ first q)
@@ -88,19 +88,19 @@ reference_kept names value old new first put before q c =
     put q ∙ other (bytes_eq q value) (Some (dependency_reference value ∷ [])) (old q) (λ e. c (subst (Contains (names ++ value ∷ [])) (sym (eq_from_true q value e)) (Contains-push names value)))
     ∙ before q (λ there. c (Contains-append_left names (value ∷ []) q there))
 
--- a simple reference is one to its own text
+-- a simple reference names its own text
 pub simple_itself : (t u name : Text) → t ≡ u → IsReference t (simple name) → IsReference u (simple u)
 simple_itself t u name same r = subst (λ v. IsReference v (simple v)) same (r.0, r.1, refl)
 
--- no weak reference is a simple one
+-- a weak reference isn't simple
 pub weak_not_simple : (t u name enables : Text) → HasOneReading u → t ≡ u → IsReference t (weak name enables) → IsReference u (simple u) → ⊥
 weak_not_simple t u name enables one same r s = let e = one.only (weak name enables) (subst (λ v. IsReference v (weak name enables)) same r) ∙ sym (one.only (simple u) s) in cc
 
--- the name is no feature, and is referred to
+-- the name is referred to and isn't a feature
 abbrev pub IsReferred : Features → Text → Type 0
 IsReferred features name = (features name ≡ None) × Refers features name
 
--- what one entry more adds
+-- what one more entry adds
 abbrev pub AddsReferred : Features → List Text → List Text → List Text → Type 0
 AddsReferred features names values more = (name : Text) → Contains more name ↔ (Contains names name ⊎ (Contains values name × IsReference name (simple name) × (features name ≡ None)))
 

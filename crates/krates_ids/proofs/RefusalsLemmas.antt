@@ -1,4 +1,4 @@
--- What each result of reading an id shows.
+-- What each result of reading an id means.
 use Rattle.std.proofs.Common.{refl, ap}
 use Rattle.std.specs.Prelude.{Ok, Err}
 use Rattle.krates_cm.specs.Document.{id_view}

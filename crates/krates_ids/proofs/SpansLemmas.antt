@@ -1,4 +1,4 @@
--- Laws of pieces that stand in a text, and of their spans.
+-- Laws of the pieces of a text, and of their spans.
 use Rattle.std.proofs.Common.{◌≡◌, ℕ, ◌+◌, ◌-◌, ◌<◌, zero, suc, [], ◌∷◌, ◌++◌, length, get_or, take, drop, refl, sym, ap, ◌∙◌, subst, arith, append_assoc, append-nil, length-append}
 use Rattle.std.proofs.Math.Seq.{drop-append_seam, take-append_seam, get_or-append_seam}
 use Rattle.std.specs.Str.{IsUtf8, IsAscii, IsCharBoundary}
@@ -7,7 +7,7 @@ use Rattle.krates_cm.specs.Document.{Text}
 use Rattle.krates_ids.specs.Spans.{StandsAt, AreSpans, Marks, MarksParts}
 use Rattle.krates_ids.specs.declared.span.Parts.{Parts}
 
--- ---- the two sides of a cut are texts
+-- ---- both sides of a cut are UTF-8
 
 cut_reads : (c : ℕ) (t x y : Text) → t ≡ x ++ c ∷ y → (length x < length t) × (get_or t (length x) 0 ≡ c)
 cut_reads c t x y is = rw is (omega (arith, length-append x (c ∷ y)), get_or-append_seam x c y 0)
@@ -29,7 +29,7 @@ IsAscii-one : (c : ℕ) → c < 128 → IsAscii (c ∷ [])
 IsAscii-one c small zero = small
 IsAscii-one c small (suc i) = omega arith
 
--- a text after an ASCII character
+-- what follows an ASCII character is UTF-8
 pub IsUtf8-ascii_first : (c : ℕ) (x : Text) → c < 128 → IsUtf8 x → IsUtf8 (c ∷ x)
 IsUtf8-ascii_first c x small text = IsUtf8-append (c ∷ []) x (IsUtf8-from_ascii (c ∷ []) (IsAscii-one c small)) text
 

@@ -1,4 +1,4 @@
--- Each text gives exactly one outcome: it is one specification, or has one refusal.
+-- Each text has exactly one outcome: one specification or one refusal.
 use Rattle.std.proofs.Common.{◌≡◌, ◌≢◌, ℕ, [], ◌∷◌, ◌++◌, true, false, refl, sym, ap, ◌∙◌, inl, inr, ⊎_elim}
 use Rattle.std.specs.Prelude.{◌⊎◌, Option, Some, None, Result, Ok, Err, IfOk, IfErr}
 use Rattle.std.proofs.lemmas.Bool.{cases_Bool, cases_eq, false≢true}
@@ -148,7 +148,7 @@ scheme_or : (t : Text) → HasScheme t ⊎ (HasScheme t → ⊥)
 scheme_or t =
     ⊎_elim (λ h. inl (h.0, h.1, h.2.is)) (λ lacks. inr (λ h. lacks h.0 h.1 h.2)) (cut_or_lacks scheme_end t)
 
--- a text has a value with some checks
+-- some value, with some checks
 abbrev pub Some_checked : {A : Type 0} → (Checks → A → Type 0) → Type 0
 Some_checked {A} IsRead = (cs : Checks) × (a : A) × IsRead cs a
 
@@ -220,9 +220,9 @@ IsSpec-or_fault t =
     let o = Gives-some t in
     either_of t o.0 o.1
 
--- ---- what reading answers
+-- ---- what reading returns
 
--- a text that is a specification is refused only where memory runs out
+-- a text that is a specification is refused only when out of memory
 spec_error : (t : Text) (e : Error) → IsRefusedBy (λ refusal. Gives t (Err refusal)) e → (a : Specification) → IsSpec t a.name a.version a.url → e ≡ errors.Memory
 spec_error t (errors.InvalidPkgSpec refusal) h a k = absurd (IsSpec-no_fault t a refusal.now k h)
 spec_error t errors.Memory h a k = refl

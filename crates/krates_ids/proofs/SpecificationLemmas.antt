@@ -14,7 +14,7 @@ use Rattle.krates_ids.specs.declared.error.Error.{Error}
 use Rattle.krates_ids.specs.declared.error.Error.TheVariants as errors
 use Rattle.krates_text.proofs.CutsLemmas.{Lacks-middle, FirstCut-lacks, FirstCut-once}
 
--- ---- answers
+-- ---- results
 
 pub Ok≢Err : {A B : Type 0} {a : A} {b : B} → Ok a ≡ Err b → ⊥
 Ok≢Err e = cc
@@ -34,12 +34,12 @@ IsRefusedBy-map P Q (errors.Doubled id) f h = h
 IsRefusedBy-map P Q (errors.Lost lost) f h = h
 IsRefusedBy-map P Q errors.TooMany f h = h
 
--- what one relation gives, where another gives it
+-- a result carries over from one relation to another
 pub Answers-map : {A B : Type 0} (view : A → B) (P Q : Result B Text → Type 0) (r : Result A Error) → ((outcome : Result B Text) → P outcome → Q outcome) → Answers view P r → Answers view Q r
 Answers-map view P Q (Ok a) f h = f (Ok (view a)) h
 Answers-map view P Q (Err e) f h = IsRefusedBy-map (λ refusal. P (Err refusal)) (λ refusal. Q (Err refusal)) e (λ refusal. f (Err refusal)) h
 
--- a refusal that is handed on
+-- a refusal that is passed on
 pub Answers-refused : {A B : Type 0} (view : A → B) (P : Text → Type 0) (Q : Result B Text → Type 0) (e : Error) (r : Result A Error) → IsErrAnd r (λ d. d ≡ e) → ((refusal : Text) → P refusal → Q (Err refusal)) → IsRefusedBy P e → Answers view Q r
 Answers-refused view P Q e (Ok a) is f h = absurd is
 Answers-refused view P Q e (Err d) is f h = IsRefusedBy-map P (λ refusal. Q (Err refusal)) d f (rw is h)
@@ -58,7 +58,7 @@ Lacks-before : (c d : ℕ) (x y : Text) → Lacks c (x ++ d ∷ y) → Lacks c x
 Lacks-before c d [] y h = tt
 Lacks-before c d (b ∷ x) y h = (h.0, Lacks-before c d x y h.1)
 
--- of two texts that are cut apart at different bytes, the shorter lacks the other's byte
+-- of two pieces cut from one text at different bytes, the shorter lacks the other's byte
 before_both : (c d : ℕ) (x y x' y' : Text) → Lacks c x → Has d x → Lacks d x' → x ++ c ∷ y ≡ x' ++ d ∷ y' → Lacks c x'
 before_both c d [] y x' y' none has none' e = absurd (has tt)
 before_both c d (b ∷ x) y [] y' none has none' e = tt
@@ -100,7 +100,7 @@ IsBeforeQuery-once s f f' (inr (none, inl h)) (inr (none', inr k)) = absurd (Fir
 IsBeforeQuery-once s f f' (inr (none, inr h)) (inr (none', inl k)) = absurd (FirstCut-lacks h.0 k.1)
 IsBeforeQuery-once s f f' (inr (none, inr h)) (inr (none', inr k)) = h.1 ∙ sym k.1
 
--- a part of a text lacks what the text lacks
+-- a part of a text lacks every byte that the text lacks
 IsBeforeQuery-lacks : (c : ℕ) (s f : Text) → IsBeforeQuery s f → Lacks c s → Lacks c f
 IsBeforeQuery-lacks c s f (inl h) none = Lacks-before c question_mark f h.0 (rw h.1.is at none)
 IsBeforeQuery-lacks c s f (inr (unasked, inl h)) none = Lacks-before c hash_sign f h.0 (rw h.1.is at none)
@@ -121,14 +121,14 @@ no_url : (s f u : Text) → Lacks plus_sign f → Has plus_sign s → (Lacks plu
 no_url s f u none has (inl h) = has h.0
 no_url s f u none has (inr h) = FirstCut-lacks none h.1
 
--- the comparison of a url with that of the source
+-- a url compared with that of the source
 pub IsUrlOf-tells : (s found url : Text) (b : Bool) → b ≡ pointwise ◌==◌ found url → IsUrlOf s found → (IsTrue b) ↔ IsUrlOf s url
 IsUrlOf-tells s found url b is h = (
   λ same. rw (← (bytes_decides found url).0 (sym is ∙ same)) h,
   λ k. is ∙ (bytes_decides found url).1 (IsUrlOf-once s found url h k),
 )
 
--- a source without a url has no other
+-- a source without a url equals none
 pub IsUrlOf-none : (s url : Text) → ((found : Text) → IsUrlOf s found → ⊥) → (IsTrue false) ↔ IsUrlOf s url
 IsUrlOf-none s url none = (λ wrong. absurd (false≢true wrong), λ h. absurd (none url h))
 

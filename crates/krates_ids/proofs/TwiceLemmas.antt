@@ -1,4 +1,4 @@
--- To correct twice is to correct once.
+-- Correcting twice is correcting once.
 use Rattle.std.proofs.Common.{◌≡◌, ◌⊎◌, inl, inr, ℕ, List, [], ◌∷◌, Option, Some, None, refl, sym, ap, ◌∙◌, subst, arith, Contains, slice_get}
 use Rattle.std.proofs.lemmas.Bool.{cases_order, true_from_ne_false, false≢true}
 use Rattle.std.specs.Str.{bytes_eq}
@@ -10,12 +10,12 @@ use Rattle.krates_ids.specs.Correction.{named, or_else, joined, Refers, dependen
 use Rattle.krates_ids.proofs.CorrectedLemmas.{some_is_not_none}
 use Rattle.krates_ids.proofs.CorrectionLemmas.{eq_from_true, true_from_eq}
 
--- what is there or not
+-- a feature is there or isn't
 seen : {A : Type 0} (found : Option A) → ((x : A) × (found ≡ Some x)) ⊎ (found ≡ None)
 seen None = inr refl
 seen (Some x) = inl (x, refl)
 
--- what is joined is there
+-- what was joined is there
 joined_stays : (manifest index corrected : FeaturesModel) → IsCorrection manifest index corrected → (name : Text) (values : List Text) → joined manifest index name ≡ Some values → named corrected name ≡ Some values
 joined_stays manifest index corrected is name values e =
     elim (seen (named manifest name)) [
@@ -23,7 +23,7 @@ joined_stays manifest index corrected is name values e =
       | inr none ↦ is.added name values none (sym (ap (λ x. or_else x (named index name)) none) ∙ e)
     ]
 
--- what is absent was joined from neither
+-- what is missing was in neither
 joined_absent : (manifest index corrected : FeaturesModel) → IsCorrection manifest index corrected → (name : Text) → named corrected name ≡ None → joined manifest index name ≡ None
 joined_absent manifest index corrected is name e =
     elim (seen (joined manifest index name)) [
@@ -35,7 +35,7 @@ second_absent : {A : Type 0} (first other : Option A) → or_else first other �
 second_absent None other e = e
 second_absent (Some x) other e = absurd cc
 
--- the reference that is added is no simple one
+-- the reference that is added isn't simple
 not_plain : (feature name : Text) → Contains (dependency_reference feature ∷ []) name → IsReference name (simple name) → ⊥
 not_plain feature name among plain =
     elim (Contains-push_cases [] (dependency_reference feature) name among) [
@@ -43,7 +43,7 @@ not_plain feature name among plain =
       | inr same ↦ plain.0 (record { rest = feature; is = sym same })
     ]
 
--- nothing more is referred to after a correction
+-- after a correction nothing that is missing is referred to
 no_more : (manifest index once : FeaturesModel) → IsCorrection manifest index once → (name : Text) → named once name ≡ None → Refers (joined once index) name → ⊥
 no_more manifest index once is name absent r =
     elim (seen (named once r.feature)) [
@@ -72,7 +72,7 @@ twice manifest index once again first second name =
           ∙ sym none
     ]
 
--- there is one first version
+-- there is only one first version
 one_first : (versions : List IndexVersionModel) (version : VersionModel) (j k : ℕ) (a b : FeaturesModel) → IsFirstEqual versions version j a → IsFirstEqual versions version k b → a ≡ b
 one_first versions version j k a b p q = elim (cases_order j k) [
   | inl e ↦
@@ -81,13 +81,13 @@ one_first versions version j k a b p q = elim (cases_order j k) [
   | inr r ↦ elim r [ inl lt ↦ absurd (q.first j p.found lt p.here p.is_version) | inr lt ↦ absurd (p.first k q.found lt q.here q.is_version) ]
 ]
 
--- the features that the index has of a package are one
+-- the index has only one list of features for a package
 one_indexed : (index : IndexModel) (pkg : PackageModel) (a b : FeaturesModel) → IsIndexed index pkg a → IsIndexed index pkg b → a ≡ b
 one_indexed index pkg a b p q =
     let same : p.version.0 ≡ q.version.0 = same_Some _ _ (same_Some _ _ (sym p.version.2 ∙ q.version.2)) in
     one_first q.version.0 pkg.version p.version.1 q.version.1 a b (subst (λ vs. IsFirstEqual vs pkg.version p.version.1 a) same p.version.3) q.version.3
 
--- the index has the same of a package with other features
+-- the index has the same for a package with other features
 indexed_before : (index : IndexModel) (before : PackageModel) (features found : FeaturesModel) → IsIndexed index (with_features before features) found → IsIndexed index before found
 indexed_before index before features found i = record { source = i.source; version = i.version }
 
@@ -100,9 +100,9 @@ corrected_twice index before once again (known features indexed done is) (known 
     let one : later ≡ features = one_indexed index before later features there indexed in
     twice before.features features once.features again.features done (subst (λ f. IsCorrection once.features f again.features) one done_again) name
 
--- ---- there is one correction
+-- ---- there is only one correction
 
--- values that can't but be one reference are it
+-- values that can't be anything but one reference are that reference
 only_reference : (values : List Text) (reference : Text) → ((values ≡ reference ∷ [] → ⊥) → ⊥) → values ≡ reference ∷ []
 only_reference [] reference n = absurd (n (λ e. cc))
 only_reference (v ∷ []) reference n =
@@ -110,13 +110,13 @@ only_reference (v ∷ []) reference n =
     (eq_from_true v reference (true_from_ne_false (bytes_eq v reference) (λ f. n (λ e. let same : v ≡ reference = cc in false≢true (sym f ∙ true_from_eq v reference same)))))
 only_reference (v ∷ w ∷ rest) reference n = absurd (n (λ e. cc))
 
--- what is there though it wasn't joined is the reference that is added
+-- what is there though it wasn't joined is the reference that was added
 added_values : (manifest index corrected : FeaturesModel) → IsCorrection manifest index corrected → (name : Text) → joined manifest index name ≡ None → (values : List Text) → named corrected name ≡ Some values
     → values ≡ dependency_reference name ∷ []
 added_values manifest index corrected is name none values there =
     only_reference values (dependency_reference name) (λ differs. some_is_not_none (named corrected name) values there (is.no_other name none (λ r. differs (same_Some values (dependency_reference name ∷ []) (sym there ∙ is.referred name none r)))))
 
--- what one correction lacks the other does
+-- what one correction lacks, the other lacks too
 absent_alike : (manifest index a b : FeaturesModel) → IsCorrection manifest index a → IsCorrection manifest index b → (name : Text) → joined manifest index name ≡ None → named a name ≡ None → named b name ≡ None
 absent_alike manifest index a b p q name none absent = q.no_other name none (λ r. some_is_not_none (named a name) (dependency_reference name ∷ []) (p.referred name none r) absent)
 

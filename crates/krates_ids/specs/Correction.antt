@@ -65,7 +65,7 @@ pub record IsIndexed (index : IndexModel) (pkg : PackageModel) (features : Featu
 abbrev pub Features : Type 0
 Features = Text → Option (List Text)
 
--- the values of the first where it has the name, else those of the second
+-- the value of the first if there is one, otherwise that of the second
 abbrev pub or_else : {A : Type 0} → Option A → Option A → Option A
 or_else None other = other
 or_else (Some x) other = Some x
@@ -100,7 +100,7 @@ pub record IsCorrection (manifest index corrected : FeaturesModel) : Type 0 wher
 abbrev pub with_features : PackageModel → FeaturesModel → PackageModel
 with_features pkg features = record pkg { features = features }
 
--- The package after a correction: its features are corrected, and nothing else, where the index has it; else it is unchanged.
+-- The package after a correction: if the index has it, its features are corrected and nothing else; otherwise it is unchanged.
 pub data IsCorrected (index : IndexModel) (before after : PackageModel) : Type 0 where
   unknown : ((features : FeaturesModel) → IsIndexed index before features → ⊥) → after ≡ before → IsCorrected index before after
   known : (features : FeaturesModel) → IsIndexed index before features → IsCorrection before.features features after.features

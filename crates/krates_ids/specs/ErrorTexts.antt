@@ -1,4 +1,4 @@
--- What is printed of a refusal of a build.
+-- The text that is printed for a refusal of a build.
 use Rattle.std.specs.Prelude.{◌++◌, Option, Some, codes}
 use Rattle.krates_cm.specs.Document.{Text, text_view}
 use Rattle.krates_cm.specs.contracts.error.ErrorDisplay.TheImpl.{ghosts as cm_display}
@@ -7,14 +7,14 @@ use Rattle.krates_ids.specs.declared.error.Error.TheVariants as errors
 use Rattle.krates_ids.specs.declared.error.Lost.{Lost}
 use Rattle.krates_ids.specs.declared.error.Lost.TheVariants as losts
 
--- of what a document lacks
+-- for what a document lacks
 abbrev pub lost_text : Lost → Text
 lost_text (losts.Package id) = codes "lost package: " ++ id.text
 lost_text (losts.Node id) = codes "lost node: " ++ id.text
 lost_text (losts.Feature krate name) = codes "lost feature: " ++ (text_view name ++ (codes " of " ++ krate.text))
 lost_text (losts.Undeclared krate dep) = codes "undeclared dependency: " ++ (dep.text ++ (codes " of " ++ krate.text))
 
--- of a refusal; where there is no document it is what the cause prints, where its crate states that
+-- for a refusal; where there is no document it is what the cause prints, if its crate states that
 abbrev pub error_text : Error → Option Text
 error_text errors.NoResolveGraph = Some (codes "no resolution graph was provided")
 error_text (errors.Metadata cause) = cm_display.output cause

@@ -130,7 +130,7 @@ pub record NeedsDecoding (t : Text) : Type 0 where
   pub has_escape : Has percent_sign query
   pub good : AreEscapes query
 
--- why a text is no id
+-- why a text isn't an id
 pub data Fault : Type 0 where
   no_opaque_form : Fault
   no_stable_form : Fault
@@ -151,7 +151,7 @@ pub record IsSameId (a b : Identity) : Type 0 where
   pub version : a.version ≡ b.version
   pub source : a.source ≡ b.source
 
--- whether they are
+-- whether they are the same
 abbrev pub same_id : Identity → Identity → Bool
 same_id = eq_of_both (on (λ id. id.name) (pointwise ◌==◌)) (eq_of_both (on (λ id. id.version) (pointwise ◌==◌)) (on (λ id. id.source) (pointwise ◌==◌)))
 
@@ -163,6 +163,6 @@ by_texts first second third = then_cmp (on first (slice_cmp nat_cmp)) (then_cmp 
 abbrev pub id_cmp : Identity → Identity → Ordering
 id_cmp = by_texts (λ id. id.name) (λ id. id.version) (λ id. id.source)
 
--- what an id feeds a hasher
+-- what an id writes to a hasher
 abbrev pub id_hash_input : Identity → HashWrites
 id_hash_input id = fed_text id.name ++ fed_text id.version ++ fed_text id.source

@@ -1,4 +1,4 @@
--- What a failure to have a document becomes: running out of memory stays that.
+-- What a failure to get a document becomes: running out of memory stays that.
 use Rattle.std.specs.Prelude.{◌≡◌}
 use Rattle.krates_cm.specs.declared.error.Error as cm
 use Rattle.krates_cm.specs.declared.error.Error.TheVariants as cm_errors

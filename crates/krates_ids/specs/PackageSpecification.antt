@@ -1,4 +1,4 @@
--- Package specifications (Cargo Book, "Package ID Specifications"): which text is which specification, why a text is none,
+-- Package specifications (Cargo Book, "Package ID Specifications"): which text is which specification, why a text isn't one,
 -- and which packages a specification fits.
 use Rattle.std.specs.Prelude.{◌≡◌, ℕ, List, [], ◌∷◌, ◌++◌, ◌⊎◌, ◌==◌, ◌||◌, Bool, true, false, not, if◌then◌else◌, Option, Some, None, IfSome, Result, Ok, Err, length, codes, option_map, string_bytes}
 use Rattle.std.specs.Char.{is_ascii_alphabetic, is_ascii_alphanumeric}
@@ -21,7 +21,7 @@ pub record Specification : Type 0 where
 abbrev pub specification : Text → Option VersionModel → Option Text → Specification
 specification name version url = record { name = name; version = version; url = url }
 
--- seen by its name's and url's bytes and its version's parts
+-- as clauses see it: the bytes of its name and url, and the parts of its version
 abbrev pub spec_view : PkgSpec → Specification
 spec_view s = specification (string_bytes s.name) (option_map parts_of s.version) (option_map string_bytes s.url)
 
@@ -73,7 +73,7 @@ begins_with_letter (b ∷ rest) = is_ascii_alphabetic b
 abbrev pub Checks : Type 0
 Checks = List (Bool × Text)
 
--- the refusal of the first test that is true, else the value
+-- the refusal of the first test that is true, or the value
 abbrev pub checked : {A : Type 0} → Checks → A → Result A Text
 checked [] a = Ok a
 checked ((wrong, refusal) ∷ more) a = if wrong then Err refusal else checked more a
@@ -162,7 +162,7 @@ Gives t = GivesChecked (IsText t)
 abbrev pub IsSpec : Text → Text → Option VersionModel → Option Text → Type 0
 IsSpec t name version url = Gives t (Ok (specification name version url))
 
--- the text is no specification, and this is the text of its refusal
+-- the text isn't a specification, and this is the text of its refusal
 abbrev pub IsSpecFault : Text → Text → Type 0
 IsSpecFault t refusal = Gives t (Err refusal)
 

@@ -1,4 +1,4 @@
--- What reading a package id answers: the id that its text reads as, or the id unchanged with a fault that is true.
+-- What reading a package id returns: the id that its text reads as, or the id unchanged with a fault that is true.
 use Rattle.std.specs.Prelude.{◌≡◌, Result, Ok, IfOk, IfErr}
 use Rattle.krates_cm.specs.Document.{id_view}
 use Rattle.krates_cm.specs.declared.package_id.PackageId.{PackageId}
@@ -6,7 +6,7 @@ use Rattle.krates_ids.specs.Identity.{Identity, Reads, NeedsDecoding, IsFault, n
 use Rattle.krates_ids.specs.declared.id_error.IdError.{IdError}
 use Rattle.krates_ids.specs.declared.id_error.IdError.TheVariants.{Opaque, Stable, Escape, Memory}
 
--- the id is handed back unchanged, with a fault that is true of its text; memory is needed only to decode an escape
+-- the id is given back unchanged, with a fault that is true of its text; memory is needed only to decode an escape
 abbrev pub IsRefusal : PackageId → IdError → Type 0
 IsRefusal id (Opaque back) = (back ≡ id) × IsFault (id_view id) no_opaque_form
 IsRefusal id (Stable back) = (back ≡ id) × IsFault (id_view id) no_stable_form

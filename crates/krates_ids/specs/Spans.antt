@@ -1,4 +1,4 @@
--- Where pieces stand in a text, and the parts of an id by their spans.
+-- Where the pieces of a text stand, and the parts of an id by their spans.
 use Rattle.std.specs.Prelude.{◌≡◌, ℕ, Bool, ◌-◌, ◌≤◌, ◌++◌, length, take, drop}
 use Rattle.std.specs.Str.{IsUtf8, IsCharBoundary}
 use Rattle.krates_cm.specs.Document.{Text}

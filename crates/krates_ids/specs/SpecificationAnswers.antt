@@ -1,4 +1,4 @@
--- What the functions that read a package specification answer.
+-- What the functions that read a package specification return.
 use Rattle.std.specs.Prelude.{Option, MatchOption, option_map, Some, None, Result, Ok, Err}
 use Rattle.std.specs.Borrow.{Bor}
 use Rattle.krates_cm.specs.Document.{Text, VersionModel}
@@ -16,12 +16,12 @@ IsRefusedBy P (errors.InvalidPkgSpec refusal) = P refusal.now
 IsRefusedBy P errors.Memory = Unit {0}
 IsRefusedBy P _ = ⊥
 
--- the answer is what the relation gives, but for running out of memory
+-- the result is what the relation gives, or memory ran out
 abbrev pub Answers : {A B : Type 0} → (A → B) → (Result B Text → Type 0) → Result A Error → Type 0
 Answers view P (Ok a) = P (Ok (view a))
 Answers view P (Err e) = IsRefusedBy (λ refusal. P (Err refusal)) e
 
--- a version, where the text is one
+-- a version, if the text is one
 abbrev pub version_outcome : Option VersionModel → Result VersionModel Text
 version_outcome None = Err bad_version
 version_outcome (Some version) = Ok version

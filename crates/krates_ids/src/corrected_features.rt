@@ -1,4 +1,4 @@
-//! The corrected features of a package, made aside.
+//! The corrected features of a package, made apart from it.
 
 ghost use Rattle.std.specs.Prelude.{◌≡◌, ◌↔◌, ◌⊎◌, [], ◌∷◌, IsTrue, IfOk, OnOk, Some, None, map};
 ghost use Rattle.std.specs.List.{Contains};
@@ -57,7 +57,7 @@ fn copies(alloc: Global, texts: &[String]) -> Result<Vec<String>, AllocError>
     Ok(copied)
 }
 
-/// The names that are no feature and to which a simple reference stands among the values, in the order of the values.
+/// The names that aren't features and to which some value is a simple reference, in the order of the values.
 fn referred_names(alloc: Global, features: &FeaturesMap) -> Result<Vec<String>, AllocError>
     ensures { IfOk result (λ names. (name : Text) → Contains (texts_view names) name
         ↔ ((named (features_view features.now) name ≡ None) × Refers (named (features_view features.now)) name)) }
@@ -69,7 +69,7 @@ fn referred_names(alloc: Global, features: &FeaturesMap) -> Result<Vec<String>, 
     Ok(names)
 }
 
-/// Adds the simple references among these values whose names are no feature.
+/// Adds the simple references among these values whose names aren't features.
 fn add_referred(
     features: &FeaturesMap,
     values: &[String],
@@ -87,7 +87,7 @@ fn add_referred(
     Ok(())
 }
 
-/// Whether the text is a simple reference to a name that is no feature.
+/// Whether the text is a simple reference to a name that isn't a feature.
 fn is_absent_reference(features: &FeaturesMap, value: &str) -> bool
     ensures { IsTrue result ↔ (IsReference value.now (simple value.now)
         × (named (features_view features.now) value.now ≡ None)) }

@@ -35,7 +35,7 @@ impl CachingIndex {
     /// Corrects the features of a package of crates.io that the answer has, by the features that it has there; any other
     /// package is left as it is.
     ///
-    /// Features are only added, and those of the manifest keep their values. To correct twice is to correct once.
+    /// Features are only added, and those of the manifest keep their values. Correcting twice is correcting once.
     /// Fails only when out of memory, and then the package is unchanged. Time O(v log f) for f features with v values.
     ///
     /// ```text

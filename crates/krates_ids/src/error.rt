@@ -16,9 +16,9 @@ pub enum Error {
     NoResolveGraph,
     /// There is no document.
     Metadata(krates_cm::Error),
-    /// A text is no package specification.
+    /// A text isn't a package specification.
     InvalidPkgSpec(&'static str),
-    /// No root is left to begin with.
+    /// No root is left to start from.
     NoRootKrates,
     /// A text of the document has to be an id and isn't read, or is the id of a dependency without a semantic version.
     InvalidId(String),

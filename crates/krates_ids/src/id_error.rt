@@ -15,7 +15,7 @@ pub enum IdError {
     /// A `%` in the query of a git source does not begin an escape of a byte that may be escaped.
     #[error("bad escape: {}", .0.repr)]
     Escape(PackageId),
-    /// Memory was wanted to decode the query of a git source.
+    /// Memory ran out while the query of a git source was decoded.
     #[error("out of memory")]
     Memory(PackageId),
 }

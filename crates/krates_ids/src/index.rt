@@ -59,7 +59,7 @@ pub struct PackageNames {
     pub names: BTreeSet<String>,
 }
 
-/// What an index answers: under a name its crate, or none where it lacks the crate. A name may also be absent.
+/// What an index answers: under a name its crate, or `None` if it lacks the crate. A name may also be absent.
 #[derive(Drop)]
 pub struct IndexAnswer {
     /// The crates by name.

@@ -21,8 +21,8 @@ pub fn one_reading()
     ensures decodable { (t : Text) → NeedsDecoding t → (id : Identity) × Reads t id }
 {}
 
-/// Ids compare as equal exactly where their three parts are equal, the order of ids is total and agrees with that, and the
-/// same ids feed a hasher the same.
+/// Ids compare as equal exactly where their three parts are equal, the order of ids is total and agrees with that, and the same
+/// ids write the same to a hasher.
 pub fn comparison()
     ensures equality { (a b : Identity) → (same_id a b ≡ true) ↔ IsSameId a b }
     ensures order { (a b : Identity) → (id_cmp a b ≡ Equal) ↔ IsSameId a b }

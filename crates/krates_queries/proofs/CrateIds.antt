@@ -9,13 +9,13 @@ use Rattle.krates_queries.specs.Node.{crate_ids}
 use Rattle.krates_queries.specs.declared.node.Node.{Node}
 use Rattle.krates_queries.specs.declared.node.Node.TheVariants.{Krate, Feature}
 
--- no more crates than nodes
+-- there are no more crates than nodes
 pub as_few_crates : {N : Type 0} (nodes : List (Node N)) (n : ℕ) → n < length (crate_ids nodes) → n < length nodes
 as_few_crates [] n lt = lt
 as_few_crates (Krate i k f m ∷ nodes) zero lt = omega arith
 as_few_crates (Krate i k f m ∷ nodes) (suc n) lt = let more = as_few_crates nodes n (omega arith) in omega (arith, more)
 as_few_crates (Feature k name ∷ nodes) n lt = let more = as_few_crates nodes n lt in omega (arith, more)
 
--- the crate of the number has the id at its place
+-- the id of a crate's number is the id at that place
 pub crate_id : (ids : List Identity) (n : ℕ) (id : Identity) → slice_get ids n ≡ Some id → id_at ids n ≡ id_of id
 crate_id ids n id at = get_or_from_slice_get (map id_of ids) n (id_of id) no_id (slice_get-map id_of ids n ∙ ap (λ (o : Option Identity). option_map id_of o) at)

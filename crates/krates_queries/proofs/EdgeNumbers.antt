@@ -1,4 +1,4 @@
--- The numbers of a node's edges: which they are, in which order, and what the edges lead to.
+-- The numbers of a node's edges: which they are, in which order, and where the edges lead.
 use Rattle.std.proofs.Common.{◌≡◌, ℕ, zero, suc, ◌+◌, ◌<◌, List, [], ◌∷◌, length, All, Option, Some, option_map, slice_get, Contains, refl, ap, ◌∙◌, subst, inl, inr, arith}
 use Rattle.std.proofs.lemmas.Bool.Decides.{Decides-eqb}
 use Rattle.std.proofs.lemmas.List.Elements.{recursion_from_All, All-contains}
@@ -50,9 +50,9 @@ at_edge {E} edges node d k w =
     (member_map (λ (p : ℕ × GraphEdge E). p.0) (edges_at edges node d) (0 + k, w.edge)
     (member_filter (is_at node d) (enumerate_from 0 edges) (0 + k, w.edge) ((Decides-eqb (end_of d w.edge) node).1 w.end) there))
 
--- ---- what they lead to
+-- ---- where they lead
 
--- what stands at a place within a list
+-- a place within a list has an element
 pub got : {A : Type 0} (xs : List A) (k : ℕ) → k < length xs → (x : A) × (slice_get xs k ≡ Some x)
 got [] k lt = absurd (omega arith)
 got (x ∷ xs) zero lt = (x, refl)

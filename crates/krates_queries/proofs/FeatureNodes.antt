@@ -63,7 +63,7 @@ both_equal Greater b e = absurd cc
 
 -- ---- where a feature stands
 
--- a crate is no feature
+-- a crate isn't a feature
 not_feature : {N : Type 0} (id : Identity) (krate : N) (features : BTreeSet (String Global)) (mapping : Vec (Option ℕ)) (node : Node N) (number : ℕ) (name : Text)
     → Some (Krate id krate features mapping) ≡ Some node → IsFeature number name node → ⊥
 not_feature id krate features mapping (Krate i k f m) number name e is = is
@@ -98,7 +98,7 @@ member_feature (Feature k t ∷ nodes) number name (inl e) =
     record { n = zero; at = record { node = Feature k t; at = refl; is = (ap (λ (p : ℕ × Text). p.0) e, ap (λ (p : ℕ × Text). p.1) e) } }
 member_feature (Feature k t ∷ nodes) number name (inr h) = later (Feature k t) nodes number name (member_feature nodes number name h)
 
--- the features behind one are greater, so it isn't among them
+-- the features after one are greater, so it isn't among them
 each : {A : Type 0} (P : A → Type 0) (xs : List A) (z : A) → AllByRecursion P xs → Member xs z → P z
 each P [] z h m = absurd m
 each P (x ∷ xs) z h (inl e) = subst P e h.0
@@ -196,7 +196,7 @@ some_of : (number : Option ℕ) (P : Type 0) → IsSome number → ((n : ℕ) �
 some_of None P some h = absurd cc
 some_of (Some n) P some h = h n refl
 
--- a feature's node is found exactly where the crate has it enabled
+-- a feature's node is found exactly where it is enabled for its crate
 pub enabled_told : {N F : Type 0} (nodes : List (Node N)) (id : Id) (view : F → Text) (feature : Option F) (number : Option ℕ) → AreNodes nodes
     → ((n : ℕ) → (number ≡ Some n) ↔ IsNumberFor nodes id (option_map view feature) n)
     → MatchOption feature ⊤ (λ name. IsSome number ↔ IsEnabledIn (crate_ids nodes) (crate_features nodes) id (view name))

@@ -1,4 +1,4 @@
--- Crates that are joined by an edge: which edges join them, and that exactly those are found.
+-- Crates joined by edges: which edges join them, and that exactly those are found.
 use Rattle.std.proofs.Common.{◌≡◌, ◌⊎◌, ◌↔◌, ℕ, ◌≤◌, ◌&&◌, Bool, true, cond, List, [], ◌∷◌, map, filter, Option, Some, None, is_some, slice_get, Contains, refl, sym, ap, ◌∙◌, subst, inl, inr}
 use Rattle.std.proofs.lemmas.Bool.Decides.{Decides-eqb}
 use Rattle.std.proofs.lemmas.List.Elements.{All-from_recursion}
@@ -41,7 +41,7 @@ spot_feature None d name h = absurd cc
 spot_feature (Some (Krate id krate features mapping)) d name h = absurd cc
 spot_feature (Some (Feature krate_index f)) d name h = (Decides-eqb krate_index d).1 cc
 
--- the node is a feature of d
+-- the node is a feature of `d`
 pub of_feature : {N : Type 0} (nodes : List (Node N)) (d n : ℕ) → is_feature_of nodes d n ≡ true → (name : Text) × (slice_get (map node_spot nodes) n ≡ Some (FeatureSpot d name))
 of_feature nodes d n h = let w = feature_spot (slice_get nodes n) d h in (w.0, slice_get-map node_spot nodes n ∙ w.1)
 
@@ -53,7 +53,7 @@ home_step None t d h = inl h
 home_step (Some (Krate id krate features mapping)) t d h = inl h
 home_step (Some (Feature krate_index name)) t d h = inr ((Decides-eqb krate_index d).1 h)
 
--- a node whose home is d is d or a feature of it
+-- a node whose home is `d` is `d` or a feature of it
 of_home : {N : Type 0} (nodes : List (Node N)) (d t : ℕ) → home nodes t ≡ d → IsOf (map node_spot nodes) d t
 of_home nodes d t h = elim (home_step (slice_get nodes t) t d h) [
   | inl same ↦ inl same
@@ -77,14 +77,14 @@ home_of nodes d t x v (inr w) = home_feature (slice_get nodes t) t d (feature_of
 
 -- ---- the least edge
 
--- the edge of this number leads from p to d or to a feature of d
+-- the edge of this number leads from `p` to `d` or to a feature of `d`
 pub record Leads {N E : Type 0} (nodes : List (Node N)) (edges : List (GraphEdge E)) (p d k : ℕ) : Type 0 where
   pub edge : GraphEdge E
   pub at : slice_get edges k ≡ Some edge
   pub from : edge.source ≡ p
   pub to : IsOf (map node_spot nodes) d edge.target
 
--- an edge that leads from p to d or to a feature of d has a number
+-- an edge that leads from `p` to `d` or to a feature of `d` has a number
 leading : {N E : Type 0} (nodes : List (Node N)) (edges : List (GraphEdge E)) (p d : ℕ) → LeadsAlong (map node_spot nodes) edges p d → (k : ℕ) × Leads nodes edges p d k
 leading nodes edges p d w =
     (w.among.0, record { edge = w.edge; at = slice_get-get_or edges w.among.0 w.edge w.among.1 ∙ ap (λ e. Some e) w.among.2; from = w.from; to = w.to })
@@ -92,7 +92,7 @@ leading nodes edges p d w =
 pub least_leads : {N E : Type 0} (nodes : List (Node N)) (edges : List (GraphEdge E)) (p d k : ℕ) → IsLeastEdge nodes edges p d k → LeadsAlong (map node_spot nodes) edges p d
 least_leads nodes edges p d k w = record { edge = w.edge; among = contains_got edges k w.edge w.at; from = w.from; to = w.to }
 
--- the neighbours are in order, and are the crates that the edges join so
+-- the neighbours are in order, and are exactly the crates that edges join so
 pub record AreNeighbours {N : Type 0} (nodes : List (Node N)) (IsJoinedBy : ℕ → ℕ → Type 0) (xs : List Neighbour) : Type 0 where
   pub order : AreInOrder xs
   pub sound : (n k : ℕ) → Member xs (record { krate = n; edge = k }) → IsJoinedBy n k
@@ -154,7 +154,7 @@ some_both (Some v) None h = absurd cc
 some_both None (Some e) h = absurd cc
 some_both None None h = absurd cc
 
--- what is asked of numbers that are looked at
+-- what has to hold of the numbers that are looked at
 pub record AreLookedAt {N : Type 0} (nodes : List (Node N)) (edge : ℕ → Option ℕ) (Is : ℕ → Type 0) (IsEdge : ℕ → ℕ → Type 0) (ns : List ℕ) : Type 0 where
   pub ascending : IsStrictlySortedBy nat_cmp ns
   pub among : (n : ℕ) → Is n → Contains ns n
@@ -189,7 +189,7 @@ are_joined {N} nodes edge Is IsEdge ns w =
       edges = All-from_recursion (λ (j : Joined N). IsEdge j.node j.edge) found (all_weaker _ _ found (λ j h. w.edges j.node j.edge j.krate h.krate h.edge_is) each);
     }
 
--- ---- the neighbours that are looked at
+-- ---- which neighbours are looked at
 
 cons_there : {X : Type 0} (o : Option X) (more : List X) (x : X) → (o ≡ Some x) ⊎ Member more x → Member (cons_option o more) x
 cons_there (Some s) more x (inl e) = inl (same_Some s x e)
@@ -202,13 +202,13 @@ there_cons (Some s) more x (inl e) = inl (ap (λ z. Some z) e)
 there_cons (Some s) more x (inr m) = inr m
 there_cons None more x m = inr m
 
--- what the function gives for an element is in the list
+-- what the function returns for an element is in the list
 given_there : {X Y : Type 0} (f : X → Option Y) (xs : List X) (x : X) (y : Y) → Member xs x → f x ≡ Some y → Member (filter_map f xs) y
 given_there f [] x y m h = absurd m
 given_there f (z ∷ zs) x y (inl e) h = cons_there (f z) (filter_map f zs) y (inl (ap f e ∙ h))
 given_there f (z ∷ zs) x y (inr m) h = cons_there (f z) (filter_map f zs) y (inr (given_there f zs x y m h))
 
--- an element for which the function gives this
+-- an element for which the function returns this
 record Given {X Y : Type 0} (f : X → Option Y) (xs : List X) (y : Y) : Type 0 where
   from : X
   member : Member xs from
@@ -224,7 +224,7 @@ given_of f (x ∷ xs) y m = elim (there_cons (f x) (filter_map f xs) y m) [
   | inr more ↦ given_more f x xs y (given_of f xs y more)
 ]
 
--- ---- those to which edges lead
+-- ---- crates to which edges lead
 
 -- which edge it is
 record TargetOf {N E : Type 0} (nodes : List (Node N)) (o : Option (GraphEdge E)) (k : ℕ) (t : Neighbour) : Type 0 where
@@ -253,7 +253,7 @@ leads_target nodes edges p n k x v w =
     (at_edge edges p Outgoing k (record { edge = w.edge; at = w.at; end = w.from }))
     (ap (target_in nodes k) w.at ∙ ap (λ (h : ℕ). Some (record { krate = h; edge = k })) (home_of nodes n w.edge.target x v w.to))
 
--- ---- those from which edges lead
+-- ---- crates from which edges lead
 
 record SourceOf {E : Type 0} (o : Option (GraphEdge E)) (k : ℕ) (s : Neighbour) : Type 0 where
   edge : GraphEdge E
@@ -267,7 +267,7 @@ source_at (Some e) k s h =
     let same : record { krate = e.source; edge = k } ≡ s = same_Some _ s h in
     record { edge = e; is = refl; source = ap (λ (n : Neighbour). n.krate) same; number = ap (λ (n : Neighbour). n.edge) same }
 
--- the edge of this number leads from n to t itself
+-- the edge of this number leads from `n` to `t` itself
 record LeadsRight {E : Type 0} (edges : List (GraphEdge E)) (n t k : ℕ) : Type 0 where
   edge : GraphEdge E
   at : slice_get edges k ≡ Some edge
@@ -298,7 +298,7 @@ into_leads nodes edges d n k m = elim (member_append (sources_to edges d) (sourc
       record { edge = w.edge; at = w.at; from = w.from; to = inr (of_feature nodes d w.edge.target (ap (is_feature_of nodes d) w.to ∙ feature.1)) })
 ]
 
--- an edge to a feature of d is found, since one leads from the feature to d
+-- an edge to a feature of `d` is found, since one leads from the feature to `d`
 leads_into : {N E : Type 0} (nodes : List (Node N)) (edges : List (GraphEdge E)) (d n k : ℕ) → AreConnected nodes edges → Leads nodes edges n d k → Member (sources_into nodes edges d) (record { krate = n; edge = k })
 leads_into nodes edges d n k connected w = elim w.to [
   | inl to ↦ member_left (sources_to edges d) _ _ (leads_source edges d n k (record { edge = w.edge; at = w.at; from = w.from; to = to }))
@@ -340,7 +340,7 @@ depends_of (Some (Krate i krate features m)) d id mapping e c =
     contains_of (numbers_in m.items) d (entry_named m.items d (member_of m.items (Some d) (subst (λ os. Contains os (Some d)) same c)))
 depends_of (Some (Feature krate_index name)) d id mapping e c = absurd cc
 
--- what its mapping names is what it depends on
+-- a crate depends on exactly the crates that its mapping names
 pub depends_iff : {N : Type 0} (nodes : List (Node N)) (p d : ℕ) → Contains (named_by (slice_get nodes p)) d ↔ DependsOn (map node_spot nodes) p d
 depends_iff nodes p d = (
   λ c. (let w = depends_at (slice_get nodes p) d c in record { id = w.0; mapping = w.1; at = slice_get-map node_spot nodes p ∙ w.2; among = w.3 }),

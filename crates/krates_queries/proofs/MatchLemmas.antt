@@ -1,4 +1,4 @@
--- The crates of a name are one stretch of the nodes.
+-- The crates of a name stand together among the nodes.
 use Rattle.std.proofs.Common.{◌≡◌, ◌∙◌, ℕ, zero, suc, ◌+◌, ◌<◌, ◌≤◌, Bool, true, false, cond, List, [], ◌∷◌, None, length, get_or, take, drop, filter, Ordering, Less, Equal, Greater, rules, refl, sym, ap, subst, arith}
 use Rattle.std.proofs.lemmas.Map.Text.{is_eq-slice_cmp}
 use Rattle.std.specs.Cmp.{IsTotalOrder}
@@ -19,7 +19,7 @@ use Rattle.krates_queries.specs.declared.node.Node.{Node}
 use Rattle.krates_queries.specs.declared.node.Node.TheVariants.{Krate, Feature}
 use Rattle.krates_queries.proofs.NodeLemmas.{Rises, none_first, rising}
 
--- where no version is asked for, all fit
+-- without a version all of them match
 pub all_fit : {N : Type 0} (version : N → Version) (ms : List (Match N)) → filter (fits version None) ms ≡ ms
 all_fit version [] = refl
 all_fit version (m ∷ ms) = ap (λ xs. m ∷ xs) (all_fit version ms)
@@ -63,13 +63,13 @@ rise (Feature krate_index text ∷ nodes) name s first = (no_later nodes name fi
 pub names_rise : {N : Type 0} (nodes : List (Node N)) (name : Text) → AreNodes nodes → IsNonDecreasingBy (λ (node : Node N). ordering_index (name_cmp node name)) nodes
 names_rise nodes name a = rising (λ node. ordering_index (name_cmp node name)) nodes (rise nodes name a.ordered.ascending a.first)
 
--- ---- the stretch
+-- ---- where they stand
 
--- whether a node is a crate of the name, as a search tells it
+-- whether a node is a crate of the name, as the search tests it
 abbrev is_its : {N : Type 0} → Text → Node N → Bool
 is_its name node = is_eq (name_cmp node name)
 
--- one node more: kept where it is a crate of the name, and else passed over
+-- one node more: kept if it is a crate of the name, otherwise skipped
 passed : {N : Type 0} (name : Text) (n : ℕ) (node : Node N) (nodes : List (Node N)) → is_its name node ≡ false
     → filter (is_named name) (numbered_crates n (node ∷ nodes)) ≡ filter (is_named name) (numbered_crates (suc n) nodes)
 passed name n (Krate id krate f m) nodes e =
@@ -110,7 +110,7 @@ below_unequal Less e = refl
 below_unequal Equal e = absurd cc
 below_unequal Greater e = refl
 
--- the crates of a name are the stretch that two searches cut out
+-- the crates of a name are those between the places that two searches find
 pub stretch_found : {N : Type 0} (name : Text) (nodes rest mine : List (Node N)) (n m : ℕ) → AreNodes nodes → rest ≡ drop n nodes → mine ≡ take m rest → n ≤ length nodes
     → (IsPartitionedBy (λ (y : Node N). is_lt (name_cmp y name)) nodes → IsPartitionPoint (λ (y : Node N). is_lt (name_cmp y name) ≡ true) (λ (y : Node N). is_lt (name_cmp y name) ≡ false) nodes n)
     → (IsPartitionedBy (λ (y : Node N). is_eq (name_cmp y name)) rest → IsPartitionPoint (λ (y : Node N). is_eq (name_cmp y name) ≡ true) (λ (y : Node N). is_eq (name_cmp y name) ≡ false) rest m)

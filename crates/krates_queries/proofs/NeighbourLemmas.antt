@@ -1,4 +1,4 @@
--- Neighbours in order: the first of a crate is found by halves, and has its least edge.
+-- Neighbours in order: the first one of a crate is found by binary search, and has its least edge.
 use Rattle.std.proofs.Common.{◌≡◌, ◌⊎◌, ℕ, zero, suc, ◌+◌, ◌<◌, ◌≤◌, ◌==◌, Bool, true, false, cond, List, [], ◌∷◌, length, get_or, Some, None, option_map, slice_get, Ordering, Less, Equal, refl, sym, ap, ◌∙◌, subst, inl, inr, arith}
 use Rattle.std.proofs.Math.Dec.{ltb}
 use Rattle.std.proofs.lemmas.Bool.{cases_lt, eqb-false, ltb-false, ne_eqb}
@@ -26,14 +26,14 @@ at_least a b r h = elim (cases_lt a b) [
   | inr ge ↦ ge
 ]
 
--- of two places the later has no lower crate
+-- a later neighbour has no lower crate
 pub crates_rise : (xs : List Neighbour) → AreInOrder xs → IsNonDecreasingBy (λ x. x.krate) xs
 crates_rise xs sorted i j d le lt =
     let x = get_or xs i d in
     let y = get_or xs j d in
     at_least y.krate x.krate (nat_cmp y.edge x.edge) (sorted_far _ (ranks_by neighbours_total (λ z. z)) xs sorted i j d le lt)
 
--- and, of one crate, no lower edge
+-- and, for the same crate, no lower edge
 edges_rise : (xs : List Neighbour) → AreInOrder xs → (i j : ℕ) (d : Neighbour) → i ≤ j → j < length xs → (get_or xs i d).krate ≡ (get_or xs j d).krate → (get_or xs i d).edge ≤ (get_or xs j d).edge
 edges_rise xs sorted i j d le lt same =
     let x = get_or xs i d in
@@ -48,7 +48,7 @@ edges_rise xs sorted i j d le lt same =
       | inr ge ↦ ge
     ]
 
--- ---- the first of a crate
+-- ---- the first neighbour of a crate
 
 found : (p : Neighbour → Bool) (xs : List Neighbour) (k : ℕ) (x : Neighbour) → slice_get xs k ≡ Some x → ((i : ℕ) (d : Neighbour) → i < k → p (get_or xs i d) ≡ false) → p x ≡ true → find p xs ≡ Some x
 found p [] k x at before e = absurd (none-some x at)
@@ -63,13 +63,13 @@ missing p (y ∷ ys) h = ap (λ b. cond b (Some y) (find p ys)) (h zero y (omega
 abbrev pub IsBelow : List Neighbour → ℕ → ℕ → Type 0
 IsBelow xs n k = IsPartitionPoint (λ (y : Neighbour). ltb y.krate n ≡ true) (λ (y : Neighbour). ltb y.krate n ≡ false) xs k
 
--- what is below is another crate
+-- a neighbour below the number is another crate
 below_other : (xs : List Neighbour) (n k i : ℕ) (d : Neighbour) → IsBelow xs n k → i < k → i < length xs → ((get_or xs i d).krate == n) ≡ false
 below_other xs n k i d parted lt within =
     let below = (Decides-ltb (get_or xs i d).krate n).0 (parted.0 i d (omega arith) lt) in
     ne_eqb (get_or xs i d).krate n (λ e. omega (arith, below, e))
 
--- what stands where those below end is the first of the crate, or there is none
+-- where those below end stands the first neighbour of the crate, if it has any
 pub found_at : (xs : List Neighbour) (n k : ℕ) (x : Neighbour) → IsBelow xs n k → slice_get xs k ≡ Some x → x.krate ≡ n → Some x.edge ≡ first_edge xs n
 found_at xs n k x parted at same =
     let lt = slice_get_within xs k x at in
@@ -91,7 +91,7 @@ none_there xs n k x sorted parted at other =
           ne_eqb (get_or xs i d).krate n (λ e. other (omega (arith, e, rise, here, least))))
     ])))
 
--- ---- whose edge it is
+-- ---- which crate the edge belongs to
 
 is_step : (x : Neighbour) (xs : List Neighbour) (n k : ℕ) (b : Bool) → (x.krate == n) ≡ b → option_map (λ (y : Neighbour). y.edge) (cond b (Some x) (find (λ y. y.krate == n) xs)) ≡ Some k
     → (first_edge xs n ≡ Some k → Member xs (record { krate = n; edge = k })) → Member (x ∷ xs) (record { krate = n; edge = k })
@@ -139,7 +139,7 @@ least_step x xs n k j true e sorted h (inr m) more =
 least_step x xs n k j false e sorted h (inl same) more = absurd (eqb-false x.krate n e (ap (λ (y : Neighbour). y.krate) same))
 least_step x xs n k j false e sorted h (inr m) more = more h m
 
--- and none of the crate is lower
+-- and none of its edges is lower
 pub first_least : (xs : List Neighbour) (n k j : ℕ) → AreInOrder xs → first_edge xs n ≡ Some k → Member xs (record { krate = n; edge = j }) → k ≤ j
 first_least [] n k j sorted h m = absurd m
 first_least (x ∷ xs) n k j sorted h m = least_step x xs n k j (x.krate == n) refl sorted h m (first_least xs n k j (order_of_rest x xs sorted))

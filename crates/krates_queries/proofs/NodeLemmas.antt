@@ -21,7 +21,7 @@ use Rattle.krates_queries.specs.declared.node.Node.{Node}
 use Rattle.krates_queries.specs.declared.node.Node.TheVariants.{Krate, Feature}
 use Rattle.krates_queries.proofs.OrderedIds.{Compares, id_of_equal, equal_of, sorted_weakly, none_equal, one_place, stands_within, stands_same}
 
--- ---- as many of each
+-- ---- as many values as ids
 
 pub as_many_values : {N : Type 0} (nodes : List (Node N)) → length (crate_values nodes) ≡ length (crate_ids nodes)
 as_many_values [] = refl
@@ -50,7 +50,7 @@ pub record CrateAt {N : Type 0} (nodes : List (Node N)) (n : ℕ) (id : Identity
   pub is : IsCrate node id names
   pub enabled : slice_get (crate_features nodes) n ≡ Some names
 
--- what stands at a place of the crates stands at the same number
+-- the crate at a place among the crates is the node of that number
 pub crate_at : {N : Type 0} (nodes : List (Node N)) (n : ℕ) (id : Identity) → CratesFirst nodes → slice_get (crate_ids nodes) n ≡ Some id → CrateAt nodes n id
 crate_at [] n id first at = absurd cc
 crate_at (Krate i krate features mapping ∷ nodes) zero id first at = record {
@@ -75,7 +75,7 @@ no_crate (Krate i k f m ∷ nodes) n id krate features mapping none at = absurd 
 no_crate (Feature krate_index name ∷ nodes) zero id krate features mapping none at = absurd cc
 no_crate (Feature krate_index name ∷ nodes) (suc n) id krate features mapping none at = no_crate nodes n id krate features mapping none at
 
--- a crate that stands at a number stands at that place of the crates
+-- the crate of a number stands at that place among the crates
 pub place_at : {N : Type 0} (nodes : List (Node N)) (n : ℕ) (id : Identity) (krate : N) (features : BTreeSet (String Global)) (mapping : Vec (Option ℕ))
     → CratesFirst nodes → slice_get nodes n ≡ Some (Krate id krate features mapping) → (slice_get (crate_ids nodes) n ≡ Some id) × (slice_get (crate_features nodes) n ≡ Some (names_in features))
 place_at [] n id krate features mapping first at = absurd cc
@@ -87,7 +87,7 @@ place_at (Krate i k f m ∷ nodes) (suc n) id krate features mapping first at = 
 place_at (Feature krate_index name ∷ nodes) zero id krate features mapping first at = absurd cc
 place_at (Feature krate_index name ∷ nodes) (suc n) id krate features mapping first at = absurd (no_crate nodes n id krate features mapping first at)
 
--- and so does what stands for its package
+-- and so does the value for its package
 pub value_at : {N : Type 0} (nodes : List (Node N)) (n : ℕ) (id : Identity) (krate : N) (features : BTreeSet (String Global)) (mapping : Vec (Option ℕ))
     → CratesFirst nodes → slice_get nodes n ≡ Some (Krate id krate features mapping) → slice_get (crate_values nodes) n ≡ Some krate
 value_at [] n id krate features mapping first at = absurd cc
@@ -96,7 +96,7 @@ value_at (Krate i k f m ∷ nodes) (suc n) id krate features mapping first at = 
 value_at (Feature krate_index name ∷ nodes) zero id krate features mapping first at = absurd cc
 value_at (Feature krate_index name ∷ nodes) (suc n) id krate features mapping first at = absurd (no_crate nodes n id krate features mapping first at)
 
--- no more crates than nodes
+-- there are no more crates than nodes
 pub crates_within : {N : Type 0} (nodes : List (Node N)) → length (crate_ids nodes) ≤ length nodes
 crates_within [] = omega arith
 crates_within (Krate id krate features mapping ∷ nodes) = let more = crates_within nodes in omega (arith, more)
@@ -114,7 +114,7 @@ no_features [] none = refl
 no_features (Krate i k f m ∷ nodes) none = absurd cc
 no_features (Feature krate_index name ∷ nodes) none = no_features nodes none
 
--- where a feature stands at a number, no crate stands at that place of the crates
+-- where the node of a number is a feature, no crate stands at that place
 pub no_place : {N : Type 0} (nodes : List (Node N)) (n krate_index : ℕ) (name : String Global) → CratesFirst nodes → slice_get nodes n ≡ Some (Feature krate_index name)
     → (slice_get (crate_ids nodes) n ≡ None) × (slice_get (crate_features nodes) n ≡ None)
 no_place [] n krate_index name first at = absurd cc
@@ -146,7 +146,7 @@ pair_sorted : (i j : Identity) → id_cmp i j ≡ Less → IsStrictlySortedBy id
 unfolding IsStrictlySortedBy
 pair_sorted i j less = ((less, tt), (tt, tt))
 
--- of two ids in order the earlier doesn't stand behind the later
+-- of two ids in order, the earlier compares no higher than the later with any id
 earlier : Compares → (i j kid : Identity) → id_cmp i j ≡ Less → ordering_index (id_cmp i kid) ≤ ordering_index (id_cmp j kid)
 earlier o i j kid less =
     let pair : List Identity = i ∷ j ∷ [] in
@@ -154,7 +154,7 @@ earlier o i j kid less =
     let rises : IsNonDecreasingBy (λ (x : Identity). ordering_index (id_cmp x kid)) pair = searchable_from_sorted o.total (λ (x : Identity). x) pair kid (sorted_weakly o pair sorted) in
     rises 0 1 i (omega arith) (omega arith)
 
--- no earlier node stands behind a later one
+-- the values of `f` never fall
 abbrev pub Rises : {X : Type 0} → (X → ℕ) → List X → Type 0
 Rises f [] = ⊤
 Rises f (x ∷ xs) = AllByRecursion (λ y. f x ≤ f y) xs × Rises f xs
@@ -237,7 +237,7 @@ told : {X : Type 0} (view : X → List Text) (r : Option X) (ids : List Identity
 told view None ids features id n names P stands some e = absurd cc
 told view (Some x) ids features id n names P stands some e = record { place = n; stands = stands; at = sym e }
 
--- what is found at the number of a crate are the names of its features
+-- what is found for the number of a crate are the names of its features
 pub features_told : {N X : Type 0} (view : X → List Text) (r : Option X) (nodes : List (Node N)) (id : Id) (n : ℕ) (P : Type 0) → AreNodes nodes → StandsAt (crate_ids nodes) id n
     → option_map view r ≡ slice_get (crate_features nodes) n → MatchOption r P (λ x. HasFeatures (crate_ids nodes) (crate_features nodes) id (view x))
 features_told view r nodes id n P a stands e =

@@ -1,4 +1,4 @@
--- Lists of ids in order: what a search finds, and which lists are in strict order.
+-- Sorted lists of ids: what a search finds in them, and when two are the same.
 use Rattle.std.proofs.Common.{◌≡◌, ◌↔◌, ℕ, ◌+◌, ◌<◌, List, [], ◌∷◌, length, get_or, map, false, refl, sym, ap, ◌∙◌, subst, inl, inr, arith, Ordering, Less, Equal, Greater}
 use Rattle.std.proofs.lemmas.Bool.{cases_lt, cases_order}
 use Rattle.std.proofs.lemmas.List.{get_or-map, length-map}
@@ -14,7 +14,7 @@ use Rattle.krates_rules.specs.Referent.{id_order}
 use Rattle.krates_rules.specs.Resolved.{id_of, StandsAt}
 use Rattle.krates_drawing.proofs.Members.{Member}
 
--- the order of ids is total, and tells which are the same
+-- the order of ids is total, and says which are the same
 pub record Compares : Type 0 where
   pub total : IsTotalOrder id_cmp
   pub tells : (a b : Identity) → (id_cmp a b ≡ Equal) ↔ IsSameId a b
@@ -31,7 +31,7 @@ equal_of o a b e = (o.tells a b).1 (same_of a b e)
 pub id_of_equal : Compares → (a b : Identity) → id_cmp a b ≡ Equal → id_of a ≡ id_of b
 id_of_equal o a b e = id_of_same a b ((o.tells a b).0 e)
 
--- ---- a search in strict order
+-- ---- search in a strictly sorted list
 
 not_less : (r : Ordering) → r ≡ Less → is_lt (ordering_reverse r) ≡ false
 not_less r e = rw e refl
@@ -56,7 +56,7 @@ none_equal ord xs i p k d lt e = elim (cases_lt k i) [
   | inr above ↦ (let g = p.1 k d above lt in cc)
 ]
 
--- ---- places in strict order
+-- ---- places in a strictly sorted list
 
 -- the same id doesn't stand at an earlier place
 pub not_earlier : Compares → (ids : List Identity) → IsStrictlySortedBy id_cmp ids → (i j : ℕ) (d : Identity) → i < j → j < length ids → id_of (get_or ids i d) ≡ id_of (get_or ids j d) → ⊥
@@ -81,16 +81,16 @@ stands_within ids id n h = slice_get_within ids n h.there h.at
 pub stands_same : (ids : List Identity) (id : Id) (n : ℕ) (d : Identity) → StandsAt ids id n → id_of (get_or ids n d) ≡ id
 stands_same ids id n d h = ap id_of (get_or_from_slice_get ids n h.there d h.at) ∙ h.same
 
--- ---- two lists in strict order
+-- ---- two strictly sorted lists
 
 pub never_less : IsTotalOrder id_cmp → (a b : Identity) → id_cmp a b ≡ Less → id_cmp b a ≡ Less → ⊥
 never_less o a b l m = let e = o.antisymm a b in cc (e, l, m)
 
--- each id of the first is one of the second
+-- each id of the first is also in the second
 abbrev pub HasLike : List Identity → List Identity → Type 0
 HasLike is js = (i : Id) → Member (map id_of is) i → Member (map id_of js) i
 
--- an id behind another
+-- an id that comes after another
 record Behind (i : Identity) (z : Id) : Type 0 where
   id : Identity
   is : id_of id ≡ z
@@ -119,7 +119,7 @@ later_like o i j is js s same there z m = elim (there z (inr m)) [
   | inr n ↦ n
 ]
 
--- lists in strict order with the same ids have them at the same places
+-- strictly sorted lists of the same ids have them at the same places
 pub one_order : IsTotalOrder id_cmp → (is js : List Identity) → IsStrictlySortedBy id_cmp is → IsStrictlySortedBy id_cmp js → HasLike is js → HasLike js is → map id_of is ≡ map id_of js
 unfolding IsStrictlySortedBy
 one_order o [] [] s u there back = refl

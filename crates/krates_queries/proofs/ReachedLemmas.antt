@@ -1,4 +1,4 @@
--- A work list that holds all that is reached: what was put is right, and what was taken is followed.
+-- A work list of all that is reached: all that was put is reached, and all that was taken was followed.
 use Rattle.std.proofs.Common.{◌≡◌, ◌⊎◌, ◌↔◌, ℕ, zero, suc, ◌+◌, ◌<◌, ◌≤◌, Bool, true, false, List, [], ◌∷◌, ◌++◌, length, take, map, get_or, All, Option, Some, None, Contains, slice_get, append_assoc, refl, sym, ap, ◌∙◌, subst, inl, inr, arith}
 use Rattle.std.proofs.lemmas.List.Elements.{Contains-append_left, Contains-append_right, Contains-append_cases, Contains-push_cases}
 use Rattle.std.proofs.lemmas.Bool.{cases_lt}
@@ -18,16 +18,16 @@ use Rattle.krates_queries.specs.KratesFiltered.{line_view, IsReached, IsTarget, 
 use Rattle.krates_queries.proofs.EdgeNumbers.{EdgeAt, edge_at, at_edge, got, contains_got}
 use Rattle.krates_drawing.proofs.Members.{Member, member_of, contains_of, mapped_of, member_map}
 
--- ---- putting
+-- ---- putting numbers
 
 pub grows_none : (New : ℕ → Type 0) (a : PutNumbers) → ((n : ℕ) → New n → ⊥) → Grows New a a
 grows_none New a none = record { size = refl; taken = refl; more = []; kept = sym (append-nil a.put); right = λ n c. absurd (member_of [] n c); all = λ n h. absurd (none n h) }
 
--- a number that had been put
+-- a number that was put before
 pub grows_old : (New : ℕ → Type 0) (a : PutNumbers) (x : ℕ) → Contains a.put x → ((n : ℕ) → New n → x ≡ n) → Grows New a a
 grows_old New a x c only = record { size = refl; taken = refl; more = []; kept = sym (append-nil a.put); right = λ n c. absurd (member_of [] n c); all = λ n h. subst (Contains a.put) (only n h) c }
 
--- a new one
+-- a new number
 pub grows_new : (New : ℕ → Type 0) (a : PutNumbers) (x : ℕ) → New x → ((n : ℕ) → New n → x ≡ n) → Grows New a (record a { put = a.put ++ x ∷ [] })
 grows_new New a x new only = record {
   size = refl;
@@ -41,12 +41,12 @@ grows_new New a x new only = record {
 pub grows_kept : (New : ℕ → Type 0) (a b : PutNumbers) (n : ℕ) → Grows New a b → Contains a.put n → Contains b.put n
 grows_kept New a b n g c = subst (λ xs. Contains xs n) (sym g.kept) (Contains-append_left a.put g.more n c)
 
--- either
+-- either of these
 pub put_grows : (New : ℕ → Type 0) (r : Bool) (a b : PutNumbers) (x : ℕ) → New x → ((n : ℕ) → New n → x ≡ n) → OnFalse r (Contains a.put x) → OnTrue r (b ≡ record a { put = a.put ++ x ∷ [] }) → OnFalse r (b ≡ a) → Grows New a b
 put_grows New true a b x new only old added same = subst (Grows New a) (sym added) (grows_new New a x new only)
 put_grows New false a b x new only old added same = subst (Grows New a) (sym same) (grows_old New a x old only)
 
--- one after the other
+-- one call after another
 pub grows_both : (A B C : ℕ → Type 0) (a b c : PutNumbers) → ((n : ℕ) → A n → C n) → ((n : ℕ) → B n → C n) → ((n : ℕ) → C n → A n ⊎ B n) → Grows A a b → Grows B b c → Grows C a c
 grows_both A B C a b c from_a from_b of g h = record {
   size = h.size ∙ g.size;
@@ -57,7 +57,7 @@ grows_both A B C a b c from_a from_b of g h = record {
   all = λ n x. elim (of n x) [ inl u ↦ grows_kept B b c n h (g.all n u) | inr v ↦ h.all n v ];
 }
 
--- ---- a list in steps
+-- ---- a list, element by element
 
 pub in_front : (xs : List ℕ) (i x n : ℕ) → i < length xs → x ≡ get_or xs i x → Contains (take (i + 1) xs) n ↔ (Contains (take i xs) n ⊎ (x ≡ n))
 in_front xs i x n lt is =
@@ -77,7 +77,7 @@ past xs k none = elim (cases_lt k (length xs)) [
 
 -- ---- targets
 
--- one edge has one target
+-- an edge has only one target
 pub one_target : (kind : DepKind) (edges : List (GraphEdge Edge)) (k n : ℕ) (e : GraphEdge Edge) → slice_get edges k ≡ Some e → (w : IsTarget kind edges k n) → w.edge ≡ e
 one_target kind edges k n e at w = same_Some w.edge e (sym w.at ∙ at)
 
@@ -87,7 +87,7 @@ target_here kind edges k n e at w = ap (λ (x : GraphEdge Edge). x.target) (sym 
 pub target_passes : (kind : DepKind) (edges : List (GraphEdge Edge)) (k n : ℕ) (e : GraphEdge Edge) → slice_get edges k ≡ Some e → IsTarget kind edges k n → Passes kind (tie_view e.weight)
 target_passes kind edges k n e at w = subst (λ (x : GraphEdge Edge). Passes kind (tie_view x.weight)) (one_target kind edges k n e at w) w.passes
 
--- the edges of one number more
+-- the targets of one more edge
 pub targets_more : (kind : DepKind) (edges : List (GraphEdge Edge)) (ks : List ℕ) (i k : ℕ) (a b c : PutNumbers) → i < length ks → k ≡ get_or ks i k → Grows (IsTargetOf kind edges (take i ks)) a b → Grows (IsTarget kind edges k) b c
     → Grows (IsTargetOf kind edges (take (i + 1) ks)) a c
 targets_more kind edges ks i k a b c lt is g h =
@@ -105,7 +105,7 @@ no_targets kind edges a = grows_none (IsTargetOf kind edges []) a (λ n w. membe
 
 -- ---- following
 
--- what was put is reached, the starts were put, and so were the targets of what was taken
+-- what was put is reached; the starts were put, and so were the targets of what was taken
 pub record IsFollowed (kind : DepKind) (count : ℕ) (edges : List (GraphEdge Edge)) (starts : List ℕ) (a : PutNumbers) : Type 0 where
   pub size : a.size ≡ count
   pub sound : (n : ℕ) → Contains a.put n → IsReached kind edges starts n
@@ -121,7 +121,7 @@ target_reached kind edges starts n m here w =
     let among : Contains (map line_view edges) (line_view e) = contains_of (map line_view edges) (line_view e) (member_map line_view edges e (member_of edges e (contains_got edges w.number e w.target.at))) in
     subst (IsReached kind edges starts) w.target.to (goes_on {l = line_view e} (subst (IsReached kind edges starts) from here) among w.target.passes)
 
--- at the beginning
+-- at the start
 pub followed_first : (kind : DepKind) (count : ℕ) (edges : List (GraphEdge Edge)) (starts : List ℕ) (a b : PutNumbers) → a ≡ record { size = count; put = []; taken = 0 } → Grows (Contains starts) a b → IsFollowed kind count edges starts b
 followed_first kind count edges starts a b new g =
     let put : b.put ≡ g.more = g.kept ∙ ap (λ (x : PutNumbers). x.put ++ g.more) new in
@@ -138,7 +138,7 @@ got_left [] ys k n lt e = absurd (omega arith)
 got_left (x ∷ xs) ys zero n lt e = e
 got_left (x ∷ xs) ys (suc k) n lt e = got_left xs ys k n (omega arith) e
 
--- one more is taken and followed
+-- one more number is taken and followed
 pub followed_more : (kind : DepKind) (count : ℕ) (edges : List (GraphEdge Edge)) (starts : List ℕ) (a b c : PutNumbers) (x : ℕ) → IsFollowed kind count edges starts a → slice_get a.put a.taken ≡ Some x
     → b ≡ record a { taken = a.taken + 1 } → Grows (IsTargetOf kind edges (numbers_at edges x Outgoing)) b c → IsFollowed kind count edges starts c
 followed_more kind count edges starts a b c x f at took g =
@@ -168,7 +168,7 @@ followed_more kind count edges starts a b c x f at took g =
 
 -- ---- all that is reached
 
--- where all that was put was followed, all that is reached was put
+-- once all that was put was followed, all that is reached was put
 pub all_put : (kind : DepKind) (count : ℕ) (edges : List (GraphEdge Edge)) (starts : List ℕ) (a : PutNumbers) → IsFollowed kind count edges starts a → length a.put ≤ a.taken → (n : ℕ) → IsReached kind edges starts n → Contains a.put n
 all_put kind count edges starts a f done _ (begins {n} s) = f.begun n s
 all_put kind count edges starts a f done _ (goes_on {l} before among passes) =

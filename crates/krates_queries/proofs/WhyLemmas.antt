@@ -18,7 +18,7 @@ use Rattle.krates_queries.specs.Why.{IsWhy, node_fact}
 use Rattle.krates_queries.specs.declared.node.Node.{Node}
 use Rattle.krates_queries.specs.declared.node.Node.TheVariants as nodes_are
 
--- what a node says is its fact
+-- the fact of a node is what the node says
 says_fact : {N : Type 0} (nodes : List (Node N)) (n : ℕ) (node : Node N) → CratesFirst nodes → slice_get nodes n ≡ Some node → fact_in (crate_ids nodes) (node_says n node) ≡ node_fact (crate_ids nodes) node
 says_fact nodes n (nodes_are.Krate id krate features mapping) first at = ap (λ (i : Id). CrateFact i) (crate_id (crate_ids nodes) n id (place_at nodes n id krate features mapping first at).0)
 says_fact nodes n (nodes_are.Feature k name) first at = refl

@@ -20,7 +20,7 @@ value_in None = None
 value_in (Some (Krate id krate features mapping)) = Some krate
 value_in (Some (Feature krate_index name)) = None
 
--- the same of the crate of a number
+-- the same for the crate of a number
 abbrev pub value_at : {N : Type 0} → List (Node N) → ℕ → Option N
 value_at nodes n = value_in (slice_get nodes n)
 
@@ -40,7 +40,7 @@ pub record IsLeastEdge {N E : Type 0} (nodes : List (Node N)) (edges : List (Gra
   pub to : IsOf (map node_spot nodes) d edge.target
   pub least : (j : ℕ) (e : GraphEdge E) → slice_get edges j ≡ Some e → e.source ≡ p → IsOf (map node_spot nodes) d e.target → k ≤ j
 
--- These are exactly the crates whose number is so, each once, by number, each with its value and such an edge.
+-- These are exactly the crates whose numbers have the property, each once, by number, each with its value and such an edge.
 pub record AreJoined {N : Type 0} (nodes : List (Node N)) (Is : ℕ → Type 0) (IsEdge : ℕ → ℕ → Type 0) (joined : List (Joined N)) : Type 0 where
   pub by_number : IsStrictlySortedBy nat_cmp (map (λ j. j.node) joined)
   pub exactly : (n : ℕ) → Contains (map (λ j. j.node) joined) n ↔ Is n
@@ -80,7 +80,7 @@ is_feature_in d (Some (Feature krate_index name)) = krate_index == d
 abbrev pub is_feature_of : {N : Type 0} → List (Node N) → ℕ → ℕ → Bool
 is_feature_of nodes d n = is_feature_in d (slice_get nodes n)
 
--- the crate of the number, where it has a value and an edge
+-- the crate of the number, if it has a value and an edge
 abbrev pub joined_by : {N : Type 0} → ℕ → Option N → Option ℕ → Option (Joined N)
 joined_by n (Some krate) (Some edge) = Some (record { krate = krate; node = n; edge = edge })
 joined_by n _ _ = None

@@ -32,7 +32,7 @@ named_by None = []
 named_by (Some (Krate id krate features mapping)) = numbers_in mapping.items
 named_by (Some (Feature krate_index name)) = []
 
--- the number of the crate of a node: that of a feature's crate, and else the node's own
+-- the number of the crate of a node: that of a feature's crate, otherwise the node's own
 abbrev pub home_in : {N : Type 0} → ℕ → Option (Node N) → ℕ
 home_in n None = n
 home_in n (Some (Krate id krate features mapping)) = n
@@ -46,6 +46,6 @@ abbrev pub target_in : {N E : Type 0} → List (Node N) → ℕ → Option (Grap
 target_in nodes k None = None
 target_in nodes k (Some e) = Some (record { krate = home nodes e.target; edge = k })
 
--- those of the edges from p
+-- the crates into which edges from `p` lead
 abbrev pub targets_from : {N E : Type 0} → List (Node N) → List (GraphEdge E) → ℕ → List Neighbour
 targets_from nodes edges p = filter_map (λ k. target_in nodes k (slice_get edges k)) (numbers_at edges p Outgoing)

@@ -11,8 +11,8 @@ use Rattle.krates_queries.specs.declared.node.Node.{Node}
 use Rattle.krates_queries.specs.declared.queries.neighbours.Neighbour.{Neighbour}
 use Rattle.krates_queries.specs.declared.queries.direct_dependents.DirectDependent.{DirectDependent}
 
--- Number p is that of a crate, and an edge leads from it to d or to a feature of d. A feature has no features, so for one only
--- edges to itself count.
+-- Number `p` is that of a crate, and an edge leads from it to `d` or to a feature of `d`. A feature has no features, so for one only
+-- edges to the feature itself count.
 pub record IsDependent {N E : Type 0} (nodes : List (Node N)) (edges : List (GraphEdge E)) (d p : ℕ) : Type 0 where
   pub krate : N
   pub crate : value_at nodes p ≡ Some krate
@@ -32,14 +32,14 @@ abbrev pub source_in : {E : Type 0} → ℕ → Option (GraphEdge E) → Option 
 source_in k None = None
 source_in k (Some e) = Some (record { krate = e.source; edge = k })
 
--- those of the edges to d
+-- the sources of the edges to `d`
 abbrev pub sources_to : {E : Type 0} → List (GraphEdge E) → ℕ → List Neighbour
 sources_to edges d = filter_map (λ k. source_in k (slice_get edges k)) (numbers_at edges d Incoming)
 
--- those of the edges to features of d that are among these
+-- the sources of the edges to features of `d` that are among these
 abbrev pub sources_over : {N E : Type 0} → List (Node N) → List (GraphEdge E) → ℕ → List Neighbour → List Neighbour
 sources_over nodes edges d among = flat_map (λ s. sources_to edges s.krate) (filter (λ s. is_feature_of nodes d s.krate) among)
 
--- those of the edges to d and to features of d, which are among the sources of the edges to d
+-- the sources of the edges to `d` and to features of `d`, which are themselves among the sources of the edges to `d`
 abbrev pub sources_into : {N E : Type 0} → List (Node N) → List (GraphEdge E) → ℕ → List Neighbour
 sources_into nodes edges d = sources_to edges d ++ sources_over nodes edges d (sources_to edges d)

@@ -19,12 +19,12 @@ abbrev pub node_spot : {N : Type 0} → Node N → Spot
 node_spot (Krate id krate features mapping) = CrateSpot (id_of id) mapping.items
 node_spot (Feature krate_index name) = FeatureSpot krate_index (text_view name)
 
--- the nodes and the edges are the drawn ones, number by number, and the edges carry what is made of them
+-- the nodes and the edges are the drawn ones, number by number, and the edges carry what is made from them
 pub record IsDrawing {N E : Type 0} (made : Edge → E → Type 0) (t : Sheet) (g : StoredGraph (Node N) E) : Type 0 where
   pub nodes : map node_spot g.nodes ≡ spots t
   pub edges : AllZip (IsStoredAs made) (lines t) g.edges
 
--- the sheet is that of exactly what has a derivation
+-- the sheet is that of exactly what is derivable
 pub record HasSheet (r : Resolved) (s : SettingModel) (t : Sheet) : Type 0 where
   pub selection : Selection
   pub selected : IsSelection r s selection
@@ -34,7 +34,7 @@ pub record HasSheet (r : Resolved) (s : SettingModel) (t : Sheet) : Type 0 where
 abbrev pub IsSheetFor : MetadataModel → SettingModel → Sheet → Type 0
 IsSheetFor m s t = HasGraphWith m (λ g. HasSheet (resolved m g) s t)
 
--- The graph is the drawing of exactly what has a derivation.
+-- The graph is the drawing of exactly what is derivable.
 pub record IsDrawn {N E : Type 0} (made : Edge → E → Type 0) (m : MetadataModel) (s : SettingModel) (g : StoredGraph (Node N) E) : Type 0 where
   pub sheet : Sheet
   pub is_sheet : IsSheetFor m s sheet
@@ -45,7 +45,7 @@ pub record IsNumbered {N E : Type 0} (g : StoredGraph (Node N) E) : Type 0 where
   pub nodes : length g.nodes < 2 ^ 32
   pub edges : length g.edges < 2 ^ 32
 
--- the same of what is drawn
+-- the same for what is drawn
 pub record CanBeNumbered (t : Sheet) : Type 0 where
   pub nodes : length (spots t) < 2 ^ 32
   pub edges : length (lines t) < 2 ^ 32

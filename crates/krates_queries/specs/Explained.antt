@@ -23,7 +23,7 @@ use Rattle.krates_queries.specs.declared.node.Node.TheVariants.{Krate, Feature}
 abbrev pub steps_of : {N E : Type 0} → KeptCrates N E → List StepModel
 steps_of k = explained_steps k.explanation
 
--- The steps follow, by what the document and the setting answer, and their facts are exactly those with a derivation.
+-- The steps follow, by what the document and the setting answer, and their facts are exactly the derivable ones.
 pub record IsExplainedBy (m : MetadataModel) (s : SettingModel) (steps : List StepModel) : Type 0 where
   pub follows : HasGraphWith m (λ g. EachFollows (questions (resolved m g) s) steps)
   pub facts : (f : Fact) → HasGraphWith m (λ g. Derivable (questions (resolved m g) s) f) ↔ Contains (facts_in steps) f
@@ -35,7 +35,7 @@ abbrev pub node_says : {N : Type 0} → ℕ → Node N → KeptModel
 node_says n (Krate id krate features mapping) = KeepsCrate n
 node_says n (Feature krate_index name) = Enables krate_index (text_view name)
 
--- a step says it
+-- a step says so
 abbrev pub HasStepOf : List KeptStep → KeptModel → Type 0
 HasStepOf steps f = (number : ℕ) × IsStepOf steps f number
 
@@ -46,7 +46,7 @@ pub record AreExplained {N : Type 0} (nodes : List (Node N)) (e : Explanation) :
   pub own : HaveOwnFacts (explained_steps e)
   pub each : (n : ℕ) (node : Node N) → slice_get nodes n ≡ Some node → HasStepOf e.steps.items (node_says n node)
 
--- the same of the steps of a selection whose crates have these ids
+-- the same for the steps of a selection whose crates have these ids
 pub record AreStepsFor (m : MetadataModel) (s : SettingModel) (kids : List Identity) (steps : List KeptStep) : Type 0 where
   pub below : AreBelow (length kids) steps
   pub backward : AreBackward (uses_in steps)

@@ -11,10 +11,10 @@ abbrev pub target_of : {N E : Type 0} → List (Node N) → Option (GraphEdge E)
 target_of nodes None = None
 target_of nodes (Some edge) = option_map (λ node. (node, edge.weight)) (slice_get nodes edge.target)
 
--- the same of each of the edges of these numbers
+-- the same for each of the edges of these numbers
 abbrev pub targets_of : {N E : Type 0} → List (Node N) → List (GraphEdge E) → List ℕ → List (Node N × E)
 targets_of nodes edges numbers = filter_map (λ number. target_of nodes (slice_get edges number)) numbers
 
--- of the outgoing edges of the node, by number
+-- the same for the outgoing edges of the node, by number
 abbrev pub deps_of : {N E : Type 0} → List (Node N) → List (GraphEdge E) → ℕ → List (Node N × E)
 deps_of nodes edges node = targets_of nodes edges (numbers_at edges node Outgoing)

@@ -41,7 +41,7 @@ pub record AreOrdered (ids : List Identity) : Type 0 where
   pub ascending : IsStrictlySortedBy id_cmp ids
   pub numbered : length ids < 2 ^ 32
 
--- by the number of the crate and then by name
+-- the order by the number of the crate and then by name
 abbrev pub feature_order : ℕ × Text → ℕ × Text → Ordering
 feature_order a b = ordering_then (nat_cmp a.0 b.0) (slice_cmp nat_cmp a.1 b.1)
 
@@ -56,7 +56,7 @@ pub record AreFeatures {N : Type 0} (nodes : List (Node N)) : Type 0 where
   pub ascending : IsStrictlySortedBy feature_order (feature_names nodes)
   pub exactly : (n : ℕ) (name : Text) → Contains (feature_names nodes) (n, name) ↔ IsNameAt (crate_features nodes) n name
 
--- the crates are in order, and come before the features, which are in order too; there are not more nodes than can be numbered
+-- the crates are sorted and come before the features, which are sorted too; there are not more nodes than can be numbered
 pub record AreNodes {N : Type 0} (nodes : List (Node N)) : Type 0 where
   pub ordered : AreOrdered (crate_ids nodes)
   pub first : CratesFirst nodes

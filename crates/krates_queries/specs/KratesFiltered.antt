@@ -43,7 +43,7 @@ pub record IsTargetOf (kind : DepKind) (edges : List (GraphEdge Edge)) (numbers 
   pub among : Contains numbers number
   pub target : IsTarget kind edges number n
 
--- exactly these numbers were put, beside those that had been
+-- exactly these numbers were put, besides those that had been
 pub record Grows (New : ℕ → Type 0) (old new : PutNumbers) : Type 0 where
   pub size : new.size ≡ old.size
   pub taken : new.taken ≡ old.taken

@@ -35,7 +35,7 @@ crates_of k = numbered_crates 0 k.graph.nodes
 abbrev pub is_named : {N : Type 0} → Text → Match N → Bool
 is_named name m = bytes_eq m.id.name name
 
--- whether the crate's version fits what is wanted, where something is
+-- whether the crate's version fits what is wanted, if anything is
 abbrev pub has_fitting : {N : Type 0} → (N → Version) → Option VersionReq → N → Bool
 has_fitting version None krate = true
 has_fitting version (Some req) krate = matches_all req.comparators.items (version krate)

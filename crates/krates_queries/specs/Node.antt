@@ -9,7 +9,7 @@ use Rattle.krates_queries.specs.declared.node.Node.TheVariants.{Krate, Feature}
 
 -- ---- printed
 
--- `crate ` and the crate as it is printed, where that is told, or `feature ` and the name
+-- `crate ` and the crate as it is printed, if that is stated, or `feature ` and the name
 abbrev pub node_text : {N : Type 0} → (N → Option Text) → Node N → Option Text
 node_text printed (Krate id krate features mapping) = option_map (λ text. codes "crate " ++ text) (printed krate)
 node_text printed (Feature krate_index name) = Some (codes "feature " ++ text_view name)
@@ -38,7 +38,7 @@ crate_features [] = []
 crate_features (Krate id krate features mapping ∷ nodes) = names_in features ∷ crate_features nodes
 crate_features (Feature krate_index name ∷ nodes) = crate_features nodes
 
--- no crate comes behind a feature, so a crate's number is its place among the crates
+-- no crate comes after a feature, so a crate's number is its place among the crates
 abbrev pub CratesFirst : {N : Type 0} → List (Node N) → Type 0
 CratesFirst [] = ⊤
 CratesFirst (Krate id krate features mapping ∷ nodes) = CratesFirst nodes
@@ -57,7 +57,7 @@ abbrev pub IsFeature : {N : Type 0} → ℕ → Text → Node N → Type 0
 IsFeature number name (Krate id krate features mapping) = ⊥
 IsFeature number name (Feature krate_index text) = (krate_index ≡ number) × (text_view text ≡ name)
 
--- such a node stands at n
+-- such a node stands at `n`
 pub record IsFeatureAt {N : Type 0} (nodes : List (Node N)) (n number : ℕ) (name : Text) : Type 0 where
   pub node : Node N
   pub at : slice_get nodes n ≡ Some node

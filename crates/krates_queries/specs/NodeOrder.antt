@@ -1,4 +1,4 @@
--- How nodes stand to an id, to a name, and to a feature.
+-- How nodes compare with an id, with a name, and with a feature.
 use Rattle.std.specs.Prelude.{ℕ}
 use Rattle.std.specs.Cmp.Lexicographic.{slice_cmp}
 use Rattle.std.specs.Ordering.{nat_cmp, ordering_then}
@@ -9,12 +9,12 @@ use Rattle.krates_ids.specs.Identity.{Identity, id_cmp}
 use Rattle.krates_queries.specs.declared.node.Node.{Node}
 use Rattle.krates_queries.specs.declared.node.Node.TheVariants.{Krate, Feature}
 
--- a crate by its own id, and a feature behind every crate
+-- a crate by its own id, and a feature after every crate
 abbrev pub node_cmp : {N : Type 0} → Node N → Identity → Ordering
 node_cmp (Krate id krate features mapping) kid = id_cmp id kid
 node_cmp (Feature krate_index name) kid = Greater
 
--- a crate by the name of its id, and a feature behind every crate
+-- a crate by the name of its id, and a feature after every crate
 abbrev pub name_cmp : {N : Type 0} → Node N → Text → Ordering
 name_cmp (Krate id krate features mapping) name = slice_cmp nat_cmp id.name name
 name_cmp (Feature krate_index text) name = Greater

@@ -34,6 +34,6 @@ pub record IsWhy {N E : Type 0} (k : KeptCrates N E) (n : ℕ) (steps : List Ste
   pub accepted : (r : Resolved) (s : SettingModel) → EachFollows (questions r s) (steps_of k) → IsAccepted (questions r s) (steps_view steps)
   pub ids : All (λ (x : Step). HasTheseIds (ids_of k) x.fact) steps
 
--- that of the node, or none where there is no such node
+-- the derivation of the node, or none if there is no such node
 abbrev pub TellsWhy : {N E : Type 0} → KeptCrates N E → ℕ → Option Derivation → Type 0
 TellsWhy k n answer = MatchOption answer (length k.graph.nodes ≤ n) (λ d. IsWhy k n d.steps.items)

@@ -9,11 +9,11 @@ use krates_cm::Package;
 use semver::Version;
 use std::alloc::{AllocError, Global};
 
-/// A value that is made of a package, and is held in its place.
+/// A value that is made from a package, and is held in its place.
 ///
 /// A package is held as it is.
 pub trait FromPackage {
-    /// How a package stands to the value that is made of it.
+    /// How a package is related to the value that is made from it.
     ghost made_from: { Package → Self → Type 0 };
 
     /// Makes the value. The only error is running out of memory.

@@ -16,10 +16,10 @@ use krates_resolve::Work;
 use std::alloc::Global;
 use std::marker::Model;
 
-/// The work that a build was, and why all that it keeps is kept.
+/// How much work a build was, and why all that it keeps is kept.
 #[derive(Drop)]
 pub struct Findings {
-    /// The work that it was.
+    /// How much work it was.
     pub work: Work,
     /// Why all that it keeps is kept.
     pub explanation: Explanation,
@@ -64,7 +64,7 @@ impl<N, E> Model for Krates<N, E> {
 }
 
 impl<N, E> Krates<N, E> {
-    /// This graph, with so many crates, of which these are members, of a workspace at this path, as it was found.
+    /// This graph, with this many crates, of which these are members, for a workspace at this path, and how it was found.
     pub fn new(
         graph: Graph<Node<N>, E>,
         count: usize,
@@ -149,7 +149,7 @@ impl<N, E> Krates<N, E> {
         &self.explanation
     }
 
-    /// What gives memory.
+    /// Where memory comes from.
     pub(crate) fn alloc(&self) -> Global {
         *self.members.allocator()
     }

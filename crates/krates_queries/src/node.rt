@@ -15,13 +15,13 @@ pub type EnabledFeatures = BTreeSet<String>;
 pub enum Node<N> {
     /// A kept crate.
     Krate {
-        /// Its id, as the text of its package's id is read.
+        /// Its id, as read from the text of its package's id.
         id: Kid,
-        /// What was made of its package.
+        /// What was made from its package.
         krate: N,
         /// The names of its enabled features.
         features: EnabledFeatures,
-        /// For each declared dependency of its package the number of the crate that it means, where one is kept for it.
+        /// For each declared dependency of its package the number of the crate that it means, if one is kept for it.
         dep_mapping: Vec<Option<NodeId>>,
     },
     /// An enabled feature of a kept crate.

@@ -10,7 +10,7 @@ use crate::node::{EnabledFeatures, Node};
 use krates_ids::{Kid, laws};
 use std::cmp::Ordering;
 
-/// How a node stands to an id: a crate by its own, and a feature behind every crate.
+/// How a node compares with an id: a crate by its own, and a feature after every crate.
 fn compare<N>(node: &Node<N>, kid: &Kid) -> Ordering
     ensures { result ≡ node_cmp node.now kid.now }
 {
@@ -20,7 +20,7 @@ fn compare<N>(node: &Node<N>, kid: &Kid) -> Ordering
     }
 }
 
-/// The number of the crate with an id, where there is one.
+/// The number of the crate with an id, if there is one.
 pub fn number_of<N>(nodes: &[Node<N>], kid: &Kid) -> Option<usize>
     requires { AreNodes nodes.now }
     ensures { (n : ℕ) → (result ≡ Some n) ↔ StandsAt (crate_ids nodes.now) (id_of kid.now) n }
@@ -32,7 +32,7 @@ pub fn number_of<N>(nodes: &[Node<N>], kid: &Kid) -> Option<usize>
     }
 }
 
-/// The enabled features of the crate of a number, where there is one.
+/// The enabled features of the crate of a number, if there is one.
 pub(crate) fn features_at<N>(nodes: &[Node<N>], number: usize) -> Option<&EnabledFeatures>
     requires { AreNodes nodes.now }
     ensures { option_map (λ features. names_in features.now) result ≡ slice_get (crate_features nodes.now) number }

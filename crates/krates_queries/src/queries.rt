@@ -1,4 +1,4 @@
-//! Questions to the graph of the kept crates, a file for each.
+//! Questions to the graph of the kept crates, each in a file of its own.
 
 mod direct;
 mod direct_dependencies;

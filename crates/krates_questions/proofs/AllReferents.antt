@@ -32,7 +32,7 @@ use Rattle.krates_questions.proofs.LeastReferents.{answers_there, named_there}
 use Rattle.krates_questions.proofs.NodeParts.{dep_of_child}
 use Rattle.krates_questions.proofs.OneReferent.{one_referent}
 
--- ---- none and one
+-- ---- none, or one
 
 pub none_meant : (r : Resolved) (all : Bool) (i : Id) (name : Text) → ((c : Id) → IsReferent r all i name c → ⊥) → AreReferents r all i name []
 unfolding IsStrictlySortedBy
@@ -64,7 +64,7 @@ one_in r parts name x w at =
 
 -- ---- one dependency of a node
 
--- the dependency on the crate answers to the name, or doesn't
+-- whether the dependency on the crate answers to the name
 pub answering_told : (r : Resolved) (p c : Id) (name : Text) (x : NodeEntry) (b : Bool) → NoneDoubled r.metadata r.graph → IsEntryBetween r p c x → (IsTrue b ↔ AnswersAs r x.child.now x.dep.now name) → IsTrue b ↔ IsReferent r true p name c
 answering_told r p c name x b none e told =
     let dep = node_dep_view x.dep.now in
@@ -85,7 +85,7 @@ answering_told r p c name x b none e told =
           subst (λ (i : Id). AnswersTo r i dep name) (sym e.child) (subst (λ (d : NodeDepModel). AnswersTo r c d name) same n.answers)),
     )
 
--- ---- as the code goes over them
+-- ---- the places in the order in which the code goes over them
 
 more_gone : (some : List ℕ) (xs : List NamedPlace) (i : ℕ) (d : NamedPlace) → i < length xs → some ++ places_in (take (i + 1) xs) ≡ (some ++ places_in (take i xs)) ++ (get_or xs i d).place ∷ []
 more_gone some xs i d lt = ap (λ ks. some ++ ks) (ap places_in (take_more xs i d lt) ∙ rw map-append refl) ∙ sym (append_assoc some (places_in (take i xs)) ((get_or xs i d).place ∷ []))
@@ -93,7 +93,7 @@ more_gone some xs i d lt = ap (λ ks. some ++ ks) (ap places_in (take_more xs i 
 pub none_found : (r : Resolved) (parts : NodeParts) (name : Text) → HasAnswering r parts name [] []
 none_found r parts name = record { each = λ x among. absurd (omega (arith, among.1)); whole = λ j c among. absurd (omega (arith, among.1)) }
 
--- one more answers
+-- one more dependency answers
 found_put : (r : Resolved) (parts : NodeParts) (name : Text) (done : List ℕ) (items : List Referent) (x : Referent) → AnswersAt r parts name x.place x.id.now → HasAnswering r parts name done items
     → HasAnswering r parts name (done ++ x.place ∷ []) (items ++ x ∷ [])
 found_put r parts name done items x answers h = record {
@@ -107,7 +107,7 @@ found_put r parts name done items x answers h = record {
   ];
 }
 
--- one more doesn't
+-- one more dependency doesn't answer
 found_stays : (r : Resolved) (parts : NodeParts) (name : Text) (done : List ℕ) (items : List Referent) (j : ℕ) → ((c : Identity) → AnswersAt r parts name j c → ⊥) → HasAnswering r parts name done items
     → HasAnswering r parts name (done ++ j ∷ []) items
 found_stays r parts name done items j none h = record {
@@ -118,7 +118,7 @@ found_stays r parts name done items j none h = record {
   ];
 }
 
--- those so far have been gone over
+-- the places so far have been gone over
 abbrev pub HasGone : Resolved → NodeParts → Text → List NamedPlace → ℕ → List Referent → List Referent → Type 0
 HasGone r parts name places i old new = FindsMore r parts name (places_in (take i places)) old new
 
@@ -156,7 +156,7 @@ less_first Less b none h = refl
 less_first Equal b none h = absurd (none refl h)
 less_first Greater b none h = absurd cc
 
--- each has a place of its own by its id
+-- those with the same id stand at different places
 abbrev HaveOwnPlaces : List Referent → Type 0
 HaveOwnPlaces xs = (j k : ℕ) (x y : Referent) → slice_get xs j ≡ Some x → slice_get xs k ≡ Some y → id_cmp x.id.now y.id.now ≡ Equal → x.place ≡ y.place
 
@@ -179,7 +179,7 @@ ids_ascend (x ∷ xs) own h = (below_each x xs (λ k y at. own 0 (suc k) x y ref
 
 -- ---- all of them
 
--- what answers is meant
+-- a dependency that answers is meant
 meant_here : (r : Resolved) (parts : NodeParts) (name : Text) (x : Referent) → AreParts r parts.place parts → AnswersAt r parts name x.place x.id.now → IsReferentIn r true parts name x
 meant_here r parts name x p a = record {
   at = a.at;
@@ -187,17 +187,17 @@ meant_here r parts name x p a = record {
   is = record { is_named = named_there r parts name x.place x.id.now p a; least = λ off. absurd cc };
 }
 
--- the sorted list has what was found, and of that all
+-- the sorted list has exactly what was found
 pub record SortsOut (found sorted : List Referent) : Type 0 where
   pub ascending : IsStrictlySortedBy referent_cmp sorted
   pub from : (x : Referent) → Contains sorted x → Contains found x
   pub kept : (x : Referent) → Contains found x → (y : Referent) × Contains sorted y × (x.place ≡ y.place)
 
--- equal ones stand at one place
+-- referents that compare as equal stand at one place
 pub same_place : (x y : Referent) → (same_id x.id.now y.id.now && (x.place == y.place)) ≡ true → x.place ≡ y.place
 same_place x y told = search (rules, tests)
 
--- what follows from three clauses of a call that went well
+-- what follows from three clauses of a call that succeeded
 pub if_ok_three : {T E : Type 0} {P Q R S : T → Type 0} (result : Result T E) → ((x : T) → P x → Q x → R x → S x) → IfOk result P → IfOk result Q → IfOk result R → IfOk result S
 if_ok_three (Ok x) f p q r = f x p q r
 if_ok_three (Err e) f p q r = tt

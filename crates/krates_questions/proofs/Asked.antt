@@ -1,4 +1,4 @@
--- What the look-ups behind one question tell of the document.
+-- What the look-ups behind one question say about the document.
 use Rattle.std.proofs.Common.{◌≡◌, ◌↔◌, ℕ, zero, suc, ◌+◌, ◌<◌, List, [], ◌∷◌, ◌++◌, length, get_or, take, map, Bool, IsTrue, Option, Some, None, option_map, MatchOption, Contains, Bor, refl, sym, ap, ◌∙◌, subst, arith}
 use Rattle.std.proofs.lemmas.List.{map-append, take_more}
 use Rattle.std.proofs.lemmas.Option.{slice_get-map, slice_get-get_or, same_Some}
@@ -34,7 +34,7 @@ use Rattle.krates_rules.proofs.Standings.{contains_at}
 
 -- ---- ids in lists
 
--- the first place of the id in a list is one of the id
+-- the first place of the id in a list is a place of the id
 pub place_told : (ids : List Identity) (i : Id) (answer : Option ℕ) → IsFirstPlace (λ j. j ≡ i) (map id_of ids) answer → IsPlaceOf ids i answer
 place_told ids i None none = λ place s. none place (id_of s.there) (slice_get-map id_of ids place ∙ ap (option_map id_of) s.at) s.same
 place_told ids i (Some place) (j, first) =
@@ -47,7 +47,7 @@ parts_told once d krate place x at p =
     let r = resolved_view d in
     record { parts = subst (λ (n : ℕ). AreParts r n x) (sym p.place_is) p; parent = one_id once r (id_of x.parent.now) krate place p.at at }
 
--- where the child isn't among the ids of the node's dependencies, the node doesn't have it
+-- if the child isn't among the ids of the node's dependencies, the node doesn't depend on it
 pub no_dep_told : ReadsOnce → (r : Resolved) (parent child : Id) (x : NodeParts) → NoneDoubled r.metadata r.graph → ArePartsOf r parent x → IsPlaceOf x.children.now child None → NoDep r parent child
 no_dep_told once r parent child x none of absent n d has dep =
     let p = of.parts in
@@ -60,7 +60,7 @@ no_dep_told once r parent child x none of absent n d has dep =
     let y = right_of Reads (dep_texts p.at.node) x.children.now at.0 d.pkg p.children.read text in
     absent at.0 (record { there = y.0; at = y.1; same = ap id_of (once d.pkg y.0 e.id.read y.2 e.id.reads) ∙ e.id.same })
 
--- the entry at the child's place is that between the two
+-- the entry at the child's place is the one between the two crates
 pub entry_told : (r : Resolved) (parent child : Id) (x : NodeParts) (k : ℕ) (y : NodeEntry) → ArePartsOf r parent x → StandsAt x.children.now child k → IsEntryOf x k y → IsEntryBetween r parent child y
 entry_told r parent child x k y of s e =
     let here = entry_here r x.place x k y of.parts e in
@@ -73,7 +73,7 @@ entry_told r parent child x k y of s e =
 
 -- ---- edges between two crates
 
--- what is said of the edge of an entry is said of that between its two crates
+-- what holds of the edge of an entry holds of the edge between its two crates
 pub between : (P : Edge → Type 0) (r : Resolved) (p c : Id) (x : NodeEntry) (k : DepKindInfoModel) → IsEntryBetween r p c x → P (edge_for x k) → P (edge_between p c k)
 between P r p c x k b h = subst (λ (i : Id). P (edge_between i c k)) b.parent (subst (λ (i : Id). P (edge_between (parent_of x) i k)) b.child h)
 
@@ -87,7 +87,7 @@ closed_without r s p c k none (d, o) =
     let a = o.wanted.declared.declares in
     none a.lists.node a.dep a.lists.has_node a.lists.has_dep
 
--- what declares the edge of an entry is what the entry says
+-- what declares the edge of an entry is what the entry finds
 pub declared_told : (r : Resolved) (x : NodeEntry) (k : DepKindInfoModel) (answer : Option ℕ) → NoneDoubled r.metadata r.graph → IsEntry r x → TellsDeclared x k answer
     → MatchOption answer ((place : ℕ) (d : DependencyModel) → Declares r (edge_for x k) place d → ⊥) (λ place. (d : DependencyModel) × Declares r (edge_for x k) place d)
 declared_told r x k None none e told = λ place d h.
@@ -110,7 +110,7 @@ declared_told r x k (Some place) none e told =
 
 -- ---- open edges
 
--- an edge of an entry is open where it isn't ignored, is declared and passes, and its child stands
+-- an edge of an entry is open if it isn't ignored, is declared and passes, and its child stands
 pub open_told : (r : Resolved) (s : SettingModel) (x : NodeEntry) (k : DepKindInfoModel) (place : ℕ) (b : Bool) → IsEntry r x → (IsIgnored r s (edge_for x k) → ⊥) → IsDeclaredFor x k place → Passes s k.target
     → IsTrue b ↔ Stands r s (child_of x) → IsTrue b ↔ ((d : DependencyModel) × Open (questions r s) (edge_for x k) d)
 unfolding questions
@@ -160,7 +160,7 @@ next_ids members n m lt is =
     let more : take (n + 1) members ≡ take n members ++ m ∷ [] = take_more members n m lt ∙ ap (λ x. take n members ++ x ∷ []) (sym is) in
     rw (more, map-append) refl
 
--- it has the property, and is put
+-- it has the property and is added
 pub root_put : (P : Id → Type 0) (members : List Identity) (n : ℕ) (m : Bor Identity) (old new : List (Bor Identity)) → n < length members → m.now ≡ get_or members n m.now → new ≡ old ++ m ∷ [] → P (id_of m.now)
     → HasThoseOf P members n old → HasThoseOf P members (n + 1) new
 root_put P members n m old new lt is put here h =
@@ -168,12 +168,12 @@ root_put P members n m old new lt is put here h =
     subst (λ (ids : List Id). ArePicked P ids (ids_in new)) (sym (next_ids members n m.now lt is))
     (subst (λ (ids : List Id). ArePicked P (map id_of (take n members) ++ id_of m.now ∷ []) ids) (sym grown) (picked_last P _ _ (id_of m.now) here h))
 
--- it hasn't
+-- it doesn't
 pub root_passed : (P : Id → Type 0) (members : List Identity) (n : ℕ) (m : Identity) (roots : List (Bor Identity)) → n < length members → m ≡ get_or members n m → (P (id_of m) → ⊥)
     → HasThoseOf P members n roots → HasThoseOf P members (n + 1) roots
 root_passed P members n m roots lt is other h = subst (λ (ids : List Id). ArePicked P ids (ids_in roots)) (sym (next_ids members n m lt is)) (passed_last P _ _ (id_of m) other h)
 
--- what is picked has the property, and what has it is picked
+-- exactly those with the property are picked
 picked_has : {A : Type 0} (P : A → Type 0) (xs ys : List A) (x : A) → ArePicked P xs ys → Contains ys x → P x
 picked_has P xs [] x nothing (k, lt, is) = absurd (omega (arith, lt))
 picked_has P (y ∷ xs) (_ ∷ ys) x (picked p h) (zero, lt, is) = subst P is p
@@ -194,7 +194,7 @@ member_ids [] (m ∷ ms) z = absurd z
 member_ids (t ∷ ts) [] z = absurd z
 member_ids (t ∷ ts) (m ∷ ms) z = (record { read = m; reads = z.0; same = refl }, member_ids ts ms z.1)
 
--- where members are asked for, those that are roots are all roots
+-- where members are asked for, the members that are roots are all roots
 pub roots_told : ReadsOnce → (r : Resolved) (s : SettingModel) (all : Bool) (members : List Identity) (roots : List Id) → AsksFor r s all → AllZip Reads r.metadata.workspace_members members
     → ArePicked (IsRoot r s) (map id_of members) roots → (i : Id) → IsRoot r s i ↔ Contains roots i
 roots_told once r s all members roots asks z h i =
@@ -210,7 +210,7 @@ roots_told once r s all members roots asks z h i =
 pub members_in_order : (r : Resolved) (s : SettingModel) (members : List Identity) (roots : List Id) → AllZip Reads r.metadata.workspace_members members → ArePicked (IsRoot r s) (map id_of members) roots → AreInOrder r s roots
 members_in_order r s members roots z h = of_members (map id_of members) (member_ids r.metadata.workspace_members members z) h
 
--- a root that is the only one is listed alone
+-- a single root is a list of one
 one_in : (i j : Id) → Contains (i ∷ []) j → i ≡ j
 one_in i j (zero, lt, is) = is
 one_in i j (suc k, lt, is) = absurd (omega (arith, lt))

@@ -1,4 +1,4 @@
--- The place of a dependency of a node, looked for among those whose packages have one name.
+-- The place of a node's dependency, looked up among those whose packages have the same name.
 use Rattle.std.proofs.Common.{◌≡◌, ℕ, List, Option, Some, None, Contains, ap, ◌∙◌, subst}
 use Rattle.std.specs.List.{slice_get}
 use Rattle.krates_cm.specs.Document.{NodeModel, Text}
@@ -20,14 +20,14 @@ same_there once n kids ids k i these those at =
     let y = right_of Reads (dep_texts n) kids k w.0 these.read w.1 in
     y.1 ∙ ap (λ x. Some x) (once w.0 y.0 i y.2 w.2)
 
--- a place of the id is among those under the name of its package
+-- a place of the id is among the places under the name of its package
 under_its_name : ReadsOnce → (n : NodeModel) (kids ids : List Identity) (named : List NamedPlace) (these : List ℕ) (child : Identity) (k : ℕ) → AreDepIds n kids → AreDepIds n ids → AreIdsNamed kids named → AreLookedAt child.name named these
     → StandsAt ids (id_of child) k → Contains these k
 under_its_name once n kids ids named these child k read others names seen s =
     let here = names.each k s.there (same_there once n kids ids k s.there read others s.at) in
     seen.each k (subst (λ (t : Text). StandsUnder named t no_target k) (ap (λ (i : Id). i.name) s.same) here)
 
--- none of them is none at all
+-- if it is none of these places, there is none
 pub place_named : ReadsOnce → (n : NodeModel) (kids ids : List Identity) (named : List NamedPlace) (these : List ℕ) (child : Identity) (answer : Option ℕ) → AreDepIds n kids → AreDepIds n ids → AreIdsNamed kids named → AreLookedAt child.name named these
     → IsPlaceAmong ids these (id_of child) answer → IsPlaceOf ids (id_of child) answer
 place_named once n kids ids named these child None read others names seen none = λ k s. none k (under_its_name once n kids ids named these child k read others names seen s) s

@@ -1,4 +1,4 @@
--- Declared dependencies, as the code finds them at their places and as the definitions see them.
+-- Declared dependencies: as the code finds them at their places, and as the definitions see them.
 use Rattle.std.proofs.Common.{◌≡◌, ℕ, List, [], get_or, map, Bool, Some, sym, ap, ◌∙◌, subst, arith}
 use Rattle.std.proofs.lemmas.List.{get_or_default}
 use Rattle.std.specs.List.{slice_get}
@@ -17,13 +17,13 @@ use Rattle.krates_document.proofs.FirstPlaces.{seen_at}
 use Rattle.krates_rules.proofs.OnlyOne.{one_package}
 use Rattle.krates_rules.proofs.Standings.{contains_at}
 
--- it is optional where the element at its place is
+-- a dependency is optional if the element at its place is
 optional_here : (ds : List Dependency) (k : ℕ) (d : DependencyModel) (x : Dependency) → slice_get (map dependency_view ds) k ≡ Some d → (b : Bool) → (get_or ds k x).optional ≡ b → d.optional ≡ b
 optional_here ds k d x here b is =
     let s = seen_at dependency_view ds k d here in
     sym (ap (λ (m : DependencyModel). m.optional) s.2) ∙ ap (λ (y : Dependency). y.optional) (get_or_default ds k s.0 x s.1) ∙ is
 
--- so is a declared dependency of an entry
+-- so is the declared dependency of an entry
 pub optional_declared : (x : NodeEntry) (k : DepKindInfoModel) (place : ℕ) (d : DependencyModel) (y : Dependency) → IsDeclared (declared_in x) (entry_of x) k place d → (b : Bool) → (get_or x.declared.now place y).optional ≡ b → d.optional ≡ b
 optional_declared x k place d y first b is = optional_here x.declared.now place d y (declared_stands (declared_in x) (entry_of x) k place d first) b is
 
@@ -34,7 +34,7 @@ declared_here r i p ds none has is = record { each = λ q h. ap (λ (m : Package
 pub none_declared : (r : Resolved) (i : Id) → NoPackage r i → AreDeclaredBy r i []
 none_declared r i none = record { each = λ p h. absurd (none p h); from = λ k d h. absurd (cc) }
 
--- ---- where they stand by name
+-- ---- their places by name
 
 pub placed_here : (r : Resolved) (i : Id) (place : ℕ) → (at : PackageAt r i place) → (ds : List DependencyModel) (places : List NamedPlace) → AreDeclaredBy r i ds → AreDeclaredPlaces at.pkg.dependencies places → AreDeclaredPlaces ds places
 placed_here r i place at ds places by_package h =

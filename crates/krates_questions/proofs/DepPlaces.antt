@@ -1,4 +1,4 @@
--- Where a dependency of a node stands.
+-- The place of a node's dependency.
 use Rattle.std.proofs.Common.{◌≡◌, ℕ, Some, Contains, sym, ap, ◌∙◌, inl, inr}
 use Rattle.std.proofs.lemmas.Bool.{cases_order}
 use Rattle.std.proofs.lemmas.Option.{same_Some, slice_get-map}
@@ -11,7 +11,7 @@ use Rattle.krates_rules.specs.Resolved.{DepAt, Resolved}
 use Rattle.krates_rules.proofs.OnlyOne.{one_node_place}
 use Rattle.krates_rules.proofs.Standings.{contains_at}
 
--- two crates have one dependency between them
+-- there is only one dependency between two crates
 pub one_dep_place : (r : Resolved) (p c : Id) (m i n j : ℕ) → NoneDoubled r.metadata r.graph → DepAt r p c m i → DepAt r p c n j → (m ≡ n) × (i ≡ j)
 one_dep_place r p c m i n j none a b = (place, index)
   where

@@ -1,4 +1,4 @@
--- Lists in which no two elements are the same, and what stays of a list when its elements change places.
+-- Lists without doubles, and what a list keeps when its elements are permuted.
 use Rattle.std.proofs.Common.{◌≡◌, ℕ, zero, suc, ◌<◌, List, [], ◌∷◌, length, Bool, false, cond, Some, refl, sym, ap, ◌∙◌, subst, arith}
 use Rattle.std.proofs.lemmas.List.Sorted.{IsPermutation-swap, length_permutation, sum_by-IsPermutation}
 use Rattle.std.specs.List.{AllByRecursion, AllZip, IsDistinct, dedup, dedup_from, slice_get, slice_index_or, slice_set, sum, swap}
@@ -18,7 +18,7 @@ distinct_from same (x ∷ xs) each = (
   distinct_from same xs (λ j k y z lt a b. each (suc j) (suc k) y z (omega (arith, lt)) a b),
 )
 
--- nothing is taken out of one
+-- `dedup` leaves such a list as it is
 kept_from : {A : Type 0} (same : A → A → Bool) → ((x y : A) → same x y ≡ same y x) → (x : A) (xs : List A) → IsDistinct same (x ∷ xs) → dedup_from same x xs ≡ x ∷ xs
 unfolding IsDistinct
 kept_from same symm x [] h = refl
@@ -29,7 +29,7 @@ pub dedup_distinct : {A : Type 0} (same : A → A → Bool) → ((x y : A) → s
 dedup_distinct same symm [] h = refl
 dedup_distinct same symm (x ∷ xs) h = kept_from same symm x xs h
 
--- ---- what each element has, when they change places
+-- ---- what belongs to each element, when the elements are permuted
 
 zip_set : {A : Type 0} (R : A → ℕ → Type 0) (xs : List A) (ns : List ℕ) (k : ℕ) (x : A) (n : ℕ) → AllZip R xs ns → R x n → AllZip R (slice_set xs k x) (slice_set ns k n)
 zip_set R [] [] k x n z h = tt
@@ -75,7 +75,7 @@ shuffled R xs ns (p ∷ ps) h z =
       sum_by-IsPermutation (λ (n : ℕ). n) w.0 (swap w.0 p.0 p.1) moved ∙ w.2,
     )
 
--- what each has stays with it, and so does the sum
+-- what belongs to each element stays with it, and the sum stays
 pub zip_shuffled : {A : Type 0} (R : A → ℕ → Type 0) (xs ys : List A) (ns : List ℕ) → IsPermutation xs ys → AllZip R xs ns → (ms : List ℕ) × AllZip R ys ms × (sum ms ≡ sum ns)
 zip_shuffled R xs ys ns p z =
     let w = shuffled R xs ns p.moves p.below z in

@@ -1,4 +1,4 @@
--- What an edge of an entry is, by what its declared dependency is.
+-- What an edge of an entry is, by its declared dependency.
 use Rattle.std.proofs.Common.{◌≡◌, ℕ, List, Bool, true, false, Contains, sym, ◌∙◌, subst}
 use Rattle.krates_cm.specs.Document.{DependencyModel, DepKindInfoModel, NodeDepModel, node_dep_view}
 use Rattle.krates_rules.specs.Admission.{NoneDoubled}
@@ -56,11 +56,11 @@ pub wanted : (r : Resolved) (s : SettingModel) (x : NodeEntry) (k : DepKindInfoM
     → IsDeclared (declared_in x) (entry_of x) k place d → Passes s k.target → IsWanted r s (edge_for x k) d
 wanted r s x k place d h first passes = record { place = place; declared = declared_at r s x k place d h first; passes = passes }
 
--- a listed edge is listed by the entry's own dependency
+-- a listed edge is listed by the dependency of the entry itself
 pub own_dep : (r : Resolved) (x : NodeEntry) (k : DepKindInfoModel) (dep : NodeDepModel) → NoneDoubled r.metadata r.graph → IsEntry r x → ListsEdge r (edge_for x k) dep → dep ≡ node_dep_view x.dep.now
 own_dep r x k dep none h l = one_dep r (parent_of x) (child_of x) l.node h.node dep (node_dep_view x.dep.now) none l.has_node h.has_node l.has_dep h.has_dep
 
--- the edge is wanted for one declared dependency alone
+-- the edge is wanted for only one declared dependency
 pub wanted_one : (r : Resolved) (s : SettingModel) (x : NodeEntry) (k : DepKindInfoModel) (place : ℕ) (d e : DependencyModel) → NoneDoubled r.metadata r.graph → IsEntry r x
     → IsDeclared (declared_in x) (entry_of x) k place d → IsWanted r s (edge_for x k) e → e ≡ d
 wanted_one r s x k place d e none h first w =
@@ -80,7 +80,7 @@ not_loose r s x k place d none h first loose =
     let here = subst (λ (ds : List DependencyModel). IsDeclared ds (entry_of x) k place d) (sym (h.declares.each p.0 p.1)) first in
     loose.undeclared p.0 p.1 place d (subst (λ (dep : NodeDepModel). IsDeclared p.0.dependencies (dependency_entry (child_of x) dep) k place d) (sym same) here)
 
--- an edge of an entry that no declared dependency fits
+-- an edge of an entry for which no declared dependency fits
 pub loose : (r : Resolved) (s : SettingModel) (x : NodeEntry) (k : DepKindInfoModel) → Heeds r s x k → IsUndeclared (declared_in x) (entry_of x) k → IsLoose r s (edge_for x k)
 loose r s x k h none = record {
   dep = node_dep_view x.dep.now;

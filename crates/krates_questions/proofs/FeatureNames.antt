@@ -20,7 +20,7 @@ at_front : {X Y : Type 0} (seen : X → Y) (b : Bool) (x : X) (there : Option Y)
 at_front seen true x there found e = refl
 at_front seen false x there found e = e
 
--- what the map has at a text is what stands under that name
+-- what the map has under a text is what the list has under that name
 named-entries : {K X Y : Type 0} (key : K → Text) (seen : X → Y) (es : List (K × X)) (name : Text)
     → named (map (λ e. (key e.0, seen e.1)) es) name ≡ option_map seen (lookup (is_at (λ k. slice_cmp nat_cmp name (key k))) es)
 named-entries key seen [] name = refl
@@ -42,7 +42,7 @@ values_here r i f p values none has is reference = (
 no_values : (r : Resolved) (i : Id) (f : Text) → ((p : PackageModel) (values : List Text) → HasPackage r i p → named p.features f ≡ Some values → ⊥) → AreValuesOf r i f []
 no_values r i f none reference = (λ h. absurd (none h.pkg h.values h.has_package h.feature), λ a. absurd (omega (arith, a.among.1)))
 
--- it lacks the feature
+-- the package lacks the feature
 pub lacks_values : (r : Resolved) (i : Id) (f : Text) (p : PackageModel) → NoneDoubled r.metadata r.graph → HasPackage r i p → named p.features f ≡ None → AreValuesOf r i f []
 lacks_values r i f p none has is =
     no_values r i f (λ q values h there. none-some values (sym is ∙ ap (λ (q : PackageModel). named q.features f) (one_package r i p q none has h) ∙ there))
@@ -51,6 +51,6 @@ lacks_values r i f p none has is =
 pub no_package_values : (r : Resolved) (i : Id) (f : Text) → NoPackage r i → AreValuesOf r i f []
 no_package_values r i f lacks = no_values r i f (λ p values h there. lacks p h)
 
--- what stands under the name in the one package with the id
+-- what the one package with the id has under the name
 pub are_named : (r : Resolved) (i : Id) (f : Text) (p : PackageModel) (values : List Text) → NoneDoubled r.metadata r.graph → HasPackage r i p → values_of p.features f ≡ values → AreNamed r i f values
 are_named r i f p values none has is q h = ap (λ (o : PackageModel). values_of o.features f) (one_package r i q p none h has) ∙ is

@@ -52,19 +52,19 @@ listed_of a b e = sym (listed_ties a b) ∙ same_listed_of a b e
 
 -- ---- the table, filled number by number
 
--- the feature stands at the number, and at no greater one below this
+-- the feature has this number, and no greater one below the bound
 pub record IsLastBelow (all : List (ℕ × Text)) (x : ℕ × Text) (i n : ℕ) : Type 0 where
   pub at : slice_get all n ≡ Some x
   pub last : (m : ℕ) → m < i → slice_get all m ≡ Some x → m ≤ n
 
--- the greatest number of the feature below one, or none where it has no such number
+-- the greatest number of the feature below the bound, if it has one
 abbrev pub IsNumberBelow : List (ℕ × Text) → ℕ × Text → ℕ → Option ℕ → Type 0
 IsNumberBelow all x i answer = MatchOption answer ((n : ℕ) → n < i → slice_get all n ≡ Some x → ⊥) (IsLastBelow all x i)
 
 abbrev pub AreNumberedBelow : List ListedFeature → ℕ → BTreeMap ListedFeature ℕ → Type 0
 AreNumberedBelow xs i m = (q : ListedFeature) → IsNumberBelow (map listed_view xs) (listed_view q) i (get listed_cmp m q)
 
--- what the map answers for a feature, where the new one is the same or another
+-- what the map returns for a feature, whether the new one is the same or another
 number_step : (all : List (ℕ × Text)) (i : ℕ) (k q : ℕ × Text) (o : Option ℕ) (b : Bool) → slice_get all i ≡ Some k → (b ≡ true → k ≡ q) → (k ≡ q → b ≡ true) → IsNumberBelow all q i o
     → IsNumberBelow all q (i + 1) (cond b (Some i) o)
 number_step all i k q o true here there back h = record { at = here ∙ ap (λ (x : ℕ × Text). Some x) (there refl); last = λ m lt s. omega (arith, lt) }
@@ -86,7 +86,7 @@ number_step all i k q None false here there back h = λ n lt s. elim (cases_orde
   | inr r ↦ elim r [ inl l ↦ h n l s | inr l ↦ absurd (omega arith) ]
 ]
 
--- one more feature is put in
+-- one more feature is inserted
 pub numbers_more : (xs : List ListedFeature) (i : ℕ) (k : ListedFeature) (old new : BTreeMap ListedFeature ℕ) → i < length xs → k ≡ get_or xs i k
     → ((q : ListedFeature) → get listed_cmp new q ≡ cond (is_eq (listed_cmp k q)) (Some i) (get listed_cmp old q)) → AreNumberedBelow xs i old → AreNumberedBelow xs (i + 1) new
 numbers_more xs i k old new lt is grown h q =
@@ -120,7 +120,7 @@ to_node place names f c =
     let beside : Text → ℕ × Text = λ g. (place, g) in
     contains_at (features_of_node place names) w.0 (place, f) (slice_get-map beside names w.0 ∙ ap (option_map beside) w.1)
 
--- what is listed is a feature of the node at its place
+-- a listed feature is a feature of the node at its place
 from_listed : (p : ℕ) (ns : List NodeModel) (x : ℕ × Text) → Contains (features_from p ns) x → (k : ℕ) × (n : NodeModel) × (p + k ≡ x.0) × (slice_get ns k ≡ Some n) × Contains n.features x.1
 from_listed p [] x (k, lt, is) = absurd (omega (arith, lt))
 from_listed p (n ∷ ns) x h = elim (Contains-append_cases (features_of_node p n.features) (features_from (suc p) ns) x h) [
@@ -151,7 +151,7 @@ to_listed p (m ∷ ns) (suc k) n f at c =
 has_node_at : (r : Resolved) (i : Id) (place : ℕ) (a : NodeAt r i place) → HasNode r i a.node
 has_node_at r i place a = record { among = contains_at r.graph.nodes place a.node a.at; id = a.id }
 
--- a feature with a number is listed
+-- a feature that has a number is listed
 pub listed_at : (r : Resolved) (i : Id) (f : Text) (number : ℕ) → FeatureAt r i f number → ListsFeature r i f
 listed_at r i f number a =
     let w = from_listed 0 r.graph.nodes (a.place, f) (contains_at (listed_features r) number (a.place, f) a.at) in
@@ -159,7 +159,7 @@ listed_at r i f number a =
     let same : w.1 ≡ a.node.node = same_Some w.1 a.node.node (sym w.3 ∙ ap (λ k. slice_get r.graph.nodes k) place ∙ a.node.at) in
     record { node = a.node.node; has_node = has_node_at r i a.place a.node; among = subst (λ (n : NodeModel). Contains n.features f) same w.4 }
 
--- and it has one where it is listed
+-- and a listed feature has a number
 pub number_at : (r : Resolved) (i : Id) (f : Text) → ListsFeature r i f → (number : ℕ) × FeatureAt r i f number
 number_at r i f l =
     let at = place_in r.graph.nodes l.node l.has_node.among in
@@ -176,20 +176,20 @@ number_at r i f l =
 pub number_within : (r : Resolved) (i : Id) (f : Text) (number : ℕ) → FeatureAt r i f number → number < length (listed_features r)
 number_within r i f number a = slice_get_within (listed_features r) number (a.place, f) a.at
 
--- what is listed stands beside the place of a node
+-- a listed feature stands with the place of a node
 pub listed_place : (r : Resolved) (number place : ℕ) (f : Text) → slice_get (listed_features r) number ≡ Some (place, f) → place < length r.graph.nodes
 listed_place r number place f at =
     let w = from_listed 0 r.graph.nodes (place, f) (contains_at (listed_features r) number (place, f) at) in
     let lt = slice_get_within r.graph.nodes w.0 w.1 w.3 in
     omega (arith, lt, w.2)
 
--- a number is that of one feature
+-- a number belongs to only one feature
 pub one_feature : (r : Resolved) (i j : Id) (f g : Text) (number : ℕ) → (a : FeatureAt r i f number) → (b : FeatureAt r j g number) → (a.place ≡ b.place) × (f ≡ g)
 one_feature r i j f g number a b =
     let e : (a.place, f) ≡ (b.place, g) = same_Some (a.place, f) (b.place, g) (sym a.at ∙ b.at) in
     (ap (λ (p : ℕ × Text). p.0) e, ap (λ (p : ℕ × Text). p.1) e)
 
--- what a table answers of a feature of the node at a place
+-- what a table returns for a feature of the node at a place
 pub number_answer : (r : Resolved) (i : Id) (f : Text) (place : ℕ) (o : Option ℕ) → NoneDoubled r.metadata r.graph → NodeAt r i place → IsNumberOf (listed_features r) (place, f) o → MatchOption o (LacksFeature r i f) (FeatureAt r i f)
 number_answer r i f place None distinct a none = λ lists.
     let same = one_node r i lists.node a.node distinct lists.has_node (has_node_at r i place a) in
@@ -199,7 +199,7 @@ number_answer r i f place None distinct a none = λ lists.
     none w.0 (w.1 ∙ ap (λ (k : ℕ). Some (k, f)) sum)
 number_answer r i f place (Some n) distinct a own = record { place = place; at = own.at; node = a }
 
--- and what it answers is the feature's own number
+-- and what it returns is the feature's own number
 pub own_answer : (r : Resolved) (x : ℕ × Text) (o : Option ℕ) → IsNumberOf (listed_features r) x o → TellsOwn r o
 own_answer r x None none = tt
 own_answer r x (Some n) own = λ m y at other. own.last m (other ∙ sym at ∙ own.at)

@@ -28,7 +28,7 @@ use Rattle.krates_rules.proofs.OnlyOne.{place_in, one_node}
 
 -- ---- the least so far
 
--- what is below something is not above what that is not above
+-- what is less than something is not greater than what that is not greater than
 not_above : IsTotalOrder id_cmp → (x y z : Identity) → id_cmp x y ≡ Less → (o : Ordering) → id_cmp y z ≡ o → o ≢ Greater → id_cmp x z ≢ Greater
 not_above total x y z less Less e n = λ g. absurd (cc (total.trans x y z less e, g))
 not_above total x y z less Equal e n = λ g.
@@ -44,7 +44,7 @@ not_above_itself tells x y is g =
 not_above_back : IsTotalOrder id_cmp → (x y : Identity) → (id_cmp y x ≡ Less → ⊥) → id_cmp x y ≢ Greater
 not_above_back total x y other g = other (total.antisymm y x ∙ ap ordering_reverse g)
 
--- one more answers, and comes before the least
+-- one more dependency answers, and is less than the least
 pub least_put : IsTotalOrder id_cmp → OrderTellsSame → (r : Resolved) (parts : NodeParts) (name : Text) (done : List ℕ) (i : ℕ) (c : Identity) (old : Option ℕ) → AnswersAt r parts name i c → IsBefore parts.children.now c old
     → IsLeastOf r parts name done old → IsLeastOf r parts name (done ++ i ∷ []) (Some i)
 least_put total tells r parts name done i c None a before none = record {
@@ -66,7 +66,7 @@ least_put total tells r parts name done i c (Some p) a (there, at, less) w = rec
   ];
 }
 
--- one more doesn't answer, or doesn't come before the least
+-- one more doesn't answer, or isn't less than the least
 pub least_stays : IsTotalOrder id_cmp → (r : Resolved) (parts : NodeParts) (name : Text) (done : List ℕ) (i : ℕ) (old : Option ℕ) → (AnswersBefore r parts name i old → ⊥) → IsLeastOf r parts name done old
     → IsLeastOf r parts name (done ++ i ∷ []) old
 least_stays total r parts name done i None other none = λ j d among b. elim (Contains-push_cases done i j among) [
@@ -82,7 +82,7 @@ least_stays total r parts name done i (Some p) other w = record {
   ];
 }
 
--- the place of the least is one of a dependency
+-- the place of the least is the place of a dependency
 pub least_within : (r : Resolved) (parts : NodeParts) (name : Text) (done : List ℕ) (least : Option ℕ) → IsLeastOf r parts name done least → IfSome least (λ at. at < length parts.children.now)
 least_within r parts name done None none = tt
 least_within r parts name done (Some p) w = slice_get_within parts.children.now p w.child w.answers.at
@@ -90,9 +90,9 @@ least_within r parts name done (Some p) w = slice_get_within parts.children.now 
 pub none_of_none : (r : Resolved) (parts : NodeParts) (name : Text) → IsLeastOf r parts name [] None
 none_of_none r parts name j d among b = absurd (omega (arith, among.1))
 
--- ---- as the code goes over them
+-- ---- the places in the order in which the code goes over them
 
--- some, and the places so far
+-- first some places, then the places so far
 abbrev pub GoneOver : Resolved → NodeParts → Text → List NamedPlace → ℕ → Option ℕ → Option ℕ → Type 0
 GoneOver r parts name places i before least = IfSome least (λ at. at < length parts.children.now) × GoesOn r parts name (places_in (take i places)) before least
 
@@ -149,11 +149,11 @@ has_dep_at r parts name k c p a =
     let here : slice_get p.at.node.deps k ≡ Some a.dep = ap (λ ds. slice_get ds k) p.deps ∙ a.here in
     (here, has_dep_here p.at.node parts.children.now k a.dep c p.children here a.at)
 
--- what answers is named
+-- a dependency that answers is what the name means
 pub named_there : (r : Resolved) (parts : NodeParts) (name : Text) (k : ℕ) (c : Identity) → AreParts r parts.place parts → AnswersAt r parts name k c → AnswersIn r (id_of parts.parent.now) name (id_of c)
 named_there r parts name k c p a = record { node = p.at.node; has_node = p.has_node; dep = a.dep; has_dep = (has_dep_at r parts name k c p a).1; answers = a.answers }
 
--- and what is named answers at some place
+-- and what the name means answers at some place
 pub answers_there : ReadsOnce → (r : Resolved) (parts : NodeParts) (name : Text) (child : Id) → NoneDoubled r.metadata r.graph → AreParts r parts.place parts → AnswersIn r (id_of parts.parent.now) name child
     → (k : ℕ) × (c : Identity) × (k < length parts.children.now) × AnswersAt r parts name k c × (id_of c ≡ child)
 answers_there once r parts name child none p n =
@@ -172,9 +172,9 @@ answers_there once r parts name child none p n =
       is,
     )
 
--- ---- those that are found by name
+-- ---- dependencies found by name
 
--- what is found by name at a place of the lists
+-- what the lists have at a place
 pub names_at : {A : Type 0} (R : A → List NamedPlace → Type 0) (xs : List A) (lists : Vec (Vec NamedPlace)) (place : ℕ) (x : A) (v : Vec NamedPlace) → AllZip R xs (lists_in lists) → slice_get xs place ≡ Some x
     → v ≡ get_or lists.items place v → R x v.items
 names_at R xs lists place x v z at is =
@@ -200,7 +200,7 @@ same_kid once n kids others k d c these those at there =
     let is : one.0 ≡ c = once d.pkg one.0 other.0 one.2 other.2 ∙ same_Some other.0 c (sym other.1 ∙ there) in
     one.1 ∙ ap (λ x. Some x) is
 
--- what is looked at of a node: the places that are found by name
+-- the places of a node that are looked at: those found by name
 pub record AreLookedAt (name : Text) (all : List NamedPlace) (these : List ℕ) : Type 0 where
   pub each : (k : ℕ) → StandsUnder all name no_target k → Contains these k
 
@@ -218,7 +218,7 @@ answers_among once r parts name kids own children these those k c p read a b see
     let at = (has_dep_at r parts name k c p w).0 in
     by_either r parts name p.at.node kids own children these those k c w.dep a b seen shown at (same_kid once p.at.node kids parts.children.now k w.dep c read p.children at w.at) w.answers
 
--- all have been gone over
+-- all places have been gone over
 pub referent_told : ReadsOnce → (r : Resolved) (parts : NodeParts) (name : Text) (kids : List Identity) (own children : List NamedPlace) (these those : List ℕ) (least : Option ℕ) → NoneDoubled r.metadata r.graph
     → (p : AreParts r parts.place parts) → AreDepIds p.at.node kids → AreDepsOf p.at.node own → AreIdsNamed kids children → AreLookedAt name own these → AreLookedAt name children those → IsLeastOf r parts name (these ++ those) least
     → MatchOption least ((child : Id) → IsReferent r false (id_of parts.parent.now) name child → ⊥) (IsReferentAt r parts name)

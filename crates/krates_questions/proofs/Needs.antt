@@ -1,4 +1,4 @@
--- What there is for an edge of an entry, and for what a node depends on.
+-- What is needed for an edge of an entry, and for what a node depends on.
 use Rattle.std.proofs.Common.{◌≡◌, ◌↔◌, ℕ, ◌<◌, List, Some, option_map, Contains, get_or, length, map, sym, ap, ◌∙◌, subst}
 use Rattle.std.proofs.lemmas.Option.{slice_get-map, slice_get-get_or, same_Some}
 use Rattle.std.specs.List.{slice_get}
@@ -64,7 +64,7 @@ pub barred_need : (r : Resolved) (s : SettingModel) (x : NodeEntry) (k : DepKind
     → IsDeclared (declared_in x) (entry_of x) k place d → (Passes s k.target → ⊥) → TellsNeed r s (edge_for x k) needs.Nothing
 barred_need r s x k place d none e first barred = (λ o w. barred w.passes, not_loose r s x k place d none e first)
 
--- it is wanted
+-- the edge is wanted
 pub wanted_need : (r : Resolved) (s : SettingModel) (x : NodeEntry) (k : DepKindInfoModel) (place : ℕ) (d : DependencyModel) → NoneDoubled r.metadata r.graph → Heeds r s x k
     → IsDeclared (declared_in x) (entry_of x) k place d → Passes s k.target → IsWantedAs r s (edge_for x k) d
 wanted_need r s x k place d none h first passes = record {
@@ -73,7 +73,7 @@ wanted_need r s x k place d none h first passes = record {
   not_loose = not_loose r s x k place d none h.at first;
 }
 
--- the declared dependency stands at its place among those of the package
+-- the declared dependency stands at its place in the package's list
 pub declared_below : (x : NodeEntry) (k : DepKindInfoModel) (place : ℕ) (d : DependencyModel) → IsDeclared (declared_in x) (entry_of x) k place d → place < length x.declared.now
 declared_below x k place d first = (seen_at dependency_view x.declared.now place d (declared_stands (declared_in x) (entry_of x) k place d first)).1
 
@@ -86,9 +86,9 @@ pub wanted_here : (r : Resolved) (s : SettingModel) (x : NodeEntry) (k : DepKind
     → slice_get x.declared.now place ≡ Some y → IsWantedAs r s (edge_for x k) d → IsWantedAs r s (edge_for x k) (dependency_view y)
 wanted_here r s x k place d y first at h = subst (IsWantedAs r s (edge_for x k)) (declared_same x k place d y first at) h
 
--- ---- as what it is declared
+-- ---- which dependency the edge is declared as
 
--- the edge of an entry is declared as one dependency
+-- the edge of an entry is declared as only one dependency
 declared_one : (r : Resolved) (x : NodeEntry) (k : DepKindInfoModel) (place : ℕ) (d e : DependencyModel) → NoneDoubled r.metadata r.graph → IsEntry r x
     → IsDeclared (declared_in x) (entry_of x) k place d → IsDeclaredAs r (edge_for x k) e → e ≡ d
 declared_one r x k place d e none h first (other, at) =
@@ -116,7 +116,7 @@ presence_told r s i none h = record { has_package = λ lost. lost h.pkg h.has_pa
 
 -- ---- what a node depends on
 
--- the ids of the dependencies of the crate's node are those that it depends on
+-- the ids of the node's dependencies are those on which the crate depends
 pub children_told : ReadsOnce → (r : Resolved) (p child : Id) (x : NodeParts) → NoneDoubled r.metadata r.graph → ArePartsOf r p x → HasChild r p child ↔ Contains (map id_of x.children.now) child
 children_told once r p child x none of = (to, back)
   where
@@ -149,7 +149,7 @@ children_told once r p child x none of = (to, back)
           has_dep = record { among = contains_at of.parts.at.node.deps at.0 dep (slice_get-get_or of.parts.at.node.deps at.0 d.0 d.1); id = record { read = y; reads = subst (λ b. Reads b y) (sym d.2) t.2; same = s.2 } };
         }
 
--- the kinds and targets of the entry between two crates are those for which the other is listed
+-- the kinds and targets of the entry between two crates are those that the node lists
 pub kinds_told : (r : Resolved) (p child : Id) (k : DepKindInfoModel) (x : NodeEntry) → NoneDoubled r.metadata r.graph → IsEntryBetween r p child x → ListsKind r p child k ↔ Contains (node_dep_view x.dep.now).dep_kinds k
 kinds_told r p child k x none b =
     let has = subst (λ (i : Id). HasNode r i b.entry.node) b.parent b.entry.has_node in

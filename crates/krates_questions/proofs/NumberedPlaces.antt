@@ -25,7 +25,7 @@ not_before ids m n i sorted at other lt =
     rw (get_or_from_slice_get ids m i i at, get_or_from_slice_get ids n i i other) (equal_self id_order_total i) in
     absurd (cc (less, equal))
 
--- an id has one number
+-- an id has only one number
 one_number : (ids : List Id) (m n : ℕ) (i : Id) → AreNumbered ids → slice_get ids m ≡ Some i → slice_get ids n ≡ Some i → m ≡ n
 one_number ids m n i sorted at other = elim (cases_order m n) [
   | inl e ↦ e
@@ -35,7 +35,7 @@ one_number ids m n i sorted at other = elim (cases_order m n) [
   ]
 ]
 
--- where an id stands among those before a place
+-- where an id stands before a place
 abbrev pub IsPlaceBelow : List Identity → Id → ℕ → Option ℕ → Type 0
 IsPlaceBelow list i k answer = MatchOption answer ((place : ℕ) → place < k → StandsAt list i place → ⊥) (λ place. StandsAt list i place)
 
@@ -61,7 +61,7 @@ later ids list k n m i id None sorted at number here other h = λ place below s.
       other (one_number ids n m i sorted at (number ∙ ap (λ j. Some j) (sym is))))
 ]
 
--- one more
+-- one more place
 pub index_more : (ids : List Id) (list : List Identity) (k m : ℕ) (id : Identity) (places : List (Option ℕ)) → AreNumbered ids → slice_get list k ≡ Some id → slice_get ids m ≡ Some (id_of id) → IsIndexBelow ids list k places
     → IsIndexBelow ids list (k + 1) (set places m (Some k))
 index_more ids list k m id places sorted here number h =
@@ -89,9 +89,9 @@ index_whole ids list k places le among h = record {
       (get_or places n None, slice_get-get_or places n None lt, whole list i k (get_or places n None) le (h.each n i at));
 }
 
--- ---- what a table answers
+-- ---- what a table returns
 
--- where the id has no number, it stands nowhere
+-- an id without a number stands nowhere
 pub unnumbered : (ids : List Id) (list : List Identity) (places : List (Option ℕ)) (i : Id) → IsIndex ids list places → IsNumberOf ids i None → IsPlaceOf list i None
 unnumbered ids list places i h none = λ place s.
     let c = h.among s.there (contains_at list place s.there s.at) in
@@ -100,7 +100,7 @@ unnumbered ids list places i h none = λ place s.
     as_asked : (ids : List Id) (n : ℕ) (i : Id) (k : Identity) → n < length ids → get_or ids n (id_of k) ≡ id_of k → id_of k ≡ i → get_or ids n i ≡ i
     as_asked ids n i k lt is same = subst (λ (j : Id). get_or ids n j ≡ j) same is
 
--- the place that stands at its number
+-- the place under its number
 pub numbered_place : (ids : List Id) (list : List Identity) (places : List (Option ℕ)) (i : Id) (n : ℕ) (answer d : Option ℕ) → IsIndex ids list places → IsNumberOf ids i (Some n) → answer ≡ get_or places n d → IsPlaceOf list i answer
 numbered_place ids list places i n answer d h number is =
     let a = h.each n i number in

@@ -1,4 +1,4 @@
--- Which dependency a name means: the library of a package, and the least that answers to a name.
+-- Which dependency a name means: the library of a package, and the least dependency that answers to a name.
 use Rattle.std.proofs.Common.{◌≡◌, ◌↔◌, ℕ, ◌<◌, List, length, map, Bool, true, false, not, IsTrue, Option, Some, None, MatchOption, HoldsAt, Contains, option_map, Bor, refl, sym, ap, ◌∙◌, inl, inr, subst}
 use Rattle.std.proofs.lemmas.Bool.{cases_order}
 use Rattle.std.proofs.lemmas.List.{get_or_default}
@@ -18,9 +18,9 @@ use Rattle.krates_rules.specs.Resolved.{Resolved, HasPackage, NoPackage}
 use Rattle.krates_document.proofs.FirstPlaces.{first_place}
 use Rattle.krates_rules.proofs.OnlyOne.{one_package}
 
--- ---- what `contains` answers
+-- ---- what `contains` returns
 
--- a test that is true of one element alone tells whether a list contains it
+-- a test that only one element passes tells whether the list contains it
 pub contains_told : {A : Type 0} (test : A → Bool) (v : A) (xs : List A) (b : Bool) → b ≡ list_any test xs → ((y : A) → test y ≡ true → y ≡ v) → test v ≡ true → IsTrue b ↔ Contains xs v
 contains_told test v xs b is alone itself = (
   λ t. (
@@ -35,7 +35,7 @@ contains_told test v xs b is alone itself = (
 abbrev pub IsLibrary : TargetModel → Type 0
 IsLibrary t = Contains t.kind Lib
 
--- what `find` answers, said of what is seen
+-- what `find` returns, in terms of the views
 pub library_found : (p : PackageModel) (xs : List Target) (r : Option (Bor Target)) → p.targets ≡ map target_view xs
     → MatchOption r (AllWithin (λ t. IsLibrary (target_view t) → ⊥) xs 0 (length xs)) (λ x. IsLibrary (target_view x.now) × (i : ℕ) × (i < length xs) × HoldsAt (λ y. y ≡ x.now) xs i × AllWithin (λ t. IsLibrary (target_view t) → ⊥) xs 0 i)
     → IsLibraryOf p (option_map (λ target. target_view target.now) r)
@@ -60,7 +60,7 @@ renamed_told p name place t false first is told = (
   λ l. refl,
 )
 
--- it hasn't
+-- the library has another name
 pub not_renamed : (p : PackageModel) (name : Text) (place : ℕ) (t : TargetModel) → FirstAt IsLibrary p.targets place t → (t.name ≡ name → ⊥) → IsLibraryRename p name → ⊥
 not_renamed p name place t first other l = other (ap (λ (u : TargetModel). u.name) (same_first IsLibrary p.targets place l.place t l.target first l.first) ∙ l.is)
 
@@ -75,12 +75,12 @@ answers_back : (r : Resolved) (child : Id) (d : NodeDepModel) (name : Text) (q :
 answers_back r child d name q b none other has told (by_name same) = absurd (other same)
 answers_back r child d name q b none other has told (by_library {p} e h l) = told (subst (λ (m : PackageModel). IsLibraryRename m d.name) (one_package r child p q none h has) l)
 
--- its name isn't that, and it has a package
+-- its own name is another, and it has a package
 pub answers_told : (r : Resolved) (child : Id) (d : NodeDepModel) (name : Text) (p : PackageModel) (b : Bool) → NoneDoubled r.metadata r.graph → (IsNameOf d.name name → ⊥) → name ≡ child.name → HasPackage r child p
     → (IsTrue b ↔ IsLibraryRename p d.name) → IsTrue b ↔ AnswersTo r child d name
 answers_told r child d name p b none other is has told = (λ t. by_library is has (told.0 t), answers_back r child d name p b none other has told.1)
 
--- it has no package
+-- its own name is another, and it has no package
 pub not_answering : (r : Resolved) (child : Id) (d : NodeDepModel) (name : Text) → (IsNameOf d.name name → ⊥) → NoPackage r child → AnswersTo r child d name → ⊥
 not_answering r child d name other lacks (by_name same) = other same
 not_answering r child d name other lacks (by_library {p} e h l) = lacks p h

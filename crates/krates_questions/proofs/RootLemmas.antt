@@ -1,4 +1,4 @@
--- The roots of a document, by the ids that were read.
+-- The roots of a document, by the ids of its members.
 use Rattle.std.proofs.Common.{◌≡◌, ◌↔◌, ℕ, ◌<◌, List, [], ◌∷◌, Bool, true, false, length, get_or, map, option_map, slice_get, Option, Some, None, All, Contains, refl, sym, ap, ◌∙◌, subst, arith}
 use Rattle.std.proofs.lemmas.List.{length-map}
 use Rattle.std.proofs.lemmas.Option.{slice_get-map, slice_get-get_or, slice_get_read, slice_get_within, same_Some}
@@ -22,7 +22,7 @@ use Rattle.krates_rules.proofs.Standings.{contains_at}
 
 -- ---- which crates are roots
 
--- nothing is asked for, so the graph's root is the only one
+-- nothing is asked for, so only the graph's root is a root
 pub graph_root : ReadsOnce → (r : Resolved) (s : SettingModel) (root : Identity) → s.manifests ≡ [] → s.workspace ≡ false → IsRootId r.graph.root (Some root)
     → IsRoot r s (id_of root) × ((i : Id) → IsRoot r s i → i ≡ id_of root)
 graph_root once r s root none off is =
@@ -50,7 +50,7 @@ graph_root once r s root none off is =
     alone t at reads i (of_workspace (by_manifest w) m) = absurd (some_manifest w.manifest (sym none ∙ w.alone))
     alone t at reads i (of_manifests _ m h) = absurd (no_manifest h.manifest (subst (λ ms. Contains ms h.manifest) none h.among))
 
--- where members are asked for, only they are roots
+-- where members are asked for, only members are roots
 pub root_member : (r : Resolved) (s : SettingModel) (all : Bool) (i : Id) → AsksFor r s all → IsRoot r s i → IsMember r i
 root_member r s all i asks (of_workspace _ m) = m
 root_member r s all i asks (of_manifests _ m _) = m
@@ -59,7 +59,7 @@ root_member r s true i (without_root _ no_root) (of_graph _ _ at _) = absurd (cc
 root_member r s true i (by_manifest w) (of_graph none _ _ _) = absurd (cc (w.alone, none))
 root_member r s false i asks (of_graph none _ _ _) = absurd (asks.some none)
 
--- where manifests are asked for, those members are roots whose package has one
+-- where manifests are asked for, a member whose package has one is a root
 pub manifest_root : (r : Resolved) (s : SettingModel) (i : Id) → AsksForManifests r s → IsMember r i → HasManifest r s i ↔ IsRoot r s i
 manifest_root r s i asks m = (of_manifests asks.not_workspace m, back)
   where
@@ -70,7 +70,7 @@ manifest_root r s i asks m = (of_manifests asks.not_workspace m, back)
     back (of_workspace (by_manifest w) _) = absurd (asks.not_workspace w)
     back (of_manifests _ _ h) = h
 
--- the manifest of the package with the id is looked for
+-- whether the package with the id has one of the manifests
 pub manifest_here : (r : Resolved) (s : SettingModel) (i : Id) (p : PackageModel) → NoneDoubled r.metadata r.graph → HasPackage r i p → HasOneOf s.manifests p.manifest_path ↔ HasManifest r s i
 manifest_here r s i p none has = (
   λ h. record { pkg = p; has_package = has; manifest = h.other; among = h.among; same = h.same },

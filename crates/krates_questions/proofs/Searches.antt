@@ -1,4 +1,4 @@
--- What a search by halves answers in a list in order.
+-- What a binary search returns in a sorted list.
 use Rattle.std.proofs.Common.{◌≡◌, ℕ, ◌<◌, ◌≤◌, List, Option, Some, None, Result, Ok, Err, Contains, option_map, ◌↔◌, length, get_or, map, true, slice_get, Ordering, Less, Equal, Greater, Bor, refl, sym, ap, ◌∙◌, inl, inr, arith, subst}
 use Rattle.std.proofs.lemmas.Bool.{cases_lt}
 use Rattle.std.proofs.lemmas.List.{length-map}
@@ -17,7 +17,7 @@ use Rattle.krates_rules.specs.Referent.{id_order}
 use Rattle.krates_questions.proofs.SeenInOrder.{sorted_same, sorted_unseen}
 
 module _ {K : Type 0} {R : K → K → Ordering} (o : IsTotalOrder R) where
-  -- what is below something that compares so with q
+  -- an element less than one that compares so with `q` compares no higher
   step : (x y q : K) (r s : Ordering) → R x q ≡ r → R y q ≡ s → R x y ≡ Less → ordering_index r ≤ ordering_index s
   step x y q Less Less a b h = omega arith
   step x y q Less Equal a b h = omega arith
@@ -45,7 +45,7 @@ module _ {K : Type 0} {R : K → K → Ordering} (o : IsTotalOrder R) where
 at_id : (ids : List Identity) (n : ℕ) (d : Identity) → n < length ids → slice_get (map id_of ids) n ≡ Some (id_of (get_or ids n d))
 at_id ids n d lt = slice_get-map id_of ids n ∙ ap (option_map id_of) (slice_get-get_or ids n d lt)
 
--- what a search answers is the number of the id
+-- what a search returns is the number of the id
 pub searched_id : OrderTellsSame → IsTotalOrder id_cmp → (ids : List Identity) (q : Identity) (r : Result ℕ ℕ) → AreNumbered (map id_of ids) → IsSearchInRange r (length ids)
     → IsBinarySearchResult (λ (y : Identity). id_cmp y q) ids r → IsNumberOf (map id_of ids) (id_of q) (result_ok r)
 searched_id tells o ids q (Ok n) sorted range h =
@@ -62,7 +62,7 @@ searched_id tells o ids q (Err i) sorted range h = λ n at.
       | inr g ↦ (let greater = parted.1 n q g lt in absurd (cc (greater, equal)))
     ]
 
--- ---- what a list in order has
+-- ---- what a sorted list has
 
 lent_of : (ids : List (Bor Identity)) (k : Identity) → Contains (lent_to ids) k → (b : Bor Identity) × Contains ids b × (b.now ≡ k)
 lent_of ids k (n, lt, is) =
@@ -79,11 +79,11 @@ numbered_has ids b i (n, lt, is) e =
     let here : slice_get (map id_of (lent_to ids)) n ≡ Some i = slice_get-map id_of (lent_to ids) n ∙ ap (option_map id_of) lent ∙ ap (λ x. Some x) e in
     (n, slice_get_within (map id_of (lent_to ids)) n i here, get_or_from_slice_get (map id_of (lent_to ids)) n i i here)
 
--- those that were put in order are numbered
+-- sorted ids are numbered
 pub in_order_numbered : (ids : List (Bor Identity)) → IsStrictlySortedBy (λ (a b : Bor Identity). id_cmp a.now b.now) ids → AreNumbered (map id_of (lent_to ids))
 in_order_numbered ids sorted = sorted_same id_cmp id_order id_of (λ a b. refl) (lent_to ids) (sorted_same (λ (a b : Bor Identity). id_cmp a.now b.now) id_cmp (λ (b : Bor Identity). b.now) (λ a b. refl) ids sorted)
 
--- and each that was among them has a number
+-- and each id that was among them has a number
 pub in_order_among : ((a b : Identity) → (same_id a b ≡ true) ↔ IsSameId a b) → (all sorted : List (Bor Identity)) (list : List Identity)
     → ((x : Bor Identity) → Contains all x → (y : Bor Identity) × Contains sorted y × (same_id x.now y.now ≡ true)) → ((k : Identity) → Contains list k → Contains (lent_to all) k) → Among list (map id_of (lent_to sorted))
 in_order_among tells all sorted list kept among k h =

@@ -1,4 +1,4 @@
--- Lists in order, seen by views by which two orders agree.
+-- A sorted list is sorted by a view, where the two orders agree.
 use Rattle.std.proofs.Common.{◌≡◌, List, [], ◌∷◌, map, Ordering, Less, Equal, Greater, refl, ◌∙◌}
 use Rattle.std.specs.Bool.{⊤}
 use Rattle.std.specs.Cmp.{IsTotalOrder}
@@ -14,7 +14,7 @@ same_equal Greater h = absurd cc
 pub equal_self : {K : Type 0} {R : K → K → Ordering} → IsTotalOrder R → (x : K) → R x x ≡ Equal
 equal_self {K} {R} o x = same_equal (R x x) (o.antisymm x x)
 
--- a view by which two orders agree carries what is in order over
+-- a view carries the order over where the two orders agree
 all_seen : {A B : Type 0} (R : A → A → Ordering) (S : B → B → Ordering) (f : A → B) (P : A → Type 0) → ((a b : A) → P a → P b → S (f a) (f b) ≡ R a b)
     → (x : A) (xs : List A) → P x → AllByRecursion P xs → AllByRecursion (λ y. R x y ≡ Less) xs → AllByRecursion (λ y. S (f x) y ≡ Less) (map f xs)
 all_seen R S f P same x [] p ps h = tt
@@ -26,7 +26,7 @@ unfolding IsStrictlySortedBy
 sorted_seen R S f P same [] ps h = tt
 sorted_seen R S f P same (x ∷ xs) ps h = (all_seen R S f P same x xs ps.0 ps.1 h.0, sorted_seen R S f P same xs ps.1 h.1)
 
--- the other way
+-- the other direction
 all_unseen : {A B : Type 0} (S : B → B → Ordering) (f : A → B) (y : B) (xs : List A) → AllByRecursion (λ x. S y x ≡ Less) (map f xs) → AllByRecursion (λ x. S y (f x) ≡ Less) xs
 all_unseen S f y [] h = tt
 all_unseen S f y (x ∷ xs) h = (h.0, all_unseen S f y xs h.1)
@@ -40,6 +40,6 @@ each_true : {A : Type 0} (xs : List A) → AllByRecursion (λ x. ⊤) xs
 each_true [] = tt
 each_true (x ∷ xs) = (tt, each_true xs)
 
--- where two views' orders agree everywhere
+-- where the two orders agree everywhere
 pub sorted_same : {A B : Type 0} (R : A → A → Ordering) (S : B → B → Ordering) (f : A → B) → ((a b : A) → S (f a) (f b) ≡ R a b) → (xs : List A) → IsStrictlySortedBy R xs → IsStrictlySortedBy S (map f xs)
 sorted_same R S f same xs h = sorted_seen R S f (λ x. ⊤) (λ a b p q. same a b) xs (each_true xs) h

@@ -1,11 +1,11 @@
--- What is derivable stands: each derivable crate has a package and a node, whatever a document and a setting answer.
+-- Each derivable crate has a package and a node, for any questions.
 use Rattle.std.proofs.Common.{ℕ, List, refl, inl, inr}
 use Rattle.std.specs.Prelude.{⊤}
 use Rattle.krates_rules.specs.Derivation.{Among, Derivable, follows}
 use Rattle.krates_rules.specs.Facts.{Fact, Crate, Feature, Kept, Toggled, Lost}
 use Rattle.krates_rules.specs.Rules.{Questions, Rule, root_crate, root_feature, lost_root_package, lost_root_node, feature_crate, named, lost_named, asked, toggled_strongly, lost_asked_package, lost_asked_node, lost_toggled_strongly, required, target, lost_undeclared, lost_required_package, lost_required_node, declared, by_default, lost_declared, toggled_weakly, toggled_feature, lost_toggled_weakly}
 
--- the crate that the fact keeps stands
+-- the crate of the fact stands
 abbrev pub HasStanding : Questions → Fact → Type 0
 HasStanding q (Crate p) = q.Stands p
 HasStanding q (Feature p f) = q.Stands p

@@ -1,4 +1,4 @@
--- What a search goes by, a document and a setting, in words of the document.
+-- What a search is made against, a document and a setting, in words of the document.
 use Rattle.krates_cm.specs.Document.{DependencyModel, Text, dep_kind_info_view}
 use Rattle.krates_ids.specs.declared.error.Error.{Error}
 use Rattle.krates_questions.specs.Lookup.{resolved_view}

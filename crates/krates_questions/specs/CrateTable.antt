@@ -9,7 +9,7 @@ use Rattle.krates_rules.specs.Referent.{id_order}
 use Rattle.krates_rules.specs.Resolved.{id_of, StandsAt}
 use Rattle.krates_questions.specs.declared.crate_table.CrateTable.{CrateTable}
 
--- what is lent
+-- the ids that are borrowed
 abbrev pub lent_to : List (Bor Identity) → List Identity
 lent_to ids = map (λ (b : Bor Identity). b.now) ids
 
@@ -25,7 +25,7 @@ IsNumberOf ids i answer = MatchOption answer ((n : ℕ) → slice_get ids n ≡ 
 abbrev pub Among : List Identity → List Id → Type 0
 Among list ids = (k : Identity) → Contains list k → Contains ids (id_of k)
 
--- what a look-up of an id answers: a place at which it stands in the list, or none where it stands nowhere
+-- what a look-up of an id returns: a place at which it stands in the list, or none if it stands nowhere
 abbrev pub IsPlaceOf : List Identity → Id → Option ℕ → Type 0
 IsPlaceOf list i answer = MatchOption answer ((place : ℕ) → StandsAt list i place → ⊥) (λ place. StandsAt list i place)
 
@@ -34,7 +34,7 @@ abbrev pub IsPlaceAmong : List Identity → List ℕ → Id → Option ℕ → T
 IsPlaceAmong list these i answer =
     MatchOption answer ((place : ℕ) → Contains these place → StandsAt list i place → ⊥) (λ place. StandsAt list i place)
 
--- each id of the list has a number, and each number answers where its id stands there
+-- each id of the list has a number, and under each number is a place of its id
 pub record IsIndex (ids : List Id) (list : List Identity) (places : List (Option ℕ)) : Type 0 where
   pub among : Among list ids
   pub each : (n : ℕ) (i : Id) → slice_get ids n ≡ Some i → (answer : Option ℕ) × (slice_get places n ≡ Some answer) × IsPlaceOf list i answer

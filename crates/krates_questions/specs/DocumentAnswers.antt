@@ -27,7 +27,7 @@ TellsReferents r all i name referents = AreReferents r all i name (map referent_
 
 -- ---- the roots
 
--- the ids that are lent
+-- the ids that are borrowed
 abbrev pub lent_ids : List (Bor Identity) → List Id
 lent_ids ids = map (λ root. id_of root.now) ids
 
@@ -45,7 +45,7 @@ AreRootsInOrder r s roots = AreInOrder r s (lent_ids roots.items)
 abbrev pub edge_asked : Identity → Identity → DepKindInfo → Edge
 edge_asked parent child info = edge_between (id_of parent) (id_of child) (dep_kind_info_view info)
 
--- the place of its declared dependency, or none where it has none
+-- the place of its declared dependency, or none if it has none
 abbrev pub TellsDeclaredPlace : Resolved → Edge → Option ℕ → Type 0
 TellsDeclaredPlace r e answer =
     MatchOption answer ((place : ℕ) (d : DependencyModel) → Declares r e place d → ⊥) (λ place. (d : DependencyModel) × Declares r e place d)

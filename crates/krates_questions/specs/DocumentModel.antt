@@ -1,4 +1,4 @@
--- What a document that is ready to be asked is: the document with its resolved graph.
+-- A document that is ready to be asked: the document with its resolved graph.
 use Rattle.std.specs.Prelude.{◌≡◌}
 use Rattle.krates_cm.specs.Document.{MetadataModel, metadata_view, resolve_view}
 use Rattle.krates_cm.specs.declared.metadata.Metadata.{Metadata}
@@ -10,11 +10,11 @@ pub record DocumentModel : Type 0 where
   pub metadata : Metadata
   pub resolve : Resolve
 
--- that of a look-up
+-- the document of a look-up
 abbrev pub looked_up : Lookup → DocumentModel
 looked_up d = record { metadata = d.metadata.now; resolve = d.resolve.now }
 
--- as the rules see it
+-- the document as the rules see it
 abbrev pub as_resolved : DocumentModel → Resolved
 as_resolved d = record { metadata = metadata_view d.metadata; graph = resolve_view d.resolve }
 

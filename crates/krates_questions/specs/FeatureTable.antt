@@ -27,6 +27,6 @@ IsNumberOf all x answer = MatchOption answer ((n : ℕ) → slice_get all n ≡ 
 abbrev pub AreNumbered : FeatureTable → Type 0
 AreNumbered t = (x : ListedFeature) → IsNumberOf (listed_in t) (listed_view x) (get listed_cmp t.numbers x)
 
--- these features of the node at the place are listed behind the others
+-- these features of the node at the place are listed after the others
 abbrev pub ListsMore : List ListedFeature → List ListedFeature → ℕ → List (String Global) → Type 0
 ListsMore old new place features = map listed_view new ≡ map listed_view old ++ features_of_node place (map text_view features)

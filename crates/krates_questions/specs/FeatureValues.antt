@@ -18,7 +18,7 @@ pub record IsAmongValues (values : List Text) (reference : Reference) : Type 0 w
 abbrev pub AreValuesOf : Resolved → Id → Text → List Text → Type 0
 AreValuesOf r i f values = (reference : Reference) → HasReference r i f reference ↔ IsAmongValues values reference
 
--- the values of the feature, none where there is no such feature
+-- the values of the feature, or none if there is no such feature
 abbrev pub values_of : FeaturesModel → Text → List Text
 values_of features name = unwrap_or (named features name) []
 

@@ -1,4 +1,4 @@
--- What the look-ups behind one question answer.
+-- What the look-ups behind one question return.
 use Rattle.std.specs.Prelude.{◌≡◌, ℕ, List, Option, MatchOption, Contains, map}
 use Rattle.std.specs.Borrow.{Bor}
 use Rattle.std.specs.Global.{Vec}
@@ -21,7 +21,7 @@ pub record ArePartsOf (r : Resolved) (i : Id) (x : NodeParts) : Type 0 where
   pub parts : AreParts r x.place x
   pub parent : id_of x.parent.now ≡ i
 
--- the parts of the crate's node, or none where it has no node
+-- the parts of the crate's node, or none if it has no node
 abbrev pub TellsParts : Resolved → Id → Option NodeParts → Type 0
 TellsParts r i answer = MatchOption answer (NoNode r i) (ArePartsOf r i)
 
@@ -36,7 +36,7 @@ pub record IsEntryBetween (r : Resolved) (p c : Id) (x : NodeEntry) : Type 0 whe
   pub parent : parent_of x ≡ p
   pub child : child_of x ≡ c
 
--- that dependency, or none where there is no such
+-- that dependency, or none if there is none
 abbrev pub TellsEntry : Resolved → Id → Id → Option NodeEntry → Type 0
 TellsEntry r p c answer = MatchOption answer (NoDep r p c) (IsEntryBetween r p c)
 
@@ -46,7 +46,7 @@ pub record IsDeclaredFor (x : NodeEntry) (k : DepKindInfoModel) (place : ℕ) : 
   pub dependency : DependencyModel
   pub declared : IsDeclared (declared_in x) (entry_of x) k place dependency
 
--- that place, or none where the dependency doesn't list the kind and target, or isn't declared for them
+-- that place, or none if the dependency doesn't list the kind and target, or isn't declared for them
 abbrev pub TellsDeclared : NodeEntry → DepKindInfoModel → Option ℕ → Type 0
 TellsDeclared x k answer =
     MatchOption answer (Contains (node_dep_view x.dep.now).dep_kinds k → IsUndeclared (declared_in x) (entry_of x) k) (IsDeclaredFor x k)

@@ -1,4 +1,4 @@
--- What look-ups in a document answer.
+-- What look-ups in a document return.
 use Rattle.std.specs.Prelude.{◌≡◌, ℕ, Bool, Option, MatchOption, MatchBool, map, option_map}
 use Rattle.krates_cm.specs.Document.{PackageModel, metadata_view, node_view, package_view, resolve_view}
 use Rattle.krates_cm.specs.declared.metadata.Metadata.{Metadata}
@@ -19,7 +19,7 @@ use Rattle.krates_questions.specs.declared.lookup.Lookup.{Lookup}
 abbrev pub resolved_view : Lookup → Resolved
 resolved_view d = record { metadata = metadata_view d.metadata.now; graph = resolve_view d.resolve.now }
 
--- the ids are those of the document, none is doubled, and the tables answer as they do
+-- the ids are those of the document, none is doubled, and the tables agree with the document
 pub record IsLookup (d : Lookup) : Type 0 where
   pub ids : AreIdsOf (metadata_view d.metadata.now) (resolve_view d.resolve.now) (ids_view d.ids.now)
   pub distinct : NoneDoubled (metadata_view d.metadata.now) (resolve_view d.resolve.now)
@@ -47,6 +47,6 @@ IsNodePlace r i answer = MatchOption answer (NoNode r i) (NodeAt r i)
 abbrev pub TellsPackage : Resolved → Id → Option (Bor Package) → Type 0
 TellsPackage r i answer = IsPackageOf r i (option_map (λ pkg. package_view pkg.now) answer)
 
--- it is that of this document, this graph and these ids
+-- the look-ups are those of this document, this graph and these ids
 abbrev pub IsOf : Metadata → Resolve → Ids → Lookup → Type 0
 IsOf metadata resolve ids d = (d.metadata.now ≡ metadata) × (d.resolve.now ≡ resolve) × (d.ids.now ≡ ids)

@@ -1,4 +1,4 @@
--- What there is for an edge, so told that each answer refutes the others.
+-- What is needed for an edge, said so that each answer refutes the others.
 use Rattle.std.specs.Prelude.{◌≡◌, Option, MatchOption}
 use Rattle.std.specs.Borrow.{Bor}
 use Rattle.krates_cm.specs.Document.{DependencyModel, DepKindInfoModel, NodeModel, NodeDepModel, dependency_view}
@@ -31,7 +31,7 @@ pub record IsDeclaredOnly (r : Resolved) (e : Edge) (d : DependencyModel) : Type
   pub declared : IsDeclaredAs r e d
   pub only : (other : DependencyModel) → IsDeclaredAs r e other → other ≡ d
 
--- as what the edge is declared, or none where it isn't declared
+-- the dependency that the edge is declared as, or none if it isn't declared
 abbrev pub TellsDeclaration : Resolved → Edge → Option (Bor Dependency) → Type 0
 TellsDeclaration r e answer =
     MatchOption answer ((d : DependencyModel) → IsDeclaredAs r e d → ⊥) (λ d. IsDeclaredOnly r e (dependency_view d.now))
@@ -43,7 +43,7 @@ pub record HasChild (r : Resolved) (p child : Id) : Type 0 where
   pub dep : NodeDepModel
   pub has_dep : HasDep node child dep
 
--- and it lists it of this kind and for this target
+-- and lists it with this kind and for this target
 pub record ListsKind (r : Resolved) (p child : Id) (k : DepKindInfoModel) : Type 0 where
   pub dep : NodeDepModel
   pub lists : ListsEdge r (edge_between p child k) dep

@@ -1,4 +1,4 @@
--- The node of a kept crate, and each dependency of it beside what its package declares.
+-- The node of a kept crate, and each of its dependencies together with what its package declares.
 use Rattle.std.specs.Prelude.{◌≡◌, ℕ, Contains, List, Some, map, slice_get}
 use Rattle.semver.specs.Identifiers.{parts_of}
 use Rattle.krates_cm.specs.Names.{version_named}
@@ -47,7 +47,7 @@ declared_in x = map dependency_view x.declared.now
 abbrev pub entry_of : NodeEntry → DependencyEntry
 entry_of x = dependency_entry (child_of x) (node_dep_view x.dep.now)
 
--- the parts of an entry belong together
+-- the parts of an entry are consistent
 pub record IsEntry (r : Resolved) (x : NodeEntry) : Type 0 where
   pub node : NodeModel
   pub has_node : HasNode r (parent_of x) node
@@ -66,7 +66,7 @@ pub record IsEntryOf (parts : NodeParts) (at : ℕ) (x : NodeEntry) : Type 0 whe
   pub index : x.index ≡ at
   pub is_member : x.is_member ≡ parts.is_member
 
--- that of an entry
+-- the edge of an entry
 abbrev pub edge_for : NodeEntry → DepKindInfoModel → Edge
 edge_for x k = edge_between (parent_of x) (child_of x) k
 

@@ -1,4 +1,4 @@
--- Numbers of listed features: those of all nodes in the order of the document, one after another.
+-- Numbers of listed features: the features of all nodes in the order of the document, one after another.
 use Rattle.std.specs.Prelude.{◌≡◌, ℕ, ◌≤◌, Option, MatchOption, Some, slice_get, ⊤}
 use Rattle.krates_cm.specs.Document.{Text}
 use Rattle.krates_rules.specs.Facts.{Id}
@@ -12,13 +12,13 @@ pub record FeatureAt (r : Resolved) (i : Id) (f : Text) (number : ℕ) : Type 0 
   pub at : slice_get (listed_features r) number ≡ Some (place, f)
   pub node : NodeAt r i place
 
--- of the numbers of its feature it is the greatest, by which the feature goes
+-- it is the greatest number of its feature, which counts as the feature's own
 abbrev pub IsOwn : Resolved → ℕ → Type 0
 IsOwn r number =
     (other : ℕ) (feature : ℕ × Text) → slice_get (listed_features r) number ≡ Some feature
     → slice_get (listed_features r) other ≡ Some feature → other ≤ number
 
--- the answer is that number
+-- the number that was returned is its feature's own
 abbrev pub TellsOwn : Resolved → Option ℕ → Type 0
 TellsOwn r answer = MatchOption answer ⊤ (IsOwn r)
 

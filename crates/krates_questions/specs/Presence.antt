@@ -1,4 +1,4 @@
--- What there is for a crate, so told that each answer refutes the others.
+-- What a document has for a crate, said so that each answer refutes the others.
 use Rattle.krates_rules.specs.Facts.{Id}
 use Rattle.krates_rules.specs.Questions.{IsIncluded, Stands, LacksNode}
 use Rattle.krates_rules.specs.Resolved.{Resolved, NoPackage}

@@ -39,7 +39,7 @@ pub record AreReferentsIn (r : Resolved) (all : Bool) (parts : NodeParts) (name 
 abbrev pub IsBefore : List Identity → Identity → Option ℕ → Type 0
 IsBefore ids id place = MatchOption place ⊤ (λ at. (there : Identity) × (slice_get ids at ≡ Some there) × (id_cmp id there ≡ Less))
 
--- the library of the package, its first target of kind `lib`, or none where it has none
+-- the library of the package, which is its first target of kind `lib`, or none if it has none
 abbrev pub IsLibraryOf : PackageModel → Option TargetModel → Type 0
 IsLibraryOf p answer =
     MatchOption answer ((place : ℕ) (t : TargetModel) → slice_get p.targets place ≡ Some t → Contains t.kind Lib → ⊥) (λ t. (place : ℕ) × FirstAt (λ t. Contains t.kind Lib) p.targets place t)
@@ -62,12 +62,12 @@ pub record AnswersAt (r : Resolved) (parts : NodeParts) (name : Text) (k : ℕ) 
   pub here : slice_get (map node_dep_view parts.deps.now) k ≡ Some dep
   pub answers : AnswersTo r (id_of child) dep name
 
--- these answer, and all of those places do that answer
+-- these answer, and all at those places that answer are among them
 pub record HasAnswering (r : Resolved) (parts : NodeParts) (name : Text) (places : List ℕ) (xs : List Referent) : Type 0 where
   pub each : (x : Referent) → Contains xs x → AnswersAt r parts name x.place x.id.now
   pub whole : (j : ℕ) (c : Identity) → Contains places j → AnswersAt r parts name j c → (x : Referent) × Contains xs x × (x.place ≡ j)
 
--- what answers among some has been found, and now what answers among those and these
+-- what answers at some places had been found, and now what answers at more places has been
 abbrev pub FindsMore : Resolved → NodeParts → Text → List ℕ → List Referent → List Referent → Type 0
 FindsMore r parts name these old new = (some : List ℕ) → HasAnswering r parts name some old → HasAnswering r parts name (some ++ these) new
 
@@ -88,6 +88,6 @@ abbrev pub IsLeastOf : Resolved → NodeParts → Text → List ℕ → Option �
 IsLeastOf r parts name these least =
     MatchOption least ((j : ℕ) (other : Identity) → Contains these j → AnswersAt r parts name j other → ⊥) (IsLeastAt r parts name these)
 
--- what was the least of some is now that of those and these
+-- the least at some places is now the least at these places too
 abbrev pub GoesOn : Resolved → NodeParts → Text → List ℕ → Option ℕ → Option ℕ → Type 0
 GoesOn r parts name these before least = (some : List ℕ) → IsLeastOf r parts name some before → IsLeastOf r parts name (some ++ these) least

@@ -1,4 +1,4 @@
--- What is counted while a selection is looked for.
+-- The counts of a search, while it goes on.
 use Rattle.std.proofs.Common.{◌≡◌, ℕ, zero, suc, ◌+◌, ◌-◌, ◌^◌, ◌<◌, ◌≤◌, List, [], ◌∷◌, ◌++◌, length, get_or, min, Some, inl, inr, refl, sym, ap, ◌∙◌, subst, arith}
 use Rattle.std.proofs.lemmas.Bool.{cases_lt}
 use Rattle.std.proofs.lemmas.List.{length-append}
@@ -37,13 +37,13 @@ counted_both a b =
 
 -- ---- one is taken
 
--- what stands among the first is what stood there
+-- what stands among the first elements stood there before
 stood : (xs ys : List ℕ) (n k p : ℕ) → ((j q : ℕ) → slice_get xs j ≡ Some q → slice_get ys j ≡ Some q) → n ≤ length xs → k < n → slice_get ys k ≡ Some p → slice_get xs k ≡ Some p
 stood xs ys n k p stays within lt at =
     let old = slice_get-get_or xs k 0 (omega (arith, lt, within)) in
     old ∙ sym (stays k (get_or xs k 0) old) ∙ at
 
--- the features that were taken have as many references when more has been found
+-- the features taken so far have as many references after more has been found
 references_stay : (r : Resolved) (s : SettingModel) (x z : Found) (n m : ℕ) → Grows r (taken_to x m x.features.taken) z → x.features.taken ≤ length x.features.put → HaveTakenReferences r s x n → HaveTakenReferences r s z n
 references_stay r s x z n m g within h = record {
   counts = h.counts;

@@ -1,4 +1,4 @@
--- The counts of a search are those of the selection.
+-- The counts of a search are the counts of its selection.
 use Rattle.std.proofs.Common.{◌≡◌, ◌≢◌, ℕ, zero, suc, ◌<◌, ◌≤◌, List, [], ◌∷◌, length, get_or, Bool, true, false, Some, Contains, option_map, refl, sym, ap, ◌∙◌, subst, arith}
 use Rattle.std.proofs.lemmas.List.{length-map}
 use Rattle.std.proofs.lemmas.List.Sorted.{length_permutation}
@@ -29,12 +29,12 @@ use Rattle.krates_questions.proofs.Distinct.{distinct_from, zip_shuffled}
 use Rattle.krates_questions.proofs.NodeParts.{node_here}
 use Rattle.krates_resolve.proofs.Selected.{AreAt, EqualityTellsSame, both, same_name}
 
--- what would be true is false
+-- a boolean that isn't true is false
 is_false : (b : Bool) → (b ≡ true → ⊥) → b ≡ false
 is_false true h = absurd (h refl)
 is_false false h = refl
 
--- numbers that were put once differ by their places
+-- numbers that were each put once differ
 apart : (xs : List ℕ) (j k n : ℕ) → AllPairs (λ a b. a ≢ b) xs → j < k → slice_get xs j ≡ Some n → slice_get xs k ≡ Some n → ⊥
 apart xs j k n distinct lt a b =
     let long = slice_get_within xs k n b in
@@ -42,14 +42,14 @@ apart xs j k n distinct lt a b =
     let second = same_Some n (get_or xs k n) (sym b ∙ slice_get-get_or xs k n long) in
     distinct j k n lt long (sym first ∙ second)
 
--- the place whose id stands there
+-- the place where the id stands
 place_of : (ids : List Identity) (places : List ℕ) (kids : List Identity) (j : ℕ) (kid : Identity) → AreAt ids places kids → slice_get kids j ≡ Some kid → (p : ℕ) × (slice_get places j ≡ Some p) × (slice_get ids p ≡ Some kid)
 place_of ids places kids j kid same at =
     let here = ap (λ xs. slice_get xs j) same ∙ slice_get-map (λ (k : Identity). Some k) kids j ∙ ap (option_map (λ (k : Identity). Some k)) at in
     let s = seen_at (slice_get ids) places j (Some kid) here in
     (get_or places j s.0, slice_get-get_or places j s.0 s.1, s.2)
 
--- no crate is put twice
+-- no crate was put twice
 distinct_kids : EqualityTellsSame → (r : Resolved) (ids : List Identity) (places : List ℕ) (kids : List Identity) → NoneDoubled r.metadata r.graph → AllZip Reads (node_texts r.graph) ids → AllPairs (λ a b. a ≢ b) places → AreAt ids places kids
     → IsDistinct same_id kids
 distinct_kids tells r ids places kids none reads distinct at = distinct_from same_id kids (λ j k a b lt x y. is_false (same_id a b) (λ same.
@@ -62,7 +62,7 @@ distinct_kids tells r ids places kids none reads distinct at = distinct_from sam
 neither_less : (n m : ℕ) → m ≤ n → n ≤ m → n ≡ m
 neither_less n m low high = omega (arith, low, high)
 
--- a feature goes by one number
+-- a feature has only one number
 one_number : (r : Resolved) (i j : Id) (f g : Text) (n m : ℕ) → NoneDoubled r.metadata r.graph → IsOwn r n → IsOwn r m → FeatureAt r i f n → FeatureAt r j g m → i ≡ j → f ≡ g → n ≡ m
 one_number r i j f g n m none a b x y krate name =
     let place : x.place ≡ y.place = one_node_place r j x.place y.place none (subst (λ (k : Id). NodeAt r k x.place) krate x.node) y.node in
@@ -70,7 +70,7 @@ one_number r i j f g n m none a b x y krate name =
     let here : slice_get (listed_features r) n ≡ Some (y.place, g) = x.at ∙ ap (λ (p : ℕ × Text). Some p) same in
     neither_less n m (a m (y.place, g) here y.at) (b n (y.place, g) y.at here)
 
--- no feature is put twice
+-- no feature was put twice
 distinct_enabled : EqualityTellsSame → (r : Resolved) (numbers : List ℕ) (enabled : List EnabledFeature) → NoneDoubled r.metadata r.graph → ((n : ℕ) → Contains numbers n → IsOwn r n) → AllPairs (λ a b. a ≢ b) numbers
     → HaveNumbers r numbers enabled → IsDistinct same_feature enabled
 distinct_enabled tells r numbers enabled none own distinct zip = distinct_from same_feature enabled (λ j k a b lt x y. is_false (same_feature a b) (λ same.
@@ -88,14 +88,14 @@ zip_from R [] (n ∷ ns) long each = absurd (omega (arith, long))
 zip_from R (x ∷ xs) [] long each = absurd (omega (arith, long))
 zip_from R (x ∷ xs) (n ∷ ns) long each = (each zero x n refl refl, zip_from R xs ns (omega (arith, long)) (λ k y m a b. each (suc k) y m a b))
 
--- the numbers are as many as the features
+-- there are as many numbers as features
 numbers_long : (r : Resolved) (numbers : List ℕ) (enabled : List EnabledFeature) → HaveNumbers r numbers enabled → length enabled ≡ length numbers
 numbers_long r [] [] z = refl
 numbers_long r [] (x ∷ xs) z = absurd z
 numbers_long r (n ∷ ns) [] z = absurd z
 numbers_long r (n ∷ ns) (x ∷ xs) z = ap suc (numbers_long r ns xs z.1)
 
--- what has been found, and counted
+-- what was found, and counted
 pub record IsCountedWhole (r : Resolved) (s : SettingModel) (ids : List Identity) (found : Found) (kids : List Identity) (enabled : List EnabledFeature) (work : Work) : Type 0 where
   pub none_doubled : NoneDoubled r.metadata r.graph
   pub reads : AllZip Reads (node_texts r.graph) ids
@@ -106,7 +106,7 @@ pub record IsCountedWhole (r : Resolved) (s : SettingModel) (ids : List Identity
   pub own : (n : ℕ) → Contains found.features.put n → IsOwn r n
   pub counted : HasCountedAll r s found work
 
--- its crates and features stand in another order, where none of them stands twice
+-- the same crates and features in another order, none of them twice
 pub record AreMoved (kids others : List Identity) (enabled features : List EnabledFeature) : Type 0 where
   pub krates_moved : IsDistinct same_id kids → IsPermutation kids others
   pub features_moved : IsDistinct same_feature enabled → IsPermutation enabled features

@@ -1,4 +1,4 @@
--- What has been found grows by an edge.
+-- What was found grows by an edge.
 use Rattle.std.proofs.Common.{◌≡◌, ℕ, ◌<◌, List, [], ◌∷◌, ◌++◌, length, map, All, Some, Contains, refl, sym, ap, ◌∙◌, subst, inl, inr}
 use Rattle.std.proofs.lemmas.List.Elements.{All-push}
 use Rattle.std.specs.Global.{Vec}
@@ -41,7 +41,7 @@ edge_found r x v e (Feature i g) more h = h
 edge_found r x v e (Toggled i j g) more h = h
 edge_found r x v e (Lost c) more h = h
 
--- what holds of each fact that was found, and of the edge that is pushed, holds of each that is found then
+-- what holds of each fact found before, and of the edge that is added, holds of each fact found now
 edge_each : (P : Fact → Type 0) → (r : Resolved) (x : Found) (v : Vec KeptEdge) (e : KeptEdge) (f : Fact) → ((g : Fact) → HasFound r x g → P g) → v.items ≡ x.edges.items ++ e ∷ [] → P (Kept (edge_view e)) → HasFound r (WithEdges x v) f → P f
 edge_each P r x v e (Kept y) old more d h = elim (seen_from edge_view x.edges.items v.items e y more h) [
   | inl o ↦ old (Kept y) o
@@ -52,7 +52,7 @@ edge_each P r x v e (Feature i g) old more d h = old (Feature i g) h
 edge_each P r x v e (Toggled i j g) old more d h = old (Toggled i j g) h
 edge_each P r x v e (Lost c) old more d h = absurd h
 
--- what holds of each edge of the old and of the edge that is pushed holds of each of the new
+-- what holds of each old edge, and of the edge that is added, holds of each new one
 each_edge : (x : Found) (v : Vec KeptEdge) (e : KeptEdge) (P : Edge → Type 0) → v.items ≡ x.edges.items ++ e ∷ [] → ((y : Edge) → Contains (map edge_view x.edges.items) y → P y) → P (edge_view e)
     → (y : Edge) → Contains (map edge_view v.items) y → P y
 each_edge x v e P more old here y h = elim (seen_from edge_view x.edges.items v.items e y more h) [
@@ -60,11 +60,11 @@ each_edge x v e P more old here y h = elim (seen_from edge_view x.edges.items v.
   | inr is ↦ subst P is here
 ]
 
--- the edge that is pushed
+-- the edge that is added
 pub edge_kept : (x : Found) (v : Vec KeptEdge) (e : KeptEdge) (edge : Edge) → v.items ≡ x.edges.items ++ e ∷ [] → edge_view e ≡ edge → Contains (map edge_view v.items) edge
 edge_kept x v e edge more is = subst (Contains (map edge_view v.items)) is (seen_there edge_view x.edges.items v.items e more)
 
--- an edge whose child is kept with what is asked of it, and whose dependency is marked
+-- an edge whose child is kept with all that the edge needs, and whose dependency is marked
 pub edge_advances : (r : Resolved) (s : SettingModel) (x : Found) (v : Vec KeptEdge) (e : KeptEdge) (edge : Edge) → IsSound r s x → v.items ≡ x.edges.items ++ e ∷ [] → edge_view e ≡ edge → IsPlaced r s e
     → HasFound r x (Crate edge.child) → IsUsed r s x edge → ((place index : ℕ) → DepAt r edge.parent edge.child place index → IsMarked x.links place index) → Derivable (questions r s) (Kept edge)
     → HasSomeStep r x.trace.items (Kept edge) → Advances r s x (record x { edges = v }) × HasFound r (record x { edges = v }) (Kept edge)
@@ -103,7 +103,7 @@ edge_advances r s x v e edge sound more is placed reached used marked d step =
 
 -- ---- the edge of an entry
 
--- where the edge of an entry is wanted, it is wanted as the entry declares it
+-- if the edge of an entry is wanted, it is wanted as the entry declares it
 wanted_here : (r : Resolved) (s : SettingModel) (x : NodeEntry) (k : DepKindInfoModel) (place : ℕ) (d : DependencyModel) → NoneDoubled r.metadata r.graph → IsEntry r x → IsDeclared (declared_in x) (entry_of x) k place d
     → (w : IsWanted r s (edge_for x k) d) → (w.place ≡ place) × (w.declared.declares.dep ≡ node_dep_view x.dep.now)
 wanted_here r s x k place d none h first w =
@@ -113,11 +113,11 @@ wanted_here r s x k place d none h first w =
     let there = subst (λ (y : NodeDepModel). IsDeclared (declared_in x) (dependency_entry (child_of x) y) k w.place d) dep here in
     ((declared_once (declared_in x) (entry_of x) k w.place place d d there first).0, dep)
 
--- what an edge has beside itself, where it is placed
+-- an edge with the places that are kept beside it
 abbrev PlacedAs : Resolved → SettingModel → ℕ → Edge → ℕ → DependencyModel → Type 0
 PlacedAs r s kind_place e place d = (a : IsDeclaredAt r s e place d) × FirstAt (λ o. o ≡ kind_info_of e) a.declares.dep.dep_kinds kind_place (kind_info_of e)
 
--- it is placed as the entry has it
+-- the places are those of the entry
 pub placed_here : (r : Resolved) (s : SettingModel) (x : NodeEntry) (k : DepKindInfoModel) (e : KeptEdge) (place : ℕ) (d : DependencyModel) → NoneDoubled r.metadata r.graph → IsEntry r x → IsDeclared (declared_in x) (entry_of x) k place d
     → IsWanted r s (edge_for x k) d → edge_view e ≡ edge_for x k → e.declared ≡ place → FirstAt (λ o. o ≡ k) (node_dep_view x.dep.now).dep_kinds e.place k → IsPlaced r s e
 placed_here r s x k e place d none h first w is at first_of_kind =
@@ -127,19 +127,19 @@ placed_here r s x k e place d none h first w is at first_of_kind =
     let here = subst (λ (n : ℕ). PlacedAs r s e.place (edge_view e) n d) (same.0 ∙ sym at) edge in
     record { dependency = d; declared = here.0; place = here.1 }
 
--- the declared dependency at a place, as it is read there
+-- the declared dependency at a place, as the code reads it
 pub declared_seen : (ds : List Dependency) (place : ℕ) (d : DependencyModel) (x : Dependency) → slice_get (map dependency_view ds) place ≡ Some d → slice_get ds place ≡ Some x → dependency_view x ≡ d
 declared_seen ds place d x at here = same_Some (dependency_view x) d (sym (slice_get-map dependency_view ds place ∙ ap (option_map dependency_view) here) ∙ at)
 
--- there is one at the place
+-- it stands within the list
 pub declared_within : (ds : List Dependency) (place : ℕ) (d : DependencyModel) → slice_get (map dependency_view ds) place ≡ Some d → place < length ds
 declared_within ds place d at = (seen_at dependency_view ds place d at).1
 
--- an edge that is wanted as one dependency alone is used as that is
+-- an edge that is wanted as only one dependency is used as that one
 pub used_once : (r : Resolved) (s : SettingModel) (f : Found) (e : Edge) (d : DependencyModel) → NoneDoubled r.metadata r.graph → IsWanted r s e d → HasUsed r f d e.child → IsUsed r s f e
 used_once r s f e d none w used b v = subst (λ (y : DependencyModel). HasUsed r f y e.child) (wanted_once r s e d b none w v) used
 
--- the mark of an entry is that of the dependency between its crates
+-- the mark of an entry is the mark of the dependency between its crates
 pub marked_once : (r : Resolved) (p c : Id) (m i : ℕ) (links : Links) → NoneDoubled r.metadata r.graph → DepAt r p c m i → IsMarked links m i → (n j : ℕ) → DepAt r p c n j → IsMarked links n j
 marked_once r p c m i links none at marked n j there =
     let same = one_dep_place r p c m i n j none at there in

@@ -1,4 +1,4 @@
--- What an edge of an entry gives, by what its declared dependency and its child are.
+-- What an edge of an entry gives, by its declared dependency and its child.
 use Rattle.std.proofs.Common.{◌≡◌, ◌⊎◌, ℕ, [], ◌∷◌, Bool, true, false, sym, subst, inl, inr}
 use Rattle.krates_cm.specs.Document.{DependencyModel, DepKindInfoModel, node_dep_view}
 use Rattle.krates_rules.specs.Admission.{NoneDoubled}
@@ -20,11 +20,11 @@ use Rattle.krates_questions.proofs.Entries.{Heeds, declared_at, not_loose, wante
 
 -- ---- the edge in the document
 
--- what an edge has beside itself, where it is placed
+-- an edge with the places that are kept beside it
 abbrev PlacedAs : Resolved → SettingModel → ℕ → Edge → ℕ → DependencyModel → Type 0
 PlacedAs r s kind_place e place d = (a : IsDeclaredAt r s e place d) × FirstAt (λ o. o ≡ kind_info_of e) a.declares.dep.dep_kinds kind_place (kind_info_of e)
 
--- a kept edge is placed as the entry has it
+-- the places of a kept edge are those of the entry
 pub placed : (r : Resolved) (s : SettingModel) (x : NodeEntry) (k : DepKindInfoModel) (e : KeptEdge) (place : ℕ) (d : DependencyModel) → Heeds r s x k
     → IsDeclared (declared_in x) (entry_of x) k place d → edge_view e ≡ edge_for x k → e.declared ≡ place → FirstAt (λ o. o ≡ k) (node_dep_view x.dep.now).dep_kinds e.place k → IsPlaced r s e
 unfolding declared_at
@@ -36,7 +36,7 @@ placed r s x k e place d h first is at first_of_kind =
 
 -- ---- the edge has been tried
 
--- what is taken of a dependency that isn't optional, or is asked for
+-- a dependency that isn't optional, or is asked for
 pub taken_here : (asked : Bool) (d : DependencyModel) → asked ≡ true ⊎ d.optional ≡ false → TakenWhen asked d
 taken_here true d h = tt
 taken_here false d (inl e) = absurd cc
@@ -113,7 +113,7 @@ edge_derivable : (r : Resolved) (s : SettingModel) (e : Edge) (d : DependencyMod
 unfolding questions
 edge_derivable r s e d kept w is_required stands = follows (required {e = e} {d = d} (record { wanted = w; stands = stands }) is_required) (one (questions r s) (Crate e.parent) kept)
 
--- what a kept crate may give by its edges that aren't optional
+-- what a kept crate may give by edges that aren't optional
 pub crate_may_try : (r : Resolved) (s : SettingModel) (e : Edge) → Derivable (questions r s) (Crate e.parent) → MayTry r s e IsRequired
 crate_may_try r s e kept = record {
   kept = λ d w is_required stands. edge_derivable r s e d kept w is_required stands;

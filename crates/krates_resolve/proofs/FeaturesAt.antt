@@ -30,22 +30,22 @@ itself n = n
 abbrev pub HasNumber : Resolved → ℕ → EnabledFeature → Type 0
 HasNumber r number x = FeatureAt r (id_of x.krate) (text_view x.name) number
 
--- the numbers are written as they are, or as images of themselves
+-- the numbers stand as they are, which is as images under the identity
 pub as_they_are : (r : Resolved) (numbers : List ℕ) (list : List EnabledFeature) → AllZip (HasNumber r) (map itself numbers) list → AllZip (HasNumber r) numbers list
 as_they_are r numbers list z = subst (λ (ns : List ℕ). AllZip (HasNumber r) ns list) (map-id numbers) z
 
--- each feature has the number at its place, written as its image
+-- each feature has the number whose image stands at its place
 abbrev pub HaveImages : Resolved → List ℕ → List EnabledFeature → Type 0
 HaveImages r numbers list = AllZip (HasNumber r) (map itself numbers) list
 
--- one node has one id
+-- a node has only one id
 same_id_at : ReadsOnce → (r : Resolved) (i j : Id) (place other : ℕ) → NodeAt r i place → NodeAt r j other → place ≡ other → i ≡ j
 same_id_at once r i j place other a b same =
     let node : a.node ≡ b.node = same_Some a.node b.node (sym a.at ∙ ap (λ k. slice_get r.graph.nodes k) same ∙ b.at) in
     let text : b.node.id ≡ a.node.id = ap (λ (n : NodeModel). n.id) (sym node) in
     sym a.id.same ∙ ap id_of (once b.node.id a.id.read b.id.read (subst (λ t. Reads t a.id.read) (sym text) a.id.reads) b.id.reads) ∙ b.id.same
 
--- what they are is what is enabled
+-- these are exactly the enabled features
 pub enabled_told : ReadsOnce → (r : Resolved) (numbers : List ℕ) (list : List EnabledFeature) → HaveImages r numbers list → (i : Id) (f : Text) → IsEnabled r numbers i f ↔ Contains (map feature_fact list) (Feature i f)
 enabled_told once r numbers list z i f = (
   λ e. (
@@ -67,7 +67,7 @@ enabled_told once r numbers list z i f = (
       record { number = n.0; among = among; at = subst (λ j. FeatureAt r j f n.0) krate (subst (λ g. FeatureAt r (id_of x.krate) g n.0) name n.2) }),
 )
 
--- ---- at a number, as the code finds it
+-- ---- the feature of a number, as the code finds it
 
 pub listed_long : (d : Lookup) → IsLookup d → length (listed_features (resolved_view d)) ≡ length d.features.listed.items
 listed_long d h = sym (ap length h.features) ∙ length-map d.features.listed.items listed_view

@@ -17,7 +17,7 @@ use Rattle.krates_rules.specs.Rules.{IsAskedFor, Rule, asked, by_default, declar
 use Rattle.krates_rules.specs.Setting.{SettingModel}
 use Rattle.krates_text.specs.FeatureReference.{simple, strong, weak}
 
--- ---- by none, one or two premises
+-- ---- from no premise, one or two
 
 by_none : (r : Resolved) (s : SettingModel) (trace : List NumberedStep) (rule : ℕ) (f : Fact) → Rule (questions r s) rule [] f → MayFind r s trace (by_nothing rule) f
 by_none r s trace rule f h = record { premises = []; uses = tt; rule = h }
@@ -96,6 +96,6 @@ unfolding questions
 finds_default r s trace n e d kept wanted uses lists =
     by_premise r s trace 6 n (Kept e) (Feature e.child default_name) kept (by_default {e = e} {d = d} (as_declared r s e d wanted) uses lists)
 
--- for the same reason
+-- equal reasons give the same
 pub for_reason : (r : Resolved) (s : SettingModel) (trace : List NumberedStep) (reason other : Reason) (f : Fact) → reason ≡ other → MayFind r s trace other f → MayFind r s trace reason f
 for_reason r s trace reason other f is h = subst (λ (x : Reason). MayFind r s trace x f) (sym is) h

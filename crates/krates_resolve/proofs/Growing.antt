@@ -1,4 +1,4 @@
--- What has been found stays found, and what stood in it stands in it.
+-- What was found stays found, and what holds of it continues to hold.
 use Rattle.std.proofs.Common.{ℕ, refl, ◌∙◌, inl, inr}
 use Rattle.krates_cm.specs.Document.{Text, DependencyModel}
 use Rattle.krates_text.specs.FeatureReference.{Reference, krate, weak, strong, simple}

@@ -1,4 +1,4 @@
--- What has been found grows: by a crate, a feature, an edge, a toggled feature, a mark, or a feature that waits.
+-- What was found grows by a crate, a feature, an edge, a toggled feature, a mark, or a feature that waits.
 use Rattle.std.proofs.Common.{◌≡◌, ◌⊎◌, ℕ, List, [], ◌∷◌, ◌++◌, length, map, Bool, true, false, Some, Contains, refl, sym, ap, ◌∙◌, subst, inl, inr}
 use Rattle.std.proofs.lemmas.List.{map-append}
 use Rattle.std.proofs.lemmas.List.Elements.{Contains-push, Contains-push_cases, Contains-append_left}
@@ -49,7 +49,7 @@ pub put_taken : (old new : PutNumbers) (place : ℕ) → HasPut old new place �
 put_taken old new place (before c e) = (ap (λ (a : PutNumbers). a.taken) e, ap (λ (a : PutNumbers). a.size) e)
 put_taken old new place (now e) = (ap (λ (a : PutNumbers). a.taken) e, ap (λ (a : PutNumbers). a.size) e)
 
--- what `put` says, whichever it answers
+-- what `put` promises, for either result
 pub has_put : (old new : PutNumbers) (place : ℕ) (b : Bool) → OnFalse b (Contains old.put place) → OnTrue b (new ≡ record old { put = old.put ++ place ∷ [] }) → OnFalse b (new ≡ old) → HasPut old new place
 has_put old new place true c a u = now a
 has_put old new place false c a u = before c u
@@ -66,7 +66,7 @@ crate_found r x a v place (Feature i g) p h = h
 crate_found r x a v place (Toggled i j g) p h = h
 crate_found r x a v place (Lost c) p h = h
 
--- what holds of each fact that was found, and of the crate that is put, holds of each that is found then
+-- what holds of each fact found before, and of the crate that is put, holds of each fact found now
 crate_each : (P : Fact → Type 0) → ReadsOnce → (r : Resolved) (x : Found) (a : PutNumbers) (v : Vec ℕ) (place : ℕ) (i : Id) (f : Fact) → ((g : Fact) → HasFound r x g → P g) → HasPut x.krates a place → NodeAt r i place
     → P (Crate i) → HasFound r (WithKrates x a v) f → P f
 crate_each P once r x a v place i (Crate j) old p n d h = elim (put_from x.krates a place h.place p h.among) [
@@ -89,7 +89,7 @@ crate_grows r x a v place p = record {
   features_taken = refl;
 }
 
--- the crate of a node at a place that is put with its step
+-- the crate of a node is put, with its step
 pub crate_advances : ReadsOnce → (r : Resolved) (s : SettingModel) (x : Found) (a : PutNumbers) (v : Vec ℕ) (place n : ℕ) (i : Id) → IsSound r s x → a ≡ record x.krates { put = x.krates.put ++ place ∷ [] } → v.items ≡ x.krate_steps.items ++ n ∷ []
     → NodeAt r i place → HasStep r x.trace.items n (Crate i) → Advances r s x (record x { krates = a; krate_steps = v })
 crate_advances once r s x a v place n i sound is more at step =
@@ -140,7 +140,7 @@ feature_found r x a v number (Kept e) p h = h
 feature_found r x a v number (Toggled i j g) p h = h
 feature_found r x a v number (Lost c) p h = h
 
--- a feature of the new was one of the old, or is the one that is put now
+-- a feature now is one from before, or the one that is put
 feature_from : ReadsOnce → (r : Resolved) (x : Found) (a : PutNumbers) (v : Vec ℕ) (number : ℕ) (i j : Id) (f g : Text) → HasPut x.features a number → FeatureAt r i f number
     → HasFound r (WithFeatures x a v) (Feature j g) → HasFound r x (Feature j g) ⊎ ((i ≡ j) × (f ≡ g))
 feature_from once r x a v number i j f g p at h = elim (put_from x.features a number h.number p h.among) [
@@ -148,7 +148,7 @@ feature_from once r x a v number i j f g p at h = elim (put_from x.features a nu
   | inr e ↦ inr (one_feature once r i j f g h.number (subst (FeatureAt r i f) e at) h.at)
 ]
 
--- what holds of each fact that was found, and of the feature that is put, holds of each that is found then
+-- what holds of each fact found before, and of the feature that is put, holds of each fact found now
 feature_each : (P : Fact → Type 0) → ReadsOnce → (r : Resolved) (x : Found) (a : PutNumbers) (v : Vec ℕ) (number : ℕ) (i : Id) (f : Text) (y : Fact) → ((g : Fact) → HasFound r x g → P g) → HasPut x.features a number → FeatureAt r i f number
     → P (Feature i f) → HasFound r (WithFeatures x a v) y → P y
 feature_each P once r x a v number i f (Feature j g) old p at d h = elim (feature_from once r x a v number i j f g p at h) [
@@ -171,7 +171,7 @@ feature_grows r x a v number p = record {
   features_taken = (put_taken x.features a number p).0;
 }
 
--- the feature of a kept crate whose number is put with its step
+-- the feature of a kept crate is put, with its step
 pub feature_advances : ReadsOnce → (r : Resolved) (s : SettingModel) (x : Found) (a : PutNumbers) (v : Vec ℕ) (number n : ℕ) (i : Id) (f : Text) → IsSound r s x → a ≡ record x.features { put = x.features.put ++ number ∷ [] }
     → v.items ≡ x.feature_steps.items ++ n ∷ [] → FeatureAt r i f number → IsOwn r number → HasFound r x (Crate i) → HasStep r x.trace.items n (Feature i f) → Advances r s x (record x { features = a; feature_steps = v })
 feature_advances once r s x a v number n i f sound is more at own kept step =
@@ -220,7 +220,7 @@ feature_advances once r s x a v number n i f sound is more at own kept step =
 
 -- ---- one more toggled feature
 
--- what is seen of a list with one more element
+-- the views of a list with one more element
 pub seen_from : {A B : Type 0} (f : A → B) (xs ys : List A) (x : A) (y : B) → ys ≡ xs ++ x ∷ [] → Contains (map f ys) y → Contains (map f xs) y ⊎ (f x ≡ y)
 seen_from f xs ys x y more h = Contains-push_cases (map f xs) (f x) y (subst (λ zs. Contains zs y) (ap (map f) more ∙ map-append f xs (x ∷ [])) h)
 
@@ -240,7 +240,7 @@ toggled_found r x v t (Kept e) more h = h
 toggled_found r x v t (Feature i g) more h = h
 toggled_found r x v t (Lost c) more h = h
 
--- what holds of each fact that was found, and of the feature that is toggled, holds of each that is found then
+-- what holds of each fact found before, and of the toggled feature that is added, holds of each fact found now
 toggled_each : (P : Fact → Type 0) → (r : Resolved) (x : Found) (v : Vec ToggledFeature) (t : ToggledFeature) (f : Fact) → ((g : Fact) → HasFound r x g → P g) → v.items ≡ x.toggled.items ++ t ∷ [] → P (toggled_fact t)
     → HasFound r (WithToggled x v) f → P f
 toggled_each P r x v t (Toggled i j g) old more d h = elim (seen_from toggled_fact x.toggled.items v.items t (Toggled i j g) more h) [
@@ -252,12 +252,12 @@ toggled_each P r x v t (Kept e) old more d h = old (Kept e) h
 toggled_each P r x v t (Feature i g) old more d h = old (Feature i g) h
 toggled_each P r x v t (Lost c) old more d h = absurd h
 
--- the feature that a toggled one is
+-- the feature that is enabled by being toggled
 abbrev enabled_by : Fact → Fact
 enabled_by (Toggled i j g) = Feature j g
 enabled_by f = f
 
--- one that is enabled
+-- a toggled feature is added, which is enabled
 pub toggled_advances : (r : Resolved) (s : SettingModel) (x : Found) (v : Vec ToggledFeature) (t : ToggledFeature) (p c : Id) (g : Text) → IsSound r s x → v.items ≡ x.toggled.items ++ t ∷ [] → toggled_fact t ≡ Toggled p c g
     → HasFound r x (Feature c g) → Derivable (questions r s) (Toggled p c g) → HasSomeStep r x.trace.items (Toggled p c g) → Advances r s x (record x { toggled = v }) × HasFound r (record x { toggled = v }) (Toggled p c g)
 toggled_advances r s x v t p c g sound more is enabled d step =
@@ -321,13 +321,13 @@ links_back r x l (Lost c) h = h
 links_grow : (r : Resolved) (x : Found) (l : Links) → ((k i : ℕ) (w : Waiting) → IsWaiter x.links k i w → IsWaiter l k i w) → Grows r x (with_links x l)
 links_grow r x l waits = record { found = links_found r x l; steps = λ n f h. h; waits = λ p c k i g at h. inl (record { waiter = h.waiter; waits = waits k i h.waiter h.waits; named = h.named }); krates = λ k n h. h; features = λ k n h. h; krates_taken = refl; features_taken = refl }
 
--- a mark that is one of the other links, by the same step
+-- a mark of the other links, by the same step
 same_mark : (a b : Links) (k i : ℕ) → ((n : ℕ) → IsMarkedBy a k i n → IsMarkedBy b k i n) → IsMarked a k i → IsMarked b k i
 same_mark a b k i f m = (m.0, f m.0 m.1)
 
 -- ---- one more step
 
--- a step that follows is put behind the others
+-- a step that follows is appended
 pub step_advances : ReadsOnce → (r : Resolved) (s : SettingModel) (x : Found) (v : Vec NumberedStep) (step : NumberedStep) (f : Fact) → IsSound r s x → v.items ≡ x.trace.items ++ step ∷ [] → Names r step.fact f
     → MayFind r s x.trace.items step.reason f → Advances r s x (record x { trace = v })
 step_advances once r s x v step f sound more names finds =
@@ -366,13 +366,13 @@ step_advances once r s x v step f sound more names finds =
       grows = grown;
     }
 
--- and has its fact there
+-- and its fact is the fact of that step
 pub put_step_has : (r : Resolved) (trace : List NumberedStep) (v : Vec NumberedStep) (step : NumberedStep) (f : Fact) → v.items ≡ trace ++ step ∷ [] → Names r step.fact f → HasStep r v.items (length trace) f
 put_step_has r trace v step f more names = subst (λ (steps : List NumberedStep). HasStep r steps (length trace) f) (sym more) (last_step r trace step f names)
 
 -- ---- one more feature that waits
 
--- the name of a feature that an enabled one asks for weakly, by its step, of a dependency that isn't marked
+-- the name of a feature that an enabled feature asks for weakly, by its step, through a dependency without a mark
 pub waiter_advances : (r : Resolved) (s : SettingModel) (x : Found) (l : Links) (place index : ℕ) (w : Waiting) → IsSound r s x → HasWaiter x.links l place index w
     → ((p child : Id) → DepAt r p child place index → IsAskedWeakly r s p child w.name.now) → ((p child : Id) → DepAt r p child place index → IsAskingStep r s x.trace.items p child w.name.now w.step)
     → (IsMarked x.links place index → ⊥) → Advances r s x (with_links x l)
@@ -472,7 +472,7 @@ used_linked r x l d c h = record { declared = λ g among. named_linked r x l c g
 tried_linked : (r : Resolved) (s : SettingModel) (x : Found) (l : Links) (e : Edge) (taken : DependencyModel → Type 0) → IsTried r s x e taken → IsTried r s (with_links x l) e taken
 tried_linked r s x l e taken h = record { kept = h.kept; has_package = h.has_package; has_node = h.has_node; declared = h.declared }
 
--- the mark of a dependency by the step of an edge, the crate of which is kept
+-- a dependency is marked with the step of an edge whose child is kept
 pub mark_sound : (r : Resolved) (s : SettingModel) (x : Found) (l : Links) (place index n : ℕ) (waiters : List Waiting) → IsSound r s x → HasMarked x.links l place index n waiters
     → ((p child : Id) → DepAt r p child place index → HasFound r x (Crate child))
     → ((p child : Id) → DepAt r p child place index → (k : DepKindInfoModel) × Derivable (questions r s) (Kept (edge_between p child k)))
@@ -519,7 +519,7 @@ mark_sound r s x l place index n waiters sound more arrived kept step =
       enabled = sound.enabled;
     }
 
--- nothing is lost by it, where the features that waited have been toggled since
+-- the mark loses nothing if the features that waited have been toggled since
 pub mark_grows : (r : Resolved) (x : Found) (l : Links) (z : Found) (place index n : ℕ) (waiters : List Waiting) → HasMarked x.links l place index n waiters → Grows r (with_links x l) z
     → ((p child : Id) (w : Waiting) → DepAt r p child place index → Contains waiters w → IsToggledIn r z p child w.name.now) → Grows r x z
 mark_grows r x l z place index n waiters more g toggled = record {

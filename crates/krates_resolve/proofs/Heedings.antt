@@ -58,7 +58,7 @@ two q g h d e f (inr (inr is)) = absurd is
 feature_keeps : (r : Resolved) (s : SettingModel) (i : Id) (f : Text) → Derivable (questions r s) (Feature i f) → Derivable (questions r s) (Crate i)
 feature_keeps r s i f enabled = follows (feature_crate {p = i} {f = f}) (one (questions r s) (Feature i f) enabled)
 
--- a text is the value of an enabled feature, so its reference is one
+-- a text is a value of an enabled feature, so its reference is a reference of that feature
 pub value_may : (r : Resolved) (s : SettingModel) (i : Id) (text : Text) (reference : Reference) → IsValueOfEnabled r s i text → IsReference text reference → HasEnabledReference r s i reference
 value_may r s i text reference v is = record { feature = v.feature; enabled = v.enabled; refers = v.refers reference is }
 
@@ -142,7 +142,7 @@ may_ask_there once r s p child name place index may is dep other k at =
 
 -- ---- a feature that is toggled strongly
 
--- where no edge is kept that was asked for, none may be
+-- if no edge that was asked for is kept, none may be kept
 pub unmarked_strongly : (r : Resolved) (s : SettingModel) (x : Found) (p : Id) (g : Text) (place index : ℕ) → IsSound r s x → IsAskedAt r s x p place index
     → (IsMarked x.links place index → ⊥) → IsToggledStronglyAt r s x p place index g
 unmarked_strongly r s x p g place index sound is_asked unmarked e d same there w stands =
@@ -151,7 +151,7 @@ unmarked_strongly r s x p g place index sound is_asked unmarked e d same there w
 
 -- ---- a feature that waits
 
--- one more feature waits, of a dependency to which no edge is kept yet
+-- one more feature waits, for a dependency to which no edge is kept yet
 pub wait_advances : ReadsOnce → (r : Resolved) (s : SettingModel) (x : Found) (links : Links) (p child : Id) (place index : ℕ) (w : Waiting) → IsSound r s x → HasWaiter x.links links place index w → DepAt r p child place index
     → IsAskedWeakly r s p child w.name.now → IsAskingStep r s x.trace.items p child w.name.now w.step → (IsMarked x.links place index → ⊥) → Advances r s x (with_links x links)
 wait_advances once r s x links p child place index w sound more dep weakly step unmarked =
@@ -162,15 +162,15 @@ wait_advances once r s x links p child place index w sound more dep weakly step 
     subst (λ (i : Id). IsAskingStep r s x.trace.items i c w.name.now w.step) same.0 (subst (λ (i : Id). IsAskingStep r s x.trace.items p i w.name.now w.step) same.1 step))
     unmarked
 
--- the step is that of a feature with the weak reference, whose name means the child
+-- the step is that of a feature with the weak reference, and the reference's name means the child
 pub asking_step : (r : Resolved) (s : SettingModel) (trace : List NumberedStep) (n : ℕ) (p child : Id) (name g : Text) → IsReferringStep r trace n p (weak name g) → IsReferent r s.all_named p name child → IsAskingStep r s trace p child g n
 asking_step r s trace n p child name g m is = record { feature = m.feature; found = m.found; name = name; refers = m.refers; referent = is }
 
--- a text is the value of the feature of a step, so its reference is one of that
+-- a text is a value of the feature of a step, so its reference is a reference of that feature
 pub referring_step : (r : Resolved) (trace : List NumberedStep) (n : ℕ) (p : Id) (text : Text) (reference : Reference) → IsValueStep r trace n p text → IsReference text reference → IsReferringStep r trace n p reference
 referring_step r trace n p text reference v is = record { feature = v.feature; found = v.found; refers = v.refers reference is }
 
--- the step stays that of a feature with the reference
+-- the step remains that of a feature with the reference
 pub referring_more : (r : Resolved) (old new : List NumberedStep) (n : ℕ) (p : Id) (reference : Reference) → StepsStay r old new → IsReferringStep r old n p reference → IsReferringStep r new n p reference
 referring_more r old new n p reference stay h = record { feature = h.feature; found = stay n (Feature p h.feature) h.found; refers = h.refers }
 
@@ -181,9 +181,9 @@ value_of_step r trace n p f values text found are among = record { feature = f; 
 pub asked_weakly : (r : Resolved) (s : SettingModel) (p child : Id) (name g : Text) → HasEnabledReference r s p (weak name g) → IsReferent r s.all_named p name child → IsAskedWeakly r s p child g
 asked_weakly r s p child name g m is = record { feature = m.feature; enabled = m.enabled; name = name; refers = m.refers; referent = is }
 
--- ---- a text is one reference
+-- ---- each text is one reference
 
--- what follows from two clauses of a call that went well
+-- what follows from two clauses of a call that succeeded
 pub on_ok_both : {T E P Q R : Type 0} (result : Result T E) → (P → Q → R) → OnOk result P → OnOk result Q → OnOk result R
 on_ok_both (Ok x) f p q = f p q
 on_ok_both (Err e) f p q = tt
@@ -192,7 +192,7 @@ pub followed_by : (r : Resolved) (s : SettingModel) (x : Found) (p : Id) (text :
     → (other : Reference) → IsReference text other → IsFollowed r s x p other
 followed_by r s x p text reference reading is followed other there = subst (IsFollowed r s x p) (reading.only reference is ∙ sym (reading.only other there)) followed
 
--- each value of a feature has been followed, so its references have been followed
+-- each value of a feature has been followed, so its references have been
 pub heeded_here : (r : Resolved) (s : SettingModel) (x : Found) (p : Id) (f : Text) (values : List Text) → AreValuesOf r p f values
     → ((text : Text) → Contains values text → (reference : Reference) → IsReference text reference → IsFollowed r s x p reference) → IsHeeded r s x p f
 heeded_here r s x p f values are each reference has = let v = (are reference).0 has in each v.text v.among reference v.is
@@ -215,17 +215,17 @@ listed_at d number x h lt is =
     let long = ap length (sym h.features) ∙ length-map ls listed_view in
     sym (ap (λ (all : List (ℕ × Text)). slice_get all number) h.features) ∙ slice_get-map listed_view ls number ∙ ap (option_map listed_view) (slice_get_read ls (length ls) number x refl (subst (λ (n : ℕ). number < n) long lt) is)
 
--- that of a number that is taken
+-- the feature of a number that was taken
 pub listed_here : (d : Lookup) (s : SettingModel) (x : Found) (taken number : ℕ) (feature : ListedFeature) → IsLookup d → IsSound (resolved_view d) s x → taken < x.features.size → number ≡ taken
     → feature ≡ get_or d.features.listed.items number feature → slice_get (listed_features (resolved_view d)) number ≡ Some (feature.place, feature.name.now)
 listed_here d s x taken number feature h sound lt same is = listed_at d number feature h (omega (arith, lt, same, sound.features_size)) is
 
--- and it was found
+-- and that feature was found
 pub listed_found : (r : Resolved) (x : Found) (taken number : ℕ) (i : Id) (place : ℕ) (f : Text) → Contains x.features.put taken → number ≡ taken → slice_get (listed_features r) number ≡ Some (place, f) → NodeAt r i place
     → HasFound r x (Feature i f)
 listed_found r x taken number i place f put same at node = record { number = number; among = subst (λ (n : ℕ). Contains x.features.put n) (sym same) put; at = record { place = place; at = at; node = node } }
 
--- the feature of a number is one of one crate
+-- the number of a feature belongs to only one crate and one name
 pub one_feature : ReadsOnce → (r : Resolved) (i j : Id) (place number : ℕ) (f g : Text) → NodeAt r i place → slice_get (listed_features r) number ≡ Some (place, f) → FeatureAt r j g number → (i ≡ j) × (f ≡ g)
 one_feature once r i j place number f g node at there =
     let same = same_Some (place, f) (there.place, g) (sym at ∙ there.at) in
@@ -233,7 +233,7 @@ one_feature once r i j place number f g node at there =
 
 -- ---- how often references count
 
--- those so far, as they are gone over
+-- the counts so far
 pub record CountsSoFar (r : Resolved) (s : SettingModel) (i : Id) (values : List (String Global)) (k n : ℕ) : Type 0 where
   pub counts : List ℕ
   pub each : AllZip (CountsText r s.all_named i) (map text_view (take k values)) counts
@@ -250,7 +250,7 @@ one_counted r s i values k n m next text lt is here more h = record {
   count = more ∙ ap (λ (j : ℕ). counted (j + m)) h.count ∙ counted_more (sum h.counts) m ∙ ap counted (sym (sum_by_push (λ (j : ℕ). j) h.counts m));
 }
 
--- an enabled feature has as many references as those of its list count
+-- the references of an enabled feature are the sum of the counts of its values
 pub references_here : (r : Resolved) (s : SettingModel) (i : Id) (f : Text) (values : List Text) (counts : List ℕ) → Derivable (questions r s) (Feature i f) → AreNamed r i f values → AllZip (CountsText r s.all_named i) values counts
     → HasReferences r s i f (sum counts)
 unfolding questions

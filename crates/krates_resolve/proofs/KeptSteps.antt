@@ -31,7 +31,7 @@ entry_edge r x k kind none is first =
     let same = one_dep r (parent_of x) (child_of x) at.node.node is.node at.dep (node_dep_view x.dep.now) none node is.has_node dep is.has_dep in
     record { edge = edge_for x k; at = record { dep = at; here = ap (λ (d : NodeDepModel). slice_get d.dep_kinds kind) same ∙ first.here }; is = refl }
 
--- what the declared dependency of a kept edge asks for follows from its step
+-- what the declared dependency of a kept edge asks for follows from the step of the edge
 pub finds_used : (b : Basis) (x : Found) (reason : Reason) (n : ℕ) (e : Edge) (d : DependencyModel) → reason ≡ by_one 6 n → HasStep (document_of b) x.trace.items n (Kept e) → IsWanted (document_of b) b.setting.now e d → FindsUsed b x reason d e.child
 finds_used b x reason n e d is has wanted =
     let r = document_of b in

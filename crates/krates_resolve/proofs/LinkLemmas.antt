@@ -1,4 +1,4 @@
--- One link of all is changed, and what that does to marks and to features that wait.
+-- One link is changed, and what that does to marks and to features that wait.
 use Rattle.std.proofs.Common.{◌≡◌, ◌⊎◌, ℕ, zero, suc, ◌<◌, List, [], ◌∷◌, ◌++◌, length, map, get_or, set, true, Option, None, Some, is_some, ◌↔◌, Vec, Global, Contains, refl, sym, ap, ◌∙◌, subst, inl, inr, arith}
 use Rattle.std.proofs.lemmas.Bool.{cases_order}
 use Rattle.std.proofs.lemmas.List.{length-map}
@@ -43,7 +43,7 @@ same_or_not j k = elim (cases_order j k) [
 
 -- ---- one link is changed
 
--- this link stands now where that one stood, and nothing else is changed
+-- this link now stands where the other stood, and nothing else has changed
 pub record IsReplaced (old new : Links) (place index : ℕ) (was is : Link) : Type 0 where
   pub before : LinkAt old place index was
   pub after : LinkAt new place index is
@@ -57,7 +57,7 @@ rows_of x = map (λ v. v.items) x.of_nodes.items
 abbrev Row : List (List Link) → ℕ → List Link → Type 0
 Row rows p row = slice_get rows p ≡ Some row
 
--- the links of other places of the changed rows are those of the old, and so are those of the changed place but one
+-- the other links of the changed row, and the links of the other rows, are the old ones
 from_set : (rows : List (List Link)) (place index : ℕ) (row : List Link) (is : Link) (p i : ℕ) (l : Link) (there : List Link) → Row rows place row → Row (set rows place (set row index is)) p there → slice_get there i ≡ Some l
     → ((old : List Link) × Row rows p old × (slice_get old i ≡ Some l)) ⊎ ((p ≡ place) × (i ≡ index))
 from_set rows place index row is p i l there at h here = elim (same_or_not p place) [
@@ -82,13 +82,13 @@ to_set rows place index row is p i l there at h here = elim (same_or_not p place
   | inr ne ↦ inl (there, set_other rows place p (set row index is) ne ∙ h, here)
 ]
 
--- a place has one link
+-- a place has only one link
 pub one_link : (x : Links) (p i : ℕ) (a b : Link) → LinkAt x p i a → LinkAt x p i b → a ≡ b
 one_link x p i a b s t =
     let row = same_Some s.of_node t.of_node (sym s.at ∙ t.at) in
     same_Some a b (sym s.here ∙ ap (λ ls. slice_get ls i) row ∙ t.here)
 
--- what two reads by index give
+-- what two reads by index return
 pub link_read : (x : Links) (place index : ℕ) (row : Vec Link Global) (was : Link) → HasLink x place index → row ≡ get_or x.of_nodes.items place row → was ≡ get_or row.items index was → LinkAt x place index was
 link_read x place index row was has read there =
     let h = has.1 in
@@ -141,12 +141,12 @@ replaced x place index row was is has read there =
 moved_at : (y : Links) (p i place index : ℕ) (l : Link) → p ≡ place → i ≡ index → LinkAt y place index l → LinkAt y p i l
 moved_at y p i place index l a b h = subst (λ (n : ℕ). LinkAt y n i l) (sym a) (subst (λ (n : ℕ). LinkAt y place n l) (sym b) h)
 
--- ---- its edges were asked for, it is marked, or one more feature waits
+-- ---- its edges are asked for, it is marked, or one more feature waits
 
 nowhere : {A : Type 0} (x : A) → Contains [] x → ⊥
 nowhere x (k, lt, is) = omega (arith, lt)
 
--- where the mark isn't changed, it stays, and none is new
+-- a mark that isn't changed stays, and no other is new
 marked_forth : (x y : Links) (place index p i n : ℕ) (was is : Link) → IsReplaced x y place index was is → is.kept ≡ was.kept → IsMarkedBy x p i n → IsMarkedBy y p i n
 marked_forth x y place index p i n was is h same m = elim (h.forth p i m.link m.at) [
   | inl o ↦ record { link = m.link; at = o; kept = m.kept }
@@ -243,7 +243,7 @@ waits_now x y place index was is waiter h same same_asked more = record {
   ];
 }
 
--- ---- all are new
+-- ---- all links are new
 
 there_is : {A : Type 0} (xs : List A) (i : ℕ) → i < length xs → (x : A) × (slice_get xs i ≡ Some x)
 there_is [] i lt = absurd (omega (arith, lt))
@@ -273,7 +273,7 @@ all_new nodes x z = record {
 
 -- ---- marks
 
--- what is read of a link tells its mark
+-- what is read of a link says whether it is marked
 pub tells_mark : (x : Links) (place index : ℕ) (link : Link) → LinkAt x place index link → TellsMark x place index link.kept
 tells_mark x place index link at = kept_by link.kept refl
   where
@@ -281,7 +281,7 @@ tells_mark x place index link at = kept_by link.kept refl
     kept_by None is = λ m. absurd (cc (is, ap (λ (l : Link). l.kept) (one_link x place index link m.1.link at m.1.at), m.1.kept))
     kept_by (Some n) is = record { link = link; at = at; kept = is }
 
--- whether there is one
+-- whether there is a mark
 pub is_marked : (x : Links) (place index : ℕ) (o : Option ℕ) → TellsMark x place index o → (is_some o ≡ true) ↔ IsMarked x place index
 is_marked x place index None none = (λ e. absurd cc, λ m. absurd (none m))
 is_marked x place index (Some n) by = (λ e. (n, by), λ m. refl)

@@ -1,4 +1,4 @@
--- What is put with its step, and what isn't new.
+-- What is put with its step, and what was put before.
 use Rattle.std.proofs.Common.{◌≡◌, ℕ, ◌∷◌, ◌++◌, [], length, Bool, true, false, Contains, refl, sym, subst}
 use Rattle.std.specs.Bool.{OnTrue, OnFalse}
 use Rattle.std.specs.Global.{Vec}
@@ -26,7 +26,7 @@ pub on_true : {P : Type 0} (b : Bool) → b ≡ true → OnTrue b P → P
 on_true true e h = h
 on_true false e h = absurd cc
 
--- ---- what isn't new
+-- ---- what was put before
 
 pub krate_stays : (r : Resolved) (s : SettingModel) (x : Found) (a : PutNumbers) → IsSound r s x → a ≡ x.krates → Advances r s x (record x { krates = a })
 krate_stays r s x a sound e = subst (λ (b : PutNumbers). Advances r s x (record x { krates = b })) (sym e) (advances_refl r s x sound)

@@ -21,7 +21,7 @@ use Rattle.krates_resolve.specs.Heeding.{IsAskedAt, IsToggledStronglyAt, IsWaiti
 use Rattle.krates_resolve.specs.Work.{CountsName}
 use Rattle.krates_resolve.specs.declared.found.Found.{Found}
 
--- a crate that is meant is one of the list
+-- a crate that is meant is in the list
 meant_among : (xs : List Referent) (c : Id) → Contains (map referent_id xs) c → (x : Referent) × Contains xs x × (referent_id x ≡ c)
 meant_among xs c m =
     let at = place_in (map referent_id xs) c m in
@@ -29,7 +29,7 @@ meant_among xs c m =
     let x = get_or xs at.0 w.0 in
     (x, contains_at xs at.0 x (slice_get-get_or xs at.0 w.0 w.1), w.2)
 
--- all that is meant, as the code goes over it
+-- all that the name means, as the code goes over it
 pub meant_here : (r : Resolved) (s : SettingModel) (parts : NodeParts) (name : Text) (all : Bool) (items xs : List Referent) → all ≡ s.all_named → xs ≡ items → AreReferentsIn r all parts name items → AreReferentsIn r s.all_named parts name xs
 meant_here r s parts name all items xs told same h = subst (λ (b : Bool). AreReferentsIn r b parts name xs) told (subst (AreReferentsIn r all parts name) (sym same) h)
 
@@ -51,14 +51,14 @@ asked_each r s f parts name xs h each e same referent =
     let w = meant_among xs e.child ((h.are.exactly e.child).1 referent) in
     each w.0 w.1 e same (subst (λ (i : Id). DepAt r (krate_of parts) i parts.place w.0.place) w.2 (h.each w.0 w.1).dep)
 
--- the feature of each is toggled to which an edge may be kept
+-- toggled strongly: the feature of each crate to which an edge may be kept
 pub strongly_each : (r : Resolved) (s : SettingModel) (f : Found) (parts : NodeParts) (name g : Text) (xs : List Referent) → AreReferentsIn r s.all_named parts name xs
     → ((x : Referent) → Contains xs x → IsToggledStronglyAt r s f (krate_of parts) parts.place x.place g) → IsToggledStrongly r s f (krate_of parts) name g
 strongly_each r s f parts name g xs h each e d same referent w stands =
     let m = meant_among xs e.child ((h.are.exactly e.child).1 referent) in
     each m.0 m.1 e d same (subst (λ (i : Id). DepAt r (krate_of parts) i parts.place m.0.place) m.2 (h.each m.0 m.1).dep) w stands
 
--- the feature of each waits or is toggled
+-- weakly: the feature of each crate waits or is toggled
 pub waiting_each : (r : Resolved) (s : SettingModel) (f : Found) (parts : NodeParts) (name g : Text) (xs : List Referent) → NoneDoubled r.metadata r.graph → AreReferentsIn r s.all_named parts name xs
     → ((x : Referent) → Contains xs x → IsWaitingAt r f (krate_of parts) parts.place x.place g) → IsWaiting r s f (krate_of parts) name g
 waiting_each r s f parts name g xs none h each child place index referent there =
@@ -67,6 +67,6 @@ waiting_each r s f parts name g xs none h each child place index referent there 
     let at = one_dep_place r (krate_of parts) child parts.place m.0.place place index none dep there in
     subst (λ (n : ℕ). WaitsOrIsToggled r f (krate_of parts) child n index g) at.0 (subst (λ (n : ℕ). WaitsOrIsToggled r f (krate_of parts) child parts.place n g) at.1 (each m.0 m.1 child dep))
 
--- how often it counts
+-- how often a name counts
 pub name_counts : (r : Resolved) (s : SettingModel) (parts : NodeParts) (name : Text) (xs : List Referent) (n m : ℕ) → AreReferentsIn r s.all_named parts name xs → m ≡ length xs → n ≡ max m 1 → CountsName r s.all_named (krate_of parts) name n
 name_counts r s parts name xs n m h long is = record { ids = map referent_id xs; are = h.are; count = is ∙ ap (λ (k : ℕ). max k 1) (long ∙ sym (length-map xs referent_id)) }

@@ -1,4 +1,4 @@
--- What a root gives, and what stands in what has been found of it.
+-- What a root gives, and that it was found.
 use Rattle.std.proofs.Common.{List, [], Bool, All, ap, ◌∙◌, subst}
 use Rattle.std.proofs.lemmas.Option.{get_or_from_slice_get, slice_get_within}
 use Rattle.std.specs.List.{AllZip}
@@ -49,7 +49,7 @@ pub root_enables : (r : Resolved) (s : SettingModel) (i : Id) → IsRoot r s i �
 unfolding questions
 root_enables r s i root stands f lists = follows (root_feature {p = i} {f = f} root stands lists) (nothing (questions r s))
 
--- all that a root that stands gives
+-- all that a root gives whose crate stands
 pub rooted_here : (r : Resolved) (s : SettingModel) (x : Found) (i : Id) → Stands r s i → HasFound r x (Crate i) → ((f : Text) → ListsFeature r i f → HasFound r x (Feature i f)) → IsRooted r s x i
 rooted_here r s x i stands found enabled = record {
   kept = λ there. found;
@@ -58,7 +58,7 @@ rooted_here r s x i stands found enabled = record {
   has_node = λ none. none.no_node stands.node stands.has_node;
 }
 
--- and all that an excluded one gives: nothing
+-- an excluded root gives nothing
 pub left_out_rooted : (r : Resolved) (s : SettingModel) (x : Found) (i : Id) → NoneDoubled r.metadata r.graph → IsLeftOut r s i → IsRooted r s x i
 left_out_rooted r s x i none out = record {
   kept = λ there. absurd (not_included r s i none out there.included);

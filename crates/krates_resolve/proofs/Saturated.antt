@@ -1,4 +1,4 @@
--- When nothing is left to take, what has been found is closed under all rules.
+-- When nothing is left to take, what was found is closed under all rules.
 use Rattle.std.proofs.Common.{◌≡◌, ◌↔◌, ℕ, ◌≤◌, List, [], Some, length, map, All, Contains, inl, inr, refl, sym, ◌∙◌, subst, arith}
 use Rattle.std.proofs.lemmas.Option.{slice_get_within}
 use Rattle.std.specs.List.{AllZip, slice_get}
@@ -102,7 +102,7 @@ asked_in r s x p name (weak c f) h asks = absurd asks
 
 -- ---- when all has been taken
 
--- what is found has the roots, and each crate of it has been expanded, and the references of each feature followed
+-- the roots were found, each crate found has been expanded, and the references of each feature followed
 record IsDone (r : Resolved) (s : SettingModel) (x : Found) : Type 0 where
   pub sound : IsSound r s x
   pub roots : HasRoots r s x
@@ -121,7 +121,7 @@ is_done r s x done krates features = record {
       done.heeded at.0 put.number i f (omega (arith, features, slice_get_within x.features.put at.0 put.number at.1)) at.1 put.at;
 }
 
--- a reference that asks for an edge has tried it
+-- an edge that a reference asks for has been tried
 tried_there : (r : Resolved) (s : SettingModel) (x : Found) (e : Edge) (f : Text) → IsDone r s x → IsAskedFor (questions r s) f e → HasFound r x (Feature e.parent f) → IsTried r s x e IsAny
 unfolding questions
 tried_there r s x e f done a found = asked_in r s x e.parent a.dep a.reference (done.heeded e.parent f found a.reference a.refers) a.asks e refl a.referent
@@ -143,13 +143,13 @@ weakly_there r s x e f g c done refers referent found kept =
       | inr is ↦ is
     ]
 
--- a kept edge is wanted as what it is declared
+-- a kept edge is wanted as the dependency that it is declared as
 wanted_as : (r : Resolved) (s : SettingModel) (x : Found) (e : Edge) (d : DependencyModel) → NoneDoubled r.metadata r.graph → IsDone r s x → HasFound r x (Kept e) → IsDeclaredAs r e d → IsWanted r s e d
 wanted_as r s x e d distinct done kept said =
     let o = kept_open r s e (done.sound.derivable (Kept e) kept) in
     subst (IsWanted r s e) (declared_as_once r e o.dependency d distinct (as_declared r s e o.dependency o.wanted) said) o.wanted
 
--- what has been found is closed under all rules
+-- what was found is closed under each rule
 rule_closed : (r : Resolved) (s : SettingModel) (x : Found) → NoneDoubled r.metadata r.graph → IsDone r s x → {n : ℕ} {ps : List Fact} {f : Fact} → Rule (questions r s) n ps f → ((g : Fact) → Among g ps → HasFound r x g) → HasFound r x f
 unfolding questions
 rule_closed r s x distinct done (root_crate {p} root stands) h = (done.roots p root).kept stands
@@ -180,7 +180,7 @@ rule_closed r s x distinct done (toggled_feature {p} {c} {g}) h = done.sound.tog
 rule_closed r s x distinct done (lost_toggled_weakly {e} {f} {g} {c} refers referent lacks) h =
     (weakly_there r s x e f g c done refers referent (h (Feature e.parent f) (inl refl)) (h (Kept e) (inr (inl refl)))).listed lacks
 
--- what has been found is exactly what is derivable
+-- what was found is exactly what is derivable
 pub saturated : (r : Resolved) (s : SettingModel) (x : Found) → NoneDoubled r.metadata r.graph → AreDone r s x → length x.krates.put ≤ x.krates.taken → length x.features.put ≤ x.features.taken → (f : Fact) → Derivable (questions r s) f ↔ HasFound r x f
 saturated r s x distinct all krates features f =
     let done = is_done r s x all krates features in
@@ -242,7 +242,7 @@ sound_start r s x krates features links new none = record {
   enabled = λ i f h. absurd (nothing_found r x none (Feature i f) h);
 }
 
--- and when the roots are put, nothing has been taken
+-- when the roots have been put, nothing has been taken yet
 pub done_start : (r : Resolved) (s : SettingModel) (x z : Found) → x.krates.taken ≡ 0 → x.features.taken ≡ 0 → Advances r s x z → HasRoots r s z → AreDone r s z
 done_start r s x z krates features a roots =
     let no_krate : z.krates.taken ≡ 0 = a.grows.krates_taken ∙ krates in

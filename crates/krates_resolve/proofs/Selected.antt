@@ -33,7 +33,7 @@ use Rattle.krates_questions.proofs.NodeParts.{node_here}
 use Rattle.krates_rules.proofs.OnlyOne.{place_in, one_dep}
 use Rattle.krates_rules.proofs.Standings.{contains_at}
 
--- ---- elements of a list that is mapped
+-- ---- elements of a mapped list
 
 pub contains_or : {A : Type 0} (xs : List A) (k : ℕ) (d : A) → k < length xs → Contains xs (get_or xs k d)
 contains_or xs k d lt = (k, lt, get_or_default xs k (get_or xs k d) d lt)
@@ -74,9 +74,9 @@ place_of_kid ids places kids kid same c =
     let s = seen_at (slice_get ids) places at.0 (Some kid) here in
     (get_or places at.0 s.0, contains_or places at.0 s.0 s.1, s.2)
 
--- ---- edges at one place are one
+-- ---- edges at one place are the same
 
--- what `==` of ids tells
+-- what `==` of ids says
 abbrev pub EqualityTellsSame : Type 0
 EqualityTellsSame = (a b : Identity) → (same_id a b ≡ true) ↔ IsSameId a b
 
@@ -103,7 +103,7 @@ one_edge tells r s a b none x y same =
     ap (λ (i : Id). edge_between i (id_of b.child) (kind_info_of (edge_view b))) (sym parent) ∙ ap (λ (i : Id). edge_between (id_of a.parent) i (kind_info_of (edge_view b))) (sym child)
     ∙ ap (λ (k : DepKindInfoModel). edge_between (id_of a.parent) (id_of a.child) k) (sym kind)
 
--- ---- features that compare as equal are one
+-- ---- features that compare as equal are the same
 
 pub same_name : (a b : String Global) → same_text a b ≡ true → text_view a ≡ text_view b
 same_name a b same = equal_texts (text_view a) (text_view b) (sym same)
@@ -154,12 +154,12 @@ has_element xs h = elim (cases_lt 0 (length xs)) [
       absurd (eqb-false (length xs) 0 (sym h) none))
 ]
 
--- the list is another in order: what stands in it is from that, and each element of that has an equal one in it
+-- one list sorted: each of its elements is from the other, and each of the other has an equal one in it
 pub record IsOrdered {A : Type 0} (eq : A → A → Bool) (old new : List A) : Type 0 where
   pub from : (x : A) → Contains new x → Contains old x
   pub kept : (x : A) → Contains old x → (y : A) × Contains new y × (eq x y ≡ true)
 
--- what has been found of a document is exactly what is derivable, and these are the ids of its crates and its features
+-- what was found is exactly what is derivable, and these are the ids of its crates and its features
 pub record IsWhole (r : Resolved) (s : SettingModel) (ids : List Identity) (found : Found) (kids : List Identity) (enabled : List EnabledFeature) : Type 0 where
   pub none_doubled : NoneDoubled r.metadata r.graph
   pub reads : AllZip Reads (node_texts r.graph) ids
@@ -169,7 +169,7 @@ pub record IsWhole (r : Resolved) (s : SettingModel) (ids : List Identity) (foun
   pub features : (i : Id) (f : Text) → IsEnabled r found.features.put i f ↔ Contains (map feature_fact enabled) (Feature i f)
   pub some : 0 < length found.krates.put
 
--- the selection has all of that in order
+-- the selection has all of that, sorted
 pub record IsInOrder (found : Found) (kids : List Identity) (enabled : List EnabledFeature) (x : Selection) : Type 0 where
   pub krates : IsOrdered same_id kids x.krates.items
   pub krates_rise : IsStrictlySortedBy id_cmp x.krates.items

@@ -1,4 +1,4 @@
--- Steps stay when more are put, and one more is put that follows.
+-- Steps stay when one more is appended.
 use Rattle.std.proofs.Common.{◌≡◌, ℕ, zero, suc, List, [], ◌∷◌, ◌++◌, length, Some, refl, sym, ap, ◌∙◌, subst}
 use Rattle.std.proofs.lemmas.Option.{same_Some, slice_get_within}
 use Rattle.std.specs.List.{AllZip, slice_get}
@@ -30,7 +30,7 @@ stays_at [] y k x h = absurd cc
 stays_at (z ∷ xs) y zero x h = h
 stays_at (z ∷ xs) y (suc k) x h = stays_at xs y k x h
 
--- the last stands behind the others
+-- the last element stands after the others
 pub last_at : {A : Type 0} (xs : List A) (y : A) → slice_get (xs ++ y ∷ []) (length xs) ≡ Some y
 last_at [] y = refl
 last_at (z ∷ xs) y = last_at xs y
@@ -47,9 +47,9 @@ zip_weaker P Q [] (b ∷ ys) f z = absurd z
 zip_weaker P Q (a ∷ xs) [] f z = absurd z
 zip_weaker P Q (a ∷ xs) (b ∷ ys) f z = (f a b z.0, zip_weaker P Q xs ys f z.1)
 
--- ---- numbers have one fact
+-- ---- a number stands for only one fact
 
--- the feature of a number is one feature of one crate
+-- the number of a feature belongs to only one feature of one crate
 pub one_feature : ReadsOnce → (r : Resolved) (i j : Id) (f g : Text) (number : ℕ) → FeatureAt r i f number → FeatureAt r j g number → (i ≡ j) × (f ≡ g)
 one_feature once r i j f g number a b =
     let same = same_Some (a.place, f) (b.place, g) (sym a.at ∙ b.at) in
@@ -77,7 +77,7 @@ names_once once r (numbered.Toggled place number) f g a b =
 
 -- ---- steps stay
 
--- each step of the one list is one of the other
+-- each step of one list is a step of the other
 abbrev pub StepsStay : Resolved → List NumberedStep → List NumberedStep → Type 0
 StepsStay r old new = (n : ℕ) (f : Fact) → HasStep r old n f → HasStep r new n f
 
@@ -88,13 +88,13 @@ step_stays r trace y n f h = record { step = h.step; at = stays_at trace y n h.s
 pub last_step : (r : Resolved) (trace : List NumberedStep) (y : NumberedStep) (f : Fact) → Names r y.fact f → HasStep r (trace ++ y ∷ []) (length trace) f
 last_step r trace y f names = record { step = y; at = last_at trace y; names = names }
 
--- what follows from the steps follows from more
+-- what follows from the steps follows from more steps
 pub finds_more : (r : Resolved) (s : SettingModel) (old new : List NumberedStep) (reason : Reason) (f : Fact) → StepsStay r old new → MayFind r s old reason f → MayFind r s new reason f
 finds_more r s old new reason f stay h = record { premises = h.premises; uses = zip_weaker (HasStep r old) (HasStep r new) (numbers_used reason.uses) h.premises stay h.uses; rule = h.rule }
 
 -- ---- what follows
 
--- what is used stands in an earlier step of the derivation
+-- a step that is used stands earlier in the derivation
 earlier : ReadsOnce → (r : Resolved) (trace : List NumberedStep) (steps : List StepModel) → AllZip (IsShown r) trace steps → (n : ℕ) (f : Fact) → HasStep r trace n f → IsEarlier steps (length steps) n f
 earlier once r trace steps shown n f h =
     let x = right_of (IsShown r) trace steps n h.step shown h.at in
@@ -118,7 +118,7 @@ step_derivable once r s trace n f t h =
     let is = names_once once r h.step.fact x.0.fact f x.2.fact h.names in
     subst (Derivable (questions r s)) is (contained_derived (questions r s) t.steps t.follows x.0 (contains_at t.steps n x.0 x.1))
 
--- a step that follows is put behind the others
+-- a step that follows is appended
 pub trace_put : ReadsOnce → (r : Resolved) (s : SettingModel) (trace : List NumberedStep) (y : NumberedStep) (f : Fact) → IsTrace r s trace → Names r y.fact f → MayFind r s trace y.reason f → IsTrace r s (trace ++ y ∷ [])
 trace_put once r s trace y f t names h =
     let x : StepModel = record { rule = y.reason.rule; fact = f; uses = numbers_used y.reason.uses } in

@@ -1,4 +1,4 @@
--- A crate or a feature is taken, and what it gives is found.
+-- A crate or a feature is taken, and what it gives has been found.
 use Rattle.std.proofs.Common.{◌≡◌, ℕ, ◌+◌, ◌<◌, ◌≤◌, List, Contains, length, get_or, Some, None, inl, inr, sym, ap, ◌∙◌, subst, arith}
 use Rattle.std.proofs.lemmas.Bool.{cases_lt}
 use Rattle.std.proofs.lemmas.List.Elements.{All-contains}
@@ -17,9 +17,9 @@ use Rattle.krates_resolve.specs.declared.found.Found.{Found}
 use Rattle.krates_resolve.proofs.Growing.{expanded_grows, heeded_grows, roots_grow}
 use Rattle.krates_rules.proofs.Standings.{contains_at}
 
--- ---- what has been found doesn't hang on how many were taken
+-- ---- what was found doesn't depend on how many were taken
 
--- the same has been found, and so many crates and features were taken
+-- the same was found, and this many crates and features were taken
 abbrev pub taken_to : Found → ℕ → ℕ → Found
 taken_to x n m = record { krates = record x.krates { taken = n }; features = record x.features { taken = m }; edges = x.edges; toggled = x.toggled; trace = x.trace; krate_steps = x.krate_steps; feature_steps = x.feature_steps; links = x.links }
 
@@ -79,21 +79,21 @@ sound_taken r s x n m h = record {
   enabled = h.enabled;
 }
 
--- ---- what an agenda says when it is asked for the next
+-- ---- what an agenda says about the next number
 
 -- the number that was taken is one that was put
 pub taken_put : (a b : PutNumbers) (n k t : ℕ) → b ≡ record a { taken = n } → slice_get a.put k ≡ Some t → Contains b.put t
 taken_put a b n k t e at = subst (λ (c : PutNumbers). Contains c.put t) (sym e) (contains_at a.put k t at)
 
--- and lies below the size
+-- and is less than the size
 pub taken_below : (a b : PutNumbers) (n k t : ℕ) → b ≡ record a { taken = n } → IsOrderly b → slice_get a.put k ≡ Some t → t < b.size
 taken_below a b n k t e o at = All-contains (λ p. p < b.size) b.put t o.below (taken_put a b n k t e at)
 
--- there are no more than the size
+-- there are no more numbers than the size
 pub has_room : (a b : PutNumbers) (n : ℕ) → b ≡ record a { taken = n } → IsOrderly b → length a.put ≤ a.size
 has_room a b n e o = subst (λ (c : PutNumbers). length c.put ≤ c.size) e o.within
 
--- where none is taken, nothing is changed
+-- if none was taken, nothing has changed
 pub unchanged : (a b : PutNumbers) (n : ℕ) → b ≡ record a { taken = n } → n ≡ a.taken → b ≡ a
 unchanged a b n e same = e ∙ ap (λ (k : ℕ). record a { taken = k }) same
 
@@ -110,14 +110,14 @@ same_agendas x a b c d e h = ap (λ (n : PutNumbers). with_agendas x n b) e ∙ 
 abbrev Stays : List ℕ → List ℕ → Type 0
 Stays xs ys = (k p : ℕ) → slice_get xs k ≡ Some p → slice_get ys k ≡ Some p
 
--- what held of the first numbers holds of them
+-- what held of the first numbers still holds of them
 below_same : (xs ys : List ℕ) (n : ℕ) (P Q : ℕ → Type 0) → Stays xs ys → n ≤ length xs → ((k p : ℕ) → k < n → slice_get xs k ≡ Some p → P p) → ((p : ℕ) → P p → Q p) → (k p : ℕ) → k < n → slice_get ys k ≡ Some p → Q p
 below_same xs ys n P Q stays within h weaker k p lt there =
     let old = slice_get-get_or xs k 0 (omega (arith, lt, within)) in
     let same : get_or xs k 0 ≡ p = same_Some (get_or xs k 0) p (sym (stays k (get_or xs k 0) old) ∙ there) in
     subst Q same (weaker (get_or xs k 0) (h k (get_or xs k 0) lt old))
 
--- and of one more
+-- and it holds of one more
 below_more : (xs ys : List ℕ) (n t : ℕ) (P Q : ℕ → Type 0) → Stays xs ys → slice_get xs n ≡ Some t → ((k p : ℕ) → k < n → slice_get xs k ≡ Some p → P p) → ((p : ℕ) → P p → Q p) → Q t
     → (k p : ℕ) → k < n + 1 → slice_get ys k ≡ Some p → Q p
 below_more xs ys n t P Q stays at h weaker here k p lt there = elim (cases_lt k n) [
@@ -128,7 +128,7 @@ below_more xs ys n t P Q stays at h weaker here k p lt there = elim (cases_lt k 
       subst Q same here)
 ]
 
--- the list isn't shorter
+-- the list hasn't become shorter
 grown_long : (xs ys : List ℕ) (n : ℕ) → Stays xs ys → n ≤ length xs → n ≤ length ys
 grown_long xs ys n stays within = elim (cases_lt (length ys) n) [
   | inl lt ↦ (
@@ -138,7 +138,7 @@ grown_long xs ys n stays within = elim (cases_lt (length ys) n) [
   | inr le ↦ le
 ]
 
--- where nothing stands at a place, the list ends before it
+-- if nothing stands at a place, the list ends before it
 none_left : (xs : List ℕ) (n : ℕ) → slice_get xs n ≡ None → length xs ≤ n
 none_left xs n none = elim (cases_lt n (length xs)) [
   | inl lt ↦ absurd (none-some (get_or xs n 0) (sym none ∙ slice_get-get_or xs n 0 lt))
@@ -147,7 +147,7 @@ none_left xs n none = elim (cases_lt n (length xs)) [
 
 -- ---- one is taken
 
--- the crate that was taken has been expanded, and those before it
+-- the crate that was taken has been expanded, as were those before it
 pub crate_done : (r : Resolved) (s : SettingModel) (x z : Found) (t : ℕ) → AreDone r s x → Advances r s (taken_to x (x.krates.taken + 1) x.features.taken) z → length x.krates.put ≤ x.krates.size
     → slice_get x.krates.put x.krates.taken ≡ Some t → ((i : Id) → NodeAt r i t → IsExpanded r s z i) → AreDone r s z × (left_in z < left_in x)
 crate_done r s x z t done a room at now =
@@ -177,7 +177,7 @@ crate_done r s x z t done a room at now =
       omega (arith, count, same, within, room, krates_size, features_size),
     )
 
--- the references of the feature that was taken have been followed, and those of the features before it
+-- the references of the feature that was taken have been followed, as were those of the features before it
 pub feature_done : (r : Resolved) (s : SettingModel) (x z : Found) (t : ℕ) → AreDone r s x → Advances r s (taken_to x x.krates.taken (x.features.taken + 1)) z → length x.features.put ≤ x.features.size
     → slice_get x.features.put x.features.taken ≡ Some t → ((i : Id) (f : Text) → FeatureAt r i f t → IsHeeded r s z i f) → AreDone r s z × (left_in z < left_in x)
 feature_done r s x z t done a room at now =
@@ -207,7 +207,7 @@ feature_done r s x z t done a room at now =
       omega (arith, count, same, within, room, krates_size, features_size),
     )
 
--- none is left to be taken
+-- none is left to take
 pub none_done : (r : Resolved) (s : SettingModel) (x : Found) → AreDone r s x → slice_get x.krates.put x.krates.taken ≡ None → slice_get x.features.put x.features.taken ≡ None
     → (length x.krates.put ≤ x.krates.taken) × (length x.features.put ≤ x.features.taken)
 none_done r s x done krates features = (none_left x.krates.put x.krates.taken krates, none_left x.features.put x.features.taken features)

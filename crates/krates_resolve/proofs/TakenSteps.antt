@@ -4,14 +4,14 @@ use Rattle.std.proofs.lemmas.Option.{get_or_from_slice_get, slice_get_within}
 use Rattle.std.specs.List.{AllZip, slice_get}
 use Rattle.krates_rules.proofs.Readings.{right_of}
 
--- beside what was put at a place stands its number
+-- next to what was put at a place stands the number of its step
 pub taken_step : (R : ℕ → ℕ → Type 0) (put steps : List ℕ) (k t at n : ℕ) → AllZip R put steps → slice_get put k ≡ Some t → at ≡ k → n ≡ get_or steps at n → R t n
 taken_step R put steps k t at n z here same is =
     let w = right_of R put steps k t z here in
     let read : n ≡ w.0 = is ∙ ap (λ (j : ℕ). get_or steps j n) same ∙ get_or_from_slice_get steps k w.0 n w.1 in
     subst (R t) (sym read) w.2
 
--- there is one
+-- it has a step
 pub taken_within : (R : ℕ → ℕ → Type 0) (put steps : List ℕ) (k t at : ℕ) → AllZip R put steps → slice_get put k ≡ Some t → at ≡ k → at < length steps
 taken_within R put steps k t at z here same =
     let w = right_of R put steps k t z here in

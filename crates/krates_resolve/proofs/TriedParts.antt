@@ -31,7 +31,7 @@ tried_more r s x y parent ds ids at d i g here id_here h now k e j below there i
       subst (λ (z : Identity). AreTried r s y parent (id_of z) e IsRequired) id (subst (λ (m : NodeDepModel). AreTried r s y parent (id_of i) m IsRequired) dep now))
 ]
 
--- the edge has been tried where it has been for each dependency that lists it
+-- an edge has been tried if it has been for each dependency that lists it
 tried_by_listed : (r : Resolved) (s : SettingModel) (x : Found) (e : Edge) (taken : DependencyModel → Type 0) → ((dep : NodeDepModel) → ListsEdge r e dep → IsTried r s x e taken) → IsTried r s x e taken
 tried_by_listed r s x e taken tried = record {
   kept = λ d w is_taken stands. (tried w.declared.declares.dep w.declared.declares.lists).kept d w is_taken stands;
@@ -61,14 +61,14 @@ expanded_here once r s x i n ids none has z all e same =
     let each = subst (λ (p : Id). TriedBelow r s x p n.deps ids (length ids)) (sym same) all in
     tried_by_listed r s x e IsRequired (λ dep l. listed_tried once r s x e n ids dep none node z each l)
 
--- each edge between two crates has been tried, where those by the dependency between them have
+-- each edge between two crates has been tried if those by the dependency between them have
 pub between_tried : (r : Resolved) (s : SettingModel) (x : Found) (e : Edge) (n : NodeModel) (dep : NodeDepModel) (taken : DependencyModel → Type 0) → NoneDoubled r.metadata r.graph → HasNode r e.parent n
     → HasDep n e.child dep → AreTried r s x e.parent e.child dep taken → IsTried r s x e taken
 between_tried r s x e n dep taken none has there tried = tried_by_listed r s x e taken (λ d l.
     let same = one_dep r e.parent e.child l.node n d dep none l.has_node has l.has_dep there in
     tried (kind_info_of e) (subst (λ (m : NodeDepModel). Contains m.dep_kinds (kind_info_of e)) same l.has_kind))
 
--- all have been gone over
+-- all dependencies have been gone over
 pub tried_whole : (r : Resolved) (s : SettingModel) (x : Found) (parent : Id) (ds es : List NodeDepModel) (ids : List Identity) (end : ℕ) → es ≡ ds → length ids ≤ end → TriedBelow r s x parent ds ids end
     → TriedBelow r s x parent es ids (length ids)
 tried_whole r s x parent ds es ids end same le h =

@@ -1,4 +1,4 @@
--- What a kept edge may wake, the features of its dependency that wait, and what its declared dependency may ask for.
+-- What a kept edge may wake, namely the features that wait for its dependency, and what its declared dependency may ask for.
 use Rattle.std.proofs.Common.{◌≡◌, ℕ, List, [], ◌∷◌, sym, ap, ◌∙◌, subst, inl, inr}
 use Rattle.std.proofs.lemmas.Option.{same_Some}
 use Rattle.std.specs.List.{slice_get}
@@ -34,7 +34,7 @@ may_name r s p c f may = record {
   listed = may.listed;
 }
 
--- a feature that is asked for weakly, over an edge that may be kept
+-- a feature that is asked for weakly, through an edge that may be kept
 pub may_wake : (r : Resolved) (s : SettingModel) (p c : Id) (g : Text) (k : DepKindInfoModel) → IsAskedWeakly r s p c g → Derivable (questions r s) (Kept (edge_between p c k)) → MayToggle r s p c g
 unfolding questions
 may_wake r s p c g k a kept =
@@ -45,11 +45,11 @@ may_wake r s p c g k a kept =
       listed = λ lacks. follows (lost_toggled_weakly {e = e} {f = a.feature} {g = g} {c = a.name} a.refers a.referent lacks) premises;
     }
 
--- a wanted edge is declared, whatever the setting
+-- a wanted edge is declared as what it is wanted as
 pub as_declared : (r : Resolved) (s : SettingModel) (e : Edge) (d : DependencyModel) → IsWanted r s e d → IsDeclaredAs r e d
 as_declared r s e d w = (w.place, w.declared.declares)
 
--- what a declared dependency asks for, of an edge that may be kept
+-- what a declared dependency asks for, where the edge may be kept
 pub may_use : (r : Resolved) (s : SettingModel) (e : Edge) (d : DependencyModel) → IsWanted r s e d → Derivable (questions r s) (Kept e) → MayUse r s d e.child
 unfolding questions
 may_use r s e d wanted kept =
@@ -63,9 +63,9 @@ may_use r s e d wanted kept =
       by_default = λ uses lists. follows (by_default {e = e} {d = d} said uses lists) premise;
     }
 
--- ---- there is one of each
+-- ---- there is only one of each
 
--- the dependency at a place of a node leads from one crate to one
+-- the dependency at a place of a node leads from one crate to one other
 pub one_way : ReadsOnce → (r : Resolved) (p c q d : Id) (place index : ℕ) → DepAt r p c place index → DepAt r q d place index → (p ≡ q) × (c ≡ d)
 one_way once r p c q d place index a b =
     let node = same_Some a.node.node b.node.node (sym a.node.at ∙ b.node.at) in
@@ -73,7 +73,7 @@ one_way once r p c q d place index a b =
     let there = subst (λ (n : NodeDepModel). ReadsAs n.pkg d) (sym dep) b.id in
     (one_id once r p q place a.node b.node, sym a.id.same ∙ ap id_of (once a.dep.pkg a.id.read there.read a.id.reads there.reads) ∙ there.same)
 
--- an edge is wanted as one declared dependency alone
+-- an edge is declared as only one dependency
 pub declared_as_once : (r : Resolved) (e : Edge) (d f : DependencyModel) → NoneDoubled r.metadata r.graph → IsDeclaredAs r e d → IsDeclaredAs r e f → d ≡ f
 declared_as_once r e d f none (p, a) (q, b) =
     let dep = one_dep r e.parent e.child b.lists.node a.lists.node b.dep a.dep none b.lists.has_node a.lists.has_node b.lists.has_dep a.lists.has_dep in

@@ -1,4 +1,4 @@
--- What a search goes by, a document and a setting, and what its functions say of it.
+-- What a search is made against, a document and a setting, and what its functions say about it.
 use Rattle.krates_questions.specs.Basis.{document_of, Derives, IsNodeAt, IsDepAt, IsFeatureAt, Lists, HasRoot, Wants}
 use Rattle.krates_cm.specs.Document.{DependencyModel, DepKindInfoModel, NodeDepModel, Text, dependency_view, node_dep_view}
 use Rattle.krates_cm.specs.declared.dependency.Dependency.{Dependency}
@@ -165,20 +165,20 @@ abbrev pub HasToggledAt : Basis → Found → NodeParts → ℕ → Text → Typ
 HasToggledAt b x parts index f =
     (child : Id) → IsDepAt b (krate_of parts) child parts.place index → HasToggled b x (krate_of parts) child f
 
--- the crate, or the feature, that was taken is done with
+-- the crate or feature that was taken has been expanded or followed
 abbrev pub HasExpandedTaken : Basis → Found → ℕ → Type 0
 HasExpandedTaken b x taken = (krate : Id) → IsNodeAt b krate taken → HasExpanded b x krate
 
 abbrev pub HasHeededTaken : Basis → Found → ℕ → Type 0
 HasHeededTaken b x taken = (krate : Id) (f : Text) → IsFeatureAt b krate f taken → HasHeeded b x krate f
 
--- the feature that was taken has so many references, counted
+-- the feature that was taken has this many references, counted
 pub record TakenHasReferences (b : Basis) (taken n : ℕ) : Type 0 where
   pub number : ℕ
   pub has : NumberHasReferences (document_of b) b.setting.now taken number
   pub count : n ≡ counted number
 
--- the name of a dependency counts so often, and the text of a reference
+-- how often the name of a dependency counts, and the text of a reference
 abbrev pub CountsNameOf : Basis → Id → Text → ℕ → Type 0
 CountsNameOf b = CountsName (document_of b) b.setting.now.all_named
 
@@ -219,11 +219,11 @@ HasStepOf b x = HasStep (document_of b) x.trace.items
 abbrev pub Finds : Basis → Found → Reason → Fact → Type 0
 Finds b x = MayFind (document_of b) b.setting.now x.trace.items
 
--- so does the feature, where the crate lists it
+-- so does the feature, if the crate lists it
 abbrev pub FindsListed : Basis → Found → Reason → Id → Text → Type 0
 FindsListed b x reason i f = Lists b i f → Finds b x reason (Feature i f)
 
--- so does it that the feature is toggled
+-- it also follows that the feature is toggled
 abbrev pub FindsToggled : Basis → Found → Reason → Id → Id → Text → Type 0
 FindsToggled b x reason p c g = Lists b c g → Finds b x reason (Toggled p c g)
 
@@ -232,7 +232,7 @@ pub record FindsUsed (b : Basis) (x : Found) (reason : Reason) (d : DependencyMo
   pub declared : (g : Text) → Contains d.features g → FindsListed b x reason child g
   pub by_default : d.uses_default_features ≡ true → FindsListed b x reason child default_name
 
--- so does the edge, where it is wanted as a dependency that is taken and its child stands
+-- so does the edge, if it is wanted as a dependency that is taken and its child stands
 abbrev pub FindsEdge : Basis → Found → Reason → Edge → (DependencyModel → Type 0) → Type 0
 FindsEdge b x reason e taken =
     (d : DependencyModel) → Wants b e d → taken d → Stands (document_of b) b.setting.now e.child → Finds b x reason (Kept e)
@@ -243,7 +243,7 @@ FindsAskedDep b x reason parts index =
     (child : Id) (k : DepKindInfoModel) → IsDepAt b (krate_of parts) child parts.place index
     → FindsEdge b x reason (edge_between (krate_of parts) child k) IsAny
 
--- so does it that the feature of that dependency is toggled
+-- it also follows that the feature of that dependency is toggled
 abbrev pub FindsToggledAt : Basis → Found → Reason → NodeParts → ℕ → Text → Type 0
 FindsToggledAt b x reason parts index f =
     (child : Id) → IsDepAt b (krate_of parts) child parts.place index → FindsToggled b x reason (krate_of parts) child f
@@ -260,7 +260,7 @@ HasFeatureStep b x step taken =
 abbrev pub HasKeptStep : Basis → Found → ℕ → NodeEntry → Type 0
 HasKeptStep b x step entry = IsEdgeStep (document_of b) x.trace.items (parent_of entry) (child_of entry) step
 
--- the step is that of a feature that has the reference, or has the text for a reference, or asks for the dependency of this name
+-- the step is that of a feature that has the reference, or has a reference with this text, or asks for the dependency of this name
 abbrev pub HasReferenceStep : Basis → Found → ℕ → Id → Reference → Type 0
 HasReferenceStep b x = IsReferringStep (document_of b) x.trace.items
 
@@ -276,7 +276,7 @@ HasAskingStep b x = IsRequestStep (document_of b) x.trace.items
 abbrev pub IsStandingRoot : Basis → Id → Type 0
 IsStandingRoot b i = HasRoot b i × Stands (document_of b) b.setting.now i
 
--- the number is that by which the crate's feature goes
+-- the number is the own number of the crate's feature
 abbrev pub IsNumberOf : Basis → Id → Text → ℕ → Type 0
 IsNumberOf b i f number = IsFeatureAt b i f number × IsOwn (document_of b) number
 
@@ -286,7 +286,7 @@ pub record MayPutStep (b : Basis) (x : Found) (step : NumberedStep) : Type 0 whe
   pub names : Names (document_of b) step.fact fact
   pub finds : Finds b x step.reason fact
 
--- whatever fact the step has, it has this number
+-- the step has this number, whatever its fact is
 abbrev pub HasPutStep : Basis → Found → NumberedStep → ℕ → Type 0
 HasPutStep b x step number = (f : Fact) → Names (document_of b) step.fact f → HasStepOf b x number f
 

@@ -1,4 +1,4 @@
--- How work is counted while a selection is looked for.
+-- How work is counted during the search for a selection.
 use Rattle.std.specs.Prelude.{◌≡◌, ℕ, List, Some, length, slice_get}
 use Rattle.std.specs.List.{sum}
 use Rattle.krates_cm.specs.Document.{Text}
@@ -10,11 +10,11 @@ use Rattle.krates_resolve.specs.Work.{HasReferences, counted}
 use Rattle.krates_resolve.specs.declared.found.Found.{Found}
 use Rattle.krates_resolve.specs.declared.work.Work.{Work}
 
--- the feature of the number has so many references
+-- the feature of the number has this many references
 abbrev pub NumberHasReferences : Resolved → SettingModel → ℕ → ℕ → Type 0
 NumberHasReferences r s number n = (i : Id) (f : Text) → FeatureAt r i f number → HasReferences r s i f n
 
--- the features that were taken have so many references together
+-- the features that were taken have this many references together
 pub record HaveTakenReferences (r : Resolved) (s : SettingModel) (x : Found) (n : ℕ) : Type 0 where
   pub counts : List ℕ
   pub long : length counts ≡ x.features.taken

@@ -13,6 +13,6 @@ pub record IsExplained (r : Resolved) (s : SettingModel) (x : Selection) : Type 
   pub trace : IsTrace r s x.steps.items
   pub stepped : (f : Fact) → Contains (facts_of x) f → HasSomeStep r x.steps.items f
 
--- so it is of the document under the setting
+-- and it is one of the document under the setting
 abbrev pub IsExplainedOf : MetadataModel → SettingModel → Selection → Type 0
 IsExplainedOf m s x = HasGraphWith m (λ g. IsExplained (resolved m g) s x)

@@ -1,4 +1,4 @@
--- What has been found of a selection while it is looked for.
+-- What has been found during the search for a selection.
 use Rattle.std.specs.Prelude.{◌≡◌, ◌↔◌, ℕ, ◌<◌, Bool, List, [], ◌∷◌, ◌++◌, ◌⊎◌, All, Some, false, true, Contains, length, map, slice_get, ⊤}
 use Rattle.krates_graph.specs.Agenda.{PutNumbers}
 use Rattle.std.specs.List.{AllZip}
@@ -61,7 +61,7 @@ findings x = record { krates = x.krates.put; features = x.features.put; edges = 
 abbrev pub HasFound : Resolved → Found → Fact → Type 0
 HasFound r x f = IsAmongFindings r (findings x) f
 
--- ---- what the rules give from a crate, an edge, a feature or a reference stands in it
+-- ---- what was found from a crate, an edge, a feature or a reference
 
 -- the feature is enabled, which its crate has to list
 pub record IsEnabledBySome (r : Resolved) (x : Found) (i : Id) (f : Text) : Type 0 where
@@ -82,14 +82,14 @@ pub record HasUsed (r : Resolved) (x : Found) (d : DependencyModel) (child : Id)
 abbrev pub IsUsed : Resolved → SettingModel → Found → Edge → Type 0
 IsUsed r s x e = (d : DependencyModel) → IsWanted r s e d → HasUsed r x d e.child
 
--- a dependency that isn't optional, and any
+-- a dependency that isn't optional, or any
 abbrev pub IsRequired : DependencyModel → Type 0
 IsRequired d = d.optional ≡ false
 
 abbrev pub IsAny : DependencyModel → Type 0
 IsAny d = ⊤
 
--- any, where it is asked for, and else one that isn't optional
+-- any if it is asked for, otherwise one that isn't optional
 abbrev pub TakenWhen : Bool → DependencyModel → Type 0
 TakenWhen true = IsAny
 TakenWhen false = IsRequired

@@ -1,4 +1,4 @@
--- What is listed of a build beside what a rebuild keeps.
+-- The packages that a query lists, beside those that a rebuild keeps.
 use Rattle.std.proofs.Common.{◌≡◌, ◌↔◌, ℕ, zero, suc, List, [], ◌∷◌, Option, Some, None, map, length, Contains, slice_get, refl, sym, ap, ◌∙◌, subst, inl, inr}
 use Rattle.std.proofs.lemmas.Option.{slice_get-get_or, slice_get-map, same_Some}
 use Rattle.std.specs.List.{AllZip}
@@ -51,7 +51,7 @@ lines_same [] (e ∷ es) z = absurd z
 lines_same (l ∷ ls) [] z = absurd z
 lines_same (l ∷ ls) (e ∷ es) z = ap (λ k. k ∷ map line_view es) (line_same l e z.0) ∙ ap (λ ks. l ∷ ks) (lines_same ls es z.1)
 
--- the same paths, from starts that are these too
+-- the same paths, from the same starts
 reaches_more : (kind : DepKind) (ls ks : List Line) (A B : ℕ → Type 0) → ls ≡ ks → ((n : ℕ) → A n → B n) → (n : ℕ) → Reaches kind ls A n → Reaches kind ks B n
 reaches_more kind ls ks A B same to _ (begins {n} s) = begins {n = n} (to n s)
 reaches_more kind ls ks A B same to _ (goes_on {l} before among passes) =
@@ -72,7 +72,7 @@ spot_at (Feature krate_index name ∷ nodes) n id first e =
     let none : slice_get empty n ≡ Some id = subst (λ (ids : List Identity). slice_get ids n ≡ Some id) first e in
     absurd cc
 
--- the sheet has a crate that stands among the nodes, under the number of its node
+-- the sheet has a crate that stands among the nodes, under its node's number
 stands_drawn : {N : Type 0} (nodes : List (Node N)) (t : Sheet) → CratesFirst nodes → map node_spot nodes ≡ spots t
     → ((p : ℕ) (id : Id) (mapping : List (Option ℕ)) → slice_get (spots t) p ≡ Some (CrateSpot id mapping) → IsNumbered t id p)
     → (i : Id) (n : ℕ) → StandsAt (crate_ids nodes) i n → IsNumbered t i n
@@ -110,7 +110,7 @@ record Shown {N : Type 0} (m : MetadataModel) (s : SettingModel) (g : ResolveMod
   first : CratesFirst k.graph.nodes
   numbered : (p : ℕ) (id : Id) (mapping : List (Option ℕ)) → slice_get (spots t) p ≡ Some (CrateSpot id mapping) → IsNumbered t id p
 
--- what holds of the document's graph holds of this one
+-- a property of the document's graph is one of this graph
 of_graph : (m : MetadataModel) (g : ResolveModel) (P : ResolveModel → Type 0) → m.resolve ≡ Some g → HasGraphWith m P → P g
 of_graph m g P is h = subst P (same_Some h.graph g (sym h.has_graph ∙ is)) h.holds
 
@@ -151,7 +151,7 @@ reached_filtered kind m s g t k h i n at w =
 
 -- ---- both builds
 
--- two builds under one setting, which look at corrections by one answer, keep the same crates
+-- two builds under one setting, whose documents one answer of an index corrected, keep the same crates
 kept_there : IsBuildNarrowing → (answer : Option IndexAnswer) (m p q : Metadata) (s : SettingModel) → IsSeenBy answer m p → IsSeenBy answer m q → (i : Id) → KeepsCrate (metadata_view q) s i → KeepsCrate (metadata_view p) s i
 kept_there narrowing answer m p q s x y i = (narrowing answer m p q s s (excludes_more s.exclusions (λ spec c. c)) x y).facts (Crate i)
 

@@ -1,4 +1,4 @@
--- What `krates_filtered` answers of a build, beside a rebuild that ignores that kind of dependency.
+-- What `krates_filtered` returns for a build, beside a rebuild that ignores that kind of dependency.
 use Rattle.std.specs.Prelude.{◌≡◌, ◌↔◌, ℕ, List, Option, Contains, map}
 use Rattle.std.specs.List.{filter_map}
 use Rattle.std.specs.List.Sorted.{IsStrictlySortedBy}
@@ -23,13 +23,13 @@ use Rattle.krates_queries.specs.Kept.{KeptCrates, ids_of}
 
 -- ---- a build and a rebuild
 
--- What a build promises of the crates, the graph and the members that it keeps of the document that it looks at.
+-- What a build promises about the crates, the graph and the members that it keeps of the document that it resolves.
 pub record Keeps {N : Type 0} (m : MetadataModel) (s : SettingModel) (k : KeptCrates N Edge) : Type 0 where
   pub kept : (i : Id) → KeepsCrate m s i ↔ Contains (map id_of (ids_of k)) i
   pub drawn : IsDrawn (λ edge made. made ≡ edge) m s k.graph
   pub members : AreKeptMembers m (ids_of k) k.members
 
--- the second setting is the first, but for one kind more that it ignores of all crates
+-- the second setting is the first, with one more kind ignored for all crates
 pub record IgnoresToo (kind : DepKind) (first second : SettingModel) : Type 0 where
   pub ignored : IgnoredKinds
   pub more : IgnoresMore first.ignored ignored kind scopes.All
@@ -45,7 +45,7 @@ pub record AreRebuilt {N M : Type 0} (answer : Option IndexAnswer) (m p q : Meta
   pub first : Keeps (metadata_view p) s k
   pub second : Keeps (metadata_view q) setting j
 
--- ---- what is listed of the first beside the second
+-- ---- what is listed for the first beside the second
 
 -- one of the numbers is that of the kept crate with the id
 pub record IsListed {N : Type 0} (k : KeptCrates N Edge) (numbers : List ℕ) (i : Id) : Type 0 where

@@ -1,4 +1,4 @@
--- What passes at some targets passes where none is asked for.
+-- What passes at some targets passes where no target is asked for.
 use Rattle.std.proofs.Common.{◌≡◌, inl, inr, ℕ, Bool, true, false, not, ◌&&◌, ◌||◌, ltb, List, [], ◌∷◌, refl, sym, ap, ◌∙◌, arith}
 use Rattle.std.proofs.lemmas.Bool.{cases_lt, lt-ltb}
 use Rattle.std.specs.List.{list_any}
@@ -7,7 +7,7 @@ use Rattle.krates_text.specs.CfgValue.{value, all_true, some_true, count, count_
 use Rattle.krates_text.specs.Passing.{Asked, expression_passes, TellsPassing}
 use Rattle.krates_text.specs.TargetTable.{DescribedTarget, unknown}
 
--- an expression without words and pairs has one value at all targets
+-- an expression without words and pairs has the same value at all targets
 mutual
   one_value : (d e : DescribedTarget) (f g : List (List ℕ)) (p : Tree) → count p ≡ 0 → value d f p ≡ value e g p
   one_value d e f g (all_of ps) none = all_same d e f g ps none
@@ -33,7 +33,7 @@ mutual
       let rest = some_same d e f g ps (omega (arith, none)) in
       ap (λ b. b || some_true d f ps) first ∙ ap (λ b. value e g p || b) rest
 
--- where all are asked alike and one answers told, the answer is told
+-- where the test has one value for all elements, and some element passes, that value is yes
 alike_any : {X : Type 0} (test : X → Bool) (b : Bool) → ((x : X) → test x ≡ b) → (xs : List X)
     → true ≡ list_any test xs → true ≡ b
 alike_any test b same [] told = absurd cc

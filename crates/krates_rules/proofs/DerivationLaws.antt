@@ -1,4 +1,4 @@
--- What holds of derivations, whatever a document and a setting answer.
+-- Laws of derivations that hold for any questions.
 use Rattle.std.proofs.Common.{ℕ, List, Contains}
 use Rattle.krates_cm.specs.Document.{Text, DependencyModel}
 use Rattle.krates_rules.specs.Facts.{Id, Edge, Fact}
@@ -6,7 +6,7 @@ use Rattle.krates_text.specs.FeatureReference.{Reference}
 use Rattle.krates_rules.specs.Rules.{Questions, Open, IsAskedFor, Rule, root_crate, root_feature, lost_root_package, lost_root_node, feature_crate, named, lost_named, asked, toggled_strongly, lost_asked_package, lost_asked_node, lost_toggled_strongly, required, target, lost_undeclared, lost_required_package, lost_required_node, declared, by_default, lost_declared, toggled_weakly, toggled_feature, lost_toggled_weakly}
 use Rattle.krates_rules.specs.Derivation.{Among, Derivable, follows, IsClosed}
 
--- whatever the first answers yes to, the second does
+-- the second answers yes wherever the first does
 pub record Within (a b : Questions) : Type 0 where
   pub root : (p : Id) → a.Root p → b.Root p
   pub stands : (p : Id) → a.Stands p → b.Stands p
@@ -51,15 +51,15 @@ rule_within w (toggled_weakly {e} {f} {g} {c} r q n) = toggled_weakly {e = e} {f
 rule_within w toggled_feature = toggled_feature
 rule_within w (lost_toggled_weakly {e} {f} {g} {c} r q n) = lost_toggled_weakly {e = e} {f = f} {g = g} {c = c} (w.refers _ _ _ r) (w.referent _ _ _ q) (w.lacks _ _ n)
 
--- derivable grows with each question, what is lost included
+-- with more yeses more is derivable, the lost facts too
 pub derivable_within : {a b : Questions} → Within a b → {f : Fact} → Derivable a f → Derivable b f
 derivable_within w (follows r ds) = follows (rule_within w r) (λ g m. derivable_within w (ds g m))
 
--- it holds of what follows by one rule from what it holds of
+-- a property passes from the premises of each rule to its conclusion
 abbrev pub IsClosedUnder : Questions → (Fact → Type 0) → Type 0
 IsClosedUnder q P = (rule : ℕ) (premises : List Fact) (f : Fact) → Rule q rule premises f → ((g : Fact) → Among g premises → P g) → P f
 
--- and so it holds of every derivable fact
+-- such a property holds of every derivable fact
 pub closed_under : (q : Questions) (P : Fact → Type 0) → IsClosedUnder q P → {f : Fact} → Derivable q f → P f
 closed_under q P c (follows r ds) = c _ _ _ r (λ g m. closed_under q P c (ds g m))
 

@@ -1,4 +1,4 @@
--- What holds of lists of steps each of which follows.
+-- Laws of lists in which each step follows.
 use Rattle.std.proofs.Common.{◌≡◌, ◌⊎◌, inl, inr, ℕ, zero, suc, ◌<◌, ◌≤◌, List, [], ◌∷◌, ◌++◌, length, get_or, Some, All, Contains, length-append, refl, sym, ap, ◌∙◌, subst, arith}
 use Rattle.std.proofs.lemmas.Bool.{cases_order}
 use Rattle.std.proofs.lemmas.Option.{slice_get_within, slice_get-get_or, same_Some}
@@ -9,7 +9,7 @@ use Rattle.krates_rules.specs.Rules.{Questions, Rule}
 use Rattle.krates_rules.specs.StepParts.{Increase, StandsFor, IsPart}
 use Rattle.krates_rules.specs.Steps.{StepModel, IsEarlier, StepFollows, EachFollows, EndsIn, Gives}
 
--- what is used stands in earlier steps
+-- the facts used are facts of earlier steps
 pub among_used : (P : Fact → Type 0) (steps : List StepModel) (number : ℕ) → ((i : ℕ) (x : StepModel) → i < number → slice_get steps i ≡ Some x → P x.fact)
     → (uses : List ℕ) (premises : List Fact) → AllZip (IsEarlier steps number) uses premises → (g : Fact) → Among g premises → P g
 among_used P steps number h [] [] z g m = absurd m
@@ -26,21 +26,21 @@ below q steps each (suc n) k x lt at =
     let f = each k x at in
     follows f.rule (λ g m. among_used (Derivable q) steps k (λ i y low here. below q steps each n i y (omega arith) here) x.uses f.premises f.uses g m)
 
--- each fact has a derivation
+-- each fact of the list is derivable
 pub each_derived : (q : Questions) (steps : List StepModel) → EachFollows q steps → All (λ x. Derivable q x.fact) steps
 each_derived q steps each k d lt = below q steps each (suc k) k (get_or steps k d) (omega arith) (slice_get-get_or steps k d lt)
 
--- that of the last is the fact that the list ends in
+-- so is the fact in which the list ends
 pub last_derived : (q : Questions) (steps : List StepModel) (f : Fact) → EachFollows q steps → EndsIn steps f → Derivable q f
 last_derived q steps f each e = subst (Derivable q) e.is (below q steps each (suc e.number) e.number e.last (omega arith) e.at)
 
--- and each element's
+-- and the fact of any step in it
 pub contained_derived : (q : Questions) (steps : List StepModel) → EachFollows q steps → (x : StepModel) → Contains steps x → Derivable q x.fact
 contained_derived q steps each x (k, lt, is) = subst (λ (y : StepModel). Derivable q y.fact) is (each_derived q steps each k x lt)
 
 -- ---- parts
 
--- a step that is chosen stands in the part, with its fact
+-- a chosen step stands in the part, with its fact
 in_part : (steps : List StepModel) (chosen : List ℕ) (part : List StepModel) → IsPart steps chosen part → (u v : ℕ) (old : StepModel) → slice_get chosen v ≡ Some u → slice_get steps u ≡ Some old
     → (x : StepModel) × (slice_get part v ≡ Some x) × (x.fact ≡ old.fact)
 in_part steps chosen part p u v old here at =
@@ -53,14 +53,14 @@ in_part steps chosen part p u v old here at =
     let same : old ≡ r.old = same_Some old r.old (sym at ∙ ap (λ n. slice_get steps n) number ∙ r.at) in
     (x, there, r.fact ∙ ap (λ (y : StepModel). y.fact) (sym same))
 
--- the lower stands before
+-- of two chosen steps the earlier one stands first
 pub before_by : (chosen : List ℕ) → Increase chosen → (j k a b : ℕ) → slice_get chosen j ≡ Some a → slice_get chosen k ≡ Some b → a < b → j < k
 before_by chosen up j k a b one other lt = elim (cases_order j k) [
   | inl e ↦ absurd (omega (arith, lt, same_Some a b (sym one ∙ ap (λ i. slice_get chosen i) e ∙ other)))
   | inr r ↦ elim r [ inl low ↦ low | inr high ↦ absurd (omega (arith, lt, up k j b a other one high)) ]
 ]
 
--- what was used before is used now
+-- what a step used in the list it uses in the part
 uses_in_part : (steps : List StepModel) (chosen : List ℕ) (part : List StepModel) → IsPart steps chosen part → (number j : ℕ) → slice_get chosen j ≡ Some number
     → (before now : List ℕ) (premises : List Fact) → AllZip (StandsFor steps chosen) before now → AllZip (IsEarlier steps number) before premises → AllZip (IsEarlier part j) now premises
 uses_in_part steps chosen part p number j at [] [] [] z e = tt
@@ -89,7 +89,7 @@ part_follows q steps chosen part p each j x here =
 
 -- ---- a list that grows
 
--- what stands in a list stands in it at the same place when it has grown
+-- what stands in a list stands at the same place after it has grown
 grown_at : (steps more : List StepModel) (k : ℕ) (x : StepModel) → slice_get steps k ≡ Some x → slice_get (steps ++ more) k ≡ Some x
 grown_at [] more k x at = absurd cc
 grown_at (y ∷ ys) more zero x at = at
@@ -102,7 +102,7 @@ uses_grown steps more number other le (u ∷ us) [] z = absurd z
 uses_grown steps more number other le (u ∷ us) (f ∷ fs) z =
     (record { before = omega (arith, le, z.0.before); step = z.0.step; at = grown_at steps more u z.0.step z.0.at; has = z.0.has }, uses_grown steps more number other le us fs z.1)
 
--- what a list gives, it gives when it has grown
+-- what a list gives, it still gives after it has grown
 pub given_grown : (q : Questions) (steps more : List StepModel) (rule : ℕ) (uses : List ℕ) (f : Fact) → Gives q steps rule uses f → Gives q (steps ++ more) rule uses f
 given_grown q steps more rule uses f g =
     let longer : length steps ≤ length (steps ++ more) = omega (arith, length-append steps more) in
@@ -114,7 +114,7 @@ last_at [] y (suc k) x at = absurd cc
 last_at (z ∷ zs) y zero x at = inl at
 last_at (z ∷ zs) y (suc k) x at = elim (last_at zs y k x at) [ inl h ↦ inl h | inr h ↦ inr (ap suc h.0, h.1) ]
 
--- a step that the list gives is put at its end
+-- a step that the list gives is appended
 pub step_put : (q : Questions) (steps : List StepModel) (rule : ℕ) (uses : List ℕ) (f : Fact) → EachFollows q steps → Gives q steps rule uses f → EachFollows q (steps ++ record { rule = rule; fact = f; uses = uses } ∷ [])
 step_put q steps rule uses f each g k x at =
     let y : StepModel = record { rule = rule; fact = f; uses = uses } in
@@ -127,7 +127,7 @@ step_put q steps rule uses f each g k x at =
           subst (λ (n : ℕ). StepFollows q (steps ++ y ∷ []) n x) (sym is.0) (subst (λ (z : StepModel). StepFollows q (steps ++ y ∷ []) (length steps) z) (sym is.1) there))
     ]
 
--- what a list gives has a derivation
+-- what a list gives is derivable
 pub given_derivable : (q : Questions) (steps : List StepModel) (rule : ℕ) (uses : List ℕ) (f : Fact) → EachFollows q steps → Gives q steps rule uses f → Derivable q f
 given_derivable q steps rule uses f each g =
     let all = each_derived q steps each in

@@ -1,4 +1,4 @@
--- What stands twice in a list of texts stands twice in any order of it.
+-- A text that stands twice in a list stands twice in any permutation of it.
 use Rattle.std.proofs.Common.{◌≡◌, ◌≢◌, ◌⊎◌, inl, inr, ℕ, ◌<◌, List, length, get_or, Some, slice_get, swap, refl, sym, ap, ◌∙◌, arith, IsPermutation}
 use Rattle.std.proofs.lemmas.Bool.{cases_eq, cases_order}
 use Rattle.std.proofs.lemmas.List.Edits.{Swapped, swapped_from_swap}
@@ -9,7 +9,7 @@ use Rattle.krates_rules.specs.Admission.{IsDoubledIn}
 use Rattle.krates_rules.specs.Facts.{Id}
 use Rattle.krates_rules.specs.Resolved.{ReadsAs}
 
--- where the element at a place goes, as those at two places change theirs
+-- where the element at a place goes when the elements at two places are swapped
 abbrev Goes : ℕ → ℕ → ℕ → ℕ → Type 0
 Goes i j k m = ((k ≡ i) × (m ≡ j)) ⊎ (((k ≢ i) × (k ≡ j) × (m ≡ i)) ⊎ ((k ≢ i) × (k ≢ j) × (m ≡ k)))
 
@@ -22,7 +22,7 @@ goes i j k = elim (cases_eq k i) [
   ]
 ]
 
--- no two go to one place
+-- no two elements go to one place
 goes_apart : (i j k m l n : ℕ) → Goes i j k m → Goes i j l n → m ≡ n → k ≡ l
 goes_apart i j k m l n (inl a) (inl b) e = omega (arith, a.0, b.0)
 goes_apart i j k m l n (inl a) (inr (inl b)) e = absurd (b.0 (omega (arith, a.1, b.1, b.2, e)))
@@ -34,7 +34,7 @@ goes_apart i j k m l n (inr (inr a)) (inl b) e = absurd (a.1 (omega (arith, a.2,
 goes_apart i j k m l n (inr (inr a)) (inr (inl b)) e = absurd (a.0 (omega (arith, a.2, b.2, e)))
 goes_apart i j k m l n (inr (inr a)) (inr (inr b)) e = omega (arith, a.2, b.2, e)
 
--- and each stands there then
+-- each element then stands at its new place
 gone : {X : Type 0} (xs : List X) (i j k m : ℕ) (x : X) → i < length xs → j < length xs → Goes i j k m
     → slice_get xs k ≡ Some x → slice_get (swap xs i j) m ≡ Some x
 gone xs i j k m x p q g here = slice_get-get_or (swap xs i j) m x (within g) ∙ ap (λ y. Some y) (moved g ∙ is)
@@ -61,7 +61,7 @@ gone xs i j k m x p q g here = slice_get-get_or (swap xs i j) m x (within g) ∙
     moved (inr (inl a)) = ap (λ n. get_or (swap xs i j) n x) a.2 ∙ swapped.0 ∙ ap (λ n. get_or xs n x) (sym a.1)
     moved (inr (inr a)) = ap (λ n. get_or (swap xs i j) n x) a.2 ∙ swapped.2 k a.0 a.1
 
--- the elements stand at two places
+-- two elements that stand at different places
 record StandApart {X : Type 0} (xs : List X) (a b : X) : Type 0 where
   one : ℕ
   other : ℕ

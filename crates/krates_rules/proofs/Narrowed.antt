@@ -1,4 +1,4 @@
--- What a setting that leaves out more answers to the rules.
+-- How a setting that leaves out more answers the rules.
 use Rattle.std.proofs.Common.{◌≡◌, ◌⊎◌, inl, inr, [], Option, Some, None, true, false, Contains, refl, sym, ◌∙◌, subst}
 use Rattle.krates_cm.specs.Document.{Text, PackageModel}
 use Rattle.krates_ids.specs.declared.error.Error.{Error}
@@ -52,7 +52,7 @@ root_same r s z i same all (of_manifests not member h) =
 
 -- ---- settings that leave out more
 
--- the second asks for the same crates, and leaves out what the first does
+-- the second asks for the same crates, and leaves out all that the first does
 record LeavesOut (r : Resolved) (wide narrow : SettingModel) : Type 0 where
   manifests : narrow.manifests ≡ wide.manifests
   workspace : narrow.workspace ≡ wide.workspace
@@ -141,7 +141,7 @@ leaves_out r wide _ (asks_targets targets none) = record {
   means = λ i name c x. x;
 }
 
--- a name that means the least of what answers means no more than one that means all
+-- a name that means only the least crate that answers to it means no more than one that means them all
 means_all : (r : Resolved) (i : Id) (name : Text) (c : Id) → IsReferent r false i name c → IsReferent r true i name c
 means_all r i name c x = record { is_named = x.is_named; least = λ off. absurd cc }
 

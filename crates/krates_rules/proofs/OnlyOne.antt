@@ -1,4 +1,4 @@
--- Where no id is doubled, at most one package, one node and one dependency of a node has an id.
+-- Where no id is doubled, at most one package, one node, and one dependency of a node has a given id.
 use Rattle.std.proofs.Common.{◌≡◌, ℕ, List, map, Some, Contains, sym, ap, ◌∙◌, subst, inl, inr, option_map}
 use Rattle.std.proofs.lemmas.Bool.{cases_order}
 use Rattle.std.proofs.lemmas.Option.{slice_get-map, slice_get-get_or, same_Some}
@@ -8,7 +8,7 @@ use Rattle.krates_rules.specs.Admission.{IsDoubledIn, NoneDoubled, doubled_packa
 use Rattle.krates_rules.specs.Facts.{Id}
 use Rattle.krates_rules.specs.Resolved.{NodeAt, Resolved, ReadsAs, HasPackage, HasNode, HasDep}
 
--- an element that is contained stands at a place
+-- an element of a list stands at some place
 pub place_in : {A : Type 0} (xs : List A) (x : A) → Contains xs x → (k : ℕ) × (slice_get xs k ≡ Some x)
 place_in xs x (k, lt, is) = (k, slice_get-get_or xs k x lt ∙ ap (λ y. Some y) is)
 
@@ -41,7 +41,7 @@ one_node r i n m none a b =
     let bt = place_in r.graph.nodes m b.among in
     (one_element (λ (n : NodeModel). n.id) r.graph.nodes i (λ t. none i (doubled_node t)) at.0 bt.0 n m at.1 a.id bt.1 b.id).1
 
--- and there is one place for it
+-- so a node of an id stands at one place
 pub one_node_place : (r : Resolved) (i : Id) (j k : ℕ) → NoneDoubled r.metadata r.graph → NodeAt r i j → NodeAt r i k → j ≡ k
 one_node_place r i j k none a b = (one_element (λ (n : NodeModel). n.id) r.graph.nodes i (λ t. none i (doubled_node t)) j k a.node b.node a.at a.id b.at b.id).0
 

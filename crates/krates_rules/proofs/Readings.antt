@@ -4,7 +4,7 @@ use Rattle.std.specs.List.{AllZip, slice_get}
 use Rattle.krates_cm.specs.Document.{Text}
 use Rattle.krates_ids.specs.Identity.{Identity, Reads}
 
--- at the same place of the other list stands what it is read as
+-- what stands at the same place of the first list
 pub left_of : {A B : Type 0} (R : A → B → Type 0) (xs : List A) (ys : List B) (k : ℕ) (y : B) → AllZip R xs ys → slice_get ys k ≡ Some y → (x : A) × (slice_get xs k ≡ Some x) × R x y
 left_of R [] [] k y z h = absurd cc
 left_of R [] (b ∷ ys) k y z h = absurd z
@@ -19,6 +19,6 @@ right_of R (a ∷ xs) [] k x z h = absurd z
 right_of R (a ∷ xs) (b ∷ ys) zero x z h = let e : a ≡ x = cc in (b, refl, subst (λ w. R w b) e z.0)
 right_of R (a ∷ xs) (b ∷ ys) (suc k) x z h = right_of R xs ys k x z.1 h
 
--- a text is read as one id
+-- a text reads as at most one id
 abbrev pub ReadsOnce : Type 0
 ReadsOnce = (t : Text) (a b : Identity) → Reads t a → Reads t b → a ≡ b

@@ -1,4 +1,4 @@
--- Documents that differ in the order of their lists alone answer the rules alike.
+-- Documents that differ only in the order of their lists answer the rules alike.
 use Rattle.std.proofs.Common.{◌≡◌, ◌↔◌, ℕ, Bool, List, [], ◌∷◌, map, Option, Some, None, Contains, IsPermutation, string_bytes, refl, sym, ap, ◌∙◌, subst}
 use Rattle.std.proofs.lemmas.List.Sorted.{Contains-permutation, IsPermutation-sym, IsPermutation-map}
 use Rattle.std.proofs.lemmas.Option.{same_Some}
@@ -30,7 +30,7 @@ use Rattle.krates_rules.proofs.Standings.{contains_at}
 
 -- ---- documents that say the same
 
--- for each package of the first there is the same of the second
+-- for each package of the first there is one of the second that says the same
 abbrev HasSamePackages : List PackageModel → List PackageModel → Type 0
 HasSamePackages xs ys = (a : PackageModel) → Contains xs a → (b : PackageModel) × Contains ys b × ReordersPackage a b
 
@@ -39,7 +39,7 @@ record SameNode (a b : NodeModel) : Type 0 where
   deps : IsPermutation a.deps b.deps
   features : IsPermutation a.features b.features
 
--- for each node of the first there is the same of the second
+-- for each node of the first there is one of the second that says the same
 abbrev HasSameNodes : List NodeModel → List NodeModel → Type 0
 HasSameNodes xs ys = (a : NodeModel) → Contains xs a → (b : NodeModel) × Contains ys b × SameNode a b
 
@@ -70,7 +70,7 @@ swapped r t w = record {
 
 -- ---- look-ups
 
--- the package of the id that says the same
+-- the package with this id that says the same
 record TwinPackage (t : Resolved) (i : Id) (p : PackageModel) : Type 0 where
   pkg : PackageModel
   has_package : HasPackage t i pkg
@@ -102,7 +102,7 @@ member_same r t i w h = record {
   id = h.id;
 }
 
--- the node of the id that says the same
+-- the node with this id that says the same
 record Twin (t : Resolved) (i : Id) (n : NodeModel) : Type 0 where
   node : NodeModel
   has_node : HasNode t i node
@@ -209,7 +209,7 @@ declares_same r t e place d w x =
       declared = subst (λ ds. IsDeclared ds (dependency_entry e.child x.dep) (kind_info_of e) place d) (dependencies_same x.pkg q.pkg q.same) x.declared;
     }
 
--- ---- all that the rules ask
+-- ---- all questions of the rules
 
 included_same : (r t : Resolved) (s : SettingModel) (i : Id) → SaySame r t → IsIncluded r s i → IsIncluded t s i
 included_same r t s i w x =
@@ -406,7 +406,7 @@ none_same None b w = (λ e. w, λ e. refl)
 none_same (Some g) None w = absurd w
 none_same (Some g) (Some h) w = (λ e. absurd cc, λ e. absurd cc)
 
--- what holds of all that says the same holds of both documents
+-- a property of documents that say the same holds of both documents
 both : (m n : MetadataModel) → Reorders m n → (P : Resolved → Type 0) → ((r t : Resolved) → SaySame r t → P r → P t)
     → HasGraphWith m (λ g. P (resolved m g)) ↔ HasGraphWith n (λ h. P (resolved n h))
 both m n w P keeps = (
@@ -437,7 +437,7 @@ refused_same m n w errors.NoRootKrates = (λ h. h, λ h. h)
 refused_same m n w (errors.Lost x) = (λ h. h, λ h. h)
 refused_same m n w errors.TooMany = (λ h. h, λ h. h)
 
--- where no id is doubled, what is said of each crate, edge and name is the same
+-- where no id is doubled, they say the same about each crate, edge and name
 say_alike : (r t : Resolved) → SaySame r t → NoneDoubled t.metadata t.graph → SayAlike r t
 say_alike r t w none = record {
   packages = λ i p q a b.

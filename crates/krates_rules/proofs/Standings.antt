@@ -1,4 +1,4 @@
--- What a crate has of a package and a node.
+-- What package and node a crate has.
 use Rattle.std.proofs.Common.{◌≡◌, ℕ, List, Some, Contains, subst}
 use Rattle.std.proofs.lemmas.Option.{slice_get_within, get_or_from_slice_get}
 use Rattle.std.specs.List.{slice_get}
@@ -27,6 +27,6 @@ stands_at r s i p place h kept n = record {
 pub lacks_node : (r : Resolved) (s : SettingModel) (i : Id) (p : PackageModel) → HasPackage r i p → (IsExcluded s p → ⊥) → NoNode r i → LacksNode r s i
 lacks_node r s i p h kept none = record { included = included r s i p h kept; no_node = none }
 
--- an excluded package isn't included, since no other has the id
+-- an excluded package isn't included, since no other package has its id
 pub not_included : (r : Resolved) (s : SettingModel) (i : Id) → NoneDoubled r.metadata r.graph → IsLeftOut r s i → IsIncluded r s i → ⊥
 not_included r s i none out there = there.not_excluded (subst (IsExcluded s) (one_package r i out.pkg there.pkg none out.has_package there.has_package) out.excluded)

@@ -54,7 +54,7 @@ pub record AreIdsOf (m : MetadataModel) (g : ResolveModel) (ids : IdsModel) : Ty
   pub nodes : AllZip Reads (node_texts g) ids.nodes
   pub deps : AllZip AreDepIds g.nodes ids.deps
 
--- ---- texts that aren't
+-- ---- texts that don't read
 
 -- a text that has to be an id
 pub data StandsForId (m : MetadataModel) (g : ResolveModel) (t : Text) : Type 0 where
@@ -64,7 +64,7 @@ pub data StandsForId (m : MetadataModel) (g : ResolveModel) (t : Text) : Type 0 
   of_node : Contains (node_texts g) t → StandsForId m g t
   of_dep : (n : NodeModel) → Contains g.nodes n → Contains (dep_texts n) t → StandsForId m g t
 
--- a text that has to be an id and is none, or one of a dependency without a semantic version
+-- a text that has to be an id and isn't, or one of a dependency without a semantic version
 pub data IsInvalidId (m : MetadataModel) (g : ResolveModel) (t : Text) : Type 0 where
   unread : StandsForId m g t → ((i : Identity) → Reads t i → ⊥) → IsInvalidId m g t
   bad_version : (n : NodeModel) → Contains g.nodes n → Contains (dep_texts n) t → (i : Identity) → Reads t i → version_named i.version ≡ None → IsInvalidId m g t

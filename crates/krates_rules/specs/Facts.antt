@@ -23,7 +23,7 @@ pub data Cause : Type 0 where
   LostFeature : (krate : Id) (name : Text) → Cause
   Undeclared : (krate dep : Id) → Cause
 
--- what has a derivation or has none
+-- what may have a derivation
 pub data Fact : Type 0 where
   -- the crate is kept
   Crate : (id : Id) → Fact

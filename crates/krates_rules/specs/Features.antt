@@ -1,4 +1,4 @@
--- What a document says of the features of its crates.
+-- What a document says about the features of its crates.
 use Rattle.std.specs.Prelude.{◌≡◌, List, Some, Contains}
 use Rattle.krates_cm.specs.Document.{Text, PackageModel, NodeModel}
 use Rattle.krates_ids.specs.Correction.{named}

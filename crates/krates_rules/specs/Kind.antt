@@ -16,7 +16,7 @@ kind_of written.Normal = kinds.Normal
 kind_of written.Development = kinds.Dev
 kind_of written.Build = kinds.Build
 
--- what is printed of a kind
+-- the text that is printed for a kind
 abbrev pub kind_text : DepKind → Text
 kind_text kinds.Normal = codes ""
 kind_text kinds.Build = codes "build"
@@ -28,12 +28,12 @@ has_kind set kinds.Normal = set.normal
 has_kind set kinds.Build = set.build
 has_kind set kinds.Dev = set.dev
 
--- whether dependencies of this kind are ignored, where a member of the workspace has them, or another crate
+-- whether dependencies of this kind are ignored if a member of the workspace has them, or if another crate does
 abbrev pub ignores : IgnoredKinds → DepKind → Bool → Bool
 ignores ignored kind true = has_kind ignored.of_members kind
 ignores ignored kind false = has_kind ignored.of_others kind
 
--- whether the scope has the members of the workspace, or the other crates
+-- whether the scope includes the members of the workspace, or the other crates
 abbrev pub Covers : Scope → Bool → Type 0
 Covers scopes.Workspace is_member = is_member ≡ true
 Covers scopes.NonWorkspace is_member = is_member ≡ false
@@ -43,7 +43,7 @@ Covers scopes.All is_member = ⊤
 abbrev pub HasOneMore : KindSet → KindSet → DepKind → Type 0
 HasOneMore old new kind = (k : DepKind) → (has_kind new k ≡ true) ↔ ((has_kind old k ≡ true) ⊎ (k ≡ kind))
 
--- what was ignored still is, and beside it dependencies of this kind of the crates of the scope; nothing else is
+-- what was ignored still is, and so are dependencies of this kind of the crates in the scope; nothing else is
 abbrev pub IgnoresMore : IgnoredKinds → IgnoredKinds → DepKind → Scope → Type 0
 IgnoresMore old new kind scope = (k : DepKind) (is_member : Bool)
     → (ignores new k is_member ≡ true) ↔ ((ignores old k is_member ≡ true) ⊎ ((k ≡ kind) × Covers scope is_member))

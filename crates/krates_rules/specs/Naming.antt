@@ -1,4 +1,4 @@
--- Settings that differ alone in what a name in a feature reference means, and what is selected under them.
+-- Settings that differ only in what a name in a feature reference means, and what is selected under them.
 use Rattle.std.specs.Prelude.{Bool, true, false}
 use Rattle.krates_rules.specs.Derivation.{Derivable}
 use Rattle.krates_rules.specs.Facts.{Fact}
@@ -6,10 +6,10 @@ use Rattle.krates_rules.specs.Questions.{questions}
 use Rattle.krates_rules.specs.Resolved.{Resolved}
 use Rattle.krates_rules.specs.Setting.{SettingModel}
 
--- the setting, in which a name means all that answer to it, or the least alone
+-- the setting, with a name meaning all that answer to it, or only the least
 abbrev pub naming : SettingModel → Bool → SettingModel
 naming s all = record s { all_named = all }
 
--- each fact that has a derivation where a name means the least has one where it means all, those of what is lost included
+-- each fact that is derivable where a name means the least is derivable where it means all, lost facts too
 abbrev pub IsNamedPart : Type 0
 IsNamedPart = (r : Resolved) (s : SettingModel) (f : Fact) → Derivable (questions r (naming s false)) f → Derivable (questions r (naming s true)) f

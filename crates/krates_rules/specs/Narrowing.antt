@@ -1,4 +1,4 @@
--- Settings that leave out more, and that nothing new is selected under them.
+-- Settings that leave out more, under which nothing new is selected.
 use Rattle.std.specs.Prelude.{◌≡◌, ◌⊎◌, List, [], Contains}
 use Rattle.krates_ids.specs.PackageSpecification.{Specification}
 use Rattle.krates_ids.specs.declared.error.Error.{Error}
@@ -16,7 +16,7 @@ use Rattle.krates_rules.specs.declared.kind.DepKind.{DepKind}
 use Rattle.krates_rules.specs.declared.kind.IgnoredKinds.{IgnoredKinds}
 use Rattle.krates_rules.specs.declared.kind.Scope.{Scope}
 
--- the second setting is the first, but for one step by which it leaves out more
+-- the second setting is the first but for one step that leaves out more
 pub data IsNarrower (wide : SettingModel) : SettingModel → Type 0 where
   -- more packages are excluded
   excludes_more : (exclusions : List Specification) → ((spec : Specification) → Contains wide.exclusions spec → Contains exclusions spec)
@@ -27,15 +27,15 @@ pub data IsNarrower (wide : SettingModel) : SettingModel → Type 0 where
   -- targets are asked for, where none was
   asks_targets : (targets : List Asked) → wide.targets ≡ [] → IsNarrower wide (record wide { targets = targets })
 
--- nothing lost has a derivation
+-- nothing lost is derivable
 abbrev pub LosesNothing : Questions → Type 0
 LosesNothing q = (c : Cause) → Derivable q (Lost c) → ⊥
 
 -- the narrower setting selects a part of what the wider one does
 pub record SelectsPart (r : Resolved) (wide narrow : SettingModel) : Type 0 where
-  -- each fact that has a derivation under the narrower has one under the wider, those of what is lost included
+  -- each fact that is derivable under the narrower setting is derivable under the wider one, lost facts too
   pub facts : (f : Fact) → Derivable (questions r narrow) f → Derivable (questions r wide) f
-  -- where nothing is lost under the wider, the narrower is refused only since no crate is left, or because memory ran out
+  -- if nothing is lost under the wider setting, the narrower is refused only because no crate is left or because memory ran out
   pub refusals : LosesNothing (questions r wide) → (e : Error) → SelectionRefusal (questions r narrow) e
       → (e ≡ NoRootKrates) ⊎ (e ≡ Memory)
 

@@ -1,4 +1,4 @@
--- What a document and a setting answer to the rules.
+-- What a document and a setting answer the rules.
 use Rattle.std.specs.Prelude.{ℕ, Contains}
 use Rattle.krates_cm.specs.Document.{DependencyModel, DepKindInfoModel, PackageModel, NodeDepModel, NodeModel}
 use Rattle.krates_rules.specs.Facts.{Id, Edge}
@@ -72,9 +72,9 @@ pub record IsLoose (r : Resolved) (s : SettingModel) (e : Edge) : Type 0 where
   pub not_ignored : IsIgnored r s e → ⊥
   pub undeclared : (p : PackageModel) → HasPackage r e.parent p → IsUndeclared p.dependencies (dependency_entry e.child dep) (kind_info_of e)
 
--- ---- all that the rules ask
+-- ---- all questions of the rules
 
--- what the rules ask, answered by this document and this setting
+-- the questions of the rules, answered by this document and this setting
 unfoldable pub questions : Resolved → SettingModel → Questions
 questions r s = record {
   Root = IsRoot r s;

@@ -3,7 +3,7 @@ use Rattle.std.specs.Prelude.{◌≡◌}
 use Rattle.krates_cm.specs.Document.{Text}
 use Rattle.krates_text.specs.FeatureReference.{Reference, krate, weak, strong, simple}
 
--- the reference asks for the edges to the dependency of this name: a weak one doesn't
+-- the reference asks for the edges to the dependency of this name; a weak reference doesn't
 abbrev pub Demands : Reference → Text → Type 0
 Demands (simple f) dep = ⊥
 Demands (krate c) dep = dep ≡ c

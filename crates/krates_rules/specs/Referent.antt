@@ -11,7 +11,7 @@ use Rattle.krates_rules.specs.DependencyName.{IsNameOf}
 use Rattle.krates_rules.specs.Facts.{Id}
 use Rattle.krates_rules.specs.Resolved.{Resolved, HasPackage, HasNode, HasDep}
 
--- the library of the package has this name, which isn't that of the package: it is the first target of kind `lib`
+-- the library of the package, which is the first target of kind `lib`, has this name, and the package has another
 pub record IsLibraryRename (p : PackageModel) (name : Text) : Type 0 where
   pub place : ℕ
   pub target : TargetModel
@@ -19,7 +19,7 @@ pub record IsLibraryRename (p : PackageModel) (name : Text) : Type 0 where
   pub is : target.name ≡ name
   pub other : IsNameOf name p.name → ⊥
 
--- A dependency of a node answers to a name: to its own, or to that of its package where its own is the package's library.
+-- A dependency of a node answers to a name: to its own, or to that of its package if its own is the name of the package's library.
 pub data AnswersTo (r : Resolved) (child : Id) (d : NodeDepModel) (name : Text) : Type 0 where
   by_name : IsNameOf d.name name → AnswersTo r child d name
   by_library : {p : PackageModel} → name ≡ child.name → HasPackage r child p → IsLibraryRename p d.name → AnswersTo r child d name
@@ -36,7 +36,7 @@ pub record AnswersIn (r : Resolved) (i : Id) (name : Text) (child : Id) : Type 0
   pub has_dep : HasDep node child dep
   pub answers : AnswersTo r child dep name
 
--- What a name means in a reference of the crate: all dependencies of its node that answer to it, or the least of them alone, by id.
+-- What a name means in a reference of the crate: all dependencies of its node that answer to it, or only the least of them, by id.
 pub record IsReferent (r : Resolved) (all : Bool) (i : Id) (name : Text) (child : Id) : Type 0 where
   pub is_named : AnswersIn r i name child
   pub least : all ≡ false → (other : Id) → AnswersIn r i name other → id_order child other ≢ Greater

@@ -24,7 +24,7 @@ pub record Resolved : Type 0 where
 abbrev pub resolved : MetadataModel → ResolveModel → Resolved
 resolved m g = record { metadata = m; graph = g }
 
--- the document has a resolved graph, and of that it holds
+-- the document has a resolved graph for which this holds
 pub record HasGraphWith (m : MetadataModel) (P : ResolveModel → Type 0) : Type 0 where
   pub graph : ResolveModel
   pub has_graph : m.resolve ≡ Some graph

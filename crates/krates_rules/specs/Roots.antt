@@ -18,7 +18,7 @@ pub record IsWorkspaceManifest (manifests : List Text) (workspace_root : Text) :
 abbrev pub AsksForWorkspace : Resolved → SettingModel → Type 0
 AsksForWorkspace r s = IsWorkspaceManifest s.manifests r.metadata.workspace_root
 
--- every member is asked for: by the setting, or since the graph has no root, or by the manifest of the workspace
+-- every member is asked for: by the setting, or because the graph has no root, or by the manifest of the workspace
 pub data AsksForMembers (r : Resolved) (s : SettingModel) : Type 0 where
   by_setting : s.manifests ≡ [] → s.workspace ≡ true → AsksForMembers r s
   without_root : s.manifests ≡ [] → r.graph.root ≡ None → AsksForMembers r s
@@ -32,7 +32,7 @@ pub record HasManifest (r : Resolved) (s : SettingModel) (i : Id) : Type 0 where
   pub among : Contains s.manifests manifest
   pub same : components manifest ≡ components pkg.manifest_path
 
--- The graph's root where nothing is asked for; every member where all are; else the members with one of the manifests.
+-- The graph's root if nothing is asked for; every member if all are; otherwise the members with one of the manifests.
 pub data IsRoot (r : Resolved) (s : SettingModel) (i : Id) : Type 0 where
   of_graph : {t : Text} → s.manifests ≡ [] → s.workspace ≡ false → r.graph.root ≡ Some t → ReadsAs t i → IsRoot r s i
   of_workspace : AsksForMembers r s → IsMember r i → IsRoot r s i

@@ -1,4 +1,4 @@
--- Why nothing is selected of an admitted document.
+-- Why nothing is selected from an admitted document.
 use Rattle.std.specs.Prelude.{string_bytes, ⊤}
 use Rattle.krates_ids.specs.declared.error.Error.{Error}
 use Rattle.krates_ids.specs.declared.error.Error.TheVariants as errors
@@ -17,7 +17,7 @@ cause_of (lost.Node kid) = LostNode (id_of kid)
 cause_of (lost.Feature kid name) = LostFeature (id_of kid) (string_bytes name)
 cause_of (lost.Undeclared krate dep) = Undeclared (id_of krate) (id_of dep)
 
--- no crate is derivable, and nothing that is lost
+-- no crate is derivable, and nothing is lost
 pub record HasNoRoot (q : Questions) : Type 0 where
   pub no_crate : (i : Id) → Derivable q (Crate i) → ⊥
   pub no_lost : (c : Cause) → Derivable q (facts.Lost c) → ⊥

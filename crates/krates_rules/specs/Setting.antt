@@ -1,4 +1,4 @@
--- What the caller's setting is, and what it says of packages, edges and targets (Cargo Book, "Package ID
+-- The caller's setting, and what it says about packages, edges and targets (Cargo Book, "Package ID
 -- Specifications" and "Platform specific dependencies").
 use Rattle.std.specs.Prelude.{◌≡◌, ◌++◌, List, Bool, true, false, Option, MatchOption, Contains, ⊤, codes, map}
 use Rattle.std.specs.List.{AllZip}
@@ -25,9 +25,9 @@ pub record SettingModel : Type 0 where
   pub exclusions : List Specification
   -- the kinds of the dependencies that are ignored
   pub ignored : IgnoredKinds
-  -- whether every member is asked for, also where the graph has a root
+  -- whether every member is asked for, even if the graph has a root
   pub workspace : Bool
-  -- whether a name in a feature reference means all dependencies that answer to it, and not the least of them alone
+  -- whether a name in a feature reference means all dependencies that answer to it, rather than only the least of them
   pub all_named : Bool
 
 -- ---- the manifest of a path
@@ -35,12 +35,12 @@ pub record SettingModel : Type 0 where
 abbrev pub cargo_toml : Text
 cargo_toml = codes "Cargo.toml"
 
--- the manifest that a path means: itself where it ends in the component `Cargo.toml`, else the path with that joined
+-- the manifest that a path means: the path itself if it ends in the component `Cargo.toml`, otherwise the path with that joined
 pub record IsManifestOf (path manifest : Text) : Type 0 where
   pub itself : EndsWithPath path cargo_toml → manifest ≡ path
   pub within : (EndsWithPath path cargo_toml → ⊥) → manifest ≡ path_join path cargo_toml
 
--- the manifests of these paths are asked for too, and nothing else is changed
+-- the manifests of these paths are asked for too, and nothing else has changed
 pub record AsksForPaths (old new : SettingModel) (paths : List (Bor Text)) : Type 0 where
   pub manifests : List Text
   pub meant : AllZip IsManifestOf (map (λ path. path.now) paths) manifests
@@ -54,11 +54,11 @@ pub record IsExcluded (s : SettingModel) (p : PackageModel) : Type 0 where
   pub among : Contains s.exclusions spec
   pub fits : SpecFits spec p
 
--- the edge is ignored: its kind is, for what its parent is
+-- the edge is ignored: its kind is, for a parent that is a member or for one that isn't
 pub data IsIgnored (r : Resolved) (s : SettingModel) (e : Edge) : Type 0 where
   of_member : IsMember r e.parent → ignores s.ignored (kind_of e.kind) true ≡ true → IsIgnored r s e
   of_other : (IsMember r e.parent → ⊥) → ignores s.ignored (kind_of e.kind) false ≡ true → IsIgnored r s e
 
--- The target text of an edge passes. A text that is a cfg expression is asked as one, and any other as a triple.
+-- The target text of an edge passes. A text that is a cfg expression passes as one, any other as a triple.
 abbrev pub Passes : SettingModel → Option Text → Type 0
 Passes s cfg = MatchOption cfg ⊤ (λ text. TellsPassing text s.targets true)

@@ -1,4 +1,4 @@
--- A part of a list of steps: some of them, numbered anew.
+-- A part of a list of steps: some of them, renumbered.
 use Rattle.std.specs.Prelude.{◌≡◌, ℕ, ◌<◌, ◌≤◌, List, Some, Contains, length, slice_get}
 use Rattle.std.specs.List.{AllZip}
 use Rattle.krates_rules.specs.Steps.{StepModel}
@@ -28,7 +28,7 @@ pub record StandsFor (steps : List StepModel) (chosen : List ℕ) (before now : 
   pub at : slice_get steps number ≡ Some step
   pub same : (old : StepModel) → slice_get steps before ≡ Some old → step.fact ≡ old.fact
 
--- the step with this number in the part is a step of the whole list, and what it uses there stands for what it used
+-- the step with this number in the part is a step of the whole list, and each step that it uses there stands for one that it used
 pub record IsRenumbered (steps : List StepModel) (chosen : List ℕ) (number : ℕ) (x : StepModel) : Type 0 where
   pub before : ℕ
   pub chosen_at : slice_get chosen number ≡ Some before

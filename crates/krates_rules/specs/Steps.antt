@@ -47,6 +47,6 @@ pub record EndsIn (steps : List StepModel) (f : Fact) : Type 0 where
   pub at : slice_get steps number ≡ Some last
   pub is : last.fact ≡ f
 
--- a step behind these would follow: the fact by the rule from the facts of those with the numbers
+-- a step after these would follow: the fact by the rule from the facts of the steps with these numbers
 abbrev pub Gives : Questions → List StepModel → ℕ → List ℕ → Fact → Type 0
 Gives q steps rule uses f = StepFollows q steps (length steps) (record { rule = rule; fact = f; uses = uses })

@@ -2,7 +2,7 @@
 use Rattle.std.specs.Prelude.{ℕ, List, [], ◌∷◌, ◌++◌, Option, Some, None}
 use Rattle.krates_rules.specs.declared.uses.Uses.{Uses}
 
--- the number, where there is one
+-- the number, if there is one
 abbrev pub number_in : Option ℕ → List ℕ
 number_in None = []
 number_in (Some number) = number ∷ []

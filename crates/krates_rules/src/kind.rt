@@ -6,7 +6,7 @@ ghost use Rattle.krates_rules.specs.Kind.{kind_of, kind_text, has_kind, ignores,
 use krates_cm::DependencyKind;
 use std::fmt;
 
-/// The kind of a dependency: for what it is needed (Cargo Book, "Specifying Dependencies").
+/// The kind of a dependency: what it is needed for (Cargo Book, "Specifying Dependencies").
 #[derive(Clone, Copy, Debug, PartialEq, Eq)]
 pub enum DepKind {
     /// For the package itself.
@@ -18,7 +18,7 @@ pub enum DepKind {
 }
 
 impl DepKind {
-    /// Whether this is the kind that the document writes so.
+    /// Whether this is the kind that the document writes.
     pub fn is(self, kind: DependencyKind) -> bool
         ensures { IsTrue result ↔ (self ≡ kind_of kind) }
     {
@@ -64,11 +64,11 @@ pub enum Scope {
 /// A set of kinds: those whose field is true.
 #[derive(Clone, Copy, Debug)]
 pub struct KindSet {
-    /// Has it the kind `Normal`?
+    /// Whether it has the kind `Normal`.
     pub normal: bool,
-    /// Has it the kind `Build`?
+    /// Whether it has the kind `Build`.
     pub build: bool,
-    /// Has it the kind `Dev`?
+    /// Whether it has the kind `Dev`.
     pub dev: bool,
 }
 
@@ -137,7 +137,7 @@ impl IgnoredKinds {
         }
     }
 
-    /// Whether dependencies of this kind are ignored, where a member of the workspace has them, or another crate.
+    /// Whether dependencies of this kind are ignored, if a member of the workspace has them, or if another crate does.
     /// Time O(1).
     pub fn has(self, kind: DepKind, is_member: bool) -> bool
         ensures { result ≡ ignores self kind is_member }

@@ -5,15 +5,14 @@ ghost use Rattle.krates_rules.specs.Narrowing.{IsNarrowing};
 ghost use Rattle.krates_rules.specs.Reordering.{IsOrderFree};
 
 /// What is resolved doesn't depend on the order in which a document lists its packages, its members, the nodes of its graph,
-/// or the dependencies and features of a node. Of two documents that differ in that alone, the same facts have derivations
+/// or the dependencies and features of a node. Of two documents that differ only in this, the same facts have derivations
 /// under each setting, and both are refused for the same causes, before resolution and in it.
 pub fn reordering()
     ensures { IsOrderFree }
 {}
 
 /// A setting that excludes more packages, ignores one more kind, or asks for targets where none was asked for, selects a
-/// part of what the setting before it selects. Where that loses nothing, the narrower one is refused only since no crate is
-/// left, or because memory ran out.
+/// part of what the setting before it selects. If that loses nothing, the narrower one is refused only because no crate is left, or because memory ran out.
 pub fn narrowing()
     ensures { IsNarrowing }
 {}
@@ -24,7 +23,7 @@ pub fn named_part()
     ensures { IsNamedPart }
 {}
 
-/// The fact of each step of an accepted list of steps is derivable, and so the one that the list ends in.
+/// The fact of each step of an accepted list of steps is derivable, and so is the one in which the list ends.
 pub fn accepted_lists()
     ensures each { AreSound }
     ensures last { LastIsDerivable }
@@ -35,15 +34,15 @@ pub fn closed_lists()
     ensures { AreComplete }
 {}
 
-/// What follows from the facts of a list of steps is derivable, may be put at the list's end as a step, and follows
-/// from the list still when that has grown.
+/// What follows from the facts of a list of steps is derivable, may be put at the list's end as a step, and still follows after
+/// the list has grown.
 pub fn lists_grow()
     ensures derivable { GivenIsDerivable }
     ensures put { GivenIsPut }
     ensures stays { GivenStays }
 {}
 
-/// Where the steps of a list follow, so do those of a part of it that has what its steps use, numbered anew.
+/// If the steps of a list follow, so do those of a part that has what its steps use, renumbered.
 pub fn parts_follow()
     ensures { PartsFollow }
 {}

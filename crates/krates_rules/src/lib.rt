@@ -1,5 +1,5 @@
-//! What is believed of resolution, and nothing else: a document seen by package id, a setting, the seven rules, what has a
-//! derivation, and which documents are admitted. With the laws that hold of these definitions, whatever the code does.
+//! What is believed of resolution, and nothing else: a document seen by package id, a setting, the seven rules, what is
+//! derivable, and which documents are admitted. With the laws that hold of these definitions, whatever the code does.
 #![tactic(auto)]
 
 pub mod kind;

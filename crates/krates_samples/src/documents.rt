@@ -19,11 +19,11 @@
 //! - `nodes`: the nodes, written as packages are, with the names of features alone; each kind that a word lists is one of
 //!   its `dep_kinds`. Without this section each package has a node, which needs what the package declares and lists the
 //!   features of its manifest.
-//! - `members`: the words of the members; without it `a` is the one.
+//! - `members`: the words of the members; without it `a` is the only one.
 //! - `root`: the word of the root; without it there is none.
 //! - `no graph` and `null graph`: there is no resolved graph, or null stands in its place.
 //!
-//! Any other section is passed over here: it says how the document is used. A tilde anywhere stands for a blank.
+//! Any other section is skipped here: it says how the document is used. A tilde anywhere stands for a blank.
 
 use krates_cm::{DependencyKind, Metadata, PackageId, parse};
 use krates_ids::Kid;
@@ -293,7 +293,7 @@ fn push_package(json: &mut String, alloc: Global, item: &str) -> Result<(), Fail
     Ok(())
 }
 
-/// Writes a node. Its `dependencies` have a text that is no id, since nothing looks at them.
+/// Writes a node. Its `dependencies` have a text that isn't an id, since nothing looks at them.
 fn push_node(json: &mut String, alloc: Global, item: &str) -> Result<(), Fail> {
     let (word, needs, features) = parts_of(item);
     let id = id_of(alloc, word)?;
@@ -364,7 +364,7 @@ fn push_graph(json: &mut String, alloc: Global, line: &str, packages: &str) -> R
     Ok(())
 }
 
-/// The text of the document of a line. Its default members are no ids, since nothing looks at them.
+/// The text of the document of a line. Its default members aren't ids, since nothing looks at them.
 pub fn document(alloc: Global, line: &str) -> Result<String, Fail> {
     let (packages, _) = line.split_once(" / ").unwrap_or((line, ""));
     let mut json = String::new(alloc);

@@ -1,4 +1,4 @@
-//! What the sections of a line set of a builder or of a setting.
+//! What the sections of a line set in a builder or a setting.
 //!
 //! - `workspace on` and `workspace off`: whether every member is a root.
 //! - `names all` and `names least`: whether a name in a feature reference means all dependencies that answer to it.
@@ -7,7 +7,7 @@
 //! - `without SPECS`: the packages that one of these fits are left out.
 //! - `for TARGETS`: the targets, each a triple, and behind a plus sign a feature that it has.
 //!
-//! Any other section sets nothing. Here are the words behind the names; who has a builder or a setting hands them over.
+//! Any other section sets nothing. Here the words after the names are read; whoever has a builder or a setting sets them.
 
 use krates_ids::PkgSpec;
 use krates_rules::Scope;

@@ -8,11 +8,11 @@ pub type Row = (&'static str, &'static str);
 
 /// What the lines of a table ask.
 pub trait Question {
-    /// What a line is answered.
+    /// The answer to a line.
     fn told(alloc: Global, line: &str) -> Result<String, Fail>;
 }
 
-/// Holds each row to its answer; fails at the first that is answered otherwise, and names it.
+/// Compares the answer to each line with the one that is known; fails at the first row where they differ, and names it.
 pub fn hold<Q: Question>(alloc: Global, rows: &[Row]) -> Result<(), Fail> {
     for &(line, answer) in rows {
         let told = Q::told(alloc, line)?;

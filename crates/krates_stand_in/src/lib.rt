@@ -22,10 +22,10 @@ pub struct Output {
     pub status: u8,
 }
 
-/// The answer to the words after the program's name, where a variable of the environment has this value. By the last word:
+/// What is written for the words after the program's name, where a variable of the environment has this value. By the last word:
 ///
 /// - `--fake=fail`: the line `no manifest` as an error, and status 101.
-/// - `--fake=badout`, `--fake=baderr`: a byte that is no text, as output, or as an error with status 1.
+/// - `--fake=badout`, `--fake=baderr`: a byte that isn't UTF-8, as output, or as an error with status 1.
 /// - `--fake=nojson`: the line `hello`.
 /// - `--fake=words`: each word on a line, as an error, and status 1.
 /// - `--fake=env`: the value on a line, as an error, and status 1; an empty line where there is none.

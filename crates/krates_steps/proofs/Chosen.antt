@@ -1,4 +1,4 @@
--- The steps that are chosen of a list, one by one.
+-- The chosen steps of a list, one by one.
 use Rattle.std.proofs.Common.{◌≡◌, ◌≢◌, inl, inr, ℕ, suc, ◌+◌, ◌<◌, ◌≤◌, List, [], ◌∷◌, ◌++◌, Option, Some, None, Contains, length, get_or, length-append, arith, refl, sym, ap, ◌∙◌, subst}
 use Rattle.std.proofs.Math.ListN.{set}
 use Rattle.std.proofs.lemmas.Bool.{cases_lt}
@@ -13,13 +13,13 @@ use Rattle.krates_steps.proofs.Places.{grown, end_of, last_of, set_here, set_the
 
 -- ---- new numbers
 
--- the number that there is has a new one
+-- a number that is used has a new number
 pub new_number_of : (facts : List ℕ) (numbers : List (Option ℕ)) (used : Option ℕ) (number : ℕ) → used ≡ Some number → ((k : ℕ) → Contains (number_in used) k → IsNumbered facts numbers k) → IsNumbered facts numbers number
 new_number_of facts numbers used number is h =
     let all = subst (λ (o : Option ℕ). (k : ℕ) → Contains (number_in o) k → IsNumbered facts numbers k) is h in
     all number (0, omega arith, refl)
 
--- what is looked up is the new number
+-- the number that was looked up is the new number
 pub looked_up : (facts : List ℕ) (numbers : List (Option ℕ)) (used : Option ℕ) (number : ℕ) → used ≡ Some number → IsNumbered facts numbers number
     → AllZip (HasNewNumber facts numbers) (number_in used) (number_in (get_or numbers (get_or facts number 0) None))
 looked_up facts numbers used number is w =
@@ -30,7 +30,7 @@ looked_up facts numbers used number is w =
 
 -- ---- a choice
 
--- what a chosen step uses has a new number
+-- a step that a chosen step uses has a new number
 pub use_numbered : (c : Choice) (count n : ℕ) (x : Uses) (chosen : List ℕ) (part : List Uses) (numbers : List (Option ℕ)) → IsChoice c count → IsMarked c.marks.now n → slice_get c.steps.now n ≡ Some x
     → IsPartBelow c n chosen part numbers → (used : ℕ) → Contains (numbers_used x) used → IsNumbered c.facts.now numbers used
 use_numbered c count n x chosen part numbers choice here at h used among =
@@ -39,7 +39,7 @@ use_numbered c count n x chosen part numbers choice here at h used among =
     let w = h.placed s.chosen (omega (arith, r.0, s.earlier)) s.marked in
     (w.0, record { fact = w.1.fact; fact_at = sym s.same ∙ w.1.fact_at; at = w.1.at })
 
--- nothing is chosen
+-- nothing is chosen yet
 pub none_chosen : (c : Choice) (numbers : List (Option ℕ)) → IsPartBelow c 0 [] [] numbers
 none_chosen c numbers = record {
   long = refl;
@@ -96,7 +96,7 @@ numbers_stand c n chosen part numbers h (u ∷ us) (v ∷ vs) may z =
       numbers_stand c n chosen part numbers h us vs (λ t a. may t (behind t u us a)) z.1,
     )
 
--- The next step is marked, and put at the end of the part.
+-- the next step is marked, and appended to the part
 pub step_chosen : (c : Choice) (n f v : ℕ) (x y : Uses) (chosen : List ℕ) (part : List Uses) (numbers : List (Option ℕ)) → IsChoice c (length numbers) → IsMarked c.marks.now n → slice_get c.steps.now n ≡ Some x → slice_get c.facts.now n ≡ Some f
     → v ≡ length chosen → AllZip (HasNewNumber c.facts.now numbers) (numbers_used x) (numbers_used y) → IsPartBelow c n chosen part numbers → IsPartBelow c (n + 1) (chosen ++ n ∷ []) (part ++ y ∷ []) (set numbers f (Some v))
 step_chosen c n f v x y chosen part numbers choice here at fact is uses h = record {

@@ -1,4 +1,4 @@
--- The first steps of each fact, one by one.
+-- The first step of each fact, one by one.
 use Rattle.std.proofs.Common.{◌≡◌, inl, inr, ℕ, ◌+◌, ◌<◌, List, [], ◌∷◌, ◌++◌, Bool, true, false, not, All, Some, length, replicate, length-append, arith, refl, sym, ap, ◌∙◌, subst}
 use Rattle.std.proofs.Math.ListN.{set}
 use Rattle.std.proofs.lemmas.Bool.{cases_eq, cases_lt}
@@ -28,7 +28,7 @@ chosen_grown facts marks b k h = record { chosen = h.chosen; earlier = h.earlier
 has_grown : (facts : List ℕ) (marks : List Bool) (b : Bool) (f : ℕ) → HasMarked facts marks f → HasMarked facts (marks ++ b ∷ []) f
 has_grown facts marks b f (k, m, at) = (k, grown marks (b ∷ []) k true m, at)
 
--- what isn't seen still wasn't before, and isn't the new one
+-- a fact that isn't seen yet wasn't seen before, and isn't the new one
 still_unseen : (facts : List ℕ) (n f : ℕ) (seen marks : List Bool) → f < length seen → slice_get facts n ≡ Some f → AreFirstBelow facts n seen marks
     → (g k : ℕ) → slice_get (set seen f true) g ≡ Some false → k < n + 1 → slice_get facts k ≡ Some g → ⊥
 still_unseen facts n f seen marks within here h g k told lt at = elim (cases_eq g f) [
@@ -43,7 +43,7 @@ still_unseen facts n f seen marks within here h g k told lt at = elim (cases_eq 
   ]
 ]
 
--- the fact was seen before
+-- the fact of the step was seen before
 seen_before : (facts : List ℕ) (n f : ℕ) (seen marks : List Bool) → slice_get facts n ≡ Some f → slice_get seen f ≡ Some true → AreFirstBelow facts n seen marks → AreFirstBelow facts (n + 1) (set seen f true) (marks ++ false ∷ [])
 seen_before facts n f seen marks here told h = record {
   long = omega (arith, h.long, length-append marks (false ∷ []));
@@ -69,7 +69,7 @@ seen_before facts n f seen marks here told h = record {
           subst (HasChosen facts marks) e (record { chosen = w.0; earlier = omega (arith, low); marked = w.1; same = w.2 ∙ sym here }))
     ])
 
--- it wasn't
+-- the fact of the step is seen for the first time
 seen_now : (facts : List ℕ) (n f : ℕ) (seen marks : List Bool) → slice_get facts n ≡ Some f → slice_get seen f ≡ Some false → AreFirstBelow facts n seen marks → AreFirstBelow facts (n + 1) (set seen f true) (marks ++ true ∷ [])
 seen_now facts n f seen marks here told h = record {
   long = omega (arith, h.long, length-append marks (true ∷ []));
@@ -111,7 +111,7 @@ seen_now facts n f seen marks here told h = record {
       | inr other ↦ has_grown facts marks true g (h.known g (sym (set_there seen f g true other) ∙ m))
     ]
 
--- one more
+-- one more step
 pub first_more : (facts : List ℕ) (n f : ℕ) (b : Bool) (seen marks : List Bool) → slice_get facts n ≡ Some f → slice_get seen f ≡ Some b → AreFirstBelow facts n seen marks → AreFirstBelow facts (n + 1) (set seen f true) (marks ++ not b ∷ [])
 first_more facts n f true seen marks here is h = seen_before facts n f seen marks here is h
 first_more facts n f false seen marks here is h = seen_now facts n f seen marks here is h

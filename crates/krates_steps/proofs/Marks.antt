@@ -39,7 +39,7 @@ only_one : (u k : ℕ) → Contains (u ∷ []) k → k ≡ u
 only_one u k (zero, lt, is) = sym is
 only_one u k (suc j, lt, is) = absurd (omega (arith, lt))
 
--- what there is, is marked
+-- the step that is used, if any, is marked
 pub one_marked : (old new : List Bool) (used : Option ℕ) (number : ℕ) → used ≡ Some number → number < length old → new ≡ set old number true → (k : ℕ) → IsMarked new k ↔ (IsMarked old k ⊎ Contains (number_in used) k)
 one_marked old new used number is lt made k =
     let w = marked_set old number lt k in
@@ -49,7 +49,7 @@ one_marked old new used number is lt made k =
       λ h. elim h [ inl m ↦ w.1 (inl m) | inr c ↦ w.1 (inr (only_one number k c)) ],
     ))
 
--- there is none
+-- no step is used
 pub nothing_marked : (marks : List Bool) (used : Option ℕ) → used ≡ None → (k : ℕ) → IsMarked marks k ↔ (IsMarked marks k ⊎ Contains (number_in used) k)
 nothing_marked marks used is k =
     subst (λ (o : Option ℕ). IsMarked marks k ↔ (IsMarked marks k ⊎ Contains (number_in o) k)) (sym is)
@@ -112,7 +112,7 @@ marked_down steps last n x old new back at here long told h = record {
       | inr c ↦ record { user = n; behind = omega arith; later = back n x at k c; marked = (told n).1 (inl here); step = x; at = at; among = c }
     ]
 
--- it isn't
+-- the step isn't marked
 pub unmarked_down : (steps : List Uses) (last n : ℕ) (marks : List Bool) → (IsMarked marks n → ⊥) → AreMarkedFrom steps last (n + 1) marks → AreMarkedFrom steps last n marks
 unmarked_down steps last n marks out h = record {
   long = h.long;
@@ -125,7 +125,7 @@ unmarked_down steps last n marks out h = record {
   used = λ k m lt. (let w = h.used k m lt in record { user = w.user; behind = omega (arith, w.behind); later = w.later; marked = w.marked; step = w.step; at = w.at; among = w.among });
 }
 
--- the number that there is, is within the bound
+-- a number that is used is within the bound
 pub within_of : (used : Option ℕ) (number bound : ℕ) → used ≡ Some number → ((k : ℕ) → Contains (number_in used) k → k < bound) → number < bound
 within_of used number bound is h =
     let all = subst (λ (o : Option ℕ). (k : ℕ) → Contains (number_in o) k → k < bound) is h in

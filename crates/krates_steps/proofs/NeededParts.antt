@@ -1,4 +1,4 @@
--- The part of what a step stands on.
+-- The part of a list that one step stands on.
 use Rattle.std.proofs.Common.{◌≡◌, inl, inr, ℕ, zero, suc, ◌+◌, ◌<◌, ◌≤◌, List, [], ◌∷◌, ◌++◌, Some, Contains, length, get_or, length-append, arith, refl, sym, ap, ◌∙◌, subst}
 use Rattle.std.proofs.lemmas.Bool.{cases_lt, cases_order}
 use Rattle.std.proofs.lemmas.Option.{slice_get_within, slice_get-get_or, same_Some}
@@ -61,7 +61,7 @@ zip_in R S [] (y ∷ ys) f z = absurd z
 zip_in R S (x ∷ xs) [] f z = absurd z
 zip_in R S (x ∷ xs) (y ∷ ys) f z = (f x y (0, omega arith, refl) z.0, zip_in R S xs ys (λ a b c r. f a b (suc c.0, omega (arith, c.1), c.2) r) z.1)
 
--- where each step has its own fact, a number stands for that very step
+-- where each step has a fact of its own, a number stands for exactly that step
 pub own_part : (c : Choice) (chosen : List ℕ) (part : List Uses) → AreBackward c.steps.now → AreOwnNumbers (length c.steps.now) c.facts.now → IsPartBy (SameFact c.facts.now) c.steps.now chosen part → IsPartBy SameNumber c.steps.now chosen part
 own_part c chosen part back own p = record { increase = p.increase; long = p.long; each = each }
   where
@@ -79,7 +79,7 @@ own_part c chosen part back own p = record { increase = p.increase; long = p.lon
           uses = zip_in (IsNewNumber (SameFact c.facts.now) chosen) (IsNewNumber SameNumber chosen) (numbers_used r.old) (numbers_used x) very r.uses;
         }
 
--- the last is chosen last
+-- the last step is chosen last
 last_place : (chosen : List ℕ) (last v : ℕ) → Increase chosen → ((j a : ℕ) → slice_get chosen j ≡ Some a → a ≤ last) → slice_get chosen v ≡ Some last → length chosen ≡ v + 1
 last_place chosen last v up low at = elim (cases_lt (v + 1) (length chosen)) [
   | inl lt ↦ (
@@ -94,14 +94,14 @@ ends_at c last chosen part needed made =
     let w = made.each last needed.itself in
     record { number = w.0; count = last_place chosen last w.0 made.is_part.increase (λ j a at. needed.low a (made.marked j a at)) w.1; at = w.1 }
 
--- a step is chosen once
+-- a step is chosen only once
 pub one_place : (chosen : List ℕ) → Increase chosen → (j k a : ℕ) → slice_get chosen j ≡ Some a → slice_get chosen k ≡ Some a → j ≡ k
 one_place chosen up j k a one other = elim (cases_order j k) [
   | inl e ↦ e
   | inr r ↦ elim r [ inl low ↦ absurd (omega (arith, up j k a a one other low)) | inr high ↦ absurd (omega (arith, up k j a a other one high)) ]
 ]
 
--- the lower stands before
+-- of two chosen steps the earlier one stands first
 before_by : (chosen : List ℕ) → Increase chosen → (j k a b : ℕ) → slice_get chosen j ≡ Some a → slice_get chosen k ≡ Some b → a < b → j < k
 before_by chosen up j k a b one other lt = elim (cases_order j k) [
   | inl e ↦ absurd (omega (arith, lt, same_Some a b (sym one ∙ ap (λ i. slice_get chosen i) e ∙ other)))
@@ -116,18 +116,18 @@ among_zip R (x ∷ xs) (y ∷ ys) a z (suc k, lt, is) =
     let w = among_zip R xs ys a z.1 (k, omega (arith, lt), is) in
     (w.0, (suc w.1.0, omega (arith, w.1.1), w.1.2), w.2)
 
--- what stands for a chosen step has its place
+-- the new number of a chosen step is its place
 very_place : (chosen : List ℕ) → Increase chosen → (a now k : ℕ) → IsNewNumber SameNumber chosen a now → slice_get chosen k ≡ Some a → now ≡ k
 very_place chosen up a now k s here = one_place chosen up now k a (s.chosen_at ∙ ap (λ n. Some n) s.same) here
 
--- what stands at one place uses the same
+-- the steps at one place use the same
 same_uses : (steps : List Uses) (n m : ℕ) (x y : Uses) (u : ℕ) → n ≡ m → slice_get steps n ≡ Some x → slice_get steps m ≡ Some y → Contains (numbers_used x) u → Contains (numbers_used y) u
 same_uses steps n m x y u e one other among = subst (λ (z : Uses). Contains (numbers_used z) u) (same_Some x y (sym one ∙ ap (slice_get steps) e ∙ other)) among
 
 behind_by : (part : List Uses) (k j now : ℕ) (y : Uses) → k < j → slice_get part j ≡ Some y → now ≡ k → Contains (numbers_used y) now → IsUsedBehind part k
 behind_by part k j now y later at is among = record { user = j; later = later; step = y; at = at; among = subst (λ (n : ℕ). Contains (numbers_used y) n) is among }
 
--- what is chosen before the last is used by what is chosen later
+-- a step chosen before the last is used by one chosen later
 pub used_behind : (c : Choice) (last : ℕ) (chosen : List ℕ) (part : List Uses) → AreNeeded c.steps.now last c.marks.now → IsMade c chosen part → IsPartBy SameNumber c.steps.now chosen part → AreUsedBehind part
 used_behind c last chosen part needed made p k lt =
     let e = ends_at c last chosen part needed made in

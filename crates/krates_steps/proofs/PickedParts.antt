@@ -1,4 +1,4 @@
--- A part of a list of steps, by the steps that are chosen and what they use.
+-- A part of a list of steps, from the chosen steps and what they use.
 use Rattle.std.proofs.Common.{◌≡◌, ℕ, ◌+◌, ◌<◌, List, [], ◌∷◌, Some, None, Contains, length, get_or, map, option_map, arith, sym, ap, ◌∙◌, subst}
 use Rattle.std.proofs.lemmas.List.{length-map}
 use Rattle.std.proofs.lemmas.Option.{slice_get-map, slice_get-get_or, slice_get_within, same_Some}
@@ -11,7 +11,7 @@ use Rattle.krates_steps.specs.Part.{AreUsedBehind, EndsAt, HaveOwnNumbers, IsNew
 use Rattle.krates_steps.specs.Picked.{ArePicked, HaveTheseFacts, UseThese}
 use Rattle.krates_steps.proofs.NeededParts.{one_place}
 
--- what is the same by number has the same fact
+-- steps that are the same by number have the same fact
 abbrev pub TellsFacts : (ℕ → ℕ → Type 0) → List StepModel → Type 0
 TellsFacts Same whole = (j k : ℕ) (x y : StepModel) → Same j k → slice_get whole j ≡ Some x → slice_get whole k ≡ Some y → x.fact ≡ y.fact
 
@@ -24,7 +24,7 @@ uses_at whole steps k x u these at there =
     let other : slice_get (map numbers_used steps) k ≡ Some (numbers_used u) = slice_get-map numbers_used steps k ∙ ap (option_map numbers_used) there in
     same_Some (numbers_used u) x.uses (sym other ∙ ap (λ (xs : List (List ℕ)). slice_get xs k) (sym these) ∙ one)
 
--- a chosen number is one of the whole list
+-- a chosen number is a place of the whole list
 chosen_within : (Same : ℕ → ℕ → Type 0) (whole : List StepModel) (steps part : List Uses) (chosen : List ℕ) (now number : ℕ) → UseThese whole steps → IsPartBy Same steps chosen part → slice_get chosen now ≡ Some number → number < length whole
 chosen_within Same whole steps part chosen now number these p at =
     let none : Uses = record { first = None; second = None } in
@@ -69,14 +69,14 @@ part_picked Same whole small steps part chosen tells these p picked = record { i
           uses = subst (λ (us : List ℕ). AllZip (StandsFor whole chosen) q.old.uses us) (sym q.used) one;
         }
 
--- the same number has the same fact
+-- one number has one fact
 pub same_number_tells : (whole : List StepModel) → TellsFacts SameNumber whole
 same_number_tells whole j k x y e at there = ap (λ (z : StepModel). z.fact) (same_Some x y (sym at ∙ ap (slice_get whole) e ∙ there))
 
 pub same_fact_tells : (whole : List StepModel) (facts : List ℕ) → HaveTheseFacts whole facts → TellsFacts (SameFact facts) whole
 same_fact_tells whole facts h j k x y e at there = (h j k x y at there).0 e
 
--- ---- own facts
+-- ---- each fact once
 
 pub own_picked : (whole small : List StepModel) (steps part : List Uses) (chosen : List ℕ) → IsPartBy SameNumber steps chosen part → ArePicked whole chosen part small → HaveOwnFacts whole → HaveOwnFacts small
 own_picked whole small steps part chosen p picked own j k x y one other same =
@@ -91,7 +91,7 @@ own_firsts whole small part facts chosen these own picked j k x y one other same
     let b = picked.each k y other in
     own j k a.before b.before a.chosen_at b.chosen_at ((these a.before b.before a.old b.old a.at b.at).1 (sym a.fact ∙ same ∙ b.fact))
 
--- ---- the end
+-- ---- the end of the part
 
 pub end_picked : (whole small : List StepModel) (part : List Uses) (chosen : List ℕ) (last : ℕ) (x : StepModel) → EndsAt chosen last → ArePicked whole chosen part small → slice_get whole last ≡ Some x → EndsIn small x.fact
 end_picked whole small part chosen last x e picked at =

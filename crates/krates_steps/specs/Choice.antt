@@ -31,7 +31,7 @@ pub record HasNewNumber (facts : List ℕ) (numbers : List (Option ℕ)) (before
   pub fact_at : slice_get facts before ≡ Some fact
   pub at : slice_get numbers fact ≡ Some (Some now)
 
--- there is one
+-- the step has a new number
 abbrev pub IsNumbered : List ℕ → List (Option ℕ) → ℕ → Type 0
 IsNumbered facts numbers before = (now : ℕ) × HasNewNumber facts numbers before now
 

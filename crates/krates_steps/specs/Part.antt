@@ -9,14 +9,14 @@ use Rattle.krates_rules.specs.declared.uses.Uses.{Uses}
 abbrev pub AreBackward : List Uses → Type 0
 AreBackward steps = (k : ℕ) (x : Uses) → slice_get steps k ≡ Some x → (u : ℕ) → Contains (numbers_used x) u → u < k
 
--- the number stands for that of a step of the whole list: of that very step, or of an earlier one that is the same to it
+-- the number stands for that of a step of the whole list: of the step itself, or of an earlier one that is the same
 pub record IsNewNumber (Same : ℕ → ℕ → Type 0) (chosen : List ℕ) (before now : ℕ) : Type 0 where
   pub number : ℕ
   pub chosen_at : slice_get chosen now ≡ Some number
   pub earlier : number ≤ before
   pub same : Same number before
 
--- what the step with this number in the part uses there stands for what it used
+-- the steps that the step with this number uses in the part stand for those that it used
 pub record IsChosenStep (Same : ℕ → ℕ → Type 0) (steps : List Uses) (chosen : List ℕ) (k : ℕ) (x : Uses) : Type 0 where
   pub before : ℕ
   pub chosen_at : slice_get chosen k ≡ Some before
@@ -30,11 +30,11 @@ pub record IsPartBy (Same : ℕ → ℕ → Type 0) (steps : List Uses) (chosen 
   pub long : length part ≡ length chosen
   pub each : (k : ℕ) (x : Uses) → slice_get part k ≡ Some x → IsChosenStep Same steps chosen k x
 
--- a step is the same to itself alone
+-- a step is the same only as itself
 abbrev pub SameNumber : ℕ → ℕ → Type 0
 SameNumber a b = a ≡ b
 
--- or to each with the same fact
+-- steps with the same fact are the same
 abbrev pub SameFact : List ℕ → ℕ → ℕ → Type 0
 SameFact facts a b = slice_get facts a ≡ slice_get facts b
 
@@ -60,7 +60,7 @@ AreUsedBehind part = (k : ℕ) → k + 1 < length part → IsUsedBehind part k
 abbrev pub HaveOwnNumbers : List ℕ → List ℕ → Type 0
 HaveOwnNumbers facts chosen = (j k a b : ℕ) → slice_get chosen j ≡ Some a → slice_get chosen k ≡ Some b → SameFact facts a b → j ≡ k
 
--- each step's fact is that of a chosen one, itself or an earlier one
+-- each step's fact is the fact of a chosen step: itself or an earlier one
 pub record IsChosenFor (facts chosen : List ℕ) (number : ℕ) : Type 0 where
   pub now : ℕ
   pub stands : IsNewNumber (SameFact facts) chosen number now

@@ -1,4 +1,4 @@
--- A part of a list of steps whose parts by number are known.
+-- A part of a list of steps that is given by numbers.
 use Rattle.std.specs.Prelude.{◌≡◌, ◌↔◌, ℕ, ◌+◌, ◌<◌, List, Some, length, map, slice_get}
 use Rattle.krates_rules.specs.Questions.{questions}
 use Rattle.krates_rules.specs.Resolved.{Resolved}
@@ -37,13 +37,13 @@ pub record ArePicked (whole : List StepModel) (chosen : List ℕ) (part : List U
 
 -- ---- laws
 
--- the steps of a part follow where those of the whole list do
+-- the steps of a part follow if those of the whole list do
 abbrev pub PartsFollow : Type 0
 PartsFollow = (r : Resolved) (s : SettingModel) (whole small : List StepModel) (steps part : List Uses) (chosen : List ℕ)
     → UseThese whole steps → IsPartBy SameNumber steps chosen part → ArePicked whole chosen part small
     → EachFollows (questions r s) whole → EachFollows (questions r s) small
 
--- no fact stands twice in a part where none does in the whole list
+-- no fact stands twice in a part if none does in the whole list
 abbrev pub PartsHaveOwnFacts : Type 0
 PartsHaveOwnFacts = (whole small : List StepModel) (steps part : List Uses) (chosen : List ℕ)
     → IsPartBy SameNumber steps chosen part → ArePicked whole chosen part small → HaveOwnFacts whole → HaveOwnFacts small
@@ -58,7 +58,7 @@ abbrev pub PartsAreUsed : Type 0
 PartsAreUsed = (whole small : List StepModel) (part : List Uses) (chosen : List ℕ)
     → length part ≡ length chosen → AreUsedBehind part → ArePicked whole chosen part small → (k : ℕ) → k + 1 < length small → IsUsedLater small k
 
--- the first steps of each fact follow where those of the whole list do
+-- the first steps of each fact follow if those of the whole list do
 abbrev pub FirstsFollow : Type 0
 FirstsFollow = (r : Resolved) (s : SettingModel) (whole small : List StepModel) (steps part : List Uses) (facts chosen : List ℕ)
     → UseThese whole steps → HaveTheseFacts whole facts → IsPartBy (SameFact facts) steps chosen part → ArePicked whole chosen part small

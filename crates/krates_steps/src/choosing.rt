@@ -1,4 +1,4 @@
-//! Steps of a list that are chosen one by one, and numbered anew.
+//! Steps of a list that are chosen one by one, and renumbered.
 
 ghost use Rattle.std.specs.Prelude.{◌≡◌, ◌+◌, ◌<◌, Contains, IfOk, OnOk, ℕ, length};
 ghost use Rattle.std.specs.List.{AllZip};
@@ -63,7 +63,7 @@ fn choose_all(choice: &Choice<'_>, making: &mut Making) -> Result<(), AllocError
     Ok(())
 }
 
-/// Chooses the next step, where it is marked.
+/// Chooses the next step if it is marked.
 fn choose(choice: &Choice<'_>, number: usize, making: &mut Making) -> Result<(), AllocError>
     requires choice { IsChoice choice.now (length making.old.numbers.items) }
     requires here { number < length choice.now.steps.now }

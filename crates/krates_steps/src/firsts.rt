@@ -9,8 +9,8 @@ use crate::part::Part;
 use krates_rules::Uses;
 use std::alloc::{AllocError, Global};
 
-/// The part of a list of steps that has the first step of each fact, for steps whose facts have these numbers, below the count. What
-/// a step uses there is the first step with the same fact.
+/// The part of a list of steps that has the first step of each fact, for steps whose facts have these numbers, below the count. Each
+/// step that it uses there is the first with the same fact.
 ///
 /// The only error is running out of memory. Time: O(n).
 pub fn first_steps(

@@ -4,8 +4,8 @@ ghost use Rattle.krates_steps.specs.Picked.{FirstsFollow, FirstsHaveOwnFacts, Pa
 
 use krates_rules::laws;
 
-/// The steps of a part that ends in a step follow where those of the whole list do; no fact stands twice in it where none does in
-/// the whole list; it ends in the step's fact; and each other step is used by a later one.
+/// The steps of a part that ends in a step follow if those of the whole list do; no fact stands twice in it if none does in the
+/// whole list; it ends in the step's fact; and each other step is used by a later one.
 pub fn parts()
     ensures follow { PartsFollow }
     ensures own { PartsHaveOwnFacts }
@@ -15,7 +15,7 @@ pub fn parts()
     laws::parts_follow();
 }
 
-/// The first steps of each fact follow where those of the whole list do, and no fact stands twice among them.
+/// The first steps of each fact follow if those of the whole list do, and no fact stands twice among them.
 pub fn firsts()
     ensures follow { FirstsFollow }
     ensures own { FirstsHaveOwnFacts }

@@ -1,4 +1,4 @@
-//! On which steps a step stands.
+//! The steps on which a step stands.
 
 ghost use Rattle.std.specs.Prelude.{◌≡◌, ◌↔◌, ◌+◌, ◌<◌, ◌⊎◌, ℕ, Contains, IfOk, length};
 ghost use Rattle.krates_rules.specs.Uses.{number_in, numbers_used};
@@ -40,7 +40,7 @@ fn mark_all(steps: &[Uses], last: usize, marks: &mut [bool])
     }
 }
 
-/// Marks what a step uses, where it is marked.
+/// Marks what a step uses, if the step is marked.
 fn mark_step(steps: &[Uses], last: usize, number: usize, marks: &mut [bool])
     requires backward { AreBackward steps.now }
     requires here { number < length steps.now }

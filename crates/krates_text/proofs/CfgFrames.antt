@@ -32,7 +32,7 @@ pub trees-push : (ps : List Predicate) (p : Predicate) → trees_of (ps ++ p ∷
 trees-push [] p = refl
 trees-push (q ∷ ps) p = ap (tree (tree_of q)) (trees-push ps p)
 
--- what `pop` took
+-- what `pop` removed: the top frame, or nothing
 pub popped : (old new : List declared.Frame) (r : Option declared.Frame) → old ≡ new ++ option_to_list r → (0 < length old → IsSome r) → MatchOption r ((stack old ≡ []) × (stack new ≡ [])) (λ f. stack old ≡ frame_of f ∷ stack new)
 popped [] new None e some = (stack-nil, ap stack (sym (append-nil new) ∙ sym e) ∙ stack-nil)
 popped (f ∷ old) new None e some = absurd (false≢true (some (omega arith)))

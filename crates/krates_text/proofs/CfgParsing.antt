@@ -1,4 +1,4 @@
--- What `parse` answers, from what is read behind `cfg(`.
+-- What `parse` returns, from what is read after `cfg(`.
 use Rattle.std.proofs.Common.{◌≡◌, ℕ, ◌+◌, ◌≤◌, List, [], ◌∷◌, ◌++◌, length, sym, ap, subst, ◌∙◌, arith, length-append}
 use Rattle.std.specs.Prelude.{Result, Ok, Err, IfErr, IsErrAnd, codes}
 use Rattle.std.proofs.lemmas.List.{append_cancel_left}
@@ -43,7 +43,7 @@ parsed text behind p e found =
       nested = whole.deep;
     }
 
--- and a fault is one of the text
+-- and a fault that is reported is a fault of the text
 pub fault_is : (text behind : List ℕ) (e : CfgError) → text ≡ codes "cfg(" ++ behind → Fails e (read behind) → IsFault text e
 fault_is text behind error.Syntax e h = (
   (λ p x. let found = read_expression text behind p e x in cc),
@@ -59,7 +59,7 @@ pub given_fault : {X : Type 0} (r : Result X CfgError) (e : CfgError) (text : Li
 given_fault (Ok x) e text h f = tt
 given_fault (Err y) e text h f = subst (IsFault text) (sym h) f
 
--- a text has one tree at most
+-- a text has at most one tree
 pub one_tree : (text : List ℕ) (p q : Tree) → IsExpression text p → IsExpression text q → p ≡ q
 one_tree text p q x y =
     let s = x.spelled in
@@ -68,7 +68,7 @@ one_tree text p q x y =
     let second = read_expression text behind q s.is y in
     cc
 
--- and no text has a tree and is too deep
+-- and no text has a tree and is too deep as well
 pub not_both : (text : List ℕ) (p : Tree) → IsExpression text p → IsTooDeep text → ⊥
 not_both text p x d =
     let found = read_expression text d.behind p d.is x in
@@ -83,7 +83,7 @@ word_some : (w : List ℕ) → IsWord w → 1 ≤ length w
 word_some [] h = absurd h
 word_some (c ∷ w) h = omega arith
 
--- each word and pair takes a byte
+-- each word and each pair takes at least one byte
 mutual
   pub count_fits : (t : List ℕ) (p : Tree) → IsPredicate t p → count p ≤ length t
   count_fits t p is_true = omega arith

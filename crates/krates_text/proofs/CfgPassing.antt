@@ -1,4 +1,4 @@
--- A text that is an expression is asked as this one.
+-- A text that is an expression passes as that expression does.
 use Rattle.std.proofs.Common.{◌≡◌, ℕ, Bool, List, ◌∙◌, ap}
 use Rattle.krates_text.specs.CfgGrammar.{Tree, IsExpression}
 use Rattle.krates_text.specs.Passing.{Asked, expression_passes, TellsPassing}

@@ -1,4 +1,4 @@
--- What is in the grammar is read as it.
+-- A text of the grammar is read as the grammar says.
 use Rattle.std.proofs.Common.{◌≡◌, ◌≢◌, ℕ, suc, ◌+◌, ◌<◌, ◌≤◌, true, false, Bool, List, [], ◌∷◌, ◌++◌, length, refl, sym, ap, subst, ◌∙◌, arith, ◌⊎◌, inl, inr, append_assoc, append-nil, eqb}
 use Rattle.std.specs.Prelude.{Result, Ok, Err, IsTrue, codes, max}
 use Rattle.std.specs.List.{AllByRecursion}
@@ -9,7 +9,7 @@ use Rattle.krates_text.specs.Cuts.{Lacks}
 use Rattle.krates_text.specs.CfgGrammar.{Tree, all_of, any_of, not_of, word, pair, Trees, no_trees, tree, added, is_blank, AreBlanks, IsPredicate, is_true, is_false, is_word, is_pair, is_not, is_all, is_any, IsRow, no_more, one_more, IsList, closed, with_last, max_nesting, Frame, in_not, in_all, in_any, is_word_start, is_word_part, IsWord, IsFreeWord, is_reserved, nesting, nesting_among, HasOpened, OpensTooMany, is_form}
 use Rattle.krates_text.specs.CfgReader.{Fault, too_deep, Place, at_predicate, in_word, after_word, at_string, in_string, after_predicate, at_end, State, at, step, step_word, step_after, run, and_then, leaf, read, result_of}
 
--- a fault stays, and a state goes on
+-- functions that agree on every state agree after a result
 then_run : (r : Result State Fault) (f g : State → Result State Fault) → ((t : State) → f t ≡ g t) → and_then r f ≡ and_then r g
 then_run (Ok t) f g h = h t
 then_run (Err e) f g h = refl
@@ -23,11 +23,11 @@ pub run-append : (s : State) (x y : List ℕ) → run s (x ++ y) ≡ and_then (r
 run-append s [] y = refl
 run-append s (c ∷ x) y = then_run (step s.frames s.place c) _ _ (λ t. run-append t x y) ∙ sym (then_assoc (step s.frames s.place c) (λ t. run t x) (λ t. run t y))
 
--- one byte, and the text behind it
+-- one byte is read, then the text behind it
 one_step : (fs : List Frame) (place : Place) (c : ℕ) (x : List ℕ) (r : Result State Fault) → step fs place c ≡ r → run (at fs place) (c ∷ x) ≡ and_then r (λ t. run t x)
 one_step fs place c x r e = ap (λ q. and_then q (λ t. run t x)) e
 
--- bytes of two classes are two
+-- a byte of a class differs from a byte outside it
 apart : (P : ℕ → Bool) (c k : ℕ) → P c ≡ true → P k ≡ false → eqb c k ≡ false
 apart P c k h e = ne_eqb c k (λ same. both_ways (P c) (ap P same ∙ e) h)
 
@@ -40,7 +40,7 @@ part_not_blank c h = or_from _ _ (or_from _ _ (or_from _ _ (apart is_word_part c
 blank_not_part : (c : ℕ) → is_blank c ≡ true → is_word_part c ≡ false
 blank_not_part c h = elim (cases_Bool (is_word_part c)) [ inl e ↦ absurd (both_ways _ (part_not_blank c e) h) | inr e ↦ e ]
 
--- the steps of blanks
+-- the steps of a blank
 step_blank : (fs : List Frame) (c : ℕ) → is_blank c ≡ true → step fs at_predicate c ≡ Ok (at fs at_predicate)
 unfolding step
 step_blank fs c h = rw h refl
@@ -65,7 +65,7 @@ step_blank_word : (fs : List Frame) (w : List ℕ) (c : ℕ) → is_blank c ≡ 
 unfolding step step_word
 step_blank_word fs w c h = rw (blank_not_part c h, h) refl
 
--- where blanks change nothing they may be left out
+-- blanks that change nothing may be left out
 skip : (fs : List Frame) (place : Place) → ((c : ℕ) → is_blank c ≡ true → step fs place c ≡ Ok (at fs place)) → (a x : List ℕ) → AreBlanks a → run (at fs place) (a ++ x) ≡ run (at fs place) x
 skip fs place h [] x blanks = refl
 skip fs place h (c ∷ a) x blanks = one_step fs place c (a ++ x) _ (h c blanks.0) ∙ skip fs place h a x blanks.1
@@ -115,12 +115,12 @@ start_step : (fs : List Frame) (c : ℕ) → is_word_start c ≡ true → step f
 unfolding step
 start_step fs c h = rw (start_not_blank c h, apart is_word_start c 41 h refl, h) refl
 
--- a word where a predicate may begin
+-- a word, where a predicate may begin
 read_word : (fs : List Frame) (w x : List ℕ) → IsWord w → run (at fs at_predicate) (w ++ x) ≡ run (at fs (in_word w)) x
 read_word fs [] x h = absurd h
 read_word fs (c ∷ w) x h = one_step fs at_predicate c (w ++ x) _ (start_step fs c h.0) ∙ letters fs (c ∷ []) w x h.1
 
--- a comma or a `)`
+-- a comma or a `)`: what ends a predicate
 abbrev IsEnd : ℕ → Type 0
 IsEnd c = (c ≡ 44) ⊎ (c ≡ 41)
 
@@ -182,7 +182,7 @@ read_pair fs w a b s x free before behind lacks =
     ∙ read_string fs w [] s _ lacks
     ∙ one_step fs (in_string w s) 34 x _ (end_step fs w s)
 
--- the opening of a form
+-- a form is opened
 open_form : (fs : List Frame) (name a x : List ℕ) (frame : Frame) → IsWord name → AreBlanks a → step_word fs name 40 ≡ Ok (at (frame ∷ fs) at_predicate) → run (at fs at_predicate) (name ++ (a ++ 40 ∷ x)) ≡ run (at (frame ∷ fs) at_predicate) x
 open_form fs name a x frame is blanks e =
     read_word fs name _ is
@@ -202,7 +202,7 @@ open_not : (fs : List Frame) → length fs < max_nesting → step_word fs (codes
 unfolding step_word
 open_not fs h = rw (lt-ltb (length fs) max_nesting h) refl
 
--- all or any
+-- the frame of `all` or `any` with these predicates
 abbrev pub frame_of_list : Bool → Trees → Frame
 frame_of_list true ps = in_all ps
 frame_of_list false ps = in_any ps
@@ -242,20 +242,20 @@ close_all : (p : Tree) → step_after [] p 41 ≡ Ok (at [] (at_end p))
 unfolding step_after
 close_all p = refl
 
--- one more predicate among others
+-- the nesting with one more predicate
 pub nesting-added : (ps : Trees) (p : Tree) → nesting_among (added ps p) ≡ max (nesting_among ps) (nesting p)
 nesting-added no_trees p = omega arith
 nesting-added (tree q ps) p = omega (arith, nesting-added ps p)
 
--- from where a predicate may begin, this text is read as this predicate
+-- where a predicate may begin, this text is read as this predicate
 abbrev pub ReadsAs : List ℕ → Tree → Type 0
 ReadsAs t p = (fs : List Frame) (a : List ℕ) (c : ℕ) (x : List ℕ) → nesting p + length fs ≤ max_nesting → AreBlanks a → IsEnd c → run (at fs at_predicate) (t ++ (a ++ c ∷ x)) ≡ and_then (step_after fs p c) (λ s. run s x)
 
--- in a list, this text is read as these predicates with a comma behind each
+-- in a list, this text is read as these predicates, with a comma behind each
 abbrev pub RowReadsAs : List ℕ → Trees → Type 0
 RowReadsAs y ps = (form : Bool) (fs : List Frame) (x : List ℕ) → nesting_among ps + suc (length fs) ≤ max_nesting → run (at (frame_of_list form no_trees ∷ fs) at_predicate) (y ++ x) ≡ run (at (frame_of_list form ps ∷ fs) at_predicate) x
 
--- up to the `)` it is read as these predicates
+-- up to the `)`, this text is read as these predicates
 abbrev pub ListReadsAs : List ℕ → Trees → Type 0
 ListReadsAs y ps = (form : Bool) (fs : List Frame) (x : List ℕ) → nesting_among ps + suc (length fs) ≤ max_nesting → run (at (frame_of_list form no_trees ∷ fs) at_predicate) (y ++ 41 ∷ x) ≡ run (at fs (after_predicate (tree_of_list form ps))) x
 
@@ -329,7 +329,7 @@ mutual
       row_reads x qs row form fs (41 ∷ rest) deep ∙ one_step (frame_of_list form qs ∷ fs) at_predicate 41 rest _ (close_row form fs qs)
   list_of_reads y ps (with_last x t a qs p row one blanks) = list_last x t a qs p (row_reads x qs row) (predicate_reads t p one) blanks
 
--- what stands before the next predicate leads there
+-- the text before the next predicate leads to where that begins
 opened_reads : (frames : List Frame) (y x : List ℕ) → HasOpened frames y → length frames ≤ max_nesting → run (at [] at_predicate) (y ++ x) ≡ run (at frames at_predicate) x
 opened_reads [] y x blanks h = skip_before [] y x blanks
 opened_reads (in_not ∷ outer) y x o h =

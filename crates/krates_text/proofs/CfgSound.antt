@@ -1,4 +1,4 @@
--- What is read is in the grammar.
+-- What is read belongs to the grammar.
 use Rattle.std.proofs.Common.{◌≡◌, ℕ, ◌+◌, ◌<◌, ◌≤◌, true, false, List, [], ◌∷◌, ◌++◌, length, refl, sym, ap, subst, ◌∙◌, arith, inl, inr, append_assoc, append-nil, eqb}
 use Rattle.std.specs.Prelude.{Result, Ok, Err, codes, nat_lt}
 use Rattle.std.specs.List.{AllByRecursion}
@@ -79,7 +79,7 @@ record Holds (s : State) (x : List ℕ) : Type 0 where
   read : IsAt s.frames s.place x
   deep : length s.frames ≤ max_nesting
 
--- what a step gives is right of the text that was read
+-- the result of a step is right for the text read so far
 abbrev IsSound : Result State Fault → List ℕ → Type 0
 IsSound (Ok s) x = Holds s x
 IsSound (Err syntax') x = Unit {0}
@@ -238,7 +238,7 @@ sound_closed (in_any ps ∷ outer) p x i h =
       deep = omega arith;
     }
 
--- a byte after a predicate
+-- one more byte after a predicate
 sound_after : (fs : List Frame) (p : Tree) (x : List ℕ) (c : ℕ) → IsAfter fs p x → length fs ≤ max_nesting → IsSound (step_after fs p c) (x ++ c ∷ [])
 unfolding step_after
 sound_after fs p x c i h =
@@ -262,7 +262,7 @@ sound_after fs p x c i h =
     (λ e. subst (λ k. IsSound (closed_after fs p) (x ++ k ∷ [])) (sym (eqb-true c 41 e)) (sound_closed fs p x i h))
     (λ _. tt)))
 
--- a word that is no form is a predicate
+-- a word that isn't a form is a predicate
 leaf_is : (w : List ℕ) → IsWord w → is_form w ≡ false → IsPredicate w (leaf w) × (nesting (leaf w) ≡ 0)
 leaf_is w is form =
     cond_both (bytes_eq w (codes "true")) _ _ (λ p. IsPredicate w p × (nesting p ≡ 0))
@@ -271,7 +271,7 @@ leaf_is w is form =
     (λ e. (subst (λ v. IsPredicate v (constant false)) (sym ((bytes_eq-Decides w (codes "false")).0 e)) is_false, refl))
     (λ not_false. (is_word w (is, or_from _ _ (or_from _ _ form not_true) not_false), refl)))
 
--- the frame of a name
+-- a name opens its frame
 frame_opens : (fs : List Frame) (w a x : List ℕ) → IsAtWord fs w a x → is_form w ≡ true → length fs < max_nesting → HasOpened (frame_for w ∷ fs) (x ++ 40 ∷ [])
 frame_opens fs w a x i form h =
     let grown : x ++ 40 ∷ [] ≡ i.front ++ (w ++ (a ++ 40 ∷ [])) = ap (λ v. v ++ 40 ∷ []) i.is ∙ simp append_assoc in
@@ -303,7 +303,7 @@ sound_opened fs w a x i h =
     }))
     (λ _. tt)
 
--- a byte after a word
+-- one more byte after a word
 sound_word : (fs : List Frame) (w a x : List ℕ) (c : ℕ) → IsAtWord fs w a x → length fs ≤ max_nesting → IsSound (step_word fs w c) (x ++ c ∷ [])
 unfolding step_word
 sound_word fs w a x c i h =
@@ -358,7 +358,7 @@ word_more : (w : List ℕ) (c : ℕ) → IsWord w → is_word_part c ≡ true �
 word_more [] c h e = absurd h
 word_more (b ∷ w) c h e = (h.0, all_more _ w c h.1 e)
 
--- a byte at any place
+-- one more byte at any place
 sound_step : (fs : List Frame) (place : Place) (x : List ℕ) (c : ℕ) → IsAt fs place x → length fs ≤ max_nesting → IsSound (step fs place c) (x ++ c ∷ [])
 unfolding step
 sound_step fs at_predicate x c i h =
@@ -463,7 +463,7 @@ sound_step fs (at_end p) x c i h =
     })
     (λ _. tt)
 
--- one form too many stays so
+-- one form too many remains one too many
 too_many_more : (x t : List ℕ) → OpensTooMany x → OpensTooMany (x ++ t)
 too_many_more x t o = record {
   frames = o.frames;
@@ -490,7 +490,7 @@ sound_run (c ∷ text) x s h = on (step s.frames s.place c) (sound_step s.frames
     on (Err syntax') k more = tt
     on (Err too_deep) k more = subst OpensTooMany regrouped (too_many_more (x ++ c ∷ []) text k)
 
--- what was read of the whole text
+-- the result of reading a whole text is right
 abbrev pub IsRight : Result Tree Fault → List ℕ → Type 0
 IsRight (Ok p) text = IsWhole p text
 IsRight (Err syntax') text = Unit {0}

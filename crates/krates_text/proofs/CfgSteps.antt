@@ -1,4 +1,4 @@
--- A character is read as its bytes are, one after another.
+-- A character is read as its bytes, one after another.
 use Rattle.std.proofs.Common.{◌≡◌, ◌≢◌, ℕ, ◌<◌, ◌≤◌, false, List, [], ◌∷◌, ◌++◌, length, get_or, refl, sym, ap, subst, ◌∙◌, arith, inl, inr, append-nil, eqb}
 use Rattle.std.specs.Prelude.{Result, Ok, Err, IsErrAnd, encode_utf8}
 use Rattle.std.proofs.lemmas.Bool.{cases_Bool, cases_lt, ne_eqb, or_from, and_right, lt-leb, eqb-true, eqb-false}
@@ -20,7 +20,7 @@ then_ok (Err e) = refl
 len_some : (c : ℕ) → 0 < length (encode_utf8 c)
 len_some c = omega (arith, length-le-encodes (c ∷ []), ap length (append-nil (encode_utf8 c)))
 
--- the bytes of a character are none of another's
+-- no byte of a character is another character of ASCII
 other_bytes : (c k : ℕ) → k < 128 → c ≢ k → (i : ℕ) → i < length (encode_utf8 c) → get_or (encode_utf8 c) i 0 ≢ k
 other_bytes c k small differs i within = NoCharPasses-char k (encode_utf8 c) i (c ∷ [], append-nil (encode_utf8 c), (ne_eqb c k differs, tt)) small within
 
@@ -51,7 +51,7 @@ big_byte c big b rest e = elim (cases_lt b 128) [
   | inr h ↦ h
 ]
 
--- past ASCII a character is a fault, but in a string
+-- past ASCII a character is a fault, except in a string
 big_fault : (fs : List Frame) (place : Place) (c : ℕ) → 128 ≤ c → ((key string : List ℕ) → place ≢ in_string key string) → step fs place c ≡ Err syntax'
 unfolding step
 big_fault fs at_predicate c h other = rw (big_blank c h, ne_eqb c 41 (λ e. omega arith), big_start c h) refl
@@ -91,7 +91,7 @@ step_at_is fs (in_string key string) c = in_a_string fs key string c
 step_at_is fs (after_predicate p) c = not_in_string fs (after_predicate p) c (λ key string e. cc)
 step_at_is fs (at_end p) c = not_in_string fs (at_end p) c (λ key string e. cc)
 
--- an error that came by `?`
+-- an error that `?` returned
 pub given_err : (r : Result Predicate CfgError) (e : CfgError) (total : Result Tree Fault) → IsErrAnd r (λ y. y ≡ e) → Fails e total → GivesTree r total
 given_err (Ok p) e total h f = absurd h
 given_err (Err y) e total h f = subst (λ z. Fails z total) (sym h) f
@@ -104,7 +104,7 @@ reads_on fs place c rest more next total split whole e =
     ∙ ap (run (at fs place)) (sym split)
     ∙ whole
 
--- a fault in the middle is the fault of the whole
+-- a fault in the middle is a fault of the whole
 pub fails_whole : (fs : List Frame) (place : Place) (c : ℕ) (rest more : List ℕ) (total : Result State Fault) (e : CfgError) → rest ≡ encode_utf8 c ++ more → run (at fs place) rest ≡ total → Fails e (step_at fs place c) → Fails e (result_of total)
 fails_whole fs place c rest more total error.Syntax split whole h = ap result_of (sym (reads_on fs place c rest more (Err syntax') total split whole h))
 fails_whole fs place c rest more total error.TooDeep split whole h = ap result_of (sym (reads_on fs place c rest more (Err too_deep) total split whole h))

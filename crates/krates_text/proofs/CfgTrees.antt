@@ -1,4 +1,4 @@
--- The program's `all` and `any`, read at their lists.
+-- `all` and `any` of the program, by their lists.
 use Rattle.std.proofs.Common.{◌≡◌, refl, ap, ◌∙◌, Vec, Global}
 use mathlib.Core.Former.{Count}
 use Rattle.krates_text.specs.declared.cfg.predicate.Predicate.{Predicate, All, All', Any, Any', Row_of-Predicate, end_of-Predicate, more_of-Predicate, items-the_row-Predicate, items_hidden-the_row-Predicate-0}

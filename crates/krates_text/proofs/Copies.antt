@@ -4,7 +4,7 @@ use Rattle.std.specs.Prelude.{String}
 use Rattle.std.specs.List.{AllZip}
 use Rattle.std.specs.declared.alloc.Global.{Global}
 
--- texts that are copied one by one have the same bytes
+-- texts that were copied one by one have the same bytes
 pub texts_copied : (texts copies : List (String Global)) → AllZip (λ s t. string_bytes t ≡ string_bytes s) texts copies → map string_bytes copies ≡ map string_bytes texts
 texts_copied [] [] h = refl
 texts_copied [] (t ∷ copies) h = elim h [ ]

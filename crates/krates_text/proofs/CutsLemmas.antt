@@ -1,4 +1,4 @@
--- Laws of texts that are cut at a byte.
+-- Laws of cutting a text at a byte.
 use Rattle.std.proofs.Common.{◌≡◌, ◌≢◌, ℕ, ◌+◌, ◌<◌, ◌≤◌, suc, List, [], ◌∷◌, ◌++◌, length, get_or, take, drop, refl, sym, ap, ◌∙◌, inl, inr, arith, eqb, append_assoc, take-append-drop}
 use Rattle.std.specs.Prelude.{◌⊎◌, MatchOption, Option, Some, None, is_some}
 use Rattle.std.specs.Str.{NoCharPasses}
@@ -8,14 +8,14 @@ use Rattle.std.proofs.lemmas.Bool.{cases_eq}
 use Rattle.std.proofs.lemmas.Str.Pattern.{split_parts, IsSplitOnceResult, NoCharPasses-char, drop_at_char}
 use Rattle.krates_text.specs.Cuts.{Lacks, FirstCut, LastCut, EndsWith, CutsFirst, CutsLast, TellsHas}
 
--- ---- what the methods of `str` answer
+-- ---- what the methods of `str` return
 
--- a byte that is read nowhere is not in the text
+-- a text lacks a byte that is at none of its places
 pub Lacks-from_reads : (c : ℕ) (t : List ℕ) → ((i : ℕ) → i < length t → get_or t i 0 ≢ c) → Lacks c t
 Lacks-from_reads c [] h = tt
 Lacks-from_reads c (b ∷ t) h = (h 0 (omega arith), Lacks-from_reads c t (λ i within. h (suc i) (omega arith)))
 
--- the clause of `split_once` at an ASCII character
+-- what `split_once` promises at an ASCII character
 pub CutsFirst-split_once : (c : ℕ) (t : List ℕ) (r : Option (Bor (List ℕ) × Bor (List ℕ))) → IsSplitOnceResult c t r → c < 128 → CutsFirst c t r
 CutsFirst-split_once c t None h small = Lacks-from_reads c t (split_parts c t None h small)
 CutsFirst-split_once c t (Some p) h small =
@@ -33,14 +33,14 @@ LastCut-found c t x y i j none found front back small =
       lacks = rw back (Lacks-from_reads c (drop j t) (λ k within. NoCharPasses-char c (drop j t) k none small within));
     }
 
--- the clause of `rsplit_once` at an ASCII character
+-- what `rsplit_once` promises at an ASCII character
 pub CutsLast-rsplit_once : (c : ℕ) (t : List ℕ) (r : Option (Bor (List ℕ) × Bor (List ℕ))) → IsRSplitOnceResult c t r → c < 128 → CutsLast c t r
 CutsLast-rsplit_once c t None h small = Lacks-from_reads c t (λ i within. NoCharPasses-char c t i h small within)
 CutsLast-rsplit_once c t (Some p) h small = LastCut-found c t p.0.now p.1.now h.0 h.1 h.2.0 h.2.1 h.3 h.4 small
 
 -- ---- a byte that a text lacks
 
--- a text with a c has it
+-- a text with a `c` in the middle doesn't lack it
 pub Lacks-middle : (c : ℕ) (x y : List ℕ) → Lacks c (x ++ c ∷ y) → ⊥
 Lacks-middle c [] y h = h.0 refl
 Lacks-middle c (b ∷ x) y h = Lacks-middle c x y h.1
@@ -51,12 +51,12 @@ FirstCut-lacks {c} {t} {x} {y} h f = Lacks-middle c x y (rw (← f.is) h)
 pub LastCut-lacks : {c : ℕ} {t x y : List ℕ} → Lacks c t → LastCut c t x y → ⊥
 LastCut-lacks {c} {t} {x} {y} h f = Lacks-middle c x y (rw (← f.is) h)
 
--- the answer of `is_some` on a cut
+-- `is_some` on a cut tells whether the text has the byte
 pub TellsHas-cut : (c : ℕ) (t : List ℕ) (r : Option (Bor (List ℕ) × Bor (List ℕ))) → CutsFirst c t r → TellsHas c t (is_some r)
 TellsHas-cut c t None h = h
 TellsHas-cut c t (Some p) h = λ none. FirstCut-lacks none h
 
--- ---- a text is cut in one way
+-- ---- a text is cut in only one way
 
 first_cut_once : (c : ℕ) (x x' y y' : List ℕ) → Lacks c x → Lacks c x' → x ++ c ∷ y ≡ x' ++ c ∷ y' → (x ≡ x') × (y ≡ y')
 first_cut_once c [] [] y y' h h' e = (refl, cc)
@@ -84,11 +84,11 @@ FirstCut-once {c} {t} {x} {y} {x'} {y'} f g = first_cut_once c x x' y y' f.lacks
 pub LastCut-once : {c : ℕ} {t x y x' y' : List ℕ} → LastCut c t x y → LastCut c t x' y' → (x ≡ x') × (y ≡ y')
 LastCut-once {c} {t} {x} {y} {x'} {y'} f g = last_cut_once c x x' y y' f.lacks g.lacks (sym f.is ∙ g.is)
 
--- the last c of a text's end is the text's last c
+-- the last `c` in the end of a text is the last `c` of the text
 pub LastCut-end : {c : ℕ} {t body x y : List ℕ} (w : EndsWith t body) → LastCut c body x y → LastCut c t (w.front ++ x) y
 LastCut-end {c} {t} {body} {x} {y} w f = record { is = w.is ∙ (ap (λ z. w.front ++ z) f.is ∙ sym (append_assoc w.front x (c ∷ y))); lacks = f.lacks }
 
--- ---- a text is cut, or lacks the byte
+-- ---- a text is cut at a byte or lacks it
 
 first_cut : (c b : ℕ) (t : List ℕ) → (b ≡ c) ⊎ (b ≡ c → ⊥) → Lacks c t ⊎ ((x y : List ℕ) × FirstCut c t x y) → Lacks c (b ∷ t) ⊎ ((x y : List ℕ) × FirstCut c (b ∷ t) x y)
 first_cut c b t (inl same) rest = inr ([], t, record { is = ap (λ z. z ∷ t) same; lacks = tt })

@@ -1,4 +1,4 @@
--- Each text is one feature reference.
+-- Each text is exactly one feature reference.
 use Rattle.std.proofs.Common.{◌≡◌, ℕ, List, [], ◌∷◌, ◌++◌, refl, sym, ◌∙◌, ap, inl, inr, append_assoc}
 use Rattle.std.specs.Prelude.{codes}
 use Rattle.std.proofs.lemmas.List.{append_cancel_left}
@@ -6,7 +6,7 @@ use Rattle.krates_text.specs.Text.{LacksText}
 use Rattle.krates_text.specs.FeatureReference.{Reference, krate, weak, strong, simple, IsReference, HasOneReading}
 use Rattle.krates_text.proofs.Text.{begins_or_not, cut_or_lacks, cut_once}
 
--- a text that has "?/" has "/"
+-- a text with "?/" has a "/"
 slash_in_weak : (text before after : List ℕ) → text ≡ before ++ (codes "?/" ++ after) → LacksText (codes "/") text → ⊥
 slash_in_weak text before after e lacks = lacks (before ++ 63 ∷ []) after (e ∙ sym (append_assoc before (63 ∷ []) (47 ∷ after)))
 

@@ -1,4 +1,4 @@
--- Laws of components.
+-- Laws of the components of a path.
 use Rattle.std.proofs.Common.{◌≡◌, ◌≢◌, ℕ, true, false, Bool, List, [], ◌∷◌, ◌++◌, length, refl, sym, ap, ap₂, subst, ◌∙◌, arith, ◌⊎◌, inl, inr, eqb, append_assoc, append-nil, length-append, not, ◌||◌}
 use Rattle.std.specs.Prelude.{cond, filter, slice_index_or}
 use Rattle.std.specs.Str.{bytes_eq}
@@ -23,7 +23,7 @@ start_is (b ∷ rest) = by_cases (eqb b slash)
     (λ e. rw e refl)
     (λ e. rw (e, nothing_before_slash rest) refl)
 
--- the library's components are these
+-- the library's components are those of the definition
 pub components_is : (text : List ℕ) → path_components text ≡ components text
 unfolding path_components path_names
 components_is text = ap (λ s. s ++ names text) (sym (start_is text))
@@ -88,7 +88,7 @@ components-nil = refl
 components-root : components root_dir ≡ root_dir ∷ []
 components-root = refl
 
--- what has no slash isn't the root
+-- a text without a slash isn't the root
 lacks_not_root : (text : List ℕ) → Lacks slash text → text ≢ root_dir
 lacks_not_root text h e = let at_root : Lacks slash root_dir = subst (Lacks slash) e h in at_root.0 refl
 
@@ -96,7 +96,7 @@ lacks_not_root text h e = let at_root : Lacks slash root_dir = subst (Lacks slas
 components-name : (x name : List ℕ) → Lacks slash name → is_name name ≡ true → components (x ++ slash ∷ name) ≡ components (or_root x) ++ name ∷ []
 components-name x name h e = components-slash x name ∙ ap (λ l. components (or_root x) ++ l) (names-lacks name h ∙ rw e refl)
 
--- any other piece after a slash is none
+-- any other piece after a slash adds no component
 components-trailing : (x piece : List ℕ) → Lacks slash piece → is_name piece ≡ false → components (x ++ slash ∷ piece) ≡ components (or_root x)
 components-trailing x piece h e =
     components-slash x piece ∙ ap (λ l. components (or_root x) ++ l) (names-lacks piece h ∙ rw e refl) ∙ append-nil (components (or_root x))
@@ -105,7 +105,7 @@ begins_before : (x y text : List ℕ) → BeginsWith (x ++ slash ∷ y) text →
 begins_before [] y text b = record { rest = y ++ b.rest; is = b.is }
 begins_before (c ∷ x) y text b = record { rest = (slash ∷ y) ++ b.rest; is = b.is ∙ append_assoc (c ∷ x) (slash ∷ y) b.rest }
 
--- what is left of a path while trailing pieces are taken off
+-- what remains of a path while trailing pieces are taken off
 pub record IsTrimming (path rest : List ℕ) : Type 0 where
   pub begins : BeginsWith rest path
   pub same : components path ≡ components rest
@@ -116,7 +116,7 @@ not_trimmed path = record { begins = record { rest = []; is = sym (append-nil pa
 trimming_begins : (path rest before piece : List ℕ) → IsTrimming path rest → LastCut slash rest before piece → BeginsWith (or_root before) path
 trimming_begins path rest before piece t cut = begins_before before piece path (subst (λ r. BeginsWith r path) cut.is t.begins)
 
--- a piece that is no name is taken off
+-- a piece that isn't a name is taken off
 pub trim_more : (path rest before piece : List ℕ) → IsTrimming path rest → LastCut slash rest before piece → is_name piece ≡ false → IsTrimming path (or_root before)
 trim_more path rest before piece t cut other = record {
   begins = trimming_begins path rest before piece t cut;
@@ -182,7 +182,7 @@ pub no_parent : (path before whole : List ℕ) → SplitsLast path before whole 
 no_parent path before whole s (inl e) = inl (s.same ∙ ap components e)
 no_parent path before whole s (inr e) = inr (s.same ∙ ap components e)
 
--- and any other has what stands before its last component, less what trails there
+-- any other path has a parent: what stands before its last component, without what trails there
 pub parent_is : (path before whole front parent : List ℕ) → SplitsLast path before whole → whole ≢ [] → whole ≢ root_dir → SplitsLast before front parent → IsParent path parent
 parent_is path before whole front parent s some other p =
     let named = s.named some other in
@@ -196,7 +196,7 @@ parent_is path before whole front parent s some other p =
       ends = p.ends;
     }
 
--- lists that end each other are the same
+-- two lists that are ends of each other are the same
 pub same_from_ends : {X : Type 0} (xs ys fronts backs : List X) → xs ≡ fronts ++ ys → ys ≡ backs ++ xs → xs ≡ ys
 same_from_ends xs ys [] backs e f = e
 same_from_ends xs ys (x ∷ fronts) backs e f = absurd (omega (arith, ap length e, ap length f, length-append (x ∷ fronts) ys, length-append backs xs))

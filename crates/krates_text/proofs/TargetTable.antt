@@ -1,4 +1,4 @@
--- The program's table is the table.
+-- The table in the program is the table of the definition.
 use Rattle.std.proofs.Common.{◌≡◌, ℕ, List, [], ◌∷◌, refl, ap, ◌∙◌, inl, inr, map}
 use Rattle.std.specs.Prelude.{Option, Some, None, find}
 use Rattle.std.specs.Option.{option_map, option_copied}
@@ -19,6 +19,6 @@ described_copied : (r : Option (Bor Row)) → option_map (λ row. described row.
 described_copied None = refl
 described_copied (Some row) = refl
 
--- the row that is found among some rows
+-- the row that is found
 pub row_found : (rows : List Row) (triple : List ℕ) (r : Option (Bor Row)) → option_copied r ≡ find (λ row. bytes_eq row.triple.now triple) rows → option_map (λ row. described row.now) r ≡ find (λ d. bytes_eq d.triple triple) (map described rows)
 row_found rows triple r e = described_copied r ∙ ap (option_map described) e ∙ find-described rows triple

@@ -1,4 +1,4 @@
--- Laws of texts that are cut at a separator.
+-- Laws of cutting a text at a separator.
 use Rattle.std.proofs.Common.{◌≡◌, ℕ, ◌+◌, ◌<◌, ◌≤◌, suc, List, [], ◌∷◌, ◌++◌, length, take, drop, refl, arith, ◌⊎◌, inl, inr}
 use Rattle.std.specs.Prelude.{MatchOption, Option, Some, None}
 use Rattle.std.specs.Str.Pattern.{FindsText}
@@ -9,11 +9,11 @@ use Rattle.std.proofs.lemmas.Bool.Decides.{eqb_tells}
 use Rattle.std.proofs.Math.Seq.{drop-append_seam}
 use Rattle.krates_text.specs.Text.{BeginsWith, LacksText, IsCutAtFirst}
 
--- the clause of `split_once` at a text
+-- what `split_once` promises at a text
 abbrev pub IsSplitOnceResult : List ℕ → List ℕ → Option (Bor (List ℕ) × Bor (List ℕ)) → Type 0
 IsSplitOnceResult p bs r = MatchOption r (FindsText p bs None) (λ x. (i : ℕ) × (j : ℕ) × FindsText p bs (Some (i, j)) × (x.0.now ≡ take i bs) × (x.1.now ≡ drop j bs) × (i ≤ j) × (length x.0.now ≡ i) × (length x.1.now + j ≡ length bs))
 
--- where it is found, this is its first place
+-- a separator that was found is cut at its first place
 pub cut_at_first : (p bs : List ℕ) (x : Bor (List ℕ) × Bor (List ℕ)) → IsSplitOnceResult p bs (Some x) → IsCutAtFirst p bs x.0.now x.1.now
 cut_at_first p bs x h = record {
   is = split_text_parts p bs (Some x) h;
@@ -23,7 +23,7 @@ cut_at_first p bs x h = record {
       omega arith;
 }
 
--- where it is not found, it stands nowhere
+-- a separator that wasn't found stands nowhere
 pub lacks_text : (p bs : List ℕ) → IsSplitOnceResult p bs None → LacksText p bs
 lacks_text p bs h = split_text_parts p bs None h
 
@@ -75,7 +75,7 @@ cut_or_lacks separator (c ∷ text) = elim (begins_or_not separator (c ∷ text)
   ]
 ]
 
--- of two texts that are the same, beginnings of one length are the same
+-- beginnings of the same length, in the same text, are the same
 pub same_front : (a x b y : List ℕ) → length a ≡ length x → a ++ b ≡ x ++ y → (a ≡ x) × (b ≡ y)
 same_front [] [] b y n e = (refl, e)
 same_front [] (d ∷ x) b y n e = absurd (omega arith)
@@ -84,7 +84,7 @@ same_front (c ∷ a) (d ∷ x) b y n e =
     let rest = same_front a x b y (omega arith) (cc) in
     (let same = rest.0 in cc, rest.1)
 
--- a separator has one first place
+-- a separator has only one first place
 pub cut_once : (separator text a b x y : List ℕ) → IsCutAtFirst separator text a b → IsCutAtFirst separator text x y → (a ≡ x) × (b ≡ y)
 cut_once separator text a b x y h k =
     let shorter = h.first x y k.is in

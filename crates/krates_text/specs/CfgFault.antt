@@ -1,4 +1,4 @@
--- Which fault a text has that is no expression.
+-- Which fault a text has that isn't an expression.
 use Rattle.std.specs.Prelude.{ℕ, List}
 use Rattle.krates_text.specs.declared.cfg.CfgError.{CfgError}
 use Rattle.krates_text.specs.declared.cfg.CfgError.TheVariants as error

@@ -32,7 +32,7 @@ is_blank c = c == 32 || c == 9 || c == 10 || c == 13
 abbrev pub AreBlanks : List ℕ → Type 0
 AreBlanks text = AllByRecursion (λ c. IsTrue (is_blank c)) text
 
--- a number of this stretch
+-- a number in this range
 abbrev pub is_between : ℕ → ℕ → ℕ → Bool
 is_between low high c = nat_le low c && nat_le c high
 
@@ -40,7 +40,7 @@ is_between low high c = nat_le low c && nat_le c high
 abbrev pub is_word_start : ℕ → Bool
 is_word_start c = is_between 97 122 c || is_between 65 90 c || c == 95
 
--- or a digit
+-- such a letter, or a digit
 abbrev pub is_word_part : ℕ → Bool
 is_word_part c = is_word_start c || is_between 48 57 c
 
@@ -53,11 +53,11 @@ IsWord (c ∷ rest) = IsTrue (is_word_start c) × AllByRecursion (λ b. IsTrue (
 abbrev pub is_form : List ℕ → Bool
 is_form w = bytes_eq w (codes "all") || bytes_eq w (codes "any") || bytes_eq w (codes "not")
 
--- the names that are no predicates
+-- the names that can't stand as a word of their own
 abbrev pub is_reserved : List ℕ → Bool
 is_reserved w = is_form w || bytes_eq w (codes "true") || bytes_eq w (codes "false")
 
--- a word that is no form and no constant
+-- a word that is neither a form nor a constant
 abbrev pub IsFreeWord : List ℕ → Type 0
 IsFreeWord w = IsWord w × (is_reserved w ≡ false)
 
@@ -92,7 +92,7 @@ abbrev mutual
   nesting (word w) = 0
   nesting (pair key string) = 0
 
-  -- of the deepest of a list
+  -- the deepest nesting in a list
   pub nesting_among : Trees → ℕ
   nesting_among no_trees = 0
   nesting_among (tree p ps) = max (nesting p) (nesting_among ps)
@@ -151,6 +151,6 @@ pub record IsTooDeep (text : List ℕ) : Type 0 where
   pub is : text ≡ codes "cfg(" ++ behind
   pub opens : OpensTooMany behind
 
--- the text is no expression
+-- the text isn't an expression
 abbrev pub IsNoExpression : List ℕ → Type 0
 IsNoExpression text = (p : Tree) → IsExpression text p → ⊥

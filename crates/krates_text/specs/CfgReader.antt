@@ -3,7 +3,7 @@ use Rattle.std.specs.Prelude.{ℕ, ◌==◌, true, false, nat_lt, if◌then◌el
 use Rattle.std.specs.Str.{bytes_eq}
 use Rattle.krates_text.specs.CfgGrammar.{Tree, all_of, any_of, not_of, constant, word, pair, no_trees, added, is_blank, is_word_start, is_word_part, is_reserved, is_form, max_nesting, Frame, in_not, in_all, in_any}
 
--- why a text is no expression
+-- why a text isn't an expression
 pub data Fault : Type 0 where
   syntax' : Fault
   too_deep : Fault
@@ -111,6 +111,6 @@ abbrev pub result_of : Result State Fault → Result Tree Fault
 result_of (Ok s) = finished s.place
 result_of (Err e) = Err e
 
--- what the text behind `cfg(` is
+-- what the text behind `cfg(` reads as
 abbrev pub read : List ℕ → Result Tree Fault
 read text = result_of (run (at [] at_predicate) text)

@@ -1,4 +1,4 @@
--- What a cfg expression is at a target, and how much it asks (Rust Reference, "Conditional compilation").
+-- The value of a cfg expression at a target, and how many words and pairs it has (Rust Reference, "Conditional compilation").
 use Rattle.std.specs.Prelude.{ℕ, ◌+◌, Bool, true, false, not, ◌&&◌, ◌||◌, if◌then◌else◌, List, codes}
 use Rattle.std.specs.List.{list_any}
 use Rattle.std.specs.Str.{bytes_eq}
@@ -9,12 +9,12 @@ use Rattle.krates_text.specs.CfgGrammar.{Tree, all_of, any_of, not_of, constant,
 abbrev pub has_text : List (List ℕ) → List ℕ → Bool
 has_text texts text = list_any (λ t. bytes_eq t text) texts
 
--- a word: the two families that have one
+-- a word: only `unix` and `windows` can be true
 abbrev pub word_value : DescribedTarget → List ℕ → Bool
 word_value (builtin d) w = (bytes_eq w (codes "unix") || bytes_eq w (codes "windows")) && has_text d.families w
 word_value (unknown text) w = false
 
--- a pair, but that of features
+-- a pair, other than one of features
 abbrev pub described_value : DescribedTarget → List ℕ → List ℕ → Bool
 described_value (unknown text) key string = false
 described_value (builtin d) key string =
@@ -30,7 +30,7 @@ described_value (builtin d) key string =
     else (if bytes_eq key (codes "panic") then bytes_eq d.panic string
     else false)))))))))
 
--- a pair: a feature is asked of those that were handed in
+-- a pair: a feature is looked for among those that the caller gave
 abbrev pub pair_value : DescribedTarget → List (List ℕ) → List ℕ → List ℕ → Bool
 pair_value target features key string = if bytes_eq key (codes "target_feature") then has_text features string else described_value target key string
 
@@ -64,7 +64,7 @@ abbrev mutual
   count (word w) = 1
   count (pair key string) = 1
 
-  -- of a list, together
+  -- in all predicates of a list
   pub count_among : Trees → ℕ
   count_among no_trees = 0
   count_among (tree p ps) = count p + count_among ps

@@ -1,4 +1,4 @@
--- What a text has in it, and where.
+-- What a text contains, and where.
 use Rattle.std.specs.Prelude.{◌≡◌, ◌≢◌, ℕ, ◌≤◌, List, ◌++◌, length}
 
 -- the text begins with these bytes

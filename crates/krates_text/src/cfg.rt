@@ -1,4 +1,4 @@
-//! cfg expressions: which text is one, what it asks of a target, and whether a target answers it.
+//! cfg expressions: which text is one, what it asks of a target, and whether it is true there.
 //!
 //! Source: the Rust Reference, "Conditional compilation".
 ghost use Rattle.std.specs.Prelude.{◌≡◌};
@@ -13,7 +13,7 @@ pub use expression::Expression;
 use std::alloc::{AllocError, AllocFailed};
 use thiserror::Error;
 
-/// Why a text is no cfg expression.
+/// Why a text isn't a cfg expression.
 #[derive(Clone, Copy, Debug, PartialEq, Eq, Error)]
 pub enum CfgError {
     /// The text is outside the grammar.

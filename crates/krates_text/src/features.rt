@@ -13,14 +13,14 @@ pub enum Feature<'f> {
     Weak {
         /// The name of the dependency.
         krate: &'f str,
-        /// The feature of it.
+        /// Its feature.
         feature: &'f str,
     },
     /// `<crate>/<feature>`: a feature of a dependency, which it also enables.
     Strong {
         /// The name of the dependency.
         krate: &'f str,
-        /// The feature of it.
+        /// Its feature.
         feature: &'f str,
     },
     /// A feature of the same crate.
@@ -37,15 +37,15 @@ pub struct ParsedFeature<'f> {
 impl<'f> From<&'f str> for ParsedFeature<'f> {
     ghost from_gives = { λ text parsed. parsed.text.now ≡ text.now };
 
-    /// The reference that is written so; `feat` says what it enables. Time O(1).
+    /// The reference with this text; `feat` says what it enables. Time O(1).
     fn from(text: &'f str) -> Self {
         ParsedFeature { text }
     }
 }
 
 impl<'f> ParsedFeature<'f> {
-    /// The reference that the text is: what follows `dep:` at its start; else what stands on the two sides of its
-    /// first `?/`; else of its first `/`; else all of it, which may be empty. Time O(length).
+    /// The reference that the text is: what follows `dep:` at its start; otherwise what stands on the two sides of its first
+    /// `?/`, or else of its first `/`; otherwise all of it, which may be empty. Time O(length).
     ///
     /// ```text
     /// let reference = ParsedFeature::from("serde?/std").feat();

@@ -10,9 +10,9 @@ use crate::cfg::{CfgError, Expression};
 use crate::target::Target;
 use std::alloc::{AllocError, Global};
 
-/// Whether a target text passes. No text does. A text that is a cfg expression passes where one single target makes
-/// the whole of it true, and any other where it is the printed text of a target. Without targets all pass but a
-/// false expression without predicates, as `cfg(any())`. The only error is running out of memory.
+/// Whether a target text passes. A dependency without one always passes. A text that is a cfg expression passes if a single
+/// target makes the whole of it true; any other passes if it is the printed text of a target. Without targets all pass, except a
+/// false expression without predicates, such as `cfg(any())`. The only error is running out of memory.
 ///
 /// Time O(length of the text), and for each target O(predicates of the expression × features of the target).
 ///

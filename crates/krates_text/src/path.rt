@@ -37,8 +37,8 @@ pub fn parent(path: &str) -> Option<&str>
     Some(parent)
 }
 
-/// The path `path` as it is meant at `base`: itself where it begins with `/`, and else the two with a `/` between
-/// unless the base is empty or ends with one. The only error is running out of memory. Time O(length of both).
+/// The path `path` as seen from `base`: itself if it begins with `/`, otherwise the two with a `/` between, unless the base is
+/// empty or ends with one. The only error is running out of memory. Time O(length of both).
 ///
 /// ```text
 /// assert_eq!(rt; join(alloc, "/w/a", "../b")?.as_str(), "/w/a/../b");

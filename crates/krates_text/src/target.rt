@@ -11,27 +11,27 @@ use std::fmt;
 /// What a target is, by the texts that a cfg expression compares. A caller may describe a target of its own.
 #[derive(Debug, Drop)]
 pub struct TargetInfo {
-    /// Its triple, as `x86_64-unknown-linux-gnu`.
+    /// Its triple, such as `x86_64-unknown-linux-gnu`.
     pub triple: String,
-    /// What `target_arch` is compared with, as `x86_64`.
+    /// What `target_arch` is compared with, such as `x86_64`.
     pub arch: String,
-    /// `target_os`, as `linux`.
+    /// `target_os`, such as `linux`.
     pub os: String,
-    /// `target_env`, as `gnu`; empty where there is none.
+    /// `target_env`, such as `gnu`; empty if there is none.
     pub env: String,
     /// `target_abi`; mostly empty.
     pub abi: String,
-    /// `target_vendor`, as `unknown`.
+    /// `target_vendor`, such as `unknown`.
     pub vendor: String,
-    /// `target_pointer_width`, as `64`.
+    /// `target_pointer_width`, such as `64`.
     pub pointer_width: String,
-    /// `target_endian`, as `little`.
+    /// `target_endian`, such as `little`.
     pub endian: String,
-    /// `panic`, as `unwind`.
+    /// `panic`, such as `unwind`.
     pub panic: String,
-    /// `target_family`, each of them, as `unix`.
+    /// `target_family`, each of them, such as `unix`.
     pub families: Vec<String>,
-    /// `target_has_atomic`, each width, as `64`.
+    /// `target_has_atomic`, each width, such as `64`.
     pub atomics: Vec<String>,
 }
 
@@ -171,7 +171,7 @@ fn find_row<'r>(rows: &'r [Row], triple: &str) -> Option<&'r Row>
     rows.iter().find(|row| row.triple == triple)
 }
 
-/// The same, told by what the rows describe.
+/// The same, by what the rows describe.
 fn described_row<'r>(rows: &'r [Row], triple: &str) -> Option<&'r Row>
     ensures { option_map (λ row. described row.now) result
         ≡ find (λ d. bytes_eq d.triple triple.now) (map described rows.now) }

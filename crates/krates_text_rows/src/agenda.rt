@@ -1,9 +1,9 @@
-//! The agenda: each number is taken once, in the order of the puts.
+//! The agenda: each number is taken once, in the order in which they were put.
 
 use krates_graph::agenda::{Agenda, Taken};
 use std::test::Fail;
 
-/// The number that was taken, where one was.
+/// The number that was taken, if one was.
 fn number(taken: Option<Taken>) -> Option<usize> {
     taken.map(|taken| taken.number())
 }

@@ -1,4 +1,4 @@
-//! cfg expressions: their values at targets, what they count, and which text is none.
+//! cfg expressions: their values at targets, what they count, and which text isn't one.
 
 use krates_samples::table::{Question, Row, hold};
 use krates_text::cfg::{CfgError, Expression};
@@ -56,10 +56,10 @@ const VALUES: &[Row] = &[
     ("x86_64-unknown-linux-gnu cfg(foo)", "false"),
 ];
 
-/// What a text that is no expression is refused with.
+/// The refusal of a text that isn't an expression.
 const SYNTAX: &str = "bad cfg expression";
 
-/// What one is refused with that nests too deep.
+/// The refusal of one that nests too deep.
 const TOO_DEEP: &str = "cfg expression too deep";
 
 /// An expression, and how many words and pairs it asks for.
@@ -134,7 +134,7 @@ fn is_true_or_false_at_a_target(rt: HostRuntime) -> Result<(), Fail> {
     hold::<Value>(rt.alloc(), VALUES)
 }
 
-/// What an expression asks for, counted, or why a text is none.
+/// What an expression asks for, counted, or why a text isn't one.
 struct Counted;
 
 impl Question for Counted {
@@ -156,19 +156,19 @@ fn refuses_what_is_outside(rt: HostRuntime) -> Result<(), Fail> {
     hold::<Counted>(rt.alloc(), OUTSIDE)
 }
 
-/// The beginning of an expression, in which so many forms are opened.
+/// The beginning of an expression in which this many forms are opened.
 pub(crate) fn opened(alloc: Global, times: usize) -> Result<String, AllocError> {
     format!(in alloc; "cfg({}", "not(".repeat(alloc, times)?)
 }
 
-/// An expression of so many forms in one another, with a text in the innermost.
+/// An expression of this many nested forms, with a text in the innermost.
 fn nested(alloc: Global, times: usize, inner: &str) -> Result<String, AllocError> {
     let opened = opened(alloc, times)?;
     let closed = ")".repeat(alloc, times)?;
     format!(in alloc; "{opened}{inner}{closed})")
 }
 
-/// What an expression of forms in one another asks for.
+/// What an expression of nested forms asks for.
 struct FormsInOneAnother;
 
 impl Question for FormsInOneAnother {
@@ -184,7 +184,7 @@ fn nests_at_most_127_forms(rt: HostRuntime) -> Result<(), Fail> {
     hold::<FormsInOneAnother>(rt.alloc(), NESTED)
 }
 
-/// Why the beginning of one with so many forms is none.
+/// Why the beginning of an expression with too many forms isn't one.
 struct OpenedForms;
 
 impl Question for OpenedForms {

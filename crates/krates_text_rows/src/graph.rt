@@ -1,4 +1,4 @@
-//! The graph: its limits, its edges by number, and what is read of it.
+//! The graph: its limits, its edges by number, and what is read from it.
 
 use krates_graph::graph::{Direction, EdgeId, Graph, GraphError, NodeId};
 use krates_samples::table;
@@ -62,7 +62,7 @@ const EDGES_BETWEEN_FEATURES: &[(u32, Direction, &str)] = &[
     ),
 ];
 
-/// A graph of these nodes, with room for so many edges.
+/// A graph of these nodes, with room for this many edges.
 fn nodes_of(alloc: Global, nodes: &[char], edges: usize) -> Result<Graph<char, u8>, Fail> {
     let nodes_at_most = u32::try_from(nodes.len())?;
     let edges_at_most = u32::try_from(edges)?;
@@ -109,7 +109,7 @@ fn told(
     Ok(text)
 }
 
-/// Compares what is told of each node and direction with what is expected.
+/// Compares the edges of each node and direction with what is expected.
 fn hold(
     alloc: Global,
     graph: &Graph<char, u8>,
@@ -204,8 +204,7 @@ fn edge_numbers_of_features_between_crates(rt: HostRuntime) -> Result<(), Fail> 
     hold(rt.alloc(), &graph, EDGES_BETWEEN_FEATURES)
 }
 
-/// Whether a node and an edge of it are added under the next numbers, or the one that isn't is handed back and changes
-/// nothing.
+/// Whether a node and an edge of it are added under the next numbers, or the one that isn't is given back and changes nothing.
 fn grows_or_stays(graph: &mut Graph<u32, u32>, value: u32) -> bool {
     let nodes = graph.node_count();
     let edges = graph.edge_count();

@@ -54,7 +54,7 @@ const AT_AN_UNKNOWN_TARGET: &[(Option<&str>, bool)] = &[
     (None, true),
 ];
 
-/// The same where it has a feature.
+/// The same with a feature.
 const WITH_A_FEATURE: &[(Option<&str>, bool)] = &[
     (Some("x"), true),
     (Some("cfg(target_feature = \"atomics\")"), true),
@@ -62,7 +62,7 @@ const WITH_A_FEATURE: &[(Option<&str>, bool)] = &[
     (Some("cfg(all(unix, target_feature = \"atomics\"))"), false),
 ];
 
-/// The same where its text begins like an expression and is none.
+/// The same where its text begins like an expression and isn't one.
 const AT_A_BAD_EXPRESSION: &[(Option<&str>, bool)] = &[
     (Some("cfg(unix"), true),
     (Some("cfg(unix)"), false),

@@ -9,7 +9,7 @@ use crate::read_error::ReadError;
 use serde_json::Value;
 use std::alloc::Global;
 
-/// Refuses what is no object, as `WrongType` of its key.
+/// Refuses what isn't an object, as `WrongType` of its key.
 pub(crate) fn expect_object(value: &Value, key: &'static str) -> Result<(), ReadError>
     ensures { Gives (λ u. u) result (object key.now (data_of value.now)) }
 {

@@ -16,7 +16,7 @@ pub trait FromValue: Sized + Drop {
 
     ghost view: { Self → Model };
 
-    /// What is read of the data that stands under a key, and which faults are true of it.
+    /// What is read from the data under a key, and which faults are true of it.
     ghost reads: { List ℕ → Data → Reading Model };
 
     /// Reads the value that stands under `key`, which a refusal may name.
@@ -25,7 +25,7 @@ pub trait FromValue: Sized + Drop {
 
     /// Reads a whole value.
     ///
-    /// A refusal is true of the value; where several are, which one is named is left open.
+    /// A refusal is true of the value; if several are, it is left open which one is named.
     final fn from_value(alloc: Global, value: &Value) -> Result<Self, ReadError>
         ensures { Gives view result (reads [] (data_of value.now)) }
     {

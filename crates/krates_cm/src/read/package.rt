@@ -28,7 +28,7 @@ impl FromValue for Source {
     }
 }
 
-/// What a package says of itself.
+/// What a package says about itself.
 #[derive(Drop)]
 pub(crate) struct About {
     pub authors: Vec<String>,

@@ -77,7 +77,7 @@ fn take_resolve(alloc: Global, member: Option<Value>) -> Result<Option<Resolve>,
     }
 }
 
-/// What stands under `packages` and `resolve` in an object; the other members are let go.
+/// What stands under `packages` and `resolve` in an object; the other members are dropped.
 fn large_members(value: Value) -> (Option<Value>, Option<Value>)
     ensures packages { option_map data_of result.0 ≡ get (codes "packages") (data_of value) }
     ensures resolve { option_map data_of result.1 ≡ get (codes "resolve") (data_of value) }
@@ -92,7 +92,7 @@ fn large_members(value: Value) -> (Option<Value>, Option<Value>)
     }
 }
 
-/// Takes the whole document apart: what is small is read before the rest is let go.
+/// Takes the whole document apart: what is small is read before the rest is dropped.
 #[tactic(auto, unfolding(crate::specs::Tables::metadata))]
 pub(crate) fn take_metadata(alloc: Global, value: Value) -> Result<Metadata, ReadError>
     ensures { Gives metadata_view result (metadata [] (data_of value)) }

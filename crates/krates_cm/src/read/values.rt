@@ -84,7 +84,7 @@ impl FromValue for Value {
     }
 }
 
-/// Null is none.
+/// Null is `None`.
 impl<T: FromValue> FromValue for Option<T> {
     ghost Model = { Option T.Model };
 

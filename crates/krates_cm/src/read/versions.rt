@@ -66,7 +66,7 @@ fn has_extra(text: &str) -> bool
     text.bytes().any(|b| b == b'-' || b == b'+')
 }
 
-/// The text with the patch 0, where it has only a major and a minor.
+/// The text with the patch 0, if it has only a major and a minor.
 fn with_patch(alloc: Global, text: &str) -> Result<String, AllocError>
     ensures { IfOk result (λ s. string_bytes s ≡ with_patch text.now) }
 {

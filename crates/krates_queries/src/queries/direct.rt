@@ -12,7 +12,7 @@ use crate::queries::neighbours::{Neighbour, edge_of};
 use krates_graph::graph::{EdgeId, NodeId};
 use std::alloc::{AllocError, Global};
 
-/// What stands for the crate of a number; none for a feature and for no node.
+/// What stands for the crate of a number; `None` for a feature, and where there is no node.
 pub(crate) fn krate_at<N>(nodes: &[Node<N>], number: NodeId) -> Option<&N>
     ensures { option_map (λ krate. krate.now) result ≡ value_at nodes.now number }
 {
@@ -34,7 +34,7 @@ pub(crate) fn is_feature_of<N>(nodes: &[Node<N>], krate: NodeId, number: NodeId)
     }
 }
 
-/// A crate that an edge joins to a node, as a query answers it.
+/// A crate that an edge joins to a node, as a query returns it.
 pub(crate) trait FromJoined<'a, N> {
     /// The crate, its number, and that of the edge.
     ghost joined: { Self → Joined N };
@@ -46,7 +46,7 @@ pub(crate) trait FromJoined<'a, N> {
         ensures { joined result ≡ record { krate = krate.now; node = node_id; edge = edge_id } };
 }
 
-/// Adds the crate of a number, with the first edge by which it is a neighbour; nothing where it is none.
+/// Adds the crate of a number, with the first edge by which it is a neighbour; nothing if it isn't one.
 fn push_joined<'a, N, J: FromJoined<'a, N> + Drop>(
     nodes: &'a [Node<N>],
     neighbours: &[Neighbour],

@@ -57,7 +57,7 @@ impl<'a, N> FromJoined<'a, N> for DirectDependency<'a, N> {
     }
 }
 
-/// The number of the crate of a node: that of a feature's crate, and else the node's own.
+/// The number of the crate of a node: that of a feature's crate, otherwise the node's own.
 fn home_of<N>(nodes: &[Node<N>], number: NodeId) -> NodeId
     ensures { result ≡ home nodes.now number }
 {
@@ -68,7 +68,7 @@ fn home_of<N>(nodes: &[Node<N>], number: NodeId) -> NodeId
     }
 }
 
-/// Adds the crate to which an edge leads, or to a feature of which it does.
+/// Adds the crate to which, or to a feature of which, an edge leads.
 fn push_target<N, E>(
     graph: &Graph<Node<N>, E>,
     edge: EdgeId,
@@ -85,7 +85,7 @@ fn push_target<N, E>(
     Ok(())
 }
 
-/// The crates to which the edges from a node lead, or to features of which they do.
+/// The crates to which, or to features of which, the edges from a node lead.
 fn targets_of<N, E>(
     alloc: Global,
     graph: &Graph<Node<N>, E>,

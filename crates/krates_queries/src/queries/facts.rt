@@ -15,10 +15,10 @@ use std::alloc::AllocError;
 
 impl<N, E> Krates<N, E> {
     /// All that is kept, as facts, each once: the crates, the edges, the enabled features, and the features that other crates'
-    /// features enable. Of a build these are exactly the facts that have a derivation, so `derive::check_closed` accepts the
+    /// features enable. For a build these are exactly the derivable facts, so `derive::check_closed` accepts the
     /// list for its document and setting. Ids are those of the kept crates, with their texts.
     ///
-    /// Each fact comes behind those from which it was found to follow. The only error is running out of memory. Time O(n) in
+    /// Each fact comes after those from which it was found to follow. The only error is running out of memory. Time O(n) in
     /// the facts.
     ///
     /// ```text

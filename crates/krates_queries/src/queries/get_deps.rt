@@ -67,7 +67,7 @@ fn dep_by<'a, N, E>(
 
 impl<N, E> Krates<N, E> {
     /// The node at the end of each outgoing edge of a node, with what the edge carries, by the numbers of the edges;
-    /// nothing for no node. Time O(1), and O(1) for each edge, whatever the graph.
+    /// nothing where there is no node. Time O(1), and O(1) for each edge, whatever the graph.
     ///
     /// ```text
     /// let count = krates.get_deps(NodeId::new(0)).count();

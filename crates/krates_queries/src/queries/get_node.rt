@@ -72,7 +72,7 @@ fn feature_number<N>(nodes: &[Node<N>], krate: usize, name: &str) -> Option<usiz
     }
 }
 
-/// How a node stands to the feature of this name of a crate: a feature by the number of its crate and then by its name, and a
+/// How a node compares with the feature of this name of a crate: a feature by the number of its crate and then by its name, and a
 /// crate before every feature.
 fn compare<N>(node: &Node<N>, krate: usize, name: &str) -> Ordering
     ensures { result ≡ feature_cmp node.now krate name.now }

@@ -36,7 +36,7 @@ fn edge_at(edges: &[GraphEdge<Edge>], id: EdgeId) -> Option<&GraphEdge<Edge>>
     edges.get(id.index())
 }
 
-/// Puts the target of an edge, where the edge passes.
+/// Puts the target of an edge, if the edge passes.
 fn put_target(kind: DepKind, edges: &[GraphEdge<Edge>], id: EdgeId, agenda: &mut Agenda)
     requires { All (HasEnds agenda.old.size) edges.now }
     ensures { Grows (IsTarget kind edges.now id) agenda.old agenda.new }
@@ -103,7 +103,7 @@ fn as_nodes(alloc: Global, numbers: &[usize]) -> Result<Vec<NodeId>, AllocError>
     Ok(nodes)
 }
 
-/// Adds what stands for the crate of a number, where it is one.
+/// Adds what stands for the crate of a number, if it is a crate.
 fn push_krate<'a, N>(
     nodes: &'a [Node<N>],
     number: NodeId,

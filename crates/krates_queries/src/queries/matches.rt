@@ -25,7 +25,7 @@ pub struct KrateMatch<'a, N> {
     pub node_id: NodeId,
 }
 
-/// Kept crates of one name, by increasing number; where a version is asked for, those whose version fits.
+/// Kept crates of one name, by increasing number; if a version is asked for, those whose version fits.
 #[derive(Drop)]
 pub struct Matches<'a, N: KrateDetails> {
     pub(crate) left: &'a [Node<N>],
@@ -72,7 +72,7 @@ impl<'a, N: KrateDetails> Iterator for Matches<'a, N> {
     }
 }
 
-/// Whether the version of a crate fits what is wanted, where something is.
+/// Whether the version of a crate fits what is wanted, if anything is.
 fn is_fitting<N: KrateDetails>(wanted: Option<&VersionReq>, krate: &N) -> bool
     ensures { result ≡ has_fitting N.version_of (option_map (λ req. req.now) wanted.entry) krate.now }
 {
@@ -91,7 +91,7 @@ pub(crate) struct Stretch<'a, N> {
     pub(crate) nodes: &'a [Node<N>],
 }
 
-/// The crates of a name. Ids are sorted by name first, so these stand side by side, and are found by halves.
+/// The crates of a name. Ids are sorted by name first, so these stand side by side, and are found by binary search.
 pub(crate) fn stretch_of<'a, N>(nodes: &'a [Node<N>], name: &str) -> Stretch<'a, N>
     requires { AreNodes nodes.now }
     ensures named { numbered_crates result.number result.nodes.now
@@ -108,7 +108,7 @@ pub(crate) fn stretch_of<'a, N>(nodes: &'a [Node<N>], name: &str) -> Stretch<'a,
     }
 }
 
-/// How a node stands to a name: a crate by that of its id, and a feature behind every crate.
+/// How a node compares with a name: a crate by that of its id, and a feature after every crate.
 fn compare<N>(node: &Node<N>, name: &str) -> Ordering
     ensures { result ≡ name_cmp node.now name.now }
 {

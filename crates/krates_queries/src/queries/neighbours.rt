@@ -1,4 +1,4 @@
-//! Crates that edges join to a node, in order: the least edge of each crate is found by halves.
+//! Crates that edges join to a node, in order: the least edge of each crate is found by binary search.
 
 ghost use Rattle.std.specs.Prelude.{◌≡◌, ◌↔◌, Contains};
 ghost use Rattle.krates_queries.specs.Neighbours.{AreInOrder, first_edge};

@@ -18,8 +18,8 @@ impl<N, E> Krates<N, E> {
     /// numbers of the steps that it uses. `Some` exactly for a node.
     ///
     /// No fact stands twice, and each step but the last is used by a later one. Ids are those of the kept crates, with their
-    /// texts. The list is accepted by `derive::check` for the document and the setting of the build. Which derivation it is,
-    /// where there are several, is left open.
+    /// texts. The list is accepted by `derive::check` for the document and the setting of the build. If there are several, it is
+    /// left open which derivation it is.
     ///
     /// The only error is running out of memory. Time O(n) in the facts of the build.
     ///

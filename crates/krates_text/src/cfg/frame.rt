@@ -47,7 +47,7 @@ pub(crate) fn push(frames: &mut Vec<Frame>, frame: Frame) -> Result<(), CfgError
     Ok(())
 }
 
-/// Takes the innermost form out.
+/// Removes the innermost form.
 pub(crate) fn pop(frames: &mut Vec<Frame>) -> Option<Frame>
     ensures { MatchOption result ((stack frames.old.items ≡ []) × (stack frames.new.items ≡ []))
         (λ f. stack frames.old.items ≡ frame_of f ∷ stack frames.new.items) }

@@ -30,7 +30,7 @@ enum Place {
     AtEnd(Predicate),
 }
 
-/// The predicate that the text behind `cfg(` is, up to its end.
+/// Reads the text behind `cfg(`, up to its end, as a predicate.
 pub(crate) fn read(alloc: Global, text: &str) -> Result<Predicate, CfgError>
     ensures { GivesTree result (read text.now) }
 {
@@ -254,7 +254,7 @@ fn is_form(word: &str) -> bool
     word == "all" || word == "any" || word == "not"
 }
 
-/// Whether the word is none of the grammar's words for predicates.
+/// Whether the word means something in the grammar: a form or a constant.
 fn is_reserved(word: &str) -> bool
     ensures { result ≡ is_reserved word.now }
 {
@@ -267,14 +267,14 @@ fn is_blank(c: char) -> bool
     c == ' ' || c == '\t' || c == '\n' || c == '\r'
 }
 
-/// A letter of ASCII or `_`.
+/// An ASCII letter or `_`.
 fn is_word_start(c: char) -> bool
     ensures { result ≡ is_word_start c }
 {
     ('a' <= c && c <= 'z') || ('A' <= c && c <= 'Z') || c == '_'
 }
 
-/// Or a digit.
+/// An ASCII letter, `_` or a digit.
 fn is_word_part(c: char) -> bool
     ensures { result ≡ is_word_part c }
 {

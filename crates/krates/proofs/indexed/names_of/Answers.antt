@@ -5,7 +5,7 @@ use Rattle.std.proofs.lemmas.List.Folds.{list_any_more}
 use Rattle.std.proofs.lemmas.Map.Text.{btree_set_updates_text}
 use Rattle.krates.proofs.indexed.names_of.Goals as goal
 
--- what is added is found, and the others as before
+-- an added name is found, and any other is as before
 added_or_before : (b x : Bool) → cond b true x ≡ (x || b)
 added_or_before true true = refl
 added_or_before true false = refl

@@ -7,6 +7,6 @@ use Rattle.krates_questions.specs.declared.referent.Referent.{Referent}
 use Rattle.krates_rules.specs.Resolved.{id_of}
 use Rattle.krates_derive.proofs.closing.are_edges_to_in.Given as goal
 
--- it holds of each that is meant so far
+-- it holds of each referent so far
 abbrev pub invariant-loop-referent : goal.invariant-loop-referent
 invariant-loop-referent l = SeenBelow (λ (x : Referent). EdgesIn (document_in l.claim) l.claim.setting.now (facts_in l.claim) (id_of l.krate) (referent_id x) true) l.referent-items l.referent-index

@@ -6,6 +6,6 @@ use Rattle.krates_questions.specs.declared.referent.Referent.{Referent}
 use Rattle.krates_rules.specs.Resolved.{id_of}
 use Rattle.krates_derive.proofs.closing.is_dep_in.Given as goal
 
--- it holds of each that is meant so far
+-- it holds of each referent so far
 abbrev pub invariant-loop-referent : goal.invariant-loop-referent
 invariant-loop-referent l = SeenBelow (λ (x : Referent). MeantIn (document_in l.claim) (facts_in l.claim) (id_of l.krate) (referent_id x) l.name) l.referent-items l.referent-index

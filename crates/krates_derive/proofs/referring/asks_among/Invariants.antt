@@ -5,6 +5,6 @@ use Rattle.krates_derive.specs.Referring.{AsksBy}
 use Rattle.krates_derive.proofs.Seen.{SeenBelow}
 use Rattle.krates_derive.proofs.referring.asks_among.Given as goal
 
--- none so far asks for the edges
+-- no value so far asks for edges to this child
 abbrev pub invariant-loop-value : goal.invariant-loop-value
 invariant-loop-value l = SeenBelow (λ v. AsksBy (document_of l.basis) l.basis.setting.now (id_of l.krate) (text_view v) (id_of l.child) → ⊥) l.values l.value-index

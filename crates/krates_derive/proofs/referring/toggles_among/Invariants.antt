@@ -5,6 +5,6 @@ use Rattle.krates_derive.specs.Referring.{TogglesBy}
 use Rattle.krates_derive.proofs.Seen.{SeenBelow}
 use Rattle.krates_derive.proofs.referring.toggles_among.Given as goal
 
--- none so far is to the feature
+-- no value so far toggles the feature
 abbrev pub invariant-loop-value : goal.invariant-loop-value
 invariant-loop-value l = SeenBelow (λ v. TogglesBy (document_of l.basis) l.basis.setting.now (id_of l.krate) l.weakly (text_view v) (id_of l.toggled.krate.now) l.toggled.name.now → ⊥) l.values l.value-index

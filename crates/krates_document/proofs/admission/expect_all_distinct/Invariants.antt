@@ -3,6 +3,6 @@ use Rattle.std.specs.List.{AllByRecursion}
 use Rattle.krates_document.specs.AdmissionSteps.{AreDistinct}
 use Rattle.krates_document.proofs.admission.expect_all_distinct.Given as goal
 
--- in each list so far none stands twice
+-- no id stands twice in any list so far
 abbrev pub invariant-loop-kids : goal.invariant-loop-kids
 invariant-loop-kids l = AllByRecursion AreDistinct (map (λ kids. kids.items) (take l.kids-index l.lists))

@@ -4,7 +4,7 @@ use Rattle.krates_document.specs.AdmissionSteps.{AreDistinct}
 use Rattle.krates_document.proofs.DistinctIds.{has_id, has_seen}
 use Rattle.krates_document.proofs.admission.expect_distinct.Given as goal
 
--- the set has the ids so far, and none of them stands twice
+-- the set has the ids so far, and no id stands twice among them
 abbrev pub invariant-loop-kid : goal.invariant-loop-kid
 invariant-loop-kid l = record {
   same : (x : Identity) → has_seen l.seen.keys x ≡ has_id (take l.kid-index l.kids) x;

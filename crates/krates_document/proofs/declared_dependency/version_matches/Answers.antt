@@ -8,7 +8,7 @@ use Rattle.krates_cm.specs.Document.{VersionModel, RequirementModel, requirement
 use Rattle.krates_rules.specs.DeclaredDependency.{VersionMatches}
 use Rattle.krates_document.proofs.declared_dependency.version_matches.Goals as goal
 
--- where the requirement doesn't match, what is left is the second case
+-- where the requirement doesn't match, only the second case remains
 unmatched : (v : VersionModel) (req : RequirementModel) (r : Bool) → matches_views req v ≡ false → (IsTrue r → (v.3 ≢ []) × (req ≡ [])) → ((v.3 ≢ []) × (req ≡ []) → IsTrue r)
     → IsTrue r ↔ VersionMatches v req
 unmatched v req r fails there back = (λ t. inr (there t), λ w. elim w [ inl m ↦ absurd cc | inr p ↦ back p ])

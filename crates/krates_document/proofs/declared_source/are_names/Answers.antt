@@ -9,7 +9,7 @@ use Rattle.std.proofs.lemmas.Iterator.Splits.{YieldsList-from_str_split}
 use Rattle.krates_rules.specs.DeclaredSource.{backslash}
 use Rattle.krates_document.proofs.declared_source.are_names.Goals as goal
 
--- all names are seen: they are the components where none is left
+-- all names were compared: they are the components if none of these is left
 none_left : (names parts seen left after : List (List ℕ)) (next : Option Component) (b : Bool) → parts ≡ seen ++ left → seen ≡ names → IsNextComponent left next after → is_some next ≡ not b → IsTrue b ↔ (names ≡ parts)
 none_left names parts seen left after None true whole all h e = (λ t. sym (whole ∙ ap (λ l. seen ++ l) h.0 ∙ append-nil seen ∙ all), λ same. refl)
 none_left names parts seen left after None false whole all h e = absurd cc
@@ -19,7 +19,7 @@ none_left names parts seen left after (Some c) false whole all h e = (
   λ same. absurd (omega (arith, ap length whole, ap length all, ap length same, ap length h.0, length-append seen left)),
 )
 
--- the components left begin with the name that comes next
+-- the remaining components begin with the next name
 name_left : (names parts seen left front rest : List (List ℕ)) (name : List ℕ) → names ≡ parts → parts ≡ seen ++ left → seen ≡ front → names ≡ front ++ name ∷ rest → left ≡ name ∷ rest
 name_left names parts seen left front rest name same whole all here =
     append_cancel_left front left (name ∷ rest) (ap (λ l. l ++ left) (sym all) ∙ sym whole ∙ sym same ∙ here)

@@ -6,7 +6,7 @@ use Rattle.krates_text.specs.Path.{components}
 use Rattle.krates_rules.specs.DeclaredSource.{between_backslashes, HasNamesOf}
 use Rattle.krates_document.proofs.declared_source.has_names_of.Goals as goal
 
--- the first character is the first byte
+-- an ASCII character is its first byte
 begins_ascii : (path directory rest : Text) (c : ℕ) (r : Bool) → directory ≡ encode_utf8 c ++ rest → c < 128 → IsTrue r ↔ (between_backslashes path ≡ components rest) → IsTrue r ↔ HasNamesOf path directory
 begins_ascii path directory rest c r e small tells =
     let is : directory ≡ c ∷ rest = e ∙ ap (λ t. t ++ rest) (encode_ascii c small) in (

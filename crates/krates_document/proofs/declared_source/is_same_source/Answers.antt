@@ -12,7 +12,7 @@ one_without_commit text x y (inl a) (inr b) = absurd (LastCut-lacks b.0 a.1)
 one_without_commit text x y (inr a) (inl b) = absurd (LastCut-lacks a.0 b.1)
 one_without_commit text x y (inr a) (inr b) = a.1 ∙ sym b.1
 
--- one text is compared
+-- only one text is compared
 one_compared : (id given x y : Text) → IsCompared id given x → IsCompared id given y → x ≡ y
 one_compared id given x y (inl a) (inl b) = one_without_commit given x y a.1 b.1
 one_compared id given x y (inl a) (inr b) = absurd (a.0 b.0)

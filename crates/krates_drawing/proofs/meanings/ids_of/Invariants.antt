@@ -3,6 +3,6 @@ use Rattle.krates_questions.specs.ReferentPlace.{referent_id}
 use Rattle.krates_rules.specs.Resolved.{id_of}
 use Rattle.krates_drawing.proofs.meanings.ids_of.Given as goal
 
--- those so far have been copied
+-- the ids so far have been copied
 abbrev pub invariant-loop-referent : goal.invariant-loop-referent
 invariant-loop-referent l = map id_of l.ids.items ≡ map referent_id (take l.referent-index l.referents)

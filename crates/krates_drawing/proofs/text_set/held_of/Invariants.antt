@@ -6,7 +6,7 @@ use Rattle.krates_cm.specs.Document.{Text, text_view}
 use Rattle.krates_drawing.specs.Sheet.{has_text}
 use Rattle.krates_drawing.proofs.text_set.held_of.Given as goal
 
--- what the set holds or is left has a text exactly where all have it
+-- a text is in the set or among those left exactly where it is among all
 abbrev pub invariant-loop-text : goal.invariant-loop-text
 invariant-loop-text l = (q : Bor Text) →
     (contains (on (λ (t : Bor Text). t.now) (slice_cmp nat_cmp)) l.held q || has_text (map text_view (drop l.text-index l.texts)) q.now) ≡ has_text (map text_view l.texts) q.now

@@ -4,7 +4,7 @@ use Rattle.krates_explain.specs.Explanation.{HasTheseIds}
 use Rattle.krates_explain.specs.KeptFacts.{facts_in, steps_in}
 use Rattle.krates_explain.proofs.derivation.facts_of.Given as goal
 
--- the facts so far are those of the steps so far, and their ids are these
+-- the facts so far are those of the steps so far, and their crates have these ids
 abbrev pub invariant-loop-step : goal.invariant-loop-step
 invariant-loop-step l =
     (facts_view l.facts.items ≡ facts_in (steps_in l.explanation.kids.items (take l.step-index l.step-items)))

@@ -4,7 +4,7 @@ use Rattle.krates_explain.specs.Explanation.{HasTheseIds}
 use Rattle.krates_explain.proofs.PickedSteps.{EachSoFar, IsPickedStep}
 use Rattle.krates_explain.proofs.derivation.picked.Given as goal
 
--- each step so far is the chosen one, and its ids are these
+-- each step so far is the chosen one, and its crates have these ids
 abbrev pub invariant-loop-place : goal.invariant-loop-place
 invariant-loop-place l =
     EachSoFar (IsPickedStep l.explanation l.part.chosen.items l.part.uses.items) l.place l.steps.items

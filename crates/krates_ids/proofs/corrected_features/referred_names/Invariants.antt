@@ -5,7 +5,7 @@ use Rattle.krates_ids.proofs.CorrectionLemmas.{entries_view}
 use Rattle.krates_ids.proofs.ReferencesLemmas.{HasValue}
 use Rattle.krates_ids.proofs.corrected_features.referred_names.Given as goal
 
--- what was added is referred to, and what is referred to was added or is a value of an entry that is left
+-- each name that was added is referred to; each that is referred to was added or is a value of an entry that is left
 abbrev pub invariant-loop-name : goal.invariant-loop-name
 invariant-loop-name l =
     let features = named (features_view l.features) in

@@ -4,7 +4,7 @@ use Rattle.percent_encoding.specs.Percent.{percent_decode}
 use Rattle.krates_ids.proofs.EscapesLemmas.{IsUtf8-percent_decode}
 use Rattle.krates_ids.proofs.escapes.decoded_text.Goals as goal
 
--- what is decoded is UTF-8, so that `decode_utf8` finds no other error than running out of memory
+-- what is decoded is UTF-8, so `decode_utf8` fails only when out of memory
 pub unreachable-requires : goal.unreachable-requires
 unreachable-requires c =
     let input : c.percent_decode.result.bytes.now ≡ c.args.query.now = c.percent_decode.ensures.input ∙ c.as_bytes.ensures.value in

@@ -4,7 +4,7 @@ use Rattle.krates_questions.specs.FeatureTable.{listed_view}
 use Rattle.krates_questions.specs.ListedFeatures.{features_of_node}
 use Rattle.krates_questions.proofs.feature_table.list_features.Given as goal
 
--- those that are listed so far and those of the rest are what is listed in the end
+-- the features listed so far, then those of the rest, are all that is listed in the end
 abbrev pub invariant-loop-feature : goal.invariant-loop-feature
 invariant-loop-feature l =
     map listed_view l.listed.items ++ features_of_node l.place (map text_view (drop l.feature-index l.features))

@@ -5,6 +5,6 @@ use Rattle.krates_ids.specs.Identity.{Identity}
 use Rattle.krates_questions.specs.NameIndex.{AreIdsNamed, lists_in}
 use Rattle.krates_questions.proofs.name_index.ids_by_name.Given as goal
 
--- those so far are found by name
+-- the lists so far have their ids by name
 abbrev pub invariant-loop-kids : goal.invariant-loop-kids
 invariant-loop-kids l = AllZip AreIdsNamed (map (λ (v : Vec Identity). v.items) (take l.kids-index l.ids)) (lists_in l.lists)

@@ -4,6 +4,6 @@ use Rattle.krates_cm.specs.declared.resolve.DepKindInfo.{DepKindInfo}
 use Rattle.krates_document.proofs.Seen.{SeenBelow}
 use Rattle.krates_questions.proofs.questions.lists.Given as goal
 
--- none so far is of the same kind and for the same target
+-- no element so far has this kind and this target
 abbrev pub invariant-loop-other : goal.invariant-loop-other
 invariant-loop-other l = SeenBelow (λ (other : DepKindInfo). dep_kind_info_view other ≡ dep_kind_info_view l.info → ⊥) l.other-items l.other-index

@@ -5,6 +5,6 @@ use Rattle.krates_text.specs.Path.{components}
 use Rattle.krates_document.proofs.Seen.{SeenBelow}
 use Rattle.krates_questions.proofs.root_choice.is_one_of.Given as goal
 
--- none so far has the same components
+-- no path so far has the same components
 abbrev pub invariant-loop-other : goal.invariant-loop-other
 invariant-loop-other l = SeenBelow (λ (other : String Global). components (text_view other) ≡ components l.path → ⊥) l.paths l.other-index

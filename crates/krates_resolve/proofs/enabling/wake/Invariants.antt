@@ -9,7 +9,7 @@ use Rattle.krates_document.proofs.Seen.{SeenBelow}
 use Rattle.krates_resolve.proofs.Growth.{with_links}
 use Rattle.krates_resolve.proofs.enabling.wake.Given as goal
 
--- the dependency is marked, and the features so far are toggled since
+-- the dependency is marked, and the features so far have been toggled since
 abbrev pub invariant-loop-waiter : goal.invariant-loop-waiter
 invariant-loop-waiter l =
     (links : Links)

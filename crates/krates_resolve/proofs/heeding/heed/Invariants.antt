@@ -7,7 +7,7 @@ use Rattle.krates_document.proofs.Seen.{SeenBelow}
 use Rattle.krates_resolve.proofs.Heedings.{CountsSoFar}
 use Rattle.krates_resolve.proofs.heeding.heed.Given as goal
 
--- each reference so far has been followed, and is counted
+-- each reference so far has been followed and counted
 abbrev pub invariant-loop-text : goal.invariant-loop-text
 invariant-loop-text l =
     Advances (resolved_view l.basis.lookup.now) l.basis.setting.now l.fn.found l.found

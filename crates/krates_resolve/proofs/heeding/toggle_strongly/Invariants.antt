@@ -6,7 +6,7 @@ use Rattle.krates_resolve.specs.Heeding.{IsAskedAt, IsToggledStronglyAt}
 use Rattle.krates_document.proofs.Seen.{SeenBelow}
 use Rattle.krates_resolve.proofs.heeding.toggle_strongly.Given as goal
 
--- the edges to each so far have been tried, and its feature is toggled where one may be kept
+-- the edges to each referent so far have been tried, and its feature is toggled if one of them may be kept
 abbrev pub invariant-loop-referent : goal.invariant-loop-referent
 invariant-loop-referent l =
     Advances (resolved_view l.basis.lookup.now) l.basis.setting.now l.fn.found l.found

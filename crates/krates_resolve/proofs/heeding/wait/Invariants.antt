@@ -6,7 +6,7 @@ use Rattle.krates_resolve.specs.Heeding.{IsWaitingAt}
 use Rattle.krates_document.proofs.Seen.{SeenBelow}
 use Rattle.krates_resolve.proofs.heeding.wait.Given as goal
 
--- the feature of each so far waits or is toggled
+-- the feature of each referent so far waits or is toggled
 abbrev pub invariant-loop-referent : goal.invariant-loop-referent
 invariant-loop-referent l =
     Advances (resolved_view l.basis.lookup.now) l.basis.setting.now l.fn.found l.found

@@ -6,7 +6,7 @@ use Rattle.krates_rules.specs.Roots.{IsRoot}
 use Rattle.krates_document.proofs.Seen.{SeenBelow}
 use Rattle.krates_resolve.proofs.roots.put_members.Given as goal
 
--- each member so far that is a root stands in it
+-- each member so far that is a root was found
 abbrev pub invariant-loop-member : goal.invariant-loop-member
 invariant-loop-member l =
     Advances (resolved_view l.basis.lookup.now) l.basis.setting.now l.fn.found l.found

@@ -3,7 +3,7 @@ use Rattle.krates_questions.specs.Lookup.{resolved_view}
 use Rattle.krates_resolve.specs.Saturation.{AreDone, left_in}
 use Rattle.krates_resolve.proofs.saturation.saturate.Given as goal
 
--- what was found is right and has the roots, and what was taken has been expanded, its references followed, and is counted
+-- what was found is right and has the roots; what was taken has been expanded or followed, and counted
 abbrev pub invariant-loop-found : goal.invariant-loop-found
 invariant-loop-found l = AreDone (resolved_view l.lookup) l.setting l.found × AreCounted (resolved_view l.lookup) l.setting l.found l.work
 

@@ -2,7 +2,7 @@ use Rattle.std.proofs.Common.{◌≡◌, length}
 use Rattle.krates_steps.specs.First.{AreFirstBelow}
 use Rattle.krates_steps.proofs.firsts.first_marks.Given as goal
 
--- the first so far
+-- the first steps so far are marked
 abbrev pub invariant-loop-fact : goal.invariant-loop-fact
 invariant-loop-fact l = record {
   room : length l.seen.items ≡ l.fn.count;

@@ -2,7 +2,7 @@ use Rattle.std.proofs.Common.{◌+◌, ◌≤◌}
 use Rattle.krates_steps.specs.Needed.{AreMarkedFrom}
 use Rattle.krates_steps.proofs.marking.mark_all.Given as goal
 
--- what the marked steps from there on use is marked
+-- all that the marked steps from here on use is marked
 abbrev pub invariant-loop-left : goal.invariant-loop-left
 invariant-loop-left l = record {
   within : l.left ≤ l.last + 1;

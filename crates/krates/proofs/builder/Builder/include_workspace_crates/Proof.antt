@@ -71,7 +71,7 @@ include_workspace_crates_spec 𝓤 𝓛 𝓜 𝓡 wired S laws d glue =
     move ! (3 ∷ 6 ∷ 0 ∷ []) $ use3 𝓛 (later (‵ ((Ref 𝓛 R r κ κ).own_val (left 𝓛 R r κ ws.0) vs) ⊛ ‵ (flft κ q)))
     (returned 𝓛 R r κ q α δ ws.0) $ await ! tt $ split ! $
     move ! (4 ∷ []) $ split ! $ move ! (1 ∷ []) $ split ! $ move ! (7 ∷ []) $ move ! (1 ∷ 0 ∷ []) $ join ! $ move ! (2 ∷ 0 ∷ []) $ join ! $ move ! (2 ∷ 3 ∷ 0 ∷ []) $
-    -- [r at its last value; the token of κ; the other tokens]
+    -- [`r` at its last value; the token of κ; the other tokens]
     first ! $ branches ! (get ! refl)
     (λ is_yes.
     sets ! (addr ! (through ! refl (stop !))) refl (tt, tt) $

@@ -38,7 +38,7 @@ use mir.Val.{Val}
 abbrev stayed : Stays f.ended.signature.params f.ended.kept
 stayed = (stay_dropped (mut_ref_to (0 ∷ []) tt (plain (λ _. the_row))) no, (stay_dropped _ yes, tt))
 
--- a list of one machine value is typed where that is
+-- a list of one machine value has its type where that value has its own
 and_true : (b : Bool) → T b → T (b && true)
 and_true true t = tt
 and_true false t = absurd t
@@ -47,7 +47,7 @@ and_true false t = absurd t
 abbrev chosen : RattleType
 chosen = Features-row.the_row
 
--- at the return nothing is said of them
+-- at the return nothing is said about it
 unsaid : (x : chosen.Denot) (w : Last (chosen.exit yes) x) → T (blank (left_of (chosen.exit yes) x w))
 unsaid All w = tt
 unsaid NoDefault w = tt

@@ -6,7 +6,8 @@ use Rattle.krates_cm.specs.Reading.{items}
 use Rattle.krates_cm.proofs.ListReading.{with_front}
 use Rattle.krates_cm.proofs.read.taken.take_list.Given as goal
 
--- As where a list is read: what was read and what is read of the rest are what is read of all, and a fault of the rest is one of all.
+-- As for a list: the items read so far, then those that the rest reads as, are what the whole reads as;
+-- and a fault of the rest is a fault of the whole.
 abbrev pub invariant-loop-item : goal.invariant-loop-item
 invariant-loop-item g l =
     let all = items (g.T.FromValue.reads l.key) (items_view (into_iter_items l.initial.item-iterator)) in

@@ -7,7 +7,7 @@ use Rattle.krates_cm.proofs.ListReading.{with_front}
 use Rattle.krates_cm.proofs.MapReading.{key_texts}
 use Rattle.krates_cm.proofs.read.values.map_from.Given as goal
 
--- As in a list, and the entries so far have the keys of the members so far.
+-- As for a list; and the entries so far have the keys of the members so far.
 abbrev pub invariant-loop-name : goal.invariant-loop-name
 invariant-loop-name g l =
     let all = map_items (g.T.FromValue.reads l.key) (members_view l.members.entries) in

@@ -4,7 +4,7 @@ use Rattle.krates_cm.proofs.MapReading.{key_texts, entry_seen}
 use Rattle.krates_cm_write.specs.Objects.{EntriesWritten}
 use Rattle.krates_cm_write.proofs.values.BTreeMapStringToValue.to_value.Given as goal
 
--- The entries so far are written, and the members have their keys.
+-- The entries so far are written under their keys.
 abbrev pub invariant-loop-name : goal.invariant-loop-name
 invariant-loop-name g l = record {
   can : (goal.iterator-loop-name g).can_next l.name-iterator;

@@ -4,6 +4,6 @@ use Rattle.krates_ids.specs.declared.pkgspec.PkgSpec.{PkgSpec}
 use Rattle.krates_document.proofs.Seen.{SeenBelow}
 use Rattle.krates_document.proofs.setting.Setting.excludes.Given as goal
 
--- none so far fits
+-- no specification so far fits
 abbrev pub invariant-loop-spec : goal.invariant-loop-spec
 invariant-loop-spec l = SeenBelow (λ (spec : PkgSpec). SpecFits (spec_view spec) (package_view l.pkg) → ⊥) l.spec-items l.spec-index

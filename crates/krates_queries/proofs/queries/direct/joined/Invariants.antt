@@ -3,7 +3,7 @@ use Rattle.krates_queries.specs.Direct.{joined_all, value_at}
 use Rattle.krates_queries.specs.Neighbours.{first_edge}
 use Rattle.krates_queries.proofs.queries.direct.joined.Given as goal
 
--- those found, and what the numbers that are left give, are what all give
+-- the neighbours found so far, then those of the numbers left, are those of all numbers
 abbrev pub invariant-loop-number : goal.invariant-loop-number
 invariant-loop-number g l =
     map g.J.FromJoined.joined l.found.items ++ joined_all (value_at l.nodes) (first_edge l.neighbours) (drop l.number-index l.numbers)

@@ -5,7 +5,7 @@ use Rattle.krates_cm.specs.Reading.{items}
 use Rattle.krates_cm.proofs.ListReading.{with_front}
 use Rattle.krates_cm.proofs.read.values.VecFromValue.from_value_at.Given as goal
 
--- what was read and what is read of the rest are what is read of all, and a fault of the rest is one of all
+-- the items read so far, then those that the rest reads as, are what the whole reads as; and a fault of the rest is a fault of the whole
 abbrev pub invariant-loop-item : goal.invariant-loop-item
 invariant-loop-item g l =
     let all = items (g.T.FromValue.reads l.key) (items_view l.item-items) in

@@ -2,7 +2,7 @@ use Rattle.std.proofs.Common.{◌≡◌, ◌≤◌, ◌+◌, ◌^◌, filter, le
 use Rattle.krates_queries.specs.Matches.{fits, numbered_crates}
 use Rattle.krates_queries.proofs.queries.matches.MatchesIterator.next.Given as goal
 
--- what is found of what is left is still all that is to come
+-- what is found among the remaining nodes is still all that is to come
 abbrev pub invariant-loop-first : goal.invariant-loop-first
 invariant-loop-first g l =
     (filter (fits g.N.KrateDetails.version_of (option_map (λ req. req.now) l.self-inside.wanted)) (numbered_crates l.self-inside.number l.self-inside.left.now) ≡ l.fn.self)
