@@ -8,17 +8,17 @@ use Rattle.std.specs.Global.{Vec}
 use Rattle.std.specs.List.{AllZip, slice_get}
 use Rattle.std.specs.Ordering.{ordering_reverse}
 use Rattle.std.specs.Vec.{vec_len}
-use Rattle.krates_cm.specs.Document.{Text, NodeModel, NodeDepModel, node_dep_view}
-use Rattle.krates_document.specs.NamedPlaces.{StandsUnder, no_target, places_in}
+use Rattle.krates_cm.specs.Document.{Text, NodeModel, NodeDepModel, PackageModel, node_dep_view}
+use Rattle.krates_document.specs.NamedPlaces.{AreInOrder, StandsUnder, no_target, places_in}
 use Rattle.krates_document.specs.declared.named_places.NamedPlace.{NamedPlace}
 use Rattle.krates_ids.specs.Identity.{Identity, Reads, id_cmp}
 use Rattle.krates_rules.specs.Admission.{NoneDoubled, AreDepIds, dep_texts}
 use Rattle.krates_rules.specs.Facts.{Id}
-use Rattle.krates_questions.specs.NameIndex.{AreDepsOf, AreIdsNamed, lists_in}
+use Rattle.krates_questions.specs.NameIndex.{AreDepsOf}
 use Rattle.krates_questions.specs.NodeEntry.{AreParts}
-use Rattle.krates_rules.specs.Referent.{AnswersTo, AnswersIn, IsReferent, by_library, by_name, id_order}
+use Rattle.krates_rules.specs.Referent.{AnswersTo, AnswersIn, IsLibraryRename, IsReferent, by_library, by_name, id_order}
 use Rattle.krates_questions.specs.ReferentPlace.{AnswersAt, AnswersBefore, GoesOn, IsBefore, IsLeastOf, IsReferentAt}
-use Rattle.krates_rules.specs.Resolved.{Resolved, HasDep, id_of}
+use Rattle.krates_rules.specs.Resolved.{Resolved, HasDep, HasPackage, id_of}
 use Rattle.krates_questions.specs.declared.node_entry.NodeParts.{NodeParts}
 use Rattle.krates_rules.proofs.Readings.{ReadsOnce, right_of}
 use Rattle.krates_document.proofs.DistinctIds.{OrderTellsSame, same_of}
@@ -174,21 +174,28 @@ answers_there once r parts name child none p n =
 
 -- ---- those that are found by name
 
--- what is found by name at a place of the lists
-pub names_at : {A : Type 0} (R : A → List NamedPlace → Type 0) (xs : List A) (lists : Vec (Vec NamedPlace)) (place : ℕ) (x : A) (v : Vec NamedPlace) → AllZip R xs (lists_in lists) → slice_get xs place ≡ Some x
-    → v ≡ get_or lists.items place v → R x v.items
-names_at R xs lists place x v z at is =
-    let w = right_of R xs (lists_in lists) place x z at in
-    let items : Vec NamedPlace → List NamedPlace = λ u. u.items in
-    let lt : place < length lists.items = omega (arith, slice_get_within (lists_in lists) place w.0 w.1, length-map lists.items items) in
-    let here : slice_get (lists_in lists) place ≡ Some v.items = slice_get-map items lists.items place ∙ ap (option_map items) (slice_get_read lists.items (length lists.items) place v refl lt is) in
-    subst (R x) (same_Some w.0 v.items (sym w.1 ∙ here)) w.2
+-- what stands at a place of the lists
+pub list_at : {B : Type 0} (lists : Vec (Vec B)) (place : ℕ) (v : Vec B) (list : List B) → slice_get (map (λ (u : Vec B). u.items) lists.items) place ≡ Some list → v ≡ get_or lists.items place v → list ≡ v.items
+list_at {B} lists place v list at is =
+    let items : Vec B → List B = λ u. u.items in
+    let lt : place < length lists.items = omega (arith, slice_get_within (map items lists.items) place list at, length-map lists.items items) in
+    let here : slice_get (map items lists.items) place ≡ Some v.items = slice_get-map items lists.items place ∙ ap (option_map items) (slice_get_read lists.items (length lists.items) place v refl lt is) in
+    same_Some list v.items (sym at ∙ here)
 
-pub names_within : {A : Type 0} (R : A → List NamedPlace → Type 0) (xs : List A) (lists : Vec (Vec NamedPlace)) (place : ℕ) (x : A) → AllZip R xs (lists_in lists) → slice_get xs place ≡ Some x → place < vec_len lists
-names_within R xs lists place x z at =
-    let w = right_of R xs (lists_in lists) place x z at in
-    let items : Vec NamedPlace → List NamedPlace = λ u. u.items in
-    within_vec lists place (omega (arith, slice_get_within (lists_in lists) place w.0 w.1, length-map lists.items items))
+pub list_within : {B : Type 0} (lists : Vec (Vec B)) (place : ℕ) (list : List B) → slice_get (map (λ (u : Vec B). u.items) lists.items) place ≡ Some list → place < vec_len lists
+list_within {B} lists place list at =
+    let items : Vec B → List B = λ u. u.items in
+    within_vec lists place (omega (arith, slice_get_within (map items lists.items) place list at, length-map lists.items items))
+
+-- what is found at a place of the lists
+pub names_at : {A B : Type 0} (R : A → List B → Type 0) (xs : List A) (lists : Vec (Vec B)) (place : ℕ) (x : A) (v : Vec B) → AllZip R xs (map (λ (u : Vec B). u.items) lists.items) → slice_get xs place ≡ Some x
+    → v ≡ get_or lists.items place v → R x v.items
+names_at {A} {B} R xs lists place x v z at is =
+    let w = right_of R xs (map (λ (u : Vec B). u.items) lists.items) place x z at in
+    subst (R x) (list_at lists place v w.0 w.1 is) w.2
+
+pub names_within : {A B : Type 0} (R : A → List B → Type 0) (xs : List A) (lists : Vec (Vec B)) (place : ℕ) (x : A) → AllZip R xs (map (λ (u : Vec B). u.items) lists.items) → slice_get xs place ≡ Some x → place < vec_len lists
+names_within {A} {B} R xs lists place x z at = let w = right_of R xs (map (λ (u : Vec B). u.items) lists.items) place x z at in list_within lists place w.0 w.1
 
 -- two readings of the same texts have the same ids
 same_kid : ReadsOnce → (n : NodeModel) (kids others : List Identity) (k : ℕ) (d : NodeDepModel) (c : Identity) → AreDepIds n kids → AreDepIds n others → slice_get n.deps k ≡ Some d → slice_get others k ≡ Some c → slice_get kids k ≡ Some c
@@ -204,23 +211,28 @@ same_kid once n kids others k d c these those at there =
 pub record AreLookedAt (name : Text) (all : List NamedPlace) (these : List ℕ) : Type 0 where
   pub each : (k : ℕ) → StandsUnder all name no_target k → Contains these k
 
-by_either : (r : Resolved) (parts : NodeParts) (name : Text) (n : NodeModel) (kids : List Identity) (own children : List NamedPlace) (these those : List ℕ) (k : ℕ) (c : Identity) (d : NodeDepModel) → AreDepsOf n own → AreIdsNamed kids children
+-- the dependencies of a node that are named as their package's library are found by the names of their packages
+pub record FindsRenamed (r : Resolved) (n : NodeModel) (kids : List Identity) (renamed : List NamedPlace) : Type 0 where
+  pub sorted : AreInOrder renamed
+  pub each : (k : ℕ) (c : Identity) (d : NodeDepModel) (p : PackageModel) → slice_get kids k ≡ Some c → slice_get n.deps k ≡ Some d → HasPackage r (id_of c) p → IsLibraryRename p d.name → StandsUnder renamed c.name no_target k
+
+by_either : (r : Resolved) (parts : NodeParts) (name : Text) (n : NodeModel) (kids : List Identity) (own children : List NamedPlace) (these those : List ℕ) (k : ℕ) (c : Identity) (d : NodeDepModel) → AreDepsOf n own → FindsRenamed r n kids children
     → AreLookedAt name own these → AreLookedAt name children those → slice_get n.deps k ≡ Some d → slice_get kids k ≡ Some c → AnswersTo r (id_of c) d name → Contains (these ++ those) k
 by_either r parts name n kids own children these those k c d a b seen shown at there (by_name same) =
     Contains-append_left these those k (seen.each k (under_other own d.name name no_target no_target k (sym (same_folded d.name name same)) refl (a.each k d at)))
-by_either r parts name n kids own children these those k c d a b seen shown at there (by_library e h l) =
-    Contains-append_right these those k (shown.each k (subst (λ (t : Text). StandsUnder children t no_target k) (sym e) (b.each k c there)))
+by_either r parts name n kids own children these those k c d a b seen shown at there (by_library {p} e h l) =
+    Contains-append_right these those k (shown.each k (subst (λ (t : Text). StandsUnder children t no_target k) (sym e) (b.each k c d p there at h l)))
 
 -- each dependency that answers is among them
 pub answers_among : ReadsOnce → (r : Resolved) (parts : NodeParts) (name : Text) (kids : List Identity) (own children : List NamedPlace) (these those : List ℕ) (k : ℕ) (c : Identity) → (p : AreParts r parts.place parts) → AreDepIds p.at.node kids
-    → AreDepsOf p.at.node own → AreIdsNamed kids children → AreLookedAt name own these → AreLookedAt name children those → AnswersAt r parts name k c → Contains (these ++ those) k
+    → AreDepsOf p.at.node own → FindsRenamed r p.at.node kids children → AreLookedAt name own these → AreLookedAt name children those → AnswersAt r parts name k c → Contains (these ++ those) k
 answers_among once r parts name kids own children these those k c p read a b seen shown w =
     let at = (has_dep_at r parts name k c p w).0 in
     by_either r parts name p.at.node kids own children these those k c w.dep a b seen shown at (same_kid once p.at.node kids parts.children.now k w.dep c read p.children at w.at) w.answers
 
 -- all have been gone over
 pub referent_told : ReadsOnce → (r : Resolved) (parts : NodeParts) (name : Text) (kids : List Identity) (own children : List NamedPlace) (these those : List ℕ) (least : Option ℕ) → NoneDoubled r.metadata r.graph
-    → (p : AreParts r parts.place parts) → AreDepIds p.at.node kids → AreDepsOf p.at.node own → AreIdsNamed kids children → AreLookedAt name own these → AreLookedAt name children those → IsLeastOf r parts name (these ++ those) least
+    → (p : AreParts r parts.place parts) → AreDepIds p.at.node kids → AreDepsOf p.at.node own → FindsRenamed r p.at.node kids children → AreLookedAt name own these → AreLookedAt name children those → IsLeastOf r parts name (these ++ those) least
     → MatchOption least ((child : Id) → IsReferent r false (id_of parts.parent.now) name child → ⊥) (IsReferentAt r parts name)
 referent_told once r parts name kids own children these those None doubled p read a b seen shown none = λ child referent.
     let w = answers_there once r parts name child doubled p referent.is_named in

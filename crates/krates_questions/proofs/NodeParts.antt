@@ -24,7 +24,7 @@ use Rattle.krates_questions.proofs.Lookups.{at_place}
 use Rattle.krates_rules.proofs.Standings.{contains_at}
 
 -- related lists are equally long
-long_zip : {A B : Type 0} (R : A → B → Type 0) (xs : List A) (ys : List B) → AllZip R xs ys → length xs ≡ length ys
+pub long_zip : {A B : Type 0} (R : A → B → Type 0) (xs : List A) (ys : List B) → AllZip R xs ys → length xs ≡ length ys
 long_zip R [] [] z = refl
 long_zip R [] (y ∷ ys) z = absurd z
 long_zip R (x ∷ xs) [] z = absurd z
