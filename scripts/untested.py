@@ -29,16 +29,17 @@ SHOWN_BY = {
     "check_closed": ("corrected", "Document::means"),
     # as what an edge is declared: by name, version and source
     "Document::declared": (
-        "version_of declared_of is_name_of folded_order named_places places_under declared_at declared_places entry_at parts_of is_same_info"
+        "version_of declared_of is_name_of folded_order named_places places_under declared_at declared_places places_for entry_at parts_of"
+        " is_same_info"
     ).split(),
     # a document that is asked looks its crates, features and names up
-    "Document::new": ("lookup_of", "node_place"),
+    "Document::new": ("lookup_of", "node_place", "child_place"),
     "Document::lists": ("feature_number",),
     "Document::values": ("feature_values",),
     "Document::referent": ("referent_of",),
     "Document::referents": ("referents_of",),
     "Document::roots": ("choice_of",),
-    "Document::presence": ("standing_of",),
+    "Document::presence": ("standing_of", "standing_of_child"),
     # the graph of a build: its sheet, nodes and edges, and how they are stored
     "build_with_metadata": "count_of given_by meanings_by draw_nodes plan store_arrows in_order Krates::new".split(),
     # the steps that a build keeps, and those of them that lead to a node

@@ -135,7 +135,7 @@ under_run xs rest run first count name target is_rest is_run before behind k s =
 
 -- ---- how places are added
 
-stands_push : (all : List NamedPlace) (y : NamedPlace) (name target : Text) (k : ℕ) → StandsUnder all name target k → StandsUnder (all ++ y ∷ []) name target k
+pub stands_push : (all : List NamedPlace) (y : NamedPlace) (name target : Text) (k : ℕ) → StandsUnder all name target k → StandsUnder (all ++ y ∷ []) name target k
 stands_push all y name target k s = record { there = s.there; among = Contains-append_left all (y ∷ []) s.there s.among; key = s.key; is = s.is }
 
 -- the items before a place stand under their names

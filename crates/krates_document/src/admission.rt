@@ -145,7 +145,7 @@ fn read_ids<T: HasId>(alloc: Global, items: &[T]) -> Result<Vec<Kid>, Error>
     ensures read { IfOk result (λ kids. AllZip Reads (map T.text items.now) kids.items) }
     ensures refused { IfErr result (UnreadRefusal (map T.text items.now)) }
 {
-    let mut kids = Vec::new(alloc);
+    let mut kids = Vec::with_capacity(alloc, items.len())?;
     for item in items {
         kids.push(read_id(item.package_id())?)?;
     }
@@ -178,7 +178,7 @@ fn read_dep_ids(alloc: Global, deps: &[NodeDep]) -> Result<Vec<Kid>, Error>
     ensures versions { IfOk result (λ kids. AllByRecursion HasVersion kids.items) }
     ensures refused { IfErr result (InvalidDepRefusal (map (λ d. id_view d.pkg) deps.now)) }
 {
-    let mut kids = Vec::new(alloc);
+    let mut kids = Vec::with_capacity(alloc, deps.len())?;
     for dep in deps {
         kids.push(read_dep_id(alloc, dep)?)?;
     }

@@ -74,7 +74,7 @@ pub fn named_places<T: HasName>(
 ) -> Result<Vec<NamedPlace<'_>>, AllocError>
     ensures { IfOk result (λ places. AreNamed T.name T.target items.now places.items) }
 {
-    let mut places = Vec::new(alloc);
+    let mut places = Vec::with_capacity(alloc, items.len())?;
     for (place, item) in items.iter().enumerate() {
         places.push(NamedPlace {
             name: FoldedName {

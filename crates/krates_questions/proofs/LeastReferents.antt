@@ -8,17 +8,17 @@ use Rattle.std.specs.Global.{Vec}
 use Rattle.std.specs.List.{AllZip, slice_get}
 use Rattle.std.specs.Ordering.{ordering_reverse}
 use Rattle.std.specs.Vec.{vec_len}
-use Rattle.krates_cm.specs.Document.{Text, NodeModel, NodeDepModel, node_dep_view}
-use Rattle.krates_document.specs.NamedPlaces.{StandsUnder, no_target, places_in}
+use Rattle.krates_cm.specs.Document.{Text, NodeModel, NodeDepModel, PackageModel, node_dep_view}
+use Rattle.krates_document.specs.NamedPlaces.{AreInOrder, StandsUnder, no_target, places_in}
 use Rattle.krates_document.specs.declared.named_places.NamedPlace.{NamedPlace}
 use Rattle.krates_ids.specs.Identity.{Identity, Reads, id_cmp}
 use Rattle.krates_rules.specs.Admission.{NoneDoubled, AreDepIds, dep_texts}
 use Rattle.krates_rules.specs.Facts.{Id}
-use Rattle.krates_questions.specs.NameIndex.{AreDepsOf, AreIdsNamed, lists_in}
+use Rattle.krates_questions.specs.NameIndex.{AreDepsOf}
 use Rattle.krates_questions.specs.NodeEntry.{AreParts}
-use Rattle.krates_rules.specs.Referent.{AnswersTo, AnswersIn, IsReferent, by_library, by_name, id_order}
+use Rattle.krates_rules.specs.Referent.{AnswersTo, AnswersIn, IsLibraryRename, IsReferent, by_library, by_name, id_order}
 use Rattle.krates_questions.specs.ReferentPlace.{AnswersAt, AnswersBefore, GoesOn, IsBefore, IsLeastOf, IsReferentAt}
-use Rattle.krates_rules.specs.Resolved.{Resolved, HasDep, id_of}
+use Rattle.krates_rules.specs.Resolved.{Resolved, HasDep, HasPackage, id_of}
 use Rattle.krates_questions.specs.declared.node_entry.NodeParts.{NodeParts}
 use Rattle.krates_rules.proofs.Readings.{ReadsOnce, right_of}
 use Rattle.krates_document.proofs.DistinctIds.{OrderTellsSame, same_of}
@@ -28,7 +28,7 @@ use Rattle.krates_rules.proofs.OnlyOne.{place_in, one_node}
 
 -- ---- the least so far
 
--- what is less than something is not greater than what that is not greater than
+-- what is below something is not above what that is not above
 not_above : IsTotalOrder id_cmp → (x y z : Identity) → id_cmp x y ≡ Less → (o : Ordering) → id_cmp y z ≡ o → o ≢ Greater → id_cmp x z ≢ Greater
 not_above total x y z less Less e n = λ g. absurd (cc (total.trans x y z less e, g))
 not_above total x y z less Equal e n = λ g.
@@ -44,7 +44,7 @@ not_above_itself tells x y is g =
 not_above_back : IsTotalOrder id_cmp → (x y : Identity) → (id_cmp y x ≡ Less → ⊥) → id_cmp x y ≢ Greater
 not_above_back total x y other g = other (total.antisymm y x ∙ ap ordering_reverse g)
 
--- one more dependency answers, and is less than the least
+-- one more answers, and comes before the least
 pub least_put : IsTotalOrder id_cmp → OrderTellsSame → (r : Resolved) (parts : NodeParts) (name : Text) (done : List ℕ) (i : ℕ) (c : Identity) (old : Option ℕ) → AnswersAt r parts name i c → IsBefore parts.children.now c old
     → IsLeastOf r parts name done old → IsLeastOf r parts name (done ++ i ∷ []) (Some i)
 least_put total tells r parts name done i c None a before none = record {
@@ -66,7 +66,7 @@ least_put total tells r parts name done i c (Some p) a (there, at, less) w = rec
   ];
 }
 
--- one more doesn't answer, or isn't less than the least
+-- one more doesn't answer, or doesn't come before the least
 pub least_stays : IsTotalOrder id_cmp → (r : Resolved) (parts : NodeParts) (name : Text) (done : List ℕ) (i : ℕ) (old : Option ℕ) → (AnswersBefore r parts name i old → ⊥) → IsLeastOf r parts name done old
     → IsLeastOf r parts name (done ++ i ∷ []) old
 least_stays total r parts name done i None other none = λ j d among b. elim (Contains-push_cases done i j among) [
@@ -82,7 +82,7 @@ least_stays total r parts name done i (Some p) other w = record {
   ];
 }
 
--- the place of the least is the place of a dependency
+-- the place of the least is one of a dependency
 pub least_within : (r : Resolved) (parts : NodeParts) (name : Text) (done : List ℕ) (least : Option ℕ) → IsLeastOf r parts name done least → IfSome least (λ at. at < length parts.children.now)
 least_within r parts name done None none = tt
 least_within r parts name done (Some p) w = slice_get_within parts.children.now p w.child w.answers.at
@@ -90,9 +90,9 @@ least_within r parts name done (Some p) w = slice_get_within parts.children.now 
 pub none_of_none : (r : Resolved) (parts : NodeParts) (name : Text) → IsLeastOf r parts name [] None
 none_of_none r parts name j d among b = absurd (omega (arith, among.1))
 
--- ---- the places in the order in which the code goes over them
+-- ---- as the code goes over them
 
--- first some places, then the places so far
+-- some, and the places so far
 abbrev pub GoneOver : Resolved → NodeParts → Text → List NamedPlace → ℕ → Option ℕ → Option ℕ → Type 0
 GoneOver r parts name places i before least = IfSome least (λ at. at < length parts.children.now) × GoesOn r parts name (places_in (take i places)) before least
 
@@ -149,11 +149,11 @@ has_dep_at r parts name k c p a =
     let here : slice_get p.at.node.deps k ≡ Some a.dep = ap (λ ds. slice_get ds k) p.deps ∙ a.here in
     (here, has_dep_here p.at.node parts.children.now k a.dep c p.children here a.at)
 
--- a dependency that answers is what the name means
+-- what answers is named
 pub named_there : (r : Resolved) (parts : NodeParts) (name : Text) (k : ℕ) (c : Identity) → AreParts r parts.place parts → AnswersAt r parts name k c → AnswersIn r (id_of parts.parent.now) name (id_of c)
 named_there r parts name k c p a = record { node = p.at.node; has_node = p.has_node; dep = a.dep; has_dep = (has_dep_at r parts name k c p a).1; answers = a.answers }
 
--- and what the name means answers at some place
+-- and what is named answers at some place
 pub answers_there : ReadsOnce → (r : Resolved) (parts : NodeParts) (name : Text) (child : Id) → NoneDoubled r.metadata r.graph → AreParts r parts.place parts → AnswersIn r (id_of parts.parent.now) name child
     → (k : ℕ) × (c : Identity) × (k < length parts.children.now) × AnswersAt r parts name k c × (id_of c ≡ child)
 answers_there once r parts name child none p n =
@@ -172,23 +172,30 @@ answers_there once r parts name child none p n =
       is,
     )
 
--- ---- dependencies found by name
+-- ---- those that are found by name
 
--- what the lists have at a place
-pub names_at : {A : Type 0} (R : A → List NamedPlace → Type 0) (xs : List A) (lists : Vec (Vec NamedPlace)) (place : ℕ) (x : A) (v : Vec NamedPlace) → AllZip R xs (lists_in lists) → slice_get xs place ≡ Some x
+-- what stands at a place of the lists
+pub list_at : {B : Type 0} (lists : Vec (Vec B)) (place : ℕ) (v : Vec B) (list : List B) → slice_get (map (λ (u : Vec B). u.items) lists.items) place ≡ Some list → v ≡ get_or lists.items place v → list ≡ v.items
+list_at {B} lists place v list at is =
+    let items : Vec B → List B = λ u. u.items in
+    let lt : place < length lists.items = omega (arith, slice_get_within (map items lists.items) place list at, length-map lists.items items) in
+    let here : slice_get (map items lists.items) place ≡ Some v.items = slice_get-map items lists.items place ∙ ap (option_map items) (slice_get_read lists.items (length lists.items) place v refl lt is) in
+    same_Some list v.items (sym at ∙ here)
+
+pub list_within : {B : Type 0} (lists : Vec (Vec B)) (place : ℕ) (list : List B) → slice_get (map (λ (u : Vec B). u.items) lists.items) place ≡ Some list → place < vec_len lists
+list_within {B} lists place list at =
+    let items : Vec B → List B = λ u. u.items in
+    within_vec lists place (omega (arith, slice_get_within (map items lists.items) place list at, length-map lists.items items))
+
+-- what is found at a place of the lists
+pub names_at : {A B : Type 0} (R : A → List B → Type 0) (xs : List A) (lists : Vec (Vec B)) (place : ℕ) (x : A) (v : Vec B) → AllZip R xs (map (λ (u : Vec B). u.items) lists.items) → slice_get xs place ≡ Some x
     → v ≡ get_or lists.items place v → R x v.items
-names_at R xs lists place x v z at is =
-    let w = right_of R xs (lists_in lists) place x z at in
-    let items : Vec NamedPlace → List NamedPlace = λ u. u.items in
-    let lt : place < length lists.items = omega (arith, slice_get_within (lists_in lists) place w.0 w.1, length-map lists.items items) in
-    let here : slice_get (lists_in lists) place ≡ Some v.items = slice_get-map items lists.items place ∙ ap (option_map items) (slice_get_read lists.items (length lists.items) place v refl lt is) in
-    subst (R x) (same_Some w.0 v.items (sym w.1 ∙ here)) w.2
+names_at {A} {B} R xs lists place x v z at is =
+    let w = right_of R xs (map (λ (u : Vec B). u.items) lists.items) place x z at in
+    subst (R x) (list_at lists place v w.0 w.1 is) w.2
 
-pub names_within : {A : Type 0} (R : A → List NamedPlace → Type 0) (xs : List A) (lists : Vec (Vec NamedPlace)) (place : ℕ) (x : A) → AllZip R xs (lists_in lists) → slice_get xs place ≡ Some x → place < vec_len lists
-names_within R xs lists place x z at =
-    let w = right_of R xs (lists_in lists) place x z at in
-    let items : Vec NamedPlace → List NamedPlace = λ u. u.items in
-    within_vec lists place (omega (arith, slice_get_within (lists_in lists) place w.0 w.1, length-map lists.items items))
+pub names_within : {A B : Type 0} (R : A → List B → Type 0) (xs : List A) (lists : Vec (Vec B)) (place : ℕ) (x : A) → AllZip R xs (map (λ (u : Vec B). u.items) lists.items) → slice_get xs place ≡ Some x → place < vec_len lists
+names_within {A} {B} R xs lists place x z at = let w = right_of R xs (map (λ (u : Vec B). u.items) lists.items) place x z at in list_within lists place w.0 w.1
 
 -- two readings of the same texts have the same ids
 same_kid : ReadsOnce → (n : NodeModel) (kids others : List Identity) (k : ℕ) (d : NodeDepModel) (c : Identity) → AreDepIds n kids → AreDepIds n others → slice_get n.deps k ≡ Some d → slice_get others k ≡ Some c → slice_get kids k ≡ Some c
@@ -200,27 +207,32 @@ same_kid once n kids others k d c these those at there =
     let is : one.0 ≡ c = once d.pkg one.0 other.0 one.2 other.2 ∙ same_Some other.0 c (sym other.1 ∙ there) in
     one.1 ∙ ap (λ x. Some x) is
 
--- the places of a node that are looked at: those found by name
+-- what is looked at of a node: the places that are found by name
 pub record AreLookedAt (name : Text) (all : List NamedPlace) (these : List ℕ) : Type 0 where
   pub each : (k : ℕ) → StandsUnder all name no_target k → Contains these k
 
-by_either : (r : Resolved) (parts : NodeParts) (name : Text) (n : NodeModel) (kids : List Identity) (own children : List NamedPlace) (these those : List ℕ) (k : ℕ) (c : Identity) (d : NodeDepModel) → AreDepsOf n own → AreIdsNamed kids children
+-- the dependencies of a node that are named as their package's library are found by the names of their packages
+pub record FindsRenamed (r : Resolved) (n : NodeModel) (kids : List Identity) (renamed : List NamedPlace) : Type 0 where
+  pub sorted : AreInOrder renamed
+  pub each : (k : ℕ) (c : Identity) (d : NodeDepModel) (p : PackageModel) → slice_get kids k ≡ Some c → slice_get n.deps k ≡ Some d → HasPackage r (id_of c) p → IsLibraryRename p d.name → StandsUnder renamed c.name no_target k
+
+by_either : (r : Resolved) (parts : NodeParts) (name : Text) (n : NodeModel) (kids : List Identity) (own children : List NamedPlace) (these those : List ℕ) (k : ℕ) (c : Identity) (d : NodeDepModel) → AreDepsOf n own → FindsRenamed r n kids children
     → AreLookedAt name own these → AreLookedAt name children those → slice_get n.deps k ≡ Some d → slice_get kids k ≡ Some c → AnswersTo r (id_of c) d name → Contains (these ++ those) k
 by_either r parts name n kids own children these those k c d a b seen shown at there (by_name same) =
     Contains-append_left these those k (seen.each k (under_other own d.name name no_target no_target k (sym (same_folded d.name name same)) refl (a.each k d at)))
-by_either r parts name n kids own children these those k c d a b seen shown at there (by_library e h l) =
-    Contains-append_right these those k (shown.each k (subst (λ (t : Text). StandsUnder children t no_target k) (sym e) (b.each k c there)))
+by_either r parts name n kids own children these those k c d a b seen shown at there (by_library {p} e h l) =
+    Contains-append_right these those k (shown.each k (subst (λ (t : Text). StandsUnder children t no_target k) (sym e) (b.each k c d p there at h l)))
 
 -- each dependency that answers is among them
 pub answers_among : ReadsOnce → (r : Resolved) (parts : NodeParts) (name : Text) (kids : List Identity) (own children : List NamedPlace) (these those : List ℕ) (k : ℕ) (c : Identity) → (p : AreParts r parts.place parts) → AreDepIds p.at.node kids
-    → AreDepsOf p.at.node own → AreIdsNamed kids children → AreLookedAt name own these → AreLookedAt name children those → AnswersAt r parts name k c → Contains (these ++ those) k
+    → AreDepsOf p.at.node own → FindsRenamed r p.at.node kids children → AreLookedAt name own these → AreLookedAt name children those → AnswersAt r parts name k c → Contains (these ++ those) k
 answers_among once r parts name kids own children these those k c p read a b seen shown w =
     let at = (has_dep_at r parts name k c p w).0 in
     by_either r parts name p.at.node kids own children these those k c w.dep a b seen shown at (same_kid once p.at.node kids parts.children.now k w.dep c read p.children at w.at) w.answers
 
--- all places have been gone over
+-- all have been gone over
 pub referent_told : ReadsOnce → (r : Resolved) (parts : NodeParts) (name : Text) (kids : List Identity) (own children : List NamedPlace) (these those : List ℕ) (least : Option ℕ) → NoneDoubled r.metadata r.graph
-    → (p : AreParts r parts.place parts) → AreDepIds p.at.node kids → AreDepsOf p.at.node own → AreIdsNamed kids children → AreLookedAt name own these → AreLookedAt name children those → IsLeastOf r parts name (these ++ those) least
+    → (p : AreParts r parts.place parts) → AreDepIds p.at.node kids → AreDepsOf p.at.node own → FindsRenamed r p.at.node kids children → AreLookedAt name own these → AreLookedAt name children those → IsLeastOf r parts name (these ++ those) least
     → MatchOption least ((child : Id) → IsReferent r false (id_of parts.parent.now) name child → ⊥) (IsReferentAt r parts name)
 referent_told once r parts name kids own children these those None doubled p read a b seen shown none = λ child referent.
     let w = answers_there once r parts name child doubled p referent.is_named in

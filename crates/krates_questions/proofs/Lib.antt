@@ -10,10 +10,12 @@ pub mod FeatureNumbers
 pub mod LeastReferents
 pub mod Lookups
 pub mod Needs
+pub mod NodeNumbers
 pub mod NodeParts
 pub mod NumberedPlaces
 pub mod OneReferent
 pub mod Referents
+pub mod RenamedPlaces
 pub mod RootLemmas
 pub mod Searches
 pub mod SeenInOrder

@@ -23,14 +23,14 @@ use Rattle.krates_rules.proofs.Readings.{left_of}
 use Rattle.krates_questions.proofs.Lookups.{at_place}
 use Rattle.krates_rules.proofs.Standings.{contains_at}
 
--- related lists have the same length
-long_zip : {A B : Type 0} (R : A → B → Type 0) (xs : List A) (ys : List B) → AllZip R xs ys → length xs ≡ length ys
+-- related lists are equally long
+pub long_zip : {A B : Type 0} (R : A → B → Type 0) (xs : List A) (ys : List B) → AllZip R xs ys → length xs ≡ length ys
 long_zip R [] [] z = refl
 long_zip R [] (y ∷ ys) z = absurd z
 long_zip R (x ∷ xs) [] z = absurd z
 long_zip R (x ∷ xs) (y ∷ ys) z = ap suc (long_zip R xs ys z.1)
 
--- elements of related lists at the same place are related
+-- what stands at one place of two lists is related
 zip_at : {A B : Type 0} (R : A → B → Type 0) (xs : List A) (ys : List B) (k : ℕ) (x : A) (y : B) → AllZip R xs ys → slice_get xs k ≡ Some x → slice_get ys k ≡ Some y → R x y
 zip_at R xs ys k x y z a b = let w = left_of R xs ys k y z b in subst (λ v. R v y) (same_Some w.0 x (sym w.1 ∙ a)) w.2
 
@@ -53,9 +53,9 @@ has_version_here n ids k i z at =
 pub dep_ids_here : (g : ResolveModel) (lists : List (List Identity)) (k : ℕ) (n : NodeModel) (ids : List Identity) → AllZip AreDepIds g.nodes lists → slice_get g.nodes k ≡ Some n → slice_get lists k ≡ Some ids → AreDepIds n ids
 dep_ids_here g lists k n ids z a b = zip_at AreDepIds g.nodes lists k n ids z a b
 
--- ---- the dependencies of a node, one by one
+-- ---- the dependencies of a node, gone over
 
--- the lists have the same length
+-- how many there are of each
 pub nodes_long : (d : Lookup) → IsLookup d → (length (resolved_view d).graph.nodes ≡ length d.ids.now.nodes.items) × (length (resolved_view d).graph.nodes ≡ length d.resolve.now.nodes.items) × (length (resolved_view d).graph.nodes ≡ length d.ids.now.deps.items)
 nodes_long d h =
     let r = resolved_view d in
@@ -65,7 +65,7 @@ nodes_long d h =
       long_zip AreDepIds r.graph.nodes (map items d.ids.now.deps.items) h.ids.deps ∙ length-map d.ids.now.deps.items items,
     )
 
--- ---- the elements at a place, as the code finds them
+-- ---- at a place, as the code finds them
 
 node_seen : (d : Lookup) (place : ℕ) (n : Node) → place < length (resolved_view d).graph.nodes → n ≡ get_or d.resolve.now.nodes.items place n → slice_get (resolved_view d).graph.nodes place ≡ Some (node_view n)
 node_seen d place n lt is =
@@ -97,7 +97,7 @@ parts_here d place x n ids h lt is_id is_node is_ids deps children declares tell
       place_is = place_is;
     }
 
--- there are as many children as dependencies
+-- a child has the dependency at its place
 pub deps_long : (r : Resolved) (place : ℕ) (x : NodeParts) → AreParts r place x → length x.children.now ≡ length x.deps.now
 deps_long r place x p =
     sym (long_zip Reads (dep_texts p.at.node) x.children.now p.children.read) ∙ length-map p.at.node.deps (λ (d : NodeDepModel). d.pkg) ∙ ap length p.deps ∙ length-map x.deps.now node_dep_view
@@ -116,7 +116,7 @@ dep_there r place x k d child p dep there =
     let at : DepAt r (id_of x.parent.now) (id_of child) place k = record { node = p.at; dep = d; at = here; id = (has_dep_here p.at.node x.children.now k d child p.children here there).id } in
     subst (λ (n : ℕ). DepAt r (id_of x.parent.now) (id_of child) n k) (sym p.place_is) at
 
--- each child has the dependency at its place
+-- there is one at the place of each child
 pub dep_of_child : (r : Resolved) (place : ℕ) (x : NodeParts) (k : ℕ) (child : Identity) → AreParts r place x → slice_get x.children.now k ≡ Some child → DepAt r (id_of x.parent.now) (id_of child) x.place k
 dep_of_child r place x k child p there =
     let lt = subst (λ (n : ℕ). k < n) (deps_long r place x p ∙ sym (length-map x.deps.now node_dep_view)) (slice_get_within x.children.now k child there) in
@@ -125,7 +125,7 @@ dep_of_child r place x k child p there =
       | inr w ↦ absurd (omega (arith, lt, w.0))
     ]
 
--- what an entry holds, as parts of the document
+-- what an entry has, said of the parts that it is taken from
 record HasEntry (r : Resolved) (parent : Id) (child : Identity) (dep : NodeDepModel) (declared : List DependencyModel) (is_member : Bool) (place index : ℕ) : Type 0 where
   node : NodeModel
   has_node : HasNode r parent node
@@ -134,7 +134,7 @@ record HasEntry (r : Resolved) (parent : Id) (child : Identity) (dep : NodeDepMo
   tells : TellsMember r parent is_member
   at : DepAt r parent (id_of child) place index
 
--- an entry made of the parts of a node is consistent, and its child has a semantic version
+-- an entry of the parts of a node belongs together, and the version of its child is semantic
 pub entry_here : (r : Resolved) (place : ℕ) (x : NodeParts) (k : ℕ) (y : NodeEntry) → AreParts r place x → IsEntryOf x k y → IsEntry r y × HasVersion y.child.now
 entry_here r place x k y p e =
     let dep = slice_get-map node_dep_view x.deps.now k ∙ ap (option_map node_dep_view) e.dep in
@@ -153,6 +153,6 @@ entry_here r place x k y p e =
     let whole = subst (λ (n : ℕ). HasEntry r (id_of y.parent.now) y.child.now (node_dep_view y.dep.now) (map dependency_view y.declared.now) y.is_member y.place n) (sym e.index) of_place in
     (record { node = whole.node; has_node = whole.has_node; has_dep = whole.has_dep; declares = whole.declares; tells = whole.tells; at = whole.at }, has_version_here p.at.node x.children.now k y.child.now p.children e.child)
 
--- a place in the items of a vector is a place in the vector
+-- within a vector's items is within the vector
 pub within_vec : {A : Type 0} (v : Vec A) (k : ℕ) → k < length v.items → k < vec_len v
 within_vec v k lt = subst (λ (n : ℕ). k < n) (sym v.ok.0) lt

@@ -1,5 +1,5 @@
 -- A table of places by number, filled place by place.
-use Rattle.std.proofs.Common.{◌≡◌, ◌≢◌, ℕ, ◌+◌, ◌<◌, ◌≤◌, List, Option, Some, None, MatchOption, Equal, length, get_or, slice_get, sym, ap, ◌∙◌, inl, inr, arith, subst, replicate}
+use Rattle.std.proofs.Common.{◌≡◌, ◌≢◌, ℕ, ◌+◌, ◌<◌, ◌≤◌, List, Option, Some, None, MatchOption, IfSome, Equal, length, get_or, slice_get, refl, sym, ap, ◌∙◌, inl, inr, arith, subst, replicate}
 use Rattle.std.proofs.Math.ListN.{set}
 use Rattle.std.proofs.lemmas.Bool.{cases_eq, cases_lt, cases_order}
 use Rattle.std.proofs.lemmas.Cmp.{then_total, on_total, nat_list_cmp_total}
@@ -12,7 +12,7 @@ use Rattle.krates_rules.specs.Facts.{Id}
 use Rattle.krates_rules.specs.Referent.{id_order}
 use Rattle.krates_rules.specs.Resolved.{id_of, StandsAt}
 use Rattle.krates_rules.proofs.Standings.{contains_at}
-use Rattle.krates_questions.specs.CrateTable.{Among, AreNumbered, IsIndex, IsNumberOf, IsPlaceOf}
+use Rattle.krates_questions.specs.CrateTable.{Among, AreNumbered, IsIndex, IsNumberOf, IsPlaceOf, at_number}
 use Rattle.krates_questions.proofs.SeenInOrder.{equal_self}
 
 id_order_total : IsTotalOrder id_order
@@ -108,3 +108,13 @@ numbered_place ids list places i n answer d h number is =
 
 pub number_within : (ids : List Id) (list : List Identity) (places : List (Option ℕ)) (i : Id) (n : ℕ) → IsIndex ids list places → IsNumberOf ids i (Some n) → n < length places
 number_within ids list places i n h number = let a = h.each n i number in slice_get_within places n a.0 a.1
+
+-- ---- what stands at a number
+
+pub index_answer : (ids : List Id) (list : List Identity) (places : List (Option ℕ)) (i : Id) (number : Option ℕ) → IsIndex ids list places → IsNumberOf ids i number → IsPlaceOf list i (at_number places number)
+index_answer ids list places i None h none = unnumbered ids list places i h none
+index_answer ids list places i (Some n) h at = numbered_place ids list places i n (get_or places n None) None h at refl
+
+pub index_within : (ids : List Id) (list : List Identity) (places : List (Option ℕ)) (i : Id) (number : Option ℕ) → IsIndex ids list places → IsNumberOf ids i number → IfSome number (λ n. n < length places)
+index_within ids list places i None h none = tt
+index_within ids list places i (Some n) h at = number_within ids list places i n h at

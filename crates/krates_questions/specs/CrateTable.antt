@@ -1,6 +1,8 @@
 -- The crates of a document by number: the place of their id among all ids of the document, in order.
-use Rattle.std.specs.Prelude.{◌≡◌, ℕ, List, Contains, Option, Some, MatchOption, map, slice_get}
+use Rattle.std.specs.Prelude.{◌≡◌, ℕ, List, Contains, Option, None, Some, MatchOption, get_or, map, slice_get}
 use Rattle.std.specs.Borrow.{Bor}
+use Rattle.std.specs.Global.{Vec}
+use Rattle.std.specs.List.{AllZip}
 use Rattle.std.specs.List.Sorted.{IsStrictlySortedBy}
 use Rattle.krates_ids.specs.Identity.{Identity}
 use Rattle.krates_rules.specs.Admission.{IdsModel}
@@ -29,6 +31,11 @@ Among list ids = (k : Identity) → Contains list k → Contains ids (id_of k)
 abbrev pub IsPlaceOf : List Identity → Id → Option ℕ → Type 0
 IsPlaceOf list i answer = MatchOption answer ((place : ℕ) → StandsAt list i place → ⊥) (λ place. StandsAt list i place)
 
+-- what a table has at a number; none where there is no number
+abbrev pub at_number : List (Option ℕ) → Option ℕ → Option ℕ
+at_number places None = None
+at_number places (Some n) = get_or places n None
+
 -- one of these places at which the id stands in the list, or none where it stands at none of them
 abbrev pub IsPlaceAmong : List Identity → List ℕ → Id → Option ℕ → Type 0
 IsPlaceAmong list these i answer =
@@ -39,9 +46,18 @@ pub record IsIndex (ids : List Id) (list : List Identity) (places : List (Option
   pub among : Among list ids
   pub each : (n : ℕ) (i : Id) → slice_get ids n ≡ Some i → (answer : Option ℕ) × (slice_get places n ≡ Some answer) × IsPlaceOf list i answer
 
--- ids are numbered in order; packages, nodes and members are found by number
+-- the number of each of these ids, or none where it isn't numbered
+abbrev pub AreNumbersOf : List Id → List Identity → List (Option ℕ) → Type 0
+AreNumbersOf ids list numbers = AllZip (IsNumberOf ids) (map id_of list) numbers
+
+abbrev pub numbers_in : Vec (Vec (Option ℕ)) → List (List (Option ℕ))
+numbers_in lists = map (λ (v : Vec (Option ℕ)). v.items) lists.items
+
+-- ids are numbered in order; packages, nodes and members are found by number, and the numbers of nodes and dependencies are known
 pub record IsTable (ids : IdsModel) (t : CrateTable) : Type 0 where
   pub numbered : AreNumbered (map id_of t.ids.items)
   pub packages : IsIndex (map id_of t.ids.items) ids.packages t.packages.items
   pub nodes : IsIndex (map id_of t.ids.items) ids.nodes t.nodes.items
   pub members : IsIndex (map id_of t.ids.items) ids.members t.members.items
+  pub node_numbers : AreNumbersOf (map id_of t.ids.items) ids.nodes t.node_numbers.items
+  pub dep_numbers : AllZip (AreNumbersOf (map id_of t.ids.items)) ids.deps (numbers_in t.dep_numbers)

@@ -15,6 +15,7 @@ pub mod NodeEntry
 pub mod Numbering
 pub mod Presence
 pub mod ReferentPlace
+pub mod Renamed
 pub mod RootChoice
 pub mod RootOrder
 pub mod Standing

@@ -11,9 +11,10 @@ use Rattle.krates_rules.specs.Facts.{Id}
 use Rattle.krates_questions.specs.FeatureTable.{AreNumbered, listed_in}
 use Rattle.krates_document.specs.Ids.{ids_view}
 use Rattle.krates_questions.specs.ListedFeatures.{features_from}
-use Rattle.krates_rules.specs.Resolved.{Resolved, HasPackage, NoPackage, NoNode, IsMember, NodeAt, PackageAt}
-use Rattle.krates_questions.specs.CrateTable.{IsTable}
-use Rattle.krates_questions.specs.NameIndex.{IsNameIndex}
+use Rattle.krates_rules.specs.Resolved.{Resolved, HasPackage, NoPackage, NoNode, IsMember, NodeAt, PackageAt, id_of}
+use Rattle.krates_questions.specs.CrateTable.{IsNumberOf, IsTable, numbers_in}
+use Rattle.krates_questions.specs.NameIndex.{IsNameIndex, lists_in}
+use Rattle.krates_questions.specs.Renamed.{AreRenamedIn}
 use Rattle.krates_questions.specs.declared.lookup.Lookup.{Lookup}
 
 abbrev pub resolved_view : Lookup → Resolved
@@ -27,6 +28,7 @@ pub record IsLookup (d : Lookup) : Type 0 where
   pub features : listed_in d.features ≡ features_from 0 (map node_view d.resolve.now.nodes.items)
   pub numbered : AreNumbered d.features
   pub names : IsNameIndex (metadata_view d.metadata.now).packages (resolve_view d.resolve.now).nodes (ids_view d.ids.now).deps d.names
+  pub renamed : AreRenamedIn (metadata_view d.metadata.now).packages d.table.packages.items (resolve_view d.resolve.now).nodes (ids_view d.ids.now).deps (numbers_in d.table.dep_numbers) (lists_in d.renamed)
 
 -- whether the crate is a member of the workspace
 abbrev pub TellsMember : Resolved → Id → Bool → Type 0
@@ -50,3 +52,13 @@ TellsPackage r i answer = IsPackageOf r i (option_map (λ pkg. package_view pkg.
 -- the look-ups are those of this document, this graph and these ids
 abbrev pub IsOf : Metadata → Resolve → Ids → Lookup → Type 0
 IsOf metadata resolve ids d = (d.metadata.now ≡ metadata) × (d.resolve.now ≡ resolve) × (d.ids.now ≡ ids)
+
+-- ---- by number
+
+-- the number of the crate, or none where it has none
+abbrev pub IsNumberIn : Lookup → Id → Option ℕ → Type 0
+IsNumberIn d i number = IsNumberOf (map id_of d.table.ids.items) i number
+
+-- the number is that of some crate, or none of one that has none
+abbrev pub IsNumber : Lookup → Option ℕ → Type 0
+IsNumber d number = (i : Id) × IsNumberIn d i number

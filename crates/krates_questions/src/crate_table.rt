@@ -1,8 +1,9 @@
 //! The crates of a document, numbered by the places of their ids among all of them.
 
 ghost use Rattle.std.specs.Prelude.{◌≡◌, ◌++◌, IfOk, OnOk, map};
+ghost use Rattle.std.specs.List.{AllZip};
 ghost use Rattle.krates_document.specs.Ids.{ids_view};
-ghost use Rattle.krates_questions.specs.CrateTable.{Among, AreNumbered, IsIndex, IsNumberOf, IsTable, lent_to};
+ghost use Rattle.krates_questions.specs.CrateTable.{Among, AreNumbered, AreNumbersOf, IsIndex, IsNumberOf, IsTable, lent_to, numbers_in};
 ghost use Rattle.krates_rules.specs.Resolved.{id_of};
 
 use crate::sorted::in_order;
@@ -21,6 +22,10 @@ pub struct CrateTable {
     pub nodes: Vec<Option<usize>>,
     /// A place of it among the members of the workspace.
     pub members: Vec<Option<usize>>,
+    /// The number of the crate of each node.
+    pub node_numbers: Vec<Option<usize>>,
+    /// The number of the crate of each dependency of each node; none where it has neither package nor node and is no member.
+    pub dep_numbers: Vec<Vec<Option<usize>>>,
 }
 
 /// The crates with these ids, by number.
@@ -31,11 +36,15 @@ pub(crate) fn crate_table(alloc: Global, ids: &Ids) -> Result<CrateTable, AllocE
     let packages = places_of(alloc, &numbered, &ids.packages)?;
     let nodes = places_of(alloc, &numbered, &ids.nodes)?;
     let members = places_of(alloc, &numbered, &ids.members)?;
+    let node_numbers = numbers_of(alloc, &numbered, &ids.nodes)?;
+    let dep_numbers = numbers_of_each(alloc, &numbered, &ids.deps)?;
     Ok(CrateTable {
         ids: numbered,
         packages,
         nodes,
         members,
+        node_numbers,
+        dep_numbers,
     })
 }
 
@@ -69,7 +78,7 @@ fn lend_all<'a>(ids: &'a [Kid], all: &mut Vec<&'a Kid>) -> Result<(), AllocError
 fn copies(alloc: Global, ids: &[&Kid]) -> Result<Vec<Kid>, AllocError>
     ensures { IfOk result (λ kids. kids.items ≡ lent_to ids.now) }
 {
-    let mut kids = Vec::new(alloc);
+    let mut kids = Vec::with_capacity(alloc, ids.len())?;
     for id in ids {
         kids.push((*id).clone()?)?;
     }
@@ -99,4 +108,33 @@ fn places_of(alloc: Global, ids: &[Kid], list: &[Kid]) -> Result<Vec<Option<usiz
         places[number] = Some(place);
     }
     Ok(places)
+}
+
+/// The number of each id of the list, where it has one.
+fn numbers_of(alloc: Global, ids: &[Kid], list: &[Kid]) -> Result<Vec<Option<usize>>, AllocError>
+    requires { AreNumbered (map id_of ids.now) }
+    ensures { IfOk result (λ numbers. AreNumbersOf (map id_of ids.now) list.now numbers.items) }
+{
+    let mut numbers = Vec::with_capacity(alloc, list.len())?;
+    for id in list {
+        numbers.push(number_of(ids, id))?;
+    }
+    Ok(numbers)
+}
+
+/// The number of each id of each of the lists, where it has one.
+fn numbers_of_each(
+    alloc: Global,
+    ids: &[Kid],
+    lists: &[Vec<Kid>],
+) -> Result<Vec<Vec<Option<usize>>>, AllocError>
+    requires { AreNumbered (map id_of ids.now) }
+    ensures { IfOk result (λ numbers. AllZip (AreNumbersOf (map id_of ids.now)) (map (λ kids. kids.items)
+        lists.now) (numbers_in numbers)) }
+{
+    let mut numbers = Vec::with_capacity(alloc, lists.len())?;
+    for list in lists {
+        numbers.push(numbers_of(alloc, ids, list)?)?;
+    }
+    Ok(numbers)
 }

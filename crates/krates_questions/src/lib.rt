@@ -12,6 +12,7 @@ pub mod name_index;
 pub mod node_entry;
 pub mod questions;
 pub mod referent;
+pub mod renamed;
 pub mod root_choice;
 pub mod sorted;
 pub mod standing;

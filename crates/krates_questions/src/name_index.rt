@@ -45,7 +45,7 @@ fn declared_by_name<'a>(
 ) -> Result<Vec<Vec<NamedPlace<'a>>>, AllocError>
     ensures { IfOk result (λ lists. AllZip AreDeclaredIn (map package_view packages.now) (lists_in lists)) }
 {
-    let mut lists = Vec::new(alloc);
+    let mut lists = Vec::with_capacity(alloc, packages.len())?;
     for pkg in packages {
         lists.push(named_places(alloc, &pkg.dependencies)?)?;
     }
@@ -59,7 +59,7 @@ fn deps_by_name<'a>(
 ) -> Result<Vec<Vec<NamedPlace<'a>>>, AllocError>
     ensures { IfOk result (λ lists. AllZip AreDepsOf (map node_view nodes.now) (lists_in lists)) }
 {
-    let mut lists = Vec::new(alloc);
+    let mut lists = Vec::with_capacity(alloc, nodes.len())?;
     for node in nodes {
         lists.push(named_places(alloc, &node.deps)?)?;
     }
@@ -73,7 +73,7 @@ fn ids_by_name<'a>(
 ) -> Result<Vec<Vec<NamedPlace<'a>>>, AllocError>
     ensures { IfOk result (λ lists. AllZip AreIdsNamed (map (λ kids. kids.items) ids.now) (lists_in lists)) }
 {
-    let mut lists = Vec::new(alloc);
+    let mut lists = Vec::with_capacity(alloc, ids.len())?;
     for kids in ids {
         lists.push(named_places(alloc, kids)?)?;
     }

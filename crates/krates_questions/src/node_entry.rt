@@ -2,14 +2,17 @@
 
 ghost use Rattle.std.specs.Prelude.{◌≡◌, ◌<◌, ◌↔◌, IsTrue, length, map, Some, slice_get};
 ghost use Rattle.krates_cm.specs.Document.{dependency_view, dep_kind_info_view};
-ghost use Rattle.krates_questions.specs.Lookup.{IsLookup, resolved_view};
-ghost use Rattle.krates_questions.specs.NodeEntry.{AreDeclaredBy, AreParts, IsEntryOf, TellsDeclaredPlaces};
-ghost use Rattle.krates_rules.specs.Resolved.{id_of};
+ghost use Rattle.krates_questions.specs.Lookup.{IsLookup, IsNodePlace, IsNumber, IsNumberIn, resolved_view};
+ghost use Rattle.krates_questions.specs.NodeEntry.{AreDeclaredBy, AreParts, IsEntry, IsEntryOf, TellsDeclaredPlaces, child_of, parent_of};
+ghost use Rattle.krates_rules.specs.Facts.{Id};
+ghost use Rattle.krates_rules.specs.Resolved.{NodeAt, id_of};
 
-use crate::lookup::{Lookup, is_member, package_of, package_place};
+use crate::lookup::{
+    Lookup, crate_number, is_member_at, node_place_at, package_at, package_place_at,
+};
 use krates_cm::{DepKindInfo, Dependency, NodeDep};
 use krates_document::named_places::NamedPlace;
-use krates_ids::Kid;
+use krates_ids::{Kid, laws};
 use semver::Version;
 
 /// A dependency of a kept crate's node, beside what its package declares.
@@ -61,20 +64,21 @@ pub struct NodeParts<'a> {
     pub is_member: bool,
 }
 
-/// The node at a place, taken apart. Time O(log n) in the crates.
+/// The node at a place, taken apart. Time O(1).
 pub fn parts_of<'a>(lookup: &Lookup<'a>, place: usize) -> NodeParts<'a>
     requires lookup { IsLookup lookup.now }
     requires within { place < length (resolved_view lookup.now).graph.nodes }
     ensures { AreParts (resolved_view lookup.now) place result }
 {
     let parent = &lookup.ids.nodes[place];
+    let number = node_number(lookup, place);
     NodeParts {
         parent,
-        declared: declared_by(lookup, parent),
+        declared: declared_by(lookup, number),
         deps: &lookup.resolve.nodes[place].deps,
         children: &lookup.ids.deps[place],
         place,
-        is_member: is_member(lookup, parent),
+        is_member: is_member_at(lookup, number),
     }
 }
 
@@ -103,15 +107,55 @@ pub fn declared_at<'a>(entry: &NodeEntry<'a>, place: usize) -> &'a Dependency
     &entry.declared[place]
 }
 
-/// The dependencies that the package of a crate declares; none where it has no package.
-pub(crate) fn declared_by<'a>(lookup: &Lookup<'a>, krate: &'a Kid) -> &'a [Dependency]
-    requires { IsLookup lookup.now }
-    ensures { AreDeclaredBy (resolved_view lookup.now) (id_of krate.now) (map dependency_view result.now) }
+/// The dependencies that the package of the crate with the number declares; none where it has no package.
+fn declared_by<'a>(lookup: &Lookup<'a>, number: Option<usize>) -> &'a [Dependency]
+    requires lookup { IsLookup lookup.now }
+    requires number { IsNumber lookup.now number }
+    ensures { (i : Id) → IsNumberIn lookup.now i number
+        → AreDeclaredBy (resolved_view lookup.now) i (map dependency_view result.now) }
 {
-    match package_of(lookup, krate) {
+    match package_at(lookup, number) {
         Some(pkg) => &pkg.dependencies,
         None => &[],
     }
+}
+
+/// The number of the crate whose node stands at the place.
+fn node_number(lookup: &Lookup<'_>, place: usize) -> Option<usize>
+    requires lookup { IsLookup lookup.now }
+    requires within { place < length (resolved_view lookup.now).graph.nodes }
+    ensures { (i : Id) → NodeAt (resolved_view lookup.now) i place → IsNumberIn lookup.now i result }
+{
+    laws::one_reading();
+    lookup.table.node_numbers[place]
+}
+
+/// The number of the crate that a dependency leads to. Time O(1).
+pub(crate) fn child_number(lookup: &Lookup<'_>, entry: &NodeEntry<'_>) -> Option<usize>
+    requires lookup { IsLookup lookup.now }
+    requires entry { IsEntry (resolved_view lookup.now) entry.now }
+    ensures { IsNumberIn lookup.now (child_of entry.now) result }
+{
+    laws::one_reading();
+    lookup.table.dep_numbers[entry.place][entry.index]
+}
+
+/// The place of the node of the crate that a dependency leads to. None where it has none. Time O(1).
+pub fn child_place(lookup: &Lookup<'_>, entry: &NodeEntry<'_>) -> Option<usize>
+    requires lookup { IsLookup lookup.now }
+    requires entry { IsEntry (resolved_view lookup.now) entry.now }
+    ensures { IsNodePlace (resolved_view lookup.now) (child_of entry.now) result }
+{
+    node_place_at(lookup, child_number(lookup, entry))
+}
+
+/// Where what the package of a dependency's parent declares stands by name. Nothing where it has no package. Time O(1).
+pub fn places_for<'a, 's>(lookup: &'s Lookup<'a>, entry: &NodeEntry<'_>) -> &'s [NamedPlace<'a>]
+    requires lookup { IsLookup lookup.now }
+    requires entry { IsEntry (resolved_view lookup.now) entry.now }
+    ensures { TellsDeclaredPlaces (resolved_view lookup.now) (parent_of entry.now) result.now }
+{
+    places_at(lookup, node_number(lookup, entry.place))
 }
 
 /// Where what the package of a crate declares stands by name. Nothing where it has no package. Time O(log n) in the
@@ -120,7 +164,17 @@ pub fn declared_places<'a, 's>(lookup: &'s Lookup<'a>, krate: &Kid) -> &'s [Name
     requires { IsLookup lookup.now }
     ensures { TellsDeclaredPlaces (resolved_view lookup.now) (id_of krate.now) result.now }
 {
-    match package_place(lookup, krate) {
+    places_at(lookup, crate_number(lookup, krate))
+}
+
+/// Where what the package of the crate with the number declares stands by name.
+fn places_at<'a, 's>(lookup: &'s Lookup<'a>, number: Option<usize>) -> &'s [NamedPlace<'a>]
+    requires lookup { IsLookup lookup.now }
+    requires number { IsNumber lookup.now number }
+    ensures { (i : Id) → IsNumberIn lookup.now i number
+        → TellsDeclaredPlaces (resolved_view lookup.now) i result.now }
+{
+    match package_place_at(lookup, number) {
         Some(place) => &lookup.names.declared[place],
         None => &[],
     }

@@ -30,7 +30,7 @@ pub struct Referent<'a> {
 /// All that a name means in a reference of a crate, in the order of ids: the dependencies of its node that answer to it, as
 /// `referent_of` has it, or the least of them alone.
 ///
-/// Only those are looked at that have the name, which are found by halves. The only error is running out of memory.
+/// Only those are looked at that may answer, which are found by halves. The only error is running out of memory.
 pub fn referents_of<'a>(
     alloc: Global,
     lookup: &Lookup<'a>,
@@ -71,7 +71,7 @@ fn all_referents<'a>(
     let mut referents = Vec::new(alloc);
     let own = places_under(&lookup.names.deps[parts.place], name, "");
     push_answering(lookup, parts, own, name, &mut referents)?;
-    let of_package = places_under(&lookup.names.children[parts.place], name, "");
+    let of_package = places_under(&lookup.renamed[parts.place], name, "");
     push_answering(lookup, parts, of_package, name, &mut referents)?;
     in_order(referents)
 }
@@ -103,7 +103,8 @@ fn push_answering<'a>(
 /// that answer to it, by their own name or by that of their package where their own is the package's library
 /// (Cargo Book, "Features" and "cargo metadata", `resolve`).
 ///
-/// Only those are looked at that have the name, their own or that of their package, which are found by halves.
+/// Only those are looked at that have the name as their own, or as that of a package whose library they are named as. They are
+/// found by halves.
 pub fn referent_of<'a>(lookup: &Lookup<'a>, parts: &NodeParts<'a>, name: &str) -> Option<usize>
     requires lookup { IsLookup lookup.now }
     requires parts { AreParts (resolved_view lookup.now) parts.now.place parts.now }
@@ -112,7 +113,7 @@ pub fn referent_of<'a>(lookup: &Lookup<'a>, parts: &NodeParts<'a>, name: &str) -
     laws::one_reading();
     let own = places_under(&lookup.names.deps[parts.place], name, "");
     let least = least_of(lookup, parts, own, name, None);
-    let of_package = places_under(&lookup.names.children[parts.place], name, "");
+    let of_package = places_under(&lookup.renamed[parts.place], name, "");
     least_of(lookup, parts, of_package, name, least)
 }
 
@@ -190,7 +191,7 @@ pub(crate) fn answers_to<'a>(lookup: &Lookup<'a>, child: &'a Kid, dep: &NodeDep,
 }
 
 /// Whether the library of a package has this name, which isn't that of the package.
-fn is_library_rename(pkg: &Package, name: &str) -> bool
+pub(crate) fn is_library_rename(pkg: &Package, name: &str) -> bool
     ensures { IsTrue result ↔ IsLibraryRename (package_view pkg.now) name.now }
 {
     match library_of(pkg) {

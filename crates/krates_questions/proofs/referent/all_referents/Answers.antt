@@ -3,11 +3,12 @@ use Rattle.krates_document.specs.Ids.{ids_view}
 use Rattle.krates_document.specs.NamedPlaces.{AreInOrder, StandsUnder, no_target, places_in}
 use Rattle.krates_document.specs.declared.named_places.NamedPlace.{NamedPlace}
 use Rattle.krates_questions.specs.Lookup.{resolved_view}
-use Rattle.krates_questions.specs.NameIndex.{AreDepsOf, AreIdsNamed}
+use Rattle.krates_questions.specs.NameIndex.{AreDepsOf}
 use Rattle.krates_rules.specs.Admission.{AreDepIds}
 use Rattle.krates_rules.proofs.Readings.{right_of}
 use Rattle.krates_questions.proofs.AllReferents.{if_ok_three, none_found, same_place, sorted_in}
 use Rattle.krates_questions.proofs.LeastReferents.{AreLookedAt, answers_among, names_at, names_within}
+use Rattle.krates_questions.proofs.RenamedPlaces.{renamed_at, renamed_within}
 use Rattle.krates_questions.proofs.referent.all_referents.Goals as goal
 
 pub index-requires : goal.index-requires
@@ -28,14 +29,14 @@ index-requires-2 c =
     let d = c.args.lookup.now in
     let p = c.requires.parts in
     let kids = right_of AreDepIds (resolved_view d).graph.nodes (ids_view d.ids.now).deps c.args.parts.now.place p.at.node c.requires.lookup.ids.deps p.at.at in
-    names_within AreIdsNamed (ids_view d.ids.now).deps d.names.children c.args.parts.now.place kids.0 c.requires.lookup.names.children kids.1
+    renamed_within d c.args.parts.now.place p.at.node kids.0 c.requires.lookup p.at.at kids.1
 
 pub places_under-of_package-requires : goal.places_under-of_package-requires
 places_under-of_package-requires c =
     let d = c.args.lookup.now in
     let p = c.requires.parts in
     let kids = right_of AreDepIds (resolved_view d).graph.nodes (ids_view d.ids.now).deps c.args.parts.now.place p.at.node c.requires.lookup.ids.deps p.at.at in
-    let children = names_at AreIdsNamed (ids_view d.ids.now).deps d.names.children c.args.parts.now.place kids.0 c.index-2.result.now c.requires.lookup.names.children kids.1 c.index-2.ensures in
+    let children = renamed_at c.one_reading.ensures.once d c.args.parts.now.place p.at.node kids.0 c.index-2.result.now c.requires.lookup p.at.at kids.1 c.index-2.ensures in
     subst AreInOrder (sym c.deref-2.ensures.value) children.sorted
 
 pub returns : goal.returns
@@ -47,7 +48,7 @@ returns c =
     let p = c.requires.parts in
     let own = names_at AreDepsOf r.graph.nodes d.names.deps parts.place p.at.node c.index.result.now c.requires.lookup.names.deps p.at.at c.index.ensures in
     let kids = right_of AreDepIds r.graph.nodes (ids_view d.ids.now).deps parts.place p.at.node c.requires.lookup.ids.deps p.at.at in
-    let children = names_at AreIdsNamed (ids_view d.ids.now).deps d.names.children parts.place kids.0 c.index-2.result.now c.requires.lookup.names.children kids.1 c.index-2.ensures in
+    let children = renamed_at c.one_reading.ensures.once d parts.place p.at.node kids.0 c.index-2.result.now c.requires.lookup p.at.at kids.1 c.index-2.ensures in
     let these = places_in c.places_under-own.result.now in
     let those = places_in c.places_under-of_package.result.now in
     let seen : AreLookedAt name c.index.result.now.items these = record { each = λ k s. c.places_under-own.ensures k (subst (λ (all : List NamedPlace). StandsUnder all name no_target k) (sym c.deref.ensures.value) s) } in
