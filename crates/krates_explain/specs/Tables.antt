@@ -1,5 +1,6 @@
 -- Numbered facts by the numbers of the kept crates.
-use Rattle.std.specs.Prelude.{◌≡◌, ℕ, ◌<◌, List, All, Contains, length, map}
+use Rattle.std.specs.Prelude.{◌≡◌, ℕ, ◌<◌, List, All, Contains, Option, length, map}
+use Rattle.std.specs.List.{AllZip}
 use Rattle.krates_cm.specs.Document.{Text}
 use Rattle.krates_explain.specs.Explanation.{AreBelow, uses_in}
 use Rattle.krates_explain.specs.KeptFacts.{IsBelow, fact_in, facts_in, id_at, steps_in}
@@ -10,7 +11,7 @@ use Rattle.krates_explain.specs.declared.key.FeatureKey.{FeatureKey}
 use Rattle.krates_explain.specs.declared.keys.Tables.{Tables}
 use Rattle.krates_explain.specs.declared.kept.KeptStep.{KeptStep}
 use Rattle.krates_ids.specs.Identity.{Identity}
-use Rattle.krates_questions.specs.CrateTable.{AreNumbered}
+use Rattle.krates_questions.specs.CrateTable.{AreNumbered, IsNumberOf}
 use Rattle.krates_questions.specs.Lookup.{IsLookup, resolved_view}
 use Rattle.krates_questions.specs.Numbering.{FeatureAt}
 use Rattle.krates_resolve.specs.Trace.{EdgeAt, HasSomeStep, Names}
@@ -30,10 +31,15 @@ document_in t = resolved_view t.lookup.now
 abbrev pub kids_in : Tables → List Identity
 kids_in t = t.krates.now
 
--- the document is looked up, and the crates are in order
+-- the number of each id among those of the crates, or none where it isn't among them
+abbrev pub AreNumbersIn : List Identity → List Identity → List (Option ℕ) → Type 0
+AreNumbersIn kids ids numbers = AllZip (λ (i : Identity) (n : Option ℕ). IsNumberOf (map id_of kids) (id_of i) n) ids numbers
+
+-- the document is looked up, the crates are in order, and the numbers are those of the crates of its nodes
 pub record IsTables (t : Tables) : Type 0 where
   pub lookup : IsLookup t.lookup.now
   pub ascending : AreNumbered (map id_of t.krates.now)
+  pub numbers : AreNumbersIn t.krates.now t.lookup.now.ids.now.nodes.items t.numbers.now
 
 -- ---- what is kept
 
