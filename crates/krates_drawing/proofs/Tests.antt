@@ -14,7 +14,7 @@ use Rattle.krates_resolve.specs.SelectionOrder.{feature_cmp, place_cmp, toggled_
 use Rattle.krates_resolve.specs.declared.selection.ToggledFeature.{ToggledFeature}
 use Rattle.krates_rules.specs.Resolved.{id_of}
 use Rattle.krates_drawing.specs.Drawing.{id_eq, place_of}
-use Rattle.krates_drawing.specs.SheetOrder.{AreByChild}
+use Rattle.krates_drawing.specs.SheetOrder.{AreByChild, AreByKrate}
 use Rattle.krates_drawing.specs.declared.sheet.Link.{Link}
 use Rattle.krates_drawing.specs.declared.sheet.Named.{Named}
 use Rattle.krates_drawing.proofs.Halves.{IsCut, below_later, rises_weakly, stands_in}
@@ -42,10 +42,6 @@ equal_ids a b =
 -- and so are ids with names
 pub equal_named : (a b : Identity) (f g : Text) → is_eq (ordering_then (id_cmp a b) (slice_cmp nat_cmp f g)) ≡ (id_eq (id_of a) (id_of b) && bytes_eq f g)
 equal_named a b f g = then_eq (id_cmp a b) (slice_cmp nat_cmp f g) ∙ and_same _ _ _ _ (equal_ids a b) (is_eq-slice_cmp f g)
-
--- and pairs of ids
-pub equal_pairs : (a b c d : Identity) → is_eq (ordering_then (id_cmp a b) (id_cmp c d)) ≡ (id_eq (id_of a) (id_of b) && id_eq (id_of c) (id_of d))
-equal_pairs a b c d = then_eq (id_cmp a b) (id_cmp c d) ∙ and_same _ _ _ _ (equal_ids a b) (equal_ids c d)
 
 -- ---- tests of what is seen
 
@@ -79,12 +75,6 @@ named_cmp a b = ordering_then (id_cmp a.0 b.0) (slice_cmp nat_cmp a.1 b.1)
 pub named_total : IsTotalOrder named_cmp
 named_total = search (comparing, rules) depth 9
 
-abbrev pub pair_cmp : Identity × Identity → Identity × Identity → Ordering
-pair_cmp a b = ordering_then (id_cmp a.0 b.0) (id_cmp a.1 b.1)
-
-pub pairs_total : IsTotalOrder pair_cmp
-pairs_total = search (comparing, rules) depth 9
-
 -- ---- lists in order, seen otherwise
 
 all_as : {A B C : Type 0} (R : B → B → Ordering) (S : C → C → Ordering) (f : A → B) (g : A → C) → ((a b : A) → S (g a) (g b) ≡ R (f a) (f b)) → (x : A) (xs : List A) → AllByRecursion (λ y. R (f x) y ≡ Less) (map f xs) → AllByRecursion (λ y. S (g x) y ≡ Less) (map g xs)
@@ -110,11 +100,6 @@ first_low Less b e g = cc g
 first_low Equal b e g = cc g
 first_low Greater b e g = cc e
 
-pair_low : (a b c : Ordering) → ordering_then a (ordering_then b c) ≡ Less → ordering_then a b ≡ Greater → ⊥
-pair_low Less b c e g = cc g
-pair_low Equal b c e g = first_low b c e g
-pair_low Greater b c e g = cc e
-
 second_low : (a b c : Ordering) → a ≡ Equal → ordering_then a (ordering_then b c) ≡ Less → b ≡ Greater → ⊥
 second_low Less b c same e g = cc same
 second_low Equal b c same e g = first_low b c e g
@@ -128,19 +113,38 @@ links_by_parent xs p sorted = rises_weakly ids_total (λ (l : Link). l.edge.pare
 pub links_by_child : (mine : List Link) (q : Identity) → AreByChild mine → IsNonDecreasingBy (λ (l : Link). ordering_index (id_cmp l.edge.child q)) mine
 links_by_child mine q by = rises_weakly ids_total (λ (l : Link). l.edge.child) mine q by
 
-abbrev pub toggled_key : ToggledFeature → Identity × Identity
-toggled_key t = (t.by, t.krate)
-
 itself : {A : Type 0} (xs : List A) → map (λ x. x) xs ≡ xs
 itself [] = refl
 itself (x ∷ xs) = ap (λ ys. x ∷ ys) (itself xs)
 
-pub toggled_by_pair : (xs : List ToggledFeature) (p q : Identity) → IsStrictlySortedBy toggled_cmp xs → IsNonDecreasingBy (λ (t : ToggledFeature). ordering_index (pair_cmp (toggled_key t) (p, q))) xs
-toggled_by_pair xs p q sorted =
-    rises_weakly pairs_total toggled_key xs (p, q) (λ i j d l lt.
-    let a = get_or xs i d in
-    let b = get_or xs j d in
-    pair_low (id_cmp a.by b.by) (id_cmp a.krate b.krate) (slice_cmp nat_cmp (text_view a.name) (text_view b.name)) (below_later toggled_cmp (λ (t : ToggledFeature). t) xs i j d (subst (IsStrictlySortedBy toggled_cmp) (sym (itself xs)) sorted) l lt))
+-- toggled features in order rise by the crate that toggles them
+pub toggled_by_crate : (xs : List ToggledFeature) (p : Identity) → IsStrictlySortedBy toggled_cmp xs → IsNonDecreasingBy (λ (t : ToggledFeature). ordering_index (id_cmp t.by p)) xs
+toggled_by_crate xs p sorted =
+    rises_weakly ids_total (λ (t : ToggledFeature). t.by) xs p (λ i j d l lt. first_low _ _ (below_later toggled_cmp (λ (t : ToggledFeature). t) xs i j d (subst (IsStrictlySortedBy toggled_cmp) (sym (itself xs)) sorted) l lt))
+
+-- those of one crate rise by the crate whose they are
+pub toggled_by_krate : (mine : List ToggledFeature) (q : Identity) → AreByKrate mine → IsNonDecreasingBy (λ (t : ToggledFeature). ordering_index (id_cmp t.krate q)) mine
+toggled_by_krate mine q by = rises_weakly ids_total (λ (t : ToggledFeature). t.krate) mine q by
+
+is_equal : (r : Ordering) → is_eq r ≡ true → r ≡ Equal
+is_equal Less e = cc e
+is_equal Equal e = refl
+is_equal Greater e = cc e
+
+-- the features that a crate toggles are in order by the crate whose they are
+pub cut_by_krate : (xs mine : List ToggledFeature) (p : Identity) → IsStrictlySortedBy toggled_cmp xs → IsCut (λ (t : ToggledFeature). id_cmp t.by p) xs mine → AreByKrate mine
+cut_by_krate xs mine p sorted w i j d l lt greater =
+    let ord : ToggledFeature → Ordering = λ t. id_cmp t.by p in
+    let here = stands_in ord xs mine w i d (omega (arith, l, lt)) in
+    let there = stands_in ord xs mine w j d lt in
+    let a = get_or xs (w.n + i) d in
+    let b = get_or xs (w.n + j) d in
+    let less : toggled_cmp a b ≡ Less = below_later toggled_cmp (λ (t : ToggledFeature). t) xs (w.n + i) (w.n + j) d (subst (IsStrictlySortedBy toggled_cmp) (sym (itself xs)) sorted) (omega (arith, l)) there.within in
+    let first : id_cmp a.by p ≡ Equal = is_equal (id_cmp a.by p) here.equal in
+    let second : id_cmp b.by p ≡ Equal = is_equal (id_cmp b.by p) there.equal in
+    let same : id_cmp a.by b.by ≡ Equal = ids_total.congr a.by p b.by first ∙ ids_total.antisymm p b.by ∙ ap ordering_reverse second in
+    second_low (id_cmp a.by b.by) (id_cmp a.krate b.krate) (slice_cmp nat_cmp (text_view a.name) (text_view b.name)) same less
+    (ap (λ (z : ToggledFeature). id_cmp z.krate b.krate) (sym here.same) ∙ ap (λ (z : ToggledFeature). id_cmp (get_or mine i d).krate z.krate) (sym there.same) ∙ greater)
 
 -- the edges from a crate are in order by child
 pub cut_by_child : (xs mine : List Link) (p : Identity) → IsStrictlySortedBy place_cmp (map (λ l. l.edge) xs) → IsCut (λ (l : Link). id_cmp l.edge.parent p) xs mine → AreByChild mine
@@ -155,11 +159,17 @@ cut_by_child xs mine p sorted w i j d l lt greater =
     let parents : id_cmp a.edge.parent b.edge.parent ≡ Equal = ids_total.congr a.edge.parent p b.edge.parent first ∙ ids_total.antisymm p b.edge.parent ∙ ap ordering_reverse second in
     second_low (id_cmp a.edge.parent b.edge.parent) (id_cmp a.edge.child b.edge.child) (nat_cmp a.edge.place b.edge.place) parents less
     (ap (λ (z : Link). id_cmp z.edge.child b.edge.child) (sym here.same) ∙ ap (λ (z : Link). id_cmp (get_or mine i d).edge.child z.edge.child) (sym there.same) ∙ greater)
-  where
-    is_equal : (r : Ordering) → is_eq r ≡ true → r ≡ Equal
-    is_equal Less e = cc e
-    is_equal Equal e = refl
-    is_equal Greater e = cc e
+
+-- ---- a filter of a filter
+
+step_twice : {A : Type 0} (b c : Bool) (q : A → Bool) (x : A) (ys zs : List A) → q x ≡ c → filter q ys ≡ zs → filter q (cond b (x ∷ ys) ys) ≡ cond (b && c) (x ∷ zs) zs
+step_twice true c q x ys zs e f = ap (λ d. cond d (x ∷ filter q ys) (filter q ys)) e ∙ ap (λ ws. cond c (x ∷ ws) ws) f
+step_twice false c q x ys zs e f = f
+
+-- what passes one test and then another passes both
+pub filter_twice : {A : Type 0} (p q : A → Bool) (xs : List A) → filter q (filter p xs) ≡ filter (λ x. p x && q x) xs
+filter_twice p q [] = refl
+filter_twice p q (x ∷ xs) = step_twice (p x) (q x) q x (filter p xs) (filter (λ y. p y && q y) xs) refl (filter_twice p q xs)
 
 -- ---- a filter that leaves nothing
 
