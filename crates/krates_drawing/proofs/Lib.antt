@@ -7,6 +7,7 @@ pub mod Derivations
 pub mod DocumentSheets
 pub mod Drawn
 pub mod Entries
+pub mod FeaturePlaces
 pub mod FewerLines
 pub mod Gathering
 pub mod Halves
@@ -25,6 +26,7 @@ pub mod Placed
 pub mod Rebuilt
 pub mod SaidAlike
 pub mod SheetThere
+pub mod Sources
 pub mod Standing
 pub mod Storing
 pub mod Tests

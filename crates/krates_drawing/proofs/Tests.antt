@@ -14,7 +14,7 @@ use Rattle.krates_resolve.specs.SelectionOrder.{feature_cmp, place_cmp, toggled_
 use Rattle.krates_resolve.specs.declared.selection.ToggledFeature.{ToggledFeature}
 use Rattle.krates_rules.specs.Resolved.{id_of}
 use Rattle.krates_drawing.specs.Drawing.{id_eq, place_of}
-use Rattle.krates_drawing.specs.SheetOrder.{AreByChild}
+use Rattle.krates_drawing.specs.SheetOrder.{AreByChild, AreByKrate}
 use Rattle.krates_drawing.specs.declared.sheet.Link.{Link}
 use Rattle.krates_drawing.specs.declared.sheet.Named.{Named}
 use Rattle.krates_drawing.proofs.Halves.{IsCut, below_later, rises_weakly, stands_in}
@@ -29,7 +29,7 @@ then_eq Greater b = refl
 and_same : (a b c d : Bool) → a ≡ c → b ≡ d → (a && b) ≡ (c && d)
 and_same a b c d e f = ap (λ x. x && b) e ∙ ap (λ x. c && x) f
 
--- the test of equal ids agrees with their order
+-- ids are equal by test where they compare so
 pub equal_ids : (a b : Identity) → is_eq (id_cmp a b) ≡ id_eq (id_of a) (id_of b)
 equal_ids a b =
     let name = slice_cmp nat_cmp a.name b.name in
@@ -39,20 +39,16 @@ equal_ids a b =
     then_eq version source ∙ and_same _ _ _ _ (is_eq-slice_cmp a.version b.version) (is_eq-slice_cmp a.source b.source) in
     then_eq name (ordering_then version source) ∙ and_same _ _ _ _ (is_eq-slice_cmp a.name b.name) inner
 
--- so does the test of ids with names
+-- and so are ids with names
 pub equal_named : (a b : Identity) (f g : Text) → is_eq (ordering_then (id_cmp a b) (slice_cmp nat_cmp f g)) ≡ (id_eq (id_of a) (id_of b) && bytes_eq f g)
 equal_named a b f g = then_eq (id_cmp a b) (slice_cmp nat_cmp f g) ∙ and_same _ _ _ _ (equal_ids a b) (is_eq-slice_cmp f g)
 
--- and of pairs of ids
-pub equal_pairs : (a b c d : Identity) → is_eq (ordering_then (id_cmp a b) (id_cmp c d)) ≡ (id_eq (id_of a) (id_of b) && id_eq (id_of c) (id_of d))
-equal_pairs a b c d = then_eq (id_cmp a b) (id_cmp c d) ∙ and_same _ _ _ _ (equal_ids a b) (equal_ids c d)
-
--- ---- tests of views
+-- ---- tests of what is seen
 
 step_place : (b c : Bool) (m n : ℕ) → b ≡ c → m ≡ n → cond b 0 (suc m) ≡ cond c 0 (suc n)
 step_place b c m n e f = ap (λ x. cond x 0 (suc m)) e ∙ ap (λ k. cond c 0 (suc k)) f
 
--- the first place among the views is the first place among the elements
+-- the place among what is seen is the place among all
 pub place_seen : {A B : Type 0} (v : A → B) (p : B → Bool) (q : A → Bool) (xs : List A) → ((x : A) → q x ≡ p (v x)) → place_of p (map v xs) ≡ place_of q xs
 place_seen v p q [] same = refl
 place_seen v p q (x ∷ xs) same = step_place (p (v x)) (q x) (place_of p (map v xs)) (place_of q xs) (sym (same x)) (place_seen v p q xs same)
@@ -63,7 +59,7 @@ step_filter v true false x ys xs e f = absurd cc
 step_filter v false true x ys xs e f = absurd cc
 step_filter v false false x ys xs e f = f
 
--- filtering the views gives the views of what the filter leaves
+-- what is left of what is seen is what is seen of what is left
 pub filter_seen : {A B : Type 0} (v : A → B) (p : B → Bool) (q : A → Bool) (xs : List A) → ((x : A) → q x ≡ p (v x)) → filter p (map v xs) ≡ map v (filter q xs)
 filter_seen v p q [] same = refl
 filter_seen v p q (x ∷ xs) same = step_filter v (p (v x)) (q x) x (filter p (map v xs)) (filter q xs) (sym (same x)) (filter_seen v p q xs same)
@@ -79,13 +75,7 @@ named_cmp a b = ordering_then (id_cmp a.0 b.0) (slice_cmp nat_cmp a.1 b.1)
 pub named_total : IsTotalOrder named_cmp
 named_total = search (comparing, rules) depth 9
 
-abbrev pub pair_cmp : Identity × Identity → Identity × Identity → Ordering
-pair_cmp a b = ordering_then (id_cmp a.0 b.0) (id_cmp a.1 b.1)
-
-pub pairs_total : IsTotalOrder pair_cmp
-pairs_total = search (comparing, rules) depth 9
-
--- ---- lists sorted by another view
+-- ---- lists in order, seen otherwise
 
 all_as : {A B C : Type 0} (R : B → B → Ordering) (S : C → C → Ordering) (f : A → B) (g : A → C) → ((a b : A) → S (g a) (g b) ≡ R (f a) (f b)) → (x : A) (xs : List A) → AllByRecursion (λ y. R (f x) y ≡ Less) (map f xs) → AllByRecursion (λ y. S (g x) y ≡ Less) (map g xs)
 all_as R S f g same x [] h = tt
@@ -99,50 +89,64 @@ sorted_as R S f g same (x ∷ xs) h = (all_as R S f g same x xs h.0, sorted_as R
 abbrev pub feature_key : Named → Identity × Text
 feature_key n = (n.feature.krate, text_view n.feature.name)
 
--- sorted features, by crate and name
+-- features in order, by crate and name
 pub features_in_order : (xs : List Named) → IsStrictlySortedBy feature_cmp (map (λ n. n.feature) xs) → IsStrictlySortedBy named_cmp (map feature_key xs)
 features_in_order xs h = sorted_as feature_cmp named_cmp (λ (n : Named). n.feature) feature_key (λ a b. refl) xs h
 
--- ---- sorted kept edges and toggled features
+-- ---- kept edges and toggled features in order
 
 first_low : (a b : Ordering) → ordering_then a b ≡ Less → a ≡ Greater → ⊥
 first_low Less b e g = cc g
 first_low Equal b e g = cc g
 first_low Greater b e g = cc e
 
-pair_low : (a b c : Ordering) → ordering_then a (ordering_then b c) ≡ Less → ordering_then a b ≡ Greater → ⊥
-pair_low Less b c e g = cc g
-pair_low Equal b c e g = first_low b c e g
-pair_low Greater b c e g = cc e
-
 second_low : (a b c : Ordering) → a ≡ Equal → ordering_then a (ordering_then b c) ≡ Less → b ≡ Greater → ⊥
 second_low Less b c same e g = cc same
 second_low Equal b c same e g = first_low b c e g
 second_low Greater b c same e g = cc same
 
--- the parents of sorted edges never fall
+-- edges in order rise by parent
 pub links_by_parent : (xs : List Link) (p : Identity) → IsStrictlySortedBy place_cmp (map (λ l. l.edge) xs) → IsNonDecreasingBy (λ (l : Link). ordering_index (id_cmp l.edge.parent p)) xs
 links_by_parent xs p sorted = rises_weakly ids_total (λ (l : Link). l.edge.parent) xs p (λ i j d l lt. first_low _ _ (below_later place_cmp (λ (l : Link). l.edge) xs i j d sorted l lt))
 
--- the children of sorted edges from one crate never fall
+-- edges from a crate in order rise by child
 pub links_by_child : (mine : List Link) (q : Identity) → AreByChild mine → IsNonDecreasingBy (λ (l : Link). ordering_index (id_cmp l.edge.child q)) mine
 links_by_child mine q by = rises_weakly ids_total (λ (l : Link). l.edge.child) mine q by
-
-abbrev pub toggled_key : ToggledFeature → Identity × Identity
-toggled_key t = (t.by, t.krate)
 
 itself : {A : Type 0} (xs : List A) → map (λ x. x) xs ≡ xs
 itself [] = refl
 itself (x ∷ xs) = ap (λ ys. x ∷ ys) (itself xs)
 
-pub toggled_by_pair : (xs : List ToggledFeature) (p q : Identity) → IsStrictlySortedBy toggled_cmp xs → IsNonDecreasingBy (λ (t : ToggledFeature). ordering_index (pair_cmp (toggled_key t) (p, q))) xs
-toggled_by_pair xs p q sorted =
-    rises_weakly pairs_total toggled_key xs (p, q) (λ i j d l lt.
-    let a = get_or xs i d in
-    let b = get_or xs j d in
-    pair_low (id_cmp a.by b.by) (id_cmp a.krate b.krate) (slice_cmp nat_cmp (text_view a.name) (text_view b.name)) (below_later toggled_cmp (λ (t : ToggledFeature). t) xs i j d (subst (IsStrictlySortedBy toggled_cmp) (sym (itself xs)) sorted) l lt))
+-- toggled features in order rise by the crate that toggles them
+pub toggled_by_crate : (xs : List ToggledFeature) (p : Identity) → IsStrictlySortedBy toggled_cmp xs → IsNonDecreasingBy (λ (t : ToggledFeature). ordering_index (id_cmp t.by p)) xs
+toggled_by_crate xs p sorted =
+    rises_weakly ids_total (λ (t : ToggledFeature). t.by) xs p (λ i j d l lt. first_low _ _ (below_later toggled_cmp (λ (t : ToggledFeature). t) xs i j d (subst (IsStrictlySortedBy toggled_cmp) (sym (itself xs)) sorted) l lt))
 
--- the edges from one crate are sorted by child
+-- those of one crate rise by the crate whose they are
+pub toggled_by_krate : (mine : List ToggledFeature) (q : Identity) → AreByKrate mine → IsNonDecreasingBy (λ (t : ToggledFeature). ordering_index (id_cmp t.krate q)) mine
+toggled_by_krate mine q by = rises_weakly ids_total (λ (t : ToggledFeature). t.krate) mine q by
+
+is_equal : (r : Ordering) → is_eq r ≡ true → r ≡ Equal
+is_equal Less e = cc e
+is_equal Equal e = refl
+is_equal Greater e = cc e
+
+-- the features that a crate toggles are in order by the crate whose they are
+pub cut_by_krate : (xs mine : List ToggledFeature) (p : Identity) → IsStrictlySortedBy toggled_cmp xs → IsCut (λ (t : ToggledFeature). id_cmp t.by p) xs mine → AreByKrate mine
+cut_by_krate xs mine p sorted w i j d l lt greater =
+    let ord : ToggledFeature → Ordering = λ t. id_cmp t.by p in
+    let here = stands_in ord xs mine w i d (omega (arith, l, lt)) in
+    let there = stands_in ord xs mine w j d lt in
+    let a = get_or xs (w.n + i) d in
+    let b = get_or xs (w.n + j) d in
+    let less : toggled_cmp a b ≡ Less = below_later toggled_cmp (λ (t : ToggledFeature). t) xs (w.n + i) (w.n + j) d (subst (IsStrictlySortedBy toggled_cmp) (sym (itself xs)) sorted) (omega (arith, l)) there.within in
+    let first : id_cmp a.by p ≡ Equal = is_equal (id_cmp a.by p) here.equal in
+    let second : id_cmp b.by p ≡ Equal = is_equal (id_cmp b.by p) there.equal in
+    let same : id_cmp a.by b.by ≡ Equal = ids_total.congr a.by p b.by first ∙ ids_total.antisymm p b.by ∙ ap ordering_reverse second in
+    second_low (id_cmp a.by b.by) (id_cmp a.krate b.krate) (slice_cmp nat_cmp (text_view a.name) (text_view b.name)) same less
+    (ap (λ (z : ToggledFeature). id_cmp z.krate b.krate) (sym here.same) ∙ ap (λ (z : ToggledFeature). id_cmp (get_or mine i d).krate z.krate) (sym there.same) ∙ greater)
+
+-- the edges from a crate are in order by child
 pub cut_by_child : (xs mine : List Link) (p : Identity) → IsStrictlySortedBy place_cmp (map (λ l. l.edge) xs) → IsCut (λ (l : Link). id_cmp l.edge.parent p) xs mine → AreByChild mine
 cut_by_child xs mine p sorted w i j d l lt greater =
     let here = stands_in (λ (l : Link). id_cmp l.edge.parent p) xs mine w i d (omega (arith, l, lt)) in
@@ -155,11 +159,17 @@ cut_by_child xs mine p sorted w i j d l lt greater =
     let parents : id_cmp a.edge.parent b.edge.parent ≡ Equal = ids_total.congr a.edge.parent p b.edge.parent first ∙ ids_total.antisymm p b.edge.parent ∙ ap ordering_reverse second in
     second_low (id_cmp a.edge.parent b.edge.parent) (id_cmp a.edge.child b.edge.child) (nat_cmp a.edge.place b.edge.place) parents less
     (ap (λ (z : Link). id_cmp z.edge.child b.edge.child) (sym here.same) ∙ ap (λ (z : Link). id_cmp (get_or mine i d).edge.child z.edge.child) (sym there.same) ∙ greater)
-  where
-    is_equal : (r : Ordering) → is_eq r ≡ true → r ≡ Equal
-    is_equal Less e = cc e
-    is_equal Equal e = refl
-    is_equal Greater e = cc e
+
+-- ---- a filter of a filter
+
+step_twice : {A : Type 0} (b c : Bool) (q : A → Bool) (x : A) (ys zs : List A) → q x ≡ c → filter q ys ≡ zs → filter q (cond b (x ∷ ys) ys) ≡ cond (b && c) (x ∷ zs) zs
+step_twice true c q x ys zs e f = ap (λ d. cond d (x ∷ filter q ys) (filter q ys)) e ∙ ap (λ ws. cond c (x ∷ ws) ws) f
+step_twice false c q x ys zs e f = f
+
+-- what passes one test and then another passes both
+pub filter_twice : {A : Type 0} (p q : A → Bool) (xs : List A) → filter q (filter p xs) ≡ filter (λ x. p x && q x) xs
+filter_twice p q [] = refl
+filter_twice p q (x ∷ xs) = step_twice (p x) (q x) q x (filter p xs) (filter (λ y. p y && q y) xs) refl (filter_twice p q xs)
 
 -- ---- a filter that leaves nothing
 
@@ -170,7 +180,7 @@ step_any : {A : Type 0} (b : Bool) (x : A) (xs : List A) (rest : Bool) → rest 
 step_any true x xs rest e = sym (ap not (not_none (length xs)))
 step_any false x xs rest e = e
 
--- some element passes if the filter leaves any
+-- some element passes where those that pass aren't none
 pub any_filter : {A : Type 0} (p : A → Bool) (xs : List A) → list_any p xs ≡ not (length (filter p xs) == 0)
 any_filter p [] = refl
 any_filter p (x ∷ xs) = step_any (p x) x (filter p xs) (list_any p xs) (any_filter p xs)

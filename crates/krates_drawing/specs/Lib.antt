@@ -5,6 +5,7 @@ pub mod Drawing
 pub mod EdgeText
 pub mod Ends
 pub mod Gathered
+pub mod Home
 pub mod Limits
 pub mod Narrower
 pub mod Origin

@@ -1,18 +1,20 @@
 -- The order of the lists of a sheet.
-use Rattle.std.specs.Prelude.{◌≡◌, ◌≢◌, ℕ, ◌==◌, Bool, List, Option, AllPairs, if◌then◌else◌, filter, map, not, option_map, slice_get, take, slice_index_or}
+use Rattle.std.specs.Prelude.{◌≡◌, ◌≢◌, ℕ, ◌<◌, ◌==◌, Bool, List, Option, Some, AllPairs, if◌then◌else◌, filter, length, map, not, option_map, slice_get, take, slice_index_or}
 use Rattle.std.specs.Borrow.{Bor}
 use Rattle.std.specs.Global.{Vec}
 use Rattle.std.specs.declared.cmp.Ordering.TheVariants.{Greater}
 use Rattle.std.specs.List.Sorted.{IsStrictlySortedBy}
 use Rattle.krates_ids.specs.Identity.{id_cmp}
 use Rattle.krates_resolve.specs.SelectionOrder.{place_cmp, feature_cmp, toggled_cmp}
+use Rattle.krates_resolve.specs.declared.selection.ToggledFeature.{ToggledFeature}
 use Rattle.krates_rules.specs.Resolved.{id_of}
 use Rattle.krates_rules.specs.Facts.{Id}
-use Rattle.krates_drawing.specs.Drawing.{crate_number, is_crate, last_from, leads_to}
+use Rattle.krates_drawing.specs.Drawing.{crate_number, id_eq, is_crate, last_from, leads_to}
 use Rattle.krates_drawing.specs.Sheet as model
 use Rattle.krates_drawing.specs.Views.{krate_view, link_view}
 use Rattle.krates_drawing.specs.declared.sheet.Krate.{Krate}
 use Rattle.krates_drawing.specs.declared.sheet.Link.{Link}
+use Rattle.krates_drawing.specs.declared.sheet.Named.{Named}
 use Rattle.krates_drawing.specs.declared.sheet.Sheet.{Sheet}
 
 -- each list is in the order of the selection's, without doubles
@@ -22,9 +24,26 @@ pub record IsOrdered (t : Sheet) : Type 0 where
   pub features : IsStrictlySortedBy feature_cmp (map (λ n. n.feature) t.features.items)
   pub toggled : IsStrictlySortedBy toggled_cmp t.toggled.items
 
+-- the feature stands at the place
+pub record IsPlaceOfFeature (t : Sheet) (place : ℕ) (n : Named) : Type 0 where
+  pub within : place < length t.features.items
+  pub at : slice_get t.features.items place ≡ Some n
+
 -- no edge leads to a crate that comes before that of an earlier edge
 abbrev pub AreByChild : List Link → Type 0
 AreByChild links = AllPairs (λ a b. id_cmp a.edge.child b.edge.child ≢ Greater) links
+
+-- whether the crate toggles the feature
+abbrev pub is_by : Id → model.Toggle → Bool
+is_by p t = id_eq t.by p
+
+-- whether it is a feature of the crate
+abbrev pub is_in : Id → model.Toggle → Bool
+is_in q t = id_eq t.krate q
+
+-- no feature is one of a crate that comes before that of an earlier feature
+abbrev pub AreByKrate : List ToggledFeature → Type 0
+AreByKrate toggled = AllPairs (λ a b. id_cmp a.krate b.krate ≢ Greater) toggled
 
 -- no edge before this place leads to the same crate, or one does
 abbrev pub IsFirstTo : List Link → ℕ → Bool → Type 0

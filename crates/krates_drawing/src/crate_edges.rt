@@ -1,32 +1,37 @@
 //! The edges from crates.
-ghost use Rattle.std.specs.Prelude.{option_map, slice_get, ◌≡◌, ◌+◌, ◌<◌, ◌++◌, not, map, length, take, filter, flat_map, IfOk, OnOk};
+ghost use Rattle.std.specs.Prelude.{All, option_map, slice_get, ◌≡◌, ◌+◌, ◌<◌, ◌++◌, not, map, length, take, filter, flat_map, IfOk, OnOk};
 ghost use Rattle.krates_rules.specs.Resolved.{id_of};
-ghost use Rattle.krates_drawing.specs.Drawing.{AtFeature, crate_lines, crate_number as number_of_crate, id_eq, is_crate, pair_lines, uses};
+ghost use Rattle.krates_drawing.specs.Drawing.{AtFeature, crate_lines, crate_number as number_of_crate, from_crate, id_eq, is_crate, pair_lines, uses};
 ghost use Rattle.krates_drawing.specs.Origin.{line_from};
 ghost use Rattle.krates_drawing.specs.Sheet.{toggle_of};
-ghost use Rattle.krates_drawing.specs.SheetOrder.{AreByChild, AreChildren, IsFirstTo, IsOrdered};
+ghost use Rattle.krates_drawing.specs.SheetOrder.{AreByChild, AreByKrate, AreChildren, IsFirstTo, IsOrdered, is_by};
 ghost use Rattle.krates_drawing.specs.Views.{krate_view, link_view, sheet_view, Draws, IsFew};
 
 use crate::edge::{Arrow, Edge};
 use crate::numbers::{crate_number, crate_place, feature_number};
 use crate::origin::Origin;
 use crate::sheet::{Krate, Link, Sheet};
-use crate::stretches::{links_from, links_to, toggled_between};
+use crate::stretches::{links_from, links_to, toggled_by, toggled_in};
 use krates_graph::graph::NodeId;
 use krates_ids::{Kid, laws};
 use krates_resolve::{DepKind, ToggledFeature};
 use std::alloc::{AllocError, Global};
 
-/// Draws what the kept edge gives.
+/// Draws what the kept edge gives, from the node of its parent.
 #[tactic(auto, unfolding(crate::specs::Drawing::uses))]
-fn draw_uses(sheet: &Sheet, link: &Link, out: &mut Vec<Arrow>) -> Result<(), AllocError>
+fn draw_uses(
+    sheet: &Sheet,
+    source: NodeId,
+    link: &Link,
+    out: &mut Vec<Arrow>,
+) -> Result<(), AllocError>
     requires few { IsFew sheet.now }
     requires ordered { IsOrdered sheet.now }
+    requires source { source ≡ number_of_crate (sheet_view sheet.now) (id_of link.now.edge.parent) }
     ensures { OnOk result (Draws out.old out.new (uses (sheet_view sheet.now) (link_view link.now)
         (link_view link.now).given)) }
 {
     let edge = &link.edge;
-    let source = crate_number(sheet, &edge.parent);
     if link.given.is_empty() {
         let target = crate_number(sheet, &edge.child);
         let kind = DepKind::from(edge.kind);
@@ -55,15 +60,22 @@ fn draw_uses(sheet: &Sheet, link: &Link, out: &mut Vec<Arrow>) -> Result<(), All
     Ok(())
 }
 
-/// Draws the kept edges.
-fn draw_kept(sheet: &Sheet, links: &[Link], out: &mut Vec<Arrow>) -> Result<(), AllocError>
+/// Draws kept edges of one crate, from its node.
+fn draw_kept(
+    sheet: &Sheet,
+    source: NodeId,
+    links: &[Link],
+    out: &mut Vec<Arrow>,
+) -> Result<(), AllocError>
     requires few { IsFew sheet.now }
     requires ordered { IsOrdered sheet.now }
+    requires source { All (λ l. source ≡ number_of_crate (sheet_view sheet.now) (id_of l.edge.parent))
+        links.now }
     ensures { OnOk result (Draws out.old out.new (flat_map (λ l. uses (sheet_view sheet.now) l l.given)
         (map link_view links.now))) }
 {
     for x in links {
-        draw_uses(sheet, x, out)?;
+        draw_uses(sheet, source, x, out)?;
     }
     Ok(())
 }
@@ -93,45 +105,57 @@ fn draw_toggled(
     Ok(())
 }
 
-/// Draws the edges between two crates.
+/// Draws the edges between two crates, of which the one toggles these features.
 #[tactic(auto, unfolding(crate::specs::Drawing::pair_lines))]
 fn draw_pair(
     sheet: &Sheet,
     from: &Origin<'_>,
+    toggled: &[ToggledFeature],
     child: &Krate,
     out: &mut Vec<Arrow>,
 ) -> Result<(), AllocError>
     requires few { IsFew sheet.now }
     requires ordered { IsOrdered sheet.now }
     requires by_child { AreByChild from.now.mine.now }
+    requires links { map link_view from.now.mine.now
+        ≡ from_crate (sheet_view sheet.now) (id_of from.now.krate.now) }
+    requires by_krate { AreByKrate toggled.now }
+    requires toggled { map toggle_of toggled.now
+        ≡ filter (is_by (id_of from.now.krate.now)) (sheet_view sheet.now).toggled }
     requires number { from.now.number ≡ number_of_crate (sheet_view sheet.now) (id_of from.now.krate.now) }
     ensures { OnOk result (Draws out.old out.new
         (pair_lines (sheet_view sheet.now) (id_of from.now.krate.now) (map link_view from.now.mine.now)
         (krate_view child.now))) }
 {
-    draw_kept(sheet, links_to(from.mine, &child.id), out)?;
-    let toggled = toggled_between(sheet, from.krate, &child.id);
-    draw_toggled(sheet, from.number, &child.id, toggled, out)?;
+    draw_kept(sheet, from.number, links_to(from.mine, &child.id), out)?;
+    let of_child = toggled_in(toggled, &child.id);
+    draw_toggled(sheet, from.number, &child.id, of_child, out)?;
     Ok(())
 }
 
-/// Draws the edges from a crate to others.
+/// Draws the edges from a crate, which toggles these features, to others.
 fn draw_children(
     sheet: &Sheet,
     from: &Origin<'_>,
+    toggled: &[ToggledFeature],
     children: &[&Krate],
     out: &mut Vec<Arrow>,
 ) -> Result<(), AllocError>
     requires few { IsFew sheet.now }
     requires ordered { IsOrdered sheet.now }
     requires by_child { AreByChild from.now.mine.now }
+    requires links { map link_view from.now.mine.now
+        ≡ from_crate (sheet_view sheet.now) (id_of from.now.krate.now) }
+    requires by_krate { AreByKrate toggled.now }
+    requires toggled { map toggle_of toggled.now
+        ≡ filter (is_by (id_of from.now.krate.now)) (sheet_view sheet.now).toggled }
     requires number { from.now.number ≡ number_of_crate (sheet_view sheet.now) (id_of from.now.krate.now) }
     ensures { OnOk result (Draws out.old out.new (flat_map
         (pair_lines (sheet_view sheet.now) (id_of from.now.krate.now) (map link_view from.now.mine.now))
         (map (λ k. krate_view k.now) children.now))) }
 {
     for x in children {
-        draw_pair(sheet, from, x, out)?;
+        draw_pair(sheet, from, toggled, x, out)?;
     }
     Ok(())
 }
@@ -227,8 +251,9 @@ fn draw_crate(
         krate: &parent.id,
         mine: links_from(sheet, &parent.id),
     };
+    let toggled = toggled_by(sheet, &parent.id);
     let children = children_of(alloc, sheet, from.mine)?;
-    draw_children(sheet, &from, &children, out)
+    draw_children(sheet, &from, toggled, &children, out)
 }
 
 /// Draws the edges from all crates.

@@ -3,14 +3,15 @@ ghost use Rattle.std.specs.Prelude.{◌≡◌, List, ◌++◌, map, filter, flat
 ghost use Rattle.krates_rules.specs.Resolved.{id_of};
 ghost use Rattle.krates_drawing.specs.Drawing.{AtCrate, AtFeature, leads_to as leads, feature_lines};
 ghost use Rattle.krates_drawing.specs.Origin.{line_from, meant_from};
-ghost use Rattle.krates_drawing.specs.SheetOrder.{AreByChild, IsOrdered};
+ghost use Rattle.krates_drawing.specs.Home.{IsHomeOf};
+ghost use Rattle.krates_drawing.specs.SheetOrder.{AreByChild, IsOrdered, IsPlaceOfFeature};
 ghost use Rattle.krates_drawing.specs.Views.{link_view, meaning_view, named_view, sheet_view, arrow_view, Draws, IsFew};
 
 use crate::edge::{Arrow, Edge};
-use crate::numbers::{crate_number, feature_number};
-use crate::origin::Origin;
+use crate::numbers::{crate_number, feature_number, number_at};
+use crate::origin::{Home, Origin, first_home, home_of};
 use crate::sheet::{Meaning, Named, Sheet};
-use crate::stretches::{leads_to, links_from};
+use crate::stretches::leads_to;
 use krates_ids::Kid;
 use std::alloc::AllocError;
 
@@ -119,23 +120,30 @@ fn draw_meanings(
     Ok(())
 }
 
-/// Draws the edges from a feature node.
+/// Draws the edges from the feature node at a place among the features, whose crate is this one.
 #[tactic(auto, unfolding(crate::specs::Drawing::feature_lines, crate::specs::Drawing::meaning_lines))]
-fn draw_feature(sheet: &Sheet, named: &Named, out: &mut Vec<Arrow>) -> Result<(), AllocError>
+fn draw_feature(
+    sheet: &Sheet,
+    home: &Home<'_>,
+    place: usize,
+    named: &Named,
+    out: &mut Vec<Arrow>,
+) -> Result<(), AllocError>
     requires few { IsFew sheet.now }
     requires ordered { IsOrdered sheet.now }
+    requires home { IsHomeOf (sheet_view sheet.now) (id_of named.now.feature.krate) home.now }
+    requires place { IsPlaceOfFeature sheet.now place named.now }
     ensures { OnOk result (Draws out.old out.new (feature_lines (sheet_view sheet.now)
         (named_view named.now))) }
 {
-    let krate = &named.feature.krate;
     let from = Origin {
-        number: feature_number(sheet, krate, named.feature.name.as_str()),
-        krate,
-        mine: links_from(sheet, krate),
+        number: number_at(sheet, place, named),
+        krate: &named.feature.krate,
+        mine: home.mine,
     };
     out.push(Arrow {
         source: from.number,
-        target: crate_number(sheet, krate),
+        target: home.number,
         edge: Edge::Feature,
     })?;
     draw_meanings(sheet, &from, &named.meanings, out)
@@ -148,8 +156,12 @@ pub(crate) fn draw_features(sheet: &Sheet, out: &mut Vec<Arrow>) -> Result<(), A
     ensures { OnOk result (Draws out.old out.new (flat_map (feature_lines (sheet_view sheet.now))
         (sheet_view sheet.now).features)) }
 {
-    for x in &sheet.features {
-        draw_feature(sheet, x, out)?;
+    let Some(mut home) = first_home(sheet) else {
+        return Ok(());
+    };
+    for (place, x) in sheet.features.iter().enumerate() {
+        home = home_of(sheet, &x.feature.krate, &home);
+        draw_feature(sheet, &home, place, x, out)?;
     }
     Ok(())
 }

@@ -8,7 +8,7 @@ ghost use Rattle.krates_ids.specs.Identity.{id_cmp};
 ghost use Rattle.krates_resolve.specs.SelectionOrder.{feature_cmp};
 ghost use Rattle.krates_rules.specs.Resolved.{id_of};
 ghost use Rattle.krates_drawing.specs.Drawing.{crate_number as number_of_crate, feature_number as number_of_feature, is_crate, is_feature, place_of};
-ghost use Rattle.krates_drawing.specs.SheetOrder.{IsOrdered};
+ghost use Rattle.krates_drawing.specs.SheetOrder.{IsOrdered, IsPlaceOfFeature};
 ghost use Rattle.krates_drawing.specs.Views.{IsFew, krate_view, named_view, sheet_view};
 
 use crate::sheet::{Krate, Named, Sheet};
@@ -42,6 +42,17 @@ pub(crate) fn feature_number(sheet: &Sheet, id: &Kid, name: &str) -> NodeId
     ensures { result ≡ number_of_feature (sheet_view sheet.now) (id_of id.now) name.now }
 {
     let place = place_of_feature(&sheet.features, id, name);
+    NodeId::new((sheet.krates.len() + place) as u32)
+}
+
+/// The number of the node of the feature that stands at this place among those of the sheet.
+pub(crate) fn number_at(sheet: &Sheet, place: usize, named: &Named) -> NodeId
+    requires few { IsFew sheet.now }
+    requires ordered { IsOrdered sheet.now }
+    requires place { IsPlaceOfFeature sheet.now place named.now }
+    ensures { result ≡ number_of_feature (sheet_view sheet.now) (id_of named.now.feature.krate)
+        (text_view named.now.feature.name) }
+{
     NodeId::new((sheet.krates.len() + place) as u32)
 }
 

@@ -1,18 +1,15 @@
 //! Stretches of the lists of a sheet, found by halves.
 ghost use Rattle.std.specs.Prelude.{◌≡◌, filter, map};
-ghost use Rattle.std.specs.Ordering.{ordering_then};
-ghost use Rattle.krates_ids.specs.Identity.{id_cmp};
 ghost use Rattle.krates_resolve.specs.Selection.{edge_view};
 ghost use Rattle.krates_rules.specs.Resolved.{id_of};
-ghost use Rattle.krates_drawing.specs.Drawing.{from_crate, is_between, is_to, leads_to as leads};
+ghost use Rattle.krates_drawing.specs.Drawing.{from_crate, is_to, leads_to as leads};
 ghost use Rattle.krates_drawing.specs.Sheet.{toggle_of};
-ghost use Rattle.krates_drawing.specs.SheetOrder.{AreByChild, IsOrdered};
+ghost use Rattle.krates_drawing.specs.SheetOrder.{AreByChild, AreByKrate, IsOrdered, is_by, is_in};
 ghost use Rattle.krates_drawing.specs.Views.{link_view, sheet_view};
 
 use crate::sheet::{Link, Sheet};
 use krates_ids::{Kid, laws};
 use krates_resolve::ToggledFeature;
-use std::cmp::Ordering;
 
 /// The kept edges from a crate, by child.
 pub(crate) fn links_from<'a>(sheet: &'a Sheet, parent: &Kid) -> &'a [Link]
@@ -51,28 +48,32 @@ pub(crate) fn leads_to(mine: &[Link], child: &Kid) -> bool
     !links_to(mine, child).is_empty()
 }
 
-/// The features of a crate that another toggles, by name.
-pub(crate) fn toggled_between<'a>(sheet: &'a Sheet, by: &Kid, krate: &Kid) -> &'a [ToggledFeature]
+/// The features that a crate toggles, by the crate whose they are.
+pub(crate) fn toggled_by<'a>(sheet: &'a Sheet, by: &Kid) -> &'a [ToggledFeature]
     requires { IsOrdered sheet.now }
-    ensures { map toggle_of result.now ≡ filter (is_between (id_of by.now) (id_of krate.now))
-        (sheet_view sheet.now).toggled }
+    ensures toggled { map toggle_of result.now
+        ≡ filter (is_by (id_of by.now)) (sheet_view sheet.now).toggled }
+    ensures by_krate { AreByKrate result.now }
 {
     laws::comparison();
     let below = sheet
         .toggled
-        .partition_point(|toggled| toggled_against(toggled, by, krate).is_lt());
+        .partition_point(|toggled| toggled.by.cmp(by).is_lt());
     let (_, rest) = sheet.toggled.split_at(below);
-    let count = rest.partition_point(|toggled| toggled_against(toggled, by, krate).is_eq());
+    let count = rest.partition_point(|toggled| toggled.by.cmp(by).is_eq());
     let (mine, _) = rest.split_at(count);
     mine
 }
 
-/// How a toggled feature compares with those between these crates.
-fn toggled_against(toggled: &ToggledFeature, by: &Kid, krate: &Kid) -> Ordering
-    ensures { result ≡ ordering_then (id_cmp toggled.now.by by.now) (id_cmp toggled.now.krate krate.now) }
+/// Those of the features that a crate toggles that are another's, by name.
+pub(crate) fn toggled_in<'a>(mine: &'a [ToggledFeature], krate: &Kid) -> &'a [ToggledFeature]
+    requires { AreByKrate mine.now }
+    ensures { map toggle_of result.now ≡ filter (is_in (id_of krate.now)) (map toggle_of mine.now) }
 {
-    match toggled.by.cmp(by) {
-        Ordering::Equal => toggled.krate.cmp(krate),
-        unequal => unequal,
-    }
+    laws::comparison();
+    let below = mine.partition_point(|toggled| toggled.krate.cmp(krate).is_lt());
+    let (_, rest) = mine.split_at(below);
+    let count = rest.partition_point(|toggled| toggled.krate.cmp(krate).is_eq());
+    let (there, _) = rest.split_at(count);
+    there
 }

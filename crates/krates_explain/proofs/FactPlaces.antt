@@ -1,16 +1,16 @@
--- The last place of each fact among the keys, filled place by place, and the numbers that they give.
-use Rattle.std.proofs.Common.{◌≡◌, ◌↔◌, ℕ, ◌+◌, ◌<◌, ◌≤◌, List, [], ◌∷◌, length, get_or, map, Bool, true, false, cond, Option, Some, None, MatchOption, option_map, Ordering, Less, Equal, Greater, refl, sym, ap, ◌∙◌, subst, inl, inr, arith}
+-- The last places of facts among keys, filled place by place, and the numbers that they give on the way.
+use Rattle.std.proofs.Common.{◌≡◌, ◌↔◌, ℕ, zero, suc, ◌+◌, ◌<◌, ◌≤◌, List, [], ◌∷◌, ◌++◌, length, get_or, length-append, map, Bool, true, false, cond, Option, Some, None, IfSome, MatchOption, option_map, Ordering, Less, Equal, Greater, refl, sym, ap, ◌∙◌, subst, inl, inr, arith}
 use Rattle.std.proofs.lemmas.Bool.{cases_order}
 use Rattle.std.proofs.lemmas.List.{length-map}
 use Rattle.std.proofs.lemmas.Option.{slice_get-map, slice_get_read, slice_get_within, slice_get-get_or, same_Some}
 use Rattle.std.specs.BTreeMap.{BTreeMap, get}
 use Rattle.std.specs.List.{AllZip, slice_get}
 use Rattle.std.specs.Ordering.{is_eq}
-use Rattle.krates_explain.specs.Keys.{AreFactNumbers, ArePlaces, IsLastAt, IsLastPlace, key_cmp, key_view}
+use Rattle.krates_explain.specs.Keys.{AreFactNumbers, key_cmp, key_view}
 use Rattle.krates_explain.specs.KeptFacts.{KeptModel}
 use Rattle.krates_explain.specs.declared.key.FactKey.{FactKey}
 use Rattle.krates_explain.proofs.KeyOrder.{key_from, key_to}
-use Rattle.krates_rules.proofs.Readings.{left_of, right_of}
+use Rattle.krates_explain.proofs.PickedSteps.{pushed_at}
 use Rattle.krates_steps.specs.Part.{SameFact}
 
 is_equal : (o : Ordering) → is_eq o ≡ true → o ≡ Equal
@@ -23,8 +23,9 @@ equal_is o e = rw e refl
 
 -- ---- the map, filled place by place
 
--- the fact stands at this place, and at no later one below the bound
+-- the fact stands at the place, and at no later one below this
 pub record IsLastBelow (all : List KeptModel) (x : KeptModel) (i n : ℕ) : Type 0 where
+  pub low : n < i
   pub at : slice_get all n ≡ Some x
   pub last : (m : ℕ) → m < i → slice_get all m ≡ Some x → m ≤ n
 
@@ -34,10 +35,11 @@ IsPlaceBelow all x i answer = MatchOption answer ((n : ℕ) → n < i → slice_
 abbrev pub ArePlacesBelow : List KeptModel → ℕ → BTreeMap FactKey ℕ → Type 0
 ArePlacesBelow all i m = (q : FactKey) → IsPlaceBelow all (key_view q) i (get key_cmp m q)
 
--- what the map returns for a fact, whether the new one is the same or another
+-- what the map answers for a fact, where the new one is the same or another
 place_step : (all : List KeptModel) (i : ℕ) (k q : KeptModel) (o : Option ℕ) (b : Bool) → slice_get all i ≡ Some k → (b ≡ true → k ≡ q) → (k ≡ q → b ≡ true) → IsPlaceBelow all q i o → IsPlaceBelow all q (i + 1) (cond b (Some i) o)
-place_step all i k q o true here there back h = record { at = here ∙ ap (λ (x : KeptModel). Some x) (there refl); last = λ m lt s. omega (arith, lt) }
+place_step all i k q o true here there back h = record { low = omega arith; at = here ∙ ap (λ (x : KeptModel). Some x) (there refl); last = λ m lt s. omega (arith, lt) }
 place_step all i k q (Some n) false here there back h = record {
+  low = omega (arith, h.low);
   at = h.at;
   last = λ m lt s. elim (cases_order m i) [
     | inl e ↦ (
@@ -55,7 +57,7 @@ place_step all i k q None false here there back h = λ n lt s. elim (cases_order
   | inr r ↦ elim r [ inl l ↦ h n l s | inr l ↦ absurd (omega arith) ]
 ]
 
--- one more fact is inserted
+-- one more fact is put in
 pub places_more : (xs : List FactKey) (i : ℕ) (k : FactKey) (old new : BTreeMap FactKey ℕ) → i < length xs → k ≡ get_or xs i k
     → ((q : FactKey) → get key_cmp new q ≡ cond (is_eq (key_cmp k q)) (Some i) (get key_cmp old q)) → ArePlacesBelow (map key_view xs) i old → ArePlacesBelow (map key_view xs) (i + 1) new
 places_more xs i k old new lt is grown h q =
@@ -63,58 +65,130 @@ places_more xs i k old new lt is grown h q =
     subst (IsPlaceBelow (map key_view xs) (key_view q) (i + 1)) (sym (grown q))
     (place_step (map key_view xs) i (key_view k) (key_view q) (get key_cmp old q) (is_eq (key_cmp k q)) here (λ t. key_to k q (is_equal (key_cmp k q) t)) (λ e. equal_is (key_cmp k q) (key_from k q e)) (h q))
 
-place_whole : (all : List KeptModel) (x : KeptModel) (i : ℕ) (o : Option ℕ) → length all ≤ i → IsPlaceBelow all x i o → IsLastPlace all x o
-place_whole all x i None le h = λ n s. h n (omega (arith, le, slice_get_within all n x s)) s
-place_whole all x i (Some n) le h = record { at = h.at; last = λ m s. h.last m (omega (arith, le, slice_get_within all m x s)) s }
-
-pub places_whole : (xs : List FactKey) (i : ℕ) (m : BTreeMap FactKey ℕ) → length xs ≤ i → ArePlacesBelow (map key_view xs) i m → ArePlaces (map key_view xs) m
-places_whole xs i m le h q =
-    let all = map key_view xs in
-    let long : length all ≤ i = subst (λ (n : ℕ). n ≤ i) (sym (length-map xs key_view)) le in
-    place_whole all (key_view q) i (get key_cmp m q) long (h q)
-
--- ---- the numbers
-
-abbrev pub HasPlace : List KeptModel → KeptModel → ℕ → Type 0
-HasPlace all x n = IsLastAt all x n
-
--- a fact that is among the keys has a place
-pub place_there : (xs : List FactKey) (i : ℕ) (k : FactKey) (m : BTreeMap FactKey ℕ) → i < length xs → k ≡ get_or xs i k → ArePlaces (map key_view xs) m → get key_cmp m k ≡ None → ⊥
-place_there xs i k m lt is h none =
-    let here : slice_get (map key_view xs) i ≡ Some (key_view k) = slice_get-map key_view xs i ∙ ap (option_map key_view) (slice_get_read xs (length xs) i k refl lt is) in
-    let no : IsLastPlace (map key_view xs) (key_view k) None = subst (IsLastPlace (map key_view xs) (key_view k)) none (h k) in
-    no i here
-
-pub place_is : (xs : List FactKey) (k : FactKey) (n : ℕ) (m : BTreeMap FactKey ℕ) → ArePlaces (map key_view xs) m → get key_cmp m k ≡ Some n → HasPlace (map key_view xs) (key_view k) n
-place_is xs k n m h some = subst (IsLastPlace (map key_view xs) (key_view k)) some (h k)
-
 pub zip_long : {A B : Type 0} (R : A → B → Type 0) (xs : List A) (ys : List B) → AllZip R xs ys → length ys ≡ length xs
 zip_long R [] [] z = refl
 zip_long R [] (y ∷ ys) z = absurd z
 zip_long R (x ∷ xs) [] z = absurd z
 zip_long R (x ∷ xs) (y ∷ ys) z = let e = zip_long R xs ys z.1 in rw e refl
 
-one_number : (all : List KeptModel) (f g : KeptModel) (n m : ℕ) → HasPlace all f n → HasPlace all g m → f ≡ g → n ≡ m
-one_number all f g n m a b e =
-    let c = subst (λ h. HasPlace all h n) e a in
-    omega (arith, c.last m b.at, b.last n c.at)
+-- ---- the numbers
 
-same_numbers : (all : List KeptModel) (numbers : List ℕ) → AllZip (HasPlace all) all numbers → (j k : ℕ) (f g : KeptModel) → slice_get all j ≡ Some f → slice_get all k ≡ Some g → SameFact numbers j k ↔ (f ≡ g)
-same_numbers all numbers z j k f g at there =
-    let a = right_of (HasPlace all) all numbers j f z at in
-    let b = right_of (HasPlace all) all numbers k g z there in (
-      λ same. (
-          let e : a.0 ≡ b.0 = same_Some a.0 b.0 (sym a.1 ∙ same ∙ b.1) in
-          same_Some f g (sym a.2.at ∙ ap (λ n. slice_get all n) e ∙ b.2.at)),
-      λ e. a.1 ∙ ap (λ (n : ℕ). Some n) (one_number all f g a.0 b.0 a.2 b.2 e) ∙ sym b.1,
+-- The same facts have the same numbers, and no others; each is that of a place that isn't later.
+pub record AreNumbersBelow (all : List KeptModel) (i : ℕ) (numbers : List ℕ) : Type 0 where
+  pub long : length numbers ≡ i
+  pub low : (k n : ℕ) → slice_get numbers k ≡ Some n → n ≤ k
+  pub same : (j k : ℕ) (f g : KeptModel) → j < i → k < i → slice_get all j ≡ Some f → slice_get all k ≡ Some g → SameFact numbers j k ↔ (f ≡ g)
+
+-- the number of a fact that stood at an earlier place is the one there, and that of another its own place
+abbrev pub IsNumberFor : List ℕ → ℕ → Option ℕ → ℕ → Type 0
+IsNumberFor numbers i earlier n = MatchOption earlier (n ≡ i) (λ at. slice_get numbers at ≡ Some n)
+
+-- a fact that stood before has a number
+pub number_there : (all : List KeptModel) (x : KeptModel) (i : ℕ) (o : Option ℕ) (numbers : List ℕ) → length numbers ≡ i → IsPlaceBelow all x i o → IfSome o (λ at. at < length numbers)
+number_there all x i None numbers long h = tt
+number_there all x i (Some n) numbers long h = omega (arith, long, h.low)
+
+at_before : {A : Type 0} (xs : List A) (y : A) (k : ℕ) → k < length xs → slice_get (xs ++ y ∷ []) k ≡ slice_get xs k
+at_before [] y k lt = absurd (omega (arith, lt))
+at_before (x ∷ xs) y zero lt = refl
+at_before (x ∷ xs) y (suc k) lt = at_before xs y k (omega (arith, lt))
+
+at_end : {A : Type 0} (xs : List A) (y : A) (i : ℕ) → length xs ≡ i → slice_get (xs ++ y ∷ []) i ≡ Some y
+at_end [] y zero e = refl
+at_end [] y (suc i) e = absurd (omega (arith, e))
+at_end (x ∷ xs) y zero e = absurd (omega (arith, e))
+at_end (x ∷ xs) y (suc i) e = at_end xs y i (omega (arith, e))
+
+-- an earlier fact has the new number exactly where it is the new fact
+new_same : (all : List KeptModel) (i : ℕ) (x : KeptModel) (numbers : List ℕ) (n : ℕ) (o : Option ℕ) → IsPlaceBelow all x i o → IsNumberFor numbers i o n → AreNumbersBelow all i numbers
+    → (k : ℕ) (g : KeptModel) → k < i → slice_get all k ≡ Some g → (slice_get numbers k ≡ Some n) ↔ (g ≡ x)
+new_same all i x numbers n (Some p) h num so k g lt at =
+    let same = so.same k p g x lt h.low at h.at in (
+      λ e. same.0 (e ∙ sym num),
+      λ e. same.1 e ∙ num,
+    )
+new_same all i x numbers n None h num so k g lt at = (
+  λ e. absurd (omega (arith, lt, so.low k n e, num)),
+  λ e. absurd (h k lt (at ∙ ap (λ (y : KeptModel). Some y) e)),
+)
+
+-- which it is, of a place at or below the new one
+data PlaceUpTo (i k : ℕ) : Type 0 where
+  is_below : k < i → PlaceUpTo i k
+  is_new : k ≡ i → PlaceUpTo i k
+
+place_up_to : (i k : ℕ) → k < i + 1 → PlaceUpTo i k
+place_up_to i k lt = elim (cases_order k i) [
+  | inl e ↦ is_new e
+  | inr r ↦ elim r [ inl l ↦ is_below l | inr l ↦ absurd (omega (arith, l, lt)) ]
+]
+
+-- the last number is not later than its place
+low_new : (all : List KeptModel) (i : ℕ) (x : KeptModel) (numbers : List ℕ) (n : ℕ) (o : Option ℕ) → IsPlaceBelow all x i o → IsNumberFor numbers i o n → AreNumbersBelow all i numbers → n ≤ i
+low_new all i x numbers n (Some p) h num so = omega (arith, h.low, so.low p n num)
+low_new all i x numbers n None h num so = omega (arith, num)
+
+low_more : (numbers : List ℕ) (i n : ℕ) → length numbers ≡ i → n ≤ i → ((k m : ℕ) → slice_get numbers k ≡ Some m → m ≤ k) → (k m : ℕ) → slice_get (numbers ++ n ∷ []) k ≡ Some m → m ≤ k
+low_more numbers i n long le h k m at = elim (pushed_at numbers n k m at) [
+  | inl there ↦ h k m there
+  | inr is ↦ omega (arith, is.0, is.1, long, le)
+]
+
+same_more : (all : List KeptModel) (i : ℕ) (x : KeptModel) (numbers : List ℕ) (n : ℕ) (o : Option ℕ) → slice_get all i ≡ Some x → IsPlaceBelow all x i o → IsNumberFor numbers i o n → (so : AreNumbersBelow all i numbers)
+    → (j k : ℕ) (f g : KeptModel) → PlaceUpTo i j → PlaceUpTo i k → slice_get all j ≡ Some f → slice_get all k ≡ Some g → SameFact (numbers ++ n ∷ []) j k ↔ (f ≡ g)
+same_more all i x numbers n o at h num so j k f g (is_below lj) (is_below lk) aj ak =
+    let same = so.same j k f g lj lk aj ak in
+    let bj = at_before numbers n j (omega (arith, lj, so.long)) in
+    let bk = at_before numbers n k (omega (arith, lk, so.long)) in (
+      λ e. same.0 (sym bj ∙ e ∙ bk),
+      λ e. bj ∙ same.1 e ∙ sym bk,
+    )
+same_more all i x numbers n o at h num so j k f g (is_below lj) (is_new ek) aj ak =
+    let gx : g ≡ x = same_Some g x (sym ak ∙ ap (λ (z : ℕ). slice_get all z) ek ∙ at) in
+    let new = new_same all i x numbers n o h num so j f lj aj in
+    let bj = at_before numbers n j (omega (arith, lj, so.long)) in
+    let bk : slice_get (numbers ++ n ∷ []) k ≡ Some n = at_end numbers n k (so.long ∙ sym ek) in (
+      λ e. new.0 (sym bj ∙ e ∙ bk) ∙ sym gx,
+      λ e. bj ∙ new.1 (e ∙ gx) ∙ sym bk,
+    )
+same_more all i x numbers n o at h num so j k f g (is_new ej) (is_below lk) aj ak =
+    let fx : f ≡ x = same_Some f x (sym aj ∙ ap (λ (z : ℕ). slice_get all z) ej ∙ at) in
+    let new = new_same all i x numbers n o h num so k g lk ak in
+    let bk = at_before numbers n k (omega (arith, lk, so.long)) in
+    let bj : slice_get (numbers ++ n ∷ []) j ≡ Some n = at_end numbers n j (so.long ∙ sym ej) in (
+      λ e. fx ∙ sym (new.0 (sym bk ∙ sym e ∙ bj)),
+      λ e. bj ∙ sym (new.1 (sym e ∙ fx)) ∙ sym bk,
+    )
+same_more all i x numbers n o at h num so j k f g (is_new ej) (is_new ek) aj ak =
+    let same : j ≡ k = ej ∙ sym ek in (
+      λ e. same_Some f g (sym aj ∙ ap (λ (z : ℕ). slice_get all z) same ∙ ak),
+      λ e. ap (λ (z : ℕ). slice_get (numbers ++ n ∷ []) z) same,
     )
 
-pub are_numbers : (all : List KeptModel) (numbers : List ℕ) → AllZip (HasPlace all) all numbers → AreFactNumbers all numbers
-are_numbers all numbers z = record {
-  long = zip_long (HasPlace all) all numbers z;
-  low = λ k d lt. (
-      let n = get_or numbers k d in
-      let w = left_of (HasPlace all) all numbers k n z (slice_get-get_or numbers k d lt) in
-      slice_get_within all n w.0 w.2.at);
-  same = same_numbers all numbers z;
-}
+-- none is numbered yet
+pub none_numbered : (all : List KeptModel) (numbers : List ℕ) → numbers ≡ [] → AreNumbersBelow all 0 numbers
+none_numbered all numbers e = subst (AreNumbersBelow all 0) (sym e) (record { long = refl; low = λ k n at. absurd cc; same = λ j k f g lj lk aj ak. absurd (omega (arith, lj)) })
+
+-- one more fact is numbered
+pub numbers_more : (xs : List FactKey) (i : ℕ) (k : FactKey) (m : BTreeMap FactKey ℕ) (o : Option ℕ) (n : ℕ) (old new : List ℕ) → i < length xs → k ≡ get_or xs i k → o ≡ get key_cmp m k → ArePlacesBelow (map key_view xs) i m
+    → IsNumberFor old i o n → new ≡ old ++ n ∷ [] → AreNumbersBelow (map key_view xs) i old → AreNumbersBelow (map key_view xs) (i + 1) new
+numbers_more xs i k m o n old new lt is answer places num pushed so =
+    let all = map key_view xs in
+    let at : slice_get all i ≡ Some (key_view k) = slice_get-map key_view xs i ∙ ap (option_map key_view) (slice_get_read xs (length xs) i k refl lt is) in
+    let h : IsPlaceBelow all (key_view k) i o = subst (IsPlaceBelow all (key_view k) i) (sym answer) (places k) in
+    subst (AreNumbersBelow all (i + 1)) (sym pushed) (record {
+      long = omega (arith, length-append old (n ∷ []), so.long);
+      low = low_more old i n so.long (low_new all i (key_view k) old n o h num so) so.low;
+      same = λ a b f g la lb. same_more all i (key_view k) old n o at h num so a b f g (place_up_to i a la) (place_up_to i b lb);
+    })
+
+-- all facts are
+pub all_numbered : (xs : List FactKey) (i : ℕ) (numbers : List ℕ) → i ≤ length xs → length xs ≤ i → AreNumbersBelow (map key_view xs) i numbers → AreFactNumbers (map key_view xs) numbers
+all_numbered xs i numbers le ge so =
+    let all = map key_view xs in
+    let count : length all ≡ i = omega (arith, length-map xs key_view, le, ge) in
+    record {
+      long = so.long ∙ sym count;
+      low = λ k d lt. omega (arith, so.low k (get_or numbers k d) (slice_get-get_or numbers k d lt), so.long, count, lt);
+      same = λ j k f g aj ak. so.same j k f g (omega (arith, count, slice_get_within all j f aj)) (omega (arith, count, slice_get_within all k g ak)) aj ak;
+    }

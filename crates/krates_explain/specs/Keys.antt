@@ -1,6 +1,5 @@
 -- Facts as keys of a map, and the order of the keys.
-use Rattle.std.specs.Prelude.{◌≡◌, ◌↔◌, ℕ, ◌<◌, ◌≤◌, List, All, MatchOption, Option, Some, length, option_map, slice_get}
-use Rattle.std.specs.BTreeMap.{BTreeMap, get}
+use Rattle.std.specs.Prelude.{◌≡◌, ◌↔◌, ℕ, ◌<◌, List, All, Some, length, option_map, slice_get}
 use Rattle.std.specs.declared.cmp.Ordering.{Ordering}
 use Rattle.krates_cm.specs.Document.{text_view}
 use Rattle.krates_cm.specs.declared.dependency.DependencyKind.{DependencyKind}
@@ -37,20 +36,7 @@ key_cmp = (key_order.ghosts).cmp
 
 -- ---- numbers of facts
 
--- the fact stands at this place, and at no later one
-pub record IsLastAt (all : List KeptModel) (f : KeptModel) (n : ℕ) : Type 0 where
-  pub at : slice_get all n ≡ Some f
-  pub last : (m : ℕ) → slice_get all m ≡ Some f → m ≤ n
-
--- that place, or none if the fact isn't among them
-abbrev pub IsLastPlace : List KeptModel → KeptModel → Option ℕ → Type 0
-IsLastPlace all f answer = MatchOption answer ((n : ℕ) → slice_get all n ≡ Some f → ⊥) (IsLastAt all f)
-
--- the map has the last place of each of these facts
-abbrev pub ArePlaces : List KeptModel → BTreeMap FactKey ℕ → Type 0
-ArePlaces all places = (k : FactKey) → IsLastPlace all (key_view k) (get key_cmp places k)
-
--- The same facts have the same numbers, and different facts different ones.
+-- The same facts have the same numbers, and no others.
 pub record AreFactNumbers (all : List KeptModel) (numbers : List ℕ) : Type 0 where
   pub long : length numbers ≡ length all
   pub low : All (λ n. n < length all) numbers

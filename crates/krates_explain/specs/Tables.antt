@@ -1,5 +1,6 @@
--- The facts of a search, by the numbers of the kept crates.
-use Rattle.std.specs.Prelude.{◌≡◌, ℕ, ◌<◌, List, All, Contains, length, map}
+-- Numbered facts by the numbers of the kept crates.
+use Rattle.std.specs.Prelude.{◌≡◌, ℕ, ◌<◌, List, All, Contains, Option, length, map}
+use Rattle.std.specs.List.{AllZip}
 use Rattle.krates_cm.specs.Document.{Text}
 use Rattle.krates_explain.specs.Explanation.{AreBelow, uses_in}
 use Rattle.krates_explain.specs.KeptFacts.{IsBelow, fact_in, facts_in, id_at, steps_in}
@@ -10,7 +11,7 @@ use Rattle.krates_explain.specs.declared.key.FeatureKey.{FeatureKey}
 use Rattle.krates_explain.specs.declared.keys.Tables.{Tables}
 use Rattle.krates_explain.specs.declared.kept.KeptStep.{KeptStep}
 use Rattle.krates_ids.specs.Identity.{Identity}
-use Rattle.krates_questions.specs.CrateTable.{AreNumbered}
+use Rattle.krates_questions.specs.CrateTable.{AreNumbered, IsNumberOf}
 use Rattle.krates_questions.specs.Lookup.{IsLookup, resolved_view}
 use Rattle.krates_questions.specs.Numbering.{FeatureAt}
 use Rattle.krates_resolve.specs.Trace.{EdgeAt, HasSomeStep, Names}
@@ -30,10 +31,15 @@ document_in t = resolved_view t.lookup.now
 abbrev pub kids_in : Tables → List Identity
 kids_in t = t.krates.now
 
--- the look-ups are those of the document, and the crates are sorted
+-- the number of each id among those of the crates, or none where it isn't among them
+abbrev pub AreNumbersIn : List Identity → List Identity → List (Option ℕ) → Type 0
+AreNumbersIn kids ids numbers = AllZip (λ (i : Identity) (n : Option ℕ). IsNumberOf (map id_of kids) (id_of i) n) ids numbers
+
+-- the document is looked up, the crates are in order, and the numbers are those of the crates of its nodes
 pub record IsTables (t : Tables) : Type 0 where
   pub lookup : IsLookup t.lookup.now
   pub ascending : AreNumbered (map id_of t.krates.now)
+  pub numbers : AreNumbersIn t.krates.now t.lookup.now.ids.now.nodes.items t.numbers.now
 
 -- ---- what is kept
 
@@ -41,7 +47,7 @@ pub record IsTables (t : Tables) : Type 0 where
 abbrev pub IsKeptIn : List Identity → Id → Type 0
 IsKeptIn kids i = (n : ℕ) × StandsAt kids i n
 
--- the crates of the fact are among these
+-- the crates of the fact are
 abbrev pub HasKeptCrates : List Identity → Fact → Type 0
 HasKeptCrates kids (Crate i) = IsKeptIn kids i
 HasKeptCrates kids (Feature i f) = IsKeptIn kids i
@@ -62,14 +68,14 @@ pub record IsKeptFeature (t : Tables) (number : ℕ) : Type 0 where
   pub at : FeatureAt (document_in t) krate name number
   pub kept : IsKeptIn (kids_in t) krate
 
--- the edge at these places is between kept crates
+-- the edge at these places is one between kept crates
 pub record IsKeptEdge (t : Tables) (place index kind : ℕ) : Type 0 where
   pub edge : Edge
   pub at : EdgeAt (document_in t) edge place index kind
   pub parent : IsKeptIn (kids_in t) edge.parent
   pub child : IsKeptIn (kids_in t) edge.child
 
--- the fact is about kept crates
+-- the fact is one about kept crates
 pub record IsKeptFact (t : Tables) (n : NumberedFact) : Type 0 where
   pub fact : Fact
   pub names : Names (document_in t) n fact
@@ -80,7 +86,7 @@ AreKeptFacts t steps = All (λ (x : NumberedStep). IsKeptFact t x.fact) steps
 
 -- ---- their keys
 
--- the crate with this number is the crate of the node at this place
+-- the crate with this number is that of the node at the place
 pub record IsNumberAt (t : Tables) (place n : ℕ) : Type 0 where
   pub is : (i : Id) → NodeAt (document_in t) i place → id_at (kids_in t) n ≡ i
   pub below : n < length (kids_in t)
@@ -106,8 +112,7 @@ numbered_facts steps = map (λ (x : NumberedStep). x.fact) steps
 
 -- ---- the kept steps
 
--- The kept steps each follow from earlier ones; no fact stands twice among them; each fact that has a step has one among them;
--- and the crates are numbered.
+-- The kept steps follow, each from earlier ones, no fact stands twice among them, each fact that has a step has one among them, and its crates are numbered.
 pub record AreStepsOf (r : Resolved) (s : SettingModel) (kids : List Identity) (trace : List NumberedStep) (steps : List KeptStep) : Type 0 where
   pub below : AreBelow (length kids) steps
   pub backward : AreBackward (uses_in steps)

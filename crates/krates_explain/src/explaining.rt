@@ -12,7 +12,7 @@ ghost use Rattle.krates_rules.specs.Facts.{Crate, Id};
 
 use crate::kept::KeptStep;
 use crate::key::{FactKey, fact_of};
-use crate::keys::{Tables, keys_of};
+use crate::keys::{Tables, keys_of, numbers_in};
 use crate::numbering::numbers_of;
 use krates_ids::{Kid, laws};
 use krates_questions::basis::Basis;
@@ -39,9 +39,11 @@ pub fn kept_steps<'a>(
     laws::one_reading();
     laws::comparison();
     step_laws::firsts();
+    let krate_numbers = numbers_in(basis.alloc, krates, &basis.lookup.ids.nodes)?;
     let tables = Tables {
         lookup: basis.lookup,
         krates,
+        numbers: &krate_numbers,
     };
     let keys = keys_of(basis.alloc, &tables, steps)?;
     let numbers = numbers_of(basis.alloc, &keys)?;

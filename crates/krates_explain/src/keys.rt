@@ -1,11 +1,11 @@
 //! Numbered facts by the numbers of the kept crates.
 
-ghost use Rattle.std.specs.Prelude.{◌≡◌, ◌<◌, IfOk, length, map};
+ghost use Rattle.std.specs.Prelude.{◌≡◌, ◌<◌, IfOk, Some, length, map, slice_get};
 ghost use Rattle.std.specs.List.{AllZip};
 ghost use Rattle.krates_cm.specs.Document.{dep_kind_info_view};
 ghost use Rattle.krates_explain.specs.KeptFacts.{id_at};
-ghost use Rattle.krates_explain.specs.Tables.{AreKeptFacts, IsEdgeIn, IsFeatureIn, IsKeptEdge, IsKeptFact, IsKeptFeature, IsKeptIn, IsKeptNode, IsKeyOf, IsNumberAt, IsTables, numbered_facts};
-ghost use Rattle.krates_questions.specs.CrateTable.{AreNumbered};
+ghost use Rattle.krates_explain.specs.Tables.{AreKeptFacts, AreNumbersIn, IsEdgeIn, IsFeatureIn, IsKeptEdge, IsKeptFact, IsKeptFeature, IsKeptIn, IsKeptNode, IsKeyOf, IsNumberAt, IsTables, numbered_facts};
+ghost use Rattle.krates_questions.specs.CrateTable.{AreNumbered, IsNumberOf};
 ghost use Rattle.krates_questions.specs.Lookup.{IsLookup, resolved_view};
 ghost use Rattle.krates_resolve.specs.Trace.{EdgeAt};
 ghost use Rattle.krates_rules.specs.Facts.{Edge, Id};
@@ -26,6 +26,33 @@ pub(crate) struct Tables<'a, 's> {
     pub lookup: &'s Lookup<'a>,
     /// The kept crates.
     pub krates: &'s [Kid],
+    /// By the place of a node, the number of its crate, where that is kept.
+    pub numbers: &'s [Option<usize>],
+}
+
+/// For each of these ids, the number of the kept crate that has it, where one has.
+pub(crate) fn numbers_in(
+    alloc: Global,
+    krates: &[Kid],
+    ids: &[Kid],
+) -> Result<Vec<Option<usize>>, AllocError>
+    requires { AreNumbered (map id_of krates.now) }
+    ensures { IfOk result (λ numbers. AreNumbersIn krates.now ids.now numbers.items) }
+{
+    let mut numbers = Vec::with_capacity(alloc, ids.len())?;
+    for id in ids {
+        numbers.push(number_in(krates, id))?;
+    }
+    Ok(numbers)
+}
+
+/// The number of the kept crate that has the id, where one has.
+fn number_in(krates: &[Kid], kid: &Kid) -> Option<usize>
+    requires { AreNumbered (map id_of krates.now) }
+    ensures { IsNumberOf (map id_of krates.now) (id_of kid.now) result }
+{
+    laws::comparison();
+    krates.binary_search(kid).ok()
 }
 
 /// The key of the fact of each step.
@@ -38,7 +65,7 @@ pub(crate) fn keys_of<'a>(
     requires kept { AreKeptFacts tables.now steps.now }
     ensures { IfOk result (λ keys. AllZip (IsKeyOf tables.now) (numbered_facts steps.now) keys.items) }
 {
-    let mut keys = Vec::new(alloc);
+    let mut keys = Vec::with_capacity(alloc, steps.len())?;
     for step in steps {
         keys.push(key_at(tables, step.fact))?;
     }
@@ -73,7 +100,18 @@ fn crate_at(tables: &Tables<'_, '_>, place: usize) -> usize
     ensures { IsNumberAt tables.now place result }
 {
     laws::one_reading();
-    number_of(tables.krates, &tables.lookup.ids.nodes[place])
+    let Some(number) = number_under(tables.numbers, place) else {
+        unreachable!()
+    };
+    number
+}
+
+/// What a table of numbers has for a place.
+fn number_under(numbers: &[Option<usize>], place: usize) -> Option<usize>
+    requires { place < length numbers.now }
+    ensures { slice_get numbers.now place ≡ Some result }
+{
+    numbers[place]
 }
 
 /// The key of the feature of a number.
@@ -132,8 +170,7 @@ fn number_of(krates: &[Kid], kid: &Kid) -> usize
     ensures id { id_at krates.now result ≡ id_of kid.now }
     ensures below { result < length krates.now }
 {
-    laws::comparison();
-    let Ok(number) = krates.binary_search(kid) else {
+    let Some(number) = number_in(krates, kid) else {
         unreachable!()
     };
     number

@@ -1,35 +1,21 @@
-use Rattle.std.proofs.Common.{◌∙◌, ◌<◌, length, subst}
-use Rattle.std.proofs.lemmas.Option.{slice_get_within}
-use Rattle.krates_explain.proofs.KeptNumbers.{node_there}
-use Rattle.krates_explain.specs.Tables.{IsKeptIn, document_in}
-use Rattle.krates_questions.proofs.Lookups.{one_id}
-use Rattle.krates_questions.proofs.NodeParts.{nodes_long, within_vec}
-use Rattle.krates_rules.specs.Resolved.{id_of}
+use Rattle.std.proofs.Common.{◌∙◌, arith, subst, sym}
+use Rattle.std.proofs.lemmas.Option.{same_Some}
+use Rattle.krates_explain.proofs.KeptNumbers.{node_within, number_at, numbers_long}
+use Rattle.krates_explain.specs.Tables.{IsNumberAt}
 use Rattle.krates_explain.proofs.keys.crate_at.Goals as goal
 
-pub index-requires : goal.index-requires
-index-requires c =
-    let d = c.args.tables.now.lookup.now in
-    let w = c.requires.kept.node in
-    within_vec d.ids.now.nodes c.args.place (subst (λ n. c.args.place < n) (nodes_long d c.requires.tables.lookup).0 (slice_get_within (document_in c.args.tables.now).graph.nodes c.args.place w.node w.at))
+pub number_under-requires : goal.number_under-requires
+number_under-requires c =
+    let t = c.args.tables.now in
+    omega (arith, node_within t c.args.place c.requires.tables c.requires.kept, numbers_long t c.requires.tables)
 
-pub number_of-requires-clause-kept : goal.number_of-requires-clause-kept
-number_of-requires-clause-kept c =
-    let d = c.args.tables.now.lookup.now in
-    let w = c.requires.kept.node in
-    let k = c.index.result.now in
-    let lt : c.args.place < length d.ids.now.nodes.items = subst (λ n. c.args.place < n) (nodes_long d c.requires.tables.lookup).0 (slice_get_within (document_in c.args.tables.now).graph.nodes c.args.place w.node w.at) in
-    let there = node_there d c.args.place k c.requires.tables.lookup lt c.index.ensures in
-    subst (IsKeptIn c.args.tables.now.krates.now) (one_id c.one_reading.ensures.once (document_in c.args.tables.now) c.requires.kept.krate (id_of k) c.args.place w there) c.requires.kept.kept
+pub unreachable-requires : goal.unreachable-requires
+unreachable-requires c =
+    let h = number_at c.one_reading.ensures.once c.args.tables.now c.args.place c.number_under.result c.requires.tables c.requires.kept c.number_under.ensures in
+    absurd (let no = sym h.answered ∙ c.in_default.is in cc)
 
 pub returns : goal.returns
 returns c =
-    let d = c.args.tables.now.lookup.now in
-    let w = c.requires.kept.node in
-    let k = c.index.result.now in
-    let lt : c.args.place < length d.ids.now.nodes.items = subst (λ n. c.args.place < n) (nodes_long d c.requires.tables.lookup).0 (slice_get_within (document_in c.args.tables.now).graph.nodes c.args.place w.node w.at) in
-    let there = node_there d c.args.place k c.requires.tables.lookup lt c.index.ensures in
-    record {
-      is = λ i at. c.number_of.ensures.id ∙ one_id c.one_reading.ensures.once (document_in c.args.tables.now) (id_of k) i c.args.place there at;
-      below = c.number_of.ensures.below;
-    }
+    let t = c.args.tables.now in
+    let h = number_at c.one_reading.ensures.once t c.args.place c.number_under.result c.requires.tables c.requires.kept c.number_under.ensures in
+    subst (IsNumberAt t c.args.place) (same_Some h.number c.in-Some.number (sym h.answered ∙ c.in-Some.is)) h.is

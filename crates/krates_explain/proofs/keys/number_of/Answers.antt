@@ -1,17 +1,21 @@
-use Rattle.krates_explain.proofs.KeptNumbers.{found_id, not_found}
-use Rattle.krates_questions.proofs.Searches.{searched_id}
+use Rattle.std.proofs.Common.{◌<◌, ◌≡◌, ◌∙◌, length, subst, sym}
+use Rattle.std.proofs.lemmas.Option.{same_Some}
+use Rattle.krates_explain.proofs.KeptNumbers.{has_number}
+use Rattle.krates_explain.specs.KeptFacts.{id_at}
+use Rattle.krates_rules.specs.Resolved.{id_of}
 use Rattle.krates_explain.proofs.keys.number_of.Goals as goal
 
 pub unreachable-requires : goal.unreachable-requires
 unreachable-requires c =
-    let ids = c.args.krates.now in
-    let q = c.args.kid.now in
-    let found = searched_id c.comparison.ensures.order c.comparison.ensures.total ids q c.binary_search.result c.requires.numbered c.binary_search.ensures.bound c.binary_search.ensures.position in
-    not_found ids q c.binary_search.result c.in_default.field-0 c.requires.kept c.in_default.is found
+    let h = has_number c.args.krates.now (id_of c.args.kid.now) c.number_in.result c.requires.kept c.number_in.ensures in
+    absurd (let no = sym h.answered ∙ c.in_default.is in cc)
 
 pub returns-clause-id : goal.returns-clause-id
 returns-clause-id c =
-    let ids = c.args.krates.now in
-    let q = c.args.kid.now in
-    let found = searched_id c.comparison.ensures.order c.comparison.ensures.total ids q c.binary_search.result c.requires.numbered c.binary_search.ensures.bound c.binary_search.ensures.position in
-    found_id ids q c.binary_search.result c.in-Ok.number c.in-Ok.is found
+    let h = has_number c.args.krates.now (id_of c.args.kid.now) c.number_in.result c.requires.kept c.number_in.ensures in
+    subst (λ n. id_at c.args.krates.now n ≡ id_of c.args.kid.now) (same_Some h.number c.in-Some.number (sym h.answered ∙ c.in-Some.is)) h.id
+
+pub returns-clause-below : goal.returns-clause-below
+returns-clause-below c =
+    let h = has_number c.args.krates.now (id_of c.args.kid.now) c.number_in.result c.requires.kept c.number_in.ensures in
+    subst (λ n. n < length c.args.krates.now) (same_Some h.number c.in-Some.number (sym h.answered ∙ c.in-Some.is)) h.below

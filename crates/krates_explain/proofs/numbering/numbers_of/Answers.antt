@@ -1,28 +1,22 @@
-use Rattle.std.proofs.Common.{◌≡◌, ◌+◌, Some, None, map, take, rules, sym, subst}
-use Rattle.std.specs.BTreeMap.{get}
-use Rattle.std.specs.List.{AllZip}
-use Rattle.krates_document.proofs.Zips.{zip_all, zip_next}
-use Rattle.krates_explain.proofs.FactPlaces.{HasPlace, are_numbers, place_is, place_there}
-use Rattle.krates_explain.specs.Keys.{key_cmp, key_view}
+use Rattle.std.proofs.Common.{ℕ, List, map, rules, subst}
+use Rattle.krates_explain.specs.Keys.{key_view}
+use Rattle.krates_explain.proofs.FactPlaces.{IsNumberFor, all_numbered, none_numbered, numbers_more, places_more}
 use Rattle.krates_explain.proofs.numbering.numbers_of.Goals as goal
 
-pub unreachable-requires : goal.unreachable-requires
-unreachable-requires c =
-    let q = c.key-item.result in
-    let none : get key_cmp c.in_ok-places.places q ≡ None = search rules in
-    place_there c.args.keys.now c.loop-key.key-index q c.in_ok-places.places c.loop-key-test.true c.key-item.is c.in_ok-places.ensures none
+pub loop-place-init : goal.loop-place-init
+loop-place-init c = (search rules, none_numbered (map key_view c.args.keys.now) c.in_ok-numbers.numbers.items c.in_ok-numbers.ensures.items)
 
-pub loop-key-preserved : goal.loop-key-preserved
-loop-key-preserved c =
+pub loop-place-preserved : goal.loop-place-preserved
+loop-place-preserved c =
+    let l = c.loop-place in
     let keys = c.args.keys.now in
-    let i = c.loop-key.key-index in
-    let q = c.key-item.result in
-    let some : get key_cmp c.in_ok-places.places q ≡ Some c.in-Some.place.now = search rules in
-    let here = place_is keys q c.in-Some.place.now c.in_ok-places.places c.in_ok-places.ensures some in
-    subst (AllZip (HasPlace (map key_view keys)) (map key_view (take (i + 1) keys))) (sym c.in_ok-push.ensures.items)
-    (zip_next (HasPlace (map key_view keys)) key_view keys i q c.loop-key.numbers.items c.in-Some.place.now c.loop-key-test.true c.key-item.is here c.loop-key.invariant)
+    let k = c.index-keys-place.result in
+    let is = c.index-keys-place.is in
+    let lt = c.loop-place-test.true in (
+      places_more keys l.place k l.places c.insert.new.self lt is c.in_ok-earlier.ensures.updates.0 l.invariant.0,
+      numbers_more keys l.place k l.places c.in_ok-earlier.earlier c.number_for.result l.numbers.items c.push.new.self.items lt is c.in_ok-earlier.ensures.old l.invariant.0
+          (subst (λ (ns : List ℕ). IsNumberFor ns l.place c.in_ok-earlier.earlier c.number_for.result) c.deref.ensures.value c.number_for.ensures) c.in_ok-push.ensures.items l.invariant.1,
+    )
 
 pub returns : goal.returns
-returns c =
-    let keys = c.args.keys.now in
-    are_numbers (map key_view keys) c.loop-key.numbers.items (zip_all (HasPlace (map key_view keys)) key_view keys c.loop-key.key-index c.loop-key.numbers.items c.loop-key-test.false c.loop-key.invariant)
+returns c = all_numbered c.args.keys.now c.loop-place.place c.loop-place.numbers.items c.loop-place.auto.place-end c.loop-place-test.false c.loop-place.invariant.1

@@ -1,9 +1,8 @@
-use Rattle.std.proofs.Common.{map, take}
-use Rattle.std.specs.List.{AllZip}
+use Rattle.std.proofs.Common.{map}
 use Rattle.krates_explain.specs.Keys.{key_view}
-use Rattle.krates_explain.proofs.FactPlaces.{HasPlace}
+use Rattle.krates_explain.proofs.FactPlaces.{AreNumbersBelow, ArePlacesBelow}
 use Rattle.krates_explain.proofs.numbering.numbers_of.Given as goal
 
--- each fact so far has the number of its last place
-abbrev pub invariant-loop-key : goal.invariant-loop-key
-invariant-loop-key l = AllZip (HasPlace (map key_view l.keys)) (map key_view (take l.key-index l.keys)) l.numbers.items
+-- the map has the last places so far, and the facts so far are numbered
+abbrev pub invariant-loop-place : goal.invariant-loop-place
+invariant-loop-place l = ArePlacesBelow (map key_view l.keys) l.place l.places × AreNumbersBelow (map key_view l.keys) l.place l.numbers.items

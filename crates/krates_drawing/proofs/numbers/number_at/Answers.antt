@@ -1,0 +1,12 @@
+use Rattle.std.proofs.Common.{◌∙◌, arith}
+use Rattle.std.proofs.lemmas.List.{length-map}
+use Rattle.krates_drawing.specs.Views.{krate_view}
+use Rattle.krates_drawing.proofs.FeaturePlaces.{own_place}
+use Rattle.krates_drawing.proofs.numbers.number_at.Goals as goal
+
+pub returns : goal.returns
+returns c =
+    let t = c.args.sheet.now in
+    let same = own_place t.features.items c.args.place c.args.named.now c.requires.ordered.features c.requires.place.at in
+    let count = length-map t.krates.items krate_view in
+    c.new.ensures ∙ omega (arith, same, count, c.len.ensures)

@@ -1,8 +1,0 @@
-use Rattle.std.proofs.Common.{map}
-use Rattle.krates_explain.specs.Keys.{key_view}
-use Rattle.krates_explain.proofs.FactPlaces.{ArePlacesBelow}
-use Rattle.krates_explain.proofs.numbering.places_of.Given as goal
-
--- the map has the last places so far
-abbrev pub invariant-loop-place : goal.invariant-loop-place
-invariant-loop-place l = ArePlacesBelow (map key_view l.keys) l.place l.places
