@@ -102,6 +102,15 @@ const LISTINGS: &[(&str, &str)] = &[
         "--exclude a --cargo SELF",
         "1 refused: no root crates available\n|",
     ),
+    // why a crate is kept of its document, and one that isn't
+    (
+        "--why path+file:///w/b#0.1.0 --cargo SELF",
+        "0 |0 rule 1: crate path+file:///w/a#0.1.0\n1 rule 5: kept path+file:///w/a#0.1.0 -> path+file:///w/b#0.1.0 (dev) from 0\n2 rule 5: crate path+file:///w/b#0.1.0 from 1\n",
+    ),
+    (
+        "--cargo SELF --why path+file:///w/b#0.1.0 --ignore-kind dev",
+        "1 refused: not kept: path+file:///w/b#0.1.0\n|",
+    ),
 ];
 
 /// The words, with the path of this program where it is meant.

@@ -1,3 +1,4 @@
+pub mod CommandLineLemmas
 pub mod CountedLemmas
 pub mod IgnoredLemmas
 pub mod ListedLemmas
@@ -5,3 +6,4 @@ pub mod ListingLemmas
 pub mod OptionsLemmas
 pub mod ReportedLemmas
 pub mod StepLines
+pub mod WhyKeptLemmas

@@ -1,7 +1,8 @@
--- A text that has a listing isn't refused for anything in the text.
-use Rattle.std.proofs.Common.{◌≡◌, ℕ, zero, suc, ◌<◌, List, [], ◌∷◌, length, get_or, Contains, Option, Some, None, IsSome, IsUtf8, refl, ap, sym, ◌∙◌, subst, inl, inr, arith, string_bytes}
+-- A text that has a listing is refused for nothing that is said of it.
+use Rattle.std.proofs.Common.{◌≡◌, ℕ, zero, suc, ◌<◌, List, [], ◌∷◌, length, get_or, Contains, Option, Some, None, IsSome, IsUtf8, refl, ap, sym, ◌∙◌, ◌⊎◌, subst, inl, inr, arith, string_bytes}
 use Rattle.std.proofs.lemmas.Option.{none-some, same_Some}
 use Rattle.std.specs.List.{AllZip, AllByRecursion}
+use Rattle.std.specs.Prelude.{MatchOption}
 use Rattle.krates_cm.specs.Document.{Text, MetadataModel, NodeModel, ResolveModel, metadata_view}
 use Rattle.krates_cm.specs.Names.{version_named}
 use Rattle.krates_cm.specs.Parsing.{IsDocument, IsRefusal}
@@ -10,32 +11,36 @@ use Rattle.krates_cm.specs.declared.error.Error as cm
 use Rattle.krates_cm.specs.declared.error.Error.TheVariants as cm_errors
 use Rattle.krates_cm.specs.declared.metadata.Metadata.{Metadata}
 use Rattle.krates_cm.specs.declared.package.Package.{Package}
+use Rattle.krates_derive.specs.Told.{steps_view}
 use Rattle.krates_ids.specs.Identity.{Identity, Reads}
 use Rattle.krates_ids.specs.declared.error.Error as build
 use Rattle.krates_ids.specs.declared.error.Error.TheVariants as build_errors
 use Rattle.krates_rules.specs.Admission.{package_texts, node_texts, dep_texts, HasVersion, AreDepIds, AreIdsOf, IsRootId, StandsForId, of_package, of_member, of_root, of_node, of_dep, IsInvalidId, unread, bad_version, IsDoubled, IdsModel}
+use Rattle.krates_rules.specs.Checks.{LastIsDerivable}
+use Rattle.krates_rules.specs.Facts.{Crate}
 use Rattle.krates_rules.specs.Questions.{questions}
 use Rattle.krates_rules.specs.Resolved.{HasGraphWith, id_of, resolved}
 use Rattle.krates_rules.specs.SelectionRefusals.{HasNoRoot, SelectionRefusal, cause_of}
 use Rattle.krates_rules.specs.Setting.{SettingModel}
-use Rattle.krates.specs.Build.{Answers, BuildRefusalAsGiven}
+use Rattle.krates.specs.Build.{Answers, BuildRefusalAsGiven, KeepsCrate}
 use Rattle.krates_cli.specs.CommandLine.{AskForListing, AskForProgram, IsCause, LinesRefusal}
-use Rattle.krates_cli.specs.Listing.{IsListing, IsSplit}
-use Rattle.krates_cli.specs.ListingRefusals.{IsOutside, RunRefusal}
-use Rattle.krates_cli.specs.Options.{OptionsModel, IsCommandLine, setting_of}
+use Rattle.krates_cli.specs.Listing.{ExplainsCrate, IsListing, IsListingOf, IsSplit, ListsPackages}
+use Rattle.krates_cli.specs.ListingRefusals.{IsOutside, IsUnkept, KeepsNot, RunRefusal}
+use Rattle.krates_cli.specs.Options.{OptionsModel, IsCommandLine, request_of}
+use Rattle.krates_cli.specs.Request.{Request}
 use Rattle.krates_cli.specs.declared.run_error.RunError.{RunError}
 use Rattle.krates_cli.specs.declared.run_error.RunError.TheVariants as errors
 
--- a text reads as at most one id
+-- a text is read as one id
 abbrev pub ReadsOnce : Type 0
 ReadsOnce = (t : Text) (a b : Identity) → Reads t a → Reads t b → a ≡ b
 
--- a text reads as at most one document
+-- a text is one document
 one_document : (text : Text) (a b : MetadataModel) → IsDocument text a → IsDocument text b → a ≡ b
 one_document text a b (d, reads, is) (e, also, was) =
     same_Some a b (sym is ∙ ap (λ x. (metadata [] x).value) (same_Some d e (sym reads ∙ also)) ∙ was)
 
--- a text that is a document is refused only when out of memory
+-- a document is refused as none for nothing but memory
 document_refused : (text : Text) (m : MetadataModel) (cause : cm.Error) → IsDocument text m → IsRefusal text cause → cause ≡ cm_errors.Memory
 document_refused text m (cm_errors.Json e) (d, reads, is) none = absurd (none-some d (sym none ∙ reads))
 document_refused text m (cm_errors.Value e) (d, reads, is) (other, also, none, fault) =
@@ -49,7 +54,7 @@ document_refused text m cm_errors.NoJson document refused = absurd refused
 document_refused text m cm_errors.FeaturesTwice document refused = absurd refused
 document_refused text m cm_errors.NoManifestParent document refused = absurd refused
 
--- what stands beside an element of a related list
+-- what stands beside an element of related lists
 beside : {A B : Type 0} (R : A → B → Type 0) (xs : List A) (ys : List B) (x : A) (k : ℕ) → AllZip R xs ys → k < length xs → get_or xs k x ≡ x
     → (y : B) × Contains ys y × R x y
 beside R [] ys x k zip lt is = absurd (omega arith)
@@ -64,7 +69,7 @@ each P [] x k h lt is = absurd (omega arith)
 each P (a ∷ xs) x zero h lt is = subst P is h.0
 each P (a ∷ xs) x (suc k) h lt is = each P xs x k h.1 (omega arith) is
 
--- the id of a node's dependency
+-- an id of a dependency that stands among the nodes, with its version
 dep_id : (g : ResolveModel) (ids : List (List Identity)) (n : NodeModel) (t : Text) → AllZip AreDepIds g.nodes ids → Contains g.nodes n → Contains (dep_texts n) t
     → (i : Identity) × Reads t i × HasVersion i
 dep_id g ids n t zip node dep =
@@ -77,7 +82,7 @@ root_id None root t is e = absurd (none-some t e)
 root_id (Some u) None t is e = absurd is
 root_id (Some u) (Some i) t is e = (i, subst (λ v. Reads v i) (same_Some u t e) is)
 
--- in an admitted document each text that has to be an id reads as one
+-- of an admitted document each text that has to be an id is read
 stands_read : (m : MetadataModel) (g : ResolveModel) (ids : IdsModel) (t : Text) → AreIdsOf m g ids → StandsForId m g t → (i : Identity) × Reads t i
 stands_read m g ids t are (of_package c) = let w = beside Reads (package_texts m) ids.packages t c.0 are.packages c.1 c.2 in (w.0, w.2)
 stands_read m g ids t are (of_member c) = let w = beside Reads m.workspace_members ids.members t c.0 are.members c.1 c.2 in (w.0, w.2)
@@ -91,11 +96,11 @@ none_invalid once m g ids t are (bad_version n c d i reads none) =
     let w = dep_id g ids.deps n t are.deps c d in
     w.2 (subst (λ (j : Identity). version_named j.version ≡ None) (once t i w.0 reads w.1) none)
 
--- a property of the graph that a document has
+-- what holds of a document's graph, of the graph that it is known to have
 of_graph : (m : MetadataModel) (P : ResolveModel → Type 0) (g : ResolveModel) → m.resolve ≡ Some g → HasGraphWith m P → P g
 of_graph m P g has h = subst P (same_Some h.graph g (sym h.has_graph ∙ has)) h.holds
 
--- a document that can be divided is refused only when out of memory or for too many nodes
+-- a document that is divided is refused for nothing but memory, and more crates than can be numbered
 divided_refused : ReadsOnce → (s : SettingModel) (m n : Metadata) (kept others : List Package) (cause : build.Error) → metadata_view n ≡ metadata_view m
     → IsSplit s m kept others → BuildRefusalAsGiven n s cause → (cause ≡ build_errors.Memory → ⊥) → cause ≡ build_errors.TooMany
 divided_refused once s m n kept others build_errors.NoResolveGraph same split refused limited =
@@ -122,36 +127,76 @@ divided_refused once s m n kept others build_errors.Memory same split refused li
 divided_refused once s m n kept others (build_errors.Metadata _) same split refused limited = absurd refused
 divided_refused once s m n kept others (build_errors.InvalidPkgSpec _) same split refused limited = absurd refused
 
--- a run over a text that has a listing is refused only for another cause than the text
-pub listed_refused : ReadsOnce → (s : SettingModel) (bytes lines : Text) (cause : RunError) → IsUtf8 bytes → IsListing s bytes lines → RunRefusal s bytes cause → IsOutside cause
-listed_refused once s bytes lines errors.Read utf8 listing refused = tt
-listed_refused once s bytes lines errors.Utf8 utf8 listing refused = refused utf8
-listed_refused once s bytes lines (errors.Parse cause) utf8 listing (_, refused) =
-    absurd (refused.not_memory (document_refused bytes (metadata_view listing.metadata) cause listing.document refused.refused))
-listed_refused once s bytes lines (errors.Build cause) utf8 listing (_, refused) =
-    let same = one_document bytes (metadata_view refused.metadata) (metadata_view listing.metadata) refused.document listing.document in
-    divided_refused once s listing.metadata refused.metadata listing.lists.kept listing.lists.others cause same listing.lists.split refused.unbuilt.refused refused.unbuilt.not_memory
-listed_refused once s bytes lines errors.Write utf8 listing refused = tt
-listed_refused once s bytes lines errors.Memory utf8 listing refused = tt
+-- the packages of a document that has a listing
+split_of : (s : SettingModel) (m : Metadata) (lines : Text) (explaining : Option Identity) → MatchOption explaining (ListsPackages s m lines) (λ krate. ExplainsCrate s m krate lines)
+    → (kept : List Package) × (others : List Package) × IsSplit s m kept others
+split_of s m lines None lists = (lists.kept, lists.others, lists.split)
+split_of s m lines (Some krate) lists = (lists.kept, lists.others, lists.split)
 
--- words ask for only one thing
+-- a crate whose derivation is a document's listing has a derivation
+explained_kept : LastIsDerivable → (a : Request) (m : Metadata) (krate : Identity) (lines : Text) → a.explaining ≡ Some krate → IsListingOf a m lines → KeepsCrate (metadata_view m) a.setting (id_of krate)
+explained_kept law a m krate lines asked lists =
+    let e : ExplainsCrate a.setting m krate lines = subst (λ (o : Option Identity). MatchOption o (ListsPackages a.setting m lines) (λ i. ExplainsCrate a.setting m i lines)) asked lists in
+    let accepted = e.why.accepted.holds in record {
+      graph = accepted.graph;
+      has_graph = accepted.has_graph;
+      holds = law (resolved (metadata_view m) accepted.graph) a.setting (steps_view e.steps) (Crate (id_of krate)) accepted.holds e.why.ends;
+    }
+
+-- a document that has a listing keeps what is to be explained
+none_unkept : LastIsDerivable → (a : Request) (m n : Metadata) (krate : Identity) (lines : Text) → metadata_view n ≡ metadata_view m → IsListingOf a m lines → IsUnkept a n krate → ⊥
+none_unkept law a m n krate lines same lists unkept =
+    unkept.dropped (subst (λ (d : MetadataModel). KeepsCrate d a.setting (id_of krate)) (sym same) (explained_kept law a m krate lines unkept.asked lists))
+
+-- a run over a text that has a listing is refused for a cause that isn't the text's
+pub listed_refused : ReadsOnce → LastIsDerivable → (a : Request) (bytes lines : Text) (cause : RunError) → IsUtf8 bytes → IsListing a bytes lines → RunRefusal a bytes cause → IsOutside cause
+listed_refused once law a bytes lines errors.Read utf8 listing refused = tt
+listed_refused once law a bytes lines errors.Utf8 utf8 listing refused = refused utf8
+listed_refused once law a bytes lines (errors.Parse cause) utf8 listing (_, refused) =
+    absurd (refused.not_memory (document_refused bytes (metadata_view listing.metadata) cause listing.document refused.refused))
+listed_refused once law a bytes lines (errors.Build cause) utf8 listing (_, refused) =
+    let same = one_document bytes (metadata_view refused.metadata) (metadata_view listing.metadata) refused.document listing.document in
+    let split = split_of a.setting listing.metadata lines a.explaining listing.lists in
+    divided_refused once a.setting listing.metadata refused.metadata split.0 split.1 cause same split.2 refused.unbuilt.refused refused.unbuilt.not_memory
+listed_refused once law a bytes lines (errors.NotKept krate) utf8 listing (_, refused) =
+    let same = one_document bytes (metadata_view refused.metadata) (metadata_view listing.metadata) refused.document listing.document in
+    absurd (none_unkept law a listing.metadata refused.metadata krate lines same listing.lists refused.unkept)
+listed_refused once law a bytes lines errors.Write utf8 listing refused = tt
+listed_refused once law a bytes lines errors.Memory utf8 listing refused = tt
+
+-- a run over a text that doesn't keep the crate that is to be explained is refused for that, or for a cause that isn't the text's
+pub unkept_refused : ReadsOnce → (a : Request) (bytes : Text) (krate : Identity) (cause : RunError) → IsUtf8 bytes → KeepsNot a bytes krate → RunRefusal a bytes cause → (cause ≡ errors.NotKept krate) ⊎ IsOutside cause
+unkept_refused once a bytes krate errors.Read utf8 unkept refused = inr tt
+unkept_refused once a bytes krate errors.Utf8 utf8 unkept refused = absurd (refused utf8)
+unkept_refused once a bytes krate (errors.Parse cause) utf8 unkept (_, refused) =
+    absurd (refused.not_memory (document_refused bytes (metadata_view unkept.metadata) cause unkept.document refused.refused))
+unkept_refused once a bytes krate (errors.Build cause) utf8 unkept (_, refused) =
+    let same = one_document bytes (metadata_view refused.metadata) (metadata_view unkept.metadata) refused.document unkept.document in
+    let u = unkept.unkept in
+    inr (divided_refused once a.setting unkept.metadata refused.metadata u.kept u.others cause same u.split refused.unbuilt.refused refused.unbuilt.not_memory)
+unkept_refused once a bytes krate (errors.NotKept other) utf8 unkept (_, refused) =
+    inl (ap (λ (i : Identity). errors.NotKept i) (same_Some other krate (sym refused.unkept.asked ∙ unkept.unkept.asked)))
+unkept_refused once a bytes krate errors.Write utf8 unkept refused = inr tt
+unkept_refused once a bytes krate errors.Memory utf8 unkept refused = inr tt
+
+-- words ask for one thing
 abbrev pub AskOnce : Type 0
 AskOnce = (words : List Text) (a b : OptionsModel) → IsCommandLine words a → IsCommandLine words b → a ≡ b
 
--- a refusal of lines that are read is a refusal of a run
-read_refused : (cargo : Option Text) (s : SettingModel) (bytes : Text) (cause : RunError) → cargo ≡ None → LinesRefusal cargo s (Some bytes) cause → RunRefusal s bytes cause
-read_refused None s bytes cause none refused = refused
-read_refused (Some program) s bytes cause none refused = absurd (none-some program (sym none))
+-- what refuses lines that are read refuses a run
+read_refused : (cargo : Option Text) (a : Request) (bytes : Text) (cause : RunError) → cargo ≡ None → LinesRefusal cargo a (Some bytes) cause → RunRefusal a bytes cause
+read_refused None a bytes cause none refused = refused
+read_refused (Some program) a bytes cause none refused = absurd (none-some program (sym none))
 
--- the same, of the words and of what remains to be read
-pub asked_refused : ReadsOnce → AskOnce → (words : List Text) (remaining : Option Text) (cause : RunError) → AskForListing words remaining → IsCause words remaining cause → IsOutside cause
-asked_refused once alone words remaining cause listed (inl memory) = subst IsOutside (sym memory) tt
-asked_refused once alone words None cause listed (inr asked) = absurd listed.2.1
-asked_refused once alone words (Some bytes) cause listed (inr asked) =
+-- the same of the words and of what is to be read
+pub asked_refused : ReadsOnce → LastIsDerivable → AskOnce → (words : List Text) (remaining : Option Text) (cause : RunError) → AskForListing words remaining → IsCause words remaining cause → IsOutside cause
+asked_refused once law alone words remaining cause listed (inl memory) = subst IsOutside (sym memory) tt
+asked_refused once law alone words None cause listed (inr asked) = absurd listed.2.1
+asked_refused once law alone words (Some bytes) cause listed (inr asked) =
     let same = alone words asked.0 listed.0 asked.1 listed.1 in
-    let refused = subst (λ (o : OptionsModel). LinesRefusal o.cargo (setting_of o) (Some bytes) cause) same asked.2 in
-    listed_refused once (setting_of listed.0) bytes listed.2.1.1.0 cause listed.2.1.0 listed.2.1.1.1 (read_refused listed.0.cargo (setting_of listed.0) bytes cause listed.2.0 refused)
+    let refused = subst (λ (o : OptionsModel). LinesRefusal o.cargo (request_of o) (Some bytes) cause) same asked.2 in
+    listed_refused once law (request_of listed.0) bytes listed.2.1.1.0 cause listed.2.1.0 listed.2.1.1.1 (read_refused listed.0.cargo (request_of listed.0) bytes cause listed.2.0 refused)
 
--- a property of the words where they ask for a program
+-- what holds where a program is asked for, of the words that ask for this
 pub where_program : AskOnce → (words : List Text) (o : OptionsModel) (P : Type 0) → IsCommandLine words o → (IsSome o.cargo → P) → AskForProgram words → P
 where_program alone words o P line h asked = h (subst (λ (a : OptionsModel). IsSome a.cargo) (alone words asked.0 o asked.1 line) asked.2)

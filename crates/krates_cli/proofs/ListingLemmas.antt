@@ -1,7 +1,7 @@
--- What a refused build means for a text.
-use Rattle.std.proofs.Common.{◌≡◌, ◌∷◌, ◌++◌, List, [], true, Option, None, Some, IfSome, IsUtf8, Result, Ok, Err, IfOk, IfErr, String, Global, string_bytes, refl, sym, ap, subst, ◌∙◌}
+-- What a refused build says of a text.
+use Rattle.std.proofs.Common.{◌≡◌, ◌<◌, ◌∷◌, ◌++◌, ℕ, zero, suc, List, [], true, Option, None, Some, IfSome, IsUtf8, Result, Ok, Err, IfOk, IfErr, String, Global, string_bytes, arith, get_or, length, map, refl, sym, ap, subst, ◌∙◌}
 use Rattle.std.specs.List.{AllZip}
-use Rattle.std.specs.Prelude.{⊤}
+use Rattle.std.specs.Prelude.{MatchOption, ⊤}
 use Rattle.krates_cm.specs.Document.{Text, metadata_view}
 use Rattle.krates_cm.specs.Parsing.{IsDocument}
 use Rattle.krates_cm.specs.declared.error.Error as cm
@@ -10,6 +10,9 @@ use Rattle.krates_cm.specs.declared.package.Package.{Package}
 use Rattle.krates_cargo.specs.Running.{IsSomeAnswer, IsUnrun}
 use Rattle.krates_drawing.specs.declared.edge.Edge.{Edge}
 use Rattle.krates_ids.specs.declared.error.Error as build
+use Rattle.krates_ids.specs.Identity.{Identity}
+use Rattle.krates_rules.specs.Facts.{Id}
+use Rattle.krates_rules.specs.Resolved.{StandsAt, id_of, resolved}
 use Rattle.krates_rules.specs.Setting.{SettingModel}
 use Rattle.krates_ids.specs.declared.error.Error.TheVariants as causes
 use Rattle.krates.specs.Build.{AreThosePackages, BuildRefusal, KeepsCrate, IsBuilt, BuildRefusalAsGiven, GraphRefusal, IsResolvable}
@@ -20,19 +23,21 @@ use Rattle.krates_queries.specs.Kept.{KeptCrates, ids_of, values_of}
 use Rattle.krates_cli.specs.CargoListing.{CargoRefusal, IsCargoListing}
 use Rattle.krates_cli.specs.Counted.{AppendsFront}
 use Rattle.krates_cli.specs.Lines.{kept_lines, reported_lines}
-use Rattle.krates_cli.specs.Listing.{IsListing, IsListingOf, WritesBeginning}
-use Rattle.krates_cli.specs.ListingRefusals.{IsUnlisted, ListingRefusal}
+use Rattle.krates_cli.specs.Listing.{ExplainsCrate, IsListing, IsListingOf, IsSplit, ListsPackages, WritesBeginning}
+use Rattle.krates_cli.specs.ListingRefusals.{IsUnlisted, ListingRefusal, RunRefusal}
 use Rattle.krates_cli.specs.Reported.{Reports, lines_in, is_whole}
+use Rattle.krates_cli.specs.Request.{Request}
+use Rattle.krates_cli.specs.WhyKept.{ExplainsKept, IsUnexplained}
 use Rattle.krates_cli.specs.declared.reported.Reported.{Reported}
 use Rattle.krates_cli.proofs.ReportedLemmas.{all_reported}
 use Rattle.krates_cli.specs.RunError.{BuildErrorBecomes, ParseErrorBecomes}
 
--- a refusal other than a failed write
+-- of a refusal that isn't a failed write
 abbrev NoWrite : RunError → Type 0
 NoWrite errors.Write = ⊥
 NoWrite _ = ⊤
 
--- without an index the document is resolved as it is given
+-- without an index the document is looked at as it is given
 pub as_given : {S : Type 0} (may_answer : Answering S) (m : Metadata) (P : Metadata → Type 0) → Sees may_answer None m P → P m
 as_given may_answer m P h = subst P h.is_seen h.holds
 
@@ -48,68 +53,72 @@ refused_as_given a m s (causes.Metadata cause) h = absurd h
 refused_as_given a m s (causes.InvalidPkgSpec text) h = absurd h
 
 -- a document whose build is refused has no listing, for the same reason
-pub unbuilt : (s : SettingModel) (m : Metadata) (cause : build.Error) (e : RunError) → BuildRefusalAsGiven m s cause → BuildErrorBecomes cause e → IsUnlisted s m e
-unbuilt s m cause (errors.Build same) refused becomes = record {
-  refused = subst (BuildRefusalAsGiven m s) (sym becomes.0) refused;
+pub unbuilt : (a : Request) (m : Metadata) (cause : build.Error) (e : RunError) → BuildRefusalAsGiven m a.setting cause → BuildErrorBecomes cause e → IsUnlisted a m e
+unbuilt a m cause (errors.Build same) refused becomes = record {
+  refused = subst (BuildRefusalAsGiven m a.setting) (sym becomes.0) refused;
   not_memory = λ is_memory. becomes.1 (sym becomes.0 ∙ is_memory);
 }
-unbuilt s m cause errors.Memory refused becomes = tt
-unbuilt s m cause errors.Read refused becomes = absurd becomes
-unbuilt s m cause errors.Utf8 refused becomes = absurd becomes
-unbuilt s m cause (errors.Parse same) refused becomes = absurd becomes
-unbuilt s m cause errors.Write refused becomes = absurd becomes
+unbuilt a m cause errors.Memory refused becomes = tt
+unbuilt a m cause errors.Read refused becomes = absurd becomes
+unbuilt a m cause errors.Utf8 refused becomes = absurd becomes
+unbuilt a m cause (errors.Parse same) refused becomes = absurd becomes
+unbuilt a m cause errors.Write refused becomes = absurd becomes
+unbuilt a m cause (errors.NotKept krate) refused becomes = absurd becomes
 
--- nor has its text
-pub text_unlisted : (s : SettingModel) (text : Text) (m : Metadata) (e : RunError) → IsDocument text (metadata_view m) → IsUnlisted s m e → ListingRefusal s text e
-text_unlisted s text m (errors.Build cause) document unlisted = record { metadata = m; document = document; unbuilt = unlisted }
-text_unlisted s text m errors.Memory document unlisted = tt
-text_unlisted s text m errors.Read document unlisted = absurd unlisted
-text_unlisted s text m errors.Utf8 document unlisted = absurd unlisted
-text_unlisted s text m (errors.Parse cause) document unlisted = absurd unlisted
-text_unlisted s text m errors.Write document unlisted = absurd unlisted
+-- and neither has its text
+pub text_unlisted : (a : Request) (text : Text) (m : Metadata) (e : RunError) → IsDocument text (metadata_view m) → IsUnlisted a m e → ListingRefusal a text e
+text_unlisted a text m (errors.Build cause) document unlisted = record { metadata = m; document = document; unbuilt = unlisted }
+text_unlisted a text m errors.Memory document unlisted = tt
+text_unlisted a text m (errors.NotKept krate) document unlisted = record { metadata = m; document = document; unkept = unlisted }
+text_unlisted a text m errors.Read document unlisted = absurd unlisted
+text_unlisted a text m errors.Utf8 document unlisted = absurd unlisted
+text_unlisted a text m (errors.Parse cause) document unlisted = absurd unlisted
+text_unlisted a text m errors.Write document unlisted = absurd unlisted
 
--- nor has a run of cargo that wrote it; and that isn't a failed write
-pub cargo_unlisted : (s : SettingModel) (m : Metadata) (e : RunError) → IsSomeAnswer (metadata_view m) → IsUnlisted s m e → CargoRefusal s e × (e ≡ errors.Write → ⊥)
-cargo_unlisted s m (errors.Build cause) written unlisted = (record { metadata = m; written = written; holds = unlisted }, λ is. subst NoWrite is tt)
-cargo_unlisted s m errors.Memory written unlisted = (tt, λ is. subst NoWrite is tt)
-cargo_unlisted s m errors.Read written unlisted = absurd unlisted
-cargo_unlisted s m errors.Utf8 written unlisted = absurd unlisted
-cargo_unlisted s m (errors.Parse cause) written unlisted = absurd unlisted
-cargo_unlisted s m errors.Write written unlisted = absurd unlisted
+-- nor a run of cargo that wrote it; it is no failed write
+pub cargo_unlisted : (a : Request) (m : Metadata) (e : RunError) → IsSomeAnswer (metadata_view m) → IsUnlisted a m e → CargoRefusal a e × (e ≡ errors.Write → ⊥)
+cargo_unlisted a m (errors.Build cause) written unlisted = (record { metadata = m; written = written; holds = unlisted }, λ is. subst NoWrite is tt)
+cargo_unlisted a m errors.Memory written unlisted = (tt, λ is. subst NoWrite is tt)
+cargo_unlisted a m (errors.NotKept krate) written unlisted = (record { metadata = m; written = written; holds = unlisted }, λ is. subst NoWrite is tt)
+cargo_unlisted a m errors.Read written unlisted = absurd unlisted
+cargo_unlisted a m errors.Utf8 written unlisted = absurd unlisted
+cargo_unlisted a m (errors.Parse cause) written unlisted = absurd unlisted
+cargo_unlisted a m errors.Write written unlisted = absurd unlisted
 
 -- ---- of the answers of calls
 
-pub text_listed : {E : Type 0} (s : SettingModel) (text : Text) (m : Metadata) (r : Result (String Global) E) → IsDocument text (metadata_view m) → IfOk r (λ lines. IsListingOf s m (string_bytes lines))
-    → IfOk r (λ lines. IsListing s text (string_bytes lines))
-text_listed s text m (Ok lines) document listed = record { metadata = m; document = document; lists = listed }
-text_listed s text m (Err e) document listed = listed
+pub text_listed : {E : Type 0} (a : Request) (text : Text) (m : Metadata) (r : Result (String Global) E) → IsDocument text (metadata_view m) → IfOk r (λ lines. IsListingOf a m (string_bytes lines))
+    → IfOk r (λ lines. IsListing a text (string_bytes lines))
+text_listed a text m (Ok lines) document listed = record { metadata = m; document = document; lists = listed }
+text_listed a text m (Err e) document listed = listed
 
-pub text_refused : {A : Type 0} (s : SettingModel) (text : Text) (m : Metadata) (r : Result A RunError) → IsDocument text (metadata_view m) → IfErr r (IsUnlisted s m) → IfErr r (ListingRefusal s text)
-text_refused s text m (Ok x) document unlisted = unlisted
-text_refused s text m (Err e) document unlisted = text_unlisted s text m e document unlisted
+pub text_refused : {A : Type 0} (a : Request) (text : Text) (m : Metadata) (r : Result A RunError) → IsDocument text (metadata_view m) → IfErr r (IsUnlisted a m) → IfErr r (ListingRefusal a text)
+text_refused a text m (Ok x) document unlisted = unlisted
+text_refused a text m (Err e) document unlisted = text_unlisted a text m e document unlisted
 
-pub cargo_listed : {E : Type 0} (s : SettingModel) (m : Metadata) (r : Result (String Global) E) → IsSomeAnswer (metadata_view m) → IfOk r (λ lines. IsListingOf s m (string_bytes lines))
-    → IfOk r (λ lines. IsCargoListing s (string_bytes lines))
-cargo_listed s m (Ok lines) written listed = record { metadata = m; written = written; holds = listed }
-cargo_listed s m (Err e) written listed = listed
+pub cargo_listed : {E : Type 0} (a : Request) (m : Metadata) (r : Result (String Global) E) → IsSomeAnswer (metadata_view m) → IfOk r (λ lines. IsListingOf a m (string_bytes lines))
+    → IfOk r (λ lines. IsCargoListing a (string_bytes lines))
+cargo_listed a m (Ok lines) written listed = record { metadata = m; written = written; holds = listed }
+cargo_listed a m (Err e) written listed = listed
 
-pub cargo_refused : {A : Type 0} (s : SettingModel) (m : Metadata) (r : Result A RunError) → IsSomeAnswer (metadata_view m) → IfErr r (IsUnlisted s m) → IfErr r (λ e. CargoRefusal s e × (e ≡ errors.Write → ⊥))
-cargo_refused s m (Ok x) written unlisted = unlisted
-cargo_refused s m (Err e) written unlisted = cargo_unlisted s m e written unlisted
+pub cargo_refused : {A : Type 0} (a : Request) (m : Metadata) (r : Result A RunError) → IsSomeAnswer (metadata_view m) → IfErr r (IsUnlisted a m) → IfErr r (λ e. CargoRefusal a e × (e ≡ errors.Write → ⊥))
+cargo_refused a m (Ok x) written unlisted = unlisted
+cargo_refused a m (Err e) written unlisted = cargo_unlisted a m e written unlisted
 
--- a run of cargo without a document has no listing, and that isn't a failed write
-pub cargo_unrun : (s : SettingModel) (cause : cm.Error) (e : RunError) → IsUnrun cause → ParseErrorBecomes cause e → CargoRefusal s e × (e ≡ errors.Write → ⊥)
-cargo_unrun s cause (errors.Parse same) unrun becomes = (
+-- a run of cargo without a document has no listing, and is no failed write
+pub cargo_unrun : (a : Request) (cause : cm.Error) (e : RunError) → IsUnrun cause → ParseErrorBecomes cause e → CargoRefusal a e × (e ≡ errors.Write → ⊥)
+cargo_unrun a cause (errors.Parse same) unrun becomes = (
   record { unrun = subst IsUnrun (sym becomes.0) unrun; not_memory = λ is_memory. becomes.1 (sym becomes.0 ∙ is_memory) },
   λ is. subst NoWrite is tt,
 )
-cargo_unrun s cause errors.Memory unrun becomes = (tt, λ is. subst NoWrite is tt)
-cargo_unrun s cause errors.Read unrun becomes = absurd becomes
-cargo_unrun s cause errors.Utf8 unrun becomes = absurd becomes
-cargo_unrun s cause (errors.Build same) unrun becomes = absurd becomes
-cargo_unrun s cause errors.Write unrun becomes = absurd becomes
+cargo_unrun a cause errors.Memory unrun becomes = (tt, λ is. subst NoWrite is tt)
+cargo_unrun a cause errors.Read unrun becomes = absurd becomes
+cargo_unrun a cause errors.Utf8 unrun becomes = absurd becomes
+cargo_unrun a cause (errors.Build same) unrun becomes = absurd becomes
+cargo_unrun a cause errors.Write unrun becomes = absurd becomes
+cargo_unrun a cause (errors.NotKept krate) unrun becomes = absurd becomes
 
--- a package is reported as itself
+-- a package stands for itself
 abbrev pub IsItself : Package → Package → Type 0
 IsItself pkg value = value ≡ pkg
 
@@ -119,38 +128,132 @@ itself [] (y ∷ ys) h = absurd h
 itself (x ∷ xs) [] h = absurd h
 itself (x ∷ xs) (y ∷ ys) h = ap (λ (p : Package). p ∷ xs) (sym h.0) ∙ ap (λ ps. y ∷ ps) (itself xs ys h.1)
 
--- what a build without an index keeps and reports is the listing of the document
-pub listed : {S : Type 0} (may_answer : Answering S) (index : Option S) (s meant : SettingModel) (lines told : Text) (m : Metadata) (made_edge : Edge → Edge → Type 0) (kept : KeptCrates Package Edge) (before after : Reported) → index ≡ None → s ≡ meant
-    → IsResolvable (metadata_view m) → Sees may_answer index m (λ seen. IsBuilt Reports IsItself made_edge seen s before after kept) → lines_in before ≡ [] → is_whole after ≡ true → told ≡ lines_in after
-    → lines ≡ kept_lines (values_of kept) ++ told → IsListingOf meant m lines
-listed may_answer index s meant lines told m made_edge kept before after none same resolvable sees empty whole told_is written =
-    let built : IsBuilt Reports IsItself made_edge m s before after kept = as_given may_answer m (λ seen. IsBuilt Reports IsItself made_edge seen s before after kept) (subst (λ i. Sees may_answer i m (λ seen. IsBuilt Reports IsItself made_edge seen s before after kept)) none sees) in
+-- what is built without an index is built of the document as it is given
+pub built_as_given : {S : Type 0} (may_answer : Answering S) (index : Option S) (s meant : SettingModel) (m : Metadata) (made_edge : Edge → Edge → Type 0) (kept : KeptCrates Package Edge) (before after : Reported) → index ≡ None → s ≡ meant
+    → Sees may_answer index m (λ seen. IsBuilt Reports IsItself made_edge seen s before after kept) → IsBuilt Reports IsItself made_edge m meant before after kept
+built_as_given may_answer index s meant m made_edge kept before after none same sees =
+    subst (λ t. IsBuilt Reports IsItself made_edge m t before after kept) same (as_given may_answer m (λ seen. IsBuilt Reports IsItself made_edge seen s before after kept) (subst (λ i. Sees may_answer i m (λ seen. IsBuilt Reports IsItself made_edge seen s before after kept)) none sees))
+
+-- its packages are those that are kept, and those that are reported
+pub split_by : (s : SettingModel) (m : Metadata) (made_edge : Edge → Edge → Type 0) (kept : KeptCrates Package Edge) (before after : Reported) → IsResolvable (metadata_view m) → (built : IsBuilt Reports IsItself made_edge m s before after kept)
+    → IsSplit s m (values_of kept) built.reported.others
+split_by s m made_edge kept before after resolvable built = record {
+  resolvable = resolvable;
+  none_lost = built.none_lost;
+  some = built.some;
+  kept_ids = ids_of kept;
+  every = built.kept;
+  kept_are = subst (AreThosePackages m.packages.items (KeepsCrate (metadata_view m) s) (ids_of kept)) (itself built.values.packages (values_of kept) built.values.made_of) built.values.those;
+  other_ids = built.reported.ids;
+  others_are = built.reported.not_kept;
+}
+
+-- and the lines of both are its list
+pub listed : (s : SettingModel) (m : Metadata) (made_edge : Edge → Edge → Type 0) (kept : KeptCrates Package Edge) (before after : Reported) (lines told : Text) → IsResolvable (metadata_view m) → IsBuilt Reports IsItself made_edge m s before after kept
+    → lines_in before ≡ [] → is_whole after ≡ true → told ≡ lines_in after → lines ≡ kept_lines (values_of kept) ++ told → ListsPackages s m lines
+listed s m made_edge kept before after lines told resolvable built empty whole told_is written =
     let reported = built.reported in
     let collected = all_reported before reported.others after reported.run whole in
-    let others : told ≡ reported_lines reported.others = told_is ∙ collected.1 ∙ ap (λ ls. ls ++ reported_lines reported.others) empty in
-    subst (λ t. IsListingOf t m lines) same (record {
+    let others : told ≡ reported_lines reported.others = told_is ∙ collected.1 ∙ ap (λ ls. ls ++ reported_lines reported.others) empty in record {
       kept = values_of kept;
       others = reported.others;
-      split = record {
-        resolvable = resolvable;
-        none_lost = built.none_lost;
-        some = built.some;
-        kept_ids = ids_of kept;
-        every = built.kept;
-        kept_are = subst (AreThosePackages m.packages.items (KeepsCrate (metadata_view m) s) (ids_of kept)) (itself built.values.packages (values_of kept) built.values.made_of) built.values.those;
-        other_ids = reported.ids;
-        others_are = reported.not_kept;
-      };
+      split = split_by s m made_edge kept before after resolvable built;
       written = written ∙ ap (λ ls. kept_lines (values_of kept) ++ ls) others;
-    })
+    }
 
--- what was written is the beginning of the listing of what was read
-pub begun : (s : SettingModel) (remaining : Option Text) (read text lines written : Text) (old new : Option Text) → IfSome remaining (λ left. read ≡ left) → IsUtf8 text → text ≡ read
-    → IsListing s text lines → written ≡ lines → AppendsFront old new written → IfSome remaining (λ bytes. WritesBeginning s bytes old new)
-begun s None read text lines written old new all utf8 same listing is front = all
-begun s (Some left) read text lines written old new all utf8 same listing is front = record {
+-- the lines of a derivation of a crate that is kept explain it
+pub explained : (s : SettingModel) (m : Metadata) (made_edge : Edge → Edge → Type 0) (kept : KeptCrates Package Edge) (before after : Reported) (krate : Identity) (lines : Text) → IsResolvable (metadata_view m) → IsBuilt Reports IsItself made_edge m s before after kept
+    → ExplainsKept kept krate lines → ExplainsCrate s m krate lines
+unfolding split_by
+explained s m made_edge kept before after krate lines resolvable built e =
+    let follows = built.explained.follows in record {
+      kept = values_of kept;
+      others = built.reported.others;
+      split = split_by s m made_edge kept before after resolvable built;
+      steps = e.steps;
+      why = record {
+        accepted = record {
+          ids = resolvable.ids;
+          admitted = resolvable.admitted;
+          holds = record { graph = follows.graph; has_graph = follows.has_graph; holds = e.why.accepted (resolved (metadata_view m) follows.graph) s follows.holds };
+        };
+        ends = e.ends;
+        own = e.why.own;
+        used = e.why.used;
+        ids = e.why.ids;
+      };
+      written = e.written;
+    }
+
+-- what stands in the list of ids stands at some place of it
+place_of : (ids : List Identity) (i : Id) (k : ℕ) → k < length (map id_of ids) → get_or (map id_of ids) k i ≡ i → (n : ℕ) × StandsAt ids i n
+place_of [] i k lt is = absurd (omega arith)
+place_of (x ∷ xs) i zero lt is = (0, record { there = x; at = refl; same = is })
+place_of (x ∷ xs) i (suc k) lt is = let w = place_of xs i k (omega arith) is in (suc w.0, record { there = w.1.there; at = w.1.at; same = w.1.same })
+
+-- a crate that a build doesn't keep has no derivation; and where memory ran out, it did
+pub unexplained : (a : Request) (m : Metadata) (made_edge : Edge → Edge → Type 0) (kept : KeptCrates Package Edge) (before after : Reported) (krate : Identity) (e : RunError) → IsResolvable (metadata_view m) → IsBuilt Reports IsItself made_edge m a.setting before after kept
+    → a.explaining ≡ Some krate → IsUnexplained kept krate e → IsUnlisted a m e
+unexplained a m made_edge kept before after krate (errors.NotKept same) resolvable built asked why = record {
+  asked = asked ∙ ap (λ (i : Identity). Some i) (sym why.0);
+  kept = values_of kept;
+  others = built.reported.others;
+  split = split_by a.setting m made_edge kept before after resolvable built;
+  dropped = λ keeps.
+      let among = (built.kept (id_of krate)).0 (subst (λ (i : Identity). KeepsCrate (metadata_view m) a.setting (id_of i)) why.0 keeps) in
+      let w = place_of (ids_of kept) (id_of krate) among.0 among.1 among.2 in
+      why.1 w.0 w.1;
+}
+unexplained a m made_edge kept before after krate errors.Memory resolvable built asked why = tt
+unexplained a m made_edge kept before after krate errors.Read resolvable built asked why = absurd why
+unexplained a m made_edge kept before after krate errors.Utf8 resolvable built asked why = absurd why
+unexplained a m made_edge kept before after krate (errors.Parse cause) resolvable built asked why = absurd why
+unexplained a m made_edge kept before after krate (errors.Build cause) resolvable built asked why = absurd why
+unexplained a m made_edge kept before after krate errors.Write resolvable built asked why = absurd why
+
+-- what is written where a crate is to be explained, and where none is
+pub asked_for : {E : Type 0} (a : Request) (m : Metadata) (krate : Identity) (r : Result (String Global) E) → a.explaining ≡ Some krate → IfOk r (λ lines. ExplainsCrate a.setting m krate (string_bytes lines)) → IfOk r (λ lines. IsListingOf a m (string_bytes lines))
+asked_for a m krate (Ok lines) asked explains = subst (λ (o : Option Identity). MatchOption o (ListsPackages a.setting m (string_bytes lines)) (λ i. ExplainsCrate a.setting m i (string_bytes lines))) (sym asked) explains
+asked_for a m krate (Err e) asked explains = explains
+
+pub none_asked_for : (a : Request) (m : Metadata) (lines : Text) → a.explaining ≡ None → ListsPackages a.setting m lines → IsListingOf a m lines
+none_asked_for a m lines none lists = subst (λ (o : Option Identity). MatchOption o (ListsPackages a.setting m lines) (λ i. ExplainsCrate a.setting m i lines)) (sym none) lists
+
+-- ---- the answer of the derivation
+
+pub explained_answer : {E : Type 0} (s : SettingModel) (m : Metadata) (made_edge : Edge → Edge → Type 0) (kept : KeptCrates Package Edge) (before after : Reported) (krate : Identity) (r : Result (String Global) E) → IsResolvable (metadata_view m) → IsBuilt Reports IsItself made_edge m s before after kept
+    → IfOk r (λ lines. ExplainsKept kept krate (string_bytes lines)) → IfOk r (λ lines. ExplainsCrate s m krate (string_bytes lines))
+explained_answer s m made_edge kept before after krate (Ok lines) resolvable built e = explained s m made_edge kept before after krate (string_bytes lines) resolvable built e
+explained_answer s m made_edge kept before after krate (Err e) resolvable built h = h
+
+pub unexplained_answer : {A : Type 0} (a : Request) (m : Metadata) (made_edge : Edge → Edge → Type 0) (kept : KeptCrates Package Edge) (before after : Reported) (krate : Identity) (r : Result A RunError) → IsResolvable (metadata_view m) → IsBuilt Reports IsItself made_edge m a.setting before after kept
+    → a.explaining ≡ Some krate → IfErr r (IsUnexplained kept krate) → IfErr r (IsUnlisted a m)
+unexplained_answer a m made_edge kept before after krate (Ok x) resolvable built asked h = h
+unexplained_answer a m made_edge kept before after krate (Err e) resolvable built asked h = unexplained a m made_edge kept before after krate e resolvable built asked h
+
+-- a text without a listing refuses the run over its bytes
+unlisted_run : (a : Request) (bytes : Text) (e : RunError) → IsUtf8 bytes → ListingRefusal a bytes e → RunRefusal a bytes e
+unlisted_run a bytes errors.Read utf8 refused = absurd refused
+unlisted_run a bytes errors.Utf8 utf8 refused = absurd refused
+unlisted_run a bytes (errors.Parse cause) utf8 refused = (utf8, refused)
+unlisted_run a bytes (errors.Build cause) utf8 refused = (utf8, refused)
+unlisted_run a bytes (errors.NotKept krate) utf8 refused = (utf8, refused)
+unlisted_run a bytes errors.Write utf8 refused = absurd refused
+unlisted_run a bytes errors.Memory utf8 refused = tt
+
+pub run_refused : (a : Request) (remaining : Option Text) (read text : Text) (e same : RunError) → IfSome remaining (λ left. read ≡ left) → IsUtf8 text → text ≡ read → ListingRefusal a text e → same ≡ e
+    → IfSome remaining (λ bytes. RunRefusal a bytes same)
+run_refused a None read text e same all utf8 is refused becomes = all
+run_refused a (Some left) read text e same all utf8 is refused becomes =
+    subst (λ (t : Text). RunRefusal a t same) (is ∙ all) (subst (RunRefusal a text) (sym becomes) (unlisted_run a text e utf8 refused))
+
+-- a beginning of the listing of what was read is written
+pub begun : (a : Request) (remaining : Option Text) (read text lines written : Text) (old new : Option Text) → IfSome remaining (λ left. read ≡ left) → IsUtf8 text → text ≡ read
+    → IsListing a text lines → written ≡ lines → AppendsFront old new written → IfSome remaining (λ bytes. WritesBeginning a bytes old new)
+begun a None read text lines written old new all utf8 same listing is front = all
+begun a (Some left) read text lines written old new all utf8 same listing is front = record {
   is_text = subst IsUtf8 (same ∙ all) utf8;
   lines = lines;
-  listing = subst (λ t. IsListing s t lines) (same ∙ all) listing;
+  listing = subst (λ t. IsListing a t lines) (same ∙ all) listing;
   appended = subst (AppendsFront old new) is front;
 }

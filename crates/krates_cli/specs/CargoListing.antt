@@ -5,29 +5,31 @@ use Rattle.krates_cm.specs.Document.{Text, metadata_view}
 use Rattle.krates_cm.specs.declared.error.Error as cm
 use Rattle.krates_cm.specs.declared.error.Error.TheVariants as cm_errors
 use Rattle.krates_cargo.specs.Running.{IsUnrun}
+use Rattle.krates_ids.specs.Identity.{Identity}
 use Rattle.krates_ids.specs.declared.error.Error as build
 use Rattle.krates_rules.specs.Setting.{SettingModel}
 use Rattle.krates.specs.Cargo.{IsWritten}
 use Rattle.krates_cli.specs.Counted.{AppendsFront}
 use Rattle.krates_cli.specs.Listing.{IsListingOf}
-use Rattle.krates_cli.specs.ListingRefusals.{IsUnbuilt}
+use Rattle.krates_cli.specs.ListingRefusals.{IsUnbuilt, IsUnkept}
+use Rattle.krates_cli.specs.Request.{Request}
 use Rattle.krates_cli.specs.declared.run_error.RunError.{RunError}
 use Rattle.krates_cli.specs.declared.run_error.RunError.TheVariants as errors
 
 -- cargo may have written a document with these lines
-abbrev pub IsCargoListing : SettingModel → Text → Type 0
-IsCargoListing s lines = IsWritten (λ m. IsListingOf s m lines)
+abbrev pub IsCargoListing : Request → Text → Type 0
+IsCargoListing a lines = IsWritten (λ m. IsListingOf a m lines)
 
 -- the lines of a document that cargo may have written are what was added to the known bytes of a writer
-pub record WritesCargoListing (s : SettingModel) (old new : Option Text) : Type 0 where
+pub record WritesCargoListing (a : Request) (old new : Option Text) : Type 0 where
   pub lines : Text
-  pub listing : IsCargoListing s lines
+  pub listing : IsCargoListing a lines
   pub appended : Appends old new lines
 
 -- a beginning of them is
-pub record WritesCargoBeginning (s : SettingModel) (old new : Option Text) : Type 0 where
+pub record WritesCargoBeginning (a : Request) (old new : Option Text) : Type 0 where
   pub lines : Text
-  pub listing : IsCargoListing s lines
+  pub listing : IsCargoListing a lines
   pub appended : AppendsFront old new lines
 
 -- cargo wrote no document, for this reason, and not because memory ran out
@@ -39,10 +41,15 @@ pub record CargoFault (cause : cm.Error) : Type 0 where
 abbrev pub CargoBuildCause : SettingModel → build.Error → Type 0
 CargoBuildCause s cause = IsWritten (λ m. IsUnbuilt s m cause)
 
+-- a document that cargo may have written doesn't keep the crate
+abbrev pub CargoKeepsNot : Request → Identity → Type 0
+CargoKeepsNot a krate = IsWritten (λ m. IsUnkept a m krate)
+
 -- Why a run of cargo has no listing, or it isn't written. Memory may always run out, and a call of the writer may always fail.
-abbrev pub CargoRefusal : SettingModel → RunError → Type 0
-CargoRefusal s (errors.Parse cause) = CargoFault cause
-CargoRefusal s (errors.Build cause) = CargoBuildCause s cause
-CargoRefusal s errors.Write = (lines : Text) × IsCargoListing s lines
-CargoRefusal s errors.Memory = ⊤
-CargoRefusal s _ = ⊥
+abbrev pub CargoRefusal : Request → RunError → Type 0
+CargoRefusal a (errors.Parse cause) = CargoFault cause
+CargoRefusal a (errors.Build cause) = CargoBuildCause a.setting cause
+CargoRefusal a (errors.NotKept krate) = CargoKeepsNot a krate
+CargoRefusal a errors.Write = (lines : Text) × IsCargoListing a lines
+CargoRefusal a errors.Memory = ⊤
+CargoRefusal a _ = ⊥

@@ -2,19 +2,19 @@
 use Rattle.std.specs.Prelude.{◌≡◌, ◌++◌, ◌⊎◌, List, Option, None, Some, IfSome, IsSome, IsSomeAnd, IsUtf8, codes}
 use Rattle.std.specs.Io.KnownBytes.{Appends}
 use Rattle.krates_cm.specs.Document.{Text}
-use Rattle.krates_rules.specs.Setting.{SettingModel}
 use Rattle.krates_cli.specs.CargoListing.{CargoRefusal, WritesCargoBeginning, WritesCargoListing}
 use Rattle.krates_cli.specs.Counted.{AppendsFront, HasFailed, inner_of}
 use Rattle.krates_cli.specs.Listing.{IsListing, WritesBeginning, WritesListing}
 use Rattle.krates_cli.specs.ListingRefusals.{RunRefusal}
-use Rattle.krates_cli.specs.Options.{OptionsModel, IsCommandLine, setting_of}
+use Rattle.krates_cli.specs.Options.{OptionsModel, IsCommandLine, request_of}
+use Rattle.krates_cli.specs.Request.{Request}
 use Rattle.krates_cli.specs.declared.counted.Counted.{Counted}
 use Rattle.krates_cli.specs.declared.run_error.RunError.{RunError}
 use Rattle.krates_cli.specs.declared.run_error.RunError.TheVariants as errors
 
 -- which words there are
 abbrev pub usage_line : Text
-usage_line = codes "usage: krates-list [--workspace] [--ignore-kind KIND] [--target TRIPLE] [--exclude SPEC] [--cargo PROGRAM] [--all-named]\n"
+usage_line = codes "usage: krates-list [--workspace] [--ignore-kind KIND] [--target TRIPLE] [--exclude SPEC] [--cargo PROGRAM] [--why ID] [--all-named]\n"
 
 abbrev pub no_memory_line : Text
 no_memory_line = codes "refused: out of memory\n"
@@ -30,30 +30,30 @@ Asking words P = (o : OptionsModel) × IsCommandLine words o × P o
 
 -- What is added to the known bytes of a writer: the lines of what is to be read, where that is known; or, where a program is
 -- asked for, of the document that it writes.
-abbrev pub WritesLines : Option Text → SettingModel → Option Text → Option Text → Option Text → Type 0
-WritesLines None s remaining old new = IfSome remaining (λ bytes. WritesListing s bytes old new)
-WritesLines (Some cargo) s remaining old new = WritesCargoListing s old new
+abbrev pub WritesLines : Option Text → Request → Option Text → Option Text → Option Text → Type 0
+WritesLines None a remaining old new = IfSome remaining (λ bytes. WritesListing a bytes old new)
+WritesLines (Some cargo) a remaining old new = WritesCargoListing a old new
 
 -- a beginning of them is
-abbrev pub WritesFront : Option Text → SettingModel → Option Text → Option Text → Option Text → Type 0
-WritesFront None s remaining old new = IfSome remaining (λ bytes. WritesBeginning s bytes old new)
-WritesFront (Some cargo) s remaining old new = WritesCargoBeginning s old new
+abbrev pub WritesFront : Option Text → Request → Option Text → Option Text → Option Text → Type 0
+WritesFront None a remaining old new = IfSome remaining (λ bytes. WritesBeginning a bytes old new)
+WritesFront (Some cargo) a remaining old new = WritesCargoBeginning a old new
 
 -- why there are no such lines, or they aren't written
-abbrev pub LinesRefusal : Option Text → SettingModel → Option Text → RunError → Type 0
-LinesRefusal None s remaining cause = IfSome remaining (λ bytes. RunRefusal s bytes cause)
-LinesRefusal (Some cargo) s remaining cause = CargoRefusal s cause
+abbrev pub LinesRefusal : Option Text → Request → Option Text → RunError → Type 0
+LinesRefusal None a remaining cause = IfSome remaining (λ bytes. RunRefusal a bytes cause)
+LinesRefusal (Some cargo) a remaining cause = CargoRefusal a cause
 
 -- The cause is true of the words, and of the bytes that are to be read, where those are known, or of the program that is asked
 -- for. Memory may always run out.
 abbrev pub IsCause : List Text → Option Text → RunError → Type 0
 IsCause words remaining cause =
-    (cause ≡ errors.Memory) ⊎ Asking words (λ o. LinesRefusal o.cargo (setting_of o) remaining cause)
+    (cause ≡ errors.Memory) ⊎ Asking words (λ o. LinesRefusal o.cargo (request_of o) remaining cause)
 
 -- the words ask for something and for no program, and what is to be read has a listing under it
 abbrev pub AskForListing : List Text → Option Text → Type 0
 AskForListing words remaining = Asking words (λ o. (o.cargo ≡ None)
-    × IsSomeAnd remaining (λ bytes. IsUtf8 bytes × ((lines : Text) × IsListing (setting_of o) bytes lines)))
+    × IsSomeAnd remaining (λ bytes. IsUtf8 bytes × ((lines : Text) × IsListing (request_of o) bytes lines)))
 
 -- the words ask for a program
 abbrev pub AskForProgram : List Text → Type 0

@@ -9,4 +9,6 @@ pub mod ListingRefusals
 pub mod Options
 pub mod OptionsReading
 pub mod Reported
+pub mod Request
 pub mod RunError
+pub mod WhyKept

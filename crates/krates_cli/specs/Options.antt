@@ -1,7 +1,8 @@
--- What is asked of a run: which words ask for what, and the setting that is meant.
+-- What is asked of a run: which words ask for what, and the request that is meant.
 use Rattle.std.specs.Prelude.{◌≡◌, List, [], ◌∷◌, Bool, true, false, Option, Some, None, bytes_eq, codes, if◌then◌else◌, map, option_map, string_bytes}
 use Rattle.std.specs.List.{list_any}
 use Rattle.krates_cm.specs.Document.{Text}
+use Rattle.krates_ids.specs.Identity.{Identity, Reads}
 use Rattle.krates_ids.specs.PackageSpecification.{Specification, IsSpec, spec_view}
 use Rattle.krates_text.specs.Passing.{Asked}
 use Rattle.krates_text.specs.TargetTable.{target_named}
@@ -9,6 +10,7 @@ use Rattle.krates_rules.specs.Setting.{SettingModel}
 use Rattle.krates_rules.specs.declared.kind.DepKind.{DepKind}
 use Rattle.krates_rules.specs.declared.kind.DepKind.TheVariants as kinds
 use Rattle.krates_rules.specs.declared.kind.KindSet.{KindSet}
+use Rattle.krates_cli.specs.Request.{Request}
 use Rattle.krates_cli.specs.declared.options.Options.{Options}
 
 -- ---- what is asked
@@ -24,12 +26,14 @@ pub record OptionsModel : Type 0 where
   pub exclusions : List Specification
   -- the program whose output is the document, where one is asked for
   pub cargo : Option Text
+  -- the crate that is to be explained, where one is
+  pub explaining : Option Identity
   -- whether a name in a feature reference means all dependencies that answer to it
   pub all_named : Bool
 
 -- nothing is asked
 abbrev pub plain_options : OptionsModel
-plain_options = record { workspace = false; ignored = []; targets = []; exclusions = []; cargo = None; all_named = false }
+plain_options = record { workspace = false; ignored = []; targets = []; exclusions = []; cargo = None; explaining = None; all_named = false }
 
 -- options, seen by the bytes of their texts
 abbrev pub options_view : Options → OptionsModel
@@ -39,6 +43,7 @@ options_view o = record {
   targets = map string_bytes o.targets.items;
   exclusions = map spec_view o.exclusions.items;
   cargo = option_map string_bytes o.cargo;
+  explaining = o.why;
   all_named = o.all_named;
 }
 
@@ -52,9 +57,10 @@ pub data Wish : Type 0 where
   at_target : Text → Wish
   without_package : Specification → Wish
   by_program : Text → Wish
+  explaining : Identity → Wish
 
--- of two programs the one that is asked for later
-abbrev pub later : Option Text → Option Text → Option Text
+-- of two that are asked for, the later
+abbrev pub later : {A : Type 0} → Option A → Option A → Option A
 later first None = first
 later first (Some last) = Some last
 
@@ -66,6 +72,7 @@ with_wish (without_kind kind) o = record o { ignored = kind ∷ o.ignored }
 with_wish (at_target triple) o = record o { targets = triple ∷ o.targets }
 with_wish (without_package spec) o = record o { exclusions = spec ∷ o.exclusions }
 with_wish (by_program cargo) o = record o { cargo = later (Some cargo) o.cargo }
+with_wish (explaining krate) o = record o { explaining = later (Some krate) o.explaining }
 
 -- the kind that a word means
 abbrev pub kind_named : Text → Option DepKind
@@ -81,6 +88,7 @@ pub data AsksWith : Text → Text → Wish → Type 0 where
   target : {value : Text} → AsksWith (codes "--target") value (at_target value)
   exclude : {value : Text} {spec : Specification} → IsSpec value spec.name spec.version spec.url → AsksWith (codes "--exclude") value (without_package spec)
   cargo : {value : Text} → AsksWith (codes "--cargo") value (by_program value)
+  why : {value : Text} {krate : Identity} → Reads value krate → AsksWith (codes "--why") value (explaining krate)
 
 -- The words begin with an option that asks for this, and these words follow. A value is the next word, whatever it is.
 pub data AsksFirst : List Text → Wish → List Text → Type 0 where
@@ -97,7 +105,7 @@ pub data IsCommandLine : List Text → OptionsModel → Type 0 where
 abbrev pub IsUnknown : List Text → Type 0
 IsUnknown words = (o : OptionsModel) → IsCommandLine words o → ⊥
 
--- ---- the setting
+-- ---- the request
 
 -- the target with this triple, without features
 abbrev pub asked_at : Text → Asked
@@ -129,9 +137,13 @@ setting_of o = record {
   all_named = o.all_named;
 }
 
--- the setting that these options mean
-abbrev pub meant_setting : Options → SettingModel
-meant_setting options = setting_of (options_view options)
+-- the setting, with the crate that is to be explained
+abbrev pub request_of : OptionsModel → Request
+request_of o = record { setting = setting_of o; explaining = o.explaining }
+
+-- the request that these options mean
+abbrev pub meant_request : Options → Request
+meant_request options = request_of (options_view options)
 
 -- the program that these options ask for
 abbrev pub asked_program : Options → Option Text

@@ -5,7 +5,7 @@ use Rattle.krates_rules.specs.declared.kind.DepKind.{DepKind}
 use Rattle.krates_rules.specs.declared.kind.DepKind.TheVariants as kinds
 use Rattle.krates_rules.specs.declared.kind.IgnoredKinds.{IgnoredKinds}
 use Rattle.krates_rules.specs.declared.kind.KindSet.{KindSet}
-use Rattle.krates_cli.specs.Options.{OptionsModel, Wish, every_member, every_namesake, without_kind, at_target, without_package, by_program, AsksWith, AsksFirst}
+use Rattle.krates_cli.specs.Options.{OptionsModel, Wish, every_member, every_namesake, without_kind, at_target, without_package, by_program, explaining, AsksWith, AsksFirst}
 use Rattle.krates_cli.specs.declared.options.OptionsError.{OptionsError}
 use Rattle.krates_cli.specs.declared.options.OptionsError.TheVariants as errors
 
@@ -17,6 +17,7 @@ and_wish o (without_kind kind) = record o { ignored = o.ignored ++ kind ∷ [] }
 and_wish o (at_target triple) = record o { targets = o.targets ++ triple ∷ [] }
 and_wish o (without_package spec) = record o { exclusions = o.exclusions ++ spec ∷ [] }
 and_wish o (by_program cargo) = record o { cargo = Some cargo }
+and_wish o (explaining krate) = record o { explaining = Some krate }
 
 -- the option and its value ask for something, which is added
 pub record AddsValue (option value : Text) (old new : OptionsModel) : Type 0 where

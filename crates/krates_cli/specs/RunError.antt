@@ -1,5 +1,5 @@
 -- What the refusals of the crates below become, and what is printed of a refusal.
-use Rattle.std.specs.Prelude.{◌≡◌, Option, Some, codes}
+use Rattle.std.specs.Prelude.{◌≡◌, ◌++◌, Option, Some, codes}
 use Rattle.krates_cm.specs.Document.{Text}
 use Rattle.krates_cm.specs.declared.error.Error as cm
 use Rattle.krates_cm.specs.declared.error.Error.TheVariants as cm_errors
@@ -30,3 +30,4 @@ run_error_text (errors.Parse cause) = cm_display.output cause
 run_error_text (errors.Build cause) = build_display.output cause
 run_error_text errors.Write = Some (codes "write failed")
 run_error_text errors.Memory = Some (codes "out of memory")
+run_error_text (errors.NotKept krate) = Some (codes "not kept: " ++ krate.text)

@@ -5,7 +5,7 @@ ghost use Rattle.std.specs.IoError.{error_kind};
 ghost use Rattle.krates_cm.specs.Document.{Text};
 ghost use Rattle.krates_cli.specs.CommandLine.{AskForProgram, Asking, IsCause, IsTold, LeavesEnds, LinesRefusal, TellsCause, WritesFront, WritesLines, no_memory_line, refusal_line, usage_line};
 ghost use Rattle.krates_cli.specs.Counted.{inner_of};
-ghost use Rattle.krates_cli.specs.Options.{IsUnknown, asked_program, meant_setting, setting_of};
+ghost use Rattle.krates_cli.specs.Options.{IsUnknown, asked_program, meant_request, request_of};
 ghost use Rattle.krates_cli.specs.RunError.{run_error_text};
 ghost use Rattle.krates_cli.specs.declared.options.OptionsError.TheVariants as options_errors;
 ghost use Rattle.krates_cli.specs.declared.run_error.RunError.{RunError};
@@ -23,7 +23,7 @@ use std::io::{ErrorKind, Read, Write};
 use std::process::Processes;
 
 const USAGE_LINE: &str =
-    "usage: krates-list [--workspace] [--ignore-kind KIND] [--target TRIPLE] [--exclude SPEC] [--cargo PROGRAM] [--all-named]\n";
+    "usage: krates-list [--workspace] [--ignore-kind KIND] [--target TRIPLE] [--exclude SPEC] [--cargo PROGRAM] [--why ID] [--all-named]\n";
 
 const NO_MEMORY_LINE: &str = "refused: out of memory\n";
 
@@ -56,7 +56,7 @@ pub fn program<R: Read, W: Write, E: Write>(
     ensures unread { result ≡ 2 → (input.new ≡ input.old) × (output.new ≡ output.old) }
     ensures by_program { AskForProgram (map string_bytes words.now) → input.new ≡ input.old }
     ensures listed { result ≡ 0 → Asking (map string_bytes words.now)
-        (λ o. WritesLines o.cargo (setting_of o) (R.remaining (inner_of input.old))
+        (λ o. WritesLines o.cargo (request_of o) (R.remaining (inner_of input.old))
         (W.contents (inner_of output.old)) (W.contents (inner_of output.new))) }
     ensures silent { result ≡ 0 → errors.new ≡ errors.old }
     ensures refused { result ≡ 1 → (cause : RunError)
@@ -64,7 +64,7 @@ pub fn program<R: Read, W: Write, E: Write>(
         × LeavesEnds input.old input.new output.old output.new cause
         × TellsCause E.contents errors.old errors.new (run_error_text cause) }
     ensures beginning { result ≡ 1 → (output.new ≡ output.old) ⊎ Asking (map string_bytes words.now)
-        (λ o. WritesFront o.cargo (setting_of o) (R.remaining (inner_of input.old))
+        (λ o. WritesFront o.cargo (request_of o) (R.remaining (inner_of input.old))
         (W.contents (inner_of output.old)) (W.contents (inner_of output.new))) }
 {
     laws::one_command_line();
@@ -88,14 +88,14 @@ fn list<R: Read, W: Write>(
     output: &mut Counted<W>,
     host: &(impl Processes + AllocGlobal),
 ) -> Result<(), RunError>
-    ensures written { OnOk result (WritesLines (asked_program options.now) (meant_setting options.now)
+    ensures written { OnOk result (WritesLines (asked_program options.now) (meant_request options.now)
         (R.remaining (inner_of input.old))
         (W.contents (inner_of output.old)) (W.contents (inner_of output.new))) }
     ensures refused { IfErr result
-        (LinesRefusal (asked_program options.now) (meant_setting options.now) (R.remaining (inner_of input.old))) }
+        (LinesRefusal (asked_program options.now) (meant_request options.now) (R.remaining (inner_of input.old))) }
     ensures ends { IfErr result (LeavesEnds input.old input.new output.old output.new) }
     ensures beginning { result ≡ Err causes.Write
-        → WritesFront (asked_program options.now) (meant_setting options.now)
+        → WritesFront (asked_program options.now) (meant_request options.now)
         (R.remaining (inner_of input.old))
         (W.contents (inner_of output.old)) (W.contents (inner_of output.new)) }
     ensures by_program { IsSome (asked_program options.now) → input.new ≡ input.old }

@@ -11,6 +11,7 @@ pub mod listing;
 pub mod options;
 mod reported;
 pub mod run_error;
+mod why_kept;
 
 pub use command_line::{program, refuse_words};
 pub use counted::Counted;

@@ -5,7 +5,7 @@ ghost use Rattle.krates_cli.specs.CargoListing.{CargoRefusal, IsCargoListing, Wr
 ghost use Rattle.krates_cli.specs.Counted.{HasFailed, inner_of};
 ghost use Rattle.krates_cli.specs.Listing.{IsListing, IsListingOf, WritesBeginning, WritesListing};
 ghost use Rattle.krates_cli.specs.ListingRefusals.{IsUnlisted, ListingRefusal, RunRefusal};
-ghost use Rattle.krates_cli.specs.Options.{meant_setting};
+ghost use Rattle.krates_cli.specs.Options.{meant_request};
 ghost use Rattle.krates_cli.specs.declared.run_error.RunError.TheVariants as errors;
 
 use crate::counted::Counted;
@@ -13,43 +13,50 @@ use crate::lines::all_lines;
 use crate::options::{Options, set_options};
 use crate::reported::Reported;
 use crate::run_error::RunError;
+use crate::why_kept::why_kept;
 use krates::cm::MetadataCommand;
 use krates::{Builder, Krates, Metadata};
 use std::alloc::Global;
 use std::io::{Read, Write};
 use std::process::Processes;
 
-/// The lines of a text's document under the options. It is refused as `Parse`, `Build` or `Memory`.
+/// The lines of a text's document under the options. It is refused as `Parse`, `Build`, `NotKept` or `Memory`.
 fn listing(alloc: Global, options: &Options, text: &str) -> Result<String, RunError>
     ensures listed { IfOk result
-        (λ lines. IsListing (meant_setting options.now) text.now (string_bytes lines)) }
-    ensures refused { IfErr result (ListingRefusal (meant_setting options.now) text.now) }
+        (λ lines. IsListing (meant_request options.now) text.now (string_bytes lines)) }
+    ensures refused { IfErr result (ListingRefusal (meant_request options.now) text.now) }
 {
     let metadata = MetadataCommand::parse(alloc, text)?;
     listing_of(alloc, options, metadata)
 }
 
-/// The lines of a document under the options: those of the kept packages, then those of the others. It is refused as `Build`
-/// or `Memory`.
+/// The lines of a document under the options: those of the kept packages, then those of the others; or those of the derivation of
+/// the crate that is to be explained. It is refused as `Build`, `NotKept` or `Memory`.
 fn listing_of(alloc: Global, options: &Options, metadata: Metadata) -> Result<String, RunError>
     ensures listed { IfOk result
-        (λ lines. IsListingOf (meant_setting options.now) metadata (string_bytes lines)) }
-    ensures refused { IfErr result (IsUnlisted (meant_setting options.now) metadata) }
+        (λ lines. IsListingOf (meant_request options.now) metadata (string_bytes lines)) }
+    ensures refused { IfErr result (IsUnlisted (meant_request options.now) metadata) }
 {
     let mut reported = Reported::new(alloc);
     let mut builder = Builder::new(alloc);
     set_options(alloc, options, &mut builder)?;
     let krates: Krates = builder.build_with_metadata(metadata, &mut reported)?;
+    if let Some(krate) = &options.why {
+        return why_kept(alloc, &krates, krate);
+    }
     let reported = reported.into_lines()?;
     Ok(all_lines(alloc, &krates, reported.as_str())?)
 }
 
 /// Reads one document up to the end of the input, builds under the options, and writes a line `+ ` and the id for
-/// each kept crate, then a line `- ` and the id for each other package, both in the order of the ids.
+/// each kept crate, then a line `- ` and the id for each other package, both in the order of the ids. Where a crate is to be
+/// explained, it writes in their place a line for each step of its derivation, as `derivation_lines::lines_of` has them; which
+/// derivation it is, where there are several, is left open.
 ///
-/// It is refused as `Read`, `Utf8`, `Parse`, `Build` or `Write`, in this order and only where that is true of the reader, of
-/// what was read, or of the writer; it may instead return `Memory`. The whole text is made before the first byte is
-/// written, so after each refusal but `Write` nothing was written, and after `Write` a beginning of it. What was read is gone.
+/// It is refused as `Read`, `Utf8`, `Parse`, `Build`, `NotKept` or `Write`, in this order and only where that is true of the
+/// reader, of what was read, or of the writer: as `NotKept` where the document is built and doesn't keep the crate that is to be
+/// explained. It may instead return `Memory`. The whole text is made before the first byte is written, so after each refusal but
+/// `Write` nothing was written, and after `Write` a beginning of it. What was read is gone.
 ///
 /// The input is read whether or not the options ask for a program; `run_by_cargo` runs that in place of reading. Time: that of
 /// `parse` and of the build.
@@ -60,15 +67,15 @@ pub fn run<R: Read, W: Write>(
     output: &mut Counted<W>,
 ) -> Result<(), RunError>
     ensures written { OnOk result (IfSome (R.remaining (inner_of input.old))
-        (λ bytes. WritesListing (meant_setting options.now) bytes (W.contents (inner_of output.old))
+        (λ bytes. WritesListing (meant_request options.now) bytes (W.contents (inner_of output.old))
         (W.contents (inner_of output.new)))) }
     ensures refused { IfErr result
         (λ e. IfSome (R.remaining (inner_of input.old))
-        (λ bytes. RunRefusal (meant_setting options.now) bytes e)) }
+        (λ bytes. RunRefusal (meant_request options.now) bytes e)) }
     ensures read { result ≡ Err errors.Read → HasFailed input.old input.new }
     ensures write { result ≡ Err errors.Write → HasFailed output.old output.new }
     ensures beginning { result ≡ Err errors.Write → IfSome (R.remaining (inner_of input.old))
-        (λ bytes. WritesBeginning (meant_setting options.now) bytes (W.contents (inner_of output.old))
+        (λ bytes. WritesBeginning (meant_request options.now) bytes (W.contents (inner_of output.old))
         (W.contents (inner_of output.new))) }
     ensures unwritten { IfErr result (λ e. e ≢ errors.Write → output.new ≡ output.old) }
 {
@@ -83,8 +90,8 @@ pub fn run<R: Read, W: Write>(
 /// Runs the program as cargo, in place of reading a document, builds of the document that it writes under the options, and
 /// writes the lines that `run` writes of it.
 ///
-/// It is refused as `Parse` where the run has no document, else as `Build` or `Write`, each only where that is true; it may
-/// instead return `Memory`. After each refusal but `Write` nothing was written, and after `Write` a beginning. Time: that of
+/// It is refused as `Parse` where the run has no document, else as `Build`, `NotKept` or `Write`, each only where that is true; it
+/// may instead return `Memory`. After each refusal but `Write` nothing was written, and after `Write` a beginning. Time: that of
 /// the run and of the build.
 pub fn run_by_cargo<W: Write>(
     alloc: Global,
@@ -93,11 +100,11 @@ pub fn run_by_cargo<W: Write>(
     processes: &impl Processes,
     output: &mut Counted<W>,
 ) -> Result<(), RunError>
-    ensures written { OnOk result (WritesCargoListing (meant_setting options.now)
+    ensures written { OnOk result (WritesCargoListing (meant_request options.now)
         (W.contents (inner_of output.old)) (W.contents (inner_of output.new))) }
-    ensures refused { IfErr result (CargoRefusal (meant_setting options.now)) }
+    ensures refused { IfErr result (CargoRefusal (meant_request options.now)) }
     ensures write { result ≡ Err errors.Write → HasFailed output.old output.new }
-    ensures beginning { result ≡ Err errors.Write → WritesCargoBeginning (meant_setting options.now)
+    ensures beginning { result ≡ Err errors.Write → WritesCargoBeginning (meant_request options.now)
         (W.contents (inner_of output.old)) (W.contents (inner_of output.new)) }
     ensures unwritten { IfErr result (λ e. e ≢ errors.Write → output.new ≡ output.old) }
 {
@@ -105,15 +112,15 @@ pub fn run_by_cargo<W: Write>(
     output.write_all(lines.as_bytes())
 }
 
-/// The lines of the document that the program writes. It is refused as `Parse`, `Build` or `Memory`.
+/// The lines of the document that the program writes. It is refused as `Parse`, `Build`, `NotKept` or `Memory`.
 fn listing_by_cargo(
     alloc: Global,
     options: &Options,
     cargo: &str,
     processes: &impl Processes,
 ) -> Result<String, RunError>
-    ensures listed { IfOk result (λ lines. IsCargoListing (meant_setting options.now) (string_bytes lines)) }
-    ensures refused { IfErr result (λ e. CargoRefusal (meant_setting options.now) e × (e ≢ errors.Write)) }
+    ensures listed { IfOk result (λ lines. IsCargoListing (meant_request options.now) (string_bytes lines)) }
+    ensures refused { IfErr result (λ e. CargoRefusal (meant_request options.now) e × (e ≢ errors.Write)) }
 {
     let mut command = MetadataCommand::new(alloc);
     command.cargo_path(String::from_str(alloc, cargo)?);

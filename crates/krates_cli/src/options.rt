@@ -1,6 +1,7 @@
 //! What is asked of a run: how it is read from words, and what it sets of a builder.
 
 ghost use Rattle.std.specs.Prelude.{◌≡◌, ◌∷◌, IfErr, IfOk, OnOk, map, option_map, string_bytes};
+ghost use Rattle.krates_ids.specs.Identity.{Identity, Reads};
 ghost use Rattle.krates_ids.specs.PackageSpecification.{Specification, IsSpec, spec_view};
 ghost use Rattle.krates_text.specs.AskedTargets.{asked_of};
 ghost use Rattle.krates_rules.specs.PlainSetting.{plain_setting};
@@ -9,7 +10,8 @@ ghost use Rattle.krates_cli.specs.OptionsReading.{AddsFirst, AddsValue, BeginsUn
 ghost use Rattle.krates_cli.specs.declared.options.OptionsError.TheVariants.{Memory};
 
 use krates::target::Target;
-use krates::{Builder, Error, PkgSpec};
+use krates::{Builder, Error, IdError, Kid, PackageId, PkgSpec};
+use krates_ids::laws;
 use krates_resolve::{DepKind, Scope};
 use std::alloc::{AllocError, AllocFailed, Global};
 
@@ -26,6 +28,8 @@ pub struct Options {
     pub exclusions: Vec<PkgSpec>,
     /// The program that is run as cargo for the document, in place of reading it: `--cargo`. The last one counts.
     pub cargo: Option<String>,
+    /// The crate whose derivation is written in place of the lines of the packages: `--why`. The last one counts.
+    pub why: Option<Kid>,
     /// Whether a name in a feature reference means all dependencies that answer to it: `--all-named`.
     pub all_named: bool,
 }
@@ -33,7 +37,7 @@ pub struct Options {
 /// Why words aren't read as options.
 #[derive(Debug, Drop)]
 pub enum OptionsError {
-    /// A word is no option, an option has no value, or its value is no kind or no package specification.
+    /// A word is no option, an option has no value, or its value is no kind, no package specification or no package id.
     Unknown,
     /// Memory ran out.
     Memory,
@@ -66,6 +70,7 @@ impl Options {
             targets: Vec::new(alloc),
             exclusions: Vec::new(alloc),
             cargo: None,
+            why: None,
             all_named: false,
         }
     }
@@ -109,6 +114,7 @@ impl Options {
             "--target" => self.targets.push(String::from_str(alloc, value)?)?,
             "--exclude" => self.exclusions.push(pkg_spec(alloc, value)?)?,
             "--cargo" => self.cargo = Some(String::from_str(alloc, value)?),
+            "--why" => self.why = Some(kid_of(alloc, value)?),
             _ => return Err(OptionsError::Unknown),
         }
         Ok(())
@@ -142,11 +148,27 @@ fn pkg_spec(alloc: Global, word: &str) -> Result<PkgSpec, OptionsError>
     }
 }
 
+/// The package id that a word is.
+fn kid_of(alloc: Global, word: &str) -> Result<Kid, OptionsError>
+    ensures read { IfOk result (λ krate. Reads word.now krate) }
+    ensures refused { IfErr result (IsUnread ((krate : Identity) → Reads word.now krate → ⊥)) }
+{
+    laws::one_reading();
+    let repr = String::from_str(alloc, word)?;
+    match Kid::try_from(PackageId { repr }) {
+        Ok(krate) => Ok(krate),
+        Err(IdError::Memory(_)) => Err(OptionsError::Memory),
+        Err(IdError::Opaque(_)) => Err(OptionsError::Unknown),
+        Err(IdError::Stable(_)) => Err(OptionsError::Unknown),
+        Err(IdError::Escape(_)) => Err(OptionsError::Unknown),
+    }
+}
+
 /// Reads options from words, which may come in any order and more than once. A value is the next word, whatever it is.
 ///
 /// The options are `--workspace`; `--ignore-kind KIND`, where KIND is `normal`, `build` or `dev`; `--target TRIPLE`;
-/// `--exclude SPEC`, where SPEC is a package specification; `--cargo PROGRAM`; and `--all-named`. What is asked stands in the order of the
-/// words, and of several programs the last counts. It is refused as `Unknown` where the words are no such options, and only
+/// `--exclude SPEC`, where SPEC is a package specification; `--cargo PROGRAM`; `--why ID`, where ID is a package id; and
+/// `--all-named`. What is asked stands in the order of the words; of several programs the last counts, and so of several ids. It is refused as `Unknown` where the words are no such options, and only
 /// there; it may instead return `Memory`. Time O(length of the words).
 pub fn options_of(alloc: Global, words: &[String]) -> Result<Options, OptionsError>
     ensures read { IfOk result

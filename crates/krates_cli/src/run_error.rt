@@ -3,15 +3,15 @@
 ghost use Rattle.std.specs.Prelude.{◌≡◌};
 ghost use Rattle.krates_cli.specs.declared.run_error.RunError.TheVariants.{Memory};
 
-use krates::Error as BuildError;
 use krates::cm::Error as ParseError;
+use krates::{Error as BuildError, Kid};
 use std::alloc::AllocError;
 use std::fmt;
 
 /// Why a run wrote no lines, or not all of them.
 ///
 /// The first that is true counts: a failed read, then bytes that are no text, a text that is no document, a document that
-/// can't be built, then a failed write. Memory may run out at each of these.
+/// can't be built, a crate that it doesn't keep, then a failed write. Memory may run out at each of these.
 #[derive(Debug, Drop)]
 pub enum RunError {
     /// A call of the reader failed.
@@ -26,6 +26,8 @@ pub enum RunError {
     Write,
     /// Memory ran out.
     Memory,
+    /// The crate of this id, which is to be explained, isn't kept.
+    NotKept(Kid),
 }
 
 impl fmt::Display for RunError {
@@ -41,6 +43,7 @@ impl fmt::Display for RunError {
             RunError::Build(cause) => write!(f, "{cause}"),
             RunError::Write => f.write_str("write failed"),
             RunError::Memory => f.write_str("out of memory"),
+            RunError::NotKept(krate) => write!(f, "not kept: {krate}"),
         }
     }
 }

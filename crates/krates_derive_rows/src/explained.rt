@@ -1,15 +1,17 @@
 //! What a build hands out to explain what it keeps: each derivation is accepted, and all facts together are a closed list.
 
 use crate::builders::builder_of;
+use crate::real_documents::{GIT, WEAK};
 use krates::derive::{CheckError, Derivation, check, check_closed};
 use krates::{Krates, Metadata, NodeId, NoneFilter};
 use krates_cli::derivation_lines::lines_of;
-use krates_samples::documents::metadata;
+use krates_cm::parse;
+use krates_samples::documents::document;
 use krates_samples::table::{Question, Row, hold};
 use std::alloc::Global;
 use std::test::Fail;
 
-/// A line with its document, and what is built of it.
+/// A line with a document, and what is built of it.
 #[derive(Drop)]
 struct Example<'a> {
     alloc: Global,
@@ -18,14 +20,14 @@ struct Example<'a> {
     krates: Krates,
 }
 
-/// What a line asks for.
-fn example_of<'a>(alloc: Global, line: &'a str) -> Result<Example<'a>, Fail> {
+/// What is built of a document under what a line sets.
+fn example_of<'a>(alloc: Global, line: &'a str, json: &str) -> Result<Example<'a>, Fail> {
     let builder = builder_of(alloc, line)?;
-    let krates: Krates = builder.build_with_metadata(metadata(alloc, line)?, &mut NoneFilter)?;
+    let krates: Krates = builder.build_with_metadata(parse(alloc, json)?, &mut NoneFilter)?;
     Ok(Example {
         alloc,
         line,
-        metadata: metadata(alloc, line)?,
+        metadata: parse(alloc, json)?,
         krates,
     })
 }
@@ -78,16 +80,21 @@ fn are_closed(example: &Example<'_>) -> Result<bool, Fail> {
 }
 
 /// How many nodes and facts there are, and whether they are explained.
+fn counted(example: &Example<'_>) -> Result<String, Fail> {
+    let nodes = example.krates.graph().raw_nodes().len();
+    let facts = example.krates.facts()?.len();
+    let accepted = are_accepted(example)?;
+    let closed = are_closed(example)?;
+    Ok(format!(in example.alloc; "{nodes} nodes {accepted}, {facts} facts {closed}")?)
+}
+
+/// What is counted of a document.
 struct Explained;
 
 impl Question for Explained {
     fn told(alloc: Global, line: &str) -> Result<String, Fail> {
-        let example = example_of(alloc, line)?;
-        let nodes = example.krates.graph().raw_nodes().len();
-        let facts = example.krates.facts()?.len();
-        let accepted = are_accepted(&example)?;
-        let closed = are_closed(&example)?;
-        Ok(format!(in alloc; "{nodes} nodes {accepted}, {facts} facts {closed}")?)
+        let json = document(alloc, line)?;
+        counted(&example_of(alloc, line, json.as_str())?)
     }
 }
 
@@ -125,12 +132,33 @@ fn builds_explain_what_they_keep(rt: HostRuntime) -> Result<(), Fail> {
     hold::<Explained>(rt.alloc(), EXPLAINED)
 }
 
+/// What is counted of a document that cargo wrote; a line has the name of its member.
+struct Real;
+
+impl Question for Real {
+    fn told(alloc: Global, line: &str) -> Result<String, Fail> {
+        let json = if line == "weakling" { WEAK } else { GIT };
+        counted(&example_of(alloc, "", json)?)
+    }
+}
+
+const REAL: &[Row] = &[
+    ("weakling", "25 nodes true, 39 facts true"),
+    ("gitter", "21 nodes true, 32 facts true"),
+];
+
+#[test]
+fn builds_of_real_documents_explain_what_they_keep(rt: HostRuntime) -> Result<(), Fail> {
+    hold::<Real>(rt.alloc(), REAL)
+}
+
 /// The lines of the derivation of the second node.
 struct Second;
 
 impl Question for Second {
     fn told(alloc: Global, line: &str) -> Result<String, Fail> {
-        let example = example_of(alloc, line)?;
+        let json = document(alloc, line)?;
+        let example = example_of(alloc, line, json.as_str())?;
         match example.krates.why(NodeId::new(1))? {
             Some(derivation) => Ok(lines_of(alloc, &derivation)?),
             None => Ok(String::from_str(alloc, "none")?),

@@ -24,3 +24,5 @@ mod printed;
 mod questions;
 #[cfg(test)]
 mod readme;
+#[cfg(test)]
+mod real_documents;

@@ -6,12 +6,6 @@ use krates_samples::documents::document;
 use std::alloc::Global;
 use std::test::Fail;
 
-/// The words of the program.
-const WORDS: &str = "--ignore-kind dev --target x86_64-unknown-linux-gnu --exclude c";
-
-/// What it writes of a crate that needs another for its tests.
-const LINES: &str = "+ path+file:///w/a#0.1.0\n- path+file:///w/b#0.1.0\n";
-
 /// What is asked, a document, and a list with room for the lines.
 #[derive(Drop)]
 struct Listing {
@@ -20,15 +14,11 @@ struct Listing {
     room: Vec<u8>,
 }
 
-/// Runs over the document.
-struct Run;
-
-impl Call for Run {
-    type Given = Listing;
-
-    fn given(alloc: Global) -> Result<Listing, Fail> {
+impl Listing {
+    /// What is asked with these words, of a crate that needs another for its tests.
+    fn new(alloc: Global, texts: &str) -> Result<Listing, Fail> {
         let mut words = Vec::new(alloc);
-        for word in WORDS.split_whitespace() {
+        for word in texts.split_whitespace() {
             words.push(String::from_str(alloc, word)?)?;
         }
         let Ok(options) = options_of(alloc, &words) else {
@@ -43,26 +33,73 @@ impl Call for Run {
         })
     }
 
-    fn is_granted(alloc: Global, given: Listing, little: Little) -> Result<bool, Fail> {
+    /// Runs over the document with little memory; with enough, these lines are written.
+    fn writes(self, alloc: Global, lines: &str, little: Little) -> Result<bool, Fail> {
         let Listing {
             options,
             json,
             room,
-        } = given;
+        } = self;
         let mut input = Counted::new(json.as_bytes());
         let mut output = Counted::new(room);
         let answer = run(alloc, &options, &mut input, &mut output);
         drop(little);
         let written = output.get_ref().as_slice();
         match answer {
-            Ok(()) => granted(written == LINES.as_bytes()),
+            Ok(()) => granted(written == lines.as_bytes()),
             Err(RunError::Memory) => refused(written.is_empty()),
             Err(_) => other_refusal(),
         }
     }
 }
 
+/// Runs that list the packages.
+struct Run;
+
+impl Call for Run {
+    type Given = Listing;
+
+    fn given(alloc: Global) -> Result<Listing, Fail> {
+        Listing::new(
+            alloc,
+            "--ignore-kind dev --target x86_64-unknown-linux-gnu --exclude c",
+        )
+    }
+
+    fn is_granted(alloc: Global, given: Listing, little: Little) -> Result<bool, Fail> {
+        given.writes(
+            alloc,
+            "+ path+file:///w/a#0.1.0\n- path+file:///w/b#0.1.0\n",
+            little,
+        )
+    }
+}
+
 #[test]
 fn a_run(rt: HostRuntime) -> Result<(), Fail> {
     starved::<Run>(&rt)
+}
+
+/// Runs that write why the crate is kept that is needed for tests.
+struct Explain;
+
+impl Call for Explain {
+    type Given = Listing;
+
+    fn given(alloc: Global) -> Result<Listing, Fail> {
+        Listing::new(alloc, "--why path+file:///w/b#0.1.0")
+    }
+
+    fn is_granted(alloc: Global, given: Listing, little: Little) -> Result<bool, Fail> {
+        given.writes(
+            alloc,
+            "0 rule 1: crate path+file:///w/a#0.1.0\n1 rule 5: kept path+file:///w/a#0.1.0 -> path+file:///w/b#0.1.0 (dev) from 0\n2 rule 5: crate path+file:///w/b#0.1.0 from 1\n",
+            little,
+        )
+    }
+}
+
+#[test]
+fn an_explanation(rt: HostRuntime) -> Result<(), Fail> {
+    starved::<Explain>(&rt)
 }

@@ -2,7 +2,7 @@
 
 use crate::listing::words_of;
 use krates::cm::MetadataCommand;
-use krates::{Builder, Krates, NoneFilter};
+use krates::{Builder, Kid, Krates, NoneFilter};
 use krates_cli::{Counted, OptionsError, options_of, set_options};
 use krates_samples::documents::document;
 use krates_samples::table::{Question, Row, hold};
@@ -18,12 +18,16 @@ impl Question for Read {
         let words = words_of(alloc, line)?;
         match options_of(alloc, words.as_slice()) {
             Ok(options) => Ok(format!(in alloc;
-                "{} {:?} {:?} {} {:?}",
+                "{} {:?} {:?} {} {:?} {}",
                 options.workspace,
                 options.ignored,
                 options.targets,
                 options.exclusions.len(),
-                options.cargo
+                options.cargo,
+                options
+                    .why
+                    .as_ref()
+                    .map_or("none", |krate: &Kid| krate.repr())
             )?),
             Err(OptionsError::Unknown) => Ok(String::from_str(alloc, "unknown")?),
             Err(OptionsError::Memory) => Ok(String::from_str(alloc, "memory")?),
@@ -32,13 +36,18 @@ impl Question for Read {
 }
 
 const OPTIONS: &[Row] = &[
-    ("", "false [] [] 0 None"),
+    ("", "false [] [] 0 None none"),
     (
         "--ignore-kind dev --target x --exclude b --workspace --exclude c@1.0.0 --target y --cargo p --cargo q",
-        r#"true [Dev] ["x", "y"] 2 Some("q")"#,
+        r#"true [Dev] ["x", "y"] 2 Some("q") none"#,
+    ),
+    (
+        "--why x#a@1.0.0 --why y#b@1.0.0",
+        "false [] [] 0 None y#b@1.0.0",
     ),
     ("--exclude", "unknown"),
     ("--ignore-kind x", "unknown"),
+    ("--why x", "unknown"),
 ];
 
 #[test]

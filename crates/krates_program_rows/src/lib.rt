@@ -20,3 +20,5 @@ mod no_programs;
 mod options;
 #[cfg(test)]
 mod streams;
+#[cfg(test)]
+mod why;

@@ -2,7 +2,7 @@
 
 use crate::no_programs::NoPrograms;
 use krates_cli::{Counted, Options, RunError, program, refuse_words, run};
-use krates_samples::documents::document;
+use krates_samples::documents::{document, kid_of};
 use krates_samples::table::{Question, Row, hold};
 use std::alloc::Global;
 use std::io::{ErrorKind, Read, Write};
@@ -179,7 +179,7 @@ fn refuses_where_the_first_write_fails(rt: HostRuntime) -> Result<(), Fail> {
 
 /// What is told of words that are no options.
 pub(crate) const USAGE: &str =
-    "usage: krates-list [--workspace] [--ignore-kind KIND] [--target TRIPLE] [--exclude SPEC] [--cargo PROGRAM] [--all-named]\n";
+    "usage: krates-list [--workspace] [--ignore-kind KIND] [--target TRIPLE] [--exclude SPEC] [--cargo PROGRAM] [--why ID] [--all-named]\n";
 
 #[test]
 fn answers_the_usage_line_to_an_unknown_word(rt: HostRuntime) -> Result<(), Fail> {
@@ -215,17 +215,18 @@ fn refuses_words_that_cannot_be_had(rt: HostRuntime) -> Result<(), Fail> {
 }
 
 #[test]
-fn refusals_without_a_cause_are_printed(rt: HostRuntime) -> Result<(), Fail> {
+fn refusals_of_a_run_are_printed(rt: HostRuntime) -> Result<(), Fail> {
     let told = format!(in rt.alloc();
-        "{}, {}, {}, {}",
+        "{}, {}, {}, {}, {}",
         RunError::Read,
         RunError::Utf8,
         RunError::Write,
-        RunError::Memory
+        RunError::Memory,
+        RunError::NotKept(kid_of(rt.alloc(), "b")?)
     )?;
     assert_eq!(rt;
         told.as_str(),
-        "read failed, input is not UTF-8, write failed, out of memory"
+        "read failed, input is not UTF-8, write failed, out of memory, not kept: path+file:///w/b#0.1.0"
     );
     Ok(())
 }

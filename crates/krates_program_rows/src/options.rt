@@ -115,6 +115,17 @@ const NO_OPTIONS: &[Row] = &[
     ("--exclude a@", "2 usage, 2 left|"),
     ("--target", "2 usage, 2 left|"),
     ("--cargo", "2 usage, 2 left|"),
+    // no id: no word, none with a version, another word, and escapes of what is none or may not be escaped
+    ("--why", "2 usage, 2 left|"),
+    ("--why a", "2 usage, 2 left|"),
+    ("--why x#1/2", "2 usage, 2 left|"),
+    ("--why --workspace", "2 usage, 2 left|"),
+    (
+        "--why git+https://x.org/y?branch=%2#n@1.0.0",
+        "2 usage, 2 left|",
+    ),
+    ("--why a --why path+file:///w/a#0.1.0", "2 usage, 2 left|"),
+    ("--why path+file:///w/a#0.1.0 --why a", "2 usage, 2 left|"),
     ("--cargo x --nope", "2 usage, 2 left|"),
 ];
 
@@ -142,6 +153,10 @@ impl Question for NotFound {
 const NO_PROGRAMS: &[Row] = &[
     (
         "--cargo x",
+        "1 refused: failed to start `cargo metadata`, 2 left|",
+    ),
+    (
+        "--why path+file:///w/b#0.1.0 --cargo x",
         "1 refused: failed to start `cargo metadata`, 2 left|",
     ),
     // the word behind an option is its value, whatever it is

@@ -1,7 +1,8 @@
 //! Runs over readers and writers that give and take little at a time, that fail, and that are interrupted.
 
-use crate::listing::told;
+use crate::listing::{told, words_of};
 use crate::no_programs::NoPrograms;
+use crate::why::STEPS;
 use krates_cli::{Counted, program};
 use krates_samples::documents::document;
 use krates_samples::table::{Question, Row, hold};
@@ -148,6 +149,22 @@ impl Course for Writing {
         let mut output = Counted::new(Taking { taken, pace });
         let told = told(alloc, &[], &mut input, &mut output)?;
         let extent = extent(LINES, output.get_ref().taken.as_slice());
+        let (told, failed) = (told.as_str().trim_end(), output.failures());
+        Ok(format!(in alloc; "{told}, {extent} written, {failed} failed")?)
+    }
+}
+
+/// Runs that write why a crate is kept, whose writer goes at the pace.
+struct Explaining;
+
+impl Course for Explaining {
+    fn run(alloc: Global, json: &str, pace: Pace) -> Result<String, Fail> {
+        let taken = Vec::new(alloc);
+        let words = words_of(alloc, "--why path+file:///w/b#0.1.0")?;
+        let mut input = Counted::new(json.as_bytes());
+        let mut output = Counted::new(Taking { taken, pace });
+        let told = told(alloc, words.as_slice(), &mut input, &mut output)?;
+        let extent = extent(STEPS, output.get_ref().taken.as_slice());
         let (told, failed) = (told.as_str().trim_end(), output.failures());
         Ok(format!(in alloc; "{told}, {extent} written, {failed} failed")?)
     }
@@ -416,6 +433,33 @@ const WRITES: &[Row] = &[
 #[test]
 fn writes_all_or_a_beginning(rt: HostRuntime) -> Result<(), Fail> {
     hold::<EachCall<Writing>>(rt.alloc(), WRITES)
+}
+
+// 162 bytes are written.
+const EXPLAINED: &[Row] = &[
+    (
+        "0 7 fails",
+        "24 calls: 1 refused: write failed, a beginning written, 1 failed",
+    ),
+    (
+        "0 7 takes nothing",
+        "24 calls: 1 refused: write failed, a beginning written, 1 failed",
+    ),
+    ("0 7 is interrupted", "24 calls: 0, all written, 1 failed"),
+    (
+        "0 161 fails",
+        "2 calls: 1 refused: write failed, a beginning written, 1 failed",
+    ),
+    (
+        "0 162 takes nothing",
+        "1 calls: 1 refused: write failed, a beginning written, 1 failed",
+    ),
+    ("0 162 is interrupted", "1 calls: 0, all written, 1 failed"),
+];
+
+#[test]
+fn writes_all_steps_or_a_beginning(rt: HostRuntime) -> Result<(), Fail> {
+    hold::<EachCall<Explaining>>(rt.alloc(), EXPLAINED)
 }
 
 // Twenty-eight bytes are written. The status is that of the refusal, whether it is told or not.

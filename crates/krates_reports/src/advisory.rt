@@ -1,5 +1,6 @@
-//! An advisory look-up: the crates that an advisory is about, and who brings them in.
+//! An advisory look-up: the crates that an advisory is about, who brings them in, and over which dependencies they are kept.
 
+use krates::derive::Fact;
 use krates::semver::VersionReq;
 use krates::{KrateMatch, Krates, Package};
 use std::alloc::{AllocError, Global};
@@ -17,7 +18,31 @@ fn push_dependents(
     Ok(())
 }
 
-/// The kept crates of a name whose version is affected, each with the crates that depend on it directly.
+/// Adds a line for each dependency over which a crate is kept, from a root on.
+fn push_reasons(
+    lines: &mut String,
+    krates: &Krates,
+    found: &KrateMatch<'_, Package>,
+) -> Result<(), AllocError> {
+    let Some(derivation) = krates.why(found.node_id)? else {
+        return Ok(());
+    };
+    for step in &derivation.steps {
+        if let Fact::Kept { parent, child, .. } = &step.fact {
+            writeln!(
+                lines,
+                "  kept since {} {} needs {} {}",
+                parent.name(),
+                parent.version(),
+                child.name(),
+                child.version()
+            )?;
+        }
+    }
+    Ok(())
+}
+
+/// The kept crates of a name whose version is affected, each with the crates that depend on it directly, and why it is kept.
 pub(crate) fn report(
     alloc: Global,
     krates: &Krates,
@@ -32,6 +57,7 @@ pub(crate) fn report(
             found.krate.name, found.krate.version
         )?;
         push_dependents(&mut lines, krates, &found)?;
+        push_reasons(&mut lines, krates, &found)?;
     }
     Ok(lines)
 }
