@@ -39,6 +39,19 @@ Kept = collections.namedtuple("Kept", "parent child kind cfg")
 Toggled = collections.namedtuple("Toggled", "parent child name")
 
 
+def has_query(left):
+    """Whether the source before the `#` of an id is one of git with a query."""
+    return left.startswith("git+") and "?" in left.rsplit("/", 1)[-1]
+
+
+def decoded(left):
+    """The source, its query decoded where it is one of git."""
+    if not has_query(left):
+        return left
+    before, query = left.rsplit("?", 1)
+    return f"{before}?{urllib.parse.unquote(query)}"
+
+
 def parts_of(text):
     """The name, the version and the source of a package id."""
     if " " in text:
@@ -46,12 +59,15 @@ def parts_of(text):
         end = source.rindex("#") if "#" in source else len(source) - 1
         return name, version, source[1:end]
     left, fragment = text.rsplit("#", 1)
-    last = left.rsplit("/", 1)[-1]
-    if left.startswith("git+") and "?" in last:
-        before, query = left.rsplit("?", 1)
-        last, left = last.rsplit("?", 1)[0], f"{before}?{urllib.parse.unquote(query)}"
+    piece = (left.rsplit("?", 1)[0] if has_query(left) else left).rsplit("/", 1)[-1]
     name, at, version = fragment.partition("@")
-    return (name, version, left) if at else (last, fragment, left)
+    return (name, version, decoded(left)) if at else (piece, fragment, decoded(left))
+
+
+def printed(text):
+    """A package id as a step has it."""
+    left, sign, fragment = text.rpartition("#")
+    return text if " " in text else decoded(left) + sign + fragment
 
 
 def is_same_name(resolved, declared):
@@ -98,6 +114,7 @@ class Document:
     def __init__(self, text):
         metadata = json.loads(text)
         self.packages = {parts_of(package["id"]): package for package in metadata["packages"]}
+        self.printed = {printed(package["id"]): parts_of(package["id"]) for package in metadata["packages"]}
         self.nodes = {parts_of(node["id"]): node for node in metadata["resolve"]["nodes"]}
         root = metadata["resolve"]["root"]
         self.roots = {parts_of(id) for id in ([root] if root else metadata["workspace_members"])}
@@ -202,20 +219,20 @@ class Document:
         return form == (7, Feature, (Toggled,)) and (first.child, first.name) == (fact.krate, fact.name)
 
 
-def fact_of(text):
-    """The fact that a line says."""
+def fact_of(printed, text):
+    """The fact that a line says, by the ids that may be printed."""
     what, rest = text.split(" ", 1)
     if what == "crate":
-        return Crate(parts_of(rest))
+        return Crate(printed[rest])
     if what == "feature":
         name, krate = rest.split(" of ", 1)
-        return Feature(parts_of(krate), name)
+        return Feature(printed[krate], name)
     if what == "kept":
         parent, child, kind, cfg = KEPT.fullmatch(rest).groups()
-        return Kept(parts_of(parent), parts_of(child), kind or "normal", cfg)
+        return Kept(printed[parent], printed[child], kind or "normal", cfg)
     name, ids = rest.split(" of ", 1)
     child, parent = ids.split(" by ", 1)
-    return Toggled(parts_of(parent), parts_of(child), name)
+    return Toggled(printed[parent], printed[child], name)
 
 
 def fault_of(document, text, krate):
@@ -228,7 +245,7 @@ def fault_of(document, text, krate):
         uses = [int(use) for use in found[4].split(", ")] if found[4] else []
         if any(use >= number for use in uses):
             return f"a later step is used: {line}"
-        fact = fact_of(found[3])
+        fact = fact_of(document.printed, found[3])
         if fact in facts or not document.follows(int(found[2]), fact, [facts[use] for use in uses]):
             return f"it doesn't follow, or stands twice: {line}"
         facts.append(fact)
