@@ -20,6 +20,8 @@ use krates_resolve::{Document, EnabledFeature, KeptEdge, Selection};
 use std::alloc::{AllocError, Global};
 
 /// How many dependencies the package of a crate declares; none where it has no package.
+///
+/// Time: O(log n) for n crates.
 pub fn count_of<'a>(document: &Document<'a>, krate: &Kid) -> usize
     ensures { CountTold (as_resolved document.now) (id_of krate.now) result }
 {
@@ -31,6 +33,8 @@ pub fn count_of<'a>(document: &Document<'a>, krate: &Kid) -> usize
 
 /// The features that a kept edge gives; none where its declared dependency or its child's node isn't there. The only error is
 /// running out of memory.
+///
+/// Time: O(log n + (a + f) log f) for n crates, a features that are asked for, and f that the node lists.
 pub fn given_by<'a>(
     alloc: Global,
     document: &Document<'a>,
@@ -67,6 +71,8 @@ fn length_of(dependencies: &[Dependency]) -> usize
 }
 
 /// What the references of an enabled feature name. The only error is running out of memory.
+///
+/// Time: O(log n) for n crates and dependencies, for each reference and each crate that it names.
 pub fn meanings_by<'a>(
     alloc: Global,
     document: &Document<'a>,
@@ -181,7 +187,7 @@ fn features_with(
 
 /// The sheet of a selection under a setting: beside each crate, edge and feature what the document says of it.
 ///
-/// The only error is running out of memory.
+/// The only error is running out of memory. Time: O(n log n) for n crates, edges, features and references.
 pub fn sheet_of<'a>(
     alloc: Global,
     document: &Document<'a>,

@@ -44,6 +44,8 @@ fn has_room(sheet: &Sheet, nodes: u32) -> bool
 /// Draws the nodes and the edges of a sheet. It is refused as `TooMany` exactly where there are more nodes or more edges than the
 /// limits allow; the nodes are counted before they are drawn, and the edges as they are planned. It may instead return
 /// `Memory`.
+///
+/// Time: O(n log n) for n nodes and edges.
 pub fn plan_within(alloc: Global, sheet: &Sheet, limits: Limits) -> Result<Plan, Error>
     requires ordered { IsOrdered sheet.now }
     ensures nodes { IfOk result (λ p. map spot_view p.spots.items ≡ spots (sheet_view sheet.now)) }

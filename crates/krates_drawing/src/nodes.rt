@@ -117,6 +117,8 @@ fn push_features(sheet: &Sheet, out: &mut Vec<Spot>) -> Result<(), AllocError>
 
 /// All nodes of the selection's graph, in the order of their numbers: the crates by id, then the features by crate
 /// and name. The only error is running out of memory.
+///
+/// Time: O(n log n) for n nodes.
 pub fn draw_nodes(alloc: Global, sheet: &Sheet) -> Result<Vec<Spot>, AllocError>
     requires few { IsFew sheet.now }
     requires ordered { IsOrdered sheet.now }

@@ -65,6 +65,8 @@ impl<N, E> Model for Krates<N, E> {
 
 impl<N, E> Krates<N, E> {
     /// This graph, with this many crates, of which these are members, for a workspace at this path, and how it was found.
+    ///
+    /// Time: O(1).
     pub fn new(
         graph: Graph<Node<N>, E>,
         count: usize,

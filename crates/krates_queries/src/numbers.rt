@@ -21,6 +21,8 @@ fn compare<N>(node: &Node<N>, kid: &Kid) -> Ordering
 }
 
 /// The number of the crate with an id, if there is one.
+///
+/// Time: O(log n).
 pub fn number_of<N>(nodes: &[Node<N>], kid: &Kid) -> Option<usize>
     requires { AreNodes nodes.now }
     ensures { (n : ℕ) → (result ≡ Some n) ↔ StandsAt (crate_ids nodes.now) (id_of kid.now) n }

@@ -122,6 +122,7 @@ impl<'a> Document<'a> {
     /// and `resolve`). Members come in the order of the document.
     ///
     /// The only error is running out of memory.
+    /// Time: O(m log n) for m members and n crates, and as much for each manifest that is asked for.
     pub fn roots(&self, alloc: Global, setting: &Setting) -> Result<Vec<&'a Kid>, AllocError>
         ensures each { IfOk result (AreRoots (as_resolved self.now) setting.now) }
         ensures order { IfOk result (AreRootsInOrder (as_resolved self.now) setting.now) }
@@ -136,7 +137,7 @@ impl<'a> Document<'a> {
     /// whose source is that of the other crate. None where the crate's node doesn't list the dependency of this kind
     /// and target, where none fits, and where several fit and none of them has the source.
     ///
-    /// The only error is running out of memory.
+    /// The only error is running out of memory. Time: as `need`.
     pub fn declared(
         &self,
         alloc: Global,
@@ -155,6 +156,7 @@ impl<'a> Document<'a> {
     /// has a node and a package that isn't excluded.
     ///
     /// Whether it is optional, and whether the crate itself is kept, isn't asked. The only error is running out of memory.
+    /// Time: as `need`, and the exclusions of the setting.
     pub fn is_open(
         &self,
         alloc: Global,

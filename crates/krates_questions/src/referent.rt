@@ -31,6 +31,7 @@ pub struct Referent<'a> {
 /// `referent_of` has it, or the least of them alone.
 ///
 /// Only those are looked at that may answer, which are found by halves. The only error is running out of memory.
+/// Time: O(log n + k log k) for n dependencies, of which k have the name.
 pub fn referents_of<'a>(
     alloc: Global,
     lookup: &Lookup<'a>,
@@ -105,6 +106,8 @@ fn push_answering<'a>(
 ///
 /// Only those are looked at that have the name as their own, or as that of a package whose library they are named as. They are
 /// found by halves.
+///
+/// Time: O(log n + k) for n dependencies, of which k have the name.
 pub fn referent_of<'a>(lookup: &Lookup<'a>, parts: &NodeParts<'a>, name: &str) -> Option<usize>
     requires lookup { IsLookup lookup.now }
     requires parts { AreParts (resolved_view lookup.now) parts.now.place parts.now }

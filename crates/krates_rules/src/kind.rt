@@ -19,6 +19,8 @@ pub enum DepKind {
 
 impl DepKind {
     /// Whether this is the kind that the document writes.
+    ///
+    /// Time: O(1).
     pub fn is(self, kind: DependencyKind) -> bool
         ensures { IsTrue result ↔ (self ≡ kind_of kind) }
     {

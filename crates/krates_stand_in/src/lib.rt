@@ -30,6 +30,8 @@ pub struct Output {
 /// - `--fake=words`: each word on a line, as an error, and status 1.
 /// - `--fake=env`: the value on a line, as an error, and status 1; an empty line where there is none.
 /// - any other, or none: the line `a warning`, and then the document on one line.
+///
+/// Time: O(n) for n bytes of words and value.
 pub fn answer(alloc: Global, words: &[String], variable: Option<&str>) -> Result<Output, AllocError>
     ensures { IfOk result (λ a.
         answer_view a ≡ answer (map string_bytes words.now) (option_map (λ v. v.now) variable.entry)) }
