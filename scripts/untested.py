@@ -33,10 +33,11 @@ SHOWN_BY = {
         " is_same_info"
     ).split(),
     # a document that is asked looks its crates, features and names up
-    "Document::new": ("lookup_of", "node_place", "child_place"),
+    "Document::new": "lookup_of node_place child_place crate_number package_at node_place_at child_number".split(),
+    "Document::is_root": ("is_member",),
     "Document::lists": ("feature_number",),
     "Document::values": ("feature_values",),
-    "Document::referent": ("referent_of",),
+    "Document::referent": ("referent_of", "is_library_rename"),
     "Document::referents": ("referents_of",),
     "Document::roots": ("choice_of",),
     "Document::presence": ("standing_of", "standing_of_child"),

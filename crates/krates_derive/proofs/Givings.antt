@@ -7,7 +7,7 @@ use Rattle.krates_derive.proofs.ReferenceForms.{asks_nothing, one_form}
 use Rattle.krates_text.specs.FeatureReference.{Reference, IsReference, HasOneReading, krate, strong, weak, simple}
 use Rattle.krates_rules.specs.Facts.{Id, Edge, Fact, Cause, Crate, Feature, Kept, Toggled, Lost}
 use Rattle.krates_rules.specs.Features.{HasReference}
-use Rattle.krates_questions.specs.FeatureValues.{AreValuesOf}
+use Rattle.krates_lookups.specs.FeatureValues.{AreValuesOf}
 use Rattle.krates_rules.specs.Derivation.{Among, IsClosed}
 use Rattle.krates_rules.specs.Referent.{IsReferent}
 use Rattle.krates_rules.specs.References.{Demands}

@@ -26,7 +26,7 @@ use Rattle.krates_resolve.specs.declared.selection.Selection.{Selection}
 use Rattle.krates_resolve.specs.declared.selection.ToggledFeature.{ToggledFeature}
 use Rattle.krates_drawing.specs.Alike.{IsDrawnAlike}
 use Rattle.krates_drawing.specs.Drawing.{lines, spots}
-use Rattle.krates_questions.specs.FeatureValues.{values_of}
+use Rattle.krates_lookups.specs.FeatureValues.{values_of}
 use Rattle.krates_drawing.specs.Sheet.{Krate, IsKrate, Link, IsLink, asked_by, has_text, Meaning, OwnFeature, Crates, FeatureOf, Named, IsNamed, IsMeaning, Names, Toggle, toggle_of, Sheet, IsSheet}
 use Rattle.krates_drawing.proofs.Closed.{text_there, text_has}
 use Rattle.krates_drawing.proofs.Holding.{crate_there, edge_there, feature_there, toggled_there, from_of, crate_from, link_from, feature_from, toggle_from}

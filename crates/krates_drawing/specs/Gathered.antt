@@ -6,7 +6,7 @@ use Rattle.krates_rules.specs.Facts.{Id}
 use Rattle.krates_rules.specs.Resolved.{Resolved, id_of, HasPackage, NoPackage, HasNode, NoNode}
 use Rattle.krates_resolve.specs.declared.selection.EnabledFeature.{EnabledFeature}
 use Rattle.krates_resolve.specs.declared.selection.KeptEdge.{KeptEdge}
-use Rattle.krates_questions.specs.FeatureValues.{values_of}
+use Rattle.krates_lookups.specs.FeatureValues.{values_of}
 use Rattle.krates_drawing.specs.Sheet.{Meaning, IsMeaning, asked_by, has_text}
 
 pub data CountTold (r : Resolved) (i : Id) (n : ℕ) : Type 0 where

@@ -10,14 +10,14 @@ use Rattle.krates_explain.specs.Tables.{AreNumbersIn, IsKeptIn, IsKeptNode, IsNu
 use Rattle.krates_explain.specs.declared.keys.Tables.{Tables}
 use Rattle.krates_explain.proofs.FactPlaces.{zip_long}
 use Rattle.krates_ids.specs.Identity.{Identity, Reads}
-use Rattle.krates_questions.proofs.Lookups.{at_place, one_id}
-use Rattle.krates_questions.proofs.NodeParts.{dep_ids_here, nodes_long}
-use Rattle.krates_questions.specs.CrateTable.{IsNumberOf}
-use Rattle.krates_questions.specs.FeatureTable.{listed_view}
-use Rattle.krates_questions.specs.ListedFeatures.{listed_features}
-use Rattle.krates_questions.specs.Lookup.{IsLookup, resolved_view}
-use Rattle.krates_questions.specs.declared.feature_table.ListedFeature.{ListedFeature}
-use Rattle.krates_questions.specs.declared.lookup.Lookup.{Lookup}
+use Rattle.krates_lookups.proofs.Lookups.{at_place, one_id}
+use Rattle.krates_lookups.proofs.NodeParts.{dep_ids_here, nodes_long}
+use Rattle.krates_lookups.specs.CrateTable.{IsNumberOf}
+use Rattle.krates_lookups.specs.FeatureTable.{listed_view}
+use Rattle.krates_lookups.specs.ListedFeatures.{listed_features}
+use Rattle.krates_lookups.specs.Lookup.{IsLookup, resolved_view}
+use Rattle.krates_lookups.specs.declared.feature_table.ListedFeature.{ListedFeature}
+use Rattle.krates_lookups.specs.declared.lookup.Lookup.{Lookup}
 use Rattle.krates_rules.proofs.Readings.{ReadsOnce, right_of}
 use Rattle.krates_rules.specs.Admission.{AreDepIds, dep_texts}
 use Rattle.krates_rules.specs.Facts.{Id}

@@ -11,9 +11,9 @@ use Rattle.krates_explain.specs.declared.key.FeatureKey.{FeatureKey}
 use Rattle.krates_explain.specs.declared.keys.Tables.{Tables}
 use Rattle.krates_explain.specs.declared.kept.KeptStep.{KeptStep}
 use Rattle.krates_ids.specs.Identity.{Identity}
-use Rattle.krates_questions.specs.CrateTable.{AreNumbered, IsNumberOf}
-use Rattle.krates_questions.specs.Lookup.{IsLookup, resolved_view}
-use Rattle.krates_questions.specs.Numbering.{FeatureAt}
+use Rattle.krates_lookups.specs.CrateTable.{AreNumbered, IsNumberOf}
+use Rattle.krates_lookups.specs.Lookup.{IsLookup, resolved_view}
+use Rattle.krates_lookups.specs.Numbering.{FeatureAt}
 use Rattle.krates_resolve.specs.Trace.{EdgeAt, HasSomeStep, Names}
 use Rattle.krates_resolve.specs.declared.trace.NumberedFact.{NumberedFact}
 use Rattle.krates_resolve.specs.declared.trace.NumberedStep.{NumberedStep}

@@ -5,8 +5,8 @@ ghost use Rattle.std.specs.List.Sorted.{IsStrictlySortedBy};
 ghost use Rattle.krates_explain.specs.Chosen.{AreChosen};
 ghost use Rattle.krates_explain.specs.Tables.{AreStepsOf, IsKeptIn};
 ghost use Rattle.krates_ids.specs.Identity.{id_cmp};
+ghost use Rattle.krates_lookups.specs.Lookup.{IsLookup};
 ghost use Rattle.krates_questions.specs.Basis.{Derives, document_of};
-ghost use Rattle.krates_questions.specs.Lookup.{IsLookup};
 ghost use Rattle.krates_resolve.specs.Trace.{IsTrace};
 ghost use Rattle.krates_rules.specs.Facts.{Crate, Id};
 

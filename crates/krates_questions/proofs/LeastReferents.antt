@@ -1,29 +1,28 @@
 -- The least, by id, of the dependencies of a node that answer to a name.
 use Rattle.std.proofs.Common.{◌≡◌, ◌≢◌, ◌↔◌, ℕ, ◌+◌, ◌<◌, ◌≤◌, List, [], ◌∷◌, ◌++◌, length, map, take, get_or, Bool, true, false, IsTrue, IfSome, Option, Some, None, Contains, MatchOption, option_map, Ordering, Less, Equal, Greater, refl, sym, ap, ◌∙◌, inl, inr, arith, subst}
-use Rattle.std.proofs.lemmas.List.{append-nil, append_assoc, length-map, map-append, take_all, take_more}
+use Rattle.std.proofs.lemmas.List.{append-nil, append_assoc, map-append, take_all, take_more}
 use Rattle.std.proofs.lemmas.List.Elements.{Contains-append_left, Contains-append_right, Contains-push_cases}
-use Rattle.std.proofs.lemmas.Option.{slice_get-map, slice_get_read, slice_get_within, same_Some}
+use Rattle.std.proofs.lemmas.Option.{slice_get-map, slice_get_within, same_Some}
 use Rattle.std.specs.Cmp.{IsTotalOrder}
-use Rattle.std.specs.Global.{Vec}
-use Rattle.std.specs.List.{AllZip, slice_get}
+use Rattle.std.specs.List.{slice_get}
 use Rattle.std.specs.Ordering.{ordering_reverse}
-use Rattle.std.specs.Vec.{vec_len}
-use Rattle.krates_cm.specs.Document.{Text, NodeModel, NodeDepModel, PackageModel, node_dep_view}
-use Rattle.krates_document.specs.NamedPlaces.{AreInOrder, StandsUnder, no_target, places_in}
+use Rattle.krates_cm.specs.Document.{Text, NodeModel, NodeDepModel, node_dep_view}
+use Rattle.krates_document.specs.NamedPlaces.{StandsUnder, no_target, places_in}
 use Rattle.krates_document.specs.declared.named_places.NamedPlace.{NamedPlace}
 use Rattle.krates_ids.specs.Identity.{Identity, Reads, id_cmp}
 use Rattle.krates_rules.specs.Admission.{NoneDoubled, AreDepIds, dep_texts}
 use Rattle.krates_rules.specs.Facts.{Id}
-use Rattle.krates_questions.specs.NameIndex.{AreDepsOf}
-use Rattle.krates_questions.specs.NodeEntry.{AreParts}
-use Rattle.krates_rules.specs.Referent.{AnswersTo, AnswersIn, IsLibraryRename, IsReferent, by_library, by_name, id_order}
+use Rattle.krates_lookups.specs.NameIndex.{AreDepsOf}
+use Rattle.krates_lookups.specs.NodeEntry.{AreParts}
+use Rattle.krates_rules.specs.Referent.{AnswersTo, AnswersIn, IsReferent, by_library, by_name, id_order}
 use Rattle.krates_questions.specs.ReferentPlace.{AnswersAt, AnswersBefore, GoesOn, IsBefore, IsLeastOf, IsReferentAt}
-use Rattle.krates_rules.specs.Resolved.{Resolved, HasDep, HasPackage, id_of}
-use Rattle.krates_questions.specs.declared.node_entry.NodeParts.{NodeParts}
+use Rattle.krates_rules.specs.Resolved.{Resolved, HasDep, id_of}
+use Rattle.krates_lookups.specs.declared.node_entry.NodeParts.{NodeParts}
 use Rattle.krates_rules.proofs.Readings.{ReadsOnce, right_of}
 use Rattle.krates_document.proofs.DistinctIds.{OrderTellsSame, same_of}
 use Rattle.krates_document.proofs.LeastFitting.{same_folded, under_other}
-use Rattle.krates_questions.proofs.NodeParts.{has_dep_here, within_vec}
+use Rattle.krates_lookups.proofs.NodeParts.{has_dep_here}
+use Rattle.krates_lookups.proofs.RenamedPlaces.{FindsRenamed}
 use Rattle.krates_rules.proofs.OnlyOne.{place_in, one_node}
 
 -- ---- the least so far
@@ -174,29 +173,6 @@ answers_there once r parts name child none p n =
 
 -- ---- those that are found by name
 
--- what stands at a place of the lists
-pub list_at : {B : Type 0} (lists : Vec (Vec B)) (place : ℕ) (v : Vec B) (list : List B) → slice_get (map (λ (u : Vec B). u.items) lists.items) place ≡ Some list → v ≡ get_or lists.items place v → list ≡ v.items
-list_at {B} lists place v list at is =
-    let items : Vec B → List B = λ u. u.items in
-    let lt : place < length lists.items = omega (arith, slice_get_within (map items lists.items) place list at, length-map lists.items items) in
-    let here : slice_get (map items lists.items) place ≡ Some v.items = slice_get-map items lists.items place ∙ ap (option_map items) (slice_get_read lists.items (length lists.items) place v refl lt is) in
-    same_Some list v.items (sym at ∙ here)
-
-pub list_within : {B : Type 0} (lists : Vec (Vec B)) (place : ℕ) (list : List B) → slice_get (map (λ (u : Vec B). u.items) lists.items) place ≡ Some list → place < vec_len lists
-list_within {B} lists place list at =
-    let items : Vec B → List B = λ u. u.items in
-    within_vec lists place (omega (arith, slice_get_within (map items lists.items) place list at, length-map lists.items items))
-
--- what is found at a place of the lists
-pub names_at : {A B : Type 0} (R : A → List B → Type 0) (xs : List A) (lists : Vec (Vec B)) (place : ℕ) (x : A) (v : Vec B) → AllZip R xs (map (λ (u : Vec B). u.items) lists.items) → slice_get xs place ≡ Some x
-    → v ≡ get_or lists.items place v → R x v.items
-names_at {A} {B} R xs lists place x v z at is =
-    let w = right_of R xs (map (λ (u : Vec B). u.items) lists.items) place x z at in
-    subst (R x) (list_at lists place v w.0 w.1 is) w.2
-
-pub names_within : {A B : Type 0} (R : A → List B → Type 0) (xs : List A) (lists : Vec (Vec B)) (place : ℕ) (x : A) → AllZip R xs (map (λ (u : Vec B). u.items) lists.items) → slice_get xs place ≡ Some x → place < vec_len lists
-names_within {A} {B} R xs lists place x z at = let w = right_of R xs (map (λ (u : Vec B). u.items) lists.items) place x z at in list_within lists place w.0 w.1
-
 -- two readings of the same texts have the same ids
 same_kid : ReadsOnce → (n : NodeModel) (kids others : List Identity) (k : ℕ) (d : NodeDepModel) (c : Identity) → AreDepIds n kids → AreDepIds n others → slice_get n.deps k ≡ Some d → slice_get others k ≡ Some c → slice_get kids k ≡ Some c
 same_kid once n kids others k d c these those at there =
@@ -210,11 +186,6 @@ same_kid once n kids others k d c these those at there =
 -- what is looked at of a node: the places that are found by name
 pub record AreLookedAt (name : Text) (all : List NamedPlace) (these : List ℕ) : Type 0 where
   pub each : (k : ℕ) → StandsUnder all name no_target k → Contains these k
-
--- the dependencies of a node that are named as their package's library are found by the names of their packages
-pub record FindsRenamed (r : Resolved) (n : NodeModel) (kids : List Identity) (renamed : List NamedPlace) : Type 0 where
-  pub sorted : AreInOrder renamed
-  pub each : (k : ℕ) (c : Identity) (d : NodeDepModel) (p : PackageModel) → slice_get kids k ≡ Some c → slice_get n.deps k ≡ Some d → HasPackage r (id_of c) p → IsLibraryRename p d.name → StandsUnder renamed c.name no_target k
 
 by_either : (r : Resolved) (parts : NodeParts) (name : Text) (n : NodeModel) (kids : List Identity) (own children : List NamedPlace) (these those : List ℕ) (k : ℕ) (c : Identity) (d : NodeDepModel) → AreDepsOf n own → FindsRenamed r n kids children
     → AreLookedAt name own these → AreLookedAt name children those → slice_get n.deps k ≡ Some d → slice_get kids k ≡ Some c → AnswersTo r (id_of c) d name → Contains (these ++ those) k

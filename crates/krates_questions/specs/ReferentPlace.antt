@@ -1,16 +1,14 @@
 -- What a name means among the dependencies of a node.
 use Rattle.std.specs.Prelude.{◌≡◌, ◌≢◌, ◌++◌, ℕ, Bool, List, false, Option, Some, MatchOption, Contains, map, slice_get, ⊤}
 use Rattle.std.specs.declared.cmp.Ordering.TheVariants.{Greater, Less}
-use Rattle.krates_cm.specs.Document.{Text, TargetModel, NodeDepModel, PackageModel, node_dep_view}
+use Rattle.krates_cm.specs.Document.{Text, NodeDepModel, node_dep_view}
 use Rattle.krates_cm.specs.declared.resolve.NodeDep.{NodeDep}
-use Rattle.krates_cm.specs.declared.target.TargetKind.TheVariants.{Lib}
 use Rattle.krates_ids.specs.Identity.{Identity, id_cmp}
-use Rattle.krates_rules.specs.DeclaredDependency.{FirstAt}
 use Rattle.krates_rules.specs.Resolved.{DepAt, Resolved, id_of}
 use Rattle.krates_rules.specs.Referent.{AnswersTo, AreReferents, IsReferent}
 use Rattle.krates_rules.specs.Facts.{Id}
-use Rattle.krates_questions.specs.NodeEntry.{krate_of}
-use Rattle.krates_questions.specs.declared.node_entry.NodeParts.{NodeParts}
+use Rattle.krates_lookups.specs.NodeEntry.{krate_of}
+use Rattle.krates_lookups.specs.declared.node_entry.NodeParts.{NodeParts}
 use Rattle.krates_questions.specs.declared.referent.Referent.{Referent}
 
 -- the dependency at this place is the least of those that the name means
@@ -38,11 +36,6 @@ pub record AreReferentsIn (r : Resolved) (all : Bool) (parts : NodeParts) (name 
 -- the id comes before the one at the place of the list, or there is no place
 abbrev pub IsBefore : List Identity → Identity → Option ℕ → Type 0
 IsBefore ids id place = MatchOption place ⊤ (λ at. (there : Identity) × (slice_get ids at ≡ Some there) × (id_cmp id there ≡ Less))
-
--- the library of the package, which is its first target of kind `lib`, or none if it has none
-abbrev pub IsLibraryOf : PackageModel → Option TargetModel → Type 0
-IsLibraryOf p answer =
-    MatchOption answer ((place : ℕ) (t : TargetModel) → slice_get p.targets place ≡ Some t → Contains t.kind Lib → ⊥) (λ t. (place : ℕ) × FirstAt (λ t. Contains t.kind Lib) p.targets place t)
 
 -- the place of the least that the name means, or none where it means nothing
 abbrev pub TellsReferent : Resolved → NodeParts → Text → Option ℕ → Type 0

@@ -2,12 +2,12 @@
 
 ghost use Rattle.std.specs.Prelude.{◌↔◌, Contains, IfOk, IsTrue, map, true};
 ghost use Rattle.krates_cm.specs.Document.{DepKindInfoModel, dep_kind_info_view};
+ghost use Rattle.krates_lookups.specs.Lookup.{IsLookup, resolved_view};
+ghost use Rattle.krates_lookups.specs.NodeEntry.{IsEntry, edge_for};
 ghost use Rattle.krates_questions.specs.Basis.{document_of};
 ghost use Rattle.krates_questions.specs.DocumentModel.{as_resolved};
 ghost use Rattle.krates_questions.specs.DocumentAnswers.{edge_asked};
-ghost use Rattle.krates_questions.specs.Lookup.{IsLookup, resolved_view};
 ghost use Rattle.krates_questions.specs.Need.{HasChild, ListsKind, TellsDeclaration, TellsNeed};
-ghost use Rattle.krates_questions.specs.NodeEntry.{IsEntry, edge_for};
 ghost use Rattle.krates_rules.specs.Admission.{HasVersion};
 ghost use Rattle.krates_rules.specs.Facts.{Id};
 ghost use Rattle.krates_rules.specs.Questions.{edge_between};
@@ -15,8 +15,6 @@ ghost use Rattle.krates_rules.specs.Referent.{IsReferent};
 ghost use Rattle.krates_rules.specs.Resolved.{id_of};
 
 use crate::basis::Basis;
-use crate::lookup::Lookup;
-use crate::node_entry::{NodeEntry, declared_at};
 use crate::questions::{
     Document, declared_for, entry_between, is_same, lists, parts_for, referent_in,
 };
@@ -24,6 +22,8 @@ use crate::referent::answers_to;
 use krates_cm::{DepKindInfo, Dependency};
 use krates_document::setting::Setting;
 use krates_ids::{Kid, laws};
+use krates_lookups::lookup::Lookup;
+use krates_lookups::node_entry::{NodeEntry, declared_at};
 use std::alloc::{AllocError, Global};
 
 /// What a document and a setting have for a dependency of a crate on another, of one kind and for one target.

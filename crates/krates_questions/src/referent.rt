@@ -1,21 +1,19 @@
 //! Which dependencies a name in a feature reference means.
 
-ghost use Rattle.std.specs.Prelude.{◌↔◌, ◌<◌, Contains, IfOk, IfSome, IsTrue, OnOk, length, option_map, true};
-ghost use Rattle.krates_cm.specs.Document.{package_view, target_view};
-ghost use Rattle.krates_cm.specs.declared.target.TargetKind.TheVariants.{Lib};
+ghost use Rattle.std.specs.Prelude.{◌↔◌, ◌<◌, IfOk, IfSome, IsTrue, OnOk, length, true};
 ghost use Rattle.krates_document.specs.NamedPlaces.{places_in};
-ghost use Rattle.krates_questions.specs.Lookup.{IsLookup, resolved_view};
-ghost use Rattle.krates_questions.specs.NodeEntry.{AreParts};
-ghost use Rattle.krates_rules.specs.Referent.{IsLibraryRename};
-ghost use Rattle.krates_questions.specs.ReferentPlace.{AnswersAs, AnswersBefore, AreReferentsIn, FindsMore, GoesOn, IsBefore, IsLibraryOf, TellsReferent};
+ghost use Rattle.krates_lookups.specs.Lookup.{IsLookup, resolved_view};
+ghost use Rattle.krates_lookups.specs.NodeEntry.{AreParts};
+ghost use Rattle.krates_questions.specs.ReferentPlace.{AnswersAs, AnswersBefore, AreReferentsIn, FindsMore, GoesOn, IsBefore, TellsReferent};
 
-use crate::lookup::{Lookup, package_of};
-use crate::node_entry::NodeParts;
-use crate::sorted::in_order;
-use krates_cm::{NodeDep, Package, Target, TargetKind};
+use krates_cm::NodeDep;
 use krates_document::dependency_name::is_name_of;
 use krates_document::named_places::{NamedPlace, places_under};
 use krates_ids::{Kid, laws};
+use krates_lookups::library::is_library_rename;
+use krates_lookups::lookup::{Lookup, package_of};
+use krates_lookups::node_entry::NodeParts;
+use krates_lookups::sorted::in_order;
 use std::alloc::{AllocError, Global};
 
 /// A dependency of a node that a name means.
@@ -191,28 +189,4 @@ pub(crate) fn answers_to<'a>(lookup: &Lookup<'a>, child: &'a Kid, dep: &NodeDep,
         Some(pkg) => is_library_rename(pkg, dep.name.as_str()),
         None => false,
     }
-}
-
-/// Whether the library of a package has this name, which isn't that of the package.
-pub(crate) fn is_library_rename(pkg: &Package, name: &str) -> bool
-    ensures { IsTrue result ↔ IsLibraryRename (package_view pkg.now) name.now }
-{
-    match library_of(pkg) {
-        Some(library) => library.name.as_str() == name && !is_name_of(name, pkg.name.as_str()),
-        None => false,
-    }
-}
-
-/// The library of a package: its first target of kind `lib`.
-fn library_of(pkg: &Package) -> Option<&Target>
-    ensures { IsLibraryOf (package_view pkg.now) (option_map (λ target. target_view target.now) result) }
-{
-    pkg.targets.iter().find(|target| is_library(target))
-}
-
-/// Whether the target is a library.
-fn is_library(target: &Target) -> bool
-    ensures { IsTrue result ↔ Contains (target_view target.now).kind Lib }
-{
-    target.kind.contains(&TargetKind::Lib)
 }

@@ -1,15 +1,15 @@
 //! Whether a crate can be kept.
 
-ghost use Rattle.krates_questions.specs.Lookup.{IsLookup, IsNumber, IsNumberIn, resolved_view};
-ghost use Rattle.krates_questions.specs.NodeEntry.{IsEntry, child_of};
+ghost use Rattle.krates_lookups.specs.Lookup.{IsLookup, IsNumber, IsNumberIn, resolved_view};
+ghost use Rattle.krates_lookups.specs.NodeEntry.{IsEntry, child_of};
 ghost use Rattle.krates_questions.specs.Standing.{IsStanding};
 ghost use Rattle.krates_rules.specs.Facts.{Id};
 ghost use Rattle.krates_rules.specs.Resolved.{id_of};
 
-use crate::lookup::{Lookup, crate_number, node_place_at, package_at};
-use crate::node_entry::{NodeEntry, child_number};
 use krates_document::setting::Setting;
 use krates_ids::Kid;
+use krates_lookups::lookup::{Lookup, crate_number, node_place_at, package_at};
+use krates_lookups::node_entry::{NodeEntry, child_number};
 
 /// What a document and a setting have for a crate.
 #[derive(Clone, Copy)]

@@ -12,8 +12,8 @@ use Rattle.krates_rules.specs.Facts.{Id}
 use Rattle.krates_rules.specs.Resolved.{NodeAt, Resolved, id_of}
 use Rattle.krates_resolve.specs.Counting.{HasCountedAll}
 use Rattle.krates_resolve.specs.Found.{HaveNumbers}
-use Rattle.krates_questions.specs.ListedFeatures.{listed_features}
-use Rattle.krates_questions.specs.Numbering.{FeatureAt, IsOwn}
+use Rattle.krates_lookups.specs.ListedFeatures.{listed_features}
+use Rattle.krates_lookups.specs.Numbering.{FeatureAt, IsOwn}
 use Rattle.krates_resolve.specs.SelectionOrder.{same_feature}
 use Rattle.krates_rules.specs.Setting.{SettingModel}
 use Rattle.krates_resolve.specs.Work.{CountsEach, HasReferences, counted}
@@ -25,8 +25,8 @@ use Rattle.krates_document.proofs.FirstPlaces.{seen_at}
 use Rattle.krates_rules.proofs.OnlyOne.{one_node_place}
 use Rattle.krates_rules.proofs.Readings.{left_of}
 use Rattle.krates_rules.proofs.Standings.{contains_at}
-use Rattle.krates_questions.proofs.Distinct.{distinct_from, zip_shuffled}
-use Rattle.krates_questions.proofs.NodeParts.{node_here}
+use Rattle.krates_lookups.proofs.Distinct.{distinct_from, zip_shuffled}
+use Rattle.krates_lookups.proofs.NodeParts.{node_here}
 use Rattle.krates_resolve.proofs.Selected.{AreAt, EqualityTellsSame, both, same_name}
 
 -- a boolean that isn't true is false

@@ -14,14 +14,14 @@ use Rattle.krates_rules.specs.Facts.{Id, Edge, Fact, Crate, Feature, Kept, Toggl
 use Rattle.krates_resolve.specs.Found.{HasFound, HasUsed, IsAny, IsUsed, IsSound, Grows, Advances}
 use Rattle.krates_rules.specs.Resolved.{DepAt, Resolved}
 use Rattle.krates_resolve.specs.Links.{IsMarked}
-use Rattle.krates_questions.specs.NodeEntry.{IsEntry, parent_of, child_of, declared_in, entry_of, edge_for}
+use Rattle.krates_lookups.specs.NodeEntry.{IsEntry, parent_of, child_of, declared_in, entry_of, edge_for}
 use Rattle.krates_rules.specs.Questions.{IsDeclaredAt, IsWanted, kind_info_of, questions}
 use Rattle.krates_resolve.specs.Selection.{edge_view, IsPlaced}
 use Rattle.krates_rules.specs.Setting.{SettingModel}
 use Rattle.krates_resolve.specs.Trace.{HasSomeStep}
 use Rattle.krates_resolve.specs.declared.found.Found.{Found}
 use Rattle.krates_resolve.specs.declared.links.Links.{Links}
-use Rattle.krates_questions.specs.declared.node_entry.NodeEntry.{NodeEntry}
+use Rattle.krates_lookups.specs.declared.node_entry.NodeEntry.{NodeEntry}
 use Rattle.krates_resolve.specs.declared.selection.KeptEdge.{KeptEdge}
 use Rattle.krates_document.proofs.DeclaredOnce.{declared_once}
 use Rattle.krates_document.proofs.FirstPlaces.{seen_at}

@@ -6,13 +6,13 @@ use Rattle.krates_rules.specs.DeclaredDependency.{FirstAt, IsDeclared}
 use Rattle.krates_rules.specs.Derivation.{Derivable, follows, Among}
 use Rattle.krates_rules.specs.Facts.{Edge, Fact, LostPackage, LostNode, Undeclared, Crate, Kept, Lost}
 use Rattle.krates_resolve.specs.Found.{HasFound, IsTried, MayTry, IsRequired, TakenWhen}
-use Rattle.krates_questions.specs.NodeEntry.{child_of, declared_in, entry_of, IsEntry, edge_for}
+use Rattle.krates_lookups.specs.NodeEntry.{child_of, declared_in, entry_of, IsEntry, edge_for}
 use Rattle.krates_rules.specs.Questions.{Stands, LacksNode, IsDeclaredAt, IsWanted, IsLoose, kind_info_of, questions, IsLeftOut}
 use Rattle.krates_rules.specs.Resolved.{Resolved, NoPackage}
 use Rattle.krates_rules.specs.Rules.{Questions, required, target, lost_undeclared, lost_required_package, lost_required_node}
 use Rattle.krates_resolve.specs.Selection.{edge_view, IsPlaced}
 use Rattle.krates_resolve.specs.declared.found.Found.{Found}
-use Rattle.krates_questions.specs.declared.node_entry.NodeEntry.{NodeEntry}
+use Rattle.krates_lookups.specs.declared.node_entry.NodeEntry.{NodeEntry}
 use Rattle.krates_resolve.specs.declared.selection.KeptEdge.{KeptEdge}
 use Rattle.krates_rules.specs.Setting.{SettingModel, IsIgnored, Passes}
 use Rattle.krates_rules.proofs.Standings.{not_included}

@@ -2,10 +2,10 @@
 use Rattle.std.proofs.Common.{◌≡◌, ℕ, refl, ap, ◌∙◌}
 use Rattle.std.specs.List.{slice_get}
 use Rattle.krates_cm.specs.Document.{DependencyModel, DepKindInfoModel, NodeDepModel, node_dep_view}
+use Rattle.krates_lookups.specs.NodeEntry.{IsEntry, child_of, edge_for, parent_of}
+use Rattle.krates_lookups.specs.declared.node_entry.NodeEntry.{NodeEntry}
 use Rattle.krates_questions.specs.Basis.{document_of}
-use Rattle.krates_questions.specs.NodeEntry.{IsEntry, child_of, edge_for, parent_of}
 use Rattle.krates_questions.specs.declared.basis.Basis.{Basis}
-use Rattle.krates_questions.specs.declared.node_entry.NodeEntry.{NodeEntry}
 use Rattle.krates_resolve.proofs.Finding.{finds_declared, finds_default, for_reason}
 use Rattle.krates_resolve.specs.Basis.{FindsUsed}
 use Rattle.krates_resolve.specs.Trace.{HasStep, Names, by_one}

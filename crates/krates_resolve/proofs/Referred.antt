@@ -11,9 +11,9 @@ use Rattle.krates_rules.specs.Resolved.{DepAt, Resolved}
 use Rattle.krates_rules.specs.Setting.{SettingModel}
 use Rattle.krates_rules.proofs.OnlyOne.{place_in}
 use Rattle.krates_rules.proofs.Standings.{contains_at}
-use Rattle.krates_questions.specs.NodeEntry.{krate_of}
+use Rattle.krates_lookups.specs.NodeEntry.{krate_of}
+use Rattle.krates_lookups.specs.declared.node_entry.NodeParts.{NodeParts}
 use Rattle.krates_questions.specs.ReferentPlace.{AreReferentsIn, referent_id}
-use Rattle.krates_questions.specs.declared.node_entry.NodeParts.{NodeParts}
 use Rattle.krates_questions.specs.declared.referent.Referent.{Referent}
 use Rattle.krates_questions.proofs.DepPlaces.{one_dep_place}
 use Rattle.krates_resolve.specs.Found.{IsAsked, IsToggledStrongly, IsWaiting, WaitsOrIsToggled}

@@ -28,8 +28,8 @@ use Rattle.krates_rules.specs.Setting.{SettingModel}
 use Rattle.krates_rules.proofs.Readings.{ReadsOnce}
 use Rattle.krates_document.proofs.DistinctIds.{id_of_same}
 use Rattle.krates_document.proofs.FirstPlaces.{seen_at}
-use Rattle.krates_questions.proofs.Lookups.{one_id}
-use Rattle.krates_questions.proofs.NodeParts.{node_here}
+use Rattle.krates_lookups.proofs.Lookups.{one_id}
+use Rattle.krates_lookups.proofs.NodeParts.{node_here}
 use Rattle.krates_rules.proofs.OnlyOne.{place_in, one_dep}
 use Rattle.krates_rules.proofs.Standings.{contains_at}
 

@@ -14,7 +14,7 @@ use Rattle.krates_rules.specs.Rules.{Questions, declared, by_default, lost_decla
 use Rattle.krates_rules.specs.Setting.{SettingModel}
 use Rattle.krates_rules.proofs.Readings.{ReadsOnce}
 use Rattle.krates_document.proofs.DeclaredOnce.{declared_once}
-use Rattle.krates_questions.proofs.Lookups.{one_id}
+use Rattle.krates_lookups.proofs.Lookups.{one_id}
 use Rattle.krates_rules.proofs.OnlyOne.{one_package, one_dep}
 
 -- ---- what is derivable

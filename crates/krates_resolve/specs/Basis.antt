@@ -5,15 +5,15 @@ use Rattle.krates_cm.specs.declared.dependency.Dependency.{Dependency}
 use Rattle.krates_resolve.specs.Counting.{AreCounted, NumberHasReferences}
 use Rattle.krates_resolve.specs.Found.{Advances, AreTried, IsAny, IsEdgeStep, HasFound, HasRoots, HasUsed, IsAsked, IsEnabledBySome, IsExpanded, IsFollowed, IsHeeded, IsRooted, IsSound, IsToggledIn, IsToggledStrongly, IsTried, IsValueOfEnabled, IsWaiting, MayName, MayToggle, MayTry, MayUse}
 use Rattle.krates_resolve.specs.Heeding.{HasEnabledReference, IsAskedAt, IsToggledStronglyAt, IsWaitingAt, RefersTo, IsReferringStep, IsRequestStep, IsValueStep, MayAsk, MayAskAt}
-use Rattle.krates_questions.specs.NodeEntry.{child_of, krate_of, parent_of}
+use Rattle.krates_lookups.specs.NodeEntry.{child_of, krate_of, parent_of}
 use Rattle.krates_resolve.specs.Saturation.{AreDone, TakesNext}
 use Rattle.krates_resolve.specs.Work.{CountsName, CountsText, counted}
 use Rattle.krates_resolve.specs.Trace.{HasStep, MayFind, Names}
 use Rattle.krates_questions.specs.declared.basis.Basis.{Basis}
 use Rattle.krates_resolve.specs.declared.enabling.KeptNode.{KeptNode}
 use Rattle.krates_resolve.specs.declared.found.Found.{Found}
-use Rattle.krates_questions.specs.declared.node_entry.NodeEntry.{NodeEntry}
-use Rattle.krates_questions.specs.declared.node_entry.NodeParts.{NodeParts}
+use Rattle.krates_lookups.specs.declared.node_entry.NodeEntry.{NodeEntry}
+use Rattle.krates_lookups.specs.declared.node_entry.NodeParts.{NodeParts}
 use Rattle.krates_resolve.specs.declared.trace.NumberedStep.{NumberedStep}
 use Rattle.krates_resolve.specs.declared.trace.Reason.{Reason}
 use Rattle.krates_resolve.specs.declared.work.Work.{Work}
@@ -22,7 +22,7 @@ use Rattle.krates_rules.specs.Questions.{Stands, edge_between}
 use Rattle.krates_rules.specs.Resolved.{id_of}
 use Rattle.krates_rules.specs.Rules.{default_name}
 use Rattle.krates_text.specs.FeatureReference.{IsReference, Reference}
-use Rattle.krates_questions.specs.Numbering.{IsOwn}
+use Rattle.krates_lookups.specs.Numbering.{IsOwn}
 use Rattle.std.specs.Prelude.{◌≡◌, Bool, Contains, ℕ, true}
 
 -- the crate of a node

@@ -11,8 +11,8 @@ use Rattle.krates_rules.specs.Resolved.{DepAt, NodeAt, Resolved, NoPackage, id_o
 use Rattle.krates_resolve.specs.Links.{HasLinks, IsMarked, IsMarkedBy, IsWaiter, Waits, WasAsked}
 use Rattle.krates_resolve.specs.Trace.{HasSomeStep, HasStep, IsTrace}
 use Rattle.krates_rules.specs.Questions.{edge_between, Stands, LacksNode, IsWanted, IsLoose, questions}
-use Rattle.krates_questions.specs.ListedFeatures.{listed_features}
-use Rattle.krates_questions.specs.Numbering.{FeatureAt, IsOwn}
+use Rattle.krates_lookups.specs.ListedFeatures.{listed_features}
+use Rattle.krates_lookups.specs.Numbering.{FeatureAt, IsOwn}
 use Rattle.krates_rules.specs.Referent.{IsReferent}
 use Rattle.krates_rules.specs.Roots.{IsRoot}
 use Rattle.krates_rules.specs.Rules.{default_name}

@@ -7,7 +7,7 @@ use Rattle.krates_rules.specs.Referent.{AreReferents}
 use Rattle.krates_rules.specs.Resolved.{Resolved, HasPackage, id_of}
 use Rattle.krates_rules.specs.Setting.{SettingModel}
 use Rattle.krates_text.specs.FeatureReference.{Reference, IsReference, krate, simple, strong, weak}
-use Rattle.krates_questions.specs.FeatureValues.{values_of}
+use Rattle.krates_lookups.specs.FeatureValues.{values_of}
 use Rattle.krates_resolve.specs.declared.selection.EnabledFeature.{EnabledFeature}
 use Rattle.krates_resolve.specs.declared.work.Work.{Work}
 

@@ -2,13 +2,13 @@
 
 ghost use Rattle.krates_questions.specs.Basis.{HasEntry, Refuses};
 ghost use Rattle.krates_resolve.specs.Basis.{FindsEdge, HasExpandedTaken, HasKrateStep, HasTried, HasTriedEntry, IsRight, MayKeep, Moves};
-ghost use Rattle.krates_questions.specs.NodeEntry.{HasItsPlaces, HasItsVersion, IsListedEdge, edge_for, edge_of};
+ghost use Rattle.krates_lookups.specs.NodeEntry.{HasItsPlaces, HasItsVersion, IsListedEdge, edge_for, edge_of};
 ghost use Rattle.std.specs.Prelude.{◌<◌, IfErr, OnOk, Some, Contains};
 ghost use Rattle.semver.specs.Identifiers.{parts_of};
 ghost use Rattle.krates_cm.specs.Document.{DepKindInfoModel};
 ghost use Rattle.krates_rules.specs.Admission.{HasVersion};
 ghost use Rattle.krates_resolve.specs.Found.{TakenWhen};
-ghost use Rattle.krates_questions.specs.Lookup.{IsLookup};
+ghost use Rattle.krates_lookups.specs.Lookup.{IsLookup};
 
 use crate::enabling::{Keeping, keep};
 use crate::found::Found;
@@ -16,8 +16,8 @@ use crate::trace::Reason;
 use krates_document::declared_dependency::{Sought, declared_of, version_of};
 use krates_graph::agenda::Taken;
 use krates_ids::{Error, Lost, laws};
+use krates_lookups::node_entry::{EntryEdge, NodeEntry, declared_places, entry_at, parts_of};
 use krates_questions::basis::Basis;
-use krates_questions::node_entry::{EntryEdge, NodeEntry, declared_places, entry_at, parts_of};
 use krates_questions::standing::{Standing, standing_of};
 
 /// Keeps what a kept crate needs: tries each edge of its node.

@@ -2,12 +2,12 @@
 
 ghost use Rattle.std.specs.Prelude.{◌≡◌, ◌<◌, Contains, IfOk, map, Some};
 ghost use Rattle.krates_cm.specs.Document.{dep_kind_info_view};
-ghost use Rattle.krates_questions.specs.NodeEntry.{IsFirstInfo, ListsInfo, edge_for};
+ghost use Rattle.krates_lookups.specs.NodeEntry.{IsFirstInfo, ListsInfo, edge_for};
 ghost use Rattle.krates_resolve.specs.Selection.{edge_view};
 
 use crate::selection::KeptEdge;
 use krates_cm::DepKindInfo;
-use krates_questions::node_entry::{NodeEntry, is_same_info};
+use krates_lookups::node_entry::{NodeEntry, is_same_info};
 use std::alloc::AllocError;
 
 /// The edge of an entry of one kind and for one target, with the place of its declared dependency.

@@ -7,8 +7,8 @@ ghost use Rattle.krates_rules.specs.Admission.{IsAdmitted};
 ghost use Rattle.krates_resolve.specs.Explained.{IsExplainedOf};
 ghost use Rattle.krates_resolve.specs.Found.{HasEach, HaveNumbers};
 ghost use Rattle.krates_document.specs.Ids.{ids_view};
-ghost use Rattle.krates_questions.specs.ListedFeatures.{listed_features};
-ghost use Rattle.krates_questions.specs.Lookup.{IsLookup, resolved_view};
+ghost use Rattle.krates_lookups.specs.ListedFeatures.{listed_features};
+ghost use Rattle.krates_lookups.specs.Lookup.{IsLookup, resolved_view};
 ghost use Rattle.krates_resolve.specs.Selection.{IsSelectionOf, RefusesSelection};
 
 use crate::found::Found;
@@ -19,8 +19,8 @@ use krates_cm::Metadata;
 use krates_document::ids::Ids;
 use krates_document::setting::Setting;
 use krates_ids::{Error, Kid, laws};
-use krates_questions::lookup::{Lookup, lookup_of};
-use krates_questions::sorted::in_order;
+use krates_lookups::lookup::{Lookup, lookup_of};
+use krates_lookups::sorted::in_order;
 use std::alloc::{AllocError, Global};
 
 /// What is kept of a document that was admitted with these ids: exactly what has a derivation from the roots by the rules.

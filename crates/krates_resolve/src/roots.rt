@@ -5,7 +5,7 @@ ghost use Rattle.krates_resolve.specs.Basis.{Has, HasEachRoot, HasListed, HasRoo
 ghost use Rattle.std.specs.Prelude.{All, IfErr, OnOk};
 ghost use Rattle.krates_cm.specs.Document.{Text};
 ghost use Rattle.krates_rules.specs.Facts.{Crate};
-ghost use Rattle.krates_questions.specs.Lookup.{IsLookup};
+ghost use Rattle.krates_lookups.specs.Lookup.{IsLookup};
 ghost use Rattle.krates_rules.specs.Resolved.{id_of};
 
 use crate::enabling::{KeptNode, NamedFeature, enable};

@@ -6,7 +6,7 @@ ghost use Rattle.std.specs.Prelude.{IfErr, IfOk, OnOk};
 ghost use Rattle.krates_resolve.specs.Counting.{HasCountedAll, IsFresh};
 ghost use Rattle.krates_resolve.specs.Found.{IsSound};
 ghost use Rattle.krates_resolve.specs.Saturation.{HasExactly};
-ghost use Rattle.krates_questions.specs.Lookup.{IsLookup, resolved_view};
+ghost use Rattle.krates_lookups.specs.Lookup.{IsLookup, resolved_view};
 ghost use Rattle.krates_rules.specs.Questions.{questions};
 ghost use Rattle.krates_rules.specs.SelectionRefusals.{SelectionRefusal};
 
@@ -19,8 +19,8 @@ use crate::work::Work;
 use krates_document::setting::Setting;
 use krates_graph::agenda::Agenda;
 use krates_ids::Error;
+use krates_lookups::lookup::Lookup;
 use krates_questions::basis::Basis;
-use krates_questions::lookup::Lookup;
 use std::alloc::Global;
 
 /// All that is kept of a document: exactly what has a derivation from the roots by the rules. The work is counted.

@@ -4,7 +4,7 @@ use Rattle.krates_cm.specs.Document.{Text}
 use Rattle.krates_questions.specs.DocumentModel.{as_resolved}
 use Rattle.krates_rules.specs.Resolved.{id_of}
 use Rattle.krates_drawing.specs.Gathered.{MeaningsTold}
-use Rattle.krates_questions.specs.FeatureValues.{values_of}
+use Rattle.krates_lookups.specs.FeatureValues.{values_of}
 use Rattle.krates_drawing.specs.Sheet.{IsMeaning}
 use Rattle.krates_drawing.specs.Views.{meaning_view}
 use Rattle.krates_drawing.proofs.Answered.{ok_more}

@@ -12,7 +12,7 @@ use Rattle.krates_explain.specs.Tables.{AreNumbersIn, AreStepsOf, IsKeyOf, numbe
 use Rattle.krates_explain.specs.declared.kept.KeptStep.{KeptStep}
 use Rattle.krates_explain.specs.declared.key.FactKey.{FactKey}
 use Rattle.krates_explain.specs.declared.keys.Tables.{Tables}
-use Rattle.krates_questions.proofs.SeenInOrder.{sorted_same}
+use Rattle.krates_lookups.proofs.SeenInOrder.{sorted_same}
 use Rattle.krates_questions.specs.Basis.{document_of, rules_of}
 use Rattle.krates_ids.specs.Identity.{Identity, id_cmp}
 use Rattle.krates_resolve.specs.declared.trace.NumberedStep.{NumberedStep}

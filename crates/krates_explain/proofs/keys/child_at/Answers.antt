@@ -1,8 +1,8 @@
 use Rattle.std.proofs.Common.{◌<◌, length, subst}
 use Rattle.std.proofs.lemmas.Option.{slice_get_within}
 use Rattle.krates_explain.proofs.KeptNumbers.{child_ids, child_is, child_read}
-use Rattle.krates_questions.proofs.NodeParts.{nodes_long, within_vec}
-use Rattle.krates_questions.specs.Lookup.{resolved_view}
+use Rattle.krates_lookups.proofs.NodeParts.{nodes_long, within_vec}
+use Rattle.krates_lookups.specs.Lookup.{resolved_view}
 use Rattle.krates_explain.proofs.keys.child_at.Goals as goal
 
 pub index-requires : goal.index-requires

@@ -1,7 +1,7 @@
 use Rattle.std.proofs.Common.{map, sym, subst}
 use Rattle.krates_rules.specs.Resolved.{id_of}
-use Rattle.krates_questions.specs.CrateTable.{IsNumberOf}
-use Rattle.krates_questions.proofs.Searches.{searched_id}
+use Rattle.krates_lookups.specs.CrateTable.{IsNumberOf}
+use Rattle.krates_lookups.proofs.Searches.{searched_id}
 use Rattle.krates_explain.proofs.keys.number_in.Goals as goal
 
 pub returns : goal.returns

@@ -1,7 +1,7 @@
 use Rattle.std.proofs.Common.{subst}
 use Rattle.krates_cm.specs.Document.{dep_kind_info_view}
+use Rattle.krates_lookups.specs.Lookup.{resolved_view}
 use Rattle.krates_questions.specs.LookedUp.{TellsDeclared}
-use Rattle.krates_questions.specs.Lookup.{resolved_view}
 use Rattle.krates_questions.proofs.Entries.{heeds}
 use Rattle.krates_questions.proofs.Needs.{unlisted_need, undeclared_need, barred_need, wanted_need, wanted_here, declared_below}
 use Rattle.krates_questions.proofs.dependency_questions.entry_need.Goals as goal

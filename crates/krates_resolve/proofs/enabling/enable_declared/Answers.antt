@@ -4,7 +4,7 @@ use Rattle.krates_rules.specs.Facts.{Crate, Feature}
 use Rattle.krates_rules.specs.Rules.{default_name}
 use Rattle.krates_resolve.specs.Basis.{FindsListed}
 use Rattle.krates_resolve.specs.Found.{Advances, HasUsed, IsEnabledBySome, MayName}
-use Rattle.krates_questions.specs.Lookup.{resolved_view}
+use Rattle.krates_lookups.specs.Lookup.{resolved_view}
 use Rattle.krates_rules.specs.Resolved.{id_of}
 use Rattle.krates_resolve.specs.declared.found.Found.{Found}
 use Rattle.krates_resolve.proofs.Heedings.{value_at}

@@ -1,7 +1,7 @@
 use Rattle.std.proofs.Common.{◌≡◌, String, Global}
 use Rattle.krates_cm.specs.Document.{text_view}
 use Rattle.krates_resolve.specs.Found.{Advances, IsEnabledBySome}
-use Rattle.krates_questions.specs.Lookup.{resolved_view}
+use Rattle.krates_lookups.specs.Lookup.{resolved_view}
 use Rattle.krates_rules.specs.Resolved.{id_of}
 use Rattle.krates_document.proofs.Seen.{SeenBelow}
 use Rattle.krates_resolve.proofs.enabling.enable_declared.Given as goal

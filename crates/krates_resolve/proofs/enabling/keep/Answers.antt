@@ -4,8 +4,8 @@ use Rattle.krates_rules.specs.Facts.{Crate, Kept}
 use Rattle.krates_resolve.specs.Basis.{FindsUsed}
 use Rattle.krates_resolve.specs.Found.{HasFound, HasUsed, MayUse}
 use Rattle.krates_resolve.specs.Trace.{HasSomeStep}
-use Rattle.krates_questions.specs.Lookup.{resolved_view}
-use Rattle.krates_questions.specs.NodeEntry.{parent_of, child_of, declared_in, entry_of, edge_for}
+use Rattle.krates_lookups.specs.Lookup.{resolved_view}
+use Rattle.krates_lookups.specs.NodeEntry.{parent_of, child_of, declared_in, entry_of, edge_for}
 use Rattle.krates_document.proofs.DeclaredOnce.{declared_stands}
 use Rattle.krates_resolve.proofs.EdgeGrowth.{edge_advances, edge_kept, placed_here, declared_seen, declared_within, used_once, marked_once}
 use Rattle.krates_resolve.proofs.Finding.{finds_target, for_reason}

@@ -8,8 +8,8 @@ use Rattle.krates_resolve.specs.Found.{HasFound, IsEdgeStep, IsToggledIn, MayTog
 use Rattle.krates_rules.specs.Resolved.{DepAt}
 use Rattle.krates_resolve.specs.Trace.{by_two}
 use Rattle.krates_resolve.specs.Links.{HasMarked, IsMarked}
-use Rattle.krates_questions.specs.Lookup.{resolved_view}
-use Rattle.krates_questions.specs.NodeEntry.{parent_of, child_of}
+use Rattle.krates_lookups.specs.Lookup.{resolved_view}
+use Rattle.krates_lookups.specs.NodeEntry.{parent_of, child_of}
 use Rattle.krates_rules.specs.Questions.{edge_between, questions}
 use Rattle.krates_resolve.specs.declared.links.Links.{Links}
 use Rattle.krates_resolve.specs.declared.links.Waiting.{Waiting}

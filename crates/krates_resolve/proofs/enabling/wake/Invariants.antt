@@ -1,8 +1,8 @@
 use Rattle.std.proofs.Common.{◌≡◌}
 use Rattle.krates_resolve.specs.Found.{Advances, IsToggledIn}
 use Rattle.krates_resolve.specs.Links.{HasMarked}
-use Rattle.krates_questions.specs.Lookup.{resolved_view}
-use Rattle.krates_questions.specs.NodeEntry.{parent_of, child_of}
+use Rattle.krates_lookups.specs.Lookup.{resolved_view}
+use Rattle.krates_lookups.specs.NodeEntry.{parent_of, child_of}
 use Rattle.krates_resolve.specs.declared.links.Links.{Links}
 use Rattle.krates_resolve.specs.declared.links.Waiting.{Waiting}
 use Rattle.krates_document.proofs.Seen.{SeenBelow}

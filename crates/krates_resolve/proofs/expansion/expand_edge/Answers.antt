@@ -2,9 +2,9 @@ use Rattle.std.proofs.Common.{sym, ◌∙◌, true, false, inl, inr}
 use Rattle.std.proofs.lemmas.Result.{on_ok_weaker}
 use Rattle.krates_cm.specs.Document.{dep_kind_info_view}
 use Rattle.krates_resolve.specs.Found.{TakenWhen}
-use Rattle.krates_questions.specs.Lookup.{resolved_view}
-use Rattle.krates_questions.specs.NodeEntry.{edge_for}
-use Rattle.krates_questions.proofs.Declared.{optional_declared}
+use Rattle.krates_lookups.specs.Lookup.{resolved_view}
+use Rattle.krates_lookups.specs.NodeEntry.{edge_for}
+use Rattle.krates_lookups.proofs.Declared.{optional_declared}
 use Rattle.krates_questions.proofs.Entries.{heeds, is_ignored, loose, wanted}
 use Rattle.krates_resolve.proofs.Entries.{taken_here, ignored_tried, optional_tried, barred_tried, left_out_tried, kept_tried}
 use Rattle.krates_resolve.proofs.expansion.expand_edge.Goals.{else-not-asked-via-then-not-asked+else-entry-declared, else-not-asked-via-else-not-asked}

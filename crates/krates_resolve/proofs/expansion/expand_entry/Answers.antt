@@ -3,8 +3,8 @@ use Rattle.krates_cm.specs.Document.{dep_kind_info_view}
 use Rattle.krates_cm.specs.declared.resolve.DepKindInfo.{DepKindInfo}
 use Rattle.krates_rules.specs.Facts.{Kept}
 use Rattle.krates_resolve.specs.Found.{IsTried, TakenWhen}
-use Rattle.krates_questions.specs.Lookup.{resolved_view}
-use Rattle.krates_questions.specs.NodeEntry.{declared_in, edge_for}
+use Rattle.krates_lookups.specs.Lookup.{resolved_view}
+use Rattle.krates_lookups.specs.NodeEntry.{declared_in, edge_for}
 use Rattle.krates_resolve.proofs.Growing.{advances_refl, advances_trans, tried_grows}
 use Rattle.krates_resolve.proofs.Steps.{finds_more}
 use Rattle.krates_document.proofs.Seen.{seen_more, each_seen}

@@ -1,15 +1,15 @@
 use Rattle.std.proofs.Common.{get_or, sym, ap, subst}
 use Rattle.krates_rules.specs.Facts.{Id}
 use Rattle.krates_resolve.specs.Found.{IsAny, MayTry}
-use Rattle.krates_questions.specs.Lookup.{resolved_view}
-use Rattle.krates_questions.specs.NodeEntry.{child_of}
+use Rattle.krates_lookups.specs.Lookup.{resolved_view}
+use Rattle.krates_lookups.specs.NodeEntry.{child_of}
 use Rattle.krates_rules.specs.Questions.{edge_between}
 use Rattle.krates_rules.specs.Resolved.{DepAt, id_of}
 use Rattle.krates_resolve.specs.Basis.{FindsEdge}
 use Rattle.krates_resolve.proofs.Growing.{advances_trans}
 use Rattle.krates_resolve.proofs.Growth.{asked_advances, with_links}
 use Rattle.krates_resolve.proofs.Heedings.{child_dep, dep_of_entry, tried_at}
-use Rattle.krates_questions.proofs.NodeParts.{deps_long, entry_here}
+use Rattle.krates_lookups.proofs.NodeParts.{deps_long, entry_here}
 use Rattle.krates_resolve.proofs.heeding.ask_once.Goals as goal
 
 pub is_asked-requires : goal.is_asked-requires

@@ -2,7 +2,7 @@ use Rattle.std.proofs.Common.{get_or, subst}
 use Rattle.std.proofs.lemmas.Result.{on_ok_weaker}
 use Rattle.krates_rules.specs.Facts.{Id}
 use Rattle.krates_resolve.specs.Found.{IsToggledIn}
-use Rattle.krates_questions.specs.Lookup.{resolved_view}
+use Rattle.krates_lookups.specs.Lookup.{resolved_view}
 use Rattle.krates_rules.specs.Resolved.{id_of}
 use Rattle.krates_resolve.proofs.Heedings.{child_dep, found_node}
 use Rattle.krates_resolve.proofs.Waking.{one_way}

@@ -1,5 +1,5 @@
-use Rattle.krates_questions.specs.Lookup.{resolved_view}
-use Rattle.krates_questions.specs.NodeEntry.{krate_of}
+use Rattle.krates_lookups.specs.Lookup.{resolved_view}
+use Rattle.krates_lookups.specs.NodeEntry.{krate_of}
 use Rattle.krates_questions.specs.declared.referent.Referent.{Referent}
 use Rattle.krates_resolve.specs.Found.{Advances}
 use Rattle.krates_resolve.specs.Heeding.{IsWaitingAt}

@@ -5,7 +5,7 @@ use Rattle.std.specs.List.{AllZip}
 use Rattle.krates_cm.specs.Document.{node_view}
 use Rattle.krates_cm.specs.declared.resolve.Node.{Node}
 use Rattle.krates_resolve.specs.Links.{AreNewLinks}
-use Rattle.krates_questions.specs.Lookup.{resolved_view}
+use Rattle.krates_lookups.specs.Lookup.{resolved_view}
 use Rattle.krates_resolve.specs.declared.links.Link.{Link}
 use Rattle.krates_resolve.proofs.LinkLemmas.{links_for_all, all_new}
 use Rattle.krates_document.proofs.Zips.{zip_next, zip_all}

@@ -2,10 +2,10 @@ use Rattle.std.proofs.Common.{◌≡◌, ◌+◌, ◌<◌, [], ◌∷◌, ◌++�
 use Rattle.std.proofs.lemmas.Option.{slice_get_read}
 use Rattle.std.specs.List.{slice_get}
 use Rattle.krates_cm.specs.Document.{text_view}
-use Rattle.krates_questions.specs.Lookup.{resolved_view}
+use Rattle.krates_lookups.specs.Lookup.{resolved_view}
 use Rattle.krates_resolve.specs.declared.selection.EnabledFeature.{EnabledFeature}
 use Rattle.krates_resolve.proofs.FeaturesAt.{HasNumber, HaveImages, as_they_are, itself, enabled_told, listed_long, place_within, numbered_here}
-use Rattle.krates_questions.proofs.NodeParts.{nodes_long, within_vec}
+use Rattle.krates_lookups.proofs.NodeParts.{nodes_long, within_vec}
 use Rattle.krates_document.proofs.Zips.{zip_read, zip_all}
 use Rattle.krates_resolve.proofs.resolution.features_at.Goals as goal
 

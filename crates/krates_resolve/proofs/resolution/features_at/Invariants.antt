@@ -1,5 +1,5 @@
 use Rattle.std.proofs.Common.{take}
-use Rattle.krates_questions.specs.Lookup.{resolved_view}
+use Rattle.krates_lookups.specs.Lookup.{resolved_view}
 use Rattle.krates_resolve.proofs.FeaturesAt.{HaveImages}
 use Rattle.krates_resolve.proofs.resolution.features_at.Given as goal
 

@@ -10,14 +10,14 @@ use Rattle.krates_rules.specs.Facts.{Id, Feature}
 use Rattle.krates_rules.specs.Questions.{questions}
 use Rattle.krates_resolve.specs.Trace.{HasSomeStep, IsTrace}
 use Rattle.krates_resolve.specs.Found.{HaveNumbers, IsEnabled}
-use Rattle.krates_questions.specs.ListedFeatures.{listed_features}
-use Rattle.krates_questions.specs.Lookup.{resolved_view}
+use Rattle.krates_lookups.specs.ListedFeatures.{listed_features}
+use Rattle.krates_lookups.specs.Lookup.{resolved_view}
 use Rattle.krates_rules.specs.Resolved.{Resolved, resolved}
 use Rattle.krates_resolve.specs.Selection.{IsSelection, feature_fact}
 use Rattle.krates_document.specs.declared.ids.Ids.{Ids}
 use Rattle.krates_resolve.specs.declared.selection.Selection.{Selection}
 use Rattle.krates_resolve.proofs.CountedSelection.{AreMoved, IsCountedWhole, counts_each}
-use Rattle.krates_questions.proofs.NodeParts.{nodes_long}
+use Rattle.krates_lookups.proofs.NodeParts.{nodes_long}
 use Rattle.krates_resolve.proofs.Selected.{AreAt, IsWhole, IsInOrder, has_element, selected}
 use Rattle.krates_resolve.proofs.resolution.select.Goals as goal
 

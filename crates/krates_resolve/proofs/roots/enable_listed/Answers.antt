@@ -2,7 +2,7 @@ use Rattle.std.proofs.Common.{Contains, String, Global, map, sym, subst, arith, 
 use Rattle.krates_cm.specs.Document.{Text, text_view}
 use Rattle.krates_rules.specs.Facts.{Crate, Feature}
 use Rattle.krates_resolve.specs.Found.{HasFound, IsEnabledBySome, MayName}
-use Rattle.krates_questions.specs.Lookup.{resolved_view}
+use Rattle.krates_lookups.specs.Lookup.{resolved_view}
 use Rattle.krates_rules.specs.Resolved.{id_of}
 use Rattle.krates_resolve.proofs.Finding.{finds_root_feature, for_reason}
 use Rattle.krates_resolve.proofs.Growing.{advances_refl, advances_trans}

@@ -1,7 +1,7 @@
 use Rattle.std.proofs.Common.{String, Global, string_bytes}
 use Rattle.krates_rules.specs.Facts.{Feature}
 use Rattle.krates_resolve.specs.Found.{Advances, HasFound}
-use Rattle.krates_questions.specs.Lookup.{resolved_view}
+use Rattle.krates_lookups.specs.Lookup.{resolved_view}
 use Rattle.krates_rules.specs.Resolved.{id_of}
 use Rattle.krates_document.proofs.Seen.{SeenBelow}
 use Rattle.krates_resolve.proofs.roots.enable_listed.Given as goal

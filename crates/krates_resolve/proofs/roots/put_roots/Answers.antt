@@ -2,7 +2,7 @@ use Rattle.std.proofs.Common.{List, All, true, false, sym, subst}
 use Rattle.std.proofs.lemmas.Result.{on_ok_weaker}
 use Rattle.krates_ids.specs.Identity.{Identity}
 use Rattle.krates_resolve.specs.Found.{IsRooted}
-use Rattle.krates_questions.specs.Lookup.{resolved_view}
+use Rattle.krates_lookups.specs.Lookup.{resolved_view}
 use Rattle.krates_rules.specs.Resolved.{id_of, IsMember}
 use Rattle.krates_rules.specs.Roots.{IsRoot}
 use Rattle.krates_questions.proofs.RootLemmas.{are_members}

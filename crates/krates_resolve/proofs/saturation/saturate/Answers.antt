@@ -2,8 +2,8 @@ use Rattle.std.proofs.Common.{ℕ, List, length, sym, ap, ◌∙◌}
 use Rattle.std.proofs.lemmas.List.{length-map}
 use Rattle.krates_cm.specs.Document.{Text, node_view}
 use Rattle.krates_graph.specs.Agenda.{PutNumbers}
-use Rattle.krates_questions.specs.FeatureTable.{listed_view}
-use Rattle.krates_questions.specs.Lookup.{resolved_view}
+use Rattle.krates_lookups.specs.FeatureTable.{listed_view}
+use Rattle.krates_lookups.specs.Lookup.{resolved_view}
 use Rattle.krates_resolve.proofs.Saturated.{saturated, sound_start, done_start}
 use Rattle.krates_resolve.proofs.Counted.{counted_end, counted_start}
 use Rattle.krates_resolve.proofs.saturation.saturate.Goals as goal

@@ -1,0 +1,13 @@
+pub mod Declared
+pub mod Distinct
+pub mod FeatureNames
+pub mod FeatureNumbers
+pub mod LibraryNames
+pub mod ListPlaces
+pub mod Lookups
+pub mod NodeNumbers
+pub mod NodeParts
+pub mod NumberedPlaces
+pub mod RenamedPlaces
+pub mod Searches
+pub mod SeenInOrder

@@ -1,0 +1,11 @@
+pub mod CrateTable
+pub mod FeatureOrder
+pub mod FeatureTable
+pub mod FeatureValues
+pub mod Library
+pub mod ListedFeatures
+pub mod Lookup
+pub mod NameIndex
+pub mod NodeEntry
+pub mod Numbering
+pub mod Renamed
