@@ -64,7 +64,7 @@ kept_facts t s steps tr crates k d lt =
     let x = get_or steps k d in
     let w = right_of (IsShown r) steps tr.steps k x tr.shown (slice_get-get_or steps k d lt) in
     let derived = contained_derived (questions r s) tr.steps tr.follows w.0 (contains_at tr.steps k w.0 w.1) in
-    record { fact = w.0.fact; names = w.2.fact; kept = kept_crates (questions r s) r (kids_in t) crates x.fact w.0.fact w.2.fact derived }
+    record { fact = w.0.fact; names = w.2.fact; kept = kept_crates (questions r s) r (kids_in t) crates (λ i h. (h.node, h.has_node)) x.fact w.0.fact w.2.fact derived }
 
 -- an element at a place
 kept_at : {A : Type 0} (xs : List A) (j : ℕ) → j < length xs → (y : A) × (slice_get xs j ≡ Some y)

@@ -5,7 +5,7 @@ use Rattle.std.specs.Bool.{⊤}
 use Rattle.std.proofs.lemmas.List.{get_or-map}
 use Rattle.std.proofs.lemmas.Map.Keys.{Less-from_sorted}
 use Rattle.std.specs.List.Sorted.{IsStrictlySortedBy}
-use Rattle.krates_cm.specs.Document.{Text}
+use Rattle.krates_cm.specs.Document.{NodeModel, Text}
 use Rattle.krates_document.proofs.DistinctIds.{OrderTellsSame, same_of}
 use Rattle.krates_explain.specs.KeptFacts.{KeptModel, KeepsCrate, KeepsEdge, Enables, Toggles, IsBelow, edge_in, fact_in, id_at, no_id}
 use Rattle.krates_explain.specs.Tables.{HasKeptCrates, IsKeptIn}
@@ -15,7 +15,7 @@ use Rattle.krates_resolve.specs.declared.trace.NumberedFact.{NumberedFact}
 use Rattle.krates_resolve.specs.declared.trace.NumberedFact.TheVariants as numbered
 use Rattle.krates_rules.specs.Derivation.{Among, Derivable, follows}
 use Rattle.krates_rules.specs.Facts.{Id, Edge, Fact, Crate, Feature, Kept, Toggled}
-use Rattle.krates_rules.specs.Resolved.{Resolved, id_of}
+use Rattle.krates_rules.specs.Resolved.{HasNode, Resolved, id_of}
 use Rattle.krates_rules.specs.Rules.{Questions, Rule, feature_crate, asked, toggled_strongly, required, target, toggled_weakly}
 
 -- ---- what a fact is derived from
@@ -30,17 +30,17 @@ crate_of_feature q p f d = follows (feature_crate {p = p} {f = f}) (one q (Featu
 child_kept : (q : Questions) (e : Edge) → Derivable q (Kept e) → Derivable q (Crate e.child)
 child_kept q e d = follows (target {e = e}) (one q (Kept e) d)
 
--- the crate with the dependency is kept
+-- the crate with the dependency is kept, and that to which it leads stands
 abbrev ParentFrom : Questions → Fact → Type 0
-ParentFrom q (Kept e) = Derivable q (Crate e.parent)
+ParentFrom q (Kept e) = Derivable q (Crate e.parent) × q.Stands e.child
 ParentFrom q _ = ⊤
 
 parent_from : (q : Questions) (n : ℕ) (ps : List Fact) (f : Fact) → Rule q n ps f → ((g : Fact) → Among g ps → Derivable q g) → ParentFrom q f
-parent_from q _ _ _ (asked {e} {f} {d} x o) ds = crate_of_feature q e.parent f (ds (Feature e.parent f) (inl refl))
-parent_from q _ _ _ (required {e} {d} o h) ds = ds (Crate e.parent) (inl refl)
+parent_from q _ _ _ (asked {e} {f} {d} x o) ds = (crate_of_feature q e.parent f (ds (Feature e.parent f) (inl refl)), o.stands)
+parent_from q _ _ _ (required {e} {d} o h) ds = (ds (Crate e.parent) (inl refl), o.stands)
 parent_from q _ _ _ _ ds = tt
 
-parent_kept : (q : Questions) (e : Edge) → Derivable q (Kept e) → Derivable q (Crate e.parent)
+parent_kept : (q : Questions) (e : Edge) → Derivable q (Kept e) → Derivable q (Crate e.parent) × q.Stands e.child
 parent_kept q e (follows r ds) = parent_from q _ _ (Kept e) r ds
 
 -- a feature is toggled through a kept edge
@@ -49,24 +49,26 @@ ToggledFrom q (Toggled p c g) = Derivable q (Crate p) × Derivable q (Crate c)
 ToggledFrom q _ = ⊤
 
 toggled_from : (q : Questions) (n : ℕ) (ps : List Fact) (f : Fact) → Rule q n ps f → ((g : Fact) → Among g ps → Derivable q g) → ToggledFrom q f
-toggled_from q _ _ _ (toggled_strongly {e} {f} {g} {c} r t l) ds = (let k = ds (Kept e) (inr (inl refl)) in (parent_kept q e k, child_kept q e k))
-toggled_from q _ _ _ (toggled_weakly {e} {f} {g} {c} r t l) ds = (let k = ds (Kept e) (inr (inl refl)) in (parent_kept q e k, child_kept q e k))
+toggled_from q _ _ _ (toggled_strongly {e} {f} {g} {c} r t l) ds = (let k = ds (Kept e) (inr (inl refl)) in ((parent_kept q e k).0, child_kept q e k))
+toggled_from q _ _ _ (toggled_weakly {e} {f} {g} {c} r t l) ds = (let k = ds (Kept e) (inr (inl refl)) in ((parent_kept q e k).0, child_kept q e k))
 toggled_from q _ _ _ _ ds = tt
 
 toggled_kept : (q : Questions) (p c : Id) (g : Text) → Derivable q (Toggled p c g) → Derivable q (Crate p) × Derivable q (Crate c)
 toggled_kept q p c g (follows r ds) = toggled_from q _ _ (Toggled p c g) r ds
 
--- the crates of a derivable fact that has numbers are kept
-pub kept_crates : (q : Questions) (r : Resolved) (kids : List Identity) → ((i : Id) → Derivable q (Crate i) → IsKeptIn kids i) → (n : NumberedFact) (f : Fact) → Names r n f → Derivable q f → HasKeptCrates kids f
-kept_crates q r kids crates (numbered.Crate place) f names d = subst (HasKeptCrates kids) (sym names.is) (crates names.krate (subst (Derivable q) names.is d))
-kept_crates q r kids crates (numbered.Feature number) f names d = subst (HasKeptCrates kids) (sym names.is) (crates names.krate (crate_of_feature q names.krate names.name (subst (Derivable q) names.is d)))
-kept_crates q r kids crates (numbered.Kept place index kind) f names d =
+-- the crates of a derivable fact that has numbers are kept, where a crate that stands has a node
+pub kept_crates : (q : Questions) (r : Resolved) (kids : List Identity) → ((i : Id) → Derivable q (Crate i) → IsKeptIn kids i) → ((i : Id) → q.Stands i → (n : NodeModel) × HasNode r i n)
+    → (n : NumberedFact) (f : Fact) → Names r n f → Derivable q f → HasKeptCrates r kids f
+kept_crates q r kids crates nodes (numbered.Crate place) f names d = subst (HasKeptCrates r kids) (sym names.is) (crates names.krate (subst (Derivable q) names.is d))
+kept_crates q r kids crates nodes (numbered.Feature number) f names d = subst (HasKeptCrates r kids) (sym names.is) (crates names.krate (crate_of_feature q names.krate names.name (subst (Derivable q) names.is d)))
+kept_crates q r kids crates nodes (numbered.Kept place index kind) f names d =
     let e = names.edge in
     let k = subst (Derivable q) names.is d in
-    subst (HasKeptCrates kids) (sym names.is) (crates e.parent (parent_kept q e k), crates e.child (child_kept q e k))
-kept_crates q r kids crates (numbered.Toggled place number) f names d =
+    let p = parent_kept q e k in
+    subst (HasKeptCrates r kids) (sym names.is) (crates e.parent p.0, (crates e.child (child_kept q e k), nodes e.child p.1))
+kept_crates q r kids crates nodes (numbered.Toggled place number) f names d =
     let k = toggled_kept q names.by names.krate names.name (subst (Derivable q) names.is d) in
-    subst (HasKeptCrates kids) (sym names.is) (crates names.by k.0, crates names.krate k.1)
+    subst (HasKeptCrates r kids) (sym names.is) (crates names.by k.0, crates names.krate k.1)
 
 -- ---- numbers
 

@@ -1,27 +1,28 @@
 -- The numbers of kept crates, and what stands at the places of a document.
-use Rattle.std.proofs.Common.{◌≡◌, ℕ, zero, suc, ◌<◌, List, [], ◌∷◌, ◌++◌, ◌+◌, take, length, get_or, map, Option, Some, None, option_map, refl, sym, ap, ◌∙◌, subst, arith}
+use Rattle.std.proofs.Common.{◌≡◌, ℕ, ◌<◌, List, [], ◌∷◌, ◌++◌, ◌+◌, take, length, get_or, map, Option, Some, None, IfSome, option_map, refl, sym, ap, ◌∙◌, subst, arith}
 use Rattle.std.proofs.lemmas.List.{length-map, take_more}
 use Rattle.std.proofs.lemmas.Option.{slice_get-map, slice_get_read, slice_get_within, get_or_from_slice_get, same_Some}
-use Rattle.std.specs.Global.{Vec}
 use Rattle.std.specs.List.{slice_get}
 use Rattle.krates_cm.specs.Document.{NodeModel, NodeDepModel, Text}
 use Rattle.krates_explain.specs.KeptFacts.{id_at, no_id}
-use Rattle.krates_explain.specs.Tables.{AreNumbersIn, IsKeptIn, IsKeptNode, IsNumberAt, IsTables, document_in}
+use Rattle.krates_explain.specs.Tables.{AreNumbersIn, IsChildAt, IsKeptChild, IsKeptIn, IsKeptNode, IsKeptWithNode, IsNumberAt, IsTables, document_in, kids_in}
 use Rattle.krates_explain.specs.declared.keys.Tables.{Tables}
 use Rattle.krates_explain.proofs.FactPlaces.{zip_long}
+use Rattle.krates_explain.proofs.PickedSteps.{seen_back}
 use Rattle.krates_ids.specs.Identity.{Identity, Reads}
-use Rattle.krates_lookups.proofs.Lookups.{at_place, one_id}
-use Rattle.krates_lookups.proofs.NodeParts.{dep_ids_here, nodes_long}
-use Rattle.krates_lookups.specs.CrateTable.{IsNumberOf}
+use Rattle.krates_lookups.proofs.Lookups.{one_id}
+use Rattle.krates_lookups.specs.CrateTable.{IsNumberOf, at_number}
 use Rattle.krates_lookups.specs.FeatureTable.{listed_view}
 use Rattle.krates_lookups.specs.ListedFeatures.{listed_features}
-use Rattle.krates_lookups.specs.Lookup.{IsLookup, resolved_view}
+use Rattle.krates_lookups.specs.Lookup.{IsLookup, IsNumberIn, resolved_view}
 use Rattle.krates_lookups.specs.declared.feature_table.ListedFeature.{ListedFeature}
 use Rattle.krates_lookups.specs.declared.lookup.Lookup.{Lookup}
+use Rattle.krates_rules.proofs.OnlyOne.{place_in}
 use Rattle.krates_rules.proofs.Readings.{ReadsOnce, right_of}
-use Rattle.krates_rules.specs.Admission.{AreDepIds, dep_texts}
+use Rattle.krates_rules.proofs.Standings.{contains_at}
+use Rattle.krates_rules.specs.Admission.{node_texts}
 use Rattle.krates_rules.specs.Facts.{Id}
-use Rattle.krates_rules.specs.Resolved.{DepAt, NodeAt, id_of}
+use Rattle.krates_rules.specs.Resolved.{DepAt, HasNode, ReadsAs, Resolved, id_of}
 
 -- ---- what a search answers
 
@@ -54,14 +55,41 @@ numbers_next kids ids i k old new n lt is here pushed h =
     let more : take (i + 1) ids ≡ take i ids ++ k ∷ [] = take_more ids i k lt ∙ ap (λ (z : Identity). take i ids ++ z ∷ []) (sym is) in
     rw (more, pushed) (numbers_push kids (take i ids) old k n h here)
 
--- ---- what stands at a place
-
--- the node at the place has the id there
-pub node_there : (d : Lookup) (place : ℕ) (k : Identity) → IsLookup d → place < length d.ids.now.nodes.items → k ≡ get_or d.ids.now.nodes.items place k → NodeAt (resolved_view d) (id_of k) place
-node_there d place k h lt is =
+-- a crate that has a node has a number in the document
+node_has : ReadsOnce → (d : Lookup) (i : Id) → IsLookup d → (n : NodeModel) × HasNode (resolved_view d) i n → IsNumberIn d i None → ⊥
+node_has once d i h (n, has) none =
+    let g = (resolved_view d).graph in
     let nodes = d.ids.now.nodes.items in
-    let w = at_place (λ (n : NodeModel). n.id) (resolved_view d).graph.nodes nodes (id_of k) place h.ids.nodes (record { there = k; at = slice_get_read nodes (length nodes) place k refl lt is; same = refl }) in
-    record { node = w.0; at = w.1; id = w.2 }
+    let at = place_in g.nodes n has.among in
+    let id : NodeModel → Text = λ x. x.id in
+    let text : slice_get (node_texts g) at.0 ≡ Some n.id = slice_get-map id g.nodes at.0 ∙ ap (option_map id) at.1 in
+    let kid = right_of Reads (node_texts g) nodes at.0 n.id h.ids.nodes text in
+    let same : id_of kid.0 ≡ i = ap id_of (once n.id kid.0 has.id.read kid.2 has.id.reads) ∙ has.id.same in
+    let there = place_in (map id_of d.table.ids.items) (id_of kid.0) (h.table.nodes.among kid.0 (contains_at nodes at.0 kid.0 kid.1)) in
+    none there.0 (there.1 ∙ ap (λ (x : Id). Some x) same)
+
+-- and, where it is kept, one among the kept ones
+kept_number : ReadsOnce → (t : Tables) (i : Id) (number answer : Option ℕ) → IsTables t → IsKeptWithNode (document_in t) (kids_in t) i → IsNumberIn t.lookup.now i number → answer ≡ at_number t.numbers.now number → HasNumber t.krates.now i answer
+kept_number once t i None answer h kept n is = absurd (node_has once t.lookup.now i h.lookup kept.1 n)
+kept_number once t i (Some m) answer h kept n is =
+    let ids = t.lookup.now.table.ids.items in
+    let kids = map id_of t.krates.now in
+    let kid = seen_back id_of ids m i n in
+    let w = right_of (λ (k : Identity) (o : Option ℕ). IsNumberOf kids (id_of k) o) ids t.numbers.now m kid.0 h.numbers kid.1 in
+    let answered : w.0 ≡ answer = sym (is ∙ get_or_from_slice_get t.numbers.now m w.0 None w.1) in
+    has_number t.krates.now i answer kept.0 (subst (IsNumberOf kids i) answered (subst (λ (j : Id). IsNumberOf kids j w.0) kid.2 w.2))
+
+numbers_long : (t : Tables) → IsTables t → length t.numbers.now ≡ length t.lookup.now.table.ids.items
+numbers_long t h = zip_long (λ (i : Identity) (n : Option ℕ). IsNumberOf (map id_of t.krates.now) (id_of i) n) t.lookup.now.table.ids.items t.numbers.now h.numbers
+
+-- each number of the document has a place in the table
+pub number_within : (t : Tables) (i : Id) (number : Option ℕ) → IsTables t → IsNumberIn t.lookup.now i number → IfSome number (λ n. n < length t.numbers.now)
+number_within t i None h n = tt
+number_within t i (Some m) h n =
+    let ids = t.lookup.now.table.ids.items in
+    omega (arith, slice_get_within (map id_of ids) m i n, length-map ids id_of, numbers_long t h)
+
+-- ---- what stands at a place
 
 -- the number of the crate whose node stands at the place, in a table of them
 pub record HasNumberAt (t : Tables) (place : ℕ) (answer : Option ℕ) : Type 0 where
@@ -69,57 +97,41 @@ pub record HasNumberAt (t : Tables) (place : ℕ) (answer : Option ℕ) : Type 0
   pub answered : answer ≡ Some number
   pub is : IsNumberAt t place number
 
-what_stands : {A : Type 0} (xs : List A) (j : ℕ) → j < length xs → (y : A) × (slice_get xs j ≡ Some y)
-what_stands [] j low = absurd (omega (arith, low))
-what_stands (x ∷ xs) zero low = (x, refl)
-what_stands (x ∷ xs) (suc j) low = what_stands xs j (omega (arith, low))
-
--- the node of a kept crate has its place among the ids of the nodes
-pub node_within : (t : Tables) (place : ℕ) → IsTables t → IsKeptNode t place → place < length t.lookup.now.ids.now.nodes.items
-node_within t place h k =
-    subst (λ n. place < n) (nodes_long t.lookup.now h.lookup).0 (slice_get_within (document_in t).graph.nodes place k.node.node k.node.at)
-
-pub numbers_long : (t : Tables) → IsTables t → length t.numbers.now ≡ length t.lookup.now.ids.now.nodes.items
-numbers_long t h = zip_long (λ (i : Identity) (n : Option ℕ). IsNumberOf (map id_of t.krates.now) (id_of i) n) t.lookup.now.ids.now.nodes.items t.numbers.now h.numbers
-
-pub number_at : ReadsOnce → (t : Tables) (place : ℕ) (answer : Option ℕ) → IsTables t → IsKeptNode t place → slice_get t.numbers.now place ≡ Some answer → HasNumberAt t place answer
-number_at once t place answer h k read =
-    let d = t.lookup.now in
-    let nodes = d.ids.now.nodes.items in
-    let lt = node_within t place h k in
-    let y = what_stands nodes place lt in
-    let there = node_there d place y.0 h.lookup lt (sym (get_or_from_slice_get nodes place y.0 y.0 y.1)) in
-    let same : k.krate ≡ id_of y.0 = one_id once (document_in t) k.krate (id_of y.0) place k.node there in
-    let w = right_of (λ (i : Identity) (n : Option ℕ). IsNumberOf (map id_of t.krates.now) (id_of i) n) nodes t.numbers.now place y.0 h.numbers y.1 in
-    let answered : w.0 ≡ answer = same_Some w.0 answer (sym w.1 ∙ read) in
-    let n = has_number t.krates.now (id_of y.0) w.0 (subst (IsKeptIn t.krates.now) same k.kept) w.2 in
+pub number_at : ReadsOnce → (t : Tables) (place : ℕ) (number answer : Option ℕ) → IsTables t → (k : IsKeptNode t place) → IsNumberIn t.lookup.now k.krate number → answer ≡ at_number t.numbers.now number → HasNumberAt t place answer
+number_at once t place number answer h k n is =
+    let r = document_in t in
+    let has = (k.node.node, record { among = contains_at r.graph.nodes place k.node.node k.node.at; id = k.node.id }) in
+    let w = kept_number once t k.krate number answer h (k.kept, has) n is in
     record {
-      number = n.number;
-      answered = sym answered ∙ n.answered;
-      is = record { is = λ i at. n.id ∙ one_id once (document_in t) (id_of y.0) i place there at; below = n.below };
+      number = w.number;
+      answered = w.answered;
+      is = record { is = λ i at. w.id ∙ one_id once r k.krate i place k.node at; below = w.below };
     }
 
--- the ids at the place are those of the dependencies of the node there
-pub child_ids : (d : Lookup) (p c : Id) (place index : ℕ) (ids : Vec Identity) → IsLookup d → (w : DepAt (resolved_view d) p c place index) → place < length d.ids.now.deps.items → ids ≡ get_or d.ids.now.deps.items place ids
-    → AreDepIds w.node.node ids.items
-child_ids d p c place index ids h w lt is =
-    let lists = d.ids.now.deps.items in
-    let items : Vec Identity → List Identity = λ v. v.items in
-    let list = slice_get-map items lists place ∙ ap (option_map items) (slice_get_read lists (length lists) place ids refl lt is) in
-    dep_ids_here (resolved_view d).graph (map items lists) place w.node.node ids.items h.ids.deps w.node.at list
+-- the number of the crate to which the dependency at these places leads
+pub record HasNumberFor (t : Tables) (place index : ℕ) (answer : Option ℕ) : Type 0 where
+  pub number : ℕ
+  pub answered : answer ≡ Some number
+  pub is : IsChildAt t place index number
 
--- each dependency has an id
-pub child_read : (n : NodeModel) (ids : List Identity) (index : ℕ) (dep : NodeDepModel) → AreDepIds n ids → slice_get n.deps index ≡ Some dep → (y : Identity) × (slice_get ids index ≡ Some y) × Reads dep.pkg y
-child_read n ids index dep z at =
-    let pkg : NodeDepModel → Text = λ e. e.pkg in
-    right_of Reads (dep_texts n) ids index dep.pkg z.read (slice_get-map pkg n.deps index ∙ ap (option_map pkg) at)
+-- a dependency leads to only one crate
+one_child : ReadsOnce → (r : Resolved) (p q c e : Id) (place index : ℕ) → DepAt r p c place index → DepAt r q e place index → c ≡ e
+one_child once r p q c e place index a b =
+    let n : a.node.node ≡ b.node.node = same_Some a.node.node b.node.node (sym a.node.at ∙ b.node.at) in
+    let there : slice_get a.node.node.deps index ≡ Some b.dep = ap (λ (m : NodeModel). slice_get m.deps index) n ∙ b.at in
+    let d : a.dep ≡ b.dep = same_Some a.dep b.dep (sym a.at ∙ there) in
+    let reads = subst (λ (x : NodeDepModel). ReadsAs x.pkg e) (sym d) b.id in
+    sym a.id.same ∙ ap id_of (once a.dep.pkg a.id.read reads.read a.id.reads reads.reads) ∙ reads.same
 
--- it is that of the crate that the dependency leads to
-pub child_is : ReadsOnce → (d : Lookup) (p c : Id) (place index : ℕ) (ids : List Identity) (k : Identity) → (w : DepAt (resolved_view d) p c place index) → AreDepIds w.node.node ids → index < length ids → k ≡ get_or ids index k → id_of k ≡ c
-child_is once d p c place index ids k w z lt is =
-    let y = child_read w.node.node ids index w.dep z w.at in
-    let here : k ≡ y.0 = same_Some k y.0 (sym (slice_get_read ids (length ids) index k refl lt is) ∙ y.1) in
-    ap id_of (here ∙ once w.dep.pkg y.0 w.id.read y.2 w.id.reads) ∙ w.id.same
+pub child_number : ReadsOnce → (t : Tables) (place index : ℕ) (number answer : Option ℕ) → IsTables t → (k : IsKeptChild t place index) → IsNumberIn t.lookup.now k.child number → answer ≡ at_number t.numbers.now number
+    → HasNumberFor t place index answer
+child_number once t place index number answer h k n is =
+    let w = kept_number once t k.child number answer h k.kept n is in
+    record {
+      number = w.number;
+      answered = w.answered;
+      is = record { is = λ p c at. w.id ∙ one_child once (document_in t) k.parent p k.child c place index k.at at; below = w.below };
+    }
 
 -- the feature of a number, as the code finds it
 pub listed_there : (d : Lookup) (number : ℕ) (x : ListedFeature) → IsLookup d → number < length d.features.listed.items → x ≡ get_or d.features.listed.items number x

@@ -1,7 +1,7 @@
 -- Numbered facts by the numbers of the kept crates.
 use Rattle.std.specs.Prelude.{◌≡◌, ℕ, ◌<◌, List, All, Contains, Option, length, map}
 use Rattle.std.specs.List.{AllZip}
-use Rattle.krates_cm.specs.Document.{Text}
+use Rattle.krates_cm.specs.Document.{NodeModel, Text}
 use Rattle.krates_explain.specs.Explanation.{AreBelow, uses_in}
 use Rattle.krates_explain.specs.KeptFacts.{IsBelow, fact_in, facts_in, id_at, steps_in}
 use Rattle.krates_explain.specs.Keys.{edge_view, key_view}
@@ -19,7 +19,7 @@ use Rattle.krates_resolve.specs.declared.trace.NumberedFact.{NumberedFact}
 use Rattle.krates_resolve.specs.declared.trace.NumberedStep.{NumberedStep}
 use Rattle.krates_rules.specs.Facts.{Id, Edge, Fact, Crate, Feature, Kept, Toggled, Lost}
 use Rattle.krates_rules.specs.Questions.{questions}
-use Rattle.krates_rules.specs.Resolved.{NodeAt, Resolved, StandsAt, id_of}
+use Rattle.krates_rules.specs.Resolved.{DepAt, HasNode, NodeAt, Resolved, StandsAt, id_of}
 use Rattle.krates_rules.specs.Setting.{SettingModel}
 use Rattle.krates_rules.specs.StepParts.{HaveOwnFacts}
 use Rattle.krates_rules.specs.Steps.{EachFollows}
@@ -35,11 +35,11 @@ kids_in t = t.krates.now
 abbrev pub AreNumbersIn : List Identity → List Identity → List (Option ℕ) → Type 0
 AreNumbersIn kids ids numbers = AllZip (λ (i : Identity) (n : Option ℕ). IsNumberOf (map id_of kids) (id_of i) n) ids numbers
 
--- the document is looked up, the crates are in order, and the numbers are those of the crates of its nodes
+-- the document is looked up, the crates are in order, and those of the document have their numbers among them
 pub record IsTables (t : Tables) : Type 0 where
   pub lookup : IsLookup t.lookup.now
   pub ascending : AreNumbered (map id_of t.krates.now)
-  pub numbers : AreNumbersIn t.krates.now t.lookup.now.ids.now.nodes.items t.numbers.now
+  pub numbers : AreNumbersIn t.krates.now t.lookup.now.table.ids.items t.numbers.now
 
 -- ---- what is kept
 
@@ -47,13 +47,17 @@ pub record IsTables (t : Tables) : Type 0 where
 abbrev pub IsKeptIn : List Identity → Id → Type 0
 IsKeptIn kids i = (n : ℕ) × StandsAt kids i n
 
--- the crates of the fact are
-abbrev pub HasKeptCrates : List Identity → Fact → Type 0
-HasKeptCrates kids (Crate i) = IsKeptIn kids i
-HasKeptCrates kids (Feature i f) = IsKeptIn kids i
-HasKeptCrates kids (Kept e) = IsKeptIn kids e.parent × IsKeptIn kids e.child
-HasKeptCrates kids (Toggled by i f) = IsKeptIn kids by × IsKeptIn kids i
-HasKeptCrates kids (Lost c) = ⊥
+-- a crate with the id is, and has a node in the document
+abbrev pub IsKeptWithNode : Resolved → List Identity → Id → Type 0
+IsKeptWithNode r kids i = IsKeptIn kids i × ((n : NodeModel) × HasNode r i n)
+
+-- the crates of the fact are kept, and that to which an edge leads has a node
+abbrev pub HasKeptCrates : Resolved → List Identity → Fact → Type 0
+HasKeptCrates r kids (Crate i) = IsKeptIn kids i
+HasKeptCrates r kids (Feature i f) = IsKeptIn kids i
+HasKeptCrates r kids (Kept e) = IsKeptIn kids e.parent × IsKeptWithNode r kids e.child
+HasKeptCrates r kids (Toggled by i f) = IsKeptIn kids by × IsKeptIn kids i
+HasKeptCrates r kids (Lost c) = ⊥
 
 -- the node of a kept crate stands at the place
 pub record IsKeptNode (t : Tables) (place : ℕ) : Type 0 where
@@ -68,18 +72,25 @@ pub record IsKeptFeature (t : Tables) (number : ℕ) : Type 0 where
   pub at : FeatureAt (document_in t) krate name number
   pub kept : IsKeptIn (kids_in t) krate
 
+-- the dependency at these places leads to a kept crate
+pub record IsKeptChild (t : Tables) (place index : ℕ) : Type 0 where
+  pub parent : Id
+  pub child : Id
+  pub at : DepAt (document_in t) parent child place index
+  pub kept : IsKeptWithNode (document_in t) (kids_in t) child
+
 -- the edge at these places is one between kept crates
 pub record IsKeptEdge (t : Tables) (place index kind : ℕ) : Type 0 where
   pub edge : Edge
   pub at : EdgeAt (document_in t) edge place index kind
   pub parent : IsKeptIn (kids_in t) edge.parent
-  pub child : IsKeptIn (kids_in t) edge.child
+  pub child : IsKeptWithNode (document_in t) (kids_in t) edge.child
 
 -- the fact is one about kept crates
 pub record IsKeptFact (t : Tables) (n : NumberedFact) : Type 0 where
   pub fact : Fact
   pub names : Names (document_in t) n fact
-  pub kept : HasKeptCrates (kids_in t) fact
+  pub kept : HasKeptCrates (document_in t) (kids_in t) fact
 
 abbrev pub AreKeptFacts : Tables → List NumberedStep → Type 0
 AreKeptFacts t steps = All (λ (x : NumberedStep). IsKeptFact t x.fact) steps
@@ -89,6 +100,11 @@ AreKeptFacts t steps = All (λ (x : NumberedStep). IsKeptFact t x.fact) steps
 -- the crate with this number is that of the node at the place
 pub record IsNumberAt (t : Tables) (place n : ℕ) : Type 0 where
   pub is : (i : Id) → NodeAt (document_in t) i place → id_at (kids_in t) n ≡ i
+  pub below : n < length (kids_in t)
+
+-- the crate with this number is that to which the dependency at these places leads
+pub record IsChildAt (t : Tables) (place index n : ℕ) : Type 0 where
+  pub is : (p c : Id) → DepAt (document_in t) p c place index → id_at (kids_in t) n ≡ c
   pub below : n < length (kids_in t)
 
 -- the key is that of the feature of the number

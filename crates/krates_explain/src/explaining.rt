@@ -39,7 +39,7 @@ pub fn kept_steps<'a>(
     laws::one_reading();
     laws::comparison();
     step_laws::firsts();
-    let krate_numbers = numbers_in(basis.alloc, krates, &basis.lookup.ids.nodes)?;
+    let krate_numbers = numbers_in(basis.alloc, krates, &basis.lookup.table.ids)?;
     let tables = Tables {
         lookup: basis.lookup,
         krates,

@@ -1,21 +1,20 @@
 //! Numbered facts by the numbers of the kept crates.
 
-ghost use Rattle.std.specs.Prelude.{◌≡◌, ◌<◌, IfOk, Some, length, map, slice_get};
+ghost use Rattle.std.specs.Prelude.{◌≡◌, IfOk, map};
 ghost use Rattle.std.specs.List.{AllZip};
 ghost use Rattle.krates_cm.specs.Document.{dep_kind_info_view};
-ghost use Rattle.krates_explain.specs.KeptFacts.{id_at};
-ghost use Rattle.krates_explain.specs.Tables.{AreKeptFacts, AreNumbersIn, IsEdgeIn, IsFeatureIn, IsKeptEdge, IsKeptFact, IsKeptFeature, IsKeptIn, IsKeptNode, IsKeyOf, IsNumberAt, IsTables, numbered_facts};
+ghost use Rattle.krates_explain.specs.Tables.{AreKeptFacts, AreNumbersIn, IsChildAt, IsEdgeIn, IsFeatureIn, IsKeptChild, IsKeptEdge, IsKeptFact, IsKeptFeature, IsKeptNode, IsKeyOf, IsNumberAt, IsTables, numbered_facts};
 ghost use Rattle.krates_lookups.specs.CrateTable.{AreNumbered, IsNumberOf};
 ghost use Rattle.krates_lookups.specs.Lookup.{IsLookup, resolved_view};
 ghost use Rattle.krates_resolve.specs.Trace.{EdgeAt};
-ghost use Rattle.krates_rules.specs.Facts.{Edge, Id};
+ghost use Rattle.krates_rules.specs.Facts.{Edge};
 ghost use Rattle.krates_rules.specs.Questions.{kind_info_of};
-ghost use Rattle.krates_rules.specs.Resolved.{DepAt, id_of};
+ghost use Rattle.krates_rules.specs.Resolved.{id_of};
 
 use crate::key::{EdgeKey, FactKey, FeatureKey, ToggleKey, purpose_of};
 use krates_cm::DepKindInfo;
 use krates_ids::{Kid, laws};
-use krates_lookups::lookup::Lookup;
+use krates_lookups::lookup::{Lookup, at_number};
 use krates_resolve::{NumberedFact, NumberedStep};
 use std::alloc::{AllocError, Global};
 
@@ -26,7 +25,7 @@ pub(crate) struct Tables<'a, 's> {
     pub lookup: &'s Lookup<'a>,
     /// The kept crates.
     pub krates: &'s [Kid],
-    /// By the place of a node, the number of its crate, where that is kept.
+    /// By the number of a crate in the document, its number among the kept ones, where it is kept.
     pub numbers: &'s [Option<usize>],
 }
 
@@ -100,18 +99,25 @@ fn crate_at(tables: &Tables<'_, '_>, place: usize) -> usize
     ensures { IsNumberAt tables.now place result }
 {
     laws::one_reading();
-    let Some(number) = number_under(tables.numbers, place) else {
+    let number = tables.lookup.table.node_numbers[place];
+    let Some(kept) = at_number(tables.numbers, number) else {
         unreachable!()
     };
-    number
+    kept
 }
 
-/// What a table of numbers has for a place.
-fn number_under(numbers: &[Option<usize>], place: usize) -> Option<usize>
-    requires { place < length numbers.now }
-    ensures { slice_get numbers.now place ≡ Some result }
+/// The number of the crate that a dependency leads to.
+fn child_at(tables: &Tables<'_, '_>, place: usize, index: usize) -> usize
+    requires tables { IsTables tables.now }
+    requires kept { IsKeptChild tables.now place index }
+    ensures { IsChildAt tables.now place index result }
 {
-    numbers[place]
+    laws::one_reading();
+    let number = tables.lookup.table.dep_numbers[place][index];
+    let Some(kept) = at_number(tables.numbers, number) else {
+        unreachable!()
+    };
+    kept
 }
 
 /// The key of the feature of a number.
@@ -134,10 +140,9 @@ fn edge_at<'a>(tables: &Tables<'a, '_>, place: usize, index: usize, kind: usize)
     ensures { IsEdgeIn tables.now place index kind result }
 {
     let info = info_at(tables.lookup, place, index, kind);
-    let child = child_at(tables.lookup, place, index);
     EdgeKey {
         parent: crate_at(tables, place),
-        child: number_of(tables.krates, child),
+        child: child_at(tables, place, index),
         purpose: purpose_of(info.kind),
         cfg: &info.target,
     }
@@ -151,27 +156,4 @@ fn info_at<'a>(lookup: &Lookup<'a>, place: usize, index: usize, kind: usize) -> 
         → dep_kind_info_view result.now ≡ kind_info_of e }
 {
     &lookup.resolve.nodes[place].deps[index].dep_kinds[kind]
-}
-
-/// The id of the dependency at these places.
-fn child_at<'a>(lookup: &Lookup<'a>, place: usize, index: usize) -> &'a Kid
-    requires lookup { IsLookup lookup.now }
-    requires there { (p : Id) × (c : Id) × DepAt (resolved_view lookup.now) p c place index }
-    ensures { (p c : Id) → DepAt (resolved_view lookup.now) p c place index → id_of result.now ≡ c }
-{
-    laws::one_reading();
-    &lookup.ids.deps[place][index]
-}
-
-/// The number of a kept crate.
-fn number_of(krates: &[Kid], kid: &Kid) -> usize
-    requires numbered { AreNumbered (map id_of krates.now) }
-    requires kept { IsKeptIn krates.now (id_of kid.now) }
-    ensures id { id_at krates.now result ≡ id_of kid.now }
-    ensures below { result < length krates.now }
-{
-    let Some(number) = number_in(krates, kid) else {
-        unreachable!()
-    };
-    number
 }

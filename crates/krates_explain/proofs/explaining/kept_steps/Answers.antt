@@ -32,7 +32,7 @@ keys_of-requires-clause-tables c =
     record {
       lookup = c.requires.lookup;
       ascending = sorted_same id_cmp id_order id_of (λ a b. refl) kids c.requires.ascending;
-      numbers = subst (AreNumbersIn kids c.args.basis.now.lookup.now.ids.now.nodes.items) (sym c.deref-2.ensures.value) among;
+      numbers = subst (AreNumbersIn kids c.args.basis.now.lookup.now.table.ids.items) (sym c.deref-2.ensures.value) among;
     }
 
 pub keys_of-requires-clause-kept : goal.keys_of-requires-clause-kept

@@ -1,31 +1,41 @@
-use Rattle.std.proofs.Common.{◌<◌, length, subst}
-use Rattle.std.proofs.lemmas.Option.{slice_get_within}
-use Rattle.krates_explain.proofs.KeptNumbers.{child_ids, child_is, child_read}
-use Rattle.krates_lookups.proofs.NodeParts.{nodes_long, within_vec}
-use Rattle.krates_lookups.specs.Lookup.{resolved_view}
+use Rattle.std.proofs.Common.{◌∙◌, subst, sym}
+use Rattle.std.proofs.lemmas.Option.{same_Some}
+use Rattle.krates_explain.proofs.KeptNumbers.{child_number, number_within}
+use Rattle.krates_explain.specs.Tables.{IsChildAt}
+use Rattle.krates_lookups.proofs.NodeNumbers.{dep_number_within, dep_numbered, dep_numbers_within}
 use Rattle.krates_explain.proofs.keys.child_at.Goals as goal
 
 pub index-requires : goal.index-requires
 index-requires c =
-    let d = c.args.lookup.now in
-    let w = c.requires.there.2 in
-    within_vec d.ids.now.deps c.args.place (subst (λ n. c.args.place < n) (nodes_long d c.requires.lookup).2 (slice_get_within (resolved_view d).graph.nodes c.args.place w.node.node w.node.at))
+    let k = c.requires.kept in
+    dep_numbers_within c.args.tables.now.lookup.now k.parent k.child c.args.place c.args.index c.requires.tables.lookup k.at
 
 pub index-requires-2 : goal.index-requires-2
 index-requires-2 c =
-    let d = c.args.lookup.now in
-    let w = c.requires.there.2 in
-    let ids = c.index.result.now in
-    let lt : c.args.place < length d.ids.now.deps.items = subst (λ n. c.args.place < n) (nodes_long d c.requires.lookup).2 (slice_get_within (resolved_view d).graph.nodes c.args.place w.node.node w.node.at) in
-    let z = child_ids d c.requires.there.0 c.requires.there.1 c.args.place c.args.index ids c.requires.lookup w lt c.index.ensures in
-    let y = child_read w.node.node ids.items c.args.index w.dep z w.at in
-    within_vec ids c.args.index (slice_get_within ids.items c.args.index y.0 y.1)
+    let k = c.requires.kept in
+    dep_number_within c.one_reading.ensures.once c.args.tables.now.lookup.now k.parent k.child c.args.place c.args.index c.index.result.now c.requires.tables.lookup k.at c.index.ensures
+
+pub at_number-requires : goal.at_number-requires
+at_number-requires c =
+    let t = c.args.tables.now in
+    let k = c.requires.kept in
+    number_within t k.child c.index-2.result c.requires.tables
+    (dep_numbered c.one_reading.ensures.once t.lookup.now k.parent k.child c.args.place c.args.index c.index.result.now c.index-2.result c.requires.tables.lookup k.at c.index.ensures c.index-2.ensures)
+
+pub unreachable-requires : goal.unreachable-requires
+unreachable-requires c =
+    let t = c.args.tables.now in
+    let k = c.requires.kept in
+    let once = c.one_reading.ensures.once in
+    let n = dep_numbered once t.lookup.now k.parent k.child c.args.place c.args.index c.index.result.now c.index-2.result c.requires.tables.lookup k.at c.index.ensures c.index-2.ensures in
+    let h = child_number once t c.args.place c.args.index c.index-2.result c.at_number.result c.requires.tables k n c.at_number.ensures in
+    absurd (let no = sym h.answered ∙ c.in_default.is in cc)
 
 pub returns : goal.returns
-returns c = λ p q w.
-    let d = c.args.lookup.now in
-    let ids = c.index.result.now in
-    let lt : c.args.place < length d.ids.now.deps.items = subst (λ n. c.args.place < n) (nodes_long d c.requires.lookup).2 (slice_get_within (resolved_view d).graph.nodes c.args.place w.node.node w.node.at) in
-    let z = child_ids d p q c.args.place c.args.index ids c.requires.lookup w lt c.index.ensures in
-    let y = child_read w.node.node ids.items c.args.index w.dep z w.at in
-    child_is c.one_reading.ensures.once d p q c.args.place c.args.index ids.items c.index-2.result.now w z (slice_get_within ids.items c.args.index y.0 y.1) c.index-2.ensures
+returns c =
+    let t = c.args.tables.now in
+    let k = c.requires.kept in
+    let once = c.one_reading.ensures.once in
+    let n = dep_numbered once t.lookup.now k.parent k.child c.args.place c.args.index c.index.result.now c.index-2.result c.requires.tables.lookup k.at c.index.ensures c.index-2.ensures in
+    let h = child_number once t c.args.place c.args.index c.index-2.result c.at_number.result c.requires.tables k n c.at_number.ensures in
+    subst (IsChildAt t c.args.place c.args.index) (same_Some h.number c.in-Some.kept (sym h.answered ∙ c.in-Some.is)) h.is
