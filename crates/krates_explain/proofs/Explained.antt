@@ -1,14 +1,14 @@
 -- The first steps of a trace, by the numbers of the kept crates.
-use Rattle.std.proofs.Common.{◌≡◌, ℕ, zero, suc, ◌<◌, List, [], ◌∷◌, Some, Contains, length, get_or, map, option_map, refl, sym, ap, ◌∙◌, subst, arith}
+use Rattle.std.proofs.Common.{◌≡◌, ℕ, zero, suc, ◌<◌, List, [], ◌∷◌, All, Some, Contains, length, get_or, map, option_map, refl, sym, ap, ◌∙◌, subst, arith}
 use Rattle.std.proofs.lemmas.List.{length-map}
-use Rattle.std.proofs.lemmas.Option.{slice_get-map, slice_get-get_or, slice_get_within, same_Some}
+use Rattle.std.proofs.lemmas.Option.{get_or_from_slice_get, slice_get-map, slice_get-get_or, slice_get_within, same_Some}
 use Rattle.std.specs.List.{AllZip, slice_get}
 use Rattle.std.specs.List.Sorted.{IsStrictlySortedBy}
 use Rattle.krates_document.proofs.DistinctIds.{OrderTellsSame}
 use Rattle.krates_explain.specs.Chosen.{AreChosen, IsChosenIn}
 use Rattle.krates_explain.specs.Explanation.{AreBelow, uses_in}
-use Rattle.krates_explain.specs.KeptFacts.{IsBelow, fact_in, facts_in, step_in, steps_in}
-use Rattle.krates_explain.specs.Keys.{AreFactNumbers, key_view}
+use Rattle.krates_explain.specs.KeptFacts.{Enables, IsBelow, KeepsCrate, KeepsEdge, KeptModel, Toggles, fact_in, facts_in, step_in, steps_in}
+use Rattle.krates_explain.specs.Keys.{AreFactNumbers, home, key_view}
 use Rattle.krates_explain.specs.Tables.{AreKeptFacts, AreStepsOf, IsKeptIn, IsKeyOf, document_in, kids_in, numbered_facts}
 use Rattle.krates_explain.specs.declared.kept.KeptStep.{KeptStep}
 use Rattle.krates_explain.specs.declared.key.FactKey.{FactKey}
@@ -71,6 +71,20 @@ kept_at : {A : Type 0} (xs : List A) (j : ℕ) → j < length xs → (y : A) × 
 kept_at [] j low = absurd (omega (arith, low))
 kept_at (x ∷ xs) zero low = (x, refl)
 kept_at (x ∷ xs) (suc j) low = kept_at xs j (omega (arith, low))
+
+home_low : (n : ℕ) (f : KeptModel) → IsBelow n f → home f < n
+home_low n (KeepsCrate krate) low = low
+home_low n (Enables krate name) low = low
+home_low n (KeepsEdge parent child kind cfg) low = low.0
+home_low n (Toggles by krate name) low = low.0
+
+-- the crate of each key has a number
+pub homes_low : (t : Tables) (facts : List NumberedFact) (keys : List FactKey) → AllZip (IsKeyOf t) facts keys → All (λ f. home f < length (kids_in t)) (map key_view keys)
+homes_low t facts keys z k d lt =
+    let y = kept_at keys k (omega (arith, lt, length-map keys key_view)) in
+    let x = left_of (IsKeyOf t) facts keys k y.0 z y.1 in
+    let there = get_or_from_slice_get (map key_view keys) k (key_view y.0) d (slice_get-map key_view keys k ∙ ap (option_map key_view) y.1) in
+    subst (λ f. home f < length (kids_in t)) (sym there) (home_low (length (kids_in t)) (key_view y.0) x.2.below)
 
 module _ (tells : OrderTellsSame) (t : Tables) (s : SettingModel) (steps : List NumberedStep) (keys : List FactKey) (sorted : IsStrictlySortedBy id_cmp (kids_in t)) (tr : IsTrace (document_in t) s steps) (keyed : AllZip (IsKeyOf t) (numbered_facts steps) keys) where
   -- each step of the derivation has a key, which says its fact

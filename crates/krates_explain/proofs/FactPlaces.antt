@@ -1,12 +1,12 @@
 -- The last places of facts among keys, filled place by place, and the numbers that they give on the way.
-use Rattle.std.proofs.Common.{◌≡◌, ◌↔◌, ℕ, zero, suc, ◌+◌, ◌<◌, ◌≤◌, List, [], ◌∷◌, ◌++◌, length, get_or, length-append, map, Bool, true, false, cond, Option, Some, None, IfSome, MatchOption, option_map, Ordering, Less, Equal, Greater, refl, sym, ap, ◌∙◌, subst, inl, inr, arith}
-use Rattle.std.proofs.lemmas.Bool.{cases_order}
-use Rattle.std.proofs.lemmas.List.{length-map}
+use Rattle.std.proofs.Common.{◌≡◌, ◌↔◌, ⊎_elim, ℕ, zero, suc, ◌+◌, ◌<◌, ◌≤◌, List, [], ◌∷◌, ◌++◌, All, length, get_or, set, length-append, map, Bool, true, false, cond, Option, Some, None, IfSome, MatchOption, option_map, Ordering, Less, Equal, Greater, refl, sym, ap, ◌∙◌, subst, inl, inr, arith}
+use Rattle.std.proofs.lemmas.Bool.{cases_eq, cases_order}
+use Rattle.std.proofs.lemmas.List.{get_or-map, get_or-set_other, get_or-set_same, length-map, length-set}
 use Rattle.std.proofs.lemmas.Option.{slice_get-map, slice_get_read, slice_get_within, slice_get-get_or, same_Some}
 use Rattle.std.specs.BTreeMap.{BTreeMap, get}
 use Rattle.std.specs.List.{AllZip, slice_get}
 use Rattle.std.specs.Ordering.{is_eq}
-use Rattle.krates_explain.specs.Keys.{AreFactNumbers, key_cmp, key_view}
+use Rattle.krates_explain.specs.Keys.{AreFactNumbers, AreNoPlaces, home, key_cmp, key_view}
 use Rattle.krates_explain.specs.KeptFacts.{KeptModel}
 use Rattle.krates_explain.specs.declared.key.FactKey.{FactKey}
 use Rattle.krates_explain.proofs.KeyOrder.{key_from, key_to}
@@ -32,8 +32,12 @@ pub record IsLastBelow (all : List KeptModel) (x : KeptModel) (i n : ℕ) : Type
 abbrev pub IsPlaceBelow : List KeptModel → KeptModel → ℕ → Option ℕ → Type 0
 IsPlaceBelow all x i answer = MatchOption answer ((n : ℕ) → n < i → slice_get all n ≡ Some x → ⊥) (IsLastBelow all x i)
 
-abbrev pub ArePlacesBelow : List KeptModel → ℕ → BTreeMap FactKey ℕ → Type 0
-ArePlacesBelow all i m = (q : FactKey) → IsPlaceBelow all (key_view q) i (get key_cmp m q)
+abbrev pub IsHome : List KeptModel → ℕ → FactKey → BTreeMap FactKey ℕ → Type 0
+IsHome all i q m = IsPlaceBelow all (key_view q) i (get key_cmp m q)
+
+-- the map of the fact's crate answers for it
+abbrev pub ArePlacesBelow : List KeptModel → ℕ → List (BTreeMap FactKey ℕ) → Type 0
+ArePlacesBelow all i homes = (q : FactKey) (d : BTreeMap FactKey ℕ) → home (key_view q) < length homes → IsHome all i q (get_or homes (home (key_view q)) d)
 
 -- what the map answers for a fact, where the new one is the same or another
 place_step : (all : List KeptModel) (i : ℕ) (k q : KeptModel) (o : Option ℕ) (b : Bool) → slice_get all i ≡ Some k → (b ≡ true → k ≡ q) → (k ≡ q → b ≡ true) → IsPlaceBelow all q i o → IsPlaceBelow all q (i + 1) (cond b (Some i) o)
@@ -57,13 +61,46 @@ place_step all i k q None false here there back h = λ n lt s. elim (cases_order
   | inr r ↦ elim r [ inl l ↦ h n l s | inr l ↦ absurd (omega arith) ]
 ]
 
+-- no fact has a place yet
+pub no_places_yet : (xs : List FactKey) (count : ℕ) (homes : List (BTreeMap FactKey ℕ)) → AreNoPlaces count homes → ArePlacesBelow (map key_view xs) 0 homes
+no_places_yet xs count homes h q d low = subst (IsPlaceBelow (map key_view xs) (key_view q) 0) (sym (h.none (home (key_view q)) d low q)) (λ n lt s. absurd (omega (arith, lt)))
+
+-- the place of a fact that is another than the new one
+place_kept : (all : List KeptModel) (i : ℕ) (k q : KeptModel) (o : Option ℕ) → slice_get all i ≡ Some k → (home q ≡ home k → ⊥) → IsPlaceBelow all q i o → IsPlaceBelow all q (i + 1) o
+place_kept all i k q o here apart h = place_step all i k q o false here (λ t. absurd cc) (λ e. absurd (apart (sym (ap home e)))) h
+
 -- one more fact is put in
-pub places_more : (xs : List FactKey) (i : ℕ) (k : FactKey) (old new : BTreeMap FactKey ℕ) → i < length xs → k ≡ get_or xs i k
-    → ((q : FactKey) → get key_cmp new q ≡ cond (is_eq (key_cmp k q)) (Some i) (get key_cmp old q)) → ArePlacesBelow (map key_view xs) i old → ArePlacesBelow (map key_view xs) (i + 1) new
-places_more xs i k old new lt is grown h q =
-    let here : slice_get (map key_view xs) i ≡ Some (key_view k) = slice_get-map key_view xs i ∙ ap (option_map key_view) (slice_get_read xs (length xs) i k refl lt is) in
-    subst (IsPlaceBelow (map key_view xs) (key_view q) (i + 1)) (sym (grown q))
-    (place_step (map key_view xs) i (key_view k) (key_view q) (get key_cmp old q) (is_eq (key_cmp k q)) here (λ t. key_to k q (is_equal (key_cmp k q) t)) (λ e. equal_is (key_cmp k q) (key_from k q e)) (h q))
+pub places_more : (xs : List FactKey) (i at : ℕ) (k : FactKey) (old : List (BTreeMap FactKey ℕ)) (was is : BTreeMap FactKey ℕ) → i < length xs → k ≡ get_or xs i k → at ≡ home (key_view k) → at < length old → was ≡ get_or old at was
+    → ((q : FactKey) → get key_cmp is q ≡ cond (is_eq (key_cmp k q)) (Some i) (get key_cmp was q)) → ArePlacesBelow (map key_view xs) i old → ArePlacesBelow (map key_view xs) (i + 1) (set old at is)
+places_more xs i at k old was is lt read here low there grown h q d within =
+    let all = map key_view xs in
+    let own = home (key_view q) in
+    let known : slice_get all i ≡ Some (key_view k) = slice_get-map key_view xs i ∙ ap (option_map key_view) (slice_get_read xs (length xs) i k refl lt read) in
+    let within_old : own < length old = subst (λ (n : ℕ). own < n) (length-set old at is) within in
+    ⊎_elim
+    (λ e. (
+    let now : get_or (set old at is) own d ≡ is = ap (λ n. get_or (set old at is) n d) e ∙ get_or-set_same old at is d low in
+    let before : get_or old own was ≡ was = ap (λ n. get_or old n was) e ∙ sym there in
+    let answered = place_step all i (key_view k) (key_view q) (get key_cmp was q) (is_eq (key_cmp k q)) known (λ t. key_to k q (is_equal (key_cmp k q) t)) (λ s. equal_is (key_cmp k q) (key_from k q s)) (subst (IsHome all i q) before (h q was within_old)) in
+    subst (IsHome all (i + 1) q) (sym now) (subst (IsPlaceBelow all (key_view q) (i + 1)) (sym (grown q)) answered)))
+    (λ apart. (
+    let now : get_or (set old at is) own d ≡ get_or old own d = get_or-set_other old at own is d apart in
+    let kept = place_kept all i (key_view k) (key_view q) (get key_cmp (get_or old own d) q) known (λ e. apart (e ∙ sym here)) (h q d within_old) in
+    subst (IsHome all (i + 1) q) (sym now) kept))
+    (cases_eq own at)
+
+-- the crate of a fact has a map
+pub low_home : (xs : List FactKey) (count i at : ℕ) (k : FactKey) (homes : List (BTreeMap FactKey ℕ)) → All (λ f. home f < count) (map key_view xs) → i < length xs → k ≡ get_or xs i k → at ≡ home (key_view k) → length homes ≡ count → at < length homes
+low_home xs count i at k homes all lt read here long =
+    let seen : get_or (map key_view xs) i (key_view k) ≡ key_view k = get_or-map key_view xs i k (key_view k) lt ∙ ap key_view (sym read) in
+    let low : home (key_view k) < count = subst (λ f. home f < count) seen (all i (key_view k) (omega (arith, lt, length-map xs key_view))) in
+    omega (arith, low, here, long)
+
+-- what the map of its crate answers for the new fact
+pub home_answers : (xs : List FactKey) (i at : ℕ) (k : FactKey) (homes : List (BTreeMap FactKey ℕ)) (m : BTreeMap FactKey ℕ) → at ≡ home (key_view k) → at < length homes → m ≡ get_or homes at m → ArePlacesBelow (map key_view xs) i homes → IsHome (map key_view xs) i k m
+home_answers xs i at k homes m here low there h =
+    let own : get_or homes (home (key_view k)) m ≡ m = ap (λ n. get_or homes n m) (sym here) ∙ sym there in
+    subst (IsHome (map key_view xs) i k) own (h k m (subst (λ (n : ℕ). n < length homes) here low))
 
 pub zip_long : {A B : Type 0} (R : A → B → Type 0) (xs : List A) (ys : List B) → AllZip R xs ys → length ys ≡ length xs
 zip_long R [] [] z = refl
@@ -170,12 +207,12 @@ pub none_numbered : (all : List KeptModel) (numbers : List ℕ) → numbers ≡ 
 none_numbered all numbers e = subst (AreNumbersBelow all 0) (sym e) (record { long = refl; low = λ k n at. absurd cc; same = λ j k f g lj lk aj ak. absurd (omega (arith, lj)) })
 
 -- one more fact is numbered
-pub numbers_more : (xs : List FactKey) (i : ℕ) (k : FactKey) (m : BTreeMap FactKey ℕ) (o : Option ℕ) (n : ℕ) (old new : List ℕ) → i < length xs → k ≡ get_or xs i k → o ≡ get key_cmp m k → ArePlacesBelow (map key_view xs) i m
+pub numbers_more : (xs : List FactKey) (i : ℕ) (k : FactKey) (m : BTreeMap FactKey ℕ) (o : Option ℕ) (n : ℕ) (old new : List ℕ) → i < length xs → k ≡ get_or xs i k → o ≡ get key_cmp m k → IsHome (map key_view xs) i k m
     → IsNumberFor old i o n → new ≡ old ++ n ∷ [] → AreNumbersBelow (map key_view xs) i old → AreNumbersBelow (map key_view xs) (i + 1) new
 numbers_more xs i k m o n old new lt is answer places num pushed so =
     let all = map key_view xs in
     let at : slice_get all i ≡ Some (key_view k) = slice_get-map key_view xs i ∙ ap (option_map key_view) (slice_get_read xs (length xs) i k refl lt is) in
-    let h : IsPlaceBelow all (key_view k) i o = subst (IsPlaceBelow all (key_view k) i) (sym answer) (places k) in
+    let h : IsPlaceBelow all (key_view k) i o = subst (IsPlaceBelow all (key_view k) i) (sym answer) places in
     subst (AreNumbersBelow all (i + 1)) (sym pushed) (record {
       long = omega (arith, length-append old (n ∷ []), so.long);
       low = low_more old i n so.long (low_new all i (key_view k) old n o h num so) so.low;

@@ -1,5 +1,6 @@
 -- Facts as keys of a map, and the order of the keys.
-use Rattle.std.specs.Prelude.{◌≡◌, ◌↔◌, ℕ, ◌<◌, List, All, Some, length, option_map, slice_get}
+use Rattle.std.specs.Prelude.{◌≡◌, ◌↔◌, ℕ, ◌<◌, List, All, None, Some, length, option_map, slice_get}
+use Rattle.std.specs.BTreeMap.{BTreeMap, get}
 use Rattle.std.specs.declared.cmp.Ordering.{Ordering}
 use Rattle.krates_cm.specs.Document.{text_view}
 use Rattle.krates_cm.specs.declared.dependency.DependencyKind.{DependencyKind}
@@ -33,6 +34,18 @@ key_view (keys.Toggled toggle) = Toggles toggle.by toggle.feature.krate toggle.f
 -- the derived order
 abbrev pub key_cmp : FactKey → FactKey → Ordering
 key_cmp = (key_order.ghosts).cmp
+
+-- the number of the crate among whose facts the fact is looked for
+abbrev pub home : KeptModel → ℕ
+home (KeepsCrate krate) = krate
+home (Enables krate name) = krate
+home (KeepsEdge parent child kind cfg) = parent
+home (Toggles by krate name) = by
+
+-- for each of so many crates there is no place of a fact
+pub record AreNoPlaces (count : ℕ) (homes : List (BTreeMap FactKey ℕ)) : Type 0 where
+  pub long : length homes ≡ count
+  pub none : All (λ (m : BTreeMap FactKey ℕ). (q : FactKey) → get key_cmp m q ≡ None) homes
 
 -- ---- numbers of facts
 

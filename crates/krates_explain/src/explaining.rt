@@ -46,7 +46,7 @@ pub fn kept_steps<'a>(
         numbers: &krate_numbers,
     };
     let keys = keys_of(basis.alloc, &tables, steps)?;
-    let numbers = numbers_of(basis.alloc, &keys)?;
+    let numbers = numbers_of(basis.alloc, krates.len(), &keys)?;
     let uses = uses_of(basis.alloc, steps)?;
     let part = first_steps(basis.alloc, &uses, &numbers, keys.len())?;
     chosen(basis.alloc, &keys, steps, &part)

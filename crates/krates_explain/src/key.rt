@@ -3,7 +3,7 @@
 ghost use Rattle.std.specs.Prelude.{◌≡◌, IfOk};
 ghost use Rattle.krates_derive.specs.Told.{written_of};
 ghost use Rattle.krates_explain.specs.KeptFacts.{kept_view};
-ghost use Rattle.krates_explain.specs.Keys.{edge_view, key_view, purpose_view};
+ghost use Rattle.krates_explain.specs.Keys.{edge_view, home, key_view, purpose_view};
 
 use crate::kept::KeptFact;
 use krates_cm::DependencyKind;
@@ -84,6 +84,19 @@ fn kind_for(purpose: Purpose) -> DepKind
         Purpose::Normal => DepKind::Normal,
         Purpose::Build => DepKind::Build,
         Purpose::Dev => DepKind::Dev,
+    }
+}
+
+/// The number of the crate among whose facts a fact is looked for: the one that is kept or has the feature, or from which the edge or
+/// the reference goes.
+pub(crate) fn home_of(key: &FactKey<'_>) -> usize
+    ensures { result ≡ home (key_view key.now) }
+{
+    match key {
+        FactKey::Crate(krate) => *krate,
+        FactKey::Feature(feature) => feature.krate,
+        FactKey::Kept(edge) => edge.parent,
+        FactKey::Toggled(toggle) => toggle.by,
     }
 }
 

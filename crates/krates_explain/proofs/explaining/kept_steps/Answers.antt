@@ -3,11 +3,11 @@ use Rattle.std.proofs.lemmas.List.{length-map}
 use Rattle.std.proofs.lemmas.Result.{IfOk-weaker}
 use Rattle.std.specs.Global.{Vec}
 use Rattle.std.specs.List.{AllZip}
-use Rattle.krates_explain.proofs.Explained.{follow_backward, kept_facts, shown_uses, steps_are, uses_of}
+use Rattle.krates_explain.proofs.Explained.{follow_backward, homes_low, kept_facts, shown_uses, steps_are, uses_of}
 use Rattle.krates_explain.proofs.FactPlaces.{zip_long}
 use Rattle.krates_explain.proofs.ToldParts.{chosen_low}
 use Rattle.krates_explain.specs.Chosen.{AreChosen}
-use Rattle.krates_explain.specs.Keys.{AreFactNumbers, key_view}
+use Rattle.krates_explain.specs.Keys.{AreFactNumbers, home, key_view}
 use Rattle.krates_explain.specs.Tables.{AreNumbersIn, AreStepsOf, IsKeyOf, numbered_facts}
 use Rattle.krates_explain.specs.declared.kept.KeptStep.{KeptStep}
 use Rattle.krates_explain.specs.declared.key.FactKey.{FactKey}
@@ -39,6 +39,14 @@ pub keys_of-requires-clause-kept : goal.keys_of-requires-clause-kept
 keys_of-requires-clause-kept c =
     let t : Tables = record { lookup = c.args.basis.now.lookup; krates = c.args.krates; numbers = c.deref-2.result } in
     kept_facts t c.args.basis.now.setting.now c.args.steps.now c.requires.trace c.requires.crates
+
+pub numbers_of-requires : goal.numbers_of-requires
+numbers_of-requires c =
+    let steps = c.args.steps.now in
+    let t : Tables = record { lookup = c.args.basis.now.lookup; krates = c.args.krates; numbers = c.deref-2.result } in
+    let low = homes_low t (numbered_facts steps) c.in_ok-keys.keys.items c.in_ok-keys.ensures in
+    let keyed = subst (λ (ks : List FactKey). All (λ f. home f < length c.args.krates.now) (map key_view ks)) (sym c.deref-3.ensures.value) low in
+    subst (λ n. All (λ f. home f < n) (map key_view c.deref-3.result.now)) (sym c.len.ensures) keyed
 
 pub first_steps-requires-clause-backward : goal.first_steps-requires-clause-backward
 first_steps-requires-clause-backward c =
