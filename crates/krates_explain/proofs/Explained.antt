@@ -59,6 +59,7 @@ follow_backward q whole uses these each k x at u among =
 
 -- each fact of a trace is about kept crates
 pub kept_facts : (t : Tables) (s : SettingModel) (steps : List NumberedStep) → (tr : IsTrace (document_in t) s steps) → ((i : Id) → Derivable (questions (document_in t) s) (Crate i) → IsKeptIn (kids_in t) i) → AreKeptFacts t steps
+unfolding questions
 kept_facts t s steps tr crates k d lt =
     let r = document_in t in
     let x = get_or steps k d in

@@ -100,7 +100,7 @@ pub record HasNumberAt (t : Tables) (place : ℕ) (answer : Option ℕ) : Type 0
 pub number_at : ReadsOnce → (t : Tables) (place : ℕ) (number answer : Option ℕ) → IsTables t → (k : IsKeptNode t place) → IsNumberIn t.lookup.now k.krate number → answer ≡ at_number t.numbers.now number → HasNumberAt t place answer
 number_at once t place number answer h k n is =
     let r = document_in t in
-    let has = (k.node.node, record { among = contains_at r.graph.nodes place k.node.node k.node.at; id = k.node.id }) in
+    let has : (n : NodeModel) × HasNode r k.krate n = (k.node.node, record { among = contains_at r.graph.nodes place k.node.node k.node.at; id = k.node.id }) in
     let w = kept_number once t k.krate number answer h (k.kept, has) n is in
     record {
       number = w.number;

@@ -45,8 +45,7 @@ numbers_of-requires c =
     let steps = c.args.steps.now in
     let t : Tables = record { lookup = c.args.basis.now.lookup; krates = c.args.krates; numbers = c.deref-2.result } in
     let low = homes_low t (numbered_facts steps) c.in_ok-keys.keys.items c.in_ok-keys.ensures in
-    let keyed = subst (λ (ks : List FactKey). All (λ f. home f < length c.args.krates.now) (map key_view ks)) (sym c.deref-3.ensures.value) low in
-    subst (λ n. All (λ f. home f < n) (map key_view c.deref-3.result.now)) (sym c.len.ensures) keyed
+    subst (λ (ks : List FactKey). All (λ f. home f < length c.args.krates.now) (map key_view ks)) (sym c.deref-3.ensures.value) low
 
 pub first_steps-requires-clause-backward : goal.first_steps-requires-clause-backward
 first_steps-requires-clause-backward c =

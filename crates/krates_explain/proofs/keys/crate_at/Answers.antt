@@ -5,8 +5,8 @@ use Rattle.krates_explain.specs.Tables.{IsNumberAt, document_in}
 use Rattle.krates_lookups.proofs.NodeNumbers.{node_number_within, node_numbered}
 use Rattle.krates_explain.proofs.keys.crate_at.Goals as goal
 
-pub index-requires : goal.index-requires
-index-requires c =
+pub index-number-requires : goal.index-number-requires
+index-number-requires c =
     let t = c.args.tables.now in
     let k = c.requires.kept in
     node_number_within t.lookup.now c.args.place c.requires.tables.lookup (slice_get_within (document_in t).graph.nodes c.args.place k.node.node k.node.at)
@@ -15,15 +15,15 @@ pub at_number-requires : goal.at_number-requires
 at_number-requires c =
     let t = c.args.tables.now in
     let k = c.requires.kept in
-    number_within t k.krate c.index.result c.requires.tables (node_numbered c.one_reading.ensures.once t.lookup.now c.args.place k.krate c.index.result c.requires.tables.lookup k.node c.index.ensures)
+    number_within t k.krate c.index-number.result.now c.requires.tables (node_numbered c.one_reading.ensures.once t.lookup.now c.args.place k.krate c.index-number.result.now c.requires.tables.lookup k.node c.index-number.ensures)
 
 pub unreachable-requires : goal.unreachable-requires
 unreachable-requires c =
     let t = c.args.tables.now in
     let k = c.requires.kept in
     let once = c.one_reading.ensures.once in
-    let n = node_numbered once t.lookup.now c.args.place k.krate c.index.result c.requires.tables.lookup k.node c.index.ensures in
-    let h = number_at once t c.args.place c.index.result c.at_number.result c.requires.tables k n c.at_number.ensures in
+    let n = node_numbered once t.lookup.now c.args.place k.krate c.index-number.result.now c.requires.tables.lookup k.node c.index-number.ensures in
+    let h = number_at once t c.args.place c.index-number.result.now c.at_number.result c.requires.tables k n c.at_number.ensures in
     absurd (let no = sym h.answered ∙ c.in_default.is in cc)
 
 pub returns : goal.returns
@@ -31,6 +31,6 @@ returns c =
     let t = c.args.tables.now in
     let k = c.requires.kept in
     let once = c.one_reading.ensures.once in
-    let n = node_numbered once t.lookup.now c.args.place k.krate c.index.result c.requires.tables.lookup k.node c.index.ensures in
-    let h = number_at once t c.args.place c.index.result c.at_number.result c.requires.tables k n c.at_number.ensures in
+    let n = node_numbered once t.lookup.now c.args.place k.krate c.index-number.result.now c.requires.tables.lookup k.node c.index-number.ensures in
+    let h = number_at once t c.args.place c.index-number.result.now c.at_number.result c.requires.tables k n c.at_number.ensures in
     subst (IsNumberAt t c.args.place) (same_Some h.number c.in-Some.kept (sym h.answered ∙ c.in-Some.is)) h.is
