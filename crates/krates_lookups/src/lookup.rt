@@ -103,8 +103,8 @@ pub fn crate_number(lookup: &Lookup<'_>, id: &Kid) -> Option<usize>
     number_of(&lookup.table.ids, id)
 }
 
-/// What a table has at a number; none where there is no number.
-fn at_number(places: &[Option<usize>], number: Option<usize>) -> Option<usize>
+/// What a table has at a number; none where there is no number. Time: O(1).
+pub fn at_number(places: &[Option<usize>], number: Option<usize>) -> Option<usize>
     requires { IfSome number (λ n. n < length places.now) }
     ensures { result ≡ at_number places.now number }
 {
