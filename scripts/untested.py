@@ -33,7 +33,7 @@ SHOWN_BY = {
         " is_same_info"
     ).split(),
     # a document that is asked looks its crates, features and names up
-    "Document::new": "lookup_of node_place child_place crate_number package_at node_place_at at_number child_number".split(),
+    "Document::new": "lookup_of node_place child_place crate_number at_number package_at node_place_at child_number".split(),
     "Document::is_root": ("is_member",),
     "Document::lists": ("feature_number",),
     "Document::values": ("feature_values",),
