@@ -1,24 +1,26 @@
 //! What the rules give from each kept crate.
 
 ghost use Rattle.krates_questions.specs.Basis.{HasEntry, Refuses};
-ghost use Rattle.krates_resolve.specs.Basis.{FindsEdge, HasExpandedTaken, HasKrateStep, HasTried, HasTriedEntry, IsRight, MayKeep, Moves};
+ghost use Rattle.krates_resolve.specs.Basis.{FindsEdge, HasExpandedTaken, HasKrateStep, HasStanding, HasTried, HasTriedEntry, IsRight, MayKeep, Moves};
 ghost use Rattle.krates_lookups.specs.NodeEntry.{HasItsPlaces, HasItsVersion, IsListedEdge, edge_for, edge_of};
 ghost use Rattle.std.specs.Prelude.{◌<◌, IfErr, OnOk, Some, Contains};
 ghost use Rattle.semver.specs.Identifiers.{parts_of};
 ghost use Rattle.krates_cm.specs.Document.{DepKindInfoModel};
 ghost use Rattle.krates_rules.specs.Admission.{HasVersion};
 ghost use Rattle.krates_resolve.specs.Found.{TakenWhen};
+ghost use Rattle.krates_resolve.specs.Kinds.{IsFirstOf};
 ghost use Rattle.krates_lookups.specs.Lookup.{IsLookup};
 
 use crate::enabling::{Keeping, keep};
 use crate::found::Found;
+use crate::kinds::first_kinds;
 use crate::trace::Reason;
 use krates_document::declared_dependency::{Sought, declared_of, version_of};
 use krates_graph::agenda::Taken;
 use krates_ids::{Error, Lost, laws};
-use krates_lookups::node_entry::{EntryEdge, NodeEntry, declared_places, entry_at, parts_of};
+use krates_lookups::node_entry::{EntryEdge, NodeEntry, entry_at, parts_of, places_for};
 use krates_questions::basis::Basis;
-use krates_questions::standing::{Standing, standing_of};
+use krates_questions::standing::{Standing, standing_of_child};
 
 /// Keeps what a kept crate needs: tries each edge of its node.
 ///
@@ -47,7 +49,22 @@ pub(crate) fn expand<'a>(
     Ok(())
 }
 
+/// How an edge is tried.
+#[derive(Clone, Copy)]
+struct Trial {
+    /// The first place of its kind and target in the `dep_kinds` of the dependency.
+    kind: usize,
+    /// Why it is found, if it is kept.
+    reason: Reason,
+    /// What there is for the crate that it leads to.
+    standing: Standing,
+    /// Whether it is tried also where it is optional.
+    asked: bool,
+}
+
 /// Tries each edge of an entry; an optional one only where it is asked for.
+///
+/// A kind and target that stands several times is tried once, and what there is for the crate is asked once.
 pub(crate) fn expand_entry<'a>(
     basis: &Basis<'a, '_>,
     entry: &NodeEntry<'a>,
@@ -69,15 +86,24 @@ pub(crate) fn expand_entry<'a>(
     let Some(version) = version_of(basis.alloc, entry.child)? else {
         unreachable!()
     };
-    let places = declared_places(basis.lookup, entry.parent);
-    for info in entry.dep.dep_kinds.as_slice() {
+    let places = places_for(basis.lookup, entry);
+    let standing = standing_of_child(basis.lookup, basis.setting, entry);
+    let infos = entry.dep.dep_kinds.as_slice();
+    let kinds = first_kinds(basis.alloc, infos)?;
+    for kind in kinds.as_slice() {
         let edge = EntryEdge {
             entry,
-            info,
+            info: &infos[*kind],
             version: &version,
             places,
         };
-        expand_edge(basis, &edge, asked, reason, found)?;
+        let trial = Trial {
+            kind: *kind,
+            reason,
+            standing,
+            asked,
+        };
+        expand_edge(basis, &edge, &trial, found)?;
     }
     Ok(())
 }
@@ -86,8 +112,7 @@ pub(crate) fn expand_entry<'a>(
 fn expand_edge<'a>(
     basis: &Basis<'a, '_>,
     edge: &EntryEdge<'a, '_>,
-    asked: bool,
-    reason: Reason,
+    trial: &Trial,
     found: &mut Found<'a>,
 ) -> Result<(), Error>
     requires lookup { IsLookup basis.now.lookup.now }
@@ -95,15 +120,19 @@ fn expand_edge<'a>(
     requires version { HasItsVersion edge.now }
     requires places { HasItsPlaces edge.now }
     requires listed { IsListedEdge edge.now }
+    requires first { IsFirstOf edge.now trial.now.kind }
+    requires standing { HasStanding basis.now edge.now.entry.now trial.now.standing }
     requires sound { IsRight basis.now found.old }
-    requires may { MayKeep basis.now (edge_of edge.now) (TakenWhen asked) }
-    requires step { FindsEdge basis.now found.old reason (edge_of edge.now) (TakenWhen asked) }
+    requires may { MayKeep basis.now (edge_of edge.now) (TakenWhen trial.now.asked) }
+    requires step { FindsEdge basis.now found.old trial.now.reason (edge_of edge.now)
+        (TakenWhen trial.now.asked) }
     ensures advanced { OnOk result (Moves basis.now found.old found.new) }
-    ensures tried { OnOk result (HasTried basis.now found.new (edge_of edge.now) (TakenWhen asked)) }
+    ensures tried { OnOk result (HasTried basis.now found.new (edge_of edge.now) (TakenWhen trial.now.asked)) }
     ensures refused { IfErr result (Refuses basis.now) }
 {
     let entry = edge.entry;
     let info = edge.info;
+    let asked = trial.asked;
     if basis.setting.ignores(info.kind, entry.is_member) {
         return Ok(());
     }
@@ -126,15 +155,16 @@ fn expand_edge<'a>(
     if !passes {
         return Ok(());
     }
-    match standing_of(basis.lookup, basis.setting, entry.child) {
+    match trial.standing {
         Standing::NoPackage => Err(Error::Lost(Lost::Package(entry.child.clone()?))),
         Standing::NoNode => Err(Error::Lost(Lost::Node(entry.child.clone()?))),
         Standing::Excluded => Ok(()),
         Standing::Stands(node) => {
             let keeping = Keeping {
+                kind: trial.kind,
                 declared,
                 node,
-                reason,
+                reason: trial.reason,
             };
             keep(basis, edge, keeping, found)
         }

@@ -17,8 +17,7 @@ use crate::trace::Reason;
 use krates_graph::agenda::Taken;
 use krates_ids::{Error, laws};
 use krates_lookups::features::feature_values;
-use krates_lookups::lookup::node_place;
-use krates_lookups::node_entry::{NodeParts, entry_at, parts_of};
+use krates_lookups::node_entry::{NodeParts, child_place, entry_at, parts_of};
 use krates_questions::basis::Basis;
 use krates_questions::referent::referents_of;
 use krates_text::features::{Feature, ParsedFeature};
@@ -309,13 +308,17 @@ fn toggle_child<'a>(
     ensures refused { IfErr result (Refuses basis.now) }
 {
     laws::one_reading();
-    let id = &parts.children[index];
-    let Some(place) = node_place(basis.lookup, id) else {
+    let entry = entry_at(parts, index);
+    let Some(place) = child_place(basis.lookup, &entry) else {
         unreachable!()
     };
     let by = KeptNode {
         id: parts.parent,
         place: parts.place,
     };
-    toggle(basis, by, KeptNode { id, place }, feature, found)
+    let node = KeptNode {
+        id: entry.child,
+        place,
+    };
+    toggle(basis, by, node, feature, found)
 }
