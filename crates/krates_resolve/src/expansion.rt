@@ -3,11 +3,11 @@
 ghost use Rattle.krates_questions.specs.Basis.{HasEntry, Refuses};
 ghost use Rattle.krates_resolve.specs.Basis.{FindsEdge, HasExpandedTaken, HasKrateStep, HasStanding, HasTried, HasTriedEntry, IsRight, MayKeep, Moves};
 ghost use Rattle.krates_lookups.specs.NodeEntry.{HasItsPlaces, HasItsVersion, IsListedEdge, edge_for, edge_of};
-ghost use Rattle.std.specs.Prelude.{◌<◌, IfErr, OnOk, Some, Contains};
+ghost use Rattle.std.specs.Prelude.{◌≡◌, ◌<◌, IfErr, IfOk, OnOk, Some, Contains, true};
 ghost use Rattle.semver.specs.Identifiers.{parts_of};
 ghost use Rattle.krates_cm.specs.Document.{DepKindInfoModel};
 ghost use Rattle.krates_rules.specs.Admission.{HasVersion};
-ghost use Rattle.krates_resolve.specs.Found.{TakenWhen};
+ghost use Rattle.krates_resolve.specs.Found.{IsAny, TakenWhen};
 ghost use Rattle.krates_resolve.specs.Kinds.{IsFirstOf};
 ghost use Rattle.krates_lookups.specs.Lookup.{IsLookup};
 
@@ -64,7 +64,8 @@ struct Trial {
 
 /// Tries each edge of an entry; an optional one only where it is asked for.
 ///
-/// A kind and target that stands several times is tried once, and what there is for the crate is asked once.
+/// A kind and target that stands several times is tried once, and what there is for the crate is asked once. Where no edge was passed over,
+/// it is noted that all of them have been asked for.
 pub(crate) fn expand_entry<'a>(
     basis: &Basis<'a, '_>,
     entry: &NodeEntry<'a>,
@@ -83,6 +84,7 @@ pub(crate) fn expand_entry<'a>(
     ensures tried { OnOk result (HasTriedEntry basis.now found.new entry.now (TakenWhen asked)) }
     ensures refused { IfErr result (Refuses basis.now) }
 {
+    laws::one_reading();
     let Some(version) = version_of(basis.alloc, entry.child)? else {
         unreachable!()
     };
@@ -90,6 +92,7 @@ pub(crate) fn expand_entry<'a>(
     let standing = standing_of_child(basis.lookup, basis.setting, entry);
     let infos = entry.dep.dep_kinds.as_slice();
     let kinds = first_kinds(basis.alloc, infos)?;
+    let mut whole = true;
     for kind in kinds.as_slice() {
         let edge = EntryEdge {
             entry,
@@ -103,18 +106,25 @@ pub(crate) fn expand_entry<'a>(
             standing,
             asked,
         };
-        expand_edge(basis, &edge, &trial, found)?;
+        let tried = expand_edge(basis, &edge, &trial, found)?;
+        whole &= tried;
     }
+    if !whole {
+        return Ok(());
+    }
+    found.links.note_asked(entry.place, entry.index);
     Ok(())
 }
 
 /// Keeps an edge of an entry, unless it is ignored, or optional and not asked for, or its target doesn't pass.
+///
+/// It answers whether the same was done as where the edge is asked for: not if it was passed over as optional.
 fn expand_edge<'a>(
     basis: &Basis<'a, '_>,
     edge: &EntryEdge<'a, '_>,
     trial: &Trial,
     found: &mut Found<'a>,
-) -> Result<(), Error>
+) -> Result<bool, Error>
     requires lookup { IsLookup basis.now.lookup.now }
     requires entry { HasEntry basis.now edge.now.entry.now }
     requires version { HasItsVersion edge.now }
@@ -128,13 +138,14 @@ fn expand_edge<'a>(
         (TakenWhen trial.now.asked) }
     ensures advanced { OnOk result (Moves basis.now found.old found.new) }
     ensures tried { OnOk result (HasTried basis.now found.new (edge_of edge.now) (TakenWhen trial.now.asked)) }
+    ensures whole { IfOk result (λ whole. whole ≡ true → HasTried basis.now found.new (edge_of edge.now) IsAny) }
     ensures refused { IfErr result (Refuses basis.now) }
 {
     let entry = edge.entry;
     let info = edge.info;
     let asked = trial.asked;
     if basis.setting.ignores(info.kind, entry.is_member) {
-        return Ok(());
+        return Ok(true);
     }
     let sought = Sought {
         dep: entry.dep,
@@ -149,16 +160,16 @@ fn expand_edge<'a>(
         }));
     };
     if !asked && entry.declared[declared].optional {
-        return Ok(());
+        return Ok(false);
     }
     let passes = basis.setting.passes(basis.alloc, &info.target)?;
     if !passes {
-        return Ok(());
+        return Ok(true);
     }
     match trial.standing {
         Standing::NoPackage => Err(Error::Lost(Lost::Package(entry.child.clone()?))),
         Standing::NoNode => Err(Error::Lost(Lost::Node(entry.child.clone()?))),
-        Standing::Excluded => Ok(()),
+        Standing::Excluded => Ok(true),
         Standing::Stands(node) => {
             let keeping = Keeping {
                 kind: trial.kind,
@@ -166,7 +177,8 @@ fn expand_edge<'a>(
                 node,
                 reason: trial.reason,
             };
-            keep(basis, edge, keeping, found)
+            keep(basis, edge, keeping, found)?;
+            Ok(true)
         }
     }
 }

@@ -160,9 +160,7 @@ fn ask_once<'a>(
         return Ok(());
     }
     let entry = entry_at(parts, index);
-    expand_entry(basis, &entry, true, reason, found)?;
-    found.links.note_asked(parts.place, index);
-    Ok(())
+    expand_entry(basis, &entry, true, reason, found)
 }
 
 /// Keeps the edges to the dependencies that the name means, also where they are optional, and toggles a feature of each to

@@ -1,8 +1,7 @@
 use Rattle.std.proofs.Common.{sym, ◌∙◌, subst, true, false, inl, inr}
-use Rattle.std.proofs.lemmas.Result.{on_ok_weaker}
 use Rattle.krates_cm.specs.Document.{dep_kind_info_view}
 use Rattle.krates_resolve.specs.Basis.{HasStanding}
-use Rattle.krates_resolve.specs.Found.{TakenWhen}
+use Rattle.krates_resolve.specs.Found.{IsAny, TakenWhen}
 use Rattle.krates_lookups.specs.Lookup.{resolved_view}
 use Rattle.krates_lookups.specs.NodeEntry.{edge_for}
 use Rattle.krates_lookups.proofs.Declared.{optional_declared}
@@ -17,6 +16,13 @@ returns-then-ignores-clause-tried c =
     let s = c.args.basis.now.setting.now in
     let e = edge_for c.args.edge.now.entry.now (dep_kind_info_view c.args.edge.now.info.now) in
     ignored_tried r s c.args.found.now e (TakenWhen c.args.trial.now.asked) (is_ignored r s e c.args.edge.now.entry.now.is_member c.requires.entry.tells (sym c.ignores.ensures ∙ c.if-ignores.true))
+
+pub returns-then-ignores-clause-whole : goal.returns-then-ignores-clause-whole
+returns-then-ignores-clause-whole c yes =
+    let r = resolved_view c.args.basis.now.lookup.now in
+    let s = c.args.basis.now.setting.now in
+    let e = edge_for c.args.edge.now.entry.now (dep_kind_info_view c.args.edge.now.info.now) in
+    ignored_tried r s c.args.found.now e IsAny (is_ignored r s e c.args.edge.now.entry.now.is_member c.requires.entry.tells (sym c.ignores.ensures ∙ c.if-ignores.true))
 
 pub returns-in_default-clause-refused : goal.returns-in_default-clause-refused
 returns-in_default-clause-refused c =
@@ -39,11 +45,24 @@ returns-then-not-passes-clause-tried c =
     barred_tried (resolved_view c.args.basis.now.lookup.now) c.args.basis.now.setting.now c.args.found.now c.args.edge.now.entry.now k (TakenWhen c.args.trial.now.asked) c.in-Some.declared d.0 c.requires.lookup.distinct c.requires.entry d.1
     (λ p. absurd (cc (c.in_ok-passes.ensures.1 p, c.if-not-passes.true)))
 
+pub returns-then-not-passes-clause-whole : goal.returns-then-not-passes-clause-whole
+returns-then-not-passes-clause-whole c yes =
+    let k = dep_kind_info_view c.args.edge.now.info.now in
+    let d = c.in-Some.ensures.first in
+    barred_tried (resolved_view c.args.basis.now.lookup.now) c.args.basis.now.setting.now c.args.found.now c.args.edge.now.entry.now k IsAny c.in-Some.declared d.0 c.requires.lookup.distinct c.requires.entry d.1
+    (λ p. absurd (cc (c.in_ok-passes.ensures.1 p, c.if-not-passes.true)))
+
 pub returns-in-Excluded-clause-tried : goal.returns-in-Excluded-clause-tried
 returns-in-Excluded-clause-tried c =
     let k = dep_kind_info_view c.args.edge.now.info.now in
     let d = c.in-Some.ensures.first in
     left_out_tried (resolved_view c.args.basis.now.lookup.now) c.args.basis.now.setting.now c.args.found.now c.args.edge.now.entry.now k (TakenWhen c.args.trial.now.asked) c.in-Some.declared d.0 c.requires.lookup.distinct c.requires.entry d.1 (subst (HasStanding c.args.basis.now c.args.edge.now.entry.now) c.in-Excluded.is c.requires.standing)
+
+pub returns-in-Excluded-clause-whole : goal.returns-in-Excluded-clause-whole
+returns-in-Excluded-clause-whole c yes =
+    let k = dep_kind_info_view c.args.edge.now.info.now in
+    let d = c.in-Some.ensures.first in
+    left_out_tried (resolved_view c.args.basis.now.lookup.now) c.args.basis.now.setting.now c.args.found.now c.args.edge.now.entry.now k IsAny c.in-Some.declared d.0 c.requires.lookup.distinct c.requires.entry d.1 (subst (HasStanding c.args.basis.now c.args.edge.now.entry.now) c.in-Excluded.is c.requires.standing)
 
 pub keep-requires-clause-wanted : goal.keep-requires-clause-wanted
 keep-requires-clause-wanted c =
@@ -108,10 +127,20 @@ returns-in_ok-clone-in-NoNode-clause-refused c =
     let w = wanted r s c.args.edge.now.entry.now k c.in-Some.declared d.0 h d.1 (c.in_ok-passes.ensures.0 c.if-not-passes.false) in
     rw c.in_ok-clone-in-NoNode.ensures.cases (c.requires.may.has_node d.0 w taken (subst (HasStanding c.args.basis.now c.args.edge.now.entry.now) c.in-NoNode.is c.requires.standing))
 
-pub returns-in-Stands-clause-tried : goal.returns-in-Stands-clause-tried
-returns-in-Stands-clause-tried c =
+pub returns-in_ok-keep-in-Stands-clause-tried : goal.returns-in_ok-keep-in-Stands-clause-tried
+returns-in_ok-keep-in-Stands-clause-tried c =
     let r = resolved_view c.args.basis.now.lookup.now in
     let s = c.args.basis.now.setting.now in
     let k = dep_kind_info_view c.args.edge.now.info.now in
     let d = c.in-Some.ensures.first in
-    on_ok_weaker c.keep.result (λ found. kept_tried r s c.keep.new.found c.args.edge.now.entry.now k (TakenWhen c.args.trial.now.asked) c.in-Some.declared d.0 c.requires.lookup.distinct c.requires.entry d.1 (subst (HasStanding c.args.basis.now c.args.edge.now.entry.now) c.in-Stands.is c.requires.standing).0 found) c.keep.ensures.kept
+    let there = subst (HasStanding c.args.basis.now c.args.edge.now.entry.now) c.in-Stands.is c.requires.standing in
+    kept_tried r s c.keep.new.found c.args.edge.now.entry.now k (TakenWhen c.args.trial.now.asked) c.in-Some.declared d.0 c.requires.lookup.distinct c.requires.entry d.1 there.0 c.in_ok-keep-in-Stands.ensures.kept
+
+pub returns-in_ok-keep-in-Stands-clause-whole : goal.returns-in_ok-keep-in-Stands-clause-whole
+returns-in_ok-keep-in-Stands-clause-whole c yes =
+    let r = resolved_view c.args.basis.now.lookup.now in
+    let s = c.args.basis.now.setting.now in
+    let k = dep_kind_info_view c.args.edge.now.info.now in
+    let d = c.in-Some.ensures.first in
+    let there = subst (HasStanding c.args.basis.now c.args.edge.now.entry.now) c.in-Stands.is c.requires.standing in
+    kept_tried r s c.keep.new.found c.args.edge.now.entry.now k IsAny c.in-Some.declared d.0 c.requires.lookup.distinct c.requires.entry d.1 there.0 c.in_ok-keep-in-Stands.ensures.kept

@@ -4,18 +4,21 @@ use Rattle.krates_cm.specs.Document.{dep_kind_info_view}
 use Rattle.krates_cm.specs.declared.resolve.DepKindInfo.{DepKindInfo}
 use Rattle.krates_rules.specs.Facts.{Kept}
 use Rattle.krates_rules.proofs.Standings.{contains_at}
-use Rattle.krates_resolve.specs.Found.{TakenWhen}
+use Rattle.krates_resolve.specs.Found.{IsAny, TakenWhen}
 use Rattle.krates_resolve.specs.Kinds.{AreFirstKinds}
 use Rattle.krates_lookups.specs.Lookup.{resolved_view}
-use Rattle.krates_lookups.specs.NodeEntry.{declared_in, edge_for}
+use Rattle.krates_lookups.specs.NodeEntry.{child_of, declared_in, edge_for, parent_of}
 use Rattle.krates_resolve.proofs.FirstKinds.{first_info, first_within, info_here}
 use Rattle.krates_resolve.proofs.Growing.{advances_refl, advances_trans}
+use Rattle.krates_resolve.proofs.Growth.{asked_advances, with_links}
+use Rattle.krates_resolve.proofs.Heedings.{noted_tried}
+use Rattle.krates_resolve.proofs.Selected.{both}
 use Rattle.krates_resolve.proofs.Steps.{finds_more}
 use Rattle.krates_resolve.proofs.TriedKinds.{kinds_in, kinds_more, kinds_whole, number_among}
 use Rattle.krates_resolve.proofs.expansion.expand_entry.Goals as goal
 
 pub loop-kind-init : goal.loop-kind-init
-loop-kind-init c = (advances_refl (resolved_view c.args.basis.now.lookup.now) c.args.basis.now.setting.now c.args.found.now c.requires.sound, λ k d lt. absurd (omega (arith, lt)))
+loop-kind-init c = (advances_refl (resolved_view c.args.basis.now.lookup.now) c.args.basis.now.setting.now c.args.found.now c.requires.sound, λ k d lt. absurd (omega (arith, lt)), λ yes k d lt. absurd (omega (arith, lt)))
 
 -- the kind and target at the place that was taken
 kinds_there : (kinds items : List ℕ) (i kind : ℕ) → items ≡ kinds → i < length items → kind ≡ get_or items i kind → Contains kinds kind
@@ -82,7 +85,7 @@ loop-kind-preserved c =
     let x = c.loop-kind.found in
     let y = c.expand_edge.new.found in
     let inv = c.loop-kind.invariant in
-    let step = c.in_ok-expand_edge.ensures in
+    let step = c.in_ok-tried.ensures in
     let infos = c.as_slice-infos.result.now in
     let items = entry.dep.now.dep_kinds.items in
     let kinds = c.in_ok-kinds.kinds.items in
@@ -94,16 +97,49 @@ loop-kind-preserved c =
     let here = kind_here infos items kinds kind info c.as_slice-infos.ensures.value c.in_ok-kinds.ensures among c.index-infos-kind.is in (
       advances_trans r s c.args.found.now x y inv.0 step.advanced,
       kinds_more r s x y entry (TakenWhen c.args.asked) list at kind (dep_kind_info_view info) step.advanced.grows c.loop-kind-test.true c.kind-item.is here inv.1 step.tried,
+      λ yes. (
+          let parts = both c.loop-kind.whole c.in_ok-tried.tried yes in
+          kinds_more r s x y entry IsAny list at kind (dep_kind_info_view info) step.advanced.grows c.loop-kind-test.true c.kind-item.is here (inv.2 parts.0) (step.whole parts.1)),
     )
 
-pub returns-clause-advanced : goal.returns-clause-advanced
-returns-clause-advanced c = c.loop-kind.invariant.0
+pub returns-then-not-whole-clause-advanced : goal.returns-then-not-whole-clause-advanced
+returns-then-not-whole-clause-advanced c = c.loop-kind.invariant.0
 
-pub returns-clause-tried : goal.returns-clause-tried
-returns-clause-tried c =
+pub returns-then-not-whole-clause-tried : goal.returns-then-not-whole-clause-tried
+returns-then-not-whole-clause-tried c =
     let r = resolved_view c.args.basis.now.lookup.now in
     let s = c.args.basis.now.setting.now in
     let entry = c.args.entry.now in
     let kinds = c.in_ok-kinds.kinds.items in
     let first = same_infos c.as_slice-infos.result.now entry.dep.now.dep_kinds.items kinds c.as_slice-infos.ensures.value c.in_ok-kinds.ensures in
     kinds_whole r s c.loop-kind.found entry (TakenWhen c.args.asked) c.as_slice-kind-items.result.now kinds c.loop-kind.kind-index first c.as_slice-kind-items.ensures.value (omega arith) c.loop-kind.invariant.1
+
+pub note_asked-requires : goal.note_asked-requires
+note_asked-requires c =
+    let entry = c.args.entry.now in
+    c.loop-kind.invariant.0.sound.has_links (parent_of entry) (child_of entry) entry.place entry.index c.requires.entry.at
+
+pub returns-clause-advanced : goal.returns-clause-advanced
+returns-clause-advanced c =
+    let r = resolved_view c.args.basis.now.lookup.now in
+    let s = c.args.basis.now.setting.now in
+    let entry = c.args.entry.now in
+    let x = c.loop-kind.found in
+    let l = c.note_asked.new.self in
+    let inv = c.loop-kind.invariant in
+    let kinds = c.in_ok-kinds.kinds.items in
+    let first = same_infos c.as_slice-infos.result.now entry.dep.now.dep_kinds.items kinds c.as_slice-infos.ensures.value c.in_ok-kinds.ensures in
+    let tried = kinds_whole r s x entry IsAny c.as_slice-kind-items.result.now kinds c.loop-kind.kind-index first c.as_slice-kind-items.ensures.value (omega arith) (inv.2 c.if-not-whole.false) in
+    advances_trans r s c.args.found.now x (with_links x l) inv.0
+    (asked_advances r s x l entry.place entry.index inv.0.sound c.note_asked.ensures (noted_tried c.one_reading.ensures.once r s x entry c.requires.lookup.distinct c.requires.entry tried))
+
+pub returns-clause-tried : goal.returns-clause-tried
+returns-clause-tried c k among =
+    let r = resolved_view c.args.basis.now.lookup.now in
+    let s = c.args.basis.now.setting.now in
+    let entry = c.args.entry.now in
+    let kinds = c.in_ok-kinds.kinds.items in
+    let first = same_infos c.as_slice-infos.result.now entry.dep.now.dep_kinds.items kinds c.as_slice-infos.ensures.value c.in_ok-kinds.ensures in
+    let tried =
+    kinds_whole r s c.loop-kind.found entry (TakenWhen c.args.asked) c.as_slice-kind-items.result.now kinds c.loop-kind.kind-index first c.as_slice-kind-items.ensures.value (omega arith) c.loop-kind.invariant.1 k among in
+    record { kept = tried.kept; has_package = tried.has_package; has_node = tried.has_node; declared = tried.declared }
