@@ -143,7 +143,6 @@ fn expand_edge<'a>(
 {
     let entry = edge.entry;
     let info = edge.info;
-    let asked = trial.asked;
     if basis.setting.ignores(info.kind, entry.is_member) {
         return Ok(true);
     }
@@ -159,7 +158,7 @@ fn expand_edge<'a>(
             dep: entry.child.clone()?,
         }));
     };
-    if !asked && entry.declared[declared].optional {
+    if !trial.asked && entry.declared[declared].optional {
         return Ok(false);
     }
     let passes = basis.setting.passes(basis.alloc, &info.target)?;

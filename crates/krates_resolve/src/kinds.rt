@@ -31,10 +31,7 @@ pub(crate) struct KindKey<'a> {
 /// The places at which a kind and a target stands that stood at no earlier place, in order.
 ///
 /// Time: O(n log n) for n of them.
-pub(crate) fn first_kinds(
-    alloc: Global,
-    infos: &[DepKindInfo],
-) -> Result<Vec<usize>, AllocError>
+pub(crate) fn first_kinds(alloc: Global, infos: &[DepKindInfo]) -> Result<Vec<usize>, AllocError>
     ensures { IfOk result (λ places. AreFirstKinds (map dep_kind_info_view infos.now) places.items) }
 {
     if infos.len() == 1 {
