@@ -18,7 +18,7 @@ returns-then-ignores-clause-tried c =
     ignored_tried r s c.args.found.now e (TakenWhen c.args.trial.now.asked) (is_ignored r s e c.args.edge.now.entry.now.is_member c.requires.entry.tells (sym c.ignores.ensures ∙ c.if-ignores.true))
 
 pub returns-then-ignores-clause-whole : goal.returns-then-ignores-clause-whole
-returns-then-ignores-clause-whole c yes =
+returns-then-ignores-clause-whole c so =
     let r = resolved_view c.args.basis.now.lookup.now in
     let s = c.args.basis.now.setting.now in
     let e = edge_for c.args.edge.now.entry.now (dep_kind_info_view c.args.edge.now.info.now) in
@@ -46,7 +46,7 @@ returns-then-not-passes-clause-tried c =
     (λ p. absurd (cc (c.in_ok-passes.ensures.1 p, c.if-not-passes.true)))
 
 pub returns-then-not-passes-clause-whole : goal.returns-then-not-passes-clause-whole
-returns-then-not-passes-clause-whole c yes =
+returns-then-not-passes-clause-whole c so =
     let k = dep_kind_info_view c.args.edge.now.info.now in
     let d = c.in-Some.ensures.first in
     barred_tried (resolved_view c.args.basis.now.lookup.now) c.args.basis.now.setting.now c.args.found.now c.args.edge.now.entry.now k IsAny c.in-Some.declared d.0 c.requires.lookup.distinct c.requires.entry d.1
@@ -59,7 +59,7 @@ returns-in-Excluded-clause-tried c =
     left_out_tried (resolved_view c.args.basis.now.lookup.now) c.args.basis.now.setting.now c.args.found.now c.args.edge.now.entry.now k (TakenWhen c.args.trial.now.asked) c.in-Some.declared d.0 c.requires.lookup.distinct c.requires.entry d.1 (subst (HasStanding c.args.basis.now c.args.edge.now.entry.now) c.in-Excluded.is c.requires.standing)
 
 pub returns-in-Excluded-clause-whole : goal.returns-in-Excluded-clause-whole
-returns-in-Excluded-clause-whole c yes =
+returns-in-Excluded-clause-whole c so =
     let k = dep_kind_info_view c.args.edge.now.info.now in
     let d = c.in-Some.ensures.first in
     left_out_tried (resolved_view c.args.basis.now.lookup.now) c.args.basis.now.setting.now c.args.found.now c.args.edge.now.entry.now k IsAny c.in-Some.declared d.0 c.requires.lookup.distinct c.requires.entry d.1 (subst (HasStanding c.args.basis.now c.args.edge.now.entry.now) c.in-Excluded.is c.requires.standing)
@@ -137,7 +137,7 @@ returns-in_ok-keep-in-Stands-clause-tried c =
     kept_tried r s c.keep.new.found c.args.edge.now.entry.now k (TakenWhen c.args.trial.now.asked) c.in-Some.declared d.0 c.requires.lookup.distinct c.requires.entry d.1 there.0 c.in_ok-keep-in-Stands.ensures.kept
 
 pub returns-in_ok-keep-in-Stands-clause-whole : goal.returns-in_ok-keep-in-Stands-clause-whole
-returns-in_ok-keep-in-Stands-clause-whole c yes =
+returns-in_ok-keep-in-Stands-clause-whole c so =
     let r = resolved_view c.args.basis.now.lookup.now in
     let s = c.args.basis.now.setting.now in
     let k = dep_kind_info_view c.args.edge.now.info.now in

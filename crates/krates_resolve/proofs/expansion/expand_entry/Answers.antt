@@ -18,7 +18,7 @@ use Rattle.krates_resolve.proofs.TriedKinds.{kinds_in, kinds_more, kinds_whole, 
 use Rattle.krates_resolve.proofs.expansion.expand_entry.Goals as goal
 
 pub loop-kind-init : goal.loop-kind-init
-loop-kind-init c = (advances_refl (resolved_view c.args.basis.now.lookup.now) c.args.basis.now.setting.now c.args.found.now c.requires.sound, λ k d lt. absurd (omega (arith, lt)), λ yes k d lt. absurd (omega (arith, lt)))
+loop-kind-init c = (advances_refl (resolved_view c.args.basis.now.lookup.now) c.args.basis.now.setting.now c.args.found.now c.requires.sound, λ k d lt. absurd (omega (arith, lt)), λ so k d lt. absurd (omega (arith, lt)))
 
 -- the kind and target at the place that was taken
 kinds_there : (kinds items : List ℕ) (i kind : ℕ) → items ≡ kinds → i < length items → kind ≡ get_or items i kind → Contains kinds kind
@@ -97,8 +97,8 @@ loop-kind-preserved c =
     let here = kind_here infos items kinds kind info c.as_slice-infos.ensures.value c.in_ok-kinds.ensures among c.index-infos-kind.is in (
       advances_trans r s c.args.found.now x y inv.0 step.advanced,
       kinds_more r s x y entry (TakenWhen c.args.asked) list at kind (dep_kind_info_view info) step.advanced.grows c.loop-kind-test.true c.kind-item.is here inv.1 step.tried,
-      λ yes. (
-          let parts = both c.loop-kind.whole c.in_ok-tried.tried yes in
+      λ so. (
+          let parts = both c.loop-kind.whole c.in_ok-tried.tried so in
           kinds_more r s x y entry IsAny list at kind (dep_kind_info_view info) step.advanced.grows c.loop-kind-test.true c.kind-item.is here (inv.2 parts.0) (step.whole parts.1)),
     )
 
