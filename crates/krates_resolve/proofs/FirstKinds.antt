@@ -141,6 +141,10 @@ infos_long infos = length-map infos dep_kind_info_view
 pub info_here : (infos : List DepKindInfo) (place : ℕ) (info : DepKindInfo) → place < length infos → info ≡ get_or infos place info → slice_get (map dep_kind_info_view infos) place ≡ Some (dep_kind_info_view info)
 info_here infos place info lt is = slice_get-map dep_kind_info_view infos place ∙ ap (option_map dep_kind_info_view) (slice_get_read infos (length infos) place info refl lt is)
 
+pub info_there : (infos items : List DepKindInfo) (place : ℕ) (info : DepKindInfo) → infos ≡ items → slice_get infos place ≡ Some info → slice_get (map dep_kind_info_view items) place ≡ Some (dep_kind_info_view info)
+info_there infos items place info same at =
+    subst (λ (ds : List DepKindInfo). slice_get (map dep_kind_info_view ds) place ≡ Some (dep_kind_info_view info)) same (slice_get-map dep_kind_info_view infos place ∙ ap (option_map dep_kind_info_view) at)
+
 -- a first place is one of the list
 pub first_within : (infos : List DepKindInfo) (places : List ℕ) (place : ℕ) → AreFirstKinds (map dep_kind_info_view infos) places → Contains places place → place < length infos
 first_within infos places place first among =

@@ -25,10 +25,6 @@ TriedKind r s x entry taken place = (k : DepKindInfoModel) → slice_get (kinds_
 abbrev pub TriedKinds : Resolved → SettingModel → Found → NodeEntry → (DependencyModel → Type 0) → List ℕ → ℕ → Type 0
 TriedKinds r s x entry taken places n = SeenBelow (TriedKind r s x entry taken) places n
 
--- a number of a list
-pub number_among : (xs : List ℕ) (i n : ℕ) → i < length xs → n ≡ get_or xs i n → Contains xs n
-number_among xs i n lt is = (i, lt, sym is)
-
 -- one more was tried
 pub kinds_more : (r : Resolved) (s : SettingModel) (x y : Found) (entry : NodeEntry) (taken : DependencyModel → Type 0) (places : List ℕ) (i place : ℕ) (k : DepKindInfoModel) → Grows r x y → i < length places → place ≡ get_or places i place
     → slice_get (kinds_in entry) place ≡ Some k → TriedKinds r s x entry taken places i → IsTried r s y (edge_for entry k) taken → TriedKinds r s y entry taken places (i + 1)

@@ -13,7 +13,7 @@ ghost use Rattle.krates_lookups.specs.Lookup.{IsLookup};
 
 use crate::enabling::{Keeping, keep};
 use crate::found::Found;
-use crate::kinds::first_kinds;
+use crate::kinds::{first_kinds, info_at};
 use crate::trace::Reason;
 use krates_document::declared_dependency::{Sought, declared_of, version_of};
 use krates_graph::agenda::Taken;
@@ -96,7 +96,7 @@ pub(crate) fn expand_entry<'a>(
     for kind in kinds.as_slice() {
         let edge = EntryEdge {
             entry,
-            info: &infos[*kind],
+            info: info_at(infos, *kind),
             version: &version,
             places,
         };

@@ -2,7 +2,7 @@
 
 ghost use Rattle.krates_cm.specs.Document.{dep_kind_info_view};
 ghost use Rattle.krates_resolve.specs.Kinds.{AreFirstKinds, kind_view, purpose_view};
-ghost use Rattle.std.specs.Prelude.{◌≡◌, IfOk, map};
+ghost use Rattle.std.specs.Prelude.{◌≡◌, ◌<◌, IfOk, Some, length, map, slice_get};
 
 use krates_cm::{DepKindInfo, DependencyKind};
 use std::alloc::{AllocError, Global};
@@ -45,6 +45,14 @@ pub(crate) fn first_kinds(alloc: Global, infos: &[DepKindInfo]) -> Result<Vec<us
         }
     }
     Ok(places)
+}
+
+/// The kind and target at a place. Time O(1).
+pub(crate) fn info_at(infos: &[DepKindInfo], place: usize) -> &DepKindInfo
+    requires { place < length infos.now }
+    ensures { slice_get infos.now place ≡ Some result.now }
+{
+    &infos[place]
 }
 
 /// The kind and the target, as a key.

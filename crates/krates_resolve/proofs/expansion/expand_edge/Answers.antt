@@ -7,7 +7,7 @@ use Rattle.krates_lookups.specs.NodeEntry.{edge_for}
 use Rattle.krates_lookups.proofs.Declared.{optional_declared}
 use Rattle.krates_questions.proofs.Entries.{heeds, is_ignored, loose, wanted}
 use Rattle.krates_resolve.proofs.Entries.{taken_here, ignored_tried, optional_tried, barred_tried, left_out_tried, kept_tried}
-use Rattle.krates_resolve.proofs.expansion.expand_edge.Goals.{else-not-asked-via-then-not-asked+else-entry-declared, else-not-asked-via-else-not-asked}
+use Rattle.krates_resolve.proofs.expansion.expand_edge.Goals.{else-not-trial-via-then-not-trial+else-entry-declared, else-not-trial-via-else-not-trial}
 use Rattle.krates_resolve.proofs.expansion.expand_edge.Goals as goal
 
 pub returns-then-ignores-clause-tried : goal.returns-then-ignores-clause-tried
@@ -36,7 +36,7 @@ returns-then-entry-declared-clause-tried c =
     let k = dep_kind_info_view c.args.edge.now.info.now in
     let d = c.in-Some.ensures.first in
     let is = optional_declared c.args.edge.now.entry.now k c.in-Some.declared d.0 c.index-entry-declared.result d.1 true c.if-entry-declared.true in
-    optional_tried (resolved_view c.args.basis.now.lookup.now) c.args.basis.now.setting.now c.args.found.now c.args.edge.now.entry.now k c.args.trial.now.asked c.in-Some.declared d.0 c.requires.lookup.distinct c.requires.entry d.1 c.if-not-asked.true is
+    optional_tried (resolved_view c.args.basis.now.lookup.now) c.args.basis.now.setting.now c.args.found.now c.args.edge.now.entry.now k c.args.trial.now.asked c.in-Some.declared d.0 c.requires.lookup.distinct c.requires.entry d.1 c.if-not-trial.true is
 
 pub returns-then-not-passes-clause-tried : goal.returns-then-not-passes-clause-tried
 returns-then-not-passes-clause-tried c =
@@ -79,9 +79,9 @@ keep-requires-clause-may c =
     let s = c.args.basis.now.setting.now in
     let k = dep_kind_info_view c.args.edge.now.info.now in
     let d = c.in-Some.ensures.first in
-    let taken = taken_here c.args.trial.now.asked d.0 (elim c.else-not-asked.branch [
-      | else-not-asked-via-then-not-asked+else-entry-declared w ↦ inr (optional_declared c.args.edge.now.entry.now k c.in-Some.declared d.0 w.index-entry-declared.result d.1 false w.if-entry-declared.false)
-      | else-not-asked-via-else-not-asked w ↦ inl w.if-not-asked.false
+    let taken = taken_here c.args.trial.now.asked d.0 (elim c.else-not-trial.branch [
+      | else-not-trial-via-then-not-trial+else-entry-declared w ↦ inr (optional_declared c.args.edge.now.entry.now k c.in-Some.declared d.0 w.index-entry-declared.result d.1 false w.if-entry-declared.false)
+      | else-not-trial-via-else-not-trial w ↦ inl w.if-not-trial.false
     ]) in
     let h = heeds r s c.args.edge.now.entry.now k c.requires.entry c.requires.listed c.ignores.result c.ignores.ensures c.if-ignores.false in
     c.requires.may.kept d.0 (wanted r s c.args.edge.now.entry.now k c.in-Some.declared d.0 h d.1 (c.in_ok-passes.ensures.0 c.if-not-passes.false)) taken (subst (HasStanding c.args.basis.now c.args.edge.now.entry.now) c.in-Stands.is c.requires.standing).0
@@ -92,9 +92,9 @@ keep-requires-clause-step c =
     let s = c.args.basis.now.setting.now in
     let k = dep_kind_info_view c.args.edge.now.info.now in
     let d = c.in-Some.ensures.first in
-    let taken = taken_here c.args.trial.now.asked d.0 (elim c.else-not-asked.branch [
-      | else-not-asked-via-then-not-asked+else-entry-declared w ↦ inr (optional_declared c.args.edge.now.entry.now k c.in-Some.declared d.0 w.index-entry-declared.result d.1 false w.if-entry-declared.false)
-      | else-not-asked-via-else-not-asked w ↦ inl w.if-not-asked.false
+    let taken = taken_here c.args.trial.now.asked d.0 (elim c.else-not-trial.branch [
+      | else-not-trial-via-then-not-trial+else-entry-declared w ↦ inr (optional_declared c.args.edge.now.entry.now k c.in-Some.declared d.0 w.index-entry-declared.result d.1 false w.if-entry-declared.false)
+      | else-not-trial-via-else-not-trial w ↦ inl w.if-not-trial.false
     ]) in
     let h = heeds r s c.args.edge.now.entry.now k c.requires.entry c.requires.listed c.ignores.result c.ignores.ensures c.if-ignores.false in
     c.requires.step d.0 (wanted r s c.args.edge.now.entry.now k c.in-Some.declared d.0 h d.1 (c.in_ok-passes.ensures.0 c.if-not-passes.false)) taken (subst (HasStanding c.args.basis.now c.args.edge.now.entry.now) c.in-Stands.is c.requires.standing).0
@@ -105,9 +105,9 @@ returns-in_ok-clone-in-NoPackage-clause-refused c =
     let s = c.args.basis.now.setting.now in
     let k = dep_kind_info_view c.args.edge.now.info.now in
     let d = c.in-Some.ensures.first in
-    let taken = taken_here c.args.trial.now.asked d.0 (elim c.else-not-asked.branch [
-      | else-not-asked-via-then-not-asked+else-entry-declared w ↦ inr (optional_declared c.args.edge.now.entry.now k c.in-Some.declared d.0 w.index-entry-declared.result d.1 false w.if-entry-declared.false)
-      | else-not-asked-via-else-not-asked w ↦ inl w.if-not-asked.false
+    let taken = taken_here c.args.trial.now.asked d.0 (elim c.else-not-trial.branch [
+      | else-not-trial-via-then-not-trial+else-entry-declared w ↦ inr (optional_declared c.args.edge.now.entry.now k c.in-Some.declared d.0 w.index-entry-declared.result d.1 false w.if-entry-declared.false)
+      | else-not-trial-via-else-not-trial w ↦ inl w.if-not-trial.false
     ]) in
     let h = heeds r s c.args.edge.now.entry.now k c.requires.entry c.requires.listed c.ignores.result c.ignores.ensures c.if-ignores.false in
     let w = wanted r s c.args.edge.now.entry.now k c.in-Some.declared d.0 h d.1 (c.in_ok-passes.ensures.0 c.if-not-passes.false) in
@@ -119,9 +119,9 @@ returns-in_ok-clone-in-NoNode-clause-refused c =
     let s = c.args.basis.now.setting.now in
     let k = dep_kind_info_view c.args.edge.now.info.now in
     let d = c.in-Some.ensures.first in
-    let taken = taken_here c.args.trial.now.asked d.0 (elim c.else-not-asked.branch [
-      | else-not-asked-via-then-not-asked+else-entry-declared w ↦ inr (optional_declared c.args.edge.now.entry.now k c.in-Some.declared d.0 w.index-entry-declared.result d.1 false w.if-entry-declared.false)
-      | else-not-asked-via-else-not-asked w ↦ inl w.if-not-asked.false
+    let taken = taken_here c.args.trial.now.asked d.0 (elim c.else-not-trial.branch [
+      | else-not-trial-via-then-not-trial+else-entry-declared w ↦ inr (optional_declared c.args.edge.now.entry.now k c.in-Some.declared d.0 w.index-entry-declared.result d.1 false w.if-entry-declared.false)
+      | else-not-trial-via-else-not-trial w ↦ inl w.if-not-trial.false
     ]) in
     let h = heeds r s c.args.edge.now.entry.now k c.requires.entry c.requires.listed c.ignores.result c.ignores.ensures c.if-ignores.false in
     let w = wanted r s c.args.edge.now.entry.now k c.in-Some.declared d.0 h d.1 (c.in_ok-passes.ensures.0 c.if-not-passes.false) in

@@ -1,5 +1,5 @@
 use Rattle.std.proofs.Common.{◌≡◌, ℕ, ◌<◌, ◌∙◌, List, Contains, length, get_or, map, Some, sym, ap, subst, arith}
-use Rattle.std.specs.List.{slice_get}
+use Rattle.std.proofs.lemmas.List.{get_or_default}
 use Rattle.krates_cm.specs.Document.{dep_kind_info_view}
 use Rattle.krates_cm.specs.declared.resolve.DepKindInfo.{DepKindInfo}
 use Rattle.krates_rules.specs.Facts.{Kept}
@@ -8,38 +8,32 @@ use Rattle.krates_resolve.specs.Found.{IsAny, TakenWhen}
 use Rattle.krates_resolve.specs.Kinds.{AreFirstKinds}
 use Rattle.krates_lookups.specs.Lookup.{resolved_view}
 use Rattle.krates_lookups.specs.NodeEntry.{child_of, declared_in, edge_for, parent_of}
-use Rattle.krates_resolve.proofs.FirstKinds.{first_info, first_within, info_here}
+use Rattle.krates_resolve.proofs.FirstKinds.{first_info, first_within, info_there}
 use Rattle.krates_resolve.proofs.Growing.{advances_refl, advances_trans}
 use Rattle.krates_resolve.proofs.Growth.{asked_advances, with_links}
 use Rattle.krates_resolve.proofs.Heedings.{noted_tried}
-use Rattle.krates_resolve.proofs.Selected.{both}
+use Rattle.krates_resolve.proofs.Selected.{both, contains_or}
 use Rattle.krates_resolve.proofs.Steps.{finds_more}
-use Rattle.krates_resolve.proofs.TriedKinds.{kinds_in, kinds_more, kinds_whole, number_among}
+use Rattle.krates_resolve.proofs.TriedKinds.{kinds_in, kinds_more, kinds_whole}
 use Rattle.krates_resolve.proofs.expansion.expand_entry.Goals as goal
 
 pub loop-kind-init : goal.loop-kind-init
 loop-kind-init c = (advances_refl (resolved_view c.args.basis.now.lookup.now) c.args.basis.now.setting.now c.args.found.now c.requires.sound, λ k d lt. absurd (omega (arith, lt)), λ so k d lt. absurd (omega (arith, lt)))
 
--- the kind and target at the place that was taken
-kinds_there : (kinds items : List ℕ) (i kind : ℕ) → items ≡ kinds → i < length items → kind ≡ get_or items i kind → Contains kinds kind
-kinds_there kinds items i kind same lt is = subst (λ (ks : List ℕ). Contains ks kind) same (number_among items i kind lt is)
+-- the place that was taken
+kinds_there : (kinds items : List ℕ) (i : ℕ) → items ≡ kinds → i < length items → Contains kinds (get_or items i 0)
+kinds_there kinds items i same lt = subst (λ (ks : List ℕ). Contains ks (get_or items i 0)) same (contains_or items i 0 lt)
 
 -- the list is that of the dependency
 same_infos : (infos items : List DepKindInfo) (kinds : List ℕ) → infos ≡ items → AreFirstKinds (map dep_kind_info_view infos) kinds → AreFirstKinds (map dep_kind_info_view items) kinds
 same_infos infos items kinds same first = subst (λ (is : List DepKindInfo). AreFirstKinds (map dep_kind_info_view is) kinds) same first
 
--- what stands there
-kind_here : (infos items : List DepKindInfo) (kinds : List ℕ) (kind : ℕ) (info : DepKindInfo) → infos ≡ items → AreFirstKinds (map dep_kind_info_view infos) kinds → Contains kinds kind → info ≡ get_or infos kind info
-    → slice_get (map dep_kind_info_view items) kind ≡ Some (dep_kind_info_view info)
-kind_here infos items kinds kind info same first among is =
-    subst (λ (ds : List DepKindInfo). slice_get (map dep_kind_info_view ds) kind ≡ Some (dep_kind_info_view info)) same (info_here infos kind info (first_within infos kinds kind first among) is)
-
-pub index-infos-kind-requires : goal.index-infos-kind-requires
-index-infos-kind-requires c =
+pub info_at-requires : goal.info_at-requires
+info_at-requires c =
     let kinds = c.in_ok-kinds.kinds.items in
-    let kind = c.kind-item.result in
-    let among = kinds_there kinds c.as_slice-kind-items.result.now c.loop-kind.kind-index kind c.as_slice-kind-items.ensures.value c.loop-kind-test.true c.kind-item.is in
-    first_within c.as_slice-infos.result.now kinds kind c.in_ok-kinds.ensures among
+    let list = c.as_slice-kind-items.result.now in
+    let among = kinds_there kinds list c.loop-kind.kind-index c.as_slice-kind-items.ensures.value c.loop-kind-test.true in
+    first_within c.as_slice-infos.result.now kinds (get_or list c.loop-kind.kind-index 0) c.in_ok-kinds.ensures among
 
 pub expand_edge-requires-clause-places : goal.expand_edge-requires-clause-places
 expand_edge-requires-clause-places c = c.places_for-places.ensures (declared_in c.args.entry.now) c.requires.entry.declares
@@ -49,31 +43,33 @@ expand_edge-requires-clause-listed c =
     let infos = c.as_slice-infos.result.now in
     let items = c.args.entry.now.dep.now.dep_kinds.items in
     let kinds = c.in_ok-kinds.kinds.items in
-    let kind = c.kind-item.result in
-    let info = c.index-infos-kind.result in
-    let among = kinds_there kinds c.as_slice-kind-items.result.now c.loop-kind.kind-index kind c.as_slice-kind-items.ensures.value c.loop-kind-test.true c.kind-item.is in
-    contains_at (kinds_in c.args.entry.now) kind (dep_kind_info_view info) (kind_here infos items kinds kind info c.as_slice-infos.ensures.value c.in_ok-kinds.ensures among c.index-infos-kind.is)
+    let list = c.as_slice-kind-items.result.now in
+    let kind = get_or list c.loop-kind.kind-index 0 in
+    let info = c.info_at.result.now in
+    let among = kinds_there kinds list c.loop-kind.kind-index c.as_slice-kind-items.ensures.value c.loop-kind-test.true in
+    contains_at (kinds_in c.args.entry.now) kind (dep_kind_info_view info) (info_there infos items kind info c.as_slice-infos.ensures.value c.info_at.ensures)
 
 pub expand_edge-requires-clause-first : goal.expand_edge-requires-clause-first
 expand_edge-requires-clause-first c =
     let infos = c.as_slice-infos.result.now in
     let items = c.args.entry.now.dep.now.dep_kinds.items in
     let kinds = c.in_ok-kinds.kinds.items in
-    let kind = c.kind-item.result in
-    let info = c.index-infos-kind.result in
-    let among = kinds_there kinds c.as_slice-kind-items.result.now c.loop-kind.kind-index kind c.as_slice-kind-items.ensures.value c.loop-kind-test.true c.kind-item.is in
-    let here = kind_here infos items kinds kind info c.as_slice-infos.ensures.value c.in_ok-kinds.ensures among c.index-infos-kind.is in
+    let list = c.as_slice-kind-items.result.now in
+    let kind = get_or list c.loop-kind.kind-index 0 in
+    let info = c.info_at.result.now in
+    let among = kinds_there kinds list c.loop-kind.kind-index c.as_slice-kind-items.ensures.value c.loop-kind-test.true in
+    let here = info_there infos items kind info c.as_slice-infos.ensures.value c.info_at.ensures in
     first_info items kinds kind info (same_infos infos items kinds c.as_slice-infos.ensures.value c.in_ok-kinds.ensures) among here
 
 pub expand_edge-requires-clause-sound : goal.expand_edge-requires-clause-sound
 expand_edge-requires-clause-sound c = c.loop-kind.invariant.0.sound
 
 pub expand_edge-requires-clause-may : goal.expand_edge-requires-clause-may
-expand_edge-requires-clause-may c = c.requires.may (dep_kind_info_view c.index-infos-kind.result)
+expand_edge-requires-clause-may c = c.requires.may (dep_kind_info_view c.info_at.result.now)
 
 pub expand_edge-requires-clause-step : goal.expand_edge-requires-clause-step
 expand_edge-requires-clause-step c d wanted taken stands =
-    let k = dep_kind_info_view c.index-infos-kind.result in
+    let k = dep_kind_info_view c.info_at.result.now in
     finds_more (resolved_view c.args.basis.now.lookup.now) c.args.basis.now.setting.now c.args.found.now.trace.items c.loop-kind.found.trace.items c.args.reason (Kept (edge_for c.args.entry.now k)) c.loop-kind.invariant.0.grows.steps
     (c.requires.step k d wanted taken stands)
 
@@ -91,15 +87,15 @@ loop-kind-preserved c =
     let kinds = c.in_ok-kinds.kinds.items in
     let list = c.as_slice-kind-items.result.now in
     let at = c.loop-kind.kind-index in
-    let kind = c.kind-item.result in
-    let info = c.index-infos-kind.result in
-    let among = kinds_there kinds list at kind c.as_slice-kind-items.ensures.value c.loop-kind-test.true c.kind-item.is in
-    let here = kind_here infos items kinds kind info c.as_slice-infos.ensures.value c.in_ok-kinds.ensures among c.index-infos-kind.is in (
+    let kind = get_or list at 0 in
+    let info = c.info_at.result.now in
+    let is = get_or_default list at 0 kind c.loop-kind-test.true in
+    let here = info_there infos items kind info c.as_slice-infos.ensures.value c.info_at.ensures in (
       advances_trans r s c.args.found.now x y inv.0 step.advanced,
-      kinds_more r s x y entry (TakenWhen c.args.asked) list at kind (dep_kind_info_view info) step.advanced.grows c.loop-kind-test.true c.kind-item.is here inv.1 step.tried,
+      kinds_more r s x y entry (TakenWhen c.args.asked) list at kind (dep_kind_info_view info) step.advanced.grows c.loop-kind-test.true is here inv.1 step.tried,
       λ so. (
           let parts = both c.loop-kind.whole c.in_ok-tried.tried so in
-          kinds_more r s x y entry IsAny list at kind (dep_kind_info_view info) step.advanced.grows c.loop-kind-test.true c.kind-item.is here (inv.2 parts.0) (step.whole parts.1)),
+          kinds_more r s x y entry IsAny list at kind (dep_kind_info_view info) step.advanced.grows c.loop-kind-test.true is here (inv.2 parts.0) (step.whole parts.1)),
     )
 
 pub returns-then-not-whole-clause-advanced : goal.returns-then-not-whole-clause-advanced

@@ -41,13 +41,13 @@ loop-place-preserved c =
     let added = c.in_ok-insert.ensures.added in
     elim c.if-branch.branch [
       | then-branch+in_ok-push w ↦ (
-          seen,
-          rw w.places-is (first_put ks l.place (kind_view k) known l.places.items w.push.new.self.items at (was_new c.in_ok-insert.field-0 known added w.if-branch.true) tells w.in_ok-push.ensures.items l.invariant.1),
-        )
+        seen,
+        rw w.places-is (first_put ks l.place (kind_view k) known l.places.items w.push.new.self.items at (was_new c.in_ok-insert.field-0 known added w.if-branch.true) tells w.in_ok-push.ensures.items l.invariant.1),
+      )
       | else-branch w ↦ (
-          seen,
-          rw w.places-is (first_stays ks l.place (kind_view k) known l.places.items at (was_known c.in_ok-insert.field-0 known added w.if-branch.false) tells l.invariant.1),
-        )
+        seen,
+        rw w.places-is (first_stays ks l.place (kind_view k) known l.places.items at (was_known c.in_ok-insert.field-0 known added w.if-branch.false) tells l.invariant.1),
+      )
     ]
 
 pub returns : goal.returns

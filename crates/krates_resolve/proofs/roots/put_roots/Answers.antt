@@ -49,8 +49,8 @@ returns-in-Members-clause-roots c =
     members_rooted c.one_reading.ensures.once r s x true c.args.basis.now.lookup.now.ids.now.members.items c.in-Members.ensures c.requires.lookup.ids.members
     (subst (λ (ms : List Identity). All (λ m. IsRoot r s (id_of m) → IsRooted r s x (id_of m)) ms) c.deref.ensures.value h)) c.put_members.ensures.rooted
 
-pub returns-in-Manifests-clause-roots : goal.returns-in-Manifests-clause-roots
-returns-in-Manifests-clause-roots c =
+pub returns-clause-roots : goal.returns-clause-roots
+returns-clause-roots c =
     let r = resolved_view c.args.basis.now.lookup.now in
     let s = c.args.basis.now.setting.now in
     let x = c.put_members-in-Manifests.new.found in
