@@ -1,4 +1,5 @@
 use Rattle.std.proofs.Common.{◌≡◌, refl, ◌∙◌, subst}
+use Rattle.std.proofs.lemmas.Result.{err_from_is_err_and}
 use Rattle.krates_cm.specs.Document.{metadata_view}
 use Rattle.krates_document.specs.Ids.{ids_view}
 use Rattle.krates_drawing.specs.Views.{sheet_view}
@@ -6,7 +7,7 @@ use Rattle.krates_questions.specs.DocumentModel.{as_resolved}
 use Rattle.krates_drawing.proofs.DocumentSheets.{none_doubled_in}
 use Rattle.krates_lookups.specs.Lookup.{resolved_view}
 use Rattle.krates_resolve.specs.Explained.{IsExplained, IsExplainedOf}
-use Rattle.krates_resolve.specs.Selection.{IsSelection, IsSelectionOf}
+use Rattle.krates_resolve.specs.Selection.{IsSelection, IsSelectionOf, RefusesSelection}
 use Rattle.krates_rules.specs.Questions.{questions}
 use Rattle.krates_rules.specs.Resolved.{Resolved, resolved}
 use Rattle.krates_rules.specs.SelectionRefusals.{SelectionRefusal}
@@ -16,10 +17,14 @@ use Rattle.krates.proofs.drawn.sketch_of.Goals as goal
 
 pub returns-in_err-selection-clause-refused : goal.returns-in_err-selection-clause-refused
 returns-in_err-selection-clause-refused c =
+    let m = metadata_view c.args.metadata.now in
     let s = c.args.setting.now in
     let d = c.in_ok-document.ensures in
-    let same : resolved_view c.lookup.result.now ≡ resolved (metadata_view c.args.metadata.now) d.graph = c.lookup.ensures.document ∙ d.holds in
-    record { graph = d.graph; has_graph = d.has_graph; holds = subst (λ (r : Resolved). SelectionRefusal (questions r s) _) same c.in_err-selection.ensures.refused }
+    let error = c.in_err-selection.field-0.0 in
+    let same : resolved_view c.lookup.result.now ≡ resolved m d.graph = c.lookup.ensures.document ∙ d.holds in
+    let refused : RefusesSelection m s error = record { graph = d.graph; has_graph = d.has_graph; holds = subst (λ (r : Resolved). SelectionRefusal (questions r s) error) same c.in_err-selection.ensures.refused } in
+    let p = err_from_is_err_and c.from_residual-in_err-selection.result c.from_residual-in_err-selection.ensures.1 in
+    rw (p.1, p.2) refused
 
 pub steps_of-requires-clause-selected : goal.steps_of-requires-clause-selected
 steps_of-requires-clause-selected c = subst (λ (r : Resolved). IsSelection r c.args.setting.now c.in_ok-selection.selection) c.lookup.ensures.document c.in_ok-selection.ensures.selected
