@@ -23,7 +23,8 @@ use Rattle.krates_rules.specs.Resolved.{id_of}
 use Rattle.krates_rules.specs.Rules.{default_name}
 use Rattle.krates_text.specs.FeatureReference.{IsReference, Reference}
 use Rattle.krates_lookups.specs.Numbering.{IsOwn}
-use Rattle.std.specs.Prelude.{◌≡◌, Bool, Contains, ℕ, true}
+use Rattle.krates_graph.specs.Agenda.{PutNumbers}
+use Rattle.std.specs.Prelude.{◌≡◌, Bool, Contains, ℕ, length, true}
 
 -- the crate of a node
 abbrev pub crate_of : KeptNode → Id
@@ -200,6 +201,11 @@ HasTriedEntry b x entry = HasTriedEach b x (parent_of entry) (child_of entry) (n
 -- where the crate is a root, all that a root gives stands in it
 abbrev pub HasRootedRoot : Basis → Found → Id → Type 0
 HasRootedRoot b x i = HasRoot b i → HasRooted b x i
+
+-- the agenda has room for each node, and all that a root gives stands in it for the crate of each node that was put
+pub record HasRootedEach (b : Basis) (x : Found) (places : PutNumbers) : Type 0 where
+  pub size : places.size ≡ length (document_of b).graph.nodes
+  pub each : (place : ℕ) (krate : Id) → Contains places.put place → IsNodeAt b krate place → HasRooted b x krate
 
 -- the node of a kept crate stands at its place
 abbrev pub IsNodeOf : Basis → KeptNode → Type 0
