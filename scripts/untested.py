@@ -41,6 +41,8 @@ SHOWN_BY = {
     "Document::referents": ("referents_of",),
     "Document::roots": ("choice_of",),
     "Document::presence": ("standing_of", "standing_of_child"),
+    # a selection is made in look-ups of the document
+    "select": ("select_in",),
     # the graph of a build: its sheet, nodes and edges, and how they are stored
     "build_with_metadata": "count_of given_by meanings_by draw_nodes plan store_arrows in_order Krates::new".split(),
     # the steps that a build keeps, and those of them that lead to a node
