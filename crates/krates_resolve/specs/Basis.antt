@@ -14,6 +14,8 @@ use Rattle.krates_resolve.specs.declared.enabling.KeptNode.{KeptNode}
 use Rattle.krates_resolve.specs.declared.found.Found.{Found}
 use Rattle.krates_lookups.specs.declared.node_entry.NodeEntry.{NodeEntry}
 use Rattle.krates_lookups.specs.declared.node_entry.NodeParts.{NodeParts}
+use Rattle.krates_questions.specs.declared.standing.Standing.{Standing}
+use Rattle.krates_questions.specs.Standing.{IsStanding}
 use Rattle.krates_resolve.specs.declared.trace.NumberedStep.{NumberedStep}
 use Rattle.krates_resolve.specs.declared.trace.Reason.{Reason}
 use Rattle.krates_resolve.specs.declared.work.Work.{Work}
@@ -197,6 +199,10 @@ HasFollowedText b x i text = (reference : Reference) → IsReference text refere
 -- each edge of an entry has been tried
 abbrev pub HasTriedEntry : Basis → Found → NodeEntry → (DependencyModel → Type 0) → Type 0
 HasTriedEntry b x entry = HasTriedEach b x (parent_of entry) (child_of entry) (node_dep_view entry.dep.now)
+
+-- the answer is true of the crate that the dependency leads to
+abbrev pub HasStanding : Basis → NodeEntry → Standing → Type 0
+HasStanding b entry = IsStanding (document_of b) b.setting.now (child_of entry)
 
 -- where the crate is a root, all that a root gives stands in it
 abbrev pub HasRootedRoot : Basis → Found → Id → Type 0

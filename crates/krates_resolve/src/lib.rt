@@ -8,6 +8,7 @@ mod expansion;
 mod found;
 mod heeding;
 mod kept_edge;
+mod kinds;
 mod links;
 pub mod resolution;
 mod roots;
