@@ -30,8 +30,8 @@ use std::alloc::{AllocError, Global};
 /// It is refused as `Lost` exactly where the document lacks what some derivation asks for, naming something that it truly lacks; and as
 /// `NoRootKrates` exactly where nothing is lacking and no crate is kept. It may instead return `Memory`.
 ///
-/// Time: O(n log n) for n crates, dependencies with their kinds, features and references; and for each reference to an optional
-/// dependency once more its kinds.
+/// Time: O(n log n) for n crates, dependencies with their kinds, features, and references as they are counted; and for each
+/// dependency the exclusions of the setting.
 pub fn select(
     alloc: Global,
     metadata: &Metadata,

@@ -1,4 +1,4 @@
-use Rattle.std.proofs.Common.{◌≡◌, ℕ, ◌<◌, ◌∙◌, List, Contains, length, get_or, map, Some, sym, ap, subst, arith}
+use Rattle.std.proofs.Common.{◌≡◌, ℕ, ◌<◌, List, Contains, length, get_or, map, subst, arith}
 use Rattle.std.proofs.lemmas.List.{get_or_default}
 use Rattle.krates_cm.specs.Document.{dep_kind_info_view}
 use Rattle.krates_cm.specs.declared.resolve.DepKindInfo.{DepKindInfo}

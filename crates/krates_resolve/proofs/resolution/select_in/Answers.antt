@@ -1,4 +1,4 @@
-use Rattle.std.proofs.Common.{◌≡◌, ◌↔◌, ℕ, ◌<◌, List, length, All, Contains, map, sym, ap, ◌∙◌, subst}
+use Rattle.std.proofs.Common.{◌↔◌, ℕ, ◌<◌, List, length, All, Contains, map, sym, ap, ◌∙◌, subst}
 use Rattle.krates_cm.specs.Document.{Text}
 use Rattle.krates_ids.specs.Identity.{Identity}
 use Rattle.krates_rules.specs.Facts.{Id, Feature}
