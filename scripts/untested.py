@@ -33,7 +33,7 @@ SHOWN_BY = {
         " is_same_info"
     ).split(),
     # a document that is asked looks its crates, features and names up
-    "Document::new": "lookup_of node_place child_place crate_number package_at node_place_at at_number child_number".split(),
+    "Document::new": "lookup_of node_place child_place crate_number at_number package_at node_place_at child_number".split(),
     "Document::is_root": ("is_member",),
     "Document::lists": ("feature_number",),
     "Document::values": ("feature_values",),
@@ -41,6 +41,8 @@ SHOWN_BY = {
     "Document::referents": ("referents_of",),
     "Document::roots": ("choice_of",),
     "Document::presence": ("standing_of", "standing_of_child"),
+    # a selection is made in look-ups of the document
+    "select": ("select_in",),
     # the graph of a build: its sheet, nodes and edges, and how they are stored
     "build_with_metadata": "count_of given_by meanings_by draw_nodes plan store_arrows in_order Krates::new".split(),
     # the steps that a build keeps, and those of them that lead to a node

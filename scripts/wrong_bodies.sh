@@ -50,6 +50,7 @@ done
 
 # The crates that a crate uses, and those that they use.
 used_by() {
+    local used
     for used in $(sed -n "s/^$1: *//p" crates.txt); do
         if [ -d "crates/$used" ]; then
             used_by "$used"

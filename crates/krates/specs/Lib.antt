@@ -10,3 +10,4 @@ pub mod KeptGraph
 pub mod Krate
 pub mod MadeNodes
 pub mod Members
+pub mod Sketch

@@ -26,7 +26,7 @@ use krates_drawing::store::FromEdge;
 use krates_ids::{BuildIndexCache, Error, PkgSpec, laws};
 use krates_queries::from_package::FromPackage;
 use krates_queries::kept::{Findings, Krates};
-use krates_resolve::{DepKind, Ids, Scope, Setting, admit, select};
+use krates_resolve::{DepKind, Ids, Scope, Setting, admit};
 use krates_text::target::Target;
 use std::alloc::{AllocError, Global};
 use std::marker::Model;
@@ -317,15 +317,16 @@ fn build_admitted<N: FromPackage + Drop, E: FromEdge + Drop, F: OnFilter>(
         nodes: u32::MAX,
         edges: u32::MAX,
     };
-    let selection = select(alloc, &metadata, &ids, setting)?;
-    let work = selection.work;
-    let sketch = sketch_of(alloc, &metadata, &ids, setting, selection)?;
+    let sketch = sketch_of(alloc, &metadata, &ids, setting)?;
     let division = divide(alloc, metadata.packages, ids.packages, &sketch.sheet.krates)?;
     let count = division.kept.len();
     let explanation = explanation_of(alloc, &division.kept, sketch.steps)?;
     let graph = graph_of(alloc, limits, sketch.sheet, division.kept)?;
     let members = members_of(alloc, graph.raw_nodes(), &ids.members)?;
     report(division.others, filter);
-    let findings = Findings { work, explanation };
+    let findings = Findings {
+        work: sketch.work,
+        explanation,
+    };
     Ok(Krates::new(graph, count, members, metadata.workspace_root, findings))
 }

@@ -16,14 +16,13 @@ ghost use Rattle.krates_ids.specs.declared.error.Error.TheVariants.{Memory};
 ghost use Rattle.krates_rules.specs.Admission.{IsAdmitted};
 ghost use Rattle.krates_explain.specs.Tables.{AreStepsOf};
 ghost use Rattle.krates_questions.specs.DocumentModel.{as_resolved};
-ghost use Rattle.krates_resolve.specs.Explained.{IsExplained, IsExplainedOf};
-ghost use Rattle.krates_resolve.specs.Selection.{IsSelection, IsSelectionOf};
+ghost use Rattle.krates_resolve.specs.Explained.{IsExplained};
+ghost use Rattle.krates_resolve.specs.Selection.{IsSelection, RefusesSelection};
 ghost use Rattle.krates_rules.specs.Resolved.{id_of};
-ghost use Rattle.krates_queries.specs.Drawn.{IsSheetFor};
-ghost use Rattle.krates_queries.specs.Explained.{AreStepsFor};
 ghost use Rattle.krates.specs.KeptGraph.{IsGraphOf};
 ghost use Rattle.krates.specs.Krate.{krate_ids};
 ghost use Rattle.krates.specs.MadeNodes.{IsMade};
+ghost use Rattle.krates.specs.Sketch.{IsSketchOf};
 
 use crate::enabled::enabled_of;
 use crate::krate::Krate;
@@ -40,38 +39,36 @@ use krates_ids::Error;
 use krates_queries::from_package::FromPackage;
 use krates_queries::node::Node;
 use krates_questions::basis::Basis;
-use krates_resolve::{Document, EnabledFeature, Ids, Selection, Setting};
+use krates_resolve::{Document, EnabledFeature, Ids, Selection, Setting, Work, select_in};
 use std::alloc::{AllocError, Global};
 
-/// What is drawn of a selection, and the steps that explain it.
+/// What is drawn of a selection, the steps that explain it, and the work that it was.
 #[derive(Drop)]
 pub(crate) struct Sketch {
     pub(crate) sheet: Sheet,
     pub(crate) steps: Vec<KeptStep>,
+    pub(crate) work: Work,
 }
 
-/// The sheet of what is selected of a document, and its steps.
+/// What is selected of a document that was admitted with these ids, as a sheet, with its steps. It is refused as `select` is.
+///
+/// The document is looked up once, for all of that.
 pub(crate) fn sketch_of(
     alloc: Global,
     metadata: &Metadata,
     ids: &Ids,
     setting: &Setting,
-    selection: Selection,
-) -> Result<Sketch, AllocError>
+) -> Result<Sketch, Error>
     requires admitted { IsAdmitted (metadata_view metadata.now) (ids_view ids.now) }
-    requires selected { IsSelectionOf (metadata_view metadata.now) setting.now selection }
-    requires explained { IsExplainedOf (metadata_view metadata.now) setting.now selection }
-    ensures sheet { IfOk result (λ sketch. IsSelectionOf (metadata_view metadata.now) setting.now selection
-        → IsSheetFor (metadata_view metadata.now) setting.now (sheet_view sketch.sheet)) }
-    ensures ordered { IfOk result (λ sketch. IsSelectionOf (metadata_view metadata.now) setting.now selection
-        → IsOrdered sketch.sheet) }
-    ensures steps { IfOk result (λ sketch. AreStepsFor (metadata_view metadata.now) setting.now
-        selection.krates.items sketch.steps.items) }
+    ensures sketched { IfOk result (IsSketchOf (metadata_view metadata.now) setting.now) }
+    ensures refused { IfErr result (RefusesSelection (metadata_view metadata.now) setting.now) }
 {
     let document = Document::new(alloc, metadata, ids)?;
+    let selection = select_in(alloc, document.lookup(), setting)?;
+    let work = selection.work;
     let steps = steps_of(alloc, &document, setting, &selection)?;
     let sheet = sheet_of(alloc, &document, setting, selection)?;
-    Ok(Sketch { sheet, steps })
+    Ok(Sketch { sheet, steps, work })
 }
 
 /// The steps of a selection, with its crates by number.

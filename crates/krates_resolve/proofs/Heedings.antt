@@ -136,6 +136,13 @@ tried_at once r s x parts y index e none p of tried there =
     let same = one_way once r (id_of parts.parent.now) (child_of y) e.parent e.child parts.place index (dep_of_entry r parts y index of is) there in
     entry_tried r s x y e none is (ap id_of of.parent ∙ same.0) same.1 tried
 
+-- so each edge at the entry's places has been
+pub noted_tried : ReadsOnce → (r : Resolved) (s : SettingModel) (x : Found) (y : NodeEntry) → NoneDoubled r.metadata r.graph → IsEntry r y → AreTried r s x (parent_of y) (child_of y) (node_dep_view y.dep.now) IsAny
+    → (e : Edge) → DepAt r e.parent e.child y.place y.index → IsTried r s x e IsAny
+noted_tried once r s x y none is tried e there =
+    let same = one_way once r (parent_of y) (child_of y) e.parent e.child y.place y.index is.at there in
+    entry_tried r s x y e none is same.0 same.1 tried
+
 pub may_ask_there : ReadsOnce → (r : Resolved) (s : SettingModel) (p child : Id) (name : Text) (place index : ℕ) → MayAsk r s p name → IsReferent r s.all_named p name child → DepAt r p child place index → MayAskAt r s p place index
 may_ask_there once r s p child name place index may is dep other k at =
     asked_may_try r s (edge_between p other k) name may (subst (IsReferent r s.all_named p name) (one_way once r p child p other place index dep at).1 is)

@@ -5,10 +5,12 @@ pub mod Enabled
 pub mod Entries
 pub mod FeaturesAt
 pub mod Finding
+pub mod FirstKinds
 pub mod Growing
 pub mod Growth
 pub mod Heedings
 pub mod KeptSteps
+pub mod KindOrder
 pub mod LinkLemmas
 pub mod Putting
 pub mod Referred
@@ -18,5 +20,6 @@ pub mod Selected
 pub mod Steps
 pub mod Taken
 pub mod TakenSteps
+pub mod TriedKinds
 pub mod TriedParts
 pub mod Waking

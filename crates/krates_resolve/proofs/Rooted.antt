@@ -1,17 +1,22 @@
 -- What a root gives, and that it was found.
-use Rattle.std.proofs.Common.{List, [], Bool, All, ap, ◌∙◌, subst}
+use Rattle.std.proofs.Common.{◌≡◌, ℕ, List, [], ◌∷◌, ◌++◌, Bool, All, Contains, length, inl, inr, sym, ap, ◌∙◌, subst, arith}
+use Rattle.std.proofs.lemmas.List.Elements.{Contains-push_cases}
 use Rattle.std.proofs.lemmas.Option.{get_or_from_slice_get, slice_get_within}
 use Rattle.std.specs.List.{AllZip}
 use Rattle.krates_cm.specs.Document.{Text}
+use Rattle.krates_graph.specs.Agenda.{PutNumbers}
 use Rattle.krates_ids.specs.Identity.{Identity, Reads}
 use Rattle.krates_rules.specs.Admission.{NoneDoubled}
 use Rattle.krates_rules.specs.Derivation.{Derivable, follows, Among}
 use Rattle.krates_rules.specs.Facts.{Id, Fact, LostPackage, LostNode, Crate, Feature, Lost}
 use Rattle.krates_rules.specs.Features.{ListsFeature}
-use Rattle.krates_resolve.specs.Found.{HasFound, IsRooted, HasRoots, MayName}
-use Rattle.krates_rules.specs.Resolved.{Resolved, id_of, NoPackage}
+use Rattle.krates_resolve.specs.Basis.{HasRooted, HasRootedEach}
+use Rattle.krates_resolve.specs.Found.{Grows, HasFound, IsRooted, HasRoots, MayName}
+use Rattle.krates_rules.specs.Resolved.{NodeAt, Resolved, id_of, NoPackage}
 use Rattle.krates_rules.specs.Questions.{Stands, LacksNode, questions, IsLeftOut}
+use Rattle.krates_questions.specs.Basis.{document_of}
 use Rattle.krates_questions.specs.RootChoice.{AsksFor}
+use Rattle.krates_questions.specs.declared.basis.Basis.{Basis}
 use Rattle.krates_rules.specs.Roots.{IsRoot}
 use Rattle.krates_rules.specs.Rules.{Questions, root_crate, root_feature, lost_root_package, lost_root_node}
 use Rattle.krates_rules.specs.Setting.{SettingModel}
@@ -19,7 +24,9 @@ use Rattle.krates_resolve.specs.declared.found.Found.{Found}
 use Rattle.krates_rules.proofs.Readings.{ReadsOnce, right_of}
 use Rattle.krates_rules.proofs.OnlyOne.{place_in}
 use Rattle.krates_rules.proofs.Standings.{not_included}
+use Rattle.krates_lookups.proofs.Lookups.{one_id}
 use Rattle.krates_questions.proofs.RootLemmas.{root_member}
+use Rattle.krates_resolve.proofs.Growing.{rooted_grows}
 
 pub members_rooted : ReadsOnce → (r : Resolved) (s : SettingModel) (x : Found) (all : Bool) (members : List Identity) → AsksFor r s all → AllZip Reads r.metadata.workspace_members members
     → All (λ m. IsRoot r s (id_of m) → IsRooted r s x (id_of m)) members → HasRoots r s x
@@ -72,4 +79,36 @@ pub listed_may : (r : Resolved) (s : SettingModel) (i : Id) (f : Text) → NoneD
 listed_may r s i f none lists enabled = record {
   enabled = enabled;
   listed = λ lacks. absurd (lacks lists);
+}
+
+-- ---- roots that were put
+
+-- none was put yet
+pub none_rooted : (b : Basis) (x : Found) (places : PutNumbers) (size : ℕ) → places ≡ record { size = size; put = []; taken = 0 } → size ≡ length (document_of b).graph.nodes → HasRootedEach b x places
+none_rooted b x places size is long = record {
+  size = ap (λ (a : PutNumbers). a.size) is ∙ long;
+  each = λ place krate among node. absurd (none_there place (subst (λ (a : PutNumbers). Contains a.put place) is among));
+}
+  where
+    none_there : (place : ℕ) → Contains [] place → ⊥
+    none_there place (k, lt, same) = absurd (omega (arith, lt))
+
+-- what was put stays
+pub each_grows : (b : Basis) (x y : Found) (places : PutNumbers) → Grows (document_of b) x y → HasRootedEach b x places → HasRootedEach b y places
+each_grows b x y places g h = record { size = h.size; each = λ place krate among node. rooted_grows (document_of b) b.setting.now x y krate g (h.each place krate among node) }
+
+-- no more was put
+pub each_stays : (b : Basis) (x : Found) (old new : PutNumbers) → new ≡ old → HasRootedEach b x old → HasRootedEach b x new
+each_stays b x old new same h = subst (HasRootedEach b x) (sym same) h
+
+-- a root was put, and all that it gives
+pub each_put : ReadsOnce → (b : Basis) (x : Found) (old new : PutNumbers) (place : ℕ) (krate : Id) → new ≡ record old { put = old.put ++ place ∷ [] } → NodeAt (document_of b) krate place → HasRooted b x krate → HasRootedEach b x old → HasRootedEach b x new
+each_put once b x old new place krate is node rooted h = record {
+  size = ap (λ (a : PutNumbers). a.size) is ∙ h.size;
+  each = λ p other among there. elim (Contains-push_cases old.put place p (subst (λ (a : PutNumbers). Contains a.put p) is among)) [
+    | inl before ↦ h.each p other before there
+    | inr same ↦ (
+        let here = subst (NodeAt (document_of b) other) (sym same) there in
+        subst (HasRooted b x) (one_id once (document_of b) krate other place node here) rooted)
+  ];
 }

@@ -14,6 +14,8 @@ use Rattle.krates_resolve.specs.declared.enabling.KeptNode.{KeptNode}
 use Rattle.krates_resolve.specs.declared.found.Found.{Found}
 use Rattle.krates_lookups.specs.declared.node_entry.NodeEntry.{NodeEntry}
 use Rattle.krates_lookups.specs.declared.node_entry.NodeParts.{NodeParts}
+use Rattle.krates_questions.specs.declared.standing.Standing.{Standing}
+use Rattle.krates_questions.specs.Standing.{IsStanding}
 use Rattle.krates_resolve.specs.declared.trace.NumberedStep.{NumberedStep}
 use Rattle.krates_resolve.specs.declared.trace.Reason.{Reason}
 use Rattle.krates_resolve.specs.declared.work.Work.{Work}
@@ -23,7 +25,8 @@ use Rattle.krates_rules.specs.Resolved.{id_of}
 use Rattle.krates_rules.specs.Rules.{default_name}
 use Rattle.krates_text.specs.FeatureReference.{IsReference, Reference}
 use Rattle.krates_lookups.specs.Numbering.{IsOwn}
-use Rattle.std.specs.Prelude.{◌≡◌, Bool, Contains, ℕ, true}
+use Rattle.krates_graph.specs.Agenda.{PutNumbers}
+use Rattle.std.specs.Prelude.{◌≡◌, Bool, Contains, ℕ, length, true}
 
 -- the crate of a node
 abbrev pub crate_of : KeptNode → Id
@@ -197,9 +200,18 @@ HasFollowedText b x i text = (reference : Reference) → IsReference text refere
 abbrev pub HasTriedEntry : Basis → Found → NodeEntry → (DependencyModel → Type 0) → Type 0
 HasTriedEntry b x entry = HasTriedEach b x (parent_of entry) (child_of entry) (node_dep_view entry.dep.now)
 
+-- the answer is true of the crate that the dependency leads to
+abbrev pub HasStanding : Basis → NodeEntry → Standing → Type 0
+HasStanding b entry = IsStanding (document_of b) b.setting.now (child_of entry)
+
 -- where the crate is a root, all that a root gives stands in it
 abbrev pub HasRootedRoot : Basis → Found → Id → Type 0
 HasRootedRoot b x i = HasRoot b i → HasRooted b x i
+
+-- the agenda has room for each node, and all that a root gives stands in it for the crate of each node that was put
+pub record HasRootedEach (b : Basis) (x : Found) (places : PutNumbers) : Type 0 where
+  pub size : places.size ≡ length (document_of b).graph.nodes
+  pub each : (place : ℕ) (krate : Id) → Contains places.put place → IsNodeAt b krate place → HasRooted b x krate
 
 -- the node of a kept crate stands at its place
 abbrev pub IsNodeOf : Basis → KeptNode → Type 0

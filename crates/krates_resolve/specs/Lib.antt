@@ -3,6 +3,7 @@ pub mod Counting
 pub mod Explained
 pub mod Found
 pub mod Heeding
+pub mod Kinds
 pub mod Links
 pub mod Saturation
 pub mod Selection

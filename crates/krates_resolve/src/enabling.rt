@@ -2,10 +2,11 @@
 
 ghost use Rattle.krates_questions.specs.Basis.{Derives, HasEntry, IsNodeAt, IsWantedAt, Lists, Refuses};
 ghost use Rattle.krates_resolve.specs.Basis.{Finds, FindsListed, FindsToggled, FindsUsed, Has, HasEnabled, HasEnabledFor, HasKeptStep, HasListed, HasToggledBy, IsNodeOf, IsNumberOf, IsRight, MayEnable, MayEnableFor, MayEnableListed, MayToggleFor, Moves, crate_of};
-ghost use Rattle.krates_lookups.specs.NodeEntry.{IsListedEdge, child_of, edge_for, edge_of};
+ghost use Rattle.krates_lookups.specs.NodeEntry.{child_of, edge_for, edge_of};
 ghost use Rattle.std.specs.Prelude.{◌≡◌, IfErr, IfOk, OnOk};
 ghost use Rattle.krates_cm.specs.Document.{DepKindInfoModel, dependency_view};
 ghost use Rattle.krates_rules.specs.Facts.{Crate, Feature, Kept};
+ghost use Rattle.krates_resolve.specs.Kinds.{IsFirstOf};
 ghost use Rattle.krates_resolve.specs.Links.{IsMarked};
 ghost use Rattle.krates_lookups.specs.Lookup.{IsLookup};
 ghost use Rattle.krates_rules.specs.Resolved.{id_of};
@@ -43,6 +44,8 @@ pub(crate) struct NamedFeature<'a> {
 /// How an edge is kept.
 #[derive(Clone, Copy)]
 pub(crate) struct Keeping {
+    /// The first place of its kind and target in the `dep_kinds` of the dependency.
+    pub kind: usize,
     /// The place of its declared dependency.
     pub declared: usize,
     /// The place of the node of the crate that it leads to.
@@ -247,7 +250,7 @@ pub(crate) fn keep<'a>(
 ) -> Result<(), Error>
     requires lookup { IsLookup basis.now.lookup.now }
     requires entry { HasEntry basis.now edge.now.entry.now }
-    requires listed { IsListedEdge edge.now }
+    requires first { IsFirstOf edge.now keeping.kind }
     requires node { IsNodeAt basis.now (child_of edge.now.entry.now) keeping.node }
     requires sound { IsRight basis.now found.old }
     requires wanted { IsWantedAt basis.now edge.now keeping.declared }
@@ -259,7 +262,7 @@ pub(crate) fn keep<'a>(
 {
     laws::one_reading();
     let entry = edge.entry;
-    let kept = kept_edge(entry, edge.info, keeping.declared)?;
+    let kept = kept_edge(entry, edge.info, keeping.kind, keeping.declared)?;
     let step = NumberedStep {
         fact: NumberedFact::Kept {
             place: entry.place,

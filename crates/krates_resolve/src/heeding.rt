@@ -17,8 +17,7 @@ use crate::trace::Reason;
 use krates_graph::agenda::Taken;
 use krates_ids::{Error, laws};
 use krates_lookups::features::feature_values;
-use krates_lookups::lookup::node_place;
-use krates_lookups::node_entry::{NodeParts, entry_at, parts_of};
+use krates_lookups::node_entry::{NodeParts, child_place, entry_at, parts_of};
 use krates_questions::basis::Basis;
 use krates_questions::referent::referents_of;
 use krates_text::features::{Feature, ParsedFeature};
@@ -161,9 +160,7 @@ fn ask_once<'a>(
         return Ok(());
     }
     let entry = entry_at(parts, index);
-    expand_entry(basis, &entry, true, reason, found)?;
-    found.links.note_asked(parts.place, index);
-    Ok(())
+    expand_entry(basis, &entry, true, reason, found)
 }
 
 /// Keeps the edges to the dependencies that the name means, also where they are optional, and toggles a feature of each to
@@ -309,13 +306,17 @@ fn toggle_child<'a>(
     ensures refused { IfErr result (Refuses basis.now) }
 {
     laws::one_reading();
-    let id = &parts.children[index];
-    let Some(place) = node_place(basis.lookup, id) else {
+    let entry = entry_at(parts, index);
+    let Some(place) = child_place(basis.lookup, &entry) else {
         unreachable!()
     };
     let by = KeptNode {
         id: parts.parent,
         place: parts.place,
     };
-    toggle(basis, by, KeptNode { id, place }, feature, found)
+    let node = KeptNode {
+        id: entry.child,
+        place,
+    };
+    toggle(basis, by, node, feature, found)
 }

@@ -8,6 +8,7 @@ mod expansion;
 mod found;
 mod heeding;
 mod kept_edge;
+mod kinds;
 mod links;
 pub mod resolution;
 mod roots;
@@ -18,7 +19,7 @@ mod tracing;
 pub mod work;
 
 pub use krates_questions::{DepKind, Document, Ids, Need, Presence, Scope, Setting, admit, laws};
-pub use resolution::select;
+pub use resolution::{select, select_in};
 pub use selection::{EnabledFeature, KeptEdge, Selection, ToggledFeature};
 pub use trace::{NumberedFact, NumberedStep, Reason};
 pub use work::Work;

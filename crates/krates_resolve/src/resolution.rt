@@ -4,12 +4,14 @@ ghost use Rattle.std.proofs.Common.{rules};
 ghost use Rattle.std.specs.Prelude.{◌≡◌, ◌<◌, All, IfOk, IfErr, Some, length, map, slice_get};
 ghost use Rattle.krates_cm.specs.Document.{metadata_view};
 ghost use Rattle.krates_rules.specs.Admission.{IsAdmitted};
-ghost use Rattle.krates_resolve.specs.Explained.{IsExplainedOf};
+ghost use Rattle.krates_resolve.specs.Explained.{IsExplained, IsExplainedOf};
 ghost use Rattle.krates_resolve.specs.Found.{HasEach, HaveNumbers};
 ghost use Rattle.krates_document.specs.Ids.{ids_view};
 ghost use Rattle.krates_lookups.specs.ListedFeatures.{listed_features};
 ghost use Rattle.krates_lookups.specs.Lookup.{IsLookup, resolved_view};
-ghost use Rattle.krates_resolve.specs.Selection.{IsSelectionOf, RefusesSelection};
+ghost use Rattle.krates_resolve.specs.Selection.{IsSelection, IsSelectionOf, RefusesSelection};
+ghost use Rattle.krates_rules.specs.Questions.{questions};
+ghost use Rattle.krates_rules.specs.SelectionRefusals.{SelectionRefusal};
 
 use crate::found::Found;
 use crate::saturation::saturate;
@@ -41,19 +43,35 @@ pub fn select(
     ensures explained { IfOk result (IsExplainedOf (metadata_view metadata.now) setting.now) }
     ensures refused { IfErr result (RefusesSelection (metadata_view metadata.now) setting.now) }
 {
-    laws::one_reading();
-    laws::comparison();
     let Some(resolve) = &metadata.resolve else {
         unreachable!()
     };
     let lookup = lookup_of(alloc, metadata, resolve, ids)?;
+    select_in(alloc, &lookup, setting)
+}
+
+/// What is kept of a document, found in look-ups that were made of it: as [`select`], for a caller that goes on to use them.
+///
+/// Time: as of [`select`].
+pub fn select_in<'a>(
+    alloc: Global,
+    lookup: &Lookup<'a>,
+    setting: &Setting,
+) -> Result<Selection, Error>
+    requires lookup { IsLookup lookup.now }
+    ensures selected { IfOk result (IsSelection (resolved_view lookup.now) setting.now) }
+    ensures explained { IfOk result (IsExplained (resolved_view lookup.now) setting.now) }
+    ensures refused { IfErr result (SelectionRefusal (questions (resolved_view lookup.now) setting.now)) }
+{
+    laws::one_reading();
+    laws::comparison();
     let mut work = Work::new();
-    let found = saturate(alloc, &lookup, setting, &mut work)?;
+    let found = saturate(alloc, lookup, setting, &mut work)?;
     if found.krates.numbers().is_empty() {
         return Err(Error::NoRootKrates);
     }
-    let krates = in_order(kids_at(alloc, &ids.nodes, found.krates.numbers())?)?;
-    let features = in_order(features_at(alloc, &lookup, found.features.numbers())?)?;
+    let krates = in_order(kids_at(alloc, &lookup.ids.nodes, found.krates.numbers())?)?;
+    let features = in_order(features_at(alloc, lookup, found.features.numbers())?)?;
     let Found {
         edges,
         toggled,

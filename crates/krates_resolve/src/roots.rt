@@ -1,7 +1,7 @@
 //! The roots: the crates that are kept for themselves.
 
 ghost use Rattle.krates_questions.specs.Basis.{AsksForRoots, HasMember, HasRoot, Refuses};
-ghost use Rattle.krates_resolve.specs.Basis.{Has, HasEachRoot, HasListed, HasRooted, HasRootedRoot, IsNodeOf, IsRight, IsStandingRoot, MayEnableListed, Moves, crate_of};
+ghost use Rattle.krates_resolve.specs.Basis.{Has, HasEachRoot, HasListed, HasRooted, HasRootedEach, HasRootedRoot, IsNodeOf, IsRight, IsStandingRoot, MayEnableListed, Moves, crate_of};
 ghost use Rattle.std.specs.Prelude.{All, IfErr, OnOk};
 ghost use Rattle.krates_cm.specs.Document.{Text};
 ghost use Rattle.krates_rules.specs.Facts.{Crate};
@@ -12,12 +12,15 @@ use crate::enabling::{KeptNode, NamedFeature, enable};
 use crate::found::Found;
 use crate::trace::Reason;
 use crate::tracing::put_krate;
+use krates_graph::agenda::Agenda;
 use krates_ids::{Error, Kid, Lost, laws};
 use krates_questions::basis::Basis;
 use krates_questions::root_choice::{RootChoice, choice_of, is_root};
 use krates_questions::standing::{Standing, standing_of};
 
 /// Puts the roots: the graph's root, every member, or the members with one of the manifests that are asked for.
+///
+/// A root that was put already is passed over.
 pub(crate) fn put_roots<'a>(basis: &Basis<'a, '_>, found: &mut Found<'a>) -> Result<(), Error>
     requires lookup { IsLookup basis.now.lookup.now }
     requires sound { IsRight basis.now found.old }
@@ -26,10 +29,15 @@ pub(crate) fn put_roots<'a>(basis: &Basis<'a, '_>, found: &mut Found<'a>) -> Res
     ensures refused { IfErr result (Refuses basis.now) }
 {
     laws::one_reading();
+    let mut places = Agenda::new(basis.alloc, basis.lookup.resolve.nodes.len())?;
     match choice_of(basis.lookup, basis.setting) {
-        RootChoice::Root(root) => put_root(basis, root, found),
-        RootChoice::Members => put_members(basis, true, &basis.lookup.ids.members, found),
-        RootChoice::Manifests => put_members(basis, false, &basis.lookup.ids.members, found),
+        RootChoice::Root(root) => put_root(basis, root, &mut places, found),
+        RootChoice::Members => {
+            put_members(basis, true, &basis.lookup.ids.members, &mut places, found)
+        }
+        RootChoice::Manifests => {
+            put_members(basis, false, &basis.lookup.ids.members, &mut places, found)
+        }
     }
 }
 
@@ -38,10 +46,12 @@ fn put_members<'a>(
     basis: &Basis<'a, '_>,
     all: bool,
     members: &'a [Kid],
+    places: &mut Agenda,
     found: &mut Found<'a>,
 ) -> Result<(), Error>
     requires lookup { IsLookup basis.now.lookup.now }
     requires sound { IsRight basis.now found.old }
+    requires each { HasRootedEach basis.now found.old places.old }
     requires asks { AsksForRoots basis.now all }
     requires members { All (λ member. HasMember basis.now (id_of member)) members.now }
     ensures advanced { OnOk result (Moves basis.now found.old found.new) }
@@ -49,7 +59,7 @@ fn put_members<'a>(
     ensures refused { IfErr result (Refuses basis.now) }
 {
     for member in members {
-        put_member(basis, all, member, found)?;
+        put_member(basis, all, member, places, found)?;
     }
     Ok(())
 }
@@ -59,29 +69,39 @@ fn put_member<'a>(
     basis: &Basis<'a, '_>,
     all: bool,
     member: &'a Kid,
+    places: &mut Agenda,
     found: &mut Found<'a>,
 ) -> Result<(), Error>
     requires lookup { IsLookup basis.now.lookup.now }
     requires sound { IsRight basis.now found.old }
+    requires each { HasRootedEach basis.now found.old places.old }
     requires asks { AsksForRoots basis.now all }
     requires member { HasMember basis.now (id_of member.now) }
     ensures advanced { OnOk result (Moves basis.now found.old found.new) }
     ensures rooted { OnOk result (HasRootedRoot basis.now found.new (id_of member.now)) }
+    ensures each { OnOk result (HasRootedEach basis.now found.new places.new) }
     ensures refused { IfErr result (Refuses basis.now) }
 {
     if is_root(basis.lookup, basis.setting, all, member) {
-        return put_root(basis, member, found);
+        return put_root(basis, member, places, found);
     }
     Ok(())
 }
 
-/// Puts a root, unless it is excluded.
-fn put_root<'a>(basis: &Basis<'a, '_>, root: &'a Kid, found: &mut Found<'a>) -> Result<(), Error>
+/// Puts a root, unless it is excluded or was put before.
+fn put_root<'a>(
+    basis: &Basis<'a, '_>,
+    root: &'a Kid,
+    places: &mut Agenda,
+    found: &mut Found<'a>,
+) -> Result<(), Error>
     requires lookup { IsLookup basis.now.lookup.now }
     requires sound { IsRight basis.now found.old }
+    requires each { HasRootedEach basis.now found.old places.old }
     requires root { HasRoot basis.now (id_of root.now) }
     ensures advanced { OnOk result (Moves basis.now found.old found.new) }
     ensures rooted { OnOk result (HasRooted basis.now found.new (id_of root.now)) }
+    ensures each { OnOk result (HasRootedEach basis.now found.new places.new) }
     ensures refused { IfErr result (Refuses basis.now) }
 {
     laws::one_reading();
@@ -89,12 +109,33 @@ fn put_root<'a>(basis: &Basis<'a, '_>, root: &'a Kid, found: &mut Found<'a>) -> 
         Standing::NoPackage => Err(Error::Lost(Lost::Package(root.clone()?))),
         Standing::NoNode => Err(Error::Lost(Lost::Node(root.clone()?))),
         Standing::Excluded => Ok(()),
-        Standing::Stands(place) => {
-            let node = KeptNode { id: root, place };
-            put_krate(basis, place, Reason::by_nothing(1), found)?;
-            enable_listed(basis, node, found)
-        }
+        Standing::Stands(place) => put_once(basis, KeptNode { id: root, place }, places, found),
     }
+}
+
+/// Puts a root that stands, and the features that its node lists, unless it was put before.
+fn put_once<'a>(
+    basis: &Basis<'a, '_>,
+    node: KeptNode<'a>,
+    places: &mut Agenda,
+    found: &mut Found<'a>,
+) -> Result<(), Error>
+    requires lookup { IsLookup basis.now.lookup.now }
+    requires node { IsNodeOf basis.now node }
+    requires sound { IsRight basis.now found.old }
+    requires each { HasRootedEach basis.now found.old places.old }
+    requires root { IsStandingRoot basis.now (crate_of node) }
+    ensures advanced { OnOk result (Moves basis.now found.old found.new) }
+    ensures rooted { OnOk result (HasRooted basis.now found.new (crate_of node.entry)) }
+    ensures each { OnOk result (HasRootedEach basis.now found.new places.new) }
+    ensures refused { IfErr result (Refuses basis.now) }
+{
+    laws::one_reading();
+    if !places.put(node.place) {
+        return Ok(());
+    }
+    put_krate(basis, node.place, Reason::by_nothing(1), found)?;
+    enable_listed(basis, node, found)
 }
 
 /// Enables each feature that the node of a root lists.

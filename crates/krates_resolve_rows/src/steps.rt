@@ -55,6 +55,11 @@ impl Question for Stepped {
 const STEPS: &[Row] = &[
     // the root, the edge that it needs, and the crate that this leads to
     ("a b|b", "1 crate 0; 5 edge 0.0.0 <0; 5 crate 1 <1; "),
+    // the same, where the dependency stands twice for the same
+    (
+        "a b|b / nodes a b&normal&normal|b",
+        "1 crate 0; 5 edge 0.0.0 <0; 5 crate 1 <1; ",
+    ),
     // a feature that the declared dependency lists, and one that this names
     (
         "a b&with=x|b;x=y y=",
@@ -74,6 +79,11 @@ const STEPS: &[Row] = &[
     (
         "a b?;s=b/j|b;j=",
         "1 crate 0; 1 feature 0; 4 edge 0.0.0 <1; 5 crate 1 <2; 4 toggled 1 by 0 <1 <2; 7 feature 1 <4; ",
+    ),
+    // a strong reference to a dependency whose edge is kept already
+    (
+        "a b;s=b/j|b;j=",
+        "1 crate 0; 1 feature 0; 5 edge 0.0.0 <0; 5 crate 1 <2; 4 toggled 1 by 0 <1 <2; 7 feature 1 <4; ",
     ),
 ];
 

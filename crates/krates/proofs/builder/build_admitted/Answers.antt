@@ -29,12 +29,12 @@ pub divide-requires-clause-distinct : goal.divide-requires-clause-distinct
 divide-requires-clause-distinct g c = ids_distinct (metadata_view c.args.metadata) (ids_view c.args.ids) c.requires.admitted
 
 pub divide-requires-clause-ascending : goal.divide-requires-clause-ascending
-divide-requires-clause-ascending g c = subst (λ (ks : List SheetKrate). IsStrictlySortedBy id_cmp (sheet_ids ks)) (sym c.deref.ensures.value) (c.in_ok-sketch.ensures.ordered c.in_ok-selection.ensures.selected).krates
+divide-requires-clause-ascending g c = subst (λ (ks : List SheetKrate). IsStrictlySortedBy id_cmp (sheet_ids ks)) (sym c.deref.ensures.value) c.in_ok-sketch.ensures.sketched.ordered.krates
 
 pub returns-in_err-graph-clause-refused : goal.returns-in_err-graph-clause-refused
 returns-in_err-graph-clause-refused g c =
     let error = c.in_err-graph.field-0.0 in
-    let refused = undrawn (metadata_view c.args.metadata) c.args.setting.now (sheet_view c.in_ok-sketch.sketch.sheet) (c.in_ok-sketch.ensures.sheet c.in_ok-selection.ensures.selected) error c.in_err-graph.ensures.refused in
+    let refused = undrawn (metadata_view c.args.metadata) c.args.setting.now (sheet_view c.in_ok-sketch.sketch.sheet) c.in_ok-sketch.ensures.sketched.sheet error c.in_err-graph.ensures.refused in
     let p = err_from_is_err_and c.from_residual-in_err-graph.result c.from_residual-in_err-graph.ensures.1 in
     rw (p.1, p.2) refused
 
@@ -43,26 +43,26 @@ graph_of-requires-clause-ids g c =
     let o : Compares = record { total = c.comparison.ensures.total; tells = c.comparison.ensures.order } in
     let division = c.in_ok-division.division in
     let divided = subst (λ (ks : List SheetKrate). IsDivision c.args.metadata.packages.items (sheet_ids ks) division) c.deref.ensures.value c.in_ok-division.ensures in
-    let b = builds_sheet c.one_reading.ensures.once c.args.metadata c.args.setting.now c.in_ok-sketch.sketch.sheet division (c.in_ok-sketch.ensures.sheet c.in_ok-selection.ensures.selected) divided in
-    kept_ids o c.args.metadata c.args.setting.now c.in_ok-sketch.sketch.sheet division (c.in_ok-sketch.ensures.sheet c.in_ok-selection.ensures.selected) (c.in_ok-sketch.ensures.ordered c.in_ok-selection.ensures.selected) b
+    let b = builds_sheet c.one_reading.ensures.once c.args.metadata c.args.setting.now c.in_ok-sketch.sketch.sheet division c.in_ok-sketch.ensures.sketched.sheet divided in
+    kept_ids o c.args.metadata c.args.setting.now c.in_ok-sketch.sketch.sheet division c.in_ok-sketch.ensures.sketched.sheet c.in_ok-sketch.ensures.sketched.ordered b
 
 pub graph_of-requires-clause-ordered : goal.graph_of-requires-clause-ordered
-graph_of-requires-clause-ordered g c = c.in_ok-sketch.ensures.ordered c.in_ok-selection.ensures.selected
+graph_of-requires-clause-ordered g c = c.in_ok-sketch.ensures.sketched.ordered
 
 pub graph_of-requires-clause-stand : goal.graph_of-requires-clause-stand
-graph_of-requires-clause-stand g c = sheet_stands c.ends_stand.ensures (metadata_view c.args.metadata) c.args.setting.now (sheet_view c.in_ok-sketch.sketch.sheet) (c.in_ok-sketch.ensures.sheet c.in_ok-selection.ensures.selected)
+graph_of-requires-clause-stand g c = sheet_stands c.ends_stand.ensures (metadata_view c.args.metadata) c.args.setting.now (sheet_view c.in_ok-sketch.sketch.sheet) c.in_ok-sketch.ensures.sketched.sheet
 
 pub members_of-requires : goal.members_of-requires
 members_of-requires g c =
     let o : Compares = record { total = c.comparison.ensures.total; tells = c.comparison.ensures.order } in
     let division = c.in_ok-division.division in
     let graph = c.in_ok-graph.ensures.graph in
-    let sheet_is = c.in_ok-sketch.ensures.sheet c.in_ok-selection.ensures.selected in
+    let sheet_is = c.in_ok-sketch.ensures.sketched.sheet in
     let divided = subst (λ (ks : List SheetKrate). IsDivision c.args.metadata.packages.items (sheet_ids ks) division) c.deref.ensures.value c.in_ok-division.ensures in
     let b = builds_sheet c.one_reading.ensures.once c.args.metadata c.args.setting.now c.in_ok-sketch.sketch.sheet division sheet_is divided in
     let n = numbered g.E.FromEdge.made_from_edge (sheet_view c.in_ok-sketch.sketch.sheet) c.in_ok-graph.graph graph.drawing c.in_ok-graph.ensures.within in
     let nodes = numbered_graph o g.N.FromPackage.made_from g.E.FromEdge.made_from_edge c.args.metadata c.args.setting.now c.in_ok-sketch.sketch.sheet division c.in_ok-graph.graph sheet_is
-    (c.in_ok-sketch.ensures.ordered c.in_ok-selection.ensures.selected) b graph n in
+    c.in_ok-sketch.ensures.sketched.ordered b graph n in
     subst (λ ns. AreNodes ns) (sym c.raw_nodes.ensures.nodes) nodes
 
 pub new-requires-clause-nodes : goal.new-requires-clause-nodes
@@ -70,12 +70,12 @@ new-requires-clause-nodes g c =
     let o : Compares = record { total = c.comparison.ensures.total; tells = c.comparison.ensures.order } in
     let division = c.in_ok-division.division in
     let graph = c.in_ok-graph.ensures.graph in
-    let sheet_is = c.in_ok-sketch.ensures.sheet c.in_ok-selection.ensures.selected in
+    let sheet_is = c.in_ok-sketch.ensures.sketched.sheet in
     let divided = subst (λ (ks : List SheetKrate). IsDivision c.args.metadata.packages.items (sheet_ids ks) division) c.deref.ensures.value c.in_ok-division.ensures in
     let b = builds_sheet c.one_reading.ensures.once c.args.metadata c.args.setting.now c.in_ok-sketch.sketch.sheet division sheet_is divided in
     let n = numbered g.E.FromEdge.made_from_edge (sheet_view c.in_ok-sketch.sketch.sheet) c.in_ok-graph.graph graph.drawing c.in_ok-graph.ensures.within in
     numbered_graph o g.N.FromPackage.made_from g.E.FromEdge.made_from_edge c.args.metadata c.args.setting.now c.in_ok-sketch.sketch.sheet division c.in_ok-graph.graph sheet_is
-    (c.in_ok-sketch.ensures.ordered c.in_ok-selection.ensures.selected) b graph n
+    c.in_ok-sketch.ensures.sketched.ordered b graph n
 
 pub new-requires-clause-members : goal.new-requires-clause-members
 new-requires-clause-members g c =
@@ -86,7 +86,7 @@ new-requires-clause-members g c =
 pub new-requires-clause-connected : goal.new-requires-clause-connected
 new-requires-clause-connected g c =
     connects g.E.FromEdge.made_from_edge (metadata_view c.args.metadata) c.args.setting.now (sheet_view c.in_ok-sketch.sketch.sheet) c.in_ok-graph.graph c.connected.ensures
-    (c.in_ok-sketch.ensures.sheet c.in_ok-selection.ensures.selected) c.in_ok-graph.ensures.graph.drawing
+    c.in_ok-sketch.ensures.sketched.sheet c.in_ok-graph.ensures.graph.drawing
     (numbered g.E.FromEdge.made_from_edge (sheet_view c.in_ok-sketch.sketch.sheet) c.in_ok-graph.graph c.in_ok-graph.ensures.graph.drawing c.in_ok-graph.ensures.within).nodes
 
 pub new-requires-clause-explained : goal.new-requires-clause-explained
@@ -94,31 +94,31 @@ new-requires-clause-explained g c =
     let o : Compares = record { total = c.comparison.ensures.total; tells = c.comparison.ensures.order } in
     let division = c.in_ok-division.division in
     let graph = c.in_ok-graph.ensures.graph in
-    let sheet_is = c.in_ok-sketch.ensures.sheet c.in_ok-selection.ensures.selected in
+    let sheet_is = c.in_ok-sketch.ensures.sketched.sheet in
     let divided = subst (λ (ks : List SheetKrate). IsDivision c.args.metadata.packages.items (sheet_ids ks) division) c.deref.ensures.value c.in_ok-division.ensures in
     let b = builds_sheet c.one_reading.ensures.once c.args.metadata c.args.setting.now c.in_ok-sketch.sketch.sheet division sheet_is divided in
     let n = numbered g.E.FromEdge.made_from_edge (sheet_view c.in_ok-sketch.sketch.sheet) c.in_ok-graph.graph graph.drawing c.in_ok-graph.ensures.within in
     let nodes = numbered_graph o g.N.FromPackage.made_from g.E.FromEdge.made_from_edge c.args.metadata c.args.setting.now c.in_ok-sketch.sketch.sheet division c.in_ok-graph.graph sheet_is
-    (c.in_ok-sketch.ensures.ordered c.in_ok-selection.ensures.selected) b graph n in
+    c.in_ok-sketch.ensures.sketched.ordered b graph n in
     let kids = c.in_ok-explanation.ensures.ids ∙ ap krate_ids c.deref-2.ensures.value in
-    explains o g.N.FromPackage.made_from g.E.FromEdge.made_from_edge c.args.metadata c.args.setting.now c.in_ok-sketch.sketch.sheet division c.in_ok-graph.graph c.in_ok-selection.selection c.in_ok-explanation.explanation
-    c.in_ok-sketch.sketch.steps.items sheet_is b graph nodes c.in_ok-selection.ensures.selected kids (ap (λ (v : Vec KeptStep). v.items) c.in_ok-explanation.ensures.steps) c.in_ok-sketch.ensures.steps
+    explains o g.N.FromPackage.made_from g.E.FromEdge.made_from_edge c.args.metadata c.args.setting.now c.in_ok-sketch.sketch.sheet division c.in_ok-graph.graph c.in_ok-sketch.ensures.sketched.selection c.in_ok-explanation.explanation
+    c.in_ok-sketch.sketch.steps.items sheet_is b graph nodes c.in_ok-sketch.ensures.sketched.selected kids (ap (λ (v : Vec KeptStep). v.items) c.in_ok-explanation.ensures.steps) c.in_ok-sketch.ensures.sketched.steps
 
 pub returns-clause-built : goal.returns-clause-built
 returns-clause-built g c =
     let division = c.in_ok-division.division in
     let divided = subst (λ (ks : List SheetKrate). IsDivision c.args.metadata.packages.items (sheet_ids ks) division) c.deref.ensures.value c.in_ok-division.ensures in
-    let b = builds_sheet c.one_reading.ensures.once c.args.metadata c.args.setting.now c.in_ok-sketch.sketch.sheet division (c.in_ok-sketch.ensures.sheet c.in_ok-selection.ensures.selected) divided in
+    let b = builds_sheet c.one_reading.ensures.once c.args.metadata c.args.setting.now c.in_ok-sketch.sketch.sheet division c.in_ok-sketch.ensures.sketched.sheet divided in
     let numbers = c.in_ok-members.members.items in
     let there = subst (λ ns. AreNumbersOf (crate_ids ns) c.deref-3.result.now numbers) c.raw_nodes.ensures.nodes c.in_ok-members.ensures.exactly in
     let listed = subst (λ (is : List Identity). AreNumbersOf (crate_ids c.in_ok-graph.graph.nodes) is numbers) c.deref-3.ensures.value there in
     let members = kept_members c.one_reading.ensures.once (metadata_view c.args.metadata) (ids_view c.args.ids) (crate_ids c.in_ok-graph.graph.nodes) numbers c.requires.admitted c.in_ok-members.ensures.ascending listed in
     let agree = agrees g.E.FromEdge.made_from_edge (metadata_view c.args.metadata) c.args.setting.now (sheet_view c.in_ok-sketch.sketch.sheet) c.in_ok-graph.graph (ids_view c.args.ids) c.connected.ensures c.dependencies_agree.ensures c.requires.admitted
-    (c.in_ok-sketch.ensures.sheet c.in_ok-selection.ensures.selected) c.in_ok-graph.ensures.graph.drawing c.in_ok-graph.ensures.graph.first in
+    c.in_ok-sketch.ensures.sketched.sheet c.in_ok-graph.ensures.graph.drawing c.in_ok-graph.ensures.graph.first in
     let o : Compares = record { total = c.comparison.ensures.total; tells = c.comparison.ensures.order } in
     let kids = c.in_ok-explanation.ensures.ids ∙ ap krate_ids c.deref-2.ensures.value in
-    let explained = explained_by o c.args.metadata c.args.setting.now division c.in_ok-selection.selection c.in_ok-explanation.explanation c.in_ok-sketch.sketch.steps.items b c.in_ok-selection.ensures.selected kids
-    (ap (λ (v : Vec KeptStep). v.items) c.in_ok-explanation.ensures.steps) c.in_ok-sketch.ensures.steps in
-    rw c.new.ensures (is_built g.F.OnFilter.filters g.N.FromPackage.made_from g.E.FromEdge.made_from_edge c.args.metadata c.args.setting.now c.in_ok-sketch.sketch.sheet division c.in_ok-graph.graph numbers c.args.filter.now c.report.new.filter c.in_ok-selection.selection
-    (c.in_ok-sketch.ensures.sheet c.in_ok-selection.ensures.selected) b c.in_ok-graph.ensures.graph c.report.ensures.run c.in_ok-selection.ensures.selected
+    let explained = explained_by o c.args.metadata c.args.setting.now division c.in_ok-sketch.ensures.sketched.selection c.in_ok-explanation.explanation c.in_ok-sketch.sketch.steps.items b c.in_ok-sketch.ensures.sketched.selected kids
+    (ap (λ (v : Vec KeptStep). v.items) c.in_ok-explanation.ensures.steps) c.in_ok-sketch.ensures.sketched.steps in
+    rw (c.new.ensures, c.in_ok-sketch.ensures.sketched.work) (is_built g.F.OnFilter.filters g.N.FromPackage.made_from g.E.FromEdge.made_from_edge c.args.metadata c.args.setting.now c.in_ok-sketch.sketch.sheet division c.in_ok-graph.graph numbers c.args.filter.now c.report.new.filter c.in_ok-sketch.ensures.sketched.selection
+    c.in_ok-sketch.ensures.sketched.sheet b c.in_ok-graph.ensures.graph c.report.ensures.run c.in_ok-sketch.ensures.sketched.selected
     (resolvable (metadata_view c.args.metadata) (ids_view c.args.ids) c.requires.admitted) (numbered g.E.FromEdge.made_from_edge (sheet_view c.in_ok-sketch.sketch.sheet) c.in_ok-graph.graph c.in_ok-graph.ensures.graph.drawing c.in_ok-graph.ensures.within) members agree c.in_ok-explanation.explanation explained)

@@ -1,31 +1,51 @@
+use Rattle.std.proofs.Common.{◌≡◌, refl, ◌∙◌, subst}
 use Rattle.krates_cm.specs.Document.{metadata_view}
 use Rattle.krates_document.specs.Ids.{ids_view}
 use Rattle.krates_drawing.specs.Views.{sheet_view}
 use Rattle.krates_questions.specs.DocumentModel.{as_resolved}
-use Rattle.krates_drawing.proofs.DocumentSheets.{none_doubled_in, selected_in}
+use Rattle.krates_drawing.proofs.DocumentSheets.{none_doubled_in}
+use Rattle.krates_lookups.specs.Lookup.{resolved_view}
+use Rattle.krates_resolve.specs.Explained.{IsExplained, IsExplainedOf}
+use Rattle.krates_resolve.specs.Selection.{IsSelection, IsSelectionOf}
+use Rattle.krates_rules.specs.Questions.{questions}
+use Rattle.krates_rules.specs.Resolved.{Resolved, resolved}
+use Rattle.krates_rules.specs.SelectionRefusals.{SelectionRefusal}
 use Rattle.krates.proofs.DrawnLemmas.{sheet_told}
-use Rattle.krates.proofs.ExplainedLemmas.{explained_in, steps_for}
+use Rattle.krates.proofs.ExplainedLemmas.{steps_for}
 use Rattle.krates.proofs.drawn.sketch_of.Goals as goal
 
+pub returns-in_err-selection-clause-refused : goal.returns-in_err-selection-clause-refused
+returns-in_err-selection-clause-refused c =
+    let s = c.args.setting.now in
+    let d = c.in_ok-document.ensures in
+    let same : resolved_view c.lookup.result.now ≡ resolved (metadata_view c.args.metadata.now) d.graph = c.lookup.ensures.document ∙ d.holds in
+    record { graph = d.graph; has_graph = d.has_graph; holds = subst (λ (r : Resolved). SelectionRefusal (questions r s) _) same c.in_err-selection.ensures.refused }
+
 pub steps_of-requires-clause-selected : goal.steps_of-requires-clause-selected
-steps_of-requires-clause-selected c =
-    selected_in (metadata_view c.args.metadata.now) c.args.setting.now c.args.selection (as_resolved c.in_ok-document.document) c.requires.selected c.in_ok-document.ensures
+steps_of-requires-clause-selected c = subst (λ (r : Resolved). IsSelection r c.args.setting.now c.in_ok-selection.selection) c.lookup.ensures.document c.in_ok-selection.ensures.selected
 
 pub steps_of-requires-clause-explained : goal.steps_of-requires-clause-explained
-steps_of-requires-clause-explained c =
-    explained_in (metadata_view c.args.metadata.now) c.args.setting.now c.args.selection (as_resolved c.in_ok-document.document) c.requires.explained c.in_ok-document.ensures
+steps_of-requires-clause-explained c = subst (λ (r : Resolved). IsExplained r c.args.setting.now c.in_ok-selection.selection) c.lookup.ensures.document c.in_ok-selection.ensures.explained
 
 pub sheet_of-requires : goal.sheet_of-requires
 sheet_of-requires c = record { distinct = none_doubled_in (metadata_view c.args.metadata.now) (ids_view c.args.ids.now) (as_resolved c.in_ok-document.document) c.requires.admitted c.in_ok-document.ensures }
 
-pub returns-clause-sheet : goal.returns-clause-sheet
-returns-clause-sheet c = λ sel.
-    sheet_told (metadata_view c.args.metadata.now) c.args.setting.now c.args.selection (as_resolved c.in_ok-document.document) (sheet_view c.in_ok-sheet.sheet) sel c.in_ok-document.ensures c.in_ok-sheet.ensures.sheet
-
-pub returns-clause-ordered : goal.returns-clause-ordered
-returns-clause-ordered c = λ sel.
-    c.in_ok-sheet.ensures.ordered (selected_in (metadata_view c.args.metadata.now) c.args.setting.now c.args.selection (as_resolved c.in_ok-document.document) sel c.in_ok-document.ensures)
-
-pub returns-clause-steps : goal.returns-clause-steps
-returns-clause-steps c =
-    steps_for (metadata_view c.args.metadata.now) c.args.setting.now c.args.selection (as_resolved c.in_ok-document.document) c.in_ok-steps.steps.items c.requires.selected c.requires.explained c.in_ok-document.ensures c.in_ok-steps.ensures
+pub returns-clause-sketched : goal.returns-clause-sketched
+returns-clause-sketched c =
+    let m = metadata_view c.args.metadata.now in
+    let s = c.args.setting.now in
+    let x = c.in_ok-selection.selection in
+    let d = c.in_ok-document.ensures in
+    let r = as_resolved c.in_ok-document.document in
+    let selected = subst (λ (z : Resolved). IsSelection z s x) c.lookup.ensures.document c.in_ok-selection.ensures.selected in
+    let explained = subst (λ (z : Resolved). IsExplained z s x) c.lookup.ensures.document c.in_ok-selection.ensures.explained in
+    let of : IsSelectionOf m s x = record { graph = d.graph; has_graph = d.has_graph; holds = subst (λ (z : Resolved). IsSelection z s x) d.holds selected } in
+    let shown : IsExplainedOf m s x = record { graph = d.graph; has_graph = d.has_graph; holds = subst (λ (z : Resolved). IsExplained z s x) d.holds explained } in
+    record {
+      selection = x;
+      selected = of;
+      sheet = sheet_told m s x r (sheet_view c.in_ok-sheet.sheet) of d c.in_ok-sheet.ensures.sheet;
+      ordered = c.in_ok-sheet.ensures.ordered selected;
+      steps = steps_for m s x r c.in_ok-steps.steps.items of shown d c.in_ok-steps.ensures;
+      work = refl;
+    }

@@ -1,4 +1,5 @@
 use Rattle.std.proofs.Common.{get_or, sym, ap, subst}
+use Rattle.std.proofs.lemmas.Result.{on_ok_weaker}
 use Rattle.krates_rules.specs.Facts.{Id}
 use Rattle.krates_resolve.specs.Found.{IsAny, MayTry}
 use Rattle.krates_lookups.specs.Lookup.{resolved_view}
@@ -6,8 +7,6 @@ use Rattle.krates_lookups.specs.NodeEntry.{child_of}
 use Rattle.krates_rules.specs.Questions.{edge_between}
 use Rattle.krates_rules.specs.Resolved.{DepAt, id_of}
 use Rattle.krates_resolve.specs.Basis.{FindsEdge}
-use Rattle.krates_resolve.proofs.Growing.{advances_trans}
-use Rattle.krates_resolve.proofs.Growth.{asked_advances, with_links}
 use Rattle.krates_resolve.proofs.Heedings.{child_dep, dep_of_entry, tried_at}
 use Rattle.krates_lookups.proofs.NodeParts.{deps_long, entry_here}
 use Rattle.krates_resolve.proofs.heeding.ask_once.Goals as goal
@@ -55,31 +54,12 @@ expand_entry-requires-clause-step c k =
     let at = dep_of_entry r c.args.parts.now entry c.args.index e is in
     subst (λ (i : Id). FindsEdge c.args.basis.now c.args.found.now c.args.reason (edge_between i (child_of entry) k) IsAny) (sym (ap id_of e.parent)) (c.requires.step (child_of entry) k at)
 
-pub note_asked-requires : goal.note_asked-requires
-note_asked-requires c =
-    let r = resolved_view c.args.basis.now.lookup.now in
-    let parts = c.args.parts.now in
-    let child = get_or parts.children.now c.args.index parts.parent.now in
-    c.in_ok-expand_entry.ensures.advanced.sound.has_links (id_of parts.parent.now) (id_of child) parts.place c.args.index (child_dep r parts c.args.index parts.parent.now c.requires.parts c.requires.within)
-
-pub returns-clause-advanced : goal.returns-clause-advanced
-returns-clause-advanced c =
-    let r = resolved_view c.args.basis.now.lookup.now in
-    let s = c.args.basis.now.setting.now in
-    let parts = c.args.parts.now in
-    let y = c.expand_entry.new.found in
-    let step = c.in_ok-expand_entry.ensures in
-    advances_trans r s c.args.found.now y (with_links y c.note_asked.new.self) step.advanced
-    (asked_advances r s y c.note_asked.new.self parts.place c.args.index step.advanced.sound c.note_asked.ensures
-    (λ f there. tried_at c.one_reading.ensures.once r s y parts c.entry_at-entry.result c.args.index f c.requires.lookup.distinct c.requires.parts c.entry_at-entry.ensures step.tried there))
-
 pub returns-clause-asked : goal.returns-clause-asked
-returns-clause-asked c e same there =
+returns-clause-asked c =
     let r = resolved_view c.args.basis.now.lookup.now in
     let s = c.args.basis.now.setting.now in
     let parts = c.args.parts.now in
-    let y = c.expand_entry.new.found in
-    let step = c.in_ok-expand_entry.ensures in
+    on_ok_weaker c.expand_entry.result (λ tried e same there.
     let at = subst (λ (i : Id). DepAt r i e.child parts.place c.args.index) (sym same) there in
-    let tried = tried_at c.one_reading.ensures.once r s y parts c.entry_at-entry.result c.args.index e c.requires.lookup.distinct c.requires.parts c.entry_at-entry.ensures step.tried at in
-    record { kept = tried.kept; has_package = tried.has_package; has_node = tried.has_node; declared = tried.declared }
+    tried_at c.one_reading.ensures.once r s c.expand_entry.new.found parts c.entry_at-entry.result c.args.index e c.requires.lookup.distinct c.requires.parts c.entry_at-entry.ensures tried at)
+    c.expand_entry.ensures.tried

@@ -1,54 +1,72 @@
-use Rattle.std.proofs.Common.{get_or, subst}
+use Rattle.std.proofs.Common.{sym, subst}
 use Rattle.std.proofs.lemmas.Result.{on_ok_weaker}
 use Rattle.krates_rules.specs.Facts.{Id}
 use Rattle.krates_resolve.specs.Found.{IsToggledIn}
 use Rattle.krates_lookups.specs.Lookup.{resolved_view}
+use Rattle.krates_lookups.specs.NodeEntry.{child_of}
 use Rattle.krates_rules.specs.Resolved.{id_of}
-use Rattle.krates_resolve.proofs.Heedings.{child_dep, found_node}
+use Rattle.krates_lookups.proofs.NodeParts.{deps_long, entry_here}
+use Rattle.krates_resolve.proofs.Heedings.{dep_of_entry, found_node}
 use Rattle.krates_resolve.proofs.Waking.{one_way}
 use Rattle.krates_resolve.proofs.heeding.toggle_child.Goals as goal
+
+pub entry_at-entry-requires-clause-lengths : goal.entry_at-entry-requires-clause-lengths
+entry_at-entry-requires-clause-lengths c = sym (deps_long (resolved_view c.args.basis.now.lookup.now) c.args.parts.now.place c.args.parts.now c.requires.parts)
+
+pub child_place-requires-clause-entry : goal.child_place-requires-clause-entry
+child_place-requires-clause-entry c =
+    (entry_here (resolved_view c.args.basis.now.lookup.now) c.args.parts.now.place c.args.parts.now c.args.index c.entry_at-entry.result c.requires.parts c.entry_at-entry.ensures).0
 
 pub unreachable-requires : goal.unreachable-requires
 unreachable-requires c =
     let r = resolved_view c.args.basis.now.lookup.now in
     let parts = c.args.parts.now in
-    let child = id_of (get_or parts.children.now c.args.index c.index-parts-index.result) in
-    let dep = child_dep r parts c.args.index c.index-parts-index.result c.requires.parts c.requires.within in
-    found_node r c.args.found.now child (c.requires.sound.arrived (id_of parts.parent.now) child parts.place c.args.index dep c.requires.marked) c.in_default.ensures
+    let entry = c.entry_at-entry.result in
+    let is = (entry_here r parts.place parts c.args.index entry c.requires.parts c.entry_at-entry.ensures).0 in
+    let dep = dep_of_entry r parts entry c.args.index c.entry_at-entry.ensures is in
+    found_node r c.args.found.now (child_of entry) (c.requires.sound.arrived (id_of parts.parent.now) (child_of entry) parts.place c.args.index dep c.requires.marked) c.in_default.ensures
 
 pub toggle-requires-clause-kept : goal.toggle-requires-clause-kept
 toggle-requires-clause-kept c =
     let r = resolved_view c.args.basis.now.lookup.now in
     let parts = c.args.parts.now in
-    let child = id_of (get_or parts.children.now c.args.index c.index-parts-index.result) in
-    let dep = child_dep r parts c.args.index c.index-parts-index.result c.requires.parts c.requires.within in
-    c.requires.sound.arrived (id_of parts.parent.now) child parts.place c.args.index dep c.requires.marked
+    let entry = c.entry_at-entry.result in
+    let is = (entry_here r parts.place parts c.args.index entry c.requires.parts c.entry_at-entry.ensures).0 in
+    let dep = dep_of_entry r parts entry c.args.index c.entry_at-entry.ensures is in
+    c.requires.sound.arrived (id_of parts.parent.now) (child_of entry) parts.place c.args.index dep c.requires.marked
 
 pub toggle-requires-clause-may : goal.toggle-requires-clause-may
 toggle-requires-clause-may c =
     let r = resolved_view c.args.basis.now.lookup.now in
     let parts = c.args.parts.now in
-    let child = id_of (get_or parts.children.now c.args.index c.index-parts-index.result) in
-    c.requires.may child (child_dep r parts c.args.index c.index-parts-index.result c.requires.parts c.requires.within)
+    let entry = c.entry_at-entry.result in
+    let is = (entry_here r parts.place parts c.args.index entry c.requires.parts c.entry_at-entry.ensures).0 in
+    c.requires.may (child_of entry) (dep_of_entry r parts entry c.args.index c.entry_at-entry.ensures is)
 
 pub toggle-requires-clause-by : goal.toggle-requires-clause-by
 toggle-requires-clause-by c =
-    (child_dep (resolved_view c.args.basis.now.lookup.now) c.args.parts.now c.args.index c.index-parts-index.result c.requires.parts c.requires.within).node
+    let r = resolved_view c.args.basis.now.lookup.now in
+    let parts = c.args.parts.now in
+    let entry = c.entry_at-entry.result in
+    let is = (entry_here r parts.place parts c.args.index entry c.requires.parts c.entry_at-entry.ensures).0 in
+    (dep_of_entry r parts entry c.args.index c.entry_at-entry.ensures is).node
 
 pub toggle-requires-clause-step : goal.toggle-requires-clause-step
 toggle-requires-clause-step c lists =
     let r = resolved_view c.args.basis.now.lookup.now in
     let parts = c.args.parts.now in
-    let child = id_of (get_or parts.children.now c.args.index c.index-parts-index.result) in
-    c.requires.step child (child_dep r parts c.args.index c.index-parts-index.result c.requires.parts c.requires.within) lists
+    let entry = c.entry_at-entry.result in
+    let is = (entry_here r parts.place parts c.args.index entry c.requires.parts c.entry_at-entry.ensures).0 in
+    c.requires.step (child_of entry) (dep_of_entry r parts entry c.args.index c.entry_at-entry.ensures is) lists
 
 pub returns-clause-toggled : goal.returns-clause-toggled
 returns-clause-toggled c =
     let r = resolved_view c.args.basis.now.lookup.now in
     let parts = c.args.parts.now in
     let parent = id_of parts.parent.now in
-    let child = id_of (get_or parts.children.now c.args.index c.index-parts-index.result) in
-    let dep = child_dep r parts c.args.index c.index-parts-index.result c.requires.parts c.requires.within in
+    let entry = c.entry_at-entry.result in
+    let is = (entry_here r parts.place parts c.args.index entry c.requires.parts c.entry_at-entry.ensures).0 in
+    let dep = dep_of_entry r parts entry c.args.index c.entry_at-entry.ensures is in
     on_ok_weaker c.toggle.result (λ toggled other there.
-    subst (λ (i : Id). IsToggledIn r c.toggle.new.found parent i c.args.feature.name.now) (one_way c.one_reading.ensures.once r parent child parent other parts.place c.args.index dep there).1 toggled)
+    subst (λ (i : Id). IsToggledIn r c.toggle.new.found parent i c.args.feature.name.now) (one_way c.one_reading.ensures.once r parent (child_of entry) parent other parts.place c.args.index dep there).1 toggled)
     c.toggle.ensures.toggled

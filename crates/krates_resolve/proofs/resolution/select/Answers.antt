@@ -1,25 +1,26 @@
-use Rattle.std.proofs.Common.{◌≡◌, ◌↔◌, ℕ, ◌<◌, List, length, map, All, Contains, sym, ap, ◌∙◌, subst, option_map}
+use Rattle.std.proofs.Common.{◌≡◌, sym, ap, ◌∙◌, subst, option_map}
 use Rattle.std.proofs.lemmas.Option.{same_Some}
-use Rattle.krates_cm.specs.Document.{Text, metadata_view, resolve_view}
+use Rattle.std.proofs.lemmas.Result.{IfErr-weaker, IfOk-weaker}
+use Rattle.krates_cm.specs.Document.{metadata_view, resolve_view}
 use Rattle.krates_cm.specs.declared.metadata.Metadata.{Metadata}
 use Rattle.krates_cm.specs.declared.resolve.Resolve.{Resolve}
-use Rattle.krates_ids.specs.Identity.{Identity}
+use Rattle.krates_ids.specs.declared.error.Error.{Error}
 use Rattle.krates_rules.specs.Admission.{NoneDoubled}
-use Rattle.krates_rules.specs.Derivation.{Derivable}
-use Rattle.krates_rules.specs.Facts.{Id, Feature}
 use Rattle.krates_rules.specs.Questions.{questions}
-use Rattle.krates_resolve.specs.Trace.{HasSomeStep, IsTrace}
-use Rattle.krates_resolve.specs.Found.{HaveNumbers, IsEnabled}
-use Rattle.krates_lookups.specs.ListedFeatures.{listed_features}
-use Rattle.krates_lookups.specs.Lookup.{resolved_view}
 use Rattle.krates_rules.specs.Resolved.{Resolved, resolved}
-use Rattle.krates_resolve.specs.Selection.{IsSelection, feature_fact}
-use Rattle.krates_document.specs.declared.ids.Ids.{Ids}
+use Rattle.krates_rules.specs.SelectionRefusals.{SelectionRefusal}
+use Rattle.krates_lookups.specs.Lookup.{IsOf, resolved_view}
+use Rattle.krates_lookups.specs.declared.lookup.Lookup.{Lookup}
+use Rattle.krates_resolve.specs.Explained.{IsExplained, IsExplainedOf}
+use Rattle.krates_resolve.specs.Selection.{IsSelection, IsSelectionOf, RefusesSelection}
 use Rattle.krates_resolve.specs.declared.selection.Selection.{Selection}
-use Rattle.krates_resolve.proofs.CountedSelection.{AreMoved, IsCountedWhole, counts_each}
-use Rattle.krates_lookups.proofs.NodeParts.{nodes_long}
-use Rattle.krates_resolve.proofs.Selected.{AreAt, IsWhole, IsInOrder, has_element, selected}
+use Rattle.krates_document.specs.declared.ids.Ids.{Ids}
 use Rattle.krates_resolve.proofs.resolution.select.Goals as goal
+
+-- the document that is looked up
+same_document : (metadata : Metadata) (resolve : Resolve) (ids : Ids) (look : Lookup) → IsOf metadata resolve ids look → resolved_view look ≡ resolved (metadata_view metadata) (resolve_view resolve)
+same_document metadata resolve ids look of =
+    ap (λ (d : Metadata). resolved (metadata_view d) (resolve_view look.resolve.now)) of.0 ∙ ap (λ (d : Resolve). resolved (metadata_view metadata) (resolve_view d)) of.1
 
 pub lookup_of-requires-clause-distinct : goal.lookup_of-requires-clause-distinct
 lookup_of-requires-clause-distinct c =
@@ -27,96 +28,29 @@ lookup_of-requires-clause-distinct c =
     let same : c.requires.graph ≡ resolve_view c.in-Some.resolve = same_Some _ _ (sym c.requires.has_graph ∙ ap (option_map resolve_view) c.in-Some.is) in
     subst (NoneDoubled m) same c.requires.none_doubled
 
-pub kids_at-requires : goal.kids_at-requires
-kids_at-requires c =
-    let look = c.in_ok-lookup.lookup in
-    let found = c.in_ok-found.found in
-    let of = c.in_ok-lookup.ensures.of_these in
-    let long = c.in_ok-found.ensures.sound.krates_size ∙ (nodes_long look c.in_ok-lookup.ensures.lookup).0 ∙ ap (λ (ids : Ids). length ids.nodes.items) of.2 ∙ ap (λ (ids : List Identity). length ids) (sym c.deref.ensures.value) in
-    let below = subst (λ (n : ℕ). All (λ p. p < n) found.krates.put) long c.numbers-2.ensures.orderly.below in
-    subst (λ (places : List ℕ). All (λ p. p < length c.deref.result.now) places) (sym c.numbers-2.ensures.put) below
-
-pub features_at-requires-clause-within : goal.features_at-requires-clause-within
-features_at-requires-clause-within c =
-    let found = c.in_ok-found.found in
-    let below = subst (λ (n : ℕ). All (λ p. p < n) found.features.put) c.in_ok-found.ensures.sound.features_size c.numbers-3.ensures.orderly.below in
-    subst (λ (numbers : List ℕ). All (λ p. p < length (listed_features (resolved_view c.in_ok-lookup.lookup))) numbers) (sym c.numbers-3.ensures.put) below
-
 pub returns-clause-selected : goal.returns-clause-selected
 returns-clause-selected c =
     let s = c.args.setting.now in
-    let look = c.in_ok-lookup.lookup in
-    let r = resolved_view look in
-    let h = c.in_ok-lookup.ensures.lookup in
-    let of = c.in_ok-lookup.ensures.of_these in
     let m = metadata_view c.args.metadata.now in
-    let g = resolve_view c.in-Some.resolve in
-    let found = c.in_ok-found.found in
-    let ids = look.ids.now.nodes.items in
-    let kids = c.in_ok-kids_at.field-0.items in
-    let enabled = c.in_ok-features_at.field-0.items in
-    let x : Selection = record { krates = c.in_ok-krates.krates; edges = c.in_ok-in_order.field-0; features = c.in_ok-features.features; toggled = c.in_ok-in_order-2.field-0; steps = found.trace; work = c.saturate.new.work } in
-    let nodes : c.deref.result.now ≡ ids = c.deref.ensures.value ∙ ap (λ (i : Ids). i.nodes.items) (sym of.2) in
-    let at_nodes = subst (λ (is : List Identity). AreAt is c.numbers-2.result.now kids) nodes c.in_ok-kids_at.ensures in
-    let features_there = subst (λ (ns : List ℕ). (i : Id) (f : Text) → IsEnabled r ns i f ↔ Contains (map feature_fact enabled) (Feature i f)) c.numbers-3.ensures.put c.in_ok-features_at.ensures.each in
-    let whole : IsWhole r s ids found kids enabled = record {
-      none_doubled = h.distinct;
-      reads = h.ids.nodes;
-      exact = c.in_ok-found.ensures.exact;
-      placed = c.in_ok-found.ensures.sound.placed;
-      krates = subst (λ (ps : List ℕ). AreAt ids ps kids) c.numbers-2.ensures.put at_nodes;
-      features = features_there;
-      some = subst (λ (ps : List ℕ). 0 < length ps) c.numbers.ensures.put (has_element c.numbers.result.now c.if-is_empty.ensures);
-    } in
-    let order : IsInOrder found kids enabled x = record {
-      krates = record { from = c.in_ok-krates.ensures.from; kept = c.in_ok-krates.ensures.kept };
-      krates_rise = c.in_ok-krates.ensures.ascending;
-      edges = record { from = c.in_ok-in_order.ensures.from; kept = c.in_ok-in_order.ensures.kept };
-      edges_rise = c.in_ok-in_order.ensures.ascending;
-      features = record { from = c.in_ok-features.ensures.from; kept = c.in_ok-features.ensures.kept };
-      features_rise = c.in_ok-features.ensures.ascending;
-      toggled = record { from = c.in_ok-in_order-2.ensures.from; kept = c.in_ok-in_order-2.ensures.kept };
-      toggled_rise = c.in_ok-in_order-2.ensures.ascending;
-    } in
-    let numbered = subst (λ (ns : List ℕ). HaveNumbers r ns enabled) c.numbers-3.ensures.put c.in_ok-features_at.ensures.numbers in
-    let counted : IsCountedWhole r s ids found kids enabled x.work = record {
-      none_doubled = h.distinct;
-      reads = h.ids.nodes;
-      krates = whole.krates;
-      krates_once = c.numbers-2.ensures.orderly.distinct;
-      features = numbered;
-      features_once = c.numbers-3.ensures.orderly.distinct;
-      own = c.in_ok-found.ensures.sound.own;
-      counted = c.in_ok-found.ensures.counted;
-    } in
-    let moved : AreMoved kids x.krates.items enabled x.features.items = record { krates_moved = c.in_ok-krates.ensures.whole; features_moved = c.in_ok-features.ensures.whole } in
-    let counts = counts_each c.comparison.ensures.equality r s ids found kids x.krates.items enabled x.features.items x.work counted moved in
-    let here = selected c.one_reading.ensures.once c.comparison.ensures.equality r s ids found kids enabled x whole order counts in
-    let same : r ≡ resolved m g = ap (λ (d : Metadata). resolved (metadata_view d) (resolve_view look.resolve.now)) of.0 ∙ ap (λ (d : Resolve). resolved m (resolve_view d)) of.1 in
-    record { graph = g; has_graph = ap (option_map resolve_view) c.in-Some.is; holds = subst (λ (r : Resolved). IsSelection r s x) same here }
+    let look = c.in_ok-lookup.lookup in
+    let same = same_document c.args.metadata.now c.in-Some.resolve c.args.ids.now look c.in_ok-lookup.ensures.of_these in
+    IfOk-weaker c.select_in.result (IsSelection (resolved_view look) s) (IsSelectionOf m s)
+    (λ (x : Selection) h. record { graph = resolve_view c.in-Some.resolve; has_graph = ap (option_map resolve_view) c.in-Some.is; holds = subst (λ (r : Resolved). IsSelection r s x) same h }) c.select_in.ensures.selected
 
 pub returns-clause-explained : goal.returns-clause-explained
 returns-clause-explained c =
     let s = c.args.setting.now in
-    let look = c.in_ok-lookup.lookup in
-    let r = resolved_view look in
-    let of = c.in_ok-lookup.ensures.of_these in
     let m = metadata_view c.args.metadata.now in
-    let g = resolve_view c.in-Some.resolve in
-    let found = c.in_ok-found.found in
-    let exact = c.in_ok-found.ensures.exact in
-    let sound = c.in_ok-found.ensures.sound in
-    let chosen = returns-clause-selected c in
-    let graph = same_Some g chosen.graph (sym (ap (option_map resolve_view) c.in-Some.is) ∙ chosen.has_graph) in
-    let same : r ≡ resolved m chosen.graph =
-    ap (λ (d : Metadata). resolved (metadata_view d) (resolve_view look.resolve.now)) of.0 ∙ ap (λ (d : Resolve). resolved m (resolve_view d)) of.1 ∙ ap (resolved m) graph in
-    record {
-      graph = chosen.graph;
-      has_graph = chosen.has_graph;
-      holds = record {
-        trace = subst (λ (q : Resolved). IsTrace q s found.trace.items) same sound.trace;
-        stepped = λ f among.
-            let derived = subst (λ (q : Resolved). Derivable (questions q s) f) (sym same) ((chosen.holds.facts f).1 among) in
-            subst (λ (q : Resolved). HasSomeStep q found.trace.items f) same (sound.stepped f ((exact f).0 derived));
-      };
-    }
+    let look = c.in_ok-lookup.lookup in
+    let same = same_document c.args.metadata.now c.in-Some.resolve c.args.ids.now look c.in_ok-lookup.ensures.of_these in
+    IfOk-weaker c.select_in.result (IsExplained (resolved_view look) s) (IsExplainedOf m s)
+    (λ (x : Selection) h. record { graph = resolve_view c.in-Some.resolve; has_graph = ap (option_map resolve_view) c.in-Some.is; holds = subst (λ (r : Resolved). IsExplained r s x) same h }) c.select_in.ensures.explained
+
+pub returns-clause-refused : goal.returns-clause-refused
+returns-clause-refused c =
+    let s = c.args.setting.now in
+    let m = metadata_view c.args.metadata.now in
+    let look = c.in_ok-lookup.lookup in
+    let same = same_document c.args.metadata.now c.in-Some.resolve c.args.ids.now look c.in_ok-lookup.ensures.of_these in
+    IfErr-weaker c.select_in.result (SelectionRefusal (questions (resolved_view look) s)) (RefusesSelection m s)
+    (λ (e : Error) h. record { graph = resolve_view c.in-Some.resolve; has_graph = ap (option_map resolve_view) c.in-Some.is; holds = subst (λ (r : Resolved). SelectionRefusal (questions r s) e) same h }) c.select_in.ensures.refused

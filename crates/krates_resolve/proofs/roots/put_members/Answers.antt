@@ -9,10 +9,13 @@ use Rattle.krates_document.proofs.Seen.{seen_more, seen_all}
 use Rattle.krates_resolve.proofs.roots.put_members.Goals as goal
 
 pub loop-member-init : goal.loop-member-init
-loop-member-init c = (advances_refl (resolved_view c.args.basis.now.lookup.now) c.args.basis.now.setting.now c.args.found.now c.requires.sound, λ k d lt. absurd (omega (arith, lt)))
+loop-member-init c = (advances_refl (resolved_view c.args.basis.now.lookup.now) c.args.basis.now.setting.now c.args.found.now c.requires.sound, λ k d lt. absurd (omega (arith, lt)), c.requires.each)
 
 pub put_member-requires-clause-sound : goal.put_member-requires-clause-sound
 put_member-requires-clause-sound c = c.loop-member.invariant.0.sound
+
+pub put_member-requires-clause-each : goal.put_member-requires-clause-each
+put_member-requires-clause-each c = c.loop-member.invariant.2
 
 pub loop-member-preserved : goal.loop-member-preserved
 loop-member-preserved c =
@@ -25,6 +28,7 @@ loop-member-preserved c =
       advances_trans r s c.args.found.now x y inv.0 step.advanced,
       seen_more (λ (member : Identity). IsRoot r s (id_of member) → IsRooted r s y (id_of member)) c.args.members.now c.loop-member.member-index c.member-item.result c.loop-member-test.true c.member-item.is
           (λ k d lt is. rooted_grows r s x y _ step.advanced.grows (inv.1 k d lt is)) step.rooted,
+      step.each,
     )
 
 pub returns-clause-advanced : goal.returns-clause-advanced

@@ -1,4 +1,5 @@
 use Rattle.krates_ids.specs.Identity.{Identity}
+use Rattle.krates_resolve.specs.Basis.{HasRootedEach}
 use Rattle.krates_resolve.specs.Found.{Advances, IsRooted}
 use Rattle.krates_lookups.specs.Lookup.{resolved_view}
 use Rattle.krates_rules.specs.Resolved.{id_of}
@@ -6,8 +7,9 @@ use Rattle.krates_rules.specs.Roots.{IsRoot}
 use Rattle.krates_document.proofs.Seen.{SeenBelow}
 use Rattle.krates_resolve.proofs.roots.put_members.Given as goal
 
--- each member so far that is a root was found
+-- each member so far that is a root was found, and all that was put is rooted
 abbrev pub invariant-loop-member : goal.invariant-loop-member
 invariant-loop-member l =
     Advances (resolved_view l.basis.lookup.now) l.basis.setting.now l.fn.found l.found
     × SeenBelow (λ (member : Identity). IsRoot (resolved_view l.basis.lookup.now) l.basis.setting.now (id_of member) → IsRooted (resolved_view l.basis.lookup.now) l.basis.setting.now l.found (id_of member)) l.members l.member-index
+    × HasRootedEach l.basis l.found l.places

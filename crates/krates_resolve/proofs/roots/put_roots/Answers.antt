@@ -1,13 +1,30 @@
-use Rattle.std.proofs.Common.{List, All, true, false, sym, subst}
+use Rattle.std.proofs.Common.{List, All, true, false, sym, ◌∙◌, subst}
+use Rattle.std.proofs.lemmas.List.{length-map}
 use Rattle.std.proofs.lemmas.Result.{on_ok_weaker}
+use Rattle.krates_cm.specs.Document.{node_view}
 use Rattle.krates_ids.specs.Identity.{Identity}
 use Rattle.krates_resolve.specs.Found.{IsRooted}
 use Rattle.krates_lookups.specs.Lookup.{resolved_view}
 use Rattle.krates_rules.specs.Resolved.{id_of, IsMember}
 use Rattle.krates_rules.specs.Roots.{IsRoot}
 use Rattle.krates_questions.proofs.RootLemmas.{are_members}
-use Rattle.krates_resolve.proofs.Rooted.{members_rooted}
+use Rattle.krates_resolve.proofs.Rooted.{members_rooted, none_rooted}
 use Rattle.krates_resolve.proofs.roots.put_roots.Goals as goal
+
+pub put_root-requires-clause-each : goal.put_root-requires-clause-each
+put_root-requires-clause-each c =
+    let nodes = c.args.basis.now.lookup.now.resolve.now.nodes in
+    none_rooted c.args.basis.now c.args.found.now c.in_ok-places.places c.len.result c.in_ok-places.ensures (c.len.ensures ∙ nodes.ok.0 ∙ sym (length-map nodes.items node_view))
+
+pub put_members-requires-clause-each : goal.put_members-requires-clause-each
+put_members-requires-clause-each c =
+    let nodes = c.args.basis.now.lookup.now.resolve.now.nodes in
+    none_rooted c.args.basis.now c.args.found.now c.in_ok-places.places c.len.result c.in_ok-places.ensures (c.len.ensures ∙ nodes.ok.0 ∙ sym (length-map nodes.items node_view))
+
+pub put_members-requires-in-Manifests-clause-each : goal.put_members-requires-in-Manifests-clause-each
+put_members-requires-in-Manifests-clause-each c =
+    let nodes = c.args.basis.now.lookup.now.resolve.now.nodes in
+    none_rooted c.args.basis.now c.args.found.now c.in_ok-places.places c.len.result c.in_ok-places.ensures (c.len.ensures ∙ nodes.ok.0 ∙ sym (length-map nodes.items node_view))
 
 pub put_members-requires-clause-members : goal.put_members-requires-clause-members
 put_members-requires-clause-members c =
@@ -32,8 +49,8 @@ returns-in-Members-clause-roots c =
     members_rooted c.one_reading.ensures.once r s x true c.args.basis.now.lookup.now.ids.now.members.items c.in-Members.ensures c.requires.lookup.ids.members
     (subst (λ (ms : List Identity). All (λ m. IsRoot r s (id_of m) → IsRooted r s x (id_of m)) ms) c.deref.ensures.value h)) c.put_members.ensures.rooted
 
-pub returns-in-Manifests-clause-roots : goal.returns-in-Manifests-clause-roots
-returns-in-Manifests-clause-roots c =
+pub returns-clause-roots : goal.returns-clause-roots
+returns-clause-roots c =
     let r = resolved_view c.args.basis.now.lookup.now in
     let s = c.args.basis.now.setting.now in
     let x = c.put_members-in-Manifests.new.found in
