@@ -4,11 +4,10 @@ use crate::packages::package;
 use krates_ids::{
     BuildIndexCache, CachingIndex, IndexAnswer, IndexKrate, IndexKrateVersion, PackageNames,
 };
+use krates_samples::table::{Question, Row, hold};
 use std::alloc::Global;
 use std::collections::{BTreeMap, BTreeSet};
 use std::test::Fail;
-
-const CRATES_IO: &str = r#""registry+https://github.com/rust-lang/crates.io-index""#;
 
 /// What the package has of itself, after one correction and after two.
 const PLAIN: &str = r#"{"default": ["std", "foo"]}, then {"default": ["std", "foo"]}"#;
@@ -17,12 +16,21 @@ const PLAIN: &str = r#"{"default": ["std", "foo"]}, then {"default": ["std", "fo
 const WHOLE: &str =
     r#"{"default": ["std", "foo"], "foo": ["dep:foo"], "std": []}, then {"default": ["std", "foo"], "foo": ["dep:foo"], "std": []}"#;
 
-/// The source of a package of version 1.0.0, the version that the index has, and what the features are then.
-const CORRECTED: &[(&str, Option<&str>, &str)] = &[
-    (CRATES_IO, Some("1.0.0"), WHOLE),
-    (CRATES_IO, Some("1.0.0+b"), PLAIN),
-    (CRATES_IO, None, PLAIN),
-    ("null", Some("1.0.0"), PLAIN),
+/// The source of a package of version 1.0.0 as JSON, with the version that the index has, if any; and what the features are then.
+const CORRECTED: &[Row] = &[
+    (
+        r#""registry+https://github.com/rust-lang/crates.io-index" 1.0.0"#,
+        WHOLE,
+    ),
+    (
+        r#""registry+https://github.com/rust-lang/crates.io-index" 1.0.0+b"#,
+        PLAIN,
+    ),
+    (
+        r#""registry+https://github.com/rust-lang/crates.io-index""#,
+        PLAIN,
+    ),
+    ("null 1.0.0", PLAIN),
 ];
 
 /// What an index knows of a crate of this one version.
@@ -63,20 +71,24 @@ fn index(alloc: Global, version: Option<&str>) -> Result<CachingIndex, Fail> {
 }
 
 /// The features of the package after one correction and after two.
-fn told(alloc: Global, source: &str, version: Option<&str>) -> Result<String, Fail> {
-    let index = index(alloc, version)?;
-    let mut package = package(alloc, "1.0.0", source, r#"{"default":["std","foo"]}"#)?;
-    index.correct(alloc, &mut package)?;
-    let once = format!(in alloc; "{:?}", package.features)?;
-    index.correct(alloc, &mut package)?;
-    Ok(format!(in alloc; "{once}, then {:?}", package.features)?)
+struct Corrected;
+
+impl Question for Corrected {
+    fn told(alloc: Global, line: &str) -> Result<String, Fail> {
+        let (source, version) = match line.split_once(' ') {
+            Some((source, version)) => (source, Some(version)),
+            None => (line, None),
+        };
+        let index = index(alloc, version)?;
+        let mut package = package(alloc, "1.0.0", source, r#"{"default":["std","foo"]}"#)?;
+        index.correct(alloc, &mut package)?;
+        let once = format!(in alloc; "{:?}", package.features)?;
+        index.correct(alloc, &mut package)?;
+        Ok(format!(in alloc; "{once}, then {:?}", package.features)?)
+    }
 }
 
 #[test]
 fn features_by_an_index(rt: HostRuntime) -> Result<(), Fail> {
-    for &(source, version, expected) in CORRECTED {
-        let told = told(rt.alloc(), source, version)?;
-        assert_eq!(rt; told.as_str(), expected, "{source} and {version:?}");
-    }
-    Ok(())
+    hold::<Corrected>(rt.alloc(), CORRECTED)
 }

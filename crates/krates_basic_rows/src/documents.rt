@@ -1,6 +1,7 @@
 //! Whole documents, read from their text.
 
 use krates_cm::{Error, Metadata, parse};
+use krates_samples::table::{Question, Row, hold};
 use std::alloc::{AllocError, Global};
 use std::test::Fail;
 
@@ -20,13 +21,13 @@ const DOCUMENT: &str = r#"{"packages":[{"name":"a","version":"0.1.0","id":"path+
     "root":null}}"#;
 
 /// Texts of documents, and what is read of them.
-const READ: &[(&str, &str)] = &[(
+const READ: &[Row] = &[(
     DOCUMENT,
     r#"a needs [Dependency { name: "b", source: None, req: VersionReq { comparators: [] }, kind: Development, optional: false, uses_default_features: false, features: [], target: None, rename: None, registry: None, path: None }]; the other is path+file:///w/b#0.1.0; 2 nodes, root None"#,
 )];
 
 /// Texts that are no document, and why.
-const REFUSED: &[(&str, &str)] = &[
+const REFUSED: &[Row] = &[
     ("", "no JSON"),
     ("hello", "no JSON"),
     ("{\"packages\":", "no JSON"),
@@ -58,37 +59,30 @@ fn summary(alloc: Global, metadata: &Metadata) -> Result<String, AllocError> {
 
 /// What is read of a text, or why nothing is: the kind of the error, and what it prints. Of a text that is no JSON the
 /// library says why, in words of its own, so only the words before them are looked at.
-fn told(alloc: Global, text: &str) -> Result<String, Fail> {
-    let error = match parse(alloc, text) {
-        Ok(metadata) => return Ok(summary(alloc, &metadata)?),
-        Err(error) => error,
-    };
-    let printed = format!(in alloc; "{error}")?;
-    let is_begun = printed.starts_with("failed to interpret `cargo metadata`'s json: ");
-    match error {
-        Error::Json(_) if is_begun => Ok(String::from_str(alloc, "no JSON")?),
-        Error::Value(_) => Ok(format!(in alloc; "no metadata: {printed}")?),
-        _ => Ok(printed),
-    }
-}
+struct Parsed;
 
-/// Compares what is told of each text with what is expected.
-fn hold(alloc: Global, rows: &[(&str, &str)]) -> Result<(), Fail> {
-    for &(text, expected) in rows {
-        let told = told(alloc, text)?;
-        if told.as_str() != expected {
-            return Err(Fail::new(format_args!("{text}: {told} in place of {expected}")));
+impl Question for Parsed {
+    fn told(alloc: Global, text: &str) -> Result<String, Fail> {
+        let error = match parse(alloc, text) {
+            Ok(metadata) => return Ok(summary(alloc, &metadata)?),
+            Err(error) => error,
+        };
+        let printed = format!(in alloc; "{error}")?;
+        let is_begun = printed.starts_with("failed to interpret `cargo metadata`'s json: ");
+        match error {
+            Error::Json(_) if is_begun => Ok(String::from_str(alloc, "no JSON")?),
+            Error::Value(_) => Ok(format!(in alloc; "no metadata: {printed}")?),
+            _ => Ok(printed),
         }
     }
-    Ok(())
 }
 
 #[test]
 fn two_packages(rt: HostRuntime) -> Result<(), Fail> {
-    hold(rt.alloc(), READ)
+    hold::<Parsed>(rt.alloc(), READ)
 }
 
 #[test]
 fn texts_that_are_no_document(rt: HostRuntime) -> Result<(), Fail> {
-    hold(rt.alloc(), REFUSED)
+    hold::<Parsed>(rt.alloc(), REFUSED)
 }

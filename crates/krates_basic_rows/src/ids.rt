@@ -6,13 +6,14 @@ ghost use Rattle.krates_ids.specs.Identity.{id_cmp};
 
 use krates_cm::PackageId;
 use krates_ids::{IdError, Kid};
+use krates_samples::table::{Question, Row, hold};
 use std::alloc::{AllocError, Global};
 use std::collections::BTreeMap;
 use std::hash::{DefaultHasher, Hash, Hasher};
 use std::test::Fail;
 
 /// Ids of the stable form, and the name, version and source of each.
-const STABLE: &[(&str, &str)] = &[
+const STABLE: &[Row] = &[
     (
         "registry+https://github.com/rust-lang/crates.io-index#ab_glyph@0.2.22",
         "stable, as written: ab_glyph | 0.2.22 | registry+https://github.com/rust-lang/crates.io-index",
@@ -41,7 +42,7 @@ const STABLE: &[(&str, &str)] = &[
 ];
 
 /// Ids of git sources; only the query is decoded.
-const GIT: &[(&str, &str)] = &[
+const GIT: &[Row] = &[
     (
         "git+https://github.com/a/b?branch=c%2Fd#0.1.0",
         "stable, decoded: b | 0.1.0 | git+https://github.com/a/b?branch=c/d",
@@ -69,7 +70,7 @@ const GIT: &[(&str, &str)] = &[
 ];
 
 /// Ids of git sources as cargo wrote them.
-const GIT_OF_A_DOCUMENT: &[(&str, &str)] = &[
+const GIT_OF_A_DOCUMENT: &[Row] = &[
     (
         "git+file:///w/gitrepo/many?branch=feat%2Fsome%2Bthing%402#0.1.0",
         "stable, decoded: many | 0.1.0 | git+file:///w/gitrepo/many?branch=feat/some+thing@2",
@@ -93,7 +94,7 @@ const GIT_OF_A_DOCUMENT: &[(&str, &str)] = &[
 ];
 
 /// Ids of packages that exist: each way in which cargo names a source, in both forms.
-const OF_PACKAGES_THAT_EXIST: &[(&str, &str)] = &[
+const OF_PACKAGES_THAT_EXIST: &[Row] = &[
     (
         "git+https://github.com/EmbarkStudios/egui-stylist?rev=3900e8aedc5801e42c1bb747cfd025615bf3b832#0.2.0",
         "stable, as written: egui-stylist | 0.2.0 | git+https://github.com/EmbarkStudios/egui-stylist?rev=3900e8aedc5801e42c1bb747cfd025615bf3b832",
@@ -133,7 +134,7 @@ const OF_PACKAGES_THAT_EXIST: &[(&str, &str)] = &[
 ];
 
 /// Ids of the opaque form, whose texts are kept.
-const OPAQUE: &[(&str, &str)] = &[
+const OPAQUE: &[Row] = &[
     (
         "fuser 0.4.1 (git+https://github.com/cberner/fuser?branch=master#b2e7622942e52a28ffa85cdaf48e28e982bb6923)",
         "opaque, as written: fuser | 0.4.1 | git+https://github.com/cberner/fuser?branch=master",
@@ -154,7 +155,7 @@ const OPAQUE: &[(&str, &str)] = &[
 ];
 
 /// Texts that are no ids, and why.
-const REFUSED: &[(&str, &str)] = &[
+const REFUSED: &[Row] = &[
     ("a 0.1.0 (", "bad opaque id: a 0.1.0 ("),
     ("a 0.1.0", "bad opaque id: a 0.1.0"),
     ("a 0.1.0 (b#c", "bad opaque id: a 0.1.0 (b#c"),
@@ -178,55 +179,44 @@ const REFUSED: &[(&str, &str)] = &[
     ),
 ];
 
-/// One package three times: at two commits, which don't count, and in the stable form.
-const FUSER: &str = "fuser 0.4.1 (git+https://x.org/fuser?branch=master#b2e76229)";
-
-const FUSER_ELSEWHEN: &str = "fuser 0.4.1 (git+https://x.org/fuser?branch=master#0a1b2c3d)";
-
-const FUSER_STABLE: &str = "git+https://x.org/fuser?branch=master#0.4.1";
-
 /// What is told of two ids that are equal.
 const EQUAL: &str = "Equal, Some(Equal), equal with equal hashes";
 
 /// What is told of two ids of which the first is less.
 const LESS: &str = "Less, Some(Less), less";
 
-/// Two ids with equal parts.
-const OF_EQUAL_PARTS: &[(&str, &str, &str)] = &[
-    (FUSER, FUSER_ELSEWHEN, EQUAL),
-    (FUSER_ELSEWHEN, FUSER_STABLE, EQUAL),
-    (FUSER, FUSER_STABLE, EQUAL),
+/// Two ids with equal parts: of one package at two commits, which don't count, and in the stable form.
+const OF_EQUAL_PARTS: &[Row] = &[
+    (
+        "fuser 0.4.1 (git+https://x.org/fuser?branch=master#b2e76229) | fuser 0.4.1 (git+https://x.org/fuser?branch=master#0a1b2c3d)",
+        EQUAL,
+    ),
+    (
+        "fuser 0.4.1 (git+https://x.org/fuser?branch=master#0a1b2c3d) | git+https://x.org/fuser?branch=master#0.4.1",
+        EQUAL,
+    ),
+    (
+        "fuser 0.4.1 (git+https://x.org/fuser?branch=master#b2e76229) | git+https://x.org/fuser?branch=master#0.4.1",
+        EQUAL,
+    ),
 ];
 
 /// Two ids in their order: by name, then by version as text, then by source.
-const ORDERED: &[(&str, &str, &str)] = &[
+const ORDERED: &[Row] = &[
+    ("path+file:///w/d#d@0.10.0 | path+file:///w/d#d@0.9.0", LESS),
+    ("path+file:///w/e#a@1.0.0 | path+file:///w/d#d@0.10.0", LESS),
     (
-        "path+file:///w/d#d@0.10.0",
-        "path+file:///w/d#d@0.9.0",
+        "path+file:///w/d#d@0.10.0 | path+file:///w/e#d@0.10.0",
         LESS,
     ),
-    (
-        "path+file:///w/e#a@1.0.0",
-        "path+file:///w/d#d@0.10.0",
-        LESS,
-    ),
-    (
-        "path+file:///w/d#d@0.10.0",
-        "path+file:///w/e#d@0.10.0",
-        LESS,
-    ),
-    (
-        "path+file:///w/e#d@0.10.0",
-        "path+file:///w/d#d@0.9.0",
-        LESS,
-    ),
+    ("path+file:///w/e#d@0.10.0 | path+file:///w/d#d@0.9.0", LESS),
 ];
 
 /// Ids by which is looked in a map that has the first under 7.
-const KEYS: &[(&str, Option<u32>)] = &[
-    ("a 0.1.0 (git+https://x.org/a#1)", Some(7)),
-    ("git+https://x.org/a#0.1.0", Some(7)),
-    ("git+https://x.org/a#0.2.0", None),
+const KEYS: &[Row] = &[
+    ("a 0.1.0 (git+https://x.org/a#1)", "Some(7)"),
+    ("git+https://x.org/a#0.1.0", "Some(7)"),
+    ("git+https://x.org/a#0.2.0", "None"),
 ];
 
 fn package_id(alloc: Global, text: &str) -> Result<PackageId, AllocError> {
@@ -241,60 +231,53 @@ pub(crate) fn kid(alloc: Global, text: &str) -> Result<Kid, Fail> {
 }
 
 /// The form of an id, whether its text is kept, and its name, version and source; or why a text is no id.
-fn told(alloc: Global, text: &str) -> Result<String, Fail> {
-    let kid = match Kid::try_from(package_id(alloc, text)?) {
-        Ok(kid) => kid,
-        Err(error) => return Ok(format!(in alloc; "{error}")?),
-    };
-    let form = if kid.is_opaque() { "opaque" } else { "stable" };
-    let repr = if kid.repr() == text {
-        "as written"
-    } else {
-        "decoded"
-    };
-    let (name, version, source) = (kid.name(), kid.version(), kid.source());
-    Ok(format!(in alloc; "{form}, {repr}: {name} | {version} | {source}")?)
-}
+struct Read;
 
-/// Compares what is told of each text with what is expected.
-fn hold(alloc: Global, rows: &[(&str, &str)]) -> Result<(), Fail> {
-    for &(text, expected) in rows {
-        let told = told(alloc, text)?;
-        if told.as_str() != expected {
-            return Err(Fail::new(format_args!("{text}: {told} in place of {expected}")));
-        }
+impl Question for Read {
+    fn told(alloc: Global, text: &str) -> Result<String, Fail> {
+        let kid = match Kid::try_from(package_id(alloc, text)?) {
+            Ok(kid) => kid,
+            Err(error) => return Ok(format!(in alloc; "{error}")?),
+        };
+        let form = if kid.is_opaque() { "opaque" } else { "stable" };
+        let repr = if kid.repr() == text {
+            "as written"
+        } else {
+            "decoded"
+        };
+        let (name, version, source) = (kid.name(), kid.version(), kid.source());
+        Ok(format!(in alloc; "{form}, {repr}: {name} | {version} | {source}")?)
     }
-    Ok(())
 }
 
 #[test]
 fn reads_stable_ids(rt: HostRuntime) -> Result<(), Fail> {
-    hold(rt.alloc(), STABLE)
+    hold::<Read>(rt.alloc(), STABLE)
 }
 
 #[test]
 fn reads_git_ids(rt: HostRuntime) -> Result<(), Fail> {
-    hold(rt.alloc(), GIT)
+    hold::<Read>(rt.alloc(), GIT)
 }
 
 #[test]
 fn reads_git_ids_of_a_document(rt: HostRuntime) -> Result<(), Fail> {
-    hold(rt.alloc(), GIT_OF_A_DOCUMENT)
+    hold::<Read>(rt.alloc(), GIT_OF_A_DOCUMENT)
 }
 
 #[test]
 fn reads_opaque_ids(rt: HostRuntime) -> Result<(), Fail> {
-    hold(rt.alloc(), OPAQUE)
+    hold::<Read>(rt.alloc(), OPAQUE)
 }
 
 #[test]
 fn reads_ids_of_packages_that_exist(rt: HostRuntime) -> Result<(), Fail> {
-    hold(rt.alloc(), OF_PACKAGES_THAT_EXIST)
+    hold::<Read>(rt.alloc(), OF_PACKAGES_THAT_EXIST)
 }
 
 #[test]
 fn refuses_other_texts(rt: HostRuntime) -> Result<(), Fail> {
-    hold(rt.alloc(), REFUSED)?;
+    hold::<Read>(rt.alloc(), REFUSED)?;
     let error = IdError::Memory(package_id(rt.alloc(), "x")?);
     assert_eq!(rt; error.to_string(rt.alloc())?.as_str(), "out of memory");
     Ok(())
@@ -306,45 +289,37 @@ fn hash_of(kid: &Kid) -> u64 {
     hasher.finish()
 }
 
-/// How two ids compare, and whether they hash alike where they are equal.
-fn compared(alloc: Global, left: &str, right: &str) -> Result<String, Fail> {
-    let left = kid(alloc, left)?;
-    let right = kid(alloc, right)?;
-    let relation = if left == right && hash_of(&left) == hash_of(&right) {
-        "equal with equal hashes"
-    } else if left < right {
-        "less"
-    } else {
-        "neither"
-    };
-    Ok(format!(in alloc;
-        "{:?}, {:?}, {relation}",
-        left.cmp(&right),
-        left.partial_cmp(&right)
-    )?)
-}
+/// How two ids compare, which a bar divides, and whether they hash alike where they are equal.
+struct Compared;
 
-/// Compares what is told of each pair with what is expected.
-fn hold_of_pairs(alloc: Global, rows: &[(&str, &str, &str)]) -> Result<(), Fail> {
-    for &(left, right, expected) in rows {
-        let told = compared(alloc, left, right)?;
-        if told.as_str() != expected {
-            return Err(Fail::new(format_args!(
-                "{left} and {right}: {told} in place of {expected}"
-            )));
-        }
+impl Question for Compared {
+    fn told(alloc: Global, line: &str) -> Result<String, Fail> {
+        let (left, right) = line.split_once(" | ").unwrap_or((line, ""));
+        let left = kid(alloc, left)?;
+        let right = kid(alloc, right)?;
+        let relation = if left == right && hash_of(&left) == hash_of(&right) {
+            "equal with equal hashes"
+        } else if left < right {
+            "less"
+        } else {
+            "neither"
+        };
+        Ok(format!(in alloc;
+            "{:?}, {:?}, {relation}",
+            left.cmp(&right),
+            left.partial_cmp(&right)
+        )?)
     }
-    Ok(())
 }
 
 #[test]
 fn compares_by_parts(rt: HostRuntime) -> Result<(), Fail> {
-    hold_of_pairs(rt.alloc(), OF_EQUAL_PARTS)
+    hold::<Compared>(rt.alloc(), OF_EQUAL_PARTS)
 }
 
 #[test]
 fn orders_versions_as_text(rt: HostRuntime) -> Result<(), Fail> {
-    hold_of_pairs(rt.alloc(), ORDERED)
+    hold::<Compared>(rt.alloc(), ORDERED)
 }
 
 fn number_of(numbers: &BTreeMap<Kid, u32>, kid: &Kid) -> Option<u32>
@@ -353,16 +328,22 @@ fn number_of(numbers: &BTreeMap<Kid, u32>, kid: &Kid) -> Option<u32>
     numbers.get(kid).copied()
 }
 
+/// What a map has for an id.
+struct Key;
+
+impl Question for Key {
+    fn told(alloc: Global, text: &str) -> Result<String, Fail> {
+        let mut numbers = BTreeMap::new(alloc);
+        let commit = kid(alloc, "a 0.1.0 (git+https://x.org/a#1)")?;
+        numbers.insert(commit.clone()?, 7)?;
+        let number = number_of(&numbers, &kid(alloc, text)?);
+        Ok(format!(in alloc; "{number:?}")?)
+    }
+}
+
 #[test]
 fn is_a_key(rt: HostRuntime) -> Result<(), Fail> {
-    let mut numbers = BTreeMap::new(rt.alloc());
-    let commit = kid(rt.alloc(), "a 0.1.0 (git+https://x.org/a#1)")?;
-    numbers.insert(commit.clone()?, 7)?;
-    for &(text, want) in KEYS {
-        let kid = kid(rt.alloc(), text)?;
-        assert_eq!(rt; number_of(&numbers, &kid), want, "{text}");
-    }
-    Ok(())
+    hold::<Key>(rt.alloc(), KEYS)
 }
 
 #[test]

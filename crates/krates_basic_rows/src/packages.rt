@@ -1,9 +1,33 @@
-//! The packages that specifications are asked about, and whose features an index corrects.
+//! Values that are read of JSON, and the packages that specifications are asked about, and whose features an index corrects.
 
 use krates_cm::{FromValue, Package};
+use krates_samples::table::{Question, Row};
 use serde_json::Value;
 use std::alloc::Global;
 use std::test::Fail;
+
+/// The value that JSON is.
+pub(crate) fn read<T: FromValue>(alloc: Global, json: &str) -> Result<T, Fail> {
+    let value = Value::from_str(alloc, json)?;
+    Ok(T::from_value(alloc, &value)?)
+}
+
+/// Compares the answer to each line, with what stands around it, with the one that is known; names the first row where they differ.
+pub(crate) fn hold_within<Q: Question>(
+    alloc: Global,
+    around: (&str, &str),
+    rows: &[Row],
+) -> Result<(), Fail> {
+    let (before, behind) = around;
+    for &(line, answer) in rows {
+        let json = format!(in alloc; "{before}{line}{behind}")?;
+        let told = Q::told(alloc, json.as_str())?;
+        if told.as_str() != answer {
+            return Err(Fail::new(format_args!("{line}: {told} in place of {answer}")));
+        }
+    }
+    Ok(())
+}
 
 /// The package `cargo` of this version, with this source and these features as JSON.
 pub(crate) fn package(
@@ -15,6 +39,5 @@ pub(crate) fn package(
     let json = format!(in alloc;
         "{{\"name\":\"cargo\",\"version\":\"{version}\",\"id\":\"x\",\"source\":{source},\"dependencies\":[],\"targets\":[],\"features\":{features},\"manifest_path\":\"m\"}}"
     )?;
-    let value = Value::from_str(alloc, json.as_str())?;
-    Ok(Package::from_value(alloc, &value)?)
+    read(alloc, json.as_str())
 }

@@ -1,10 +1,11 @@
 //! What a document answers, what its kinds and ids print, and copies of its types.
 
+use crate::packages::{hold_within, read};
 use krates_cm::{
     DepKindInfo, Dependency, DependencyKind, Edition, FromValue, Metadata, Package, PackageId,
     Source, Target, TargetKind, WorkspaceDefaultMembers,
 };
-use serde_json::Value;
+use krates_samples::table::{Question, Row};
 use std::alloc::{AllocError, Global};
 use std::fmt::Debug;
 use std::test::Fail;
@@ -16,7 +17,7 @@ const DOCUMENT: (&str, &str) = (
 );
 
 /// The rest of a document, and its root, the packages of the workspace, the default ones, and the package `B`.
-const ANSWERS: &[(&str, &str)] = &[
+const ANSWERS: &[Row] = &[
     (
         r#""workspace_root":"/w""#,
         r#"root None, members ["a"], default None, B is Some("b")"#,
@@ -44,7 +45,7 @@ const ANSWERS: &[(&str, &str)] = &[
 ];
 
 /// The manifest of a package with its licence file and its readme, and where these are.
-const FILES: &[(&str, &str)] = &[
+const FILES: &[Row] = &[
     (
         r#""manifest_path":"/w/a/Cargo.toml","license_file":"LICENSE","readme":"R""#,
         r#"Some("/w/a/LICENSE"), Some("/w/a/R")"#,
@@ -70,8 +71,11 @@ const PACKAGE: (&str, &str) = (
     "}",
 );
 
+/// What stands around the kinds of a target.
+const TARGET: (&str, &str) = (r#"{"name":"t","src_path":"s","kind":["#, "]}");
+
 /// The kinds of a target, and which tests say yes.
-const KINDS: &[(&str, &str)] = &[
+const KINDS: &[Row] = &[
     (r#""lib""#, "lib "),
     (r#""rlib","dylib","cdylib","staticlib""#, ""),
     (r#""bin""#, "bin "),
@@ -86,29 +90,6 @@ const KINDS: &[(&str, &str)] = &[
 /// The names of packages.
 fn names<'a>(alloc: Global, packages: &[&'a Package]) -> Result<Vec<&'a str>, AllocError> {
     packages.iter().map(|p| p.name.as_str()).collect(alloc)
-}
-
-/// What is asked of a type.
-trait Asked: FromValue {
-    fn answers(&self, alloc: Global) -> Result<String, AllocError>;
-}
-
-impl Asked for Metadata {
-    fn answers(&self, alloc: Global) -> Result<String, AllocError> {
-        document_answers(alloc, self)
-    }
-}
-
-impl Asked for Package {
-    fn answers(&self, alloc: Global) -> Result<String, AllocError> {
-        files(alloc, self)
-    }
-}
-
-impl Asked for Target {
-    fn answers(&self, alloc: Global) -> Result<String, AllocError> {
-        tests(alloc, self)
-    }
 }
 
 /// What a document answers.
@@ -154,37 +135,46 @@ fn tests(alloc: Global, target: &Target) -> Result<String, AllocError> {
     Ok(told)
 }
 
-/// Compares what is told of each row, with what stands around it, with what is expected.
-fn hold<T: Asked>(alloc: Global, around: (&str, &str), rows: &[(&str, &str)]) -> Result<(), Fail> {
-    let (before, behind) = around;
-    for &(row, expected) in rows {
-        let json = format!(in alloc; "{before}{row}{behind}")?;
-        let value = Value::from_str(alloc, json.as_str())?;
-        let told = T::from_value(alloc, &value)?.answers(alloc)?;
-        if told.as_str() != expected {
-            return Err(Fail::new(format_args!("{row}: {told} in place of {expected}")));
-        }
+/// What a document answers, of its JSON.
+struct OfDocument;
+
+impl Question for OfDocument {
+    fn told(alloc: Global, json: &str) -> Result<String, Fail> {
+        Ok(document_answers(alloc, &read(alloc, json)?)?)
     }
-    Ok(())
 }
 
 #[test]
 fn documents_answer(rt: HostRuntime) -> Result<(), Fail> {
-    hold::<Metadata>(rt.alloc(), DOCUMENT, ANSWERS)
+    hold_within::<OfDocument>(rt.alloc(), DOCUMENT, ANSWERS)
+}
+
+/// Where the files of a package are, of its JSON.
+struct FilesOf;
+
+impl Question for FilesOf {
+    fn told(alloc: Global, json: &str) -> Result<String, Fail> {
+        Ok(files(alloc, &read(alloc, json)?)?)
+    }
 }
 
 #[test]
 fn files_of_packages(rt: HostRuntime) -> Result<(), Fail> {
-    hold::<Package>(rt.alloc(), PACKAGE, FILES)
+    hold_within::<FilesOf>(rt.alloc(), PACKAGE, FILES)
+}
+
+/// The tests that say yes of a target, of its JSON.
+struct KindsOf;
+
+impl Question for KindsOf {
+    fn told(alloc: Global, json: &str) -> Result<String, Fail> {
+        Ok(tests(alloc, &read(alloc, json)?)?)
+    }
 }
 
 #[test]
 fn kinds_of_targets(rt: HostRuntime) -> Result<(), Fail> {
-    hold::<Target>(
-        rt.alloc(),
-        (r#"{"name":"t","src_path":"s","kind":["#, "]}"),
-        KINDS,
-    )
+    hold_within::<KindsOf>(rt.alloc(), TARGET, KINDS)
 }
 
 /// JSON of each type that is copied.
@@ -206,8 +196,7 @@ const COPIED_DOCUMENT: &str =
 
 /// Fails where a copy of what is read of a text shows other fields.
 fn copy<T: FromValue + Clone + Debug>(alloc: Global, json: &str) -> Result<T, Fail> {
-    let value = Value::from_str(alloc, json)?;
-    let read = T::from_value(alloc, &value)?;
+    let read: T = read(alloc, json)?;
     let copy = read.clone()?;
     if format!(in alloc; "{read:?}")? != format!(in alloc; "{copy:?}")? {
         return Err(Fail::new(format_args!("{json}: a copy shows {copy:?}")));

@@ -1,16 +1,18 @@
 //! What each type is read as, and each refusal by a value of which only that one is true.
 
+use crate::packages::hold_within;
 use krates_cm::{
     DepKindInfo, Dependency, FromValue, Metadata, Node, NodeDep, Package, PackageId, Resolve,
     Source, Target,
 };
+use krates_samples::table::{Question, Row, hold};
 use serde_json::Value;
 use std::alloc::Global;
 use std::fmt::Debug;
 use std::test::Fail;
 
 /// JSON that is read as an id, or why it isn't.
-const IDS: &[(&str, &str)] = &[
+const IDS: &[Row] = &[
     (r#""a 0.1.0""#, r#"PackageId { repr: "a 0.1.0" }"#),
     ("null", "wrong type at key: "),
     ("1", "wrong type at key: "),
@@ -18,7 +20,7 @@ const IDS: &[(&str, &str)] = &[
 ];
 
 /// The same of a source.
-const SOURCES: &[(&str, &str)] = &[
+const SOURCES: &[Row] = &[
     (r#""a 0.1.0""#, r#"Source { repr: "a 0.1.0" }"#),
     ("null", "wrong type at key: "),
     ("1", "wrong type at key: "),
@@ -26,7 +28,7 @@ const SOURCES: &[(&str, &str)] = &[
 ];
 
 /// The same of what a resolved dependency is needed for.
-const KINDS: &[(&str, &str)] = &[
+const KINDS: &[Row] = &[
     ("{}", "DepKindInfo { kind: Normal, target: None }"),
     (
         r#"{"kind":null,"target":null}"#,
@@ -51,7 +53,7 @@ const KINDS: &[(&str, &str)] = &[
 ];
 
 /// The same of a dependency of a node.
-const NODE_DEPENDENCIES: &[(&str, &str)] = &[
+const NODE_DEPENDENCIES: &[Row] = &[
     (
         r#"{"name":"b","pkg":"c","dep_kinds":[{"kind":"dev"}]}"#,
         r#"NodeDep { name: "b", pkg: PackageId { repr: "c" }, dep_kinds: [DepKindInfo { kind: Development, target: None }] }"#,
@@ -69,7 +71,7 @@ const NODE_DEPENDENCIES: &[(&str, &str)] = &[
 ];
 
 /// The same of a node.
-const NODES: &[(&str, &str)] = &[
+const NODES: &[Row] = &[
     (
         r#"{"id":"a","deps":[],"dependencies":["c"],"features":["f","g"]}"#,
         r#"Node { id: PackageId { repr: "a" }, deps: [], dependencies: [PackageId { repr: "c" }], features: ["f", "g"] }"#,
@@ -91,7 +93,7 @@ const NODES: &[(&str, &str)] = &[
 ];
 
 /// The same of a resolved graph.
-const GRAPHS: &[(&str, &str)] = &[
+const GRAPHS: &[Row] = &[
     (
         r#"{"nodes":[],"root":null}"#,
         "Resolve { nodes: [], root: None }",
@@ -107,7 +109,7 @@ const GRAPHS: &[(&str, &str)] = &[
 ];
 
 /// The same of a declared dependency.
-const DECLARED: &[(&str, &str)] = &[
+const DECLARED: &[Row] = &[
     (
         r#"{"name":"b","source":"s","req":"*","kind":"build","rename":"c","optional":true,"uses_default_features":false,"features":["f"],"target":"t","registry":"r","path":"p"}"#,
         r#"Dependency { name: "b", source: Some("s"), req: VersionReq { comparators: [] }, kind: Build, optional: true, uses_default_features: false, features: ["f"], target: Some("t"), rename: Some("c"), registry: Some("r"), path: Some("p") }"#,
@@ -135,7 +137,7 @@ const DECLARED: &[(&str, &str)] = &[
 ];
 
 /// JSON that is read as a target.
-const TARGETS: &[(&str, &str)] = &[
+const TARGETS: &[Row] = &[
     (
         r#"{"name":"t","kind":["lib","proc-macro"],"crate_types":["rlib"],"required-features":["f"],"src_path":"s","edition":"2021","doctest":false,"test":true,"doc":false}"#,
         r#"Target { name: "t", kind: [Lib, ProcMacro], crate_types: [RLib], required_features: ["f"], src_path: "s", edition: E2021, doctest: false, test: true, doc: false }"#,
@@ -147,7 +149,7 @@ const TARGETS: &[(&str, &str)] = &[
 ];
 
 /// JSON that is no target, and why.
-const TARGETS_REFUSED: &[(&str, &str)] = &[
+const TARGETS_REFUSED: &[Row] = &[
     (
         r#"{"name":"t","kind":["library"],"src_path":"s"}"#,
         "bad target kind",
@@ -175,7 +177,7 @@ const TARGETS_REFUSED: &[(&str, &str)] = &[
 ];
 
 /// A package that has every key, and what it is read as.
-const EVERY_KEY: &[(&str, &str)] = &[(
+const EVERY_KEY: &[Row] = &[(
     r#"{"name":"a","version":"1.2.3-rc.1+b","id":"i","license":"MIT","license_file":"L",
         "description":"d","source":"s","dependencies":[],"targets":[],"features":{"y":[],"x":["dep:b","y"]},
         "manifest_path":"/w/a/Cargo.toml","metadata":{"k":[1]},"publish":["r"],"authors":["A"],
@@ -184,9 +186,6 @@ const EVERY_KEY: &[(&str, &str)] = &[(
     r#"Package { name: "a", version: Version { major: 1, minor: 2, patch: 3, pre: Prerelease("rc.1"), build: BuildMetadata("b") }, authors: ["A"], id: PackageId { repr: "i" }, source: Some(Source { repr: "s" }), description: Some("d"), dependencies: [], license: Some("MIT"), license_file: Some("L"), targets: [], features: {"x": ["dep:b", "y"], "y": []}, manifest_path: "/w/a/Cargo.toml", categories: ["c"], keywords: ["k"], readme: Some("R"), repository: Some("p"), homepage: Some("h"), documentation: Some("o"), edition: E2024, metadata: Object {"k": Array [Number(1)]}, links: Some("n"), publish: Some(["r"]), default_run: Some("u"), rust_version: Some(Version { major: 1, minor: 70, patch: 0 }) }"#,
 )];
 
-/// Nothing around the rows: each is a whole value.
-const WHOLE: (&str, &str) = ("", "");
-
 /// The keys that a package has to have, around a further one, which may stand there twice: the last counts.
 const PACKAGE: (&str, &str) = (
     r#"{"name":"a","version":"1.0.0","id":"i","dependencies":[],"targets":[],"features":{},"manifest_path":"m","#,
@@ -194,7 +193,7 @@ const PACKAGE: (&str, &str) = (
 );
 
 /// What is wrong with a package of one more key.
-const PACKAGES_REFUSED: &[(&str, &str)] = &[
+const PACKAGES_REFUSED: &[Row] = &[
     (r#""version":"1.0""#, "bad version"),
     (r#""authors":null"#, "wrong type at key: authors"),
     (
@@ -218,7 +217,7 @@ const DOCUMENT: (&str, &str) = (
 );
 
 /// What is read of a document of further keys, or why it isn't.
-const DOCUMENTS: &[(&str, &str)] = &[
+const DOCUMENTS: &[Row] = &[
     (
         r#""resolve":null,"build_directory":null"#,
         r#"Metadata { packages: [], workspace_members: [PackageId { repr: "a" }], workspace_default_members: WorkspaceDefaultMembers(None), resolve: None, workspace_root: "/w", target_directory: "/t", build_directory: None, workspace_metadata: Null, version: 0 }"#,
@@ -242,84 +241,73 @@ const DOCUMENTS: &[(&str, &str)] = &[
     (r#""packages":[null]"#, "wrong type at key: packages"),
 ];
 
-/// What is read, or the text of the refusal.
-fn told<T: FromValue + Debug>(alloc: Global, json: &str) -> Result<String, Fail> {
-    let value = Value::from_str(alloc, json)?;
-    match T::from_value(alloc, &value) {
-        Ok(read) => Ok(format!(in alloc; "{read:?}")?),
-        Err(error) => Ok(format!(in alloc; "{error}")?),
-    }
+/// What is read as this type, or the text of the refusal.
+struct Read<T> {
+    value: T,
 }
 
-/// Compares what is told of each row, with what stands around it, with what is expected.
-fn hold<T: FromValue + Debug>(
-    alloc: Global,
-    around: (&str, &str),
-    rows: &[(&str, &str)],
-) -> Result<(), Fail> {
-    let (before, behind) = around;
-    for &(row, expected) in rows {
-        let json = format!(in alloc; "{before}{row}{behind}")?;
-        let told = told::<T>(alloc, json.as_str())?;
-        if told.as_str() != expected {
-            return Err(Fail::new(format_args!("{row}: {told} in place of {expected}")));
+impl<T: FromValue + Debug> Question for Read<T> {
+    fn told(alloc: Global, json: &str) -> Result<String, Fail> {
+        let value = Value::from_str(alloc, json)?;
+        match T::from_value(alloc, &value) {
+            Ok(read) => Ok(format!(in alloc; "{read:?}")?),
+            Err(error) => Ok(format!(in alloc; "{error}")?),
         }
     }
-    Ok(())
 }
 
 #[test]
 fn texts(rt: HostRuntime) -> Result<(), Fail> {
-    hold::<PackageId>(rt.alloc(), WHOLE, IDS)?;
-    hold::<Source>(rt.alloc(), WHOLE, SOURCES)
+    hold::<Read<PackageId>>(rt.alloc(), IDS)?;
+    hold::<Read<Source>>(rt.alloc(), SOURCES)
 }
 
 #[test]
 fn kinds_of_resolved_dependencies(rt: HostRuntime) -> Result<(), Fail> {
-    hold::<DepKindInfo>(rt.alloc(), WHOLE, KINDS)
+    hold::<Read<DepKindInfo>>(rt.alloc(), KINDS)
 }
 
 #[test]
 fn dependencies_of_nodes(rt: HostRuntime) -> Result<(), Fail> {
-    hold::<NodeDep>(rt.alloc(), WHOLE, NODE_DEPENDENCIES)
+    hold::<Read<NodeDep>>(rt.alloc(), NODE_DEPENDENCIES)
 }
 
 #[test]
 fn nodes(rt: HostRuntime) -> Result<(), Fail> {
-    hold::<Node>(rt.alloc(), WHOLE, NODES)
+    hold::<Read<Node>>(rt.alloc(), NODES)
 }
 
 #[test]
 fn resolved_graphs(rt: HostRuntime) -> Result<(), Fail> {
-    hold::<Resolve>(rt.alloc(), WHOLE, GRAPHS)
+    hold::<Read<Resolve>>(rt.alloc(), GRAPHS)
 }
 
 #[test]
 fn declared_dependencies(rt: HostRuntime) -> Result<(), Fail> {
-    hold::<Dependency>(rt.alloc(), WHOLE, DECLARED)
+    hold::<Read<Dependency>>(rt.alloc(), DECLARED)
 }
 
 #[test]
 fn targets(rt: HostRuntime) -> Result<(), Fail> {
-    hold::<Target>(rt.alloc(), WHOLE, TARGETS)
+    hold::<Read<Target>>(rt.alloc(), TARGETS)
 }
 
 #[test]
 fn targets_that_are_refused(rt: HostRuntime) -> Result<(), Fail> {
-    hold::<Target>(rt.alloc(), WHOLE, TARGETS_REFUSED)
+    hold::<Read<Target>>(rt.alloc(), TARGETS_REFUSED)
 }
 
 #[test]
 fn a_package_of_every_key(rt: HostRuntime) -> Result<(), Fail> {
-    hold::<Package>(rt.alloc(), WHOLE, EVERY_KEY)
+    hold::<Read<Package>>(rt.alloc(), EVERY_KEY)
 }
 
 #[test]
 fn packages_that_are_refused(rt: HostRuntime) -> Result<(), Fail> {
-    hold::<Package>(rt.alloc(), PACKAGE, PACKAGES_REFUSED)
+    hold_within::<Read<Package>>(rt.alloc(), PACKAGE, PACKAGES_REFUSED)
 }
 
 #[test]
 fn whole_documents(rt: HostRuntime) -> Result<(), Fail> {
-    hold::<Metadata>(rt.alloc(), DOCUMENT, DOCUMENTS)
+    hold_within::<Read<Metadata>>(rt.alloc(), DOCUMENT, DOCUMENTS)
 }

@@ -4,12 +4,13 @@
 use crate::ids::kid;
 use krates_cm::{Error as MetadataError, ReadError, UnknownName};
 use krates_ids::{Error, Lost};
+use krates_samples::table::{Question, Row, hold};
 use std::alloc::{AllocError, Global};
 use std::test::Fail;
 use std::{io, str};
 
 /// Refusals of a build by their names, and what each prints.
-const OF_BUILDS: &[(&str, &str)] = &[
+const OF_BUILDS: &[Row] = &[
     ("NoResolveGraph", "no resolution graph was provided"),
     ("Metadata", "features given twice"),
     ("NoRootKrates", "no root crates available"),
@@ -27,7 +28,7 @@ const OF_BUILDS: &[(&str, &str)] = &[
 ];
 
 /// Refusals of metadata by their names, and what each prints.
-const OF_METADATA: &[(&str, &str)] = &[
+const OF_METADATA: &[Row] = &[
     (
         "CargoMetadata",
         "`cargo metadata` exited with an error: no manifest",
@@ -42,7 +43,7 @@ const OF_METADATA: &[(&str, &str)] = &[
 ];
 
 /// Those whose cause comes from the library, and how what each prints begins.
-const OF_CAUSES: &[(&str, &str)] = &[
+const OF_CAUSES: &[Row] = &[
     ("Io", "failed to start `cargo metadata`: "),
     ("Utf8", "cannot convert the stdout of `cargo metadata`: "),
     ("ErrUtf8", "cannot convert the stderr of `cargo metadata`: "),
@@ -107,46 +108,49 @@ fn of_metadata(alloc: Global, name: &str) -> Result<MetadataError, Fail> {
 }
 
 /// What the refusal of a build with this name prints.
-fn printed_of_build(alloc: Global, name: &str) -> Result<String, Fail> {
-    Ok(of_build(alloc, name)?.to_string(alloc)?)
-}
+struct OfBuild;
 
-/// What the refusal of metadata with this name prints.
-fn printed_of_metadata(alloc: Global, name: &str) -> Result<String, Fail> {
-    Ok(of_metadata(alloc, name)?.to_string(alloc)?)
+impl Question for OfBuild {
+    fn told(alloc: Global, name: &str) -> Result<String, Fail> {
+        Ok(of_build(alloc, name)?.to_string(alloc)?)
+    }
 }
 
 #[test]
 fn refusals_of_builds(rt: HostRuntime) -> Result<(), Fail> {
-    for &(name, want) in OF_BUILDS {
-        assert_eq!(rt;
-            printed_of_build(rt.alloc(), name)?.as_str(),
-            want,
-            "{name}"
-        );
+    hold::<OfBuild>(rt.alloc(), OF_BUILDS)
+}
+
+/// What the refusal of metadata with this name prints.
+struct OfMetadata;
+
+impl Question for OfMetadata {
+    fn told(alloc: Global, name: &str) -> Result<String, Fail> {
+        Ok(of_metadata(alloc, name)?.to_string(alloc)?)
     }
-    Ok(())
 }
 
 #[test]
 fn refusals_of_metadata(rt: HostRuntime) -> Result<(), Fail> {
-    for &(name, want) in OF_METADATA {
-        assert_eq!(rt;
-            printed_of_metadata(rt.alloc(), name)?.as_str(),
-            want,
-            "{name}"
-        );
+    hold::<OfMetadata>(rt.alloc(), OF_METADATA)
+}
+
+/// What it prints up to the first colon and the blank behind that, where it has one.
+struct Begun;
+
+impl Question for Begun {
+    fn told(alloc: Global, name: &str) -> Result<String, Fail> {
+        let printed = OfMetadata::told(alloc, name)?;
+        match printed.split_once(": ") {
+            Some((begun, _)) => Ok(format!(in alloc; "{begun}: ")?),
+            None => Ok(printed),
+        }
     }
-    Ok(())
 }
 
 #[test]
 fn refusals_with_causes(rt: HostRuntime) -> Result<(), Fail> {
-    for &(name, want) in OF_CAUSES {
-        let printed = printed_of_metadata(rt.alloc(), name)?;
-        assert!(rt; printed.starts_with(want), "{name}: {printed}");
-    }
-    Ok(())
+    hold::<Begun>(rt.alloc(), OF_CAUSES)
 }
 
 /// What the refusals of names print, and that of a value without memory.

@@ -2,11 +2,12 @@
 
 use crate::packages::package;
 use krates_ids::PkgSpec;
+use krates_samples::table::{Question, Row, hold};
 use std::alloc::{AllocError, Global};
 use std::test::Fail;
 
 /// Texts, and the name, version and url of the specification that each is.
-const READ: &[(&str, &str)] = &[
+const READ: &[Row] = &[
     ("", ", any version, any url"),
     ("bitflags", "bitflags, any version, any url"),
     ("bitflags:1.0.4", "bitflags, 1.0.4, any url"),
@@ -45,7 +46,7 @@ const NO_VERSION: &str = "package spec was invalid: failed to parse version";
 const ENDS_WITH_SLASH: &str = "package spec was invalid: url ends with /";
 
 /// Texts that are no specification, and why.
-const REFUSED: &[(&str, &str)] = &[
+const REFUSED: &[Row] = &[
     ("https://crates.io#1.2.3", NO_PATH),
     ("https://crates.io", NO_PATH),
     ("https://crates.io#foo", NO_PATH),
@@ -69,31 +70,49 @@ const REFUSED: &[(&str, &str)] = &[
     ),
 ];
 
-const URL: &str = "https://github.com/rust-lang/cargo";
-
-const GIT: &str = r#""git+https://github.com/rust-lang/cargo?branch=x#abc""#;
-
 /// A specification, the version of the package `cargo` and its source as JSON, and whether the two match.
-const MATCHES: &[(&str, (&str, &str), bool)] = &[
-    (URL, ("0.1.0", GIT), true),
-    (URL, ("0.1.0", "null"), true),
-    (URL, ("0.1.0", r#""a?b+c""#), false),
+const MATCHES: &[Row] = &[
     (
-        URL,
-        ("0.1.0", r#""https://github.com/rust-lang/cargo#abc""#),
-        true,
+        r#"https://github.com/rust-lang/cargo 0.1.0 "git+https://github.com/rust-lang/cargo?branch=x#abc""#,
+        "true",
+    ),
+    ("https://github.com/rust-lang/cargo 0.1.0 null", "true"),
+    (
+        r#"https://github.com/rust-lang/cargo 0.1.0 "a?b+c""#,
+        "false",
     ),
     (
-        URL,
-        ("0.1.0", r#""git+https://github.com/rust-lang/cargo.git""#),
-        false,
+        r#"https://github.com/rust-lang/cargo 0.1.0 "https://github.com/rust-lang/cargo#abc""#,
+        "true",
     ),
-    ("cargo", ("0.1.0", GIT), true),
-    ("crates-io", ("0.1.0", GIT), false),
-    ("cargo@0.1.0", ("0.1.0", GIT), true),
-    ("cargo@0.1.0", ("0.1.1", GIT), false),
-    ("cargo@0.1.0", ("0.1.0+build", GIT), false),
-    ("cargo@0.1.0-rc.1", ("0.1.0-rc.1", GIT), true),
+    (
+        r#"https://github.com/rust-lang/cargo 0.1.0 "git+https://github.com/rust-lang/cargo.git""#,
+        "false",
+    ),
+    (
+        r#"cargo 0.1.0 "git+https://github.com/rust-lang/cargo?branch=x#abc""#,
+        "true",
+    ),
+    (
+        r#"crates-io 0.1.0 "git+https://github.com/rust-lang/cargo?branch=x#abc""#,
+        "false",
+    ),
+    (
+        r#"cargo@0.1.0 0.1.0 "git+https://github.com/rust-lang/cargo?branch=x#abc""#,
+        "true",
+    ),
+    (
+        r#"cargo@0.1.0 0.1.1 "git+https://github.com/rust-lang/cargo?branch=x#abc""#,
+        "false",
+    ),
+    (
+        r#"cargo@0.1.0 0.1.0+build "git+https://github.com/rust-lang/cargo?branch=x#abc""#,
+        "false",
+    ),
+    (
+        r#"cargo@0.1.0-rc.1 0.1.0-rc.1 "git+https://github.com/rust-lang/cargo?branch=x#abc""#,
+        "true",
+    ),
 ];
 
 /// The name, version and url of a specification.
@@ -107,72 +126,56 @@ fn described(alloc: Global, spec: &PkgSpec) -> Result<String, AllocError> {
 }
 
 /// The specification that a text is, or why it is none.
-fn told(alloc: Global, text: &str) -> Result<String, AllocError> {
-    match PkgSpec::from_str(alloc, text) {
-        Ok(spec) => described(alloc, &spec),
-        Err(error) => format!(in alloc; "{error}"),
-    }
-}
+struct Read;
 
-/// Compares what is told of each text with what is expected.
-fn hold(alloc: Global, rows: &[(&str, &str)]) -> Result<(), Fail> {
-    for &(text, expected) in rows {
-        let told = told(alloc, text)?;
-        if told.as_str() != expected {
-            return Err(Fail::new(format_args!("{text}: {told} in place of {expected}")));
+impl Question for Read {
+    fn told(alloc: Global, text: &str) -> Result<String, Fail> {
+        match PkgSpec::from_str(alloc, text) {
+            Ok(spec) => Ok(described(alloc, &spec)?),
+            Err(error) => Ok(format!(in alloc; "{error}")?),
         }
     }
-    Ok(())
 }
 
 #[test]
 fn texts_that_are_specifications(rt: HostRuntime) -> Result<(), Fail> {
-    hold(rt.alloc(), READ)
-}
-
-/// The copy of the specification that a text is, or why it is none.
-fn copy_told(alloc: Global, text: &str) -> Result<String, AllocError> {
-    match PkgSpec::from_str(alloc, text) {
-        Ok(spec) => described(alloc, &spec.clone()?),
-        Err(error) => format!(in alloc; "{error}"),
-    }
-}
-
-/// Compares what is told of the copy of each with what is expected.
-fn hold_copies(alloc: Global, rows: &[(&str, &str)]) -> Result<(), Fail> {
-    for &(text, expected) in rows {
-        let told = copy_told(alloc, text)?;
-        if told.as_str() != expected {
-            return Err(Fail::new(format_args!("{text}: {told} in place of {expected}")));
-        }
-    }
-    Ok(())
-}
-
-#[test]
-fn copies_of_specifications(rt: HostRuntime) -> Result<(), Fail> {
-    hold_copies(rt.alloc(), READ)
+    hold::<Read>(rt.alloc(), READ)
 }
 
 #[test]
 fn texts_that_are_no_specification(rt: HostRuntime) -> Result<(), Fail> {
-    hold(rt.alloc(), REFUSED)
+    hold::<Read>(rt.alloc(), REFUSED)
 }
 
-/// Whether the specification matches the package `cargo` of this version, with this source as JSON.
-fn is_match(alloc: Global, spec: &str, version: &str, source: &str) -> Result<bool, Fail> {
-    let package = package(alloc, version, source, "{}")?;
-    Ok(PkgSpec::from_str(alloc, spec)?.matches(&package))
+/// The copy of the specification that a text is.
+struct Copied;
+
+impl Question for Copied {
+    fn told(alloc: Global, text: &str) -> Result<String, Fail> {
+        let copy = PkgSpec::from_str(alloc, text)?.clone()?;
+        Ok(described(alloc, &copy)?)
+    }
+}
+
+#[test]
+fn copies_of_specifications(rt: HostRuntime) -> Result<(), Fail> {
+    hold::<Copied>(rt.alloc(), READ)
+}
+
+/// Whether a specification matches the package `cargo` of a version, with a source as JSON.
+struct Matches;
+
+impl Question for Matches {
+    fn told(alloc: Global, line: &str) -> Result<String, Fail> {
+        let (spec, line) = line.split_once(' ').unwrap_or((line, ""));
+        let (version, source) = line.split_once(' ').unwrap_or((line, ""));
+        let package = package(alloc, version, source, "{}")?;
+        let is_match = PkgSpec::from_str(alloc, spec)?.matches(&package);
+        Ok(format!(in alloc; "{is_match}")?)
+    }
 }
 
 #[test]
 fn packages_that_match(rt: HostRuntime) -> Result<(), Fail> {
-    for &(spec, (version, source), want) in MATCHES {
-        assert_eq!(rt;
-            is_match(rt.alloc(), spec, version, source)?,
-            want,
-            "{spec} and {version} from {source}"
-        );
-    }
-    Ok(())
+    hold::<Matches>(rt.alloc(), MATCHES)
 }

@@ -1,19 +1,20 @@
 //! What each type is written as, and that what was written is read as it was.
 
+use crate::packages::read;
 use krates_cm::{
     Dependency, FromValue, Metadata, Node, Package, PackageId, Resolve, Source, Target,
 };
 use krates_cm_write::ToValue;
-use serde_json::Value;
+use krates_samples::table::{Question, Row, hold};
 use std::alloc::Global;
 use std::fmt::Debug;
 use std::test::Fail;
 
 /// JSON that is read as an id, and what is written for it.
-const IDS: &[(&str, &str)] = &[(r#""a 0.1.0""#, r#""a 0.1.0""#)];
+const IDS: &[Row] = &[(r#""a 0.1.0""#, r#""a 0.1.0""#)];
 
 /// The same of a declared dependency.
-const DECLARED: &[(&str, &str)] = &[
+const DECLARED: &[Row] = &[
     (
         r#"{"name":"b","req":"*","kind":"dev","optional":false,"uses_default_features":false,"features":[]}"#,
         r#"{"features":[],"kind":"dev","name":"b","optional":false,"registry":null,"rename":null,"req":"*","source":null,"target":null,"uses_default_features":false}"#,
@@ -25,7 +26,7 @@ const DECLARED: &[(&str, &str)] = &[
 ];
 
 /// The same of a target.
-const TARGETS: &[(&str, &str)] = &[
+const TARGETS: &[Row] = &[
     (
         r#"{"name":"t","kind":["lib","proc-macro"],"src_path":"s"}"#,
         r#"{"crate_types":[],"doc":true,"doctest":true,"edition":"2015","kind":["lib","proc-macro"],"name":"t","src_path":"s","test":true}"#,
@@ -37,7 +38,7 @@ const TARGETS: &[(&str, &str)] = &[
 ];
 
 /// The same of a package.
-const PACKAGES: &[(&str, &str)] = &[
+const PACKAGES: &[Row] = &[
     (
         r#"{"name":"a","version":"0.1.0-rc.1+b","id":"i","dependencies":[],"targets":[],"features":{"g":["f"],"f":[]},"manifest_path":"m"}"#,
         r#"{"authors":[],"categories":[],"default_run":null,"dependencies":[],"description":null,"documentation":null,"edition":"2015","features":{"f":[],"g":["f"]},"homepage":null,"id":"i","keywords":[],"license":null,"license_file":null,"links":null,"manifest_path":"m","metadata":null,"name":"a","publish":null,"readme":null,"repository":null,"rust_version":null,"source":null,"targets":[],"version":"0.1.0-rc.1+b"}"#,
@@ -58,7 +59,7 @@ const WRITTEN_BEFORE: &str =
 const WRITTEN_BEHIND: &str = r#","source":null,"targets":[],"version":"1.0.0"}"#;
 
 /// A version of Rust, and what is written for it.
-const RUST_VERSIONS: &[(&str, &str)] = &[
+const RUST_VERSIONS: &[Row] = &[
     (r#""1.70""#, r#""1.70""#),
     (r#""1.70.0""#, r#""1.70""#),
     (r#""1.70.1""#, r#""1.70.1""#),
@@ -66,12 +67,12 @@ const RUST_VERSIONS: &[(&str, &str)] = &[
 ];
 
 /// JSON that is read as a node or a resolved graph, and what is written for it.
-const NODES: &[(&str, &str)] = &[(
+const NODES: &[Row] = &[(
     r#"{"id":"a","dependencies":["c"]}"#,
     r#"{"dependencies":["c"],"deps":[],"features":[],"id":"a"}"#,
 )];
 
-const GRAPHS: &[(&str, &str)] = &[
+const GRAPHS: &[Row] = &[
     (r#"{"nodes":[],"root":"a"}"#, r#"{"nodes":[],"root":"a"}"#),
     (
         r#"{"nodes":[{"id":"a","deps":[{"name":"b","pkg":"c","dep_kinds":[{"kind":"build","target":"t"},{}]}],"dependencies":["c"],"features":["f"]}],"root":null}"#,
@@ -80,7 +81,7 @@ const GRAPHS: &[(&str, &str)] = &[
 ];
 
 /// The same of a whole document.
-const DOCUMENTS: &[(&str, &str)] = &[
+const DOCUMENTS: &[Row] = &[
     (
         r#"{"packages":[],"workspace_members":["a"],"workspace_root":"/w","target_directory":"/t"}"#,
         r#"{"metadata":null,"packages":[],"resolve":null,"target_directory":"/t","version":0,"workspace_members":["a"],"workspace_root":"/w"}"#,
@@ -95,81 +96,78 @@ const DOCUMENTS: &[(&str, &str)] = &[
     ),
 ];
 
-/// What is written for what is read of a text.
-fn written<T: FromValue + ToValue>(alloc: Global, json: &str) -> Result<String, Fail> {
-    let value = Value::from_str(alloc, json)?;
-    let read = T::from_value(alloc, &value)?;
-    Ok(read.to_value(alloc)?.to_string(alloc)?)
-}
-
 /// What is read of a text, with all its fields.
 fn fields<T: FromValue + Debug>(alloc: Global, json: &str) -> Result<String, Fail> {
-    let value = Value::from_str(alloc, json)?;
-    let read = T::from_value(alloc, &value)?;
-    Ok(format!(in alloc; "{read:?}")?)
+    let value: T = read(alloc, json)?;
+    Ok(format!(in alloc; "{value:?}")?)
 }
 
-/// Compares what is written for each row with what is expected, and what is read of both.
-fn hold<T: FromValue + ToValue + Debug>(
-    alloc: Global,
-    around: (&str, &str, &str, &str),
-    rows: &[(&str, &str)],
-) -> Result<(), Fail> {
-    let (before, behind, written_before, written_behind) = around;
-    for &(row, expected) in rows {
-        let json = format!(in alloc; "{before}{row}{behind}")?;
-        let expected = format!(in alloc; "{written_before}{expected}{written_behind}")?;
-        let told = written::<T>(alloc, json.as_str())?;
-        if told != expected {
-            return Err(Fail::new(format_args!("{row}: {told} in place of {expected}")));
+/// What is written for what is read of a text as this type. Fails where that is read as another value.
+struct Written<T> {
+    value: T,
+}
+
+impl<T: FromValue + ToValue + Debug> Question for Written<T> {
+    fn told(alloc: Global, json: &str) -> Result<String, Fail> {
+        let value: T = read(alloc, json)?;
+        let told = value.to_value(alloc)?.to_string(alloc)?;
+        if fields::<T>(alloc, told.as_str())? != fields::<T>(alloc, json)? {
+            return Err(Fail::new(format_args!("{json}: {told} is read as another value")));
         }
-        if fields::<T>(alloc, told.as_str())? != fields::<T>(alloc, json.as_str())? {
-            return Err(Fail::new(format_args!("{row}: {told} is read as another value")));
+        Ok(told)
+    }
+}
+
+/// What is written for the version of Rust that a package needs, between all else that is written of the package.
+struct RustVersion;
+
+impl Question for RustVersion {
+    fn told(alloc: Global, json: &str) -> Result<String, Fail> {
+        let package = format!(in alloc; "{BEFORE}{json}}}")?;
+        let told = Written::<Package>::told(alloc, package.as_str())?;
+        match told.strip_prefix(WRITTEN_BEFORE) {
+            Some(told) => Ok(String::from_str(
+                alloc,
+                told.strip_suffix(WRITTEN_BEHIND).unwrap_or(""),
+            )?),
+            None => Ok(told),
         }
     }
-    Ok(())
 }
-
-/// Nothing stands around the rows.
-const WHOLE: (&str, &str, &str, &str) = ("", "", "", "");
 
 #[test]
 fn texts_are_written(rt: HostRuntime) -> Result<(), Fail> {
-    hold::<PackageId>(rt.alloc(), WHOLE, IDS)?;
-    hold::<Source>(rt.alloc(), WHOLE, IDS)
+    hold::<Written<PackageId>>(rt.alloc(), IDS)?;
+    hold::<Written<Source>>(rt.alloc(), IDS)
 }
 
 #[test]
 fn declared_dependencies_are_written(rt: HostRuntime) -> Result<(), Fail> {
-    hold::<Dependency>(rt.alloc(), WHOLE, DECLARED)
+    hold::<Written<Dependency>>(rt.alloc(), DECLARED)
 }
 
 #[test]
 fn targets_are_written(rt: HostRuntime) -> Result<(), Fail> {
-    hold::<Target>(rt.alloc(), WHOLE, TARGETS)
+    hold::<Written<Target>>(rt.alloc(), TARGETS)
 }
 
 #[test]
 fn packages_are_written(rt: HostRuntime) -> Result<(), Fail> {
-    hold::<Package>(rt.alloc(), WHOLE, PACKAGES)
+    hold::<Written<Package>>(rt.alloc(), PACKAGES)
 }
 
 #[test]
 fn versions_of_rust_are_written(rt: HostRuntime) -> Result<(), Fail> {
-    hold::<Package>(
-        rt.alloc(),
-        (BEFORE, "}", WRITTEN_BEFORE, WRITTEN_BEHIND),
-        RUST_VERSIONS,
-    )
+    hold::<RustVersion>(rt.alloc(), RUST_VERSIONS)
 }
 
 #[test]
 fn resolved_graphs_are_written(rt: HostRuntime) -> Result<(), Fail> {
-    hold::<Node>(rt.alloc(), WHOLE, NODES)?;
-    hold::<Resolve>(rt.alloc(), WHOLE, GRAPHS)
+    hold::<Written<Node>>(rt.alloc(), NODES)?;
+    hold::<Written<Resolve>>(rt.alloc(), GRAPHS)
 }
 
 #[test]
 fn documents_are_written(rt: HostRuntime) -> Result<(), Fail> {
-    hold::<Metadata>(rt.alloc(), WHOLE, DOCUMENTS)
+    hold::<Written<Metadata>>(rt.alloc(), DOCUMENTS)
 }
