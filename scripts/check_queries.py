@@ -3,13 +3,13 @@
 
     scripts/check_queries.py FOLDER
 
-A document is FOLDER/NAME/metadata.json, which may be compressed, as metadata.json.gz. Each is read by krates_print with the
-word `queries`, without an option and with --target x86_64-unknown-linux-gnu. It prints the graph, and behind it what each query
+A document is FOLDER/NAME/metadata.json, which may be compressed, as metadata.json.gz. Each is read by krates_reports with the
+words `graph queries`, without an option and with --target x86_64-unknown-linux-gnu. It prints the graph, and behind it what each query
 answers: of every node, of every id of the document, of every feature and of every name. From the lines of the graph, and of the
 document its members, names and versions, this script makes the lines that are expected, each by the
 sentence that says what the query means, and compares.
 
-The program is crates/krates_print/out/krates_print, which `rt run` in that folder builds, or $KRATES_PRINT.
+The program is crates/krates_reports/out/krates_reports, which `rt run` in that folder builds, or $KRATES_REPORTS.
 The status is 0 where nothing differs and something was compared, and 1 otherwise.
 """
 import gzip
@@ -20,7 +20,7 @@ import subprocess
 import sys
 
 ROOT = pathlib.Path(__file__).resolve().parent.parent
-PROGRAM = os.environ.get("KRATES_PRINT", str(ROOT / "crates" / "krates_print" / "out" / "krates_print"))
+PROGRAM = os.environ.get("KRATES_REPORTS", str(ROOT / "crates" / "krates_reports" / "out" / "krates_reports"))
 SETTINGS = {"none": [], "linux": ["--target", "x86_64-unknown-linux-gnu"]}
 
 
@@ -188,7 +188,7 @@ def expected(graph, document):
 
 def printed(text, options):
     """The lines of the graph, and those of the answers."""
-    run = subprocess.run([PROGRAM, "queries", *options], input=text, capture_output=True, check=True)
+    run = subprocess.run([PROGRAM, "graph", "queries", *options], input=text, capture_output=True, check=True)
     lines = run.stdout.decode().split("\n")
     count = next(place for place, line in enumerate(lines) if line.split(" ")[0] not in ("node", "map", "edge"))
     return lines[:count], lines[count:-1]

@@ -1,42 +1,138 @@
-//! `krates_reports NAME REQUIREMENT`: four reports of the crates that a workspace needs, each an example of how the library is used.
+//! `krates_reports [graph] [queries] [reports NAME REQUIREMENT] [OPTIONS]`: prints what the words ask for of each document of
+//! `cargo metadata --format-version 1` on standard input. Several documents are divided by an empty line.
 //!
-//! It reads the document of `cargo metadata --format-version 1` from standard input, and prints the licences, the crates of the name
-//! whose version fits the requirement, the bill of materials, and the crates with several versions.
+//! - `graph`: the graph that is drawn of the document, number by number;
+//! - `queries`: what each query of the graph answers;
+//! - `reports`: four reports of the crates that the workspace needs, each an example of how the library is used: the licences, the
+//!   crates of the name whose version fits the requirement, the bill of materials, and the crates with several versions.
+//!
+//! The options are those of `krates-list`, but for `--cargo`. The graph and the answers are for the scripts that compare them with plain
+//! readings, so nothing is promised of their lines.
 #![tactic(auto)]
 
 mod advisory;
+mod answers;
+mod drawing;
 mod duplicates;
 mod licences;
+mod lookups;
 mod materials;
+mod words;
 
-use anyhow::bail;
+use crate::answers::push_answers;
+use crate::drawing::push_graph;
+use crate::words::{Advisory, Asked, asked_by};
 use krates::cm::MetadataCommand;
-use krates::semver::VersionReq;
-use krates::{Builder, Krates, NoneFilter};
+use krates::{Builder, Krates, NoneFilter, Package, PackageId};
+use krates_cli::{Counted, RunError, set_options};
+use std::alloc::{AllocError, Global};
+use std::process::ExitCode;
 use std::{env, io};
 
-/// The graph of the document on standard input.
-fn read_krates(rt: &HostRuntime) -> anyhow::Result<Krates> {
-    let alloc = rt.alloc();
-    let text = io::read_to_string(alloc, rt.reader())?;
-    let metadata = MetadataCommand::parse(alloc, text.as_str())?;
-    Ok(Builder::new(alloc).build_with_metadata(metadata, &mut NoneFilter)?)
+const USAGE: &str =
+    "usage: krates_reports [graph] [queries] [reports NAME REQUIREMENT] [--workspace] [--ignore-kind KIND] [--target TRIPLE] [--exclude SPEC] [--all-named]";
+
+/// The words after the program's name.
+fn words_of(rt: &HostRuntime) -> io::Result<Vec<String>> {
+    let mut words = Vec::new(rt.alloc());
+    for word in env::args(rt)?.skip(1) {
+        words.push(word)?;
+    }
+    Ok(words)
 }
 
-fn main(rt: HostRuntime) -> anyhow::Result<()> {
-    let alloc = rt.alloc();
-    let mut words = env::args(&rt)?.skip(1);
-    let (Some(name), Some(affected)) = (words.next(), words.next()) else {
-        bail!("usage: krates_reports NAME REQUIREMENT");
-    };
-    let affected = VersionReq::parse(alloc, affected.as_str())?;
-    let krates = read_krates(&rt)?;
-    print!(rt; "{}", licences::report(alloc, &krates)?)?;
-    print!(rt;
-        "{}",
-        advisory::report(alloc, &krates, name.as_str(), &affected)?
-    )?;
-    println!(rt; "{}", materials::report(alloc, &krates)?)?;
-    print!(rt; "{}", duplicates::report(alloc, &krates)?)?;
+/// The ids of the packages, in the order of the document.
+fn ids_of(alloc: Global, packages: &[Package]) -> Result<Vec<PackageId>, AllocError> {
+    let mut ids = Vec::new(alloc);
+    for pkg in packages {
+        ids.push(pkg.id.clone()?)?;
+    }
+    Ok(ids)
+}
+
+/// Adds the four reports.
+fn push_reports(
+    alloc: Global,
+    lines: &mut String,
+    krates: &Krates,
+    asked: &Advisory,
+) -> Result<(), AllocError> {
+    let affected = advisory::report(alloc, krates, asked.name.as_str(), &asked.affected)?;
+    lines.push_str(licences::report(alloc, krates)?.as_str())?;
+    lines.push_str(affected.as_str())?;
+    writeln!(lines, "{}", materials::report(alloc, krates)?)?;
+    lines.push_str(duplicates::report(alloc, krates)?.as_str())
+}
+
+/// Adds what is asked of a graph, where the packages of the document have these ids.
+fn push_asked(
+    alloc: Global,
+    lines: &mut String,
+    krates: &Krates,
+    ids: &[PackageId],
+    asked: &Asked,
+) -> Result<(), AllocError> {
+    if asked.has_graph {
+        push_graph(lines, krates.graph())?;
+    }
+    if asked.has_queries {
+        push_answers(alloc, lines, krates, ids)?;
+    }
+    match &asked.advisory {
+        Some(advisory) => push_reports(alloc, lines, krates, advisory),
+        None => Ok(()),
+    }
+}
+
+/// Adds what is asked of a text's document.
+fn push_document(
+    alloc: Global,
+    lines: &mut String,
+    asked: &Asked,
+    text: &str,
+) -> Result<(), RunError> {
+    let metadata = MetadataCommand::parse(alloc, text)?;
+    let ids = ids_of(alloc, &metadata.packages)?;
+    let mut builder = Builder::new(alloc);
+    set_options(alloc, &asked.options, &mut builder)?;
+    let krates: Krates = builder.build_with_metadata(metadata, &mut NoneFilter)?;
+    push_asked(alloc, lines, &krates, &ids, asked)?;
     Ok(())
+}
+
+/// What is asked of each of the documents, which an empty line divides.
+fn lines_of(alloc: Global, asked: &Asked, texts: &str) -> Result<String, RunError> {
+    let mut lines = String::new(alloc);
+    for text in texts.split("\n\n") {
+        push_document(alloc, &mut lines, asked, text)?;
+    }
+    Ok(lines)
+}
+
+/// Reads the documents and prints the lines.
+fn print(rt: &HostRuntime, asked: &Asked) -> Result<(), RunError> {
+    let bytes = Counted::new(rt.reader()).read_to_end(rt.alloc())?;
+    let Ok(texts) = String::from_utf8(bytes) else {
+        return Err(RunError::Utf8);
+    };
+    let lines = lines_of(rt.alloc(), asked, texts.as_str())?;
+    Counted::new(rt.stdout()).write_all(lines.as_bytes())
+}
+
+/// What the words ask for, of the standard streams: 0 where it is printed, 1 where it is refused, 2 where they ask for nothing known.
+fn main(rt: HostRuntime) -> ExitCode {
+    let Ok(words) = words_of(&rt) else {
+        return ExitCode::from(2);
+    };
+    let Ok(asked) = asked_by(rt.alloc(), &words) else {
+        let _ = eprintln!(rt; "{USAGE}");
+        return ExitCode::from(2);
+    };
+    match print(&rt, &asked) {
+        Ok(()) => ExitCode::SUCCESS,
+        Err(error) => {
+            let _ = eprintln!(rt; "refused: {error}");
+            ExitCode::from(1)
+        }
+    }
 }
