@@ -53,16 +53,20 @@ fn judged(built: Result<Krates, Error>, count: &Count, targets: &[usize]) -> Res
 }
 
 /// Builds without an index.
+#[derive(Debug)]
 struct Build;
+
+/// The build.
+const BUILT: &[Build] = &[Build];
 
 impl Call for Build {
     type Given = Metadata;
 
-    fn given(alloc: Global) -> Result<Metadata, Fail> {
+    fn given(&self, alloc: Global) -> Result<Metadata, Fail> {
         metadata(alloc, FEATURES)
     }
 
-    fn is_granted(alloc: Global, given: Metadata, little: Little) -> Result<bool, Fail> {
+    fn is_granted(&self, alloc: Global, given: Metadata, little: Little) -> Result<bool, Fail> {
         let mut count = Count { packages: 0 };
         let built = Builder::new(alloc).build_with_metadata(given, &mut count);
         drop(little);
@@ -72,7 +76,7 @@ impl Call for Build {
 
 #[test]
 fn a_build(rt: HostRuntime) -> Result<(), Fail> {
-    starved::<Build>(&rt)
+    starved(&rt, BUILT)
 }
 
 /// A document, and what the index answers of it.
@@ -83,12 +87,16 @@ struct Indexed {
 }
 
 /// Builds with an index, which gives the package a feature.
+#[derive(Debug)]
 struct BuildIndexed;
+
+/// The build with an index.
+const BUILT_INDEXED: &[BuildIndexed] = &[BuildIndexed];
 
 impl Call for BuildIndexed {
     type Given = Indexed;
 
-    fn given(alloc: Global) -> Result<Indexed, Fail> {
+    fn given(&self, alloc: Global) -> Result<Indexed, Fail> {
         let metadata = metadata(
             alloc,
             "p@1.0.0&crates.io;default=foo foo=std|c / nodes p@1.0.0&crates.io;default foo std|c / members p@1.0.0&crates.io",
@@ -97,7 +105,7 @@ impl Call for BuildIndexed {
         Ok(Indexed { metadata, answer })
     }
 
-    fn is_granted(alloc: Global, given: Indexed, little: Little) -> Result<bool, Fail> {
+    fn is_granted(&self, alloc: Global, given: Indexed, little: Little) -> Result<bool, Fail> {
         let Indexed { metadata, answer } = given;
         let Ok(boxed) = Box::new(alloc, move |names: PackageNames| {
             drop(names);
@@ -117,5 +125,5 @@ impl Call for BuildIndexed {
 
 #[test]
 fn a_build_with_an_index(rt: HostRuntime) -> Result<(), Fail> {
-    starved::<BuildIndexed>(&rt)
+    starved(&rt, BUILT_INDEXED)
 }

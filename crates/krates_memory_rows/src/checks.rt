@@ -14,27 +14,11 @@ const PACKAGE: &str = "p@1.0.0&crates.io";
 
 /// What is checked, and what it is checked by.
 #[derive(Drop)]
-struct Checked<L> {
+struct Checked {
     metadata: Metadata,
     index: CachingIndex,
-    list: L,
-}
-
-impl<L: Drop> Checked<L> {
-    /// A list, beside the document of the package and its index.
-    fn new(alloc: Global, list: L) -> Result<Checked<L>, Fail> {
-        let metadata = metadata(
-            alloc,
-            "p@1.0.0&crates.io;default=foo / nodes p@1.0.0&crates.io;default foo / members p@1.0.0&crates.io",
-        )?;
-        let answer = answer(alloc)?;
-        let index = CachingIndex { answer };
-        Ok(Checked {
-            metadata,
-            index,
-            list,
-        })
-    }
+    steps: Derivation,
+    facts: Vec<Fact>,
 }
 
 /// A feature of the package is enabled.
@@ -66,59 +50,66 @@ fn steps(alloc: Global) -> Result<Derivation, Fail> {
     Ok(Derivation { steps })
 }
 
-/// Judges the answer of a checker that has to say yes.
-fn judged(answer: Result<(), CheckError>) -> Result<bool, Fail> {
-    match answer {
-        Ok(()) => granted(true),
-        Err(CheckError::Memory) => refused(true),
-        Err(_) => other_refusal(),
+/// What is kept of the package.
+fn facts(alloc: Global) -> Result<Vec<Fact>, Fail> {
+    let krate = Fact::Crate(kid_of(alloc, PACKAGE)?);
+    Ok(vec![in alloc; krate, feature(alloc, "default")?, feature(alloc, "foo")?]?)
+}
+
+/// A checker: of lists of steps, or of closed lists of facts.
+#[derive(Debug)]
+enum Checker {
+    Steps,
+    Facts,
+}
+
+/// Both checkers.
+const CHECKERS: &[Checker] = &[Checker::Steps, Checker::Facts];
+
+impl Checker {
+    /// What the checker says.
+    fn answer(&self, alloc: Global, given: &Checked) -> Result<(), CheckError> {
+        let builder = Builder::new(alloc);
+        match self {
+            Checker::Steps => check(&given.metadata, &builder, Some(&given.index), &given.steps),
+            Checker::Facts => {
+                check_closed(&given.metadata, &builder, Some(&given.index), &given.facts)
+            }
+        }
     }
 }
 
-/// Checks the steps.
-struct CheckSteps;
+impl Call for Checker {
+    type Given = Checked;
 
-impl Call for CheckSteps {
-    type Given = Checked<Derivation>;
-
-    fn given(alloc: Global) -> Result<Checked<Derivation>, Fail> {
-        Checked::new(alloc, steps(alloc)?)
+    fn given(&self, alloc: Global) -> Result<Checked, Fail> {
+        let metadata = metadata(
+            alloc,
+            "p@1.0.0&crates.io;default=foo / nodes p@1.0.0&crates.io;default foo / members p@1.0.0&crates.io",
+        )?;
+        let index = CachingIndex {
+            answer: answer(alloc)?,
+        };
+        Ok(Checked {
+            metadata,
+            index,
+            steps: steps(alloc)?,
+            facts: facts(alloc)?,
+        })
     }
 
-    fn is_granted(alloc: Global, given: Checked<Derivation>, little: Little) -> Result<bool, Fail> {
-        let builder = Builder::new(alloc);
-        let answer = check(&given.metadata, &builder, Some(&given.index), &given.list);
+    fn is_granted(&self, alloc: Global, given: Checked, little: Little) -> Result<bool, Fail> {
+        let answer = self.answer(alloc, &given);
         drop(little);
-        judged(answer)
+        match answer {
+            Ok(()) => granted(true),
+            Err(CheckError::Memory) => refused(true),
+            Err(_) => other_refusal(),
+        }
     }
 }
 
 #[test]
-fn a_list_of_steps(rt: HostRuntime) -> Result<(), Fail> {
-    starved::<CheckSteps>(&rt)
-}
-
-/// Checks that the facts are closed.
-struct CheckFacts;
-
-impl Call for CheckFacts {
-    type Given = Checked<Vec<Fact>>;
-
-    fn given(alloc: Global) -> Result<Checked<Vec<Fact>>, Fail> {
-        let krate = Fact::Crate(kid_of(alloc, PACKAGE)?);
-        let facts = vec![in alloc; krate, feature(alloc, "default")?, feature(alloc, "foo")?]?;
-        Checked::new(alloc, facts)
-    }
-
-    fn is_granted(alloc: Global, given: Checked<Vec<Fact>>, little: Little) -> Result<bool, Fail> {
-        let builder = Builder::new(alloc);
-        let answer = check_closed(&given.metadata, &builder, Some(&given.index), &given.list);
-        drop(little);
-        judged(answer)
-    }
-}
-
-#[test]
-fn a_list_of_facts(rt: HostRuntime) -> Result<(), Fail> {
-    starved::<CheckFacts>(&rt)
+fn both_checkers(rt: HostRuntime) -> Result<(), Fail> {
+    starved(&rt, CHECKERS)
 }

@@ -18,247 +18,215 @@ fn parts(alloc: Global, text: &str) -> Result<Vec<String>, AllocError> {
     Ok(parts)
 }
 
-/// Whether the words behind `metadata --format-version 1` are these.
-fn are_words(words: &[String], expected: &[&str]) -> bool {
-    let Some(rest) = words.get(3..) else {
-        return false;
-    };
-    rest.iter()
-        .map(|word| word.as_str())
-        .eq(expected.iter().copied())
+/// The words behind `metadata --format-version 1`, each with a bar behind it.
+fn words_told(alloc: Global, words: &[String]) -> Result<String, AllocError> {
+    let mut text = String::new(alloc);
+    for word in words.iter().skip(3) {
+        write!(text, "{word}|")?;
+    }
+    Ok(text)
 }
 
-/// A command, and the names that are to be set.
+/// The variables that a command sets, each with its value, and the words behind `metadata --format-version 1`, all with bars behind them.
+fn told(alloc: Global, command: &MetadataCommand) -> Result<String, Fail> {
+    let mut text = String::new(alloc);
+    for (name, value) in command.cargo_command(None)?.get_envs() {
+        write!(text, "{name}={}|", value.unwrap_or(""))?;
+    }
+    text.push_str(words_told(alloc, &command.args()?)?.as_str())?;
+    Ok(text)
+}
+
+/// Compares what is told of a command with what is known.
+fn is_told(alloc: Global, command: &MetadataCommand, expected: &str) -> Result<bool, Fail> {
+    Ok(told(alloc, command)?.as_str() == expected)
+}
+
+/// A call on a command that has a feature, a variable and other settings.
+#[derive(Debug)]
+enum OfCommand {
+    Features,
+    Env,
+    Args,
+}
+
+/// All calls on the command.
+const OF_COMMAND: &[OfCommand] = &[OfCommand::Features, OfCommand::Env, OfCommand::Args];
+
+/// The words of the command.
+const WORDS: &str = "--no-deps|--features|a|--manifest-path|p|--z|";
+
+/// What is told of the command.
+const COMMAND: &str = "A=1|--no-deps|--features|a|--manifest-path|p|--z|";
+
+/// The command, and features to be chosen.
 #[derive(Drop)]
 struct Named {
     command: MetadataCommand,
     names: Vec<String>,
 }
 
-/// Chooses features of a command that has one.
-struct ChooseFeatures;
-
-impl Call for ChooseFeatures {
+impl Call for OfCommand {
     type Given = Named;
 
-    fn given(alloc: Global) -> Result<Named, Fail> {
-        let mut command = MetadataCommand::new(alloc);
-        command.features(Features::Selected(parts(alloc, "a")?))?;
-        let names = parts(alloc, MORE)?;
-        Ok(Named { command, names })
-    }
-
-    fn is_granted(_alloc: Global, given: Named, little: Little) -> Result<bool, Fail> {
-        let mut command = given.command;
-        let error = command.features(Features::Selected(given.names)).err();
-        drop(little);
-        let words = command.args()?;
-        match error {
-            None => granted(are_words(&words, &["--features", "a,b,c,d,e,f,g,h,i,j"])),
-            Some(Error::Memory) => refused(are_words(&words, &["--features", "a"])),
-            Some(_) => other_refusal(),
-        }
-    }
-}
-
-#[test]
-fn features_of_a_command(rt: HostRuntime) -> Result<(), Fail> {
-    starved::<ChooseFeatures>(&rt)
-}
-
-/// The variables that a command sets, each with its value.
-fn variables(alloc: Global, command: &MetadataCommand) -> Result<String, Fail> {
-    let mut text = String::new(alloc);
-    for (name, value) in command.cargo_command(None)?.get_envs() {
-        write!(text, "{name}={} ", value.unwrap_or(""))?;
-    }
-    Ok(text)
-}
-
-/// Sets a variable of a command that has one.
-struct SetVariable;
-
-impl Call for SetVariable {
-    type Given = MetadataCommand;
-
-    fn given(alloc: Global) -> Result<MetadataCommand, Fail> {
-        let mut command = MetadataCommand::new(alloc);
-        command.env("A", "1")?;
-        Ok(command)
-    }
-
-    fn is_granted(alloc: Global, given: MetadataCommand, little: Little) -> Result<bool, Fail> {
-        let mut command = given;
-        let is_set = command.env("B", "2").is_ok();
-        drop(little);
-        let told = variables(alloc, &command)?;
-        if is_set {
-            return granted(told.as_str() == "A=1 B=2 ");
-        }
-        refused(told.as_str() == "A=1 ")
-    }
-}
-
-#[test]
-fn a_variable_of_a_command(rt: HostRuntime) -> Result<(), Fail> {
-    starved::<SetVariable>(&rt)
-}
-
-/// Asks for the words of a command.
-struct AskWords;
-
-impl Call for AskWords {
-    type Given = MetadataCommand;
-
-    fn given(alloc: Global) -> Result<MetadataCommand, Fail> {
+    fn given(&self, alloc: Global) -> Result<Named, Fail> {
         let mut command = MetadataCommand::new(alloc);
         command
             .no_deps()
             .manifest_path(String::from_str(alloc, "p")?)
             .other_options(parts(alloc, "--z")?);
-        Ok(command)
+        command.features(Features::Selected(parts(alloc, "a")?))?;
+        command.env("A", "1")?;
+        let names = parts(alloc, MORE)?;
+        Ok(Named { command, names })
     }
 
-    fn is_granted(_alloc: Global, given: MetadataCommand, little: Little) -> Result<bool, Fail> {
-        let answer = given.args();
-        drop(little);
-        match answer {
-            Ok(words) => granted(are_words(&words, &["--no-deps", "--manifest-path", "p", "--z"])),
-            Err(AllocError) => refused(true),
+    fn is_granted(&self, alloc: Global, given: Named, little: Little) -> Result<bool, Fail> {
+        match self {
+            OfCommand::Features => has_features(alloc, given, little),
+            OfCommand::Env => has_variable(alloc, given.command, little),
+            OfCommand::Args => has_words(alloc, &given.command, little),
         }
     }
 }
 
-#[test]
-fn the_words_of_a_command(rt: HostRuntime) -> Result<(), Fail> {
-    starved::<AskWords>(&rt)
+/// Chooses features.
+fn has_features(alloc: Global, given: Named, little: Little) -> Result<bool, Fail> {
+    let mut command = given.command;
+    let error = command.features(Features::Selected(given.names)).err();
+    drop(little);
+    match error {
+        None => granted(is_told(
+            alloc,
+            &command,
+            "A=1|--no-deps|--features|a,b,c,d,e,f,g,h,i,j|--manifest-path|p|--z|",
+        )?),
+        Some(Error::Memory) => refused(is_told(alloc, &command, COMMAND)?),
+        Some(_) => other_refusal(),
+    }
 }
 
-/// A tool's options that have one name of each list, and more names.
+/// Sets a variable.
+fn has_variable(alloc: Global, given: MetadataCommand, little: Little) -> Result<bool, Fail> {
+    let mut command = given;
+    let is_set = command.env("B", "2").is_ok();
+    drop(little);
+    if is_set {
+        return granted(is_told(
+            alloc,
+            &command,
+            "A=1|B=2|--no-deps|--features|a|--manifest-path|p|--z|",
+        )?);
+    }
+    refused(is_told(alloc, &command, COMMAND)?)
+}
+
+/// Asks for the words.
+fn has_words(alloc: Global, command: &MetadataCommand, little: Little) -> Result<bool, Fail> {
+    let answer = command.args();
+    drop(little);
+    match answer {
+        Ok(words) => granted(words_told(alloc, &words)?.as_str() == WORDS),
+        Err(AllocError) => refused(true),
+    }
+}
+
+#[test]
+fn calls_on_a_command(rt: HostRuntime) -> Result<(), Fail> {
+    starved(&rt, OF_COMMAND)
+}
+
+/// A call on a tool's options that have one name of each list, and other settings.
+#[derive(Debug)]
+enum OfOptions {
+    Features,
+    OtherOptions,
+    IntoCommand,
+}
+
+/// All calls on the options.
+const OF_OPTIONS: &[OfOptions] = &[
+    OfOptions::Features,
+    OfOptions::OtherOptions,
+    OfOptions::IntoCommand,
+];
+
+/// What is told of the command that the options mean.
+const OPTIONS: &str = "--manifest-path|Cargo.toml|--all-features|--features|a|--a|";
+
+/// A tool's options, and more names.
 #[derive(Drop)]
 struct Options {
     cmd: Cmd,
     names: Vec<String>,
 }
 
-impl Options {
-    /// The options, and more names.
-    fn new(alloc: Global) -> Result<Options, AllocError> {
+impl Call for OfOptions {
+    type Given = Options;
+
+    fn given(&self, alloc: Global) -> Result<Options, Fail> {
         let mut cmd = Cmd::new(alloc);
         cmd.features(parts(alloc, "a")?)?;
         cmd.other_options(parts(alloc, "--a")?)?;
-        Ok(Options {
-            cmd,
-            names: parts(alloc, MORE)?,
-        })
-    }
-}
-
-/// Adds features to a tool's options.
-struct AddFeatures;
-
-impl Call for AddFeatures {
-    type Given = Options;
-
-    fn given(alloc: Global) -> Result<Options, Fail> {
-        Ok(Options::new(alloc)?)
+        cmd.all_features()
+            .manifest_path(String::from_str(alloc, "x/Cargo.toml")?);
+        let names = parts(alloc, MORE)?;
+        Ok(Options { cmd, names })
     }
 
-    fn is_granted(_alloc: Global, given: Options, little: Little) -> Result<bool, Fail> {
-        let mut cmd = given.cmd;
-        let is_added = cmd.features(given.names).is_ok();
-        drop(little);
-        let words = cmd.into_command()?.args()?;
-        if is_added {
-            return granted(are_words(&words, &["--features", "a b c d e f g h i j", "--a"]));
+    fn is_granted(&self, alloc: Global, given: Options, little: Little) -> Result<bool, Fail> {
+        match self {
+            OfOptions::Features => adds_features(alloc, given, little),
+            OfOptions::OtherOptions => adds_options(alloc, given, little),
+            OfOptions::IntoCommand => becomes(alloc, given.cmd, little),
         }
-        refused(are_words(&words, &["--features", "a", "--a"]))
     }
 }
 
-#[test]
-fn features_of_options(rt: HostRuntime) -> Result<(), Fail> {
-    starved::<AddFeatures>(&rt)
+/// Adds features.
+fn adds_features(alloc: Global, given: Options, little: Little) -> Result<bool, Fail> {
+    let mut cmd = given.cmd;
+    let is_added = cmd.features(given.names).is_ok();
+    drop(little);
+    let command = cmd.into_command()?;
+    if is_added {
+        return granted(is_told(
+            alloc,
+            &command,
+            "--manifest-path|Cargo.toml|--all-features|--features|a b c d e f g h i j|--a|",
+        )?);
+    }
+    refused(is_told(alloc, &command, OPTIONS)?)
 }
 
 /// Adds other options.
-struct AddOptions;
-
-impl Call for AddOptions {
-    type Given = Options;
-
-    fn given(alloc: Global) -> Result<Options, Fail> {
-        Ok(Options::new(alloc)?)
+fn adds_options(alloc: Global, given: Options, little: Little) -> Result<bool, Fail> {
+    let mut cmd = given.cmd;
+    let is_added = cmd.other_options(given.names).is_ok();
+    drop(little);
+    let command = cmd.into_command()?;
+    if is_added {
+        return granted(is_told(
+            alloc,
+            &command,
+            "--manifest-path|Cargo.toml|--all-features|--features|a|--a|b|c|d|e|f|g|h|i|j|",
+        )?);
     }
+    refused(is_told(alloc, &command, OPTIONS)?)
+}
 
-    fn is_granted(_alloc: Global, given: Options, little: Little) -> Result<bool, Fail> {
-        let mut cmd = given.cmd;
-        let is_added = cmd.other_options(given.names).is_ok();
-        drop(little);
-        let words = cmd.into_command()?.args()?;
-        if is_added {
-            return granted(are_words(
-                &words,
-                &[
-                    "--features",
-                    "a",
-                    "--a",
-                    "b",
-                    "c",
-                    "d",
-                    "e",
-                    "f",
-                    "g",
-                    "h",
-                    "i",
-                    "j",
-                ],
-            ));
-        }
-        refused(are_words(&words, &["--features", "a", "--a"]))
+/// Makes the command that the options mean.
+fn becomes(alloc: Global, given: Cmd, little: Little) -> Result<bool, Fail> {
+    let answer = given.into_command();
+    drop(little);
+    match answer {
+        Ok(command) => granted(is_told(alloc, &command, OPTIONS)?),
+        Err(Error::Memory) => refused(true),
+        Err(_) => other_refusal(),
     }
 }
 
 #[test]
-fn other_options(rt: HostRuntime) -> Result<(), Fail> {
-    starved::<AddOptions>(&rt)
-}
-
-/// Makes a command of a tool's options.
-struct IntoCommand;
-
-impl Call for IntoCommand {
-    type Given = Cmd;
-
-    fn given(alloc: Global) -> Result<Cmd, Fail> {
-        let mut cmd = Options::new(alloc)?.cmd;
-        cmd.all_features()
-            .manifest_path(String::from_str(alloc, "x/Cargo.toml")?);
-        Ok(cmd)
-    }
-
-    fn is_granted(_alloc: Global, given: Cmd, little: Little) -> Result<bool, Fail> {
-        let answer = given.into_command();
-        drop(little);
-        match answer {
-            Ok(command) => granted(are_words(
-                &command.args()?,
-                &[
-                    "--manifest-path",
-                    "Cargo.toml",
-                    "--all-features",
-                    "--features",
-                    "a",
-                    "--a",
-                ],
-            )),
-            Err(Error::Memory) => refused(true),
-            Err(_) => other_refusal(),
-        }
-    }
-}
-
-#[test]
-fn the_command_of_options(rt: HostRuntime) -> Result<(), Fail> {
-    starved::<IntoCommand>(&rt)
+fn calls_on_options(rt: HostRuntime) -> Result<(), Fail> {
+    starved(&rt, OF_OPTIONS)
 }

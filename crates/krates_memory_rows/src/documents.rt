@@ -1,6 +1,6 @@
 //! The document: reading it, and its own small questions.
 
-use crate::starving::{Call, Little, granted, other_refusal, refused, starved};
+use crate::starving::{Call, Little, answered, granted, other_refusal, refused, starved};
 use krates_cm::{Error, Metadata, Package, PackageId, WorkspaceDefaultMembers, parse};
 use krates_samples::documents::{document, metadata};
 use std::alloc::{AllocError, Global};
@@ -10,16 +10,20 @@ use std::test::Fail;
 const LINE: &str = "a b&dev;f=g|b|c / members b a";
 
 /// Reads the document.
+#[derive(Debug)]
 struct Parse;
+
+/// The document is read.
+const PARSED: &[Parse] = &[Parse];
 
 impl Call for Parse {
     type Given = String;
 
-    fn given(alloc: Global) -> Result<String, Fail> {
+    fn given(&self, alloc: Global) -> Result<String, Fail> {
         document(alloc, LINE)
     }
 
-    fn is_granted(alloc: Global, given: String, little: Little) -> Result<bool, Fail> {
+    fn is_granted(&self, alloc: Global, given: String, little: Little) -> Result<bool, Fail> {
         let answer = parse(alloc, given.as_str());
         drop(little);
         match answer {
@@ -35,7 +39,7 @@ impl Call for Parse {
 
 #[test]
 fn reading_a_document(rt: HostRuntime) -> Result<(), Fail> {
-    starved::<Parse>(&rt)
+    starved(&rt, PARSED)
 }
 
 /// Whether the packages are `a` and `b`, in this order.
@@ -43,38 +47,33 @@ pub(crate) fn are_a_and_b(packages: &[&Package]) -> bool {
     packages.iter().map(|pkg| pkg.name.as_str()).eq(["a", "b"])
 }
 
-/// Asks for the members.
-struct Members;
+/// What a document is asked that has default members.
+#[derive(Debug)]
+enum Asked {
+    Members,
+    DefaultMembers,
+}
 
-impl Call for Members {
-    type Given = Metadata;
+/// All that it is asked.
+const ASKED: &[Asked] = &[Asked::Members, Asked::DefaultMembers];
 
-    fn given(alloc: Global) -> Result<Metadata, Fail> {
-        metadata(alloc, LINE)
-    }
-
-    fn is_granted(alloc: Global, given: Metadata, little: Little) -> Result<bool, Fail> {
-        let answer = given.workspace_packages(alloc);
-        drop(little);
-        match answer {
-            Ok(packages) => granted(are_a_and_b(&packages)),
-            Err(AllocError) => refused(true),
+impl Asked {
+    /// Whether these are the packages of the members, or of the default members.
+    fn is_answered(&self, alloc: Global, given: &Metadata) -> Result<bool, AllocError> {
+        match self {
+            Asked::Members => Ok(are_a_and_b(&given.workspace_packages(alloc)?)),
+            Asked::DefaultMembers => match given.workspace_default_packages(alloc)? {
+                Some(packages) => Ok(are_a_and_b(&packages)),
+                None => Ok(false),
+            },
         }
     }
 }
 
-#[test]
-fn packages_of_members(rt: HostRuntime) -> Result<(), Fail> {
-    starved::<Members>(&rt)
-}
-
-/// Asks for the default members.
-struct DefaultMembers;
-
-impl Call for DefaultMembers {
+impl Call for Asked {
     type Given = Metadata;
 
-    fn given(alloc: Global) -> Result<Metadata, Fail> {
+    fn given(&self, alloc: Global) -> Result<Metadata, Fail> {
         let mut given = metadata(alloc, LINE)?;
         let mut ids = Vec::new(alloc);
         for id in given.workspace_members.as_slice() {
@@ -84,18 +83,14 @@ impl Call for DefaultMembers {
         Ok(given)
     }
 
-    fn is_granted(alloc: Global, given: Metadata, little: Little) -> Result<bool, Fail> {
-        let answer = given.workspace_default_packages(alloc);
+    fn is_granted(&self, alloc: Global, given: Metadata, little: Little) -> Result<bool, Fail> {
+        let answer = self.is_answered(alloc, &given);
         drop(little);
-        match answer {
-            Ok(Some(packages)) => granted(are_a_and_b(&packages)),
-            Ok(None) => other_refusal(),
-            Err(AllocError) => refused(true),
-        }
+        answered(answer)
     }
 }
 
 #[test]
-fn packages_of_default_members(rt: HostRuntime) -> Result<(), Fail> {
-    starved::<DefaultMembers>(&rt)
+fn packages_of_members(rt: HostRuntime) -> Result<(), Fail> {
+    starved(&rt, ASKED)
 }

@@ -13,17 +13,21 @@ use std::test::Fail;
 const ESCAPED: &str = "git+https://github.com/a/b?branch=c%2Fd#0.1.0";
 
 /// Reads that id.
+#[derive(Debug)]
 struct ReadId;
+
+/// The id is read.
+const READ: &[ReadId] = &[ReadId];
 
 impl Call for ReadId {
     type Given = PackageId;
 
-    fn given(alloc: Global) -> Result<PackageId, Fail> {
+    fn given(&self, alloc: Global) -> Result<PackageId, Fail> {
         let repr = String::from_str(alloc, ESCAPED)?;
         Ok(PackageId { repr })
     }
 
-    fn is_granted(_alloc: Global, given: PackageId, little: Little) -> Result<bool, Fail> {
+    fn is_granted(&self, _alloc: Global, given: PackageId, little: Little) -> Result<bool, Fail> {
         let answer = Kid::try_from(given);
         drop(little);
         match answer {
@@ -36,7 +40,7 @@ impl Call for ReadId {
 
 #[test]
 fn an_id_with_an_escape(rt: HostRuntime) -> Result<(), Fail> {
-    starved::<ReadId>(&rt)
+    starved(&rt, READ)
 }
 
 /// The answer of an index about the version 1.0.0 of `p`: one feature without a reference.
@@ -77,12 +81,16 @@ impl Indexed {
 }
 
 /// Corrects the package.
+#[derive(Debug)]
 struct Correct;
+
+/// The package is corrected.
+const CORRECTED: &[Correct] = &[Correct];
 
 impl Call for Correct {
     type Given = Indexed;
 
-    fn given(alloc: Global) -> Result<Indexed, Fail> {
+    fn given(&self, alloc: Global) -> Result<Indexed, Fail> {
         let metadata = metadata(alloc, "p@1.0.0&crates.io;default=foo")?;
         let index = CachingIndex {
             answer: answer(alloc)?,
@@ -90,7 +98,7 @@ impl Call for Correct {
         Ok(Indexed { index, metadata })
     }
 
-    fn is_granted(alloc: Global, given: Indexed, little: Little) -> Result<bool, Fail> {
+    fn is_granted(&self, alloc: Global, given: Indexed, little: Little) -> Result<bool, Fail> {
         let mut given = given;
         let answer = given.correct(alloc);
         drop(little);
@@ -106,5 +114,5 @@ impl Call for Correct {
 
 #[test]
 fn a_correction(rt: HostRuntime) -> Result<(), Fail> {
-    starved::<Correct>(&rt)
+    starved(&rt, CORRECTED)
 }

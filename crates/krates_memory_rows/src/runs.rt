@@ -14,11 +14,31 @@ struct Listing {
     room: Vec<u8>,
 }
 
-impl Listing {
-    /// What is asked with these words, of a crate that needs another for its tests.
-    fn new(alloc: Global, texts: &str) -> Result<Listing, Fail> {
+/// The words of a run over the document of a crate that needs another for its tests, and the lines that it writes.
+#[derive(Debug)]
+struct Run {
+    words: &'static str,
+    lines: &'static str,
+}
+
+/// Runs that list the packages, and that write why the crate is kept that is needed for tests.
+const RUNS: &[Run] = &[
+    Run {
+        words: "--ignore-kind dev --target x86_64-unknown-linux-gnu --exclude c",
+        lines: "+ path+file:///w/a#0.1.0\n- path+file:///w/b#0.1.0\n",
+    },
+    Run {
+        words: "--why path+file:///w/b#0.1.0",
+        lines: "0 rule 1: crate path+file:///w/a#0.1.0\n1 rule 5: kept path+file:///w/a#0.1.0 -> path+file:///w/b#0.1.0 (dev) from 0\n2 rule 5: crate path+file:///w/b#0.1.0 from 1\n",
+    },
+];
+
+impl Call for Run {
+    type Given = Listing;
+
+    fn given(&self, alloc: Global) -> Result<Listing, Fail> {
         let mut words = Vec::new(alloc);
-        for word in texts.split_whitespace() {
+        for word in self.words.split_whitespace() {
             words.push(String::from_str(alloc, word)?)?;
         }
         let Ok(options) = options_of(alloc, &words) else {
@@ -33,73 +53,26 @@ impl Listing {
         })
     }
 
-    /// Runs over the document with little memory; with enough, these lines are written.
-    fn writes(self, alloc: Global, lines: &str, little: Little) -> Result<bool, Fail> {
+    fn is_granted(&self, alloc: Global, given: Listing, little: Little) -> Result<bool, Fail> {
         let Listing {
             options,
             json,
             room,
-        } = self;
+        } = given;
         let mut input = Counted::new(json.as_bytes());
         let mut output = Counted::new(room);
         let answer = run(alloc, &options, &mut input, &mut output);
         drop(little);
         let written = output.get_ref().as_slice();
         match answer {
-            Ok(()) => granted(written == lines.as_bytes()),
+            Ok(()) => granted(written == self.lines.as_bytes()),
             Err(RunError::Memory) => refused(written.is_empty()),
             Err(_) => other_refusal(),
         }
     }
 }
 
-/// Runs that list the packages.
-struct Run;
-
-impl Call for Run {
-    type Given = Listing;
-
-    fn given(alloc: Global) -> Result<Listing, Fail> {
-        Listing::new(
-            alloc,
-            "--ignore-kind dev --target x86_64-unknown-linux-gnu --exclude c",
-        )
-    }
-
-    fn is_granted(alloc: Global, given: Listing, little: Little) -> Result<bool, Fail> {
-        given.writes(
-            alloc,
-            "+ path+file:///w/a#0.1.0\n- path+file:///w/b#0.1.0\n",
-            little,
-        )
-    }
-}
-
 #[test]
-fn a_run(rt: HostRuntime) -> Result<(), Fail> {
-    starved::<Run>(&rt)
-}
-
-/// Runs that write why the crate is kept that is needed for tests.
-struct Explain;
-
-impl Call for Explain {
-    type Given = Listing;
-
-    fn given(alloc: Global) -> Result<Listing, Fail> {
-        Listing::new(alloc, "--why path+file:///w/b#0.1.0")
-    }
-
-    fn is_granted(alloc: Global, given: Listing, little: Little) -> Result<bool, Fail> {
-        given.writes(
-            alloc,
-            "0 rule 1: crate path+file:///w/a#0.1.0\n1 rule 5: kept path+file:///w/a#0.1.0 -> path+file:///w/b#0.1.0 (dev) from 0\n2 rule 5: crate path+file:///w/b#0.1.0 from 1\n",
-            little,
-        )
-    }
-}
-
-#[test]
-fn an_explanation(rt: HostRuntime) -> Result<(), Fail> {
-    starved::<Explain>(&rt)
+fn runs(rt: HostRuntime) -> Result<(), Fail> {
+    starved(&rt, RUNS)
 }

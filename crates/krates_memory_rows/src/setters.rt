@@ -1,10 +1,10 @@
-//! The builder's setters that append, each made on a builder on which it was made before.
+//! The builder's setters that append, each called on a builder on which it was called before.
 
 use crate::starving::{Call, Little, granted, refused, starved};
 use krates::derive::{Derivation, Fact, Step, check};
 use krates::{Builder, DepKind, PkgSpec, Target};
 use krates_samples::documents::{kid_of, metadata};
-use std::alloc::Global;
+use std::alloc::{AllocError, Global};
 use std::test::Fail;
 
 /// Two members, of which the first needs two crates, the second of these on Windows alone.
@@ -26,11 +26,6 @@ fn steps_to(alloc: Global, root: &str) -> Result<Derivation, Fail> {
 fn follows(alloc: Global, builder: &Builder, steps: &Derivation) -> Result<bool, Fail> {
     let metadata = metadata(alloc, LINE)?;
     Ok(check(&metadata, builder, None, steps).is_ok())
-}
-
-/// Whether the second member is a root.
-fn has_root(alloc: Global, builder: &Builder) -> Result<bool, Fail> {
-    follows(alloc, builder, &steps_to(alloc, "d")?)
 }
 
 /// Whether the edge to this crate, for this target, is kept.
@@ -56,15 +51,20 @@ fn has_edge(
     follows(alloc, builder, &derivation)
 }
 
-/// Whether the edge to the crate that is needed everywhere is kept.
-fn has_plain_edge(alloc: Global, builder: &Builder) -> Result<bool, Fail> {
-    has_edge(alloc, builder, "b", None)
-}
-
-/// Whether the edge to the crate that is needed on Windows is kept.
-fn has_windows_edge(alloc: Global, builder: &Builder) -> Result<bool, Fail> {
-    let cfg = String::from_str(alloc, "cfg(windows)")?;
-    has_edge(alloc, builder, "c", Some(cfg))
+/// What is kept under what the builder has set: `b` and `c` where the edge to that crate is, `d` where that is a root.
+fn kept(alloc: Global, builder: &Builder) -> Result<String, Fail> {
+    let mut text = String::new(alloc);
+    if has_edge(alloc, builder, "b", None)? {
+        text.push_str("b")?;
+    }
+    let windows = String::from_str(alloc, "cfg(windows)")?;
+    if has_edge(alloc, builder, "c", Some(windows))? {
+        text.push_str("c")?;
+    }
+    if follows(alloc, builder, &steps_to(alloc, "d")?)? {
+        text.push_str("d")?;
+    }
+    Ok(text)
 }
 
 /// The specifications between blanks.
@@ -76,44 +76,6 @@ fn specs_of(alloc: Global, text: &str) -> Result<Vec<PkgSpec>, Fail> {
     Ok(specs)
 }
 
-/// A builder that leaves a package out, and what it is to leave out besides.
-#[derive(Drop)]
-struct Excluding {
-    builder: Builder,
-    specs: Vec<PkgSpec>,
-}
-
-/// Leaves out more packages.
-struct Exclude;
-
-impl Call for Exclude {
-    type Given = Excluding;
-
-    fn given(alloc: Global) -> Result<Excluding, Fail> {
-        let mut builder = Builder::new(alloc);
-        builder.exclude(specs_of(alloc, "c")?)?;
-        let specs = specs_of(alloc, "b e f g h i j k l")?;
-        Ok(Excluding { builder, specs })
-    }
-
-    fn is_granted(alloc: Global, given: Excluding, little: Little) -> Result<bool, Fail> {
-        let mut builder = given.builder;
-        let is_set = builder.exclude(given.specs).is_ok();
-        drop(little);
-        let has_plain = has_plain_edge(alloc, &builder)?;
-        let has_excluded = has_windows_edge(alloc, &builder)?;
-        if is_set {
-            return granted(!has_plain && !has_excluded);
-        }
-        refused(has_plain && !has_excluded)
-    }
-}
-
-#[test]
-fn exclusions_of_a_builder(rt: HostRuntime) -> Result<(), Fail> {
-    starved::<Exclude>(&rt)
-}
-
 /// The targets between blanks.
 fn targets_of(alloc: Global, text: &str) -> Result<Vec<(Target, Vec<String>)>, Fail> {
     let mut targets = Vec::new(alloc);
@@ -123,69 +85,115 @@ fn targets_of(alloc: Global, text: &str) -> Result<Vec<(Target, Vec<String>)>, F
     Ok(targets)
 }
 
-/// A builder for one target, and the targets that it is to be for besides.
+/// The words between blanks.
+fn words_of(alloc: Global, text: &'static str) -> Result<Vec<&'static str>, AllocError> {
+    text.split_whitespace().collect(alloc)
+}
+
+/// A setter.
+#[derive(Debug)]
+enum Setter {
+    Exclude,
+    IncludeTargets,
+    IncludeCrates,
+}
+
+/// What a setter appends.
 #[derive(Drop)]
-struct Targeting {
+enum More {
+    Specs(Vec<PkgSpec>),
+    Targets(Vec<(Target, Vec<String>)>),
+    Paths(Vec<&'static str>),
+}
+
+impl More {
+    /// What the setter appends that is called with this text.
+    fn new(alloc: Global, setter: &Setter, text: &'static str) -> Result<More, Fail> {
+        match setter {
+            Setter::Exclude => Ok(More::Specs(specs_of(alloc, text)?)),
+            Setter::IncludeTargets => Ok(More::Targets(targets_of(alloc, text)?)),
+            Setter::IncludeCrates => Ok(More::Paths(words_of(alloc, text)?)),
+        }
+    }
+
+    /// Calls the setter, and tells whether there was enough memory.
+    fn is_set(self, builder: &mut Builder) -> bool {
+        match self {
+            More::Specs(specs) => builder.exclude(specs).is_ok(),
+            More::Targets(targets) => builder.include_targets(targets).is_ok(),
+            More::Paths(paths) => builder.include_workspace_crates(&paths).is_ok(),
+        }
+    }
+}
+
+/// A setter, what it was called with, and what is kept then; what it is called with, and what is kept by both.
+#[derive(Debug)]
+struct Set {
+    setter: Setter,
+    text: &'static str,
+    kept: &'static str,
+    more: &'static str,
+    kept_by_both: &'static str,
+}
+
+/// The builder's setters that append.
+const SETTERS: &[Set] = &[
+    Set {
+        setter: Setter::Exclude,
+        text: "c",
+        kept: "bd",
+        more: "b e f g h i j k l",
+        kept_by_both: "d",
+    },
+    Set {
+        setter: Setter::IncludeTargets,
+        text: "x86_64-unknown-linux-gnu",
+        kept: "bd",
+        more: "x86_64-pc-windows-msvc b c d e f g h i",
+        kept_by_both: "bcd",
+    },
+    Set {
+        setter: Setter::IncludeCrates,
+        text: "/w/a",
+        kept: "bc",
+        more: "/w/b /w/c /w/d /w/e",
+        kept_by_both: "bcd",
+    },
+];
+
+/// A builder, and what is appended to what it has set.
+#[derive(Drop)]
+struct Setting {
     builder: Builder,
-    targets: Vec<(Target, Vec<String>)>,
+    more: More,
 }
 
-/// Sets more targets.
-struct IncludeTargets;
+impl Call for Set {
+    type Given = Setting;
 
-impl Call for IncludeTargets {
-    type Given = Targeting;
-
-    fn given(alloc: Global) -> Result<Targeting, Fail> {
+    fn given(&self, alloc: Global) -> Result<Setting, Fail> {
         let mut builder = Builder::new(alloc);
-        builder.include_targets(targets_of(alloc, "x86_64-unknown-linux-gnu")?)?;
-        let targets = targets_of(alloc, "x86_64-pc-windows-msvc b c d e f g h i")?;
-        Ok(Targeting { builder, targets })
+        if !More::new(alloc, &self.setter, self.text)?.is_set(&mut builder) {
+            return Err(Fail::new("no builder"));
+        }
+        let more = More::new(alloc, &self.setter, self.more)?;
+        Ok(Setting { builder, more })
     }
 
-    fn is_granted(alloc: Global, given: Targeting, little: Little) -> Result<bool, Fail> {
-        let mut builder = given.builder;
-        let is_set = builder.include_targets(given.targets).is_ok();
+    fn is_granted(&self, alloc: Global, given: Setting, little: Little) -> Result<bool, Fail> {
+        let Setting { builder, more } = given;
+        let mut builder = builder;
+        let is_set = more.is_set(&mut builder);
         drop(little);
-        let has_windows = has_windows_edge(alloc, &builder)?;
+        let kept = kept(alloc, &builder)?;
         if is_set {
-            return granted(has_windows);
+            return granted(kept.as_str() == self.kept_by_both);
         }
-        refused(!has_windows)
+        refused(kept.as_str() == self.kept)
     }
 }
 
 #[test]
-fn targets_of_a_builder(rt: HostRuntime) -> Result<(), Fail> {
-    starved::<IncludeTargets>(&rt)
-}
-
-/// Asks for more members.
-struct IncludeCrates;
-
-impl Call for IncludeCrates {
-    type Given = Builder;
-
-    fn given(alloc: Global) -> Result<Builder, Fail> {
-        let mut builder = Builder::new(alloc);
-        builder.include_workspace_crates(&["/w/a"])?;
-        Ok(builder)
-    }
-
-    fn is_granted(alloc: Global, given: Builder, little: Little) -> Result<bool, Fail> {
-        let mut builder = given;
-        let paths = ["/w/b", "/w/c", "/w/d", "/w/e"];
-        let is_set = builder.include_workspace_crates(&paths).is_ok();
-        drop(little);
-        let has_root = has_root(alloc, &builder)?;
-        if is_set {
-            return granted(has_root);
-        }
-        refused(!has_root)
-    }
-}
-
-#[test]
-fn members_of_a_builder(rt: HostRuntime) -> Result<(), Fail> {
-    starved::<IncludeCrates>(&rt)
+fn setters_of_a_builder(rt: HostRuntime) -> Result<(), Fail> {
+    starved(&rt, SETTERS)
 }

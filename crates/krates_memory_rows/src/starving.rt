@@ -1,21 +1,22 @@
-//! Calls with little memory: a test starts itself again in a process that has little, and makes its call there under one small
+//! Calls with little memory: a test starts itself again in a process that has little, and makes each of its calls there under one small
 //! budget after another, until there is enough.
 
-use std::alloc::Global;
+use std::alloc::{AllocError, Global};
+use std::fmt::Debug;
 use std::process::Command;
 use std::test::Fail;
 
-/// A call, and how its answer is judged.
-pub(crate) trait Call {
+/// A call of a table, by its name, and how its answer is judged.
+pub(crate) trait Call: Debug {
     /// What the call is made on.
     type Given: Drop;
 
     /// What the call is made on, made with ample memory.
-    fn given(alloc: Global) -> Result<Self::Given, Fail>;
+    fn given(&self, alloc: Global) -> Result<Self::Given, Fail>;
 
     /// Makes the call with little memory, gives the memory back, and tells whether there was enough. Fails at an answer that is
     /// neither want of memory, where what has to be unchanged is, nor the one with ample memory.
-    fn is_granted(alloc: Global, given: Self::Given, little: Little) -> Result<bool, Fail>;
+    fn is_granted(&self, alloc: Global, given: Self::Given, little: Little) -> Result<bool, Fail>;
 }
 
 /// There was enough: the answer is the one with ample memory, or the call fails its test.
@@ -37,6 +38,14 @@ pub(crate) fn refused(is_unchanged: bool) -> Result<bool, Fail> {
 /// The call was refused for another reason than want of memory, so it fails its test.
 pub(crate) fn other_refusal() -> Result<bool, Fail> {
     Err(Fail::new("a refusal for another reason"))
+}
+
+/// A question, which changes nothing and is refused for want of memory alone: whether its answer is the one with ample memory.
+pub(crate) fn answered(answer: Result<bool, AllocError>) -> Result<bool, Fail> {
+    match answer {
+        Ok(is_ample) => granted(is_ample),
+        Err(AllocError) => refused(true),
+    }
 }
 
 /// The budgets are below this number of bytes.
@@ -87,15 +96,15 @@ impl Little {
 }
 
 /// Whether this budget is enough for the call.
-fn is_enough<C: Call>(alloc: Global, budget: usize) -> Result<bool, Fail> {
-    let given = C::given(alloc)?;
-    C::is_granted(alloc, given, Little::but(alloc, budget)?)
+fn is_enough<C: Call>(alloc: Global, call: &C, budget: usize) -> Result<bool, Fail> {
+    let given = call.given(alloc)?;
+    call.is_granted(alloc, given, Little::but(alloc, budget)?)
 }
 
 /// The least number of steps of 16 bytes that are enough for the call.
-fn steps_to_enough<C: Call>(alloc: Global) -> Result<usize, Fail> {
+fn steps_to_enough<C: Call>(alloc: Global, call: &C) -> Result<usize, Fail> {
     for step in 0..RESERVE / 16 {
-        if is_enough::<C>(alloc, step * 16)? {
+        if is_enough(alloc, call, step * 16)? {
             return Ok(step);
         }
     }
@@ -106,7 +115,8 @@ fn steps_to_enough<C: Call>(alloc: Global) -> Result<usize, Fail> {
 const SCRIPT: &str =
     "ulimit -v 100000; exec env GLIBC_TUNABLES=glibc.malloc.tcache_count=0:glibc.malloc.mxfast=0:glibc.malloc.mmap_max=0:glibc.malloc.arena_max=1:glibc.malloc.trim_threshold=1000000000 \"$0\" \"$1\" now";
 
-/// Starts this program again with little memory, for the test of this name.
+/// Starts this program again with little memory, for the test of this name. A failure names the call, which is told last, and has what was
+/// told of it.
 fn start(rt: &HostRuntime, name: &str) -> Result<(), Fail> {
     let this = std::env::current_exe(rt)?;
     let mut command = Command::new(rt.alloc(), "/bin/sh")?;
@@ -114,23 +124,34 @@ fn start(rt: &HostRuntime, name: &str) -> Result<(), Fail> {
     let output = command.output(rt)?;
     let told = String::from_utf8_lossy(rt.alloc(), output.stdout.as_slice())?;
     if !output.status.success() {
-        return Err(Fail::new(format_args!("with little memory: {told}")));
+        let why = String::from_utf8_lossy(rt.alloc(), output.stderr.as_slice())?;
+        let (_, call) = told.rsplit_once('\n').unwrap_or(("", told.as_str()));
+        return Err(Fail::new(format_args!("with little memory, {call}{why}")));
     }
     println!(rt; "{told}")?;
     Ok(())
 }
 
-/// Makes the call under each small budget until one is enough, in a process of its own. At least one has to be too small.
-pub(crate) fn starved<C: Call>(rt: &HostRuntime) -> Result<(), Fail> {
+/// Makes the call under each small budget until one is enough. At least one has to be too small.
+fn starve<C: Call>(rt: &HostRuntime, call: &C) -> Result<(), Fail> {
+    print!(rt; "{call:?}: ")?;
+    let refused = steps_to_enough(rt.alloc(), call)?;
+    if refused == 0 {
+        return Err(Fail::new("nothing was refused"));
+    }
+    println!(rt; "refused {refused} times")?;
+    Ok(())
+}
+
+/// Makes each call of a table under each small budget until one is enough, in a process of its own.
+pub(crate) fn starved<C: Call>(rt: &HostRuntime, calls: &[C]) -> Result<(), Fail> {
     let mut words = std::env::args(rt)?.skip(1);
     let name = words.next();
     if words.next().is_none() {
         return start(rt, name.as_ref().map_or("", |name| name.as_str()));
     }
-    let refused = steps_to_enough::<C>(rt.alloc())?;
-    println!(rt; "refused {refused} times")?;
-    if refused == 0 {
-        return Err(Fail::new("nothing was refused"));
+    for call in calls {
+        starve(rt, call)?;
     }
     Ok(())
 }
