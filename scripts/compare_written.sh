@@ -23,7 +23,7 @@ room=$(mktemp -d)
 trap 'rm -rf "$room"' EXIT
 
 # What git knows or would add of the crates that the program uses, and their libraries.
-used='krates_text krates_cm krates_cm_write'
+used='krates_text krates_json krates_cm krates_cm_write'
 for crate in $used; do
     git ls-files -z --cached --others --exclude-standard "crates/$crate" | { xargs -0 ls -d 2> "$room/gone" || true; } | tar -cf - -T - | tar -xf - -C "$room"
     if [ -d "crates/$crate/out/rlib" ]; then
@@ -39,7 +39,7 @@ cat > "$room/crates/compare_written/src/main.rt" << 'END'
 //! Whether a document that is written is read as it was.
 #![tactic(auto)]
 
-use krates_cm::{Metadata, MetadataCommand};
+use krates_cm::{Metadata, parse};
 use krates_cm_write::ToValue;
 use std::alloc::Global;
 use std::{env, fs};
@@ -49,9 +49,9 @@ fn fields(alloc: Global, document: &Metadata) -> Result<String, anyhow::Error> {
 }
 
 fn is_same(alloc: Global, text: &str) -> Result<bool, anyhow::Error> {
-    let document = MetadataCommand::parse(alloc, text)?;
+    let document = parse(alloc, text)?;
     let written = document.to_value(alloc)?.to_string(alloc)?;
-    let again = MetadataCommand::parse(alloc, written.as_str())?;
+    let again = parse(alloc, written.as_str())?;
     Ok(fields(alloc, &document)? == fields(alloc, &again)?)
 }
 

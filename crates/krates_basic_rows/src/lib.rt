@@ -21,4 +21,6 @@ mod refusals;
 #[cfg(test)]
 mod specifications;
 #[cfg(test)]
+mod texts;
+#[cfg(test)]
 mod writing;

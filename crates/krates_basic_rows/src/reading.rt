@@ -1,10 +1,12 @@
 //! What each type is read as, and each refusal by a value of which only that one is true.
 
 use crate::packages::hold_within;
+use json::Scratch;
 use krates_cm::{
     DepKindInfo, Dependency, FromValue, Metadata, Node, NodeDep, Package, PackageId, Resolve,
     Source, Target,
 };
+use krates_json::{Borrowed, JsonRef, Parsed};
 use krates_samples::table::{Question, Row, hold};
 use serde_json::Value;
 use std::alloc::Global;
@@ -246,13 +248,31 @@ struct Read<T> {
     value: T,
 }
 
+/// What is read as this type from a value that is kept somewhere.
+fn read_from<T: FromValue + Debug, J: JsonRef>(alloc: Global, value: J) -> Result<String, Fail> {
+    match T::from_json_at(alloc, value, "") {
+        Ok(read) => Ok(format!(in alloc; "{read:?}")?),
+        Err(error) => Ok(format!(in alloc; "{error}")?),
+    }
+}
+
+/// A value in a text reads as the same as one of `serde_json`.
 impl<T: FromValue + Debug> Question for Read<T> {
     fn told(alloc: Global, json: &str) -> Result<String, Fail> {
         let value = Value::from_str(alloc, json)?;
-        match T::from_value(alloc, &value) {
-            Ok(read) => Ok(format!(in alloc; "{read:?}")?),
-            Err(error) => Ok(format!(in alloc; "{error}")?),
+        let told = match T::from_value(alloc, &value) {
+            Ok(read) => format!(in alloc; "{read:?}")?,
+            Err(error) => format!(in alloc; "{error}")?,
+        };
+        let mut scratch = Scratch::new(alloc);
+        let Some(parsed) = Parsed::parse(alloc, json, &mut scratch)? else {
+            return Err(Fail::new(format_args!("not read in its text: {json}")));
+        };
+        let in_text = read_from::<T, Borrowed<'_, '_>>(alloc, parsed.root())?;
+        if in_text != told {
+            return Err(Fail::new(format_args!("{json}: {in_text} in its text")));
         }
+        Ok(told)
     }
 }
 

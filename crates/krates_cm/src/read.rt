@@ -6,7 +6,6 @@ pub mod from_value;
 pub mod metadata;
 pub mod package;
 pub mod resolve;
-pub(crate) mod taken;
 pub mod target;
 pub mod values;
 pub mod versions;

@@ -8,7 +8,7 @@ use crate::dependency::{Dependency, DependencyKind};
 use crate::read::fields::{expect_object, optional, or_default, required};
 use crate::read::from_value::FromValue;
 use crate::read_error::ReadError;
-use serde_json::Value;
+use krates_json::JsonRef;
 use std::alloc::Global;
 
 /// Null is the normal kind.
@@ -19,9 +19,9 @@ impl FromValue for DependencyKind {
 
     ghost reads = { dependency_kind };
 
-    fn from_value_at(
+    fn from_json_at<J: JsonRef>(
         _alloc: Global,
-        value: &Value,
+        value: J,
         key: &'static str,
     ) -> Result<DependencyKind, ReadError> {
         if value.is_null() {
@@ -45,9 +45,9 @@ impl FromValue for Dependency {
     ghost reads = { dependency };
 
     #[tactic(auto, unfolding(crate::specs::Tables::dependency))]
-    fn from_value_at(
+    fn from_json_at<J: JsonRef>(
         alloc: Global,
-        value: &Value,
+        value: J,
         key: &'static str,
     ) -> Result<Dependency, ReadError> {
         expect_object(value, key)?;

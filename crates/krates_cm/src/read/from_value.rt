@@ -6,6 +6,7 @@ ghost use Rattle.serde_json.specs.View.{view as data_of};
 ghost use Rattle.krates_cm.specs.Reading.{Reading, Gives};
 
 use crate::read_error::ReadError;
+use krates_json::{JsonRef, Owned};
 use serde_json::Value;
 use std::alloc::Global;
 
@@ -20,8 +21,12 @@ pub trait FromValue: Sized + Drop {
     ghost reads: { List ℕ → Data → Reading Model };
 
     /// Reads the value that stands under `key`, which a refusal may name.
-    fn from_value_at(alloc: Global, value: &Value, key: &'static str) -> Result<Self, ReadError>
-        ensures { Gives view result (reads key.now (data_of value.now)) };
+    fn from_json_at<J: JsonRef>(
+        alloc: Global,
+        value: J,
+        key: &'static str,
+    ) -> Result<Self, ReadError>
+        ensures { Gives view result (reads key.now (J.meaning value)) };
 
     /// Reads a whole value.
     ///
@@ -29,6 +34,6 @@ pub trait FromValue: Sized + Drop {
     final fn from_value(alloc: Global, value: &Value) -> Result<Self, ReadError>
         ensures { Gives view result (reads [] (data_of value.now)) }
     {
-        Self::from_value_at(alloc, value, "")
+        Self::from_json_at(alloc, Owned { value }, "")
     }
 }

@@ -6,10 +6,10 @@ ghost use Rattle.krates_cm.specs.Reading.{text, list, present};
 ghost use Rattle.krates_cm.specs.Tables.{metadata};
 
 use crate::metadata::{Metadata, WorkspaceDefaultMembers};
-use crate::read::fields::{expect_object, optional, or_default, required};
+use crate::read::fields::{any_or_null, expect_object, optional, or_default, required};
 use crate::read::from_value::FromValue;
 use crate::read_error::ReadError;
-use serde_json::Value;
+use krates_json::JsonRef;
 use std::alloc::Global;
 
 /// Null isn't allowed.
@@ -20,12 +20,12 @@ impl FromValue for WorkspaceDefaultMembers {
 
     ghost reads = { present (list text) };
 
-    fn from_value_at(
+    fn from_json_at<J: JsonRef>(
         alloc: Global,
-        value: &Value,
+        value: J,
         key: &'static str,
     ) -> Result<WorkspaceDefaultMembers, ReadError> {
-        let members = Vec::from_value_at(alloc, value, key)?;
+        let members = Vec::from_json_at(alloc, value, key)?;
         Ok(WorkspaceDefaultMembers(Some(members)))
     }
 }
@@ -38,9 +38,9 @@ impl FromValue for Metadata {
     ghost reads = { metadata };
 
     #[tactic(auto, unfolding(crate::specs::Tables::metadata))]
-    fn from_value_at(
+    fn from_json_at<J: JsonRef>(
         alloc: Global,
-        value: &Value,
+        value: J,
         key: &'static str,
     ) -> Result<Metadata, ReadError> {
         expect_object(value, key)?;
@@ -57,7 +57,7 @@ impl FromValue for Metadata {
             workspace_root: required(alloc, value, "workspace_root")?,
             target_directory: required(alloc, value, "target_directory")?,
             build_directory: optional(alloc, value, "build_directory")?,
-            workspace_metadata: or_default(alloc, value, "metadata", Value::Null)?,
+            workspace_metadata: any_or_null(alloc, value, "metadata")?,
             version: or_default(alloc, value, "version", 0)?,
         })
     }

@@ -6,11 +6,14 @@ ghost use Rattle.krates_cm.specs.Reading.{text};
 ghost use Rattle.krates_cm.specs.Tables.{about, settings, package_reader};
 
 use crate::package::{Package, Source};
-use crate::read::fields::{expect_object, list_or_empty, optional, or_default, required};
+use crate::read::fields::{
+    any_or_null, expect_object, list_or_empty, optional, or_default, required,
+};
 use crate::read::from_value::FromValue;
 use crate::read::versions::RustVersion;
 use crate::read_error::ReadError;
 use crate::target::Edition;
+use krates_json::JsonRef;
 use semver::Version;
 use serde_json::Value;
 use std::alloc::Global;
@@ -22,8 +25,12 @@ impl FromValue for Source {
 
     ghost reads = { text };
 
-    fn from_value_at(alloc: Global, value: &Value, key: &'static str) -> Result<Source, ReadError> {
-        let repr = String::from_value_at(alloc, value, key)?;
+    fn from_json_at<J: JsonRef>(
+        alloc: Global,
+        value: J,
+        key: &'static str,
+    ) -> Result<Source, ReadError> {
+        let repr = String::from_json_at(alloc, value, key)?;
         Ok(Source { repr })
     }
 }
@@ -62,7 +69,11 @@ impl FromValue for About {
     ghost reads = { about };
 
     #[tactic(auto, unfolding(crate::specs::Tables::about))]
-    fn from_value_at(alloc: Global, value: &Value, _key: &'static str) -> Result<About, ReadError> {
+    fn from_json_at<J: JsonRef>(
+        alloc: Global,
+        value: J,
+        _key: &'static str,
+    ) -> Result<About, ReadError> {
         Ok(About {
             authors: list_or_empty(alloc, value, "authors")?,
             description: optional(alloc, value, "description")?,
@@ -86,18 +97,18 @@ impl FromValue for Settings {
     ghost reads = { settings };
 
     #[tactic(auto, unfolding(crate::specs::Tables::settings))]
-    fn from_value_at(
+    fn from_json_at<J: JsonRef>(
         alloc: Global,
-        value: &Value,
+        value: J,
         _key: &'static str,
     ) -> Result<Settings, ReadError> {
         Ok(Settings {
             edition: or_default(alloc, value, "edition", Edition::E2015)?,
-            metadata: or_default(alloc, value, "metadata", Value::Null)?,
+            metadata: any_or_null(alloc, value, "metadata")?,
             links: optional(alloc, value, "links")?,
             publish: optional(alloc, value, "publish")?,
             default_run: optional(alloc, value, "default_run")?,
-            rust_version: optional::<RustVersion>(alloc, value, "rust_version")?.map(|v| v.0),
+            rust_version: optional::<RustVersion, J>(alloc, value, "rust_version")?.map(|v| v.0),
         })
     }
 }
@@ -110,9 +121,9 @@ impl FromValue for Package {
     ghost reads = { package_reader };
 
     #[tactic(auto, unfolding(crate::specs::Tables::package_reader))]
-    fn from_value_at(
+    fn from_json_at<J: JsonRef>(
         alloc: Global,
-        value: &Value,
+        value: J,
         key: &'static str,
     ) -> Result<Package, ReadError> {
         expect_object(value, key)?;
@@ -124,8 +135,8 @@ impl FromValue for Package {
         let targets = required(alloc, value, "targets")?;
         let features = required(alloc, value, "features")?;
         let manifest_path = required(alloc, value, "manifest_path")?;
-        let about = About::from_value_at(alloc, value, key)?;
-        let settings = Settings::from_value_at(alloc, value, key)?;
+        let about = About::from_json_at(alloc, value, key)?;
+        let settings = Settings::from_json_at(alloc, value, key)?;
         Ok(Package {
             name,
             version,

@@ -8,7 +8,7 @@ use crate::read::fields::{expect_object, list_or_empty, optional, or_default, re
 use crate::read::from_value::FromValue;
 use crate::read_error::ReadError;
 use crate::resolve::{DepKindInfo, Node, NodeDep, Resolve};
-use serde_json::Value;
+use krates_json::JsonRef;
 use std::alloc::Global;
 
 impl FromValue for DepKindInfo {
@@ -19,9 +19,9 @@ impl FromValue for DepKindInfo {
     ghost reads = { dep_kind_info };
 
     #[tactic(auto, unfolding(crate::specs::Tables::dep_kind_info))]
-    fn from_value_at(
+    fn from_json_at<J: JsonRef>(
         alloc: Global,
-        value: &Value,
+        value: J,
         key: &'static str,
     ) -> Result<DepKindInfo, ReadError> {
         expect_object(value, key)?;
@@ -40,9 +40,9 @@ impl FromValue for NodeDep {
     ghost reads = { node_dep };
 
     #[tactic(auto, unfolding(crate::specs::Tables::node_dep))]
-    fn from_value_at(
+    fn from_json_at<J: JsonRef>(
         alloc: Global,
-        value: &Value,
+        value: J,
         key: &'static str,
     ) -> Result<NodeDep, ReadError> {
         expect_object(value, key)?;
@@ -62,7 +62,11 @@ impl FromValue for Node {
     ghost reads = { node };
 
     #[tactic(auto, unfolding(crate::specs::Tables::node))]
-    fn from_value_at(alloc: Global, value: &Value, key: &'static str) -> Result<Node, ReadError> {
+    fn from_json_at<J: JsonRef>(
+        alloc: Global,
+        value: J,
+        key: &'static str,
+    ) -> Result<Node, ReadError> {
         expect_object(value, key)?;
         Ok(Node {
             id: required(alloc, value, "id")?,
@@ -81,9 +85,9 @@ impl FromValue for Resolve {
     ghost reads = { resolve };
 
     #[tactic(auto, unfolding(crate::specs::Tables::resolve))]
-    fn from_value_at(
+    fn from_json_at<J: JsonRef>(
         alloc: Global,
-        value: &Value,
+        value: J,
         key: &'static str,
     ) -> Result<Resolve, ReadError> {
         expect_object(value, key)?;

@@ -10,7 +10,7 @@ use crate::read::fields::{expect_object, list_or_empty, or_default, required};
 use crate::read::from_value::FromValue;
 use crate::read_error::ReadError;
 use crate::target::{CrateType, Edition, Target, TargetKind};
-use serde_json::Value;
+use krates_json::JsonRef;
 use std::alloc::Global;
 
 impl FromValue for TargetKind {
@@ -20,9 +20,9 @@ impl FromValue for TargetKind {
 
     ghost reads = { target_kind };
 
-    fn from_value_at(
+    fn from_json_at<J: JsonRef>(
         _alloc: Global,
-        value: &Value,
+        value: J,
         key: &'static str,
     ) -> Result<TargetKind, ReadError> {
         let text = value.as_str().ok_or(ReadError::WrongType(key))?;
@@ -38,9 +38,9 @@ impl FromValue for CrateType {
 
     ghost reads = { crate_type };
 
-    fn from_value_at(
+    fn from_json_at<J: JsonRef>(
         _alloc: Global,
-        value: &Value,
+        value: J,
         key: &'static str,
     ) -> Result<CrateType, ReadError> {
         let text = value.as_str().ok_or(ReadError::WrongType(key))?;
@@ -56,9 +56,9 @@ impl FromValue for Edition {
 
     ghost reads = { edition };
 
-    fn from_value_at(
+    fn from_json_at<J: JsonRef>(
         _alloc: Global,
-        value: &Value,
+        value: J,
         key: &'static str,
     ) -> Result<Edition, ReadError> {
         let text = value.as_str().ok_or(ReadError::WrongType(key))?;
@@ -74,7 +74,11 @@ impl FromValue for Target {
     ghost reads = { target };
 
     #[tactic(auto, unfolding(crate::specs::Tables::target))]
-    fn from_value_at(alloc: Global, value: &Value, key: &'static str) -> Result<Target, ReadError> {
+    fn from_json_at<J: JsonRef>(
+        alloc: Global,
+        value: J,
+        key: &'static str,
+    ) -> Result<Target, ReadError> {
         expect_object(value, key)?;
         Ok(Target {
             name: required(alloc, value, "name")?,

@@ -2,14 +2,16 @@
 
 ghost use Rattle.std.specs.Prelude.{ℕ, List, Bool, Option, string_bytes, map, option_map};
 ghost use Rattle.serde_json.specs.Data.{Data};
-ghost use Rattle.serde_json.specs.View.{view as data_of, members_view};
+ghost use Rattle.serde_json.specs.View.{view as data_of};
+ghost use Rattle.krates_json.specs.Entries.{entries_data};
 ghost use Rattle.krates_cm.specs.Document.{Text, id_view};
 ghost use Rattle.krates_cm.specs.Reading.{Gives, text, boolean, whole, any, nullable, list, map_of, map_items};
 
 use crate::package_id::PackageId;
 use crate::read::from_value::FromValue;
 use crate::read_error::ReadError;
-use serde_json::{Map, Value};
+use krates_json::JsonRef;
+use serde_json::Value;
 use std::alloc::Global;
 use std::collections::BTreeMap;
 
@@ -20,7 +22,11 @@ impl FromValue for String {
 
     ghost reads = { text };
 
-    fn from_value_at(alloc: Global, value: &Value, key: &'static str) -> Result<String, ReadError> {
+    fn from_json_at<J: JsonRef>(
+        alloc: Global,
+        value: J,
+        key: &'static str,
+    ) -> Result<String, ReadError> {
         let text = value.as_str().ok_or(ReadError::WrongType(key))?;
         Ok(String::from_str(alloc, text)?)
     }
@@ -33,12 +39,12 @@ impl FromValue for PackageId {
 
     ghost reads = { text };
 
-    fn from_value_at(
+    fn from_json_at<J: JsonRef>(
         alloc: Global,
-        value: &Value,
+        value: J,
         key: &'static str,
     ) -> Result<PackageId, ReadError> {
-        let repr = String::from_value_at(alloc, value, key)?;
+        let repr = String::from_json_at(alloc, value, key)?;
         Ok(PackageId { repr })
     }
 }
@@ -50,7 +56,11 @@ impl FromValue for bool {
 
     ghost reads = { boolean };
 
-    fn from_value_at(_alloc: Global, value: &Value, key: &'static str) -> Result<bool, ReadError> {
+    fn from_json_at<J: JsonRef>(
+        _alloc: Global,
+        value: J,
+        key: &'static str,
+    ) -> Result<bool, ReadError> {
         value.as_bool().ok_or(ReadError::WrongType(key))
     }
 }
@@ -62,9 +72,13 @@ impl FromValue for usize {
 
     ghost reads = { whole };
 
-    fn from_value_at(_alloc: Global, value: &Value, key: &'static str) -> Result<usize, ReadError> {
-        let number = value.as_u64().ok_or(ReadError::WrongType(key))?;
-        Ok(number as usize)
+    fn from_json_at<J: JsonRef>(
+        alloc: Global,
+        value: J,
+        key: &'static str,
+    ) -> Result<usize, ReadError> {
+        let number = value.to_value(alloc)?.as_u64();
+        Ok(number.ok_or(ReadError::WrongType(key))? as usize)
     }
 }
 
@@ -75,12 +89,12 @@ impl FromValue for Value {
 
     ghost reads = { any };
 
-    fn from_value_at(
-        _alloc: Global,
-        value: &Value,
+    fn from_json_at<J: JsonRef>(
+        alloc: Global,
+        value: J,
         _key: &'static str,
     ) -> Result<Value, ReadError> {
-        Ok(value.clone()?)
+        Ok(value.to_value(alloc)?)
     }
 }
 
@@ -92,15 +106,15 @@ impl<T: FromValue> FromValue for Option<T> {
 
     ghost reads = { nullable T.reads };
 
-    fn from_value_at(
+    fn from_json_at<J: JsonRef>(
         alloc: Global,
-        value: &Value,
+        value: J,
         key: &'static str,
     ) -> Result<Option<T>, ReadError> {
         if value.is_null() {
             return Ok(None);
         }
-        Ok(Some(T::from_value_at(alloc, value, key)?))
+        Ok(Some(T::from_json_at(alloc, value, key)?))
     }
 }
 
@@ -111,11 +125,15 @@ impl<T: FromValue> FromValue for Vec<T> {
 
     ghost reads = { list T.reads };
 
-    fn from_value_at(alloc: Global, value: &Value, key: &'static str) -> Result<Vec<T>, ReadError> {
-        let values = value.as_array().ok_or(ReadError::WrongType(key))?;
-        let mut items = Vec::with_capacity(alloc, values.len())?;
-        for item in values {
-            items.push(T::from_value_at(alloc, item, key)?)?;
+    fn from_json_at<J: JsonRef>(
+        alloc: Global,
+        value: J,
+        key: &'static str,
+    ) -> Result<Vec<T>, ReadError> {
+        let len = value.len().ok_or(ReadError::WrongType(key))?;
+        let mut items = Vec::with_capacity(alloc, len)?;
+        while let Some(item) = value.item(items.len()) {
+            items.push(T::from_json_at(alloc, item, key)?)?;
         }
         Ok(items)
     }
@@ -128,29 +146,29 @@ impl<T: FromValue> FromValue for BTreeMap<String, T> {
 
     ghost reads = { map_of T.reads };
 
-    fn from_value_at(
+    fn from_json_at<J: JsonRef>(
         alloc: Global,
-        value: &Value,
+        value: J,
         key: &'static str,
     ) -> Result<BTreeMap<String, T>, ReadError> {
-        let members = value.as_object().ok_or(ReadError::WrongType(key))?;
-        map_from(alloc, members, key)
+        let members = value.members(alloc)?.ok_or(ReadError::WrongType(key))?;
+        map_from(alloc, &members, key)
     }
 }
 
 /// Reads what stands under each name of an object.
-fn map_from<T: FromValue>(
+fn map_from<T: FromValue, J: JsonRef>(
     alloc: Global,
-    members: &Map<String, Value>,
+    members: &BTreeMap<&str, J>,
     key: &'static str,
 ) -> Result<BTreeMap<String, T>, ReadError>
     ensures { Gives (λ m. map (λ e. (string_bytes e.0, T.view e.1)) m.entries) result
-        (map_items (T.reads key.now) (members_view members.now.entries)) }
+        (map_items (T.reads key.now) (entries_data J.meaning members.now.entries)) }
 {
     let mut entries = BTreeMap::new(alloc);
     for (name, member) in members.iter() {
-        let copy = name.clone()?;
-        let item = T::from_value_at(alloc, member, key)?;
+        let copy = String::from_str(alloc, name)?;
+        let item = T::from_json_at(alloc, *member, key)?;
         drop(entries.insert(copy, item)?);
     }
     Ok(entries)

@@ -8,8 +8,8 @@ ghost use Rattle.krates_cm.specs.Tables.{version, requirement, rust_version};
 
 use crate::read::from_value::FromValue;
 use crate::read_error::ReadError;
+use krates_json::JsonRef;
 use semver::{Version, VersionReq};
-use serde_json::Value;
 use std::alloc::{AllocError, Global};
 
 impl FromValue for Version {
@@ -19,9 +19,9 @@ impl FromValue for Version {
 
     ghost reads = { version };
 
-    fn from_value_at(
+    fn from_json_at<J: JsonRef>(
         alloc: Global,
-        value: &Value,
+        value: J,
         key: &'static str,
     ) -> Result<Version, ReadError> {
         let text = value.as_str().ok_or(ReadError::WrongType(key))?;
@@ -40,9 +40,9 @@ impl FromValue for VersionReq {
 
     ghost reads = { requirement };
 
-    fn from_value_at(
+    fn from_json_at<J: JsonRef>(
         alloc: Global,
-        value: &Value,
+        value: J,
         key: &'static str,
     ) -> Result<VersionReq, ReadError> {
         let text = value.as_str().ok_or(ReadError::WrongType(key))?;
@@ -84,9 +84,9 @@ impl FromValue for RustVersion {
 
     ghost reads = { rust_version };
 
-    fn from_value_at(
+    fn from_json_at<J: JsonRef>(
         alloc: Global,
-        value: &Value,
+        value: J,
         key: &'static str,
     ) -> Result<RustVersion, ReadError> {
         let text = value.as_str().ok_or(ReadError::WrongType(key))?;

@@ -19,14 +19,14 @@ loop-name-preserved g c =
     let all : c.args.self.now.entries ≡ done ++ e ∷ left = rest ∙ ap (λ es. done ++ es) step in
     let is : string_bytes c.in_ok-copy.copy ≡ string_bytes e.0 = c.in_ok-copy.ensures.cases in
     let ordered = subst (λ es. IsStrictlySortedBy string_cmp (keys_of es)) all c.iter-name-items.ensures.ordered in
-    let grown = c.in_ok-insert.ensures.entries ∙ inserted l.members.entries done e left c.in_ok-copy.copy c.in_ok-value.value is keys ordered in
+    let grown = c.in_ok-insert.ensures.entries ∙ inserted string_bytes l.members.entries done e left c.in_ok-copy.copy c.in_ok-value.value is keys ordered in
     record {
       can = search rules;
       finite = search rules;
       so_far = (
         done ++ e ∷ [],
         all ∙ sym (append_assoc done (e ∷ []) left),
-        rw grown (keys_pushed l.members.entries done c.in_ok-copy.copy c.in_ok-value.value e is keys),
+        rw grown (keys_pushed string_bytes l.members.entries done c.in_ok-copy.copy c.in_ok-value.value e is keys),
         rw grown (entry_next g.T.ToValue.Writes (λ x. g.T.ToValue.view x) done l.members.entries e c.in_ok-copy.copy c.in_ok-value.value is c.in_ok-value.ensures written),
       );
     }

@@ -1,0 +1,137 @@
+//! JSON texts that are read in place, and what each is as a value of `serde_json`.
+
+use json::Scratch;
+use krates_json::{JsonRef, Owned, Parsed};
+use krates_samples::table::{Question, Row, hold};
+use serde_json::Value;
+use std::alloc::Global;
+use std::test::Fail;
+
+/// Texts, and the value of each; or that it isn't read.
+const TEXTS: &[Row] = &[
+    ("null", "null"),
+    (" true ", "true"),
+    (r#""a\u0041\n""#, r#""aA\n""#),
+    ("[]", "[]"),
+    ("[1, -2, [3.5, 0], {}]", "[1,-2,[3.5,0],{}]"),
+    // The names of an object are in order, and the last value of a name stays.
+    (r#"{"b":[false],"a":null}"#, r#"{"a":null,"b":[false]}"#),
+    (r#"{"a":1,"b":2,"a":{"c":3}}"#, r#"{"a":{"c":3},"b":2}"#),
+    (r#"{"a":1e999,"a":1}"#, "not read"),
+    // Numbers are in range where a float is that isn't infinite.
+    ("18446744073709551615", "18446744073709551615"),
+    ("-9223372036854775808", "-9223372036854775808"),
+    ("1e308", "1e+308"),
+    ("1e309", "not read"),
+    ("-1e309", "not read"),
+    // What isn't JSON, or goes on behind its value.
+    ("", "not read"),
+    ("[1", "not read"),
+    ("1 2", "not read"),
+    ("{} x", "not read"),
+    ("[1,]", "not read"),
+    (r#"{"a"}"#, "not read"),
+    ("01", "not read"),
+    ("nul", "not read"),
+];
+
+/// How deep arrays nest, and whether they are read.
+const DEPTHS: &[Row] = &[("1", "read"), ("127", "read"), ("128", "not read")];
+
+/// What a text is.
+struct InPlace;
+
+impl Question for InPlace {
+    fn told(alloc: Global, text: &str) -> Result<String, Fail> {
+        let mut scratch = Scratch::new(alloc);
+        let Some(parsed) = Parsed::parse(alloc, text, &mut scratch)? else {
+            return Ok(String::from_str(alloc, "not read")?);
+        };
+        let value = parsed.root().to_value(alloc)?;
+        same_parts(alloc, parsed.root(), Owned { value: &value }, text)?;
+        Ok(value.to_string(alloc)?)
+    }
+}
+
+/// Compares what two values answer that are the same.
+fn same_parts<J: JsonRef, K: JsonRef>(alloc: Global, a: J, b: K, text: &str) -> Result<(), Fail> {
+    let plain = a.is_null() == b.is_null()
+        && a.is_object() == b.is_object()
+        && a.as_bool() == b.as_bool()
+        && a.as_str() == b.as_str()
+        && a.len() == b.len();
+    let parts = printed(alloc, a.item(1))? == printed(alloc, b.item(1))?
+        && printed(alloc, a.get("a"))? == printed(alloc, b.get("a"))?
+        && names(alloc, a)? == names(alloc, b)?;
+    if plain && parts {
+        return Ok(());
+    }
+    Err(Fail::new(format_args!("{text}: other parts in its text")))
+}
+
+/// A part, printed; empty where there is none.
+fn printed<J: JsonRef>(alloc: Global, part: Option<J>) -> Result<String, Fail> {
+    match part {
+        Some(value) => Ok(value.to_value(alloc)?.to_string(alloc)?),
+        None => Ok(String::new(alloc)),
+    }
+}
+
+/// The members of an object, a line each; empty where it has none.
+fn names<J: JsonRef>(alloc: Global, value: J) -> Result<String, Fail> {
+    let mut lines = String::new(alloc);
+    let Some(members) = value.members(alloc)? else {
+        return Ok(lines);
+    };
+    for (name, member) in members.iter() {
+        lines.push_str(name)?;
+        lines.push_str(printed(alloc, Some(*member))?.as_str())?;
+        lines.push_str("\n")?;
+    }
+    Ok(lines)
+}
+
+/// Whether arrays that nest so deep are read.
+struct Nested;
+
+impl Question for Nested {
+    fn told(alloc: Global, depth: &str) -> Result<String, Fail> {
+        let Ok(depth) = depth.parse::<usize>() else {
+            return Err(Fail::new(format_args!("no depth: {depth}")));
+        };
+        let mut text = String::new(alloc);
+        for _ in 0..depth {
+            text.push('[')?;
+        }
+        for _ in 0..depth {
+            text.push(']')?;
+        }
+        let mut scratch = Scratch::new(alloc);
+        match Parsed::parse(alloc, text.as_str(), &mut scratch)? {
+            Some(_) => Ok(String::from_str(alloc, "read")?),
+            None => Ok(String::from_str(alloc, "not read")?),
+        }
+    }
+}
+
+#[test]
+fn texts_in_place(rt: HostRuntime) -> Result<(), Fail> {
+    hold::<InPlace>(rt.alloc(), TEXTS)
+}
+
+#[test]
+fn depths(rt: HostRuntime) -> Result<(), Fail> {
+    hold::<Nested>(rt.alloc(), DEPTHS)
+}
+
+/// `serde_json` refuses what isn't read.
+#[test]
+fn refused_alike(rt: HostRuntime) -> Result<(), Fail> {
+    for &(text, value) in TEXTS {
+        let is_read = Value::from_str(rt.alloc(), text).is_ok();
+        if is_read != (value != "not read") {
+            return Err(Fail::new(format_args!("{text}: read by one alone")));
+        }
+    }
+    Ok(())
+}

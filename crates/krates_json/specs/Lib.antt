@@ -1,0 +1,3 @@
+pub mod Entries
+pub mod Readable
+pub mod Views
