@@ -61,6 +61,12 @@ pub(crate) struct Little {
 }
 
 impl Little {
+    /// Takes nothing.
+    fn nothing(alloc: Global) -> Little {
+        let blocks = Vec::new(alloc);
+        Little { blocks }
+    }
+
     /// Takes a block of this size, where there is one.
     fn take(&mut self, alloc: Global, size: usize) -> bool {
         if self.blocks.len() >= self.blocks.capacity() {
@@ -93,6 +99,12 @@ impl Little {
         little.take(alloc, RESERVE.saturating_sub(budget));
         Ok(little)
     }
+}
+
+/// Whether ample memory is enough for the call. This comes first, since the stack can't grow any more where all memory is taken.
+fn is_granted_all<C: Call>(alloc: Global, call: &C) -> Result<bool, Fail> {
+    let given = call.given(alloc)?;
+    call.is_granted(alloc, given, Little::nothing(alloc))
 }
 
 /// Whether this budget is enough for the call.
@@ -132,9 +144,12 @@ fn start(rt: &HostRuntime, name: &str) -> Result<(), Fail> {
     Ok(())
 }
 
-/// Makes the call under each small budget until one is enough. At least one has to be too small.
+/// Makes the call with ample memory, and then under each small budget until one is enough. At least one has to be too small.
 fn starve<C: Call>(rt: &HostRuntime, call: &C) -> Result<(), Fail> {
     print!(rt; "{call:?}: ")?;
+    if !is_granted_all(rt.alloc(), call)? {
+        return Err(Fail::new("ample memory isn't enough"));
+    }
     let refused = steps_to_enough(rt.alloc(), call)?;
     if refused == 0 {
         return Err(Fail::new("nothing was refused"));
