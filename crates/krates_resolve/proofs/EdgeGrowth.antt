@@ -12,17 +12,17 @@ use Rattle.krates_rules.specs.DeclaredDependency.{dependency_entry, FirstAt, IsD
 use Rattle.krates_rules.specs.Derivation.{Derivable}
 use Rattle.krates_rules.specs.Facts.{Id, Edge, Fact, Crate, Feature, Kept, Toggled, Lost}
 use Rattle.krates_resolve.specs.Found.{HasFound, HasUsed, IsAny, IsUsed, IsSound, Grows, Advances}
-use Rattle.krates_rules.specs.Resolved.{DepAt, Resolved}
+use Rattle.krates_rules.specs.Resolved.{DepAt, NodeAt, Resolved, id_of}
 use Rattle.krates_resolve.specs.Links.{IsMarked}
 use Rattle.krates_lookups.specs.NodeEntry.{IsEntry, parent_of, child_of, declared_in, entry_of, edge_for}
 use Rattle.krates_rules.specs.Questions.{IsDeclaredAt, IsWanted, kind_info_of, questions}
-use Rattle.krates_resolve.specs.Selection.{edge_view, IsPlaced}
+use Rattle.krates_resolve.specs.FoundEdge.{found_view, IsFoundEdge}
 use Rattle.krates_rules.specs.Setting.{SettingModel}
 use Rattle.krates_resolve.specs.Trace.{HasSomeStep}
 use Rattle.krates_resolve.specs.declared.found.Found.{Found}
 use Rattle.krates_resolve.specs.declared.links.Links.{Links}
 use Rattle.krates_lookups.specs.declared.node_entry.NodeEntry.{NodeEntry}
-use Rattle.krates_resolve.specs.declared.selection.KeptEdge.{KeptEdge}
+use Rattle.krates_resolve.specs.declared.found_edge.FoundEdge.{FoundEdge}
 use Rattle.krates_document.proofs.DeclaredOnce.{declared_once}
 use Rattle.krates_document.proofs.FirstPlaces.{seen_at}
 use Rattle.krates_resolve.proofs.Growing.{used_grows, tried_grows}
@@ -31,19 +31,19 @@ use Rattle.krates_rules.proofs.OnlyOne.{one_dep}
 use Rattle.krates_questions.proofs.DepPlaces.{one_dep_place}
 use Rattle.krates_resolve.proofs.Waking.{wanted_once}
 
-abbrev WithEdges : Found → Vec KeptEdge → Found
+abbrev WithEdges : Found → Vec FoundEdge → Found
 WithEdges x v = record x { edges = v }
 
-edge_found : (r : Resolved) (x : Found) (v : Vec KeptEdge) (e : KeptEdge) (f : Fact) → v.items ≡ x.edges.items ++ e ∷ [] → HasFound r x f → HasFound r (WithEdges x v) f
-edge_found r x v e (Kept y) more h = seen_still edge_view x.edges.items v.items e y more h
+edge_found : (r : Resolved) (x : Found) (v : Vec FoundEdge) (e : FoundEdge) (f : Fact) → v.items ≡ x.edges.items ++ e ∷ [] → HasFound r x f → HasFound r (WithEdges x v) f
+edge_found r x v e (Kept y) more h = seen_still found_view x.edges.items v.items e y more h
 edge_found r x v e (Crate i) more h = h
 edge_found r x v e (Feature i g) more h = h
 edge_found r x v e (Toggled i j g) more h = h
 edge_found r x v e (Lost c) more h = h
 
 -- what holds of each fact found before, and of the edge that is added, holds of each fact found now
-edge_each : (P : Fact → Type 0) → (r : Resolved) (x : Found) (v : Vec KeptEdge) (e : KeptEdge) (f : Fact) → ((g : Fact) → HasFound r x g → P g) → v.items ≡ x.edges.items ++ e ∷ [] → P (Kept (edge_view e)) → HasFound r (WithEdges x v) f → P f
-edge_each P r x v e (Kept y) old more d h = elim (seen_from edge_view x.edges.items v.items e y more h) [
+edge_each : (P : Fact → Type 0) → (r : Resolved) (x : Found) (v : Vec FoundEdge) (e : FoundEdge) (f : Fact) → ((g : Fact) → HasFound r x g → P g) → v.items ≡ x.edges.items ++ e ∷ [] → P (Kept (found_view e)) → HasFound r (WithEdges x v) f → P f
+edge_each P r x v e (Kept y) old more d h = elim (seen_from found_view x.edges.items v.items e y more h) [
   | inl o ↦ old (Kept y) o
   | inr is ↦ subst (λ (z : Edge). P (Kept z)) is d
 ]
@@ -53,19 +53,19 @@ edge_each P r x v e (Toggled i j g) old more d h = old (Toggled i j g) h
 edge_each P r x v e (Lost c) old more d h = absurd h
 
 -- what holds of each old edge, and of the edge that is added, holds of each new one
-each_edge : (x : Found) (v : Vec KeptEdge) (e : KeptEdge) (P : Edge → Type 0) → v.items ≡ x.edges.items ++ e ∷ [] → ((y : Edge) → Contains (map edge_view x.edges.items) y → P y) → P (edge_view e)
-    → (y : Edge) → Contains (map edge_view v.items) y → P y
-each_edge x v e P more old here y h = elim (seen_from edge_view x.edges.items v.items e y more h) [
+each_edge : (x : Found) (v : Vec FoundEdge) (e : FoundEdge) (P : Edge → Type 0) → v.items ≡ x.edges.items ++ e ∷ [] → ((y : Edge) → Contains (map found_view x.edges.items) y → P y) → P (found_view e)
+    → (y : Edge) → Contains (map found_view v.items) y → P y
+each_edge x v e P more old here y h = elim (seen_from found_view x.edges.items v.items e y more h) [
   | inl o ↦ old y o
   | inr is ↦ subst P is here
 ]
 
 -- the edge that is added
-pub edge_kept : (x : Found) (v : Vec KeptEdge) (e : KeptEdge) (edge : Edge) → v.items ≡ x.edges.items ++ e ∷ [] → edge_view e ≡ edge → Contains (map edge_view v.items) edge
-edge_kept x v e edge more is = subst (Contains (map edge_view v.items)) is (seen_there edge_view x.edges.items v.items e more)
+pub edge_kept : (x : Found) (v : Vec FoundEdge) (e : FoundEdge) (edge : Edge) → v.items ≡ x.edges.items ++ e ∷ [] → found_view e ≡ edge → Contains (map found_view v.items) edge
+edge_kept x v e edge more is = subst (Contains (map found_view v.items)) is (seen_there found_view x.edges.items v.items e more)
 
 -- an edge whose child is kept with all that the edge needs, and whose dependency is marked
-pub edge_advances : (r : Resolved) (s : SettingModel) (x : Found) (v : Vec KeptEdge) (e : KeptEdge) (edge : Edge) → IsSound r s x → v.items ≡ x.edges.items ++ e ∷ [] → edge_view e ≡ edge → IsPlaced r s e
+pub edge_advances : (r : Resolved) (s : SettingModel) (x : Found) (v : Vec FoundEdge) (e : FoundEdge) (edge : Edge) → IsSound r s x → v.items ≡ x.edges.items ++ e ∷ [] → found_view e ≡ edge → IsFoundEdge r s e
     → HasFound r x (Crate edge.child) → IsUsed r s x edge → ((place index : ℕ) → DepAt r edge.parent edge.child place index → IsMarked x.links place index) → Derivable (questions r s) (Kept edge)
     → HasSomeStep r x.trace.items (Kept edge) → Advances r s x (record x { edges = v }) × HasFound r (record x { edges = v }) (Kept edge)
 edge_advances r s x v e edge sound more is placed reached used marked d step =
@@ -82,7 +82,7 @@ edge_advances r s x v e edge sound more is placed reached used marked d step =
           trace = sound.trace;
           stepped = λ f h. edge_each (HasSomeStep r x.trace.items) r x v e f sound.stepped more (subst (λ (z : Edge). HasSomeStep r x.trace.items (Kept z)) back step) h;
           numbered = record { krates = sound.numbered.krates; features = sound.numbered.features; marked = sound.numbered.marked; waiting = sound.numbered.waiting };
-          placed = subst (All (IsPlaced r s)) (sym more) (All-push (IsPlaced r s) x.edges.items e sound.placed placed);
+          placed = subst (All (IsFoundEdge r s)) (sym more) (All-push (IsFoundEdge r s) x.edges.items e sound.placed placed);
           reached = each_edge x v e (λ z. HasFound r x (Crate z.child)) more sound.reached (subst (λ (z : Edge). HasFound r x (Crate z.child)) back reached);
           used = λ z h b w. used_grows r x y b z.child grown (each_edge x v e (IsUsed r s x) more sound.used (subst (IsUsed r s x) back used) z h b w);
           marked = λ z place index h at.
@@ -118,14 +118,20 @@ abbrev PlacedAs : Resolved → SettingModel → ℕ → Edge → ℕ → Depende
 PlacedAs r s kind_place e place d = (a : IsDeclaredAt r s e place d) × FirstAt (λ o. o ≡ kind_info_of e) a.declares.dep.dep_kinds kind_place (kind_info_of e)
 
 -- the places are those of the entry
-pub placed_here : (r : Resolved) (s : SettingModel) (x : NodeEntry) (k : DepKindInfoModel) (e : KeptEdge) (place : ℕ) (d : DependencyModel) → NoneDoubled r.metadata r.graph → IsEntry r x → IsDeclared (declared_in x) (entry_of x) k place d
-    → IsWanted r s (edge_for x k) d → edge_view e ≡ edge_for x k → e.declared ≡ place → FirstAt (λ o. o ≡ k) (node_dep_view x.dep.now).dep_kinds e.place k → IsPlaced r s e
-placed_here r s x k e place d none h first w is at first_of_kind =
+pub placed_here : (r : Resolved) (s : SettingModel) (x : NodeEntry) (k : DepKindInfoModel) (e : FoundEdge) (place : ℕ) (d : DependencyModel) → NoneDoubled r.metadata r.graph → IsEntry r x → IsDeclared (declared_in x) (entry_of x) k place d
+    → IsWanted r s (edge_for x k) d → found_view e ≡ edge_for x k → e.declared ≡ place → FirstAt (λ o. o ≡ k) (node_dep_view x.dep.now).dep_kinds e.place k → e.parent_node ≡ x.place → NodeAt r (child_of x) e.child_node
+    → IsFoundEdge r s e
+placed_here r s x k e place d none h first w is at first_of_kind parent_there child =
     let same = wanted_here r s x k place d none h first w in
     let there : PlacedAs r s e.place (edge_for x k) w.place d = (w.declared, subst (λ (y : NodeDepModel). FirstAt (λ o. o ≡ k) y.dep_kinds e.place k) (sym same.1) first_of_kind) in
     let edge = subst (λ (y : Edge). PlacedAs r s e.place y w.place d) (sym is) there in
-    let here = subst (λ (n : ℕ). PlacedAs r s e.place (edge_view e) n d) (same.0 ∙ sym at) edge in
-    record { dependency = d; declared = here.0; place = here.1 }
+    let here = subst (λ (n : ℕ). PlacedAs r s e.place (found_view e) n d) (same.0 ∙ sym at) edge in
+    let parent : NodeAt r (id_of e.parent.now) x.place = subst (λ (i : Id). NodeAt r i x.place) (sym (ap (λ (y : Edge). y.parent) is)) h.at.node in
+    record {
+      placed = record { dependency = d; declared = here.0; place = here.1 };
+      parent = subst (NodeAt r (id_of e.parent.now)) (sym parent_there) parent;
+      child = subst (λ (i : Id). NodeAt r i e.child_node) (sym (ap (λ (y : Edge). y.child) is)) child;
+    }
 
 -- the declared dependency at a place, as the code reads it
 pub declared_seen : (ds : List Dependency) (place : ℕ) (d : DependencyModel) (x : Dependency) → slice_get (map dependency_view ds) place ≡ Some d → slice_get ds place ≡ Some x → dependency_view x ≡ d

@@ -10,29 +10,11 @@ use Rattle.krates_lookups.specs.NodeEntry.{child_of, declared_in, entry_of, IsEn
 use Rattle.krates_rules.specs.Questions.{Stands, LacksNode, IsDeclaredAt, IsWanted, IsLoose, kind_info_of, questions, IsLeftOut}
 use Rattle.krates_rules.specs.Resolved.{Resolved, NoPackage}
 use Rattle.krates_rules.specs.Rules.{Questions, required, target, lost_undeclared, lost_required_package, lost_required_node}
-use Rattle.krates_resolve.specs.Selection.{edge_view, IsPlaced}
 use Rattle.krates_resolve.specs.declared.found.Found.{Found}
 use Rattle.krates_lookups.specs.declared.node_entry.NodeEntry.{NodeEntry}
-use Rattle.krates_resolve.specs.declared.selection.KeptEdge.{KeptEdge}
 use Rattle.krates_rules.specs.Setting.{SettingModel, IsIgnored, Passes}
 use Rattle.krates_rules.proofs.Standings.{not_included}
-use Rattle.krates_questions.proofs.Entries.{Heeds, declared_at, not_loose, wanted_one}
-
--- ---- the edge in the document
-
--- an edge with the places that are kept beside it
-abbrev PlacedAs : Resolved → SettingModel → ℕ → Edge → ℕ → DependencyModel → Type 0
-PlacedAs r s kind_place e place d = (a : IsDeclaredAt r s e place d) × FirstAt (λ o. o ≡ kind_info_of e) a.declares.dep.dep_kinds kind_place (kind_info_of e)
-
--- the places of a kept edge are those of the entry
-pub placed : (r : Resolved) (s : SettingModel) (x : NodeEntry) (k : DepKindInfoModel) (e : KeptEdge) (place : ℕ) (d : DependencyModel) → Heeds r s x k
-    → IsDeclared (declared_in x) (entry_of x) k place d → edge_view e ≡ edge_for x k → e.declared ≡ place → FirstAt (λ o. o ≡ k) (node_dep_view x.dep.now).dep_kinds e.place k → IsPlaced r s e
-unfolding declared_at
-placed r s x k e place d h first is at first_of_kind =
-    let there : PlacedAs r s e.place (edge_for x k) place d = (declared_at r s x k place d h first, first_of_kind) in
-    let edge = subst (λ (y : Edge). PlacedAs r s e.place y place d) (sym is) there in
-    let here = subst (λ (n : ℕ). PlacedAs r s e.place (edge_view e) n d) (sym at) edge in
-    record { dependency = d; declared = here.0; place = here.1 }
+use Rattle.krates_questions.proofs.Entries.{Heeds, not_loose, wanted_one}
 
 -- ---- the edge has been tried
 

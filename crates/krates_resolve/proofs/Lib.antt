@@ -1,3 +1,4 @@
+pub mod ByNumber
 pub mod Counted
 pub mod CountedSelection
 pub mod EdgeGrowth
@@ -9,6 +10,7 @@ pub mod FirstKinds
 pub mod Growing
 pub mod Growth
 pub mod Heedings
+pub mod KeptEdges
 pub mod KeptSteps
 pub mod KindOrder
 pub mod LinkLemmas

@@ -18,12 +18,13 @@ use Rattle.krates_rules.specs.References.{Demands}
 use Rattle.krates_rules.specs.Referent.{IsReferent}
 use Rattle.krates_rules.specs.Rules.{Rule, IsAskedFor, root_crate, root_feature, lost_root_package, lost_root_node, feature_crate, named, lost_named, asked, toggled_strongly, lost_asked_package, lost_asked_node, lost_toggled_strongly, required, target, lost_undeclared, lost_required_package, lost_required_node, declared, by_default, lost_declared, toggled_weakly, toggled_feature, lost_toggled_weakly}
 use Rattle.krates_resolve.specs.Saturation.{AreDone}
-use Rattle.krates_resolve.specs.Selection.{edge_view, toggled_fact, IsPlaced}
+use Rattle.krates_resolve.specs.FoundEdge.{found_view, IsFoundEdge}
+use Rattle.krates_resolve.specs.Selection.{toggled_fact}
 use Rattle.krates_rules.specs.Setting.{SettingModel}
 use Rattle.krates_rules.specs.Steps.{StepModel}
 use Rattle.krates_resolve.specs.Trace.{IsTrace}
 use Rattle.krates_resolve.specs.declared.found.Found.{Found}
-use Rattle.krates_resolve.specs.declared.selection.KeptEdge.{KeptEdge}
+use Rattle.krates_resolve.specs.declared.found_edge.FoundEdge.{FoundEdge}
 use Rattle.krates_resolve.specs.declared.selection.ToggledFeature.{ToggledFeature}
 use Rattle.krates_rules.proofs.DerivationLaws.{closed_under}
 use Rattle.krates_rules.proofs.OnlyOne.{place_in}
@@ -204,7 +205,7 @@ pub record IsEmpty (x : Found) : Type 0 where
 nothing_found : (r : Resolved) (x : Found) → IsEmpty x → (f : Fact) → HasFound r x f → ⊥
 nothing_found r x none (Crate i) h = no_element h.place (subst (λ (ps : List ℕ). Contains ps h.place) none.krates h.among)
 nothing_found r x none (Feature i f) h = no_element h.number (subst (λ (ns : List ℕ). Contains ns h.number) none.features h.among)
-nothing_found r x none (Kept e) h = no_element e (subst (λ (es : List KeptEdge). Contains (map edge_view es) e) none.edges h)
+nothing_found r x none (Kept e) h = no_element e (subst (λ (es : List FoundEdge). Contains (map found_view es) e) none.edges h)
 nothing_found r x none (Toggled p c g) h = no_element (Toggled p c g) (subst (λ (ts : List ToggledFeature). Contains (map toggled_fact ts) (Toggled p c g)) none.toggled h)
 nothing_found r x none (Lost c) h = h
 
@@ -229,7 +230,7 @@ sound_start r s x krates features links new none = record {
     marked = λ p c place index step dep marked. absurd (new.unmarked place index (step, marked));
     waiting = λ p c place index w dep waits. absurd (new.none_waits place index w.name.now (record { waiter = w; waits = waits; named = refl }));
   };
-  placed = subst (All (IsPlaced r s)) (sym none.edges) (λ k d lt. absurd (omega (arith, lt)));
+  placed = subst (All (IsFoundEdge r s)) (sym none.edges) (λ k d lt. absurd (omega (arith, lt)));
   reached = λ e h. absurd (nothing_found r x none (Kept e) h);
   used = λ e h. absurd (nothing_found r x none (Kept e) h);
   marked = λ e place index h. absurd (nothing_found r x none (Kept e) h);

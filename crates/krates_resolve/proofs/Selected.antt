@@ -14,11 +14,12 @@ use Rattle.krates_rules.specs.Admission.{NoneDoubled, node_texts}
 use Rattle.krates_rules.specs.Derivation.{Derivable}
 use Rattle.krates_rules.specs.Facts.{Id, Edge, Fact, Crate, Feature, Kept, Toggled, Lost}
 use Rattle.krates_resolve.specs.Found.{HasFound, IsEnabled}
+use Rattle.krates_resolve.specs.FoundEdge.{found_view}
 use Rattle.krates_rules.specs.Questions.{edge_between, kind_info_of, questions}
 use Rattle.krates_rules.specs.Resolved.{Resolved, id_of, HasNode, HasDep}
 use Rattle.krates_resolve.specs.Selection.{edge_view, crate_fact, edge_fact, feature_fact, toggled_fact, facts_of, IsPlaced, IsSelection}
 use Rattle.krates_resolve.specs.Work.{CountsEach}
-use Rattle.krates_resolve.specs.SelectionOrder.{same_place, place_cmp, same_text, same_feature, feature_cmp, same_toggled, toggled_cmp}
+use Rattle.krates_resolve.specs.SelectionOrder.{place_cmp, same_text, same_feature, feature_cmp, same_toggled, toggled_cmp}
 use Rattle.krates_resolve.specs.declared.found.Found.{Found}
 use Rattle.krates_resolve.specs.declared.selection.EnabledFeature.{EnabledFeature}
 use Rattle.krates_resolve.specs.declared.selection.KeptEdge.{KeptEdge}
@@ -38,10 +39,10 @@ use Rattle.krates_rules.proofs.Standings.{contains_at}
 pub contains_or : {A : Type 0} (xs : List A) (k : ℕ) (d : A) → k < length xs → Contains xs (get_or xs k d)
 contains_or xs k d lt = (k, lt, get_or_default xs k (get_or xs k d) d lt)
 
-contains_image : {A B : Type 0} (f : A → B) (xs : List A) (x : A) → Contains xs x → Contains (map f xs) (f x)
+pub contains_image : {A B : Type 0} (f : A → B) (xs : List A) (x : A) → Contains xs x → Contains (map f xs) (f x)
 contains_image f xs x c = let at = place_in xs x c in contains_at (map f xs) at.0 (f x) (slice_get-map f xs at.0 ∙ ap (option_map f) at.1)
 
-contains_source : {A B : Type 0} (f : A → B) (xs : List A) (y : B) → Contains (map f xs) y → (x : A) × Contains xs x × (f x ≡ y)
+pub contains_source : {A B : Type 0} (f : A → B) (xs : List A) (y : B) → Contains (map f xs) y → (x : A) × Contains xs x × (f x ≡ y)
 contains_source f xs y c =
     let at = place_in (map f xs) y c in
     let s = seen_at f xs at.0 y at.1 in
@@ -74,7 +75,7 @@ place_of_kid ids places kids kid same c =
     let s = seen_at (slice_get ids) places at.0 (Some kid) here in
     (get_or places at.0 s.0, contains_or places at.0 s.0 s.1, s.2)
 
--- ---- edges at one place are the same
+-- ---- what compares as equal
 
 -- what `==` of ids says
 abbrev pub EqualityTellsSame : Type 0
@@ -83,25 +84,6 @@ EqualityTellsSame = (a b : Identity) → (same_id a b ≡ true) ↔ IsSameId a b
 pub both : (p q : Bool) → (p && q) ≡ true → (p ≡ true) × (q ≡ true)
 both true q h = (refl, h)
 both false q h = absurd cc
-
-one_edge : EqualityTellsSame → (r : Resolved) (s : SettingModel) (a b : KeptEdge) → NoneDoubled r.metadata r.graph → IsPlaced r s a → IsPlaced r s b → same_place a b ≡ true → edge_view b ≡ edge_view a
-one_edge tells r s a b none x y same =
-    let outer = both (same_id a.parent b.parent) _ same in
-    let inner = both (same_id a.child b.child) _ outer.1 in
-    let parent : id_of a.parent ≡ id_of b.parent = id_of_same a.parent b.parent ((tells a.parent b.parent).0 outer.0) in
-    let child : id_of a.child ≡ id_of b.child = id_of_same a.child b.child ((tells a.child b.child).0 inner.0) in
-    let place : a.place ≡ b.place = eqb-true a.place b.place inner.1 in
-    let da = x.declared.declares in
-    let db = y.declared.declares in
-    let la = da.lists in
-    let lb = db.lists in
-    let node = subst (λ (i : Id). HasNode r i lb.node) (sym parent) lb.has_node in
-    let dep = subst (λ (i : Id). HasDep lb.node i db.dep) (sym child) lb.has_dep in
-    let one = one_dep r (id_of a.parent) (id_of a.child) la.node lb.node da.dep db.dep none la.has_node node la.has_dep dep in
-    let there = ap (λ (d : NodeDepModel). slice_get d.dep_kinds b.place) one ∙ y.place.here in
-    let kind : kind_info_of (edge_view a) ≡ kind_info_of (edge_view b) = same_Some _ _ (sym x.place.here ∙ ap (λ n. slice_get da.dep.dep_kinds n) place ∙ there) in
-    ap (λ (i : Id). edge_between i (id_of b.child) (kind_info_of (edge_view b))) (sym parent) ∙ ap (λ (i : Id). edge_between (id_of a.parent) i (kind_info_of (edge_view b))) (sym child)
-    ∙ ap (λ (k : DepKindInfoModel). edge_between (id_of a.parent) (id_of a.child) k) (sym kind)
 
 -- ---- features that compare as equal are the same
 
@@ -164,16 +146,16 @@ pub record IsWhole (r : Resolved) (s : SettingModel) (ids : List Identity) (foun
   pub none_doubled : NoneDoubled r.metadata r.graph
   pub reads : AllZip Reads (node_texts r.graph) ids
   pub exact : (f : Fact) → Derivable (questions r s) f ↔ HasFound r found f
-  pub placed : All (IsPlaced r s) found.edges.items
   pub krates : AreAt ids found.krates.put kids
   pub features : (i : Id) (f : Text) → IsEnabled r found.features.put i f ↔ Contains (map feature_fact enabled) (Feature i f)
   pub some : 0 < length found.krates.put
 
 -- the selection has all of that, sorted
-pub record IsInOrder (found : Found) (kids : List Identity) (enabled : List EnabledFeature) (x : Selection) : Type 0 where
+pub record IsInOrder (r : Resolved) (s : SettingModel) (found : Found) (kids : List Identity) (enabled : List EnabledFeature) (x : Selection) : Type 0 where
   pub krates : IsOrdered same_id kids x.krates.items
   pub krates_rise : IsStrictlySortedBy id_cmp x.krates.items
-  pub edges : IsOrdered same_place found.edges.items x.edges.items
+  pub edges : (e : Edge) → Contains (map found_view found.edges.items) e ↔ Contains (map edge_view x.edges.items) e
+  pub edges_placed : All (IsPlaced r s) x.edges.items
   pub edges_rise : IsStrictlySortedBy place_cmp x.edges.items
   pub features : IsOrdered same_feature enabled x.features.items
   pub features_rise : IsStrictlySortedBy feature_cmp x.features.items
@@ -181,13 +163,13 @@ pub record IsInOrder (found : Found) (kids : List Identity) (enabled : List Enab
   pub toggled_rise : IsStrictlySortedBy toggled_cmp x.toggled.items
 
 pub selected : ReadsOnce → EqualityTellsSame → (r : Resolved) (s : SettingModel) (ids : List Identity) (found : Found) (kids : List Identity) (enabled : List EnabledFeature) (x : Selection)
-    → IsWhole r s ids found kids enabled → IsInOrder found kids enabled x → CountsEach r s (length x.krates.items) x.features.items x.work → IsSelection r s x
+    → IsWhole r s ids found kids enabled → IsInOrder r s found kids enabled x → CountsEach r s (length x.krates.items) x.features.items x.work → IsSelection r s x
 selected once tells r s ids found kids enabled x whole order counts = record {
   facts = λ f. (forth f, back f);
   some = root;
   krates = order.krates_rise;
   edges = order.edges_rise;
-  placed = λ k d lt. here (get_or x.edges.items k d) (contains_or x.edges.items k d lt);
+  placed = order.edges_placed;
   features = order.features_rise;
   toggled = order.toggled_rise;
   work = counts;
@@ -201,10 +183,6 @@ selected once tells r s ids found kids enabled x whole order counts = record {
         let k = kid_at ids places kids (get_or places 0 0) whole.krates among in
         (id_of k.0, (whole.exact (Crate (id_of k.0))).1 (record { place = get_or places 0 0; among = among; node = node_here r ids (get_or places 0 0) k.0 whole.reads k.2 }))
 
-    -- each edge is placed
-    here : (e : KeptEdge) → Contains x.edges.items e → IsPlaced r s e
-    here e c = All-contains (IsPlaced r s) found.edges.items e whole.placed (order.edges.from e c)
-
     forth : (f : Fact) → Derivable (questions r s) f → Contains (facts_of x) f
     forth (Crate i) d =
         let put = (whole.exact (Crate i)).0 d in
@@ -213,10 +191,8 @@ selected once tells r s ids found kids enabled x whole order counts = record {
         let id : id_of y.0 ≡ i = sym (id_of_same k.0 y.0 ((tells k.0 y.0).0 y.2)) ∙ one_id once r (id_of k.0) i put.place (node_here r ids put.place k.0 whole.reads k.2) put.node in
         subst (λ (j : Id). Contains (facts_of x) (Crate j)) id (crate_there x y.0 y.1)
     forth (Kept e) d =
-        let a = contains_source edge_view found.edges.items e ((whole.exact (Kept e)).0 d) in
-        let y = order.edges.kept a.0 a.1 in
-        let edge : edge_view y.0 ≡ e = one_edge tells r s a.0 y.0 whole.none_doubled (All-contains (IsPlaced r s) found.edges.items a.0 whole.placed a.1) (here y.0 y.1) y.2 ∙ a.2 in
-        subst (λ (g : Edge). Contains (facts_of x) (Kept g)) edge (edge_there x y.0 y.1)
+        let a = contains_source edge_view x.edges.items e ((order.edges e).0 ((whole.exact (Kept e)).0 d)) in
+        subst (λ (g : Edge). Contains (facts_of x) (Kept g)) a.2 (edge_there x a.0 a.1)
     forth (Feature i g) d =
         let a = contains_source feature_fact enabled (Feature i g) ((whole.features i g).0 ((whole.exact (Feature i g)).0 d)) in
         let y = order.features.kept a.0 a.1 in
@@ -236,7 +212,7 @@ selected once tells r s ids found kids enabled x whole order counts = record {
     edge_back : (f : Fact) → Contains (map edge_fact x.edges.items) f → Derivable (questions r s) f
     edge_back f h =
         let a = contains_source edge_fact x.edges.items f h in
-        subst (Derivable (questions r s)) a.2 ((whole.exact (edge_fact a.0)).1 (contains_image edge_view found.edges.items a.0 (order.edges.from a.0 a.1)))
+        subst (Derivable (questions r s)) a.2 ((whole.exact (edge_fact a.0)).1 ((order.edges (edge_view a.0)).1 (contains_image edge_view x.edges.items a.0 a.1)))
 
     feature_back : (f : Fact) → Contains (map feature_fact x.features.items) f → Derivable (questions r s) f
     feature_back f h =

@@ -16,14 +16,15 @@ use Rattle.krates_lookups.specs.Numbering.{FeatureAt, IsOwn}
 use Rattle.krates_rules.specs.Referent.{IsReferent}
 use Rattle.krates_rules.specs.Roots.{IsRoot}
 use Rattle.krates_rules.specs.Rules.{default_name}
-use Rattle.krates_resolve.specs.Selection.{edge_view, feature_fact, toggled_fact, IsPlaced}
+use Rattle.krates_resolve.specs.FoundEdge.{IsFoundEdge, found_view}
+use Rattle.krates_resolve.specs.Selection.{feature_fact, toggled_fact}
 use Rattle.krates_rules.specs.Setting.{SettingModel}
 use Rattle.krates_resolve.specs.declared.found.Found.{Found}
 use Rattle.krates_resolve.specs.declared.links.Links.{Links}
 use Rattle.krates_resolve.specs.declared.links.Waiting.{Waiting}
 use Rattle.krates_resolve.specs.declared.trace.NumberedStep.{NumberedStep}
 use Rattle.krates_resolve.specs.declared.selection.EnabledFeature.{EnabledFeature}
-use Rattle.krates_resolve.specs.declared.selection.KeptEdge.{KeptEdge}
+use Rattle.krates_resolve.specs.declared.found_edge.FoundEdge.{FoundEdge}
 use Rattle.krates_resolve.specs.declared.selection.ToggledFeature.{ToggledFeature}
 
 -- ---- which facts have been found
@@ -44,13 +45,13 @@ pub record IsEnabled (r : Resolved) (put : List ℕ) (i : Id) (f : Text) : Type 
 pub record Findings : Type 0 where
   pub krates : List ℕ
   pub features : List ℕ
-  pub edges : List KeptEdge
+  pub edges : List FoundEdge
   pub toggled : List ToggledFeature
 
 abbrev pub IsAmongFindings : Resolved → Findings → Fact → Type 0
 IsAmongFindings r x (Crate i) = IsPut r x.krates i
 IsAmongFindings r x (Feature i f) = IsEnabled r x.features i f
-IsAmongFindings r x (Kept e) = Contains (map edge_view x.edges) e
+IsAmongFindings r x (Kept e) = Contains (map found_view x.edges) e
 IsAmongFindings r x (Toggled p c g) = Contains (map toggled_fact x.toggled) (Toggled p c g)
 IsAmongFindings r x _ = ⊥
 
@@ -237,7 +238,7 @@ pub record IsSound (r : Resolved) (s : SettingModel) (x : Found) : Type 0 where
   pub trace : IsTrace r s x.trace.items
   pub stepped : (f : Fact) → HasFound r x f → HasSomeStep r x.trace.items f
   pub numbered : HaveTheirSteps r s (traced x)
-  pub placed : All (IsPlaced r s) x.edges.items
+  pub placed : All (IsFoundEdge r s) x.edges.items
   -- a kept edge
   pub reached : (e : Edge) → HasFound r x (Kept e) → HasFound r x (Crate e.child)
   pub used : (e : Edge) → HasFound r x (Kept e) → IsUsed r s x e

@@ -2,7 +2,9 @@ pub mod Basis
 pub mod Counting
 pub mod Explained
 pub mod Found
+pub mod FoundEdge
 pub mod Heeding
+pub mod KeptEdges
 pub mod Kinds
 pub mod Links
 pub mod Saturation

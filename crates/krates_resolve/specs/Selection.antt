@@ -1,5 +1,5 @@
 -- What a selection says, and when it is that of a document and a setting.
-use Rattle.std.specs.Prelude.{◌≡◌, ◌↔◌, ◌++◌, List, All, Contains, length, map, option_map}
+use Rattle.std.specs.Prelude.{◌≡◌, ℕ, ◌↔◌, ◌++◌, List, All, Contains, length, map, option_map}
 use Rattle.std.specs.List.Sorted.{IsStrictlySortedBy}
 use Rattle.krates_cm.specs.Document.{DependencyModel, MetadataModel, text_view}
 use Rattle.krates_ids.specs.Identity.{Identity, id_cmp}
@@ -46,11 +46,15 @@ facts_of x = map crate_fact x.krates.items ++ (map edge_fact x.edges.items ++ (m
 
 -- ---- the selection of a document
 
--- the edge names its declared dependency, and the first place of its kind and target
-pub record IsPlaced (r : Resolved) (s : SettingModel) (e : KeptEdge) : Type 0 where
+-- the declared dependency of the edge stands at the one place, and its kind and target first at the other
+pub record IsPlacedAs (r : Resolved) (s : SettingModel) (e : Edge) (at first : ℕ) : Type 0 where
   pub dependency : DependencyModel
-  pub declared : IsDeclaredAt r s (edge_view e) e.declared dependency
-  pub place : FirstAt (λ k. k ≡ kind_info_of (edge_view e)) declared.declares.dep.dep_kinds e.place (kind_info_of (edge_view e))
+  pub declared : IsDeclaredAt r s e at dependency
+  pub place : FirstAt (λ k. k ≡ kind_info_of e) declared.declares.dep.dep_kinds first (kind_info_of e)
+
+-- the edge names its declared dependency, and the first place of its kind and target
+abbrev pub IsPlaced : Resolved → SettingModel → KeptEdge → Type 0
+IsPlaced r s e = IsPlacedAs r s (edge_view e) e.declared e.place
 
 -- The selection has exactly the derivable facts, a crate among them, each list in order and without doubles; and each crate,
 -- each feature and each reference of these is counted once.

@@ -12,10 +12,6 @@ use Rattle.krates_resolve.specs.declared.selection.ToggledFeature.{ToggledFeatur
 
 -- ---- kept edges, by parent, child and place
 
--- whether the edges have the same parent, child and place
-abbrev pub same_place : KeptEdge → KeptEdge → Bool
-same_place = eq_of_both (on (λ e. e.parent) same_id) (eq_of_both (on (λ e. e.child) same_id) (on (λ e. e.place) ◌==◌))
-
 -- the order by parent, then child, then place
 abbrev pub place_cmp : KeptEdge → KeptEdge → Ordering
 place_cmp = then_cmp (on (λ e. e.parent) id_cmp) (then_cmp (on (λ e. e.child) id_cmp) (on (λ e. e.place) nat_cmp))

@@ -13,7 +13,7 @@ ghost use Rattle.krates_rules.specs.Resolved.{id_of};
 ghost use Rattle.krates_rules.specs.Rules.{default_name};
 
 use crate::found::Found;
-use crate::kept_edge::kept_edge;
+use crate::found_edge::found_edge;
 use crate::selection::ToggledFeature;
 use crate::trace::{NumberedFact, NumberedStep, Reason};
 use crate::tracing::{put_feature, put_krate, put_step};
@@ -262,12 +262,12 @@ pub(crate) fn keep<'a>(
 {
     laws::one_reading();
     let entry = edge.entry;
-    let kept = kept_edge(entry, edge.info, keeping.kind, keeping.declared)?;
+    let kept = found_edge(edge, keeping.kind, keeping.declared, keeping.node);
     let step = NumberedStep {
         fact: NumberedFact::Kept {
             place: entry.place,
             index: entry.index,
-            kind: kept.place,
+            kind: keeping.kind,
         },
         reason: keeping.reason,
     };

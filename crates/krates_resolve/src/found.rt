@@ -1,7 +1,8 @@
 //! What has been found of a selection while it is looked for.
 
+use crate::found_edge::FoundEdge;
 use crate::links::Links;
-use crate::selection::{KeptEdge, ToggledFeature};
+use crate::selection::ToggledFeature;
 use crate::trace::NumberedStep;
 use krates_graph::agenda::Agenda;
 
@@ -13,7 +14,7 @@ pub(crate) struct Found<'a> {
     /// The numbers of the enabled features: the references of those that were taken have been followed.
     pub features: Agenda,
     /// The kept edges, in the order in which they were found.
-    pub edges: Vec<KeptEdge>,
+    pub edges: Vec<FoundEdge<'a>>,
     /// The toggled features, in the order in which they were found.
     pub toggled: Vec<ToggledFeature>,
     /// The steps by which all of that was found, each behind those that it uses.

@@ -6,8 +6,9 @@
 mod enabling;
 mod expansion;
 mod found;
+mod found_edge;
 mod heeding;
-mod kept_edge;
+mod kept_edges;
 mod kinds;
 mod links;
 pub mod resolution;

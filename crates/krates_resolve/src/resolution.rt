@@ -14,6 +14,7 @@ ghost use Rattle.krates_rules.specs.Questions.{questions};
 ghost use Rattle.krates_rules.specs.SelectionRefusals.{SelectionRefusal};
 
 use crate::found::Found;
+use crate::kept_edges::kept_edges;
 use crate::saturation::saturate;
 use crate::selection::{EnabledFeature, Selection};
 use crate::work::Work;
@@ -23,6 +24,7 @@ use krates_document::setting::Setting;
 use krates_ids::{Error, Kid, laws};
 use krates_lookups::lookup::{Lookup, lookup_of};
 use krates_lookups::sorted::in_order;
+use krates_questions::basis::Basis;
 use std::alloc::{AllocError, Global};
 
 /// What is kept of a document that was admitted with these ids: exactly what has a derivation from the roots by the rules.
@@ -72,15 +74,16 @@ pub fn select_in<'a>(
     }
     let krates = in_order(kids_at(alloc, &lookup.ids.nodes, found.krates.numbers())?)?;
     let features = in_order(features_at(alloc, lookup, found.features.numbers())?)?;
-    let Found {
-        edges,
-        toggled,
-        trace,
-        ..
-    } = found;
+    let basis = Basis {
+        alloc,
+        lookup,
+        setting,
+    };
+    let edges = kept_edges(&basis, &found.edges)?;
+    let Found { toggled, trace, .. } = found;
     Ok(Selection {
         krates,
-        edges: in_order(edges)?,
+        edges,
         features,
         toggled: in_order(toggled)?,
         steps: trace,

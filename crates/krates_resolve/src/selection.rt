@@ -24,24 +24,20 @@ pub struct Selection {
 
 /// A kept edge: one dependency of a kept crate, of one kind and for one target.
 ///
-/// Edges are compared by parent, child and place: of one document these determine the edge.
+/// Parent, child and place determine an edge of one document, and by these edges are in order.
 #[derive(Debug, Drop)]
-#[derive_where(PartialEq, Eq, PartialOrd, Ord)]
 pub struct KeptEdge {
     /// The crate that has the dependency.
     pub parent: Kid,
     /// The crate that it depends on.
     pub child: Kid,
     /// Its kind.
-    #[derive_where(skip(EqHashOrd))]
     pub kind: DependencyKind,
     /// The target that it is needed for, as the document writes it.
-    #[derive_where(skip(EqHashOrd))]
     pub cfg: Option<String>,
     /// The first place of this kind and target in the `dep_kinds` of the node's dependency.
     pub place: usize,
     /// The place of the declared dependency in the list of the parent's package.
-    #[derive_where(skip(EqHashOrd))]
     pub declared: usize,
 }
 

@@ -5,7 +5,9 @@ use Rattle.krates_rules.specs.Facts.{Id, Feature}
 use Rattle.krates_resolve.specs.Found.{HaveNumbers, IsEnabled}
 use Rattle.krates_lookups.specs.ListedFeatures.{listed_features}
 use Rattle.krates_lookups.specs.Lookup.{resolved_view}
-use Rattle.krates_resolve.specs.Selection.{feature_fact}
+use Rattle.krates_resolve.specs.FoundEdge.{found_view}
+use Rattle.krates_resolve.specs.Selection.{edge_view, feature_fact}
+use Rattle.krates_resolve.specs.declared.found_edge.FoundEdge.{FoundEdge}
 use Rattle.krates_resolve.specs.declared.selection.Selection.{Selection}
 use Rattle.krates_resolve.proofs.CountedSelection.{AreMoved, IsCountedWhole, counts_each}
 use Rattle.krates_lookups.proofs.NodeParts.{nodes_long}
@@ -36,27 +38,27 @@ returns-clause-selected c =
     let ids = look.ids.now.nodes.items in
     let kids = c.in_ok-kids_at.field-0.items in
     let enabled = c.in_ok-features_at.field-0.items in
-    let x : Selection = record { krates = c.in_ok-krates.krates; edges = c.in_ok-in_order.field-0; features = c.in_ok-features.features; toggled = c.in_ok-in_order-2.field-0; steps = found.trace; work = c.saturate.new.work } in
+    let x : Selection = record { krates = c.in_ok-krates.krates; edges = c.in_ok-edges.edges; features = c.in_ok-features.features; toggled = c.in_ok-in_order.field-0; steps = found.trace; work = c.saturate.new.work } in
     let at_nodes = subst (λ (is : List Identity). AreAt is c.numbers-2.result.now kids) c.deref.ensures.value c.in_ok-kids_at.ensures in
     let features_there = subst (λ (ns : List ℕ). (i : Id) (f : Text) → IsEnabled r ns i f ↔ Contains (map feature_fact enabled) (Feature i f)) c.numbers-3.ensures.put c.in_ok-features_at.ensures.each in
     let whole : IsWhole r s ids found kids enabled = record {
       none_doubled = h.distinct;
       reads = h.ids.nodes;
       exact = c.in_ok-found.ensures.exact;
-      placed = c.in_ok-found.ensures.sound.placed;
       krates = subst (λ (ps : List ℕ). AreAt ids ps kids) c.numbers-2.ensures.put at_nodes;
       features = features_there;
       some = subst (λ (ps : List ℕ). 0 < length ps) c.numbers.ensures.put (has_element c.numbers.result.now c.if-is_empty.ensures);
     } in
-    let order : IsInOrder found kids enabled x = record {
+    let order : IsInOrder r s found kids enabled x = record {
       krates = record { from = c.in_ok-krates.ensures.from; kept = c.in_ok-krates.ensures.kept };
       krates_rise = c.in_ok-krates.ensures.ascending;
-      edges = record { from = c.in_ok-in_order.ensures.from; kept = c.in_ok-in_order.ensures.kept };
-      edges_rise = c.in_ok-in_order.ensures.ascending;
+      edges = λ e. subst (λ (es : List FoundEdge). Contains (map found_view es) e ↔ Contains (map edge_view x.edges.items) e) c.deref-2.ensures.value (c.in_ok-edges.ensures.same e);
+      edges_placed = c.in_ok-edges.ensures.placed;
+      edges_rise = c.in_ok-edges.ensures.ascending;
       features = record { from = c.in_ok-features.ensures.from; kept = c.in_ok-features.ensures.kept };
       features_rise = c.in_ok-features.ensures.ascending;
-      toggled = record { from = c.in_ok-in_order-2.ensures.from; kept = c.in_ok-in_order-2.ensures.kept };
-      toggled_rise = c.in_ok-in_order-2.ensures.ascending;
+      toggled = record { from = c.in_ok-in_order.ensures.from; kept = c.in_ok-in_order.ensures.kept };
+      toggled_rise = c.in_ok-in_order.ensures.ascending;
     } in
     let numbered = subst (λ (ns : List ℕ). HaveNumbers r ns enabled) c.numbers-3.ensures.put c.in_ok-features_at.ensures.numbers in
     let counted : IsCountedWhole r s ids found kids enabled x.work = record {

@@ -1,0 +1,52 @@
+-- What is in order by number is in order by what the numbers stand for.
+use Rattle.std.proofs.Common.{◌≡◌, ℕ, ◌<◌, List, [], ◌∷◌, length, get_or, Ordering, Less, Equal, Greater, Some, sym, ap, ◌∙◌, inl, inr, subst, refl}
+use Rattle.std.proofs.lemmas.Bool.{cases_order}
+use Rattle.std.proofs.lemmas.Cmp.{nat_cmp_total}
+use Rattle.std.proofs.lemmas.Map.Keys.{Less-from_sorted}
+use Rattle.std.proofs.lemmas.Option.{get_or_from_slice_get, slice_get_within}
+use Rattle.std.specs.Cmp.{IsTotalOrder, nat_cmp_is}
+use Rattle.std.specs.List.{AllByRecursion, AllZip, slice_get}
+use Rattle.std.specs.List.Sorted.{IsStrictlySortedBy}
+use Rattle.std.specs.Ordering.{nat_cmp, ordering_reverse}
+
+same_equal : (r : Ordering) → r ≡ ordering_reverse r → r ≡ Equal
+same_equal Less h = absurd cc
+same_equal Equal h = refl
+same_equal Greater h = absurd cc
+
+equal_self : {K : Type 0} {R : K → K → Ordering} → IsTotalOrder R → (x : K) → R x x ≡ Equal
+equal_self {K} {R} o x = same_equal (R x x) (o.antisymm x x)
+
+nat_less : (m n : ℕ) → m < n → nat_cmp m n ≡ Less
+nat_less m n lt = sym (nat_cmp_is m n Less lt)
+
+places_compare : {K : Type 0} {R : K → K → Ordering} → IsTotalOrder R → (xs : List K) (d : K) → IsStrictlySortedBy R xs → (m n : ℕ) → m < length xs → n < length xs → R (get_or xs m d) (get_or xs n d) ≡ nat_cmp m n
+places_compare {K} {R} o xs d sorted m n lm ln = elim (cases_order m n) [
+  | inl e ↦ subst (λ k. R (get_or xs m d) (get_or xs k d) ≡ nat_cmp m k) e (equal_self o (get_or xs m d) ∙ sym (equal_self nat_cmp_total m))
+  | inr r ↦ elim r [
+    | inl l ↦ Less-from_sorted R xs m n d sorted l ln ∙ sym (nat_less m n l)
+    | inr l ↦ o.antisymm (get_or xs m d) (get_or xs n d) ∙ ap ordering_reverse (Less-from_sorted R xs n m d sorted l lm ∙ sym (nat_less n m l)) ∙ sym (nat_cmp_total.antisymm m n)
+  ]
+]
+
+-- what stands in a list in order compares as its places
+pub compared_by_place : {K : Type 0} {R : K → K → Ordering} → IsTotalOrder R → (xs : List K) → IsStrictlySortedBy R xs → (x y : K) (m n : ℕ) → slice_get xs m ≡ Some x → slice_get xs n ≡ Some y → R x y ≡ nat_cmp m n
+compared_by_place {K} {R} o xs sorted x y m n at_m at_n =
+    let same = places_compare o xs x sorted m n (slice_get_within xs m x at_m) (slice_get_within xs n y at_n) in
+    ap (R x) (sym (get_or_from_slice_get xs n y x at_n)) ∙ ap (λ z. R z (get_or xs n x)) (sym (get_or_from_slice_get xs m x x at_m)) ∙ same
+
+all_below : {A B : Type 0} (R : A → A → Ordering) (S : B → B → Ordering) (P : A → B → Type 0) → ((a c : A) (b d : B) → P a b → P c d → S b d ≡ R a c) → (x : A) (y : B) (xs : List A) (ys : List B) → P x y → AllZip P xs ys
+    → AllByRecursion (λ c. R x c ≡ Less) xs → AllByRecursion (λ d. S y d ≡ Less) ys
+all_below R S P same x y [] [] p z h = tt
+all_below R S P same x y [] (b ∷ ys) p z h = absurd z
+all_below R S P same x y (a ∷ xs) [] p z h = absurd z
+all_below R S P same x y (a ∷ xs) (b ∷ ys) p z h = (same x a y b p z.0 ∙ h.0, all_below R S P same x y xs ys p z.1 h.1)
+
+-- lists whose items compare alike are in order alike
+pub sorted_zip : {A B : Type 0} (R : A → A → Ordering) (S : B → B → Ordering) (P : A → B → Type 0) → ((a c : A) (b d : B) → P a b → P c d → S b d ≡ R a c) → (xs : List A) (ys : List B) → AllZip P xs ys → IsStrictlySortedBy R xs
+    → IsStrictlySortedBy S ys
+unfolding IsStrictlySortedBy
+sorted_zip R S P same [] [] z h = tt
+sorted_zip R S P same [] (b ∷ ys) z h = absurd z
+sorted_zip R S P same (a ∷ xs) [] z h = absurd z
+sorted_zip R S P same (a ∷ xs) (b ∷ ys) z h = (all_below R S P same a b xs ys z.0 z.1 h.0, sorted_zip R S P same xs ys z.1 h.1)

@@ -1,0 +1,42 @@
+-- Found edges by the numbers of their crates, and copies of them.
+use Rattle.std.specs.Prelude.{◌≡◌, ℕ, Some, map, slice_get}
+use Rattle.krates_lookups.specs.Lookup.{resolved_view}
+use Rattle.krates_lookups.specs.declared.lookup.Lookup.{Lookup}
+use Rattle.krates_rules.specs.Facts.{Id}
+use Rattle.krates_rules.specs.Resolved.{NodeAt, Resolved, id_of}
+use Rattle.krates_resolve.specs.FoundEdge.{found_view}
+use Rattle.krates_resolve.specs.Selection.{edge_view}
+use Rattle.krates_resolve.specs.declared.found_edge.FoundEdge.{FoundEdge}
+use Rattle.krates_resolve.specs.declared.kept_edges.NumberedEdge.{NumberedEdge}
+use Rattle.krates_resolve.specs.declared.selection.KeptEdge.{KeptEdge}
+
+-- the nodes of its crates stand where the edge says
+pub record StandAtNodes (r : Resolved) (e : FoundEdge) : Type 0 where
+  pub parent : NodeAt r (id_of e.parent.now) e.parent_node
+  pub child : NodeAt r (id_of e.child.now) e.child_node
+
+-- the number is that of the id
+abbrev pub IsNumberOfId : Lookup → Id → ℕ → Type 0
+IsNumberOfId d i number = slice_get (map id_of d.table.ids.items) number ≡ Some i
+
+-- it is that of the crate whose node stands at the place
+abbrev pub IsNumberOfNode : Lookup → ℕ → ℕ → Type 0
+IsNumberOfNode d place number = (i : Id) → NodeAt (resolved_view d) i place → IsNumberOfId d i number
+
+-- the edge has its numbers beside it
+pub record IsNumbered (d : Lookup) (e : FoundEdge) (n : NumberedEdge) : Type 0 where
+  pub edge : n.edge ≡ e
+  pub place : n.place ≡ e.place
+  pub parent : IsNumberOfId d (id_of e.parent.now) n.parent
+  pub child : IsNumberOfId d (id_of e.child.now) n.child
+
+-- the kept edge says what the found one does
+pub record HasCopied (e : FoundEdge) (k : KeptEdge) : Type 0 where
+  pub edge : edge_view k ≡ found_view e
+  pub parent : k.parent ≡ e.parent.now
+  pub child : k.child ≡ e.child.now
+  pub place : k.place ≡ e.place
+  pub declared : k.declared ≡ e.declared
+
+abbrev pub IsCopyOf : NumberedEdge → KeptEdge → Type 0
+IsCopyOf n k = HasCopied n.edge k
