@@ -1,20 +1,22 @@
--- What is in order by number is in order by what the numbers stand for.
-use Rattle.std.proofs.Common.{◌≡◌, ℕ, ◌<◌, List, [], ◌∷◌, length, get_or, Ordering, Less, Equal, Greater, Some, sym, ap, ◌∙◌, inl, inr, subst, refl}
+-- What is in order by number is in order by what the numbers stand for; lists related item by item.
+use Rattle.std.proofs.Common.{◌≡◌, ℕ, ◌<◌, ◌≤◌, ◌+◌, List, [], ◌∷◌, ◌++◌, length, get_or, map, take, Ordering, Less, Equal, Greater, Some, sym, ap, ◌∙◌, inl, inr, subst, refl}
 use Rattle.std.proofs.lemmas.Bool.{cases_order}
 use Rattle.std.proofs.lemmas.Cmp.{nat_cmp_total}
+use Rattle.std.proofs.lemmas.List.{map-id, take_all}
 use Rattle.std.proofs.lemmas.Map.Keys.{Less-from_sorted}
 use Rattle.std.proofs.lemmas.Option.{get_or_from_slice_get, slice_get_within}
 use Rattle.std.specs.Cmp.{IsTotalOrder, nat_cmp_is}
 use Rattle.std.specs.List.{AllByRecursion, AllZip, slice_get}
 use Rattle.std.specs.List.Sorted.{IsStrictlySortedBy}
 use Rattle.std.specs.Ordering.{nat_cmp, ordering_reverse}
+use Rattle.krates_document.proofs.Zips.{zip_next}
 
 same_equal : (r : Ordering) → r ≡ ordering_reverse r → r ≡ Equal
 same_equal Less h = absurd cc
 same_equal Equal h = refl
 same_equal Greater h = absurd cc
 
-equal_self : {K : Type 0} {R : K → K → Ordering} → IsTotalOrder R → (x : K) → R x x ≡ Equal
+pub equal_self : {K : Type 0} {R : K → K → Ordering} → IsTotalOrder R → (x : K) → R x x ≡ Equal
 equal_self {K} {R} o x = same_equal (R x x) (o.antisymm x x)
 
 nat_less : (m n : ℕ) → m < n → nat_cmp m n ≡ Less
@@ -50,3 +52,14 @@ sorted_zip R S P same [] [] z h = tt
 sorted_zip R S P same [] (b ∷ ys) z h = absurd z
 sorted_zip R S P same (a ∷ xs) [] z h = absurd z
 sorted_zip R S P same (a ∷ xs) (b ∷ ys) z h = (all_below R S P same a b xs ys z.0 z.1 h.0, sorted_zip R S P same xs ys z.1 h.1)
+
+-- ---- item by item
+
+-- one more item
+pub zip_more : {A B : Type 0} (R : A → B → Type 0) (xs : List A) (i : ℕ) (x : A) (ys : List B) (y : B) → i < length xs → x ≡ get_or xs i x → R x y → AllZip R (take i xs) ys → AllZip R (take (i + 1) xs) (ys ++ y ∷ [])
+zip_more R xs i x ys y lt is here so_far =
+    subst (λ zs. AllZip R zs (ys ++ y ∷ [])) (map-id (take (i + 1) xs)) (zip_next R (λ x. x) xs i x ys y lt is here (subst (λ zs. AllZip R zs ys) (sym (map-id (take i xs))) so_far))
+
+-- all items
+pub zip_whole : {A B : Type 0} (R : A → B → Type 0) (xs : List A) (i : ℕ) (ys : List B) → length xs ≤ i → AllZip R (take i xs) ys → AllZip R xs ys
+zip_whole R xs i ys le h = subst (λ zs. AllZip R zs ys) (take_all i xs le) h

@@ -1,75 +1,34 @@
 -- Edges that are ordered by the numbers of their crates, and copied.
 use Rattle.std.proofs.Common.{◌≡◌, ◌↔◌, ◌&&◌, ◌==◌, ℕ, ◌<◌, ◌≤◌, ◌+◌, List, [], ◌∷◌, ◌++◌, Bool, Option, Ordering, true, length, get_or, map, take, All, Contains, None, Some, refl, sym, ap, ◌∙◌, subst, eqb-true, rules}
-use Rattle.std.proofs.lemmas.List.{map-id, take_all}
 use Rattle.std.proofs.lemmas.List.Elements.{All-contains, Contains-append_right}
 use Rattle.std.proofs.lemmas.Option.{same_Some}
-use Rattle.std.specs.Cmp.{IsTotalOrder}
-use Rattle.std.specs.Cmp.Rules.{comparing}
 use Rattle.std.specs.List.{AllZip, slice_get}
 use Rattle.std.specs.List.Sorted.{IsStrictlySortedBy}
 use Rattle.std.specs.Ordering.{nat_cmp, ordering_then}
 use Rattle.krates_cm.specs.Document.{DepKindInfoModel, NodeDepModel}
 use Rattle.krates_ids.specs.Identity.{Identity, id_cmp}
-use Rattle.krates_lookups.specs.Lookup.{IsLookup, IsNumberIn, resolved_view}
+use Rattle.krates_lookups.specs.Lookup.{IsLookup, resolved_view}
 use Rattle.krates_lookups.specs.declared.lookup.Lookup.{Lookup}
 use Rattle.krates_rules.specs.Admission.{NoneDoubled}
 use Rattle.krates_rules.specs.Facts.{Edge, Id}
 use Rattle.krates_rules.specs.Questions.{edge_between, kind_info_of}
-use Rattle.krates_rules.specs.Referent.{id_order}
 use Rattle.krates_rules.specs.Resolved.{HasDep, HasNode, Resolved, id_of}
 use Rattle.krates_rules.specs.Setting.{SettingModel}
 use Rattle.krates_resolve.specs.FoundEdge.{IsFoundEdge, found_view}
-use Rattle.krates_resolve.specs.KeptEdges.{HasCopied, IsCopyOf, IsNumbered, IsNumberOfId, IsNumberOfNode}
+use Rattle.krates_resolve.specs.KeptEdges.{HasCopied, IsCopyOf, IsNumbered}
 use Rattle.krates_resolve.specs.Selection.{IsPlaced, IsPlacedAs, edge_view}
 use Rattle.krates_resolve.specs.SelectionOrder.{place_cmp}
 use Rattle.krates_resolve.specs.declared.found_edge.FoundEdge.{FoundEdge}
 use Rattle.krates_resolve.specs.declared.kept_edges.NumberedEdge.{NumberedEdge}
 use Rattle.krates_resolve.specs.declared.selection.KeptEdge.{KeptEdge}
 use Rattle.krates_rules.proofs.OnlyOne.{one_dep, place_in}
-use Rattle.krates_document.proofs.Zips.{zip_next}
-use Rattle.krates_lookups.proofs.NodeNumbers.{node_numbered}
-use Rattle.krates_lookups.proofs.NodeParts.{node_here, nodes_long}
-use Rattle.krates_rules.proofs.Readings.{ReadsOnce, left_of, right_of}
+use Rattle.krates_rules.proofs.Readings.{left_of, right_of}
 use Rattle.krates_rules.proofs.Standings.{contains_at}
-use Rattle.krates_resolve.proofs.ByNumber.{compared_by_place, sorted_zip}
-use Rattle.krates_resolve.proofs.LinkLemmas.{there_is}
+use Rattle.krates_resolve.proofs.ByNumber.{sorted_zip}
+use Rattle.krates_resolve.proofs.NodeNumber.{ids_compare, one_id}
 use Rattle.krates_resolve.proofs.Selected.{both, contains_image, contains_or, contains_source}
 
--- ---- item by item
-
--- one more item
-pub zip_more : {A B : Type 0} (R : A → B → Type 0) (xs : List A) (i : ℕ) (x : A) (ys : List B) (y : B) → i < length xs → x ≡ get_or xs i x → R x y → AllZip R (take i xs) ys → AllZip R (take (i + 1) xs) (ys ++ y ∷ [])
-zip_more R xs i x ys y lt is here so_far =
-    subst (λ zs. AllZip R zs (ys ++ y ∷ [])) (map-id (take (i + 1) xs)) (zip_next R (λ x. x) xs i x ys y lt is here (subst (λ zs. AllZip R zs ys) (sym (map-id (take i xs))) so_far))
-
--- all items
-pub zip_whole : {A B : Type 0} (R : A → B → Type 0) (xs : List A) (i : ℕ) (ys : List B) → length xs ≤ i → AllZip R (take i xs) ys → AllZip R xs ys
-zip_whole R xs i ys le h = subst (λ zs. AllZip R zs ys) (take_all i xs le) h
-
--- ---- the number of a node
-
--- the crate of a node has a number
-pub node_has_number : ReadsOnce → (d : Lookup) (place : ℕ) (number : Option ℕ) → IsLookup d → place < length (resolved_view d).graph.nodes → number ≡ get_or d.table.node_numbers.items place number → number ≡ None → ⊥
-node_has_number once d place number h lt is none =
-    let nodes = d.ids.now.nodes.items in
-    let kid = there_is nodes place (subst (λ (m : ℕ). place < m) (nodes_long d h).0 lt) in
-    let at = node_here (resolved_view d) nodes place kid.0 h.ids.nodes kid.1 in
-    let nothing : IsNumberIn d (id_of kid.0) None = subst (IsNumberIn d (id_of kid.0)) none (node_numbered once d place (id_of kid.0) number h at is) in
-    let among = place_in (map id_of d.table.ids.items) (id_of kid.0) (h.table.nodes.among kid.0 (contains_at nodes place kid.0 kid.1)) in
-    nothing among.0 among.1
-
-pub number_told : ReadsOnce → (d : Lookup) (place : ℕ) (answer : Option ℕ) (number : ℕ) → IsLookup d → answer ≡ get_or d.table.node_numbers.items place answer → answer ≡ Some number → IsNumberOfNode d place number
-number_told once d place answer number h is some i at = subst (IsNumberIn d i) some (node_numbered once d place i answer h at is)
-
 -- ---- the order
-
--- ids are in one order
-ids_total : IsTotalOrder id_order
-ids_total = search (comparing, rules) depth 9
-
--- ids compare as their numbers
-ids_compare : (d : Lookup) (a b : Identity) (m n : ℕ) → IsLookup d → IsNumberOfId d (id_of a) m → IsNumberOfId d (id_of b) n → id_cmp a b ≡ nat_cmp m n
-ids_compare d a b m n h at_a at_b = compared_by_place ids_total (map id_of d.table.ids.items) h.table.numbered (id_of a) (id_of b) m n at_a at_b
 
 -- how numbered edges compare
 abbrev pub numbered_cmp : NumberedEdge → NumberedEdge → Ordering
@@ -90,9 +49,6 @@ edges_compare d h a c b e p q =
     ∙ ap (λ o. ordering_then (nat_cmp a.parent c.parent) (ordering_then (nat_cmp a.child c.child) o)) places
 
 -- ---- edges with one number are one
-
-one_id : (d : Lookup) (i j : Id) (m n : ℕ) → IsNumberOfId d i m → IsNumberOfId d j n → m ≡ n → i ≡ j
-one_id d i j m n at_i at_j e = same_Some i j (sym at_i ∙ ap (slice_get (map id_of d.table.ids.items)) e ∙ at_j)
 
 one_edge : (r : Resolved) (s : SettingModel) (a b : Edge) (m n k l : ℕ) → NoneDoubled r.metadata r.graph → IsPlacedAs r s a m k → IsPlacedAs r s b n l → a.parent ≡ b.parent → a.child ≡ b.child → k ≡ l → b ≡ a
 one_edge r s a b m n k l none x y parent child place =

@@ -11,9 +11,11 @@ pub mod Growing
 pub mod Growth
 pub mod Heedings
 pub mod KeptEdges
+pub mod KeptFeatures
 pub mod KeptSteps
 pub mod KindOrder
 pub mod LinkLemmas
+pub mod NodeNumber
 pub mod Putting
 pub mod Referred
 pub mod Rooted

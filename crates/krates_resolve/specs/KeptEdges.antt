@@ -1,10 +1,9 @@
 -- Found edges by the numbers of their crates, and copies of them.
-use Rattle.std.specs.Prelude.{◌≡◌, ℕ, Some, map, slice_get}
-use Rattle.krates_lookups.specs.Lookup.{resolved_view}
+use Rattle.std.specs.Prelude.{◌≡◌}
 use Rattle.krates_lookups.specs.declared.lookup.Lookup.{Lookup}
-use Rattle.krates_rules.specs.Facts.{Id}
 use Rattle.krates_rules.specs.Resolved.{NodeAt, Resolved, id_of}
 use Rattle.krates_resolve.specs.FoundEdge.{found_view}
+use Rattle.krates_resolve.specs.NodeNumber.{IsNumberOfId}
 use Rattle.krates_resolve.specs.Selection.{edge_view}
 use Rattle.krates_resolve.specs.declared.found_edge.FoundEdge.{FoundEdge}
 use Rattle.krates_resolve.specs.declared.kept_edges.NumberedEdge.{NumberedEdge}
@@ -14,14 +13,6 @@ use Rattle.krates_resolve.specs.declared.selection.KeptEdge.{KeptEdge}
 pub record StandAtNodes (r : Resolved) (e : FoundEdge) : Type 0 where
   pub parent : NodeAt r (id_of e.parent.now) e.parent_node
   pub child : NodeAt r (id_of e.child.now) e.child_node
-
--- the number is that of the id
-abbrev pub IsNumberOfId : Lookup → Id → ℕ → Type 0
-IsNumberOfId d i number = slice_get (map id_of d.table.ids.items) number ≡ Some i
-
--- it is that of the crate whose node stands at the place
-abbrev pub IsNumberOfNode : Lookup → ℕ → ℕ → Type 0
-IsNumberOfNode d place number = (i : Id) → NodeAt (resolved_view d) i place → IsNumberOfId d i number
 
 -- the edge has its numbers beside it
 pub record IsNumbered (d : Lookup) (e : FoundEdge) (n : NumberedEdge) : Type 0 where

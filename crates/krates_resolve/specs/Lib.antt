@@ -5,8 +5,10 @@ pub mod Found
 pub mod FoundEdge
 pub mod Heeding
 pub mod KeptEdges
+pub mod KeptFeatures
 pub mod Kinds
 pub mod Links
+pub mod NodeNumber
 pub mod Saturation
 pub mod Selection
 pub mod SelectionOrder

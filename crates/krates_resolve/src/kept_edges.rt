@@ -1,16 +1,17 @@
 //! The kept edges in order, as a selection has them.
 
-ghost use Rattle.std.specs.Prelude.{◌↔◌, ◌<◌, All, Contains, IfOk, length, map};
+ghost use Rattle.std.specs.Prelude.{◌↔◌, All, Contains, IfOk, map};
 ghost use Rattle.std.specs.List.{AllZip};
 ghost use Rattle.std.specs.List.Sorted.{IsStrictlySortedBy};
 ghost use Rattle.krates_lookups.specs.Lookup.{IsLookup, resolved_view};
 ghost use Rattle.krates_resolve.specs.FoundEdge.{IsFoundEdge, found_view};
-ghost use Rattle.krates_resolve.specs.KeptEdges.{HasCopied, IsCopyOf, IsNumbered, IsNumberOfNode, StandAtNodes};
+ghost use Rattle.krates_resolve.specs.KeptEdges.{HasCopied, IsCopyOf, IsNumbered, StandAtNodes};
 ghost use Rattle.krates_resolve.specs.Selection.{IsPlaced, edge_view};
 ghost use Rattle.krates_resolve.specs.SelectionOrder.{place_cmp};
 ghost use Rattle.krates_rules.specs.Facts.{Edge};
 
 use crate::found_edge::FoundEdge;
+use crate::node_number::number_of_node;
 use crate::selection::KeptEdge;
 use krates_ids::laws;
 use krates_lookups::lookup::Lookup;
@@ -84,19 +85,6 @@ fn numbered_edge<'a>(lookup: &Lookup<'a>, edge: &FoundEdge<'a>) -> NumberedEdge<
         place: edge.place,
         edge: *edge,
     }
-}
-
-/// The number of the crate whose node stands at a place.
-fn number_of_node(lookup: &Lookup<'_>, place: usize) -> usize
-    requires lookup { IsLookup lookup.now }
-    requires within { place < length (resolved_view lookup.now).graph.nodes }
-    ensures { IsNumberOfNode lookup.now place result }
-{
-    laws::one_reading();
-    let Some(number) = lookup.table.node_numbers[place] else {
-        unreachable!()
-    };
-    number
 }
 
 /// Copies of the edges.

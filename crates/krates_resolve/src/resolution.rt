@@ -5,9 +5,7 @@ ghost use Rattle.std.specs.Prelude.{◌≡◌, ◌<◌, All, IfOk, IfErr, Some, 
 ghost use Rattle.krates_cm.specs.Document.{metadata_view};
 ghost use Rattle.krates_rules.specs.Admission.{IsAdmitted};
 ghost use Rattle.krates_resolve.specs.Explained.{IsExplained, IsExplainedOf};
-ghost use Rattle.krates_resolve.specs.Found.{HasEach, HaveNumbers};
 ghost use Rattle.krates_document.specs.Ids.{ids_view};
-ghost use Rattle.krates_lookups.specs.ListedFeatures.{listed_features};
 ghost use Rattle.krates_lookups.specs.Lookup.{IsLookup, resolved_view};
 ghost use Rattle.krates_resolve.specs.Selection.{IsSelection, IsSelectionOf, RefusesSelection};
 ghost use Rattle.krates_rules.specs.Questions.{questions};
@@ -15,8 +13,9 @@ ghost use Rattle.krates_rules.specs.SelectionRefusals.{SelectionRefusal};
 
 use crate::found::Found;
 use crate::kept_edges::kept_edges;
+use crate::kept_features::kept_features;
 use crate::saturation::saturate;
-use crate::selection::{EnabledFeature, Selection};
+use crate::selection::Selection;
 use crate::work::Work;
 use krates_cm::Metadata;
 use krates_document::ids::Ids;
@@ -73,7 +72,7 @@ pub fn select_in<'a>(
         return Err(Error::NoRootKrates);
     }
     let krates = in_order(kids_at(alloc, &lookup.ids.nodes, found.krates.numbers())?)?;
-    let features = in_order(features_at(alloc, lookup, found.features.numbers())?)?;
+    let features = kept_features(alloc, lookup, found.features.numbers())?;
     let basis = Basis {
         alloc,
         lookup,
@@ -89,29 +88,6 @@ pub fn select_in<'a>(
         steps: trace,
         work,
     })
-}
-
-/// The listed features of these numbers.
-fn features_at<'a>(
-    alloc: Global,
-    lookup: &Lookup<'a>,
-    numbers: &[usize],
-) -> Result<Vec<EnabledFeature>, AllocError>
-    requires lookup { IsLookup lookup.now }
-    requires within { All (λ n. n < length (listed_features (resolved_view lookup.now))) numbers.now }
-    ensures each { IfOk result (λ list. HasEach (resolved_view lookup.now) numbers.now list.items) }
-    ensures numbers { IfOk result (λ list. HaveNumbers (resolved_view lookup.now) numbers.now list.items) }
-{
-    laws::one_reading();
-    let mut list = Vec::new(alloc);
-    for number in numbers {
-        let feature = lookup.features.listed[*number];
-        list.push(EnabledFeature {
-            krate: lookup.ids.nodes[feature.place].clone()?,
-            name: String::from_str(alloc, feature.name)?,
-        })?;
-    }
-    Ok(list)
 }
 
 /// The ids at these places of a list.

@@ -42,7 +42,7 @@ pub struct KeptEdge {
 }
 
 /// An enabled feature of a kept crate.
-#[derive(Debug, Drop, PartialEq, Eq, PartialOrd, Ord)]
+#[derive(Debug, Drop)]
 pub struct EnabledFeature {
     /// The crate.
     pub krate: Kid,

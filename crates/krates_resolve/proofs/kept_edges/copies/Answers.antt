@@ -1,7 +1,7 @@
 use Rattle.std.proofs.Common.{◌+◌, sym, subst, take, arith}
 use Rattle.std.specs.List.{AllZip}
 use Rattle.krates_resolve.specs.KeptEdges.{IsCopyOf}
-use Rattle.krates_resolve.proofs.KeptEdges.{zip_more, zip_whole}
+use Rattle.krates_resolve.proofs.ByNumber.{zip_more, zip_whole}
 use Rattle.krates_resolve.proofs.kept_edges.copies.Goals as goal
 
 pub loop-numbered-preserved : goal.loop-numbered-preserved

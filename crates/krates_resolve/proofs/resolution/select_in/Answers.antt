@@ -22,8 +22,8 @@ kids_at-requires c =
     let below = subst (λ (n : ℕ). All (λ p. p < n) found.krates.put) long c.numbers-2.ensures.orderly.below in
     subst (λ (places : List ℕ). All (λ p. p < length c.deref.result.now) places) (sym c.numbers-2.ensures.put) below
 
-pub features_at-requires-clause-within : goal.features_at-requires-clause-within
-features_at-requires-clause-within c =
+pub kept_features-requires-clause-within : goal.kept_features-requires-clause-within
+kept_features-requires-clause-within c =
     let found = c.in_ok-found.found in
     let below = subst (λ (n : ℕ). All (λ p. p < n) found.features.put) c.in_ok-found.ensures.sound.features_size c.numbers-3.ensures.orderly.below in
     subst (λ (numbers : List ℕ). All (λ p. p < length (listed_features (resolved_view c.args.lookup.now))) numbers) (sym c.numbers-3.ensures.put) below
@@ -37,10 +37,11 @@ returns-clause-selected c =
     let found = c.in_ok-found.found in
     let ids = look.ids.now.nodes.items in
     let kids = c.in_ok-kids_at.field-0.items in
-    let enabled = c.in_ok-features_at.field-0.items in
+    let features = c.in_ok-features.ensures in
+    let enabled = features.enabled in
     let x : Selection = record { krates = c.in_ok-krates.krates; edges = c.in_ok-edges.edges; features = c.in_ok-features.features; toggled = c.in_ok-in_order.field-0; steps = found.trace; work = c.saturate.new.work } in
     let at_nodes = subst (λ (is : List Identity). AreAt is c.numbers-2.result.now kids) c.deref.ensures.value c.in_ok-kids_at.ensures in
-    let features_there = subst (λ (ns : List ℕ). (i : Id) (f : Text) → IsEnabled r ns i f ↔ Contains (map feature_fact enabled) (Feature i f)) c.numbers-3.ensures.put c.in_ok-features_at.ensures.each in
+    let features_there = subst (λ (ns : List ℕ). (i : Id) (f : Text) → IsEnabled r ns i f ↔ Contains (map feature_fact enabled) (Feature i f)) c.numbers-3.ensures.put features.each in
     let whole : IsWhole r s ids found kids enabled = record {
       none_doubled = h.distinct;
       reads = h.ids.nodes;
@@ -55,12 +56,12 @@ returns-clause-selected c =
       edges = λ e. subst (λ (es : List FoundEdge). Contains (map found_view es) e ↔ Contains (map edge_view x.edges.items) e) c.deref-2.ensures.value (c.in_ok-edges.ensures.same e);
       edges_placed = c.in_ok-edges.ensures.placed;
       edges_rise = c.in_ok-edges.ensures.ascending;
-      features = record { from = c.in_ok-features.ensures.from; kept = c.in_ok-features.ensures.kept };
-      features_rise = c.in_ok-features.ensures.ascending;
+      features = record { from = features.from; kept = features.kept };
+      features_rise = features.ascending;
       toggled = record { from = c.in_ok-in_order.ensures.from; kept = c.in_ok-in_order.ensures.kept };
       toggled_rise = c.in_ok-in_order.ensures.ascending;
     } in
-    let numbered = subst (λ (ns : List ℕ). HaveNumbers r ns enabled) c.numbers-3.ensures.put c.in_ok-features_at.ensures.numbers in
+    let numbered = subst (λ (ns : List ℕ). HaveNumbers r ns enabled) c.numbers-3.ensures.put features.numbered in
     let counted : IsCountedWhole r s ids found kids enabled x.work = record {
       none_doubled = h.distinct;
       reads = h.ids.nodes;
@@ -71,7 +72,7 @@ returns-clause-selected c =
       own = c.in_ok-found.ensures.sound.own;
       counted = c.in_ok-found.ensures.counted;
     } in
-    let moved : AreMoved kids x.krates.items enabled x.features.items = record { krates_moved = c.in_ok-krates.ensures.whole; features_moved = c.in_ok-features.ensures.whole } in
+    let moved : AreMoved kids x.krates.items enabled x.features.items = record { krates_moved = c.in_ok-krates.ensures.whole; features_moved = features.whole } in
     let counts = counts_each c.comparison.ensures.equality r s ids found kids x.krates.items enabled x.features.items x.work counted moved in
     selected c.one_reading.ensures.once c.comparison.ensures.equality r s ids found kids enabled x whole order counts
 

@@ -1,6 +1,6 @@
 use Rattle.krates_lookups.proofs.NodeNumbers.{node_number_within}
-use Rattle.krates_resolve.proofs.KeptEdges.{node_has_number, number_told}
-use Rattle.krates_resolve.proofs.kept_edges.number_of_node.Goals as goal
+use Rattle.krates_resolve.proofs.NodeNumber.{node_has_number, number_told}
+use Rattle.krates_resolve.proofs.node_number.number_of_node.Goals as goal
 
 pub index-requires : goal.index-requires
 index-requires c = node_number_within c.args.lookup.now c.args.place c.requires.lookup c.requires.within
