@@ -16,6 +16,10 @@ use Rattle.krates_cm.specs.declared.read_error.ReadError.TheVariants as read_err
 abbrev pub IsDocument : Text → MetadataModel → Type 0
 IsDocument text m = (d : Data) × (read text ≡ Some d) × ((metadata [] d).value ≡ Some m)
 
+-- The text isn't JSON, or its data isn't metadata.
+abbrev pub IsNoDocument : Text → Type 0
+IsNoDocument text = (m : MetadataModel) → IsDocument text m → ⊥
+
 -- The text isn't JSON, or its data isn't metadata, by a fault that is true of it. Memory may always run out.
 abbrev pub IsRefusal : Text → Error → Type 0
 IsRefusal text (errors.Json e) = read text ≡ None

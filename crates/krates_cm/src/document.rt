@@ -1,31 +1,40 @@
 //! How a document is read from its text.
 
-ghost use Rattle.std.specs.Prelude.{◌≡◌, [], Some, IfSome, IfOk, IfErr};
+ghost use Rattle.std.specs.Prelude.{◌≡◌, [], IfOk, IfErr, MatchOption, option_map};
 ghost use Rattle.krates_cm.specs.Document.{metadata_view};
-ghost use Rattle.krates_cm.specs.Parsing.{IsDocument, IsRefusal};
+ghost use Rattle.krates_cm.specs.Parsing.{IsDocument, IsNoDocument, IsRefusal};
 ghost use Rattle.krates_cm.specs.Tables.{metadata};
 
 use crate::error::Error;
 use crate::metadata::Metadata;
 use crate::read::from_value::FromValue;
+use crate::read_error::ReadError;
 use json::Scratch;
 use krates_json::{JsonRef, Parsed};
 use serde_json::Value;
-use std::alloc::Global;
+use std::alloc::{AllocError, Global};
 
-/// Reads a document from its JSON value; `None` where it is refused.
-fn metadata_of<J: JsonRef>(alloc: Global, value: J) -> Option<Metadata>
-    ensures { IfSome result (λ m. (metadata [] (J.meaning value)).value ≡ Some (metadata_view m)) }
+/// Reads a document from its JSON value; `None` exactly where it is refused. Returns `AllocError` if memory runs out.
+fn metadata_of<J: JsonRef>(alloc: Global, value: J) -> Result<Option<Metadata>, AllocError>
+    ensures { IfOk result (λ found. option_map metadata_view found ≡ (metadata [] (J.meaning value)).value) }
 {
-    Metadata::from_json_at(alloc, value, "").ok()
+    match Metadata::from_json_at(alloc, value, "") {
+        Ok(metadata) => Ok(Some(metadata)),
+        Err(ReadError::Memory) => Err(AllocError),
+        Err(_) => Ok(None),
+    }
 }
 
-/// Reads a document whose texts stay where they stand until they are copied; `None` where it is refused.
-fn parse_in_place(alloc: Global, text: &str) -> Option<Metadata>
-    ensures { IfSome result (λ m. IsDocument text.now (metadata_view m)) }
+/// Reads a document whose texts stay where they stand until they are copied; `None` exactly where it is refused. Returns
+/// `AllocError` if memory runs out.
+fn parse_in_place(alloc: Global, text: &str) -> Result<Option<Metadata>, AllocError>
+    ensures { IfOk result (λ found. MatchOption found (IsNoDocument text.now)
+        (λ m. IsDocument text.now (metadata_view m))) }
 {
     let mut scratch = Scratch::new(alloc);
-    let parsed = Parsed::parse(alloc, text, &mut scratch).ok()??;
+    let Some(parsed) = Parsed::parse(alloc, text, &mut scratch)? else {
+        return Ok(None);
+    };
     metadata_of(alloc, parsed.root())
 }
 
@@ -44,7 +53,7 @@ pub fn parse(alloc: Global, text: &str) -> Result<Metadata, Error>
     ensures document { IfOk result (λ m. IsDocument text.now (metadata_view m)) }
     ensures refused { IfErr result (IsRefusal text.now) }
 {
-    if let Some(metadata) = parse_in_place(alloc, text) {
+    if let Some(metadata) = parse_in_place(alloc, text)? {
         return Ok(metadata);
     }
     // Why it is refused, `serde_json` and its values tell.

@@ -1,6 +1,6 @@
 //! Reading JSON texts.
 
-ghost use Rattle.std.specs.Prelude.{◌≡◌, ⊤, Some, IfOk, MatchOption};
+ghost use Rattle.std.specs.Prelude.{◌≡◌, IfOk, option_map};
 ghost use Rattle.serde_json.specs.Read.{read};
 ghost use Rattle.krates_json.specs.Views.{parsed_data, borrowed_data};
 
@@ -14,14 +14,14 @@ use std::alloc::{AllocError, Global};
 const MAX_DEPTH: usize = 127;
 
 impl<'t> Parsed<'t> {
-    /// Reads a text that `serde_json` reads too, as the same data; `None` where a text isn't seen to be one. Returns
-    /// `AllocError` if memory runs out. Time O(n) in the length of the text.
+    /// Reads a text as `serde_json` does: the same data, and `None` exactly where it reads none. Returns `AllocError` if memory
+    /// runs out. Time O(n) in the length of the text.
     pub fn parse(
         alloc: Global,
         text: &'t str,
         scratch: &'t mut Scratch,
     ) -> Result<Option<Parsed<'t>>, AllocError>
-        ensures { IfOk result (λ found. MatchOption found ⊤ (λ p. read text.now ≡ Some (parsed_data p))) }
+        ensures { IfOk result (λ found. option_map parsed_data found ≡ read text.now) }
     {
         let mut reader = Reader::new(text, scratch)?;
         let tree = match Tree::read(alloc, &mut reader, MAX_DEPTH) {

@@ -1,9 +1,9 @@
 //! Numbers that `serde_json` reads: an integer of 64 bits, or a number whose nearest float is finite.
 
-ghost use Rattle.std.specs.Prelude.{◌≡◌, ◌<◌, ◌==◌, IsTrue, length, slice_index};
+ghost use Rattle.std.specs.Prelude.{◌≡◌, ◌↔◌, ◌<◌, ◌==◌, true, false, IsTrue, is_some, length, slice_index};
 ghost use Rattle.fast_float.specs.Text.{minus};
 ghost use Rattle.json.specs.Value.{value_view, items_view, members_view};
-ghost use Rattle.serde_json.specs.Read.{number_of};
+ghost use Rattle.serde_json.specs.Read.{number_from};
 ghost use Rattle.krates_json.specs.Readable.{IsInRange, AreItemsInRange, AreMembersInRange, IsNumberInRange};
 
 use fast_float::Numeral;
@@ -12,7 +12,7 @@ use json::Value as Tree;
 /// Whether each number of a value is in range.
 #[cycle(range)]
 pub(crate) fn is_in_range(tree: &Tree<'_>) -> bool
-    ensures { IsTrue result → IsInRange (value_view tree.now) }
+    ensures { IsTrue result ↔ IsInRange (value_view tree.now) }
 {
     match tree {
         Tree::Number(text) => is_number_in_range(text),
@@ -25,7 +25,7 @@ pub(crate) fn is_in_range(tree: &Tree<'_>) -> bool
 /// Whether each number of these items is in range.
 #[cycle(range)]
 fn are_items_in_range(items: &Vec<Tree<'_>>) -> bool
-    ensures { IsTrue result → AreItemsInRange (items_view items.now.items) }
+    ensures { IsTrue result ↔ AreItemsInRange (items_view items.now.items) }
 {
     for item in items {
         if !is_in_range(item) {
@@ -38,7 +38,7 @@ fn are_items_in_range(items: &Vec<Tree<'_>>) -> bool
 /// Whether each number of these members is in range.
 #[cycle(range)]
 fn are_members_in_range(members: &Vec<(&str, Tree<'_>)>) -> bool
-    ensures { IsTrue result → AreMembersInRange (members_view members.now.items) }
+    ensures { IsTrue result ↔ AreMembersInRange (members_view members.now.items) }
 {
     for member in members {
         if !is_in_range(&member.1) {
@@ -48,16 +48,30 @@ fn are_members_in_range(members: &Vec<(&str, Tree<'_>)>) -> bool
     true
 }
 
-/// Whether a number is in range. The float of an integer of 64 bits is finite too.
+/// Whether a number is in range.
 fn is_number_in_range(text: &str) -> bool
-    ensures { IsTrue result → IsNumberInRange text.now }
+    ensures { IsTrue result ↔ IsNumberInRange text.now }
 {
     let bytes = text.as_bytes();
     if has_minus(bytes) {
-        Numeral::scan(&bytes[1..]).to_float::<f64>(true).is_finite()
+        is_negative_in_range(&Numeral::scan(&bytes[1..]))
     } else {
-        Numeral::scan(bytes).to_float::<f64>(false).is_finite()
+        is_unsigned_in_range(&Numeral::scan(bytes))
     }
+}
+
+/// Whether a number without a sign is in range. The float of an integer of 64 bits is finite too, so that is asked last.
+fn is_unsigned_in_range(numeral: &Numeral<'_>) -> bool
+    ensures { result ≡ is_some (number_from false numeral.now) }
+{
+    numeral.to_float::<f64>(false).is_finite() || numeral.to_u64().is_some()
+}
+
+/// The same of a number behind a minus. `-0` is a float.
+fn is_negative_in_range(numeral: &Numeral<'_>) -> bool
+    ensures { result ≡ is_some (number_from true numeral.now) }
+{
+    numeral.to_float::<f64>(true).is_finite() || numeral.to_i64(true).is_some_and(|n| n < 0)
 }
 
 /// Whether a number has a sign.
