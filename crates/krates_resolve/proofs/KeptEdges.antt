@@ -1,12 +1,12 @@
 -- Edges that are ordered by the numbers of their crates, and copied.
-use Rattle.std.proofs.Common.{◌≡◌, ◌↔◌, ◌&&◌, ◌==◌, ℕ, ◌<◌, ◌≤◌, ◌+◌, List, [], ◌∷◌, ◌++◌, Bool, Option, Ordering, true, length, get_or, map, take, All, Contains, None, Some, refl, sym, ap, ◌∙◌, subst, eqb-true, rules}
+use Rattle.std.proofs.Common.{◌≡◌, ◌↔◌, ◌&&◌, ◌==◌, ℕ, List, [], ◌∷◌, Bool, Ordering, true, get_or, map, All, Contains, refl, sym, ap, ◌∙◌, subst, eqb-true}
 use Rattle.std.proofs.lemmas.List.Elements.{All-contains, Contains-append_right}
 use Rattle.std.proofs.lemmas.Option.{same_Some}
 use Rattle.std.specs.List.{AllZip, slice_get}
 use Rattle.std.specs.List.Sorted.{IsStrictlySortedBy}
 use Rattle.std.specs.Ordering.{nat_cmp, ordering_then}
 use Rattle.krates_cm.specs.Document.{DepKindInfoModel, NodeDepModel}
-use Rattle.krates_ids.specs.Identity.{Identity, id_cmp}
+use Rattle.krates_ids.specs.Identity.{id_cmp}
 use Rattle.krates_lookups.specs.Lookup.{IsLookup, resolved_view}
 use Rattle.krates_lookups.specs.declared.lookup.Lookup.{Lookup}
 use Rattle.krates_rules.specs.Admission.{NoneDoubled}
