@@ -15,7 +15,8 @@ use Rattle.krates_rules.proofs.Standings.{contains_at}
 use Rattle.krates_lookups.specs.CrateTable.{Among, AreNumbered, IsIndex, IsNumberOf, IsPlaceOf, at_number}
 use Rattle.krates_lookups.proofs.SeenInOrder.{equal_self}
 
-id_order_total : IsTotalOrder id_order
+-- ids are in one order
+pub id_order_total : IsTotalOrder id_order
 id_order_total = then_total (on_total (λ (i : Id). i.name) nat_list_cmp_total) (then_total (on_total (λ (i : Id). i.version) nat_list_cmp_total) (on_total (λ (i : Id). i.source) nat_list_cmp_total))
 
 not_before : (ids : List Id) (m n : ℕ) (i : Id) → AreNumbered ids → slice_get ids m ≡ Some i → slice_get ids n ≡ Some i → m < n → ⊥
@@ -26,7 +27,7 @@ not_before ids m n i sorted at other lt =
     absurd (cc (less, equal))
 
 -- an id has only one number
-one_number : (ids : List Id) (m n : ℕ) (i : Id) → AreNumbered ids → slice_get ids m ≡ Some i → slice_get ids n ≡ Some i → m ≡ n
+pub one_number : (ids : List Id) (m n : ℕ) (i : Id) → AreNumbered ids → slice_get ids m ≡ Some i → slice_get ids n ≡ Some i → m ≡ n
 one_number ids m n i sorted at other = elim (cases_order m n) [
   | inl e ↦ e
   | inr r ↦ elim r [

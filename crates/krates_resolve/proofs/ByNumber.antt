@@ -1,5 +1,5 @@
 -- What is in order by number is in order by what the numbers stand for; lists related item by item.
-use Rattle.std.proofs.Common.{◌≡◌, ℕ, ◌<◌, ◌≤◌, ◌+◌, List, [], ◌∷◌, ◌++◌, length, get_or, map, take, Ordering, Less, Equal, Greater, Some, sym, ap, ◌∙◌, inl, inr, subst, refl}
+use Rattle.std.proofs.Common.{◌≡◌, ℕ, ◌<◌, ◌≤◌, ◌+◌, List, [], ◌∷◌, ◌++◌, length, get_or, take, Ordering, Less, Some, sym, ap, ◌∙◌, inl, inr, subst}
 use Rattle.std.proofs.lemmas.Bool.{cases_order}
 use Rattle.std.proofs.lemmas.Cmp.{nat_cmp_total}
 use Rattle.std.proofs.lemmas.List.{map-id, take_all}
@@ -10,14 +10,7 @@ use Rattle.std.specs.List.{AllByRecursion, AllZip, slice_get}
 use Rattle.std.specs.List.Sorted.{IsStrictlySortedBy}
 use Rattle.std.specs.Ordering.{nat_cmp, ordering_reverse}
 use Rattle.krates_document.proofs.Zips.{zip_next}
-
-same_equal : (r : Ordering) → r ≡ ordering_reverse r → r ≡ Equal
-same_equal Less h = absurd cc
-same_equal Equal h = refl
-same_equal Greater h = absurd cc
-
-pub equal_self : {K : Type 0} {R : K → K → Ordering} → IsTotalOrder R → (x : K) → R x x ≡ Equal
-equal_self {K} {R} o x = same_equal (R x x) (o.antisymm x x)
+use Rattle.krates_lookups.proofs.SeenInOrder.{equal_self}
 
 nat_less : (m n : ℕ) → m < n → nat_cmp m n ≡ Less
 nat_less m n lt = sym (nat_cmp_is m n Less lt)

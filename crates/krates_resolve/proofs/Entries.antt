@@ -1,20 +1,20 @@
 -- What an edge of an entry gives, by its declared dependency and its child.
 use Rattle.std.proofs.Common.{◌≡◌, ◌⊎◌, ℕ, [], ◌∷◌, Bool, true, false, sym, subst, inl, inr}
-use Rattle.krates_cm.specs.Document.{DependencyModel, DepKindInfoModel, node_dep_view}
+use Rattle.krates_cm.specs.Document.{DependencyModel, DepKindInfoModel}
 use Rattle.krates_rules.specs.Admission.{NoneDoubled}
-use Rattle.krates_rules.specs.DeclaredDependency.{FirstAt, IsDeclared}
+use Rattle.krates_rules.specs.DeclaredDependency.{IsDeclared}
 use Rattle.krates_rules.specs.Derivation.{Derivable, follows, Among}
 use Rattle.krates_rules.specs.Facts.{Edge, Fact, LostPackage, LostNode, Undeclared, Crate, Kept, Lost}
 use Rattle.krates_resolve.specs.Found.{HasFound, IsTried, MayTry, IsRequired, TakenWhen}
 use Rattle.krates_lookups.specs.NodeEntry.{child_of, declared_in, entry_of, IsEntry, edge_for}
-use Rattle.krates_rules.specs.Questions.{Stands, LacksNode, IsDeclaredAt, IsWanted, IsLoose, kind_info_of, questions, IsLeftOut}
+use Rattle.krates_rules.specs.Questions.{Stands, LacksNode, IsWanted, IsLoose, questions, IsLeftOut}
 use Rattle.krates_rules.specs.Resolved.{Resolved, NoPackage}
 use Rattle.krates_rules.specs.Rules.{Questions, required, target, lost_undeclared, lost_required_package, lost_required_node}
 use Rattle.krates_resolve.specs.declared.found.Found.{Found}
 use Rattle.krates_lookups.specs.declared.node_entry.NodeEntry.{NodeEntry}
 use Rattle.krates_rules.specs.Setting.{SettingModel, IsIgnored, Passes}
 use Rattle.krates_rules.proofs.Standings.{not_included}
-use Rattle.krates_questions.proofs.Entries.{Heeds, not_loose, wanted_one}
+use Rattle.krates_questions.proofs.Entries.{not_loose, wanted_one}
 
 -- ---- the edge has been tried
 

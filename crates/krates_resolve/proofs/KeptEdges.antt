@@ -1,12 +1,12 @@
 -- Edges that are ordered by the numbers of their crates, and copied.
-use Rattle.std.proofs.Common.{◌≡◌, ◌↔◌, ◌&&◌, ◌==◌, ℕ, ◌<◌, ◌≤◌, ◌+◌, List, [], ◌∷◌, ◌++◌, Bool, Option, Ordering, true, length, get_or, map, take, All, Contains, None, Some, refl, sym, ap, ◌∙◌, subst, eqb-true, rules}
+use Rattle.std.proofs.Common.{◌≡◌, ◌↔◌, ◌&&◌, ◌==◌, ℕ, List, [], ◌∷◌, Bool, Ordering, true, get_or, map, All, Contains, refl, sym, ap, ◌∙◌, subst, eqb-true}
 use Rattle.std.proofs.lemmas.List.Elements.{All-contains, Contains-append_right}
 use Rattle.std.proofs.lemmas.Option.{same_Some}
 use Rattle.std.specs.List.{AllZip, slice_get}
 use Rattle.std.specs.List.Sorted.{IsStrictlySortedBy}
 use Rattle.std.specs.Ordering.{nat_cmp, ordering_then}
 use Rattle.krates_cm.specs.Document.{DepKindInfoModel, NodeDepModel}
-use Rattle.krates_ids.specs.Identity.{Identity, id_cmp}
+use Rattle.krates_ids.specs.Identity.{id_cmp}
 use Rattle.krates_lookups.specs.Lookup.{IsLookup, resolved_view}
 use Rattle.krates_lookups.specs.declared.lookup.Lookup.{Lookup}
 use Rattle.krates_rules.specs.Admission.{NoneDoubled}
@@ -15,7 +15,7 @@ use Rattle.krates_rules.specs.Questions.{edge_between, kind_info_of}
 use Rattle.krates_rules.specs.Resolved.{HasDep, HasNode, Resolved, id_of}
 use Rattle.krates_rules.specs.Setting.{SettingModel}
 use Rattle.krates_resolve.specs.FoundEdge.{IsFoundEdge, found_view}
-use Rattle.krates_resolve.specs.KeptEdges.{HasCopied, IsCopyOf, IsNumbered}
+use Rattle.krates_resolve.specs.KeptEdges.{AreInOrder, HasCopied, IsCopyOf, IsNumbered}
 use Rattle.krates_resolve.specs.Selection.{IsPlaced, IsPlacedAs, edge_view}
 use Rattle.krates_resolve.specs.SelectionOrder.{place_cmp}
 use Rattle.krates_resolve.specs.declared.found_edge.FoundEdge.{FoundEdge}
@@ -98,7 +98,7 @@ found_of d found numbered n z c =
     (f.0, contains_at found at.0 f.0 f.1, f.2)
 
 -- the found edge of a kept one
-pub source_of : (d : Lookup) (s : SettingModel) (found : List FoundEdge) (numbered sorted : List NumberedEdge) (kept : List KeptEdge) (k : KeptEdge) → AreOrdered d s found numbered sorted kept → Contains kept k
+source_of : (d : Lookup) (s : SettingModel) (found : List FoundEdge) (numbered sorted : List NumberedEdge) (kept : List KeptEdge) (k : KeptEdge) → AreOrdered d s found numbered sorted kept → Contains kept k
     → (f : FoundEdge) × Contains found f × HasCopied f k
 source_of d s found numbered sorted kept k o c =
     let at = place_in kept k c in
@@ -120,7 +120,7 @@ kept_of d s found numbered sorted kept f o c =
     let one = one_numbered d s f g.0 n.0 m.0 o.lookup (All-contains (IsFoundEdge r s) found f o.found_right c) (All-contains (IsFoundEdge r s) found g.0 o.found_right g.1) n.2 g.2 m.2 in
     (k.0, contains_at kept there.0 k.0 k.1, k.2.edge ∙ ap found_view g.2.edge ∙ one)
 
-pub kept_same : (d : Lookup) (s : SettingModel) (found : List FoundEdge) (numbered sorted : List NumberedEdge) (kept : List KeptEdge) → AreOrdered d s found numbered sorted kept → (e : Edge)
+kept_same : (d : Lookup) (s : SettingModel) (found : List FoundEdge) (numbered sorted : List NumberedEdge) (kept : List KeptEdge) → AreOrdered d s found numbered sorted kept → (e : Edge)
     → Contains (map found_view found) e ↔ Contains (map edge_view kept) e
 kept_same d s found numbered sorted kept o e = (forth, back)
   where
@@ -136,7 +136,7 @@ kept_same d s found numbered sorted kept o e = (forth, back)
         let f = source_of d s found numbered sorted kept k.0 o k.1 in
         subst (Contains (map found_view found)) (sym f.2.edge ∙ k.2) (contains_image found_view found f.0 f.1)
 
-pub kept_placed : (d : Lookup) (s : SettingModel) (found : List FoundEdge) (numbered sorted : List NumberedEdge) (kept : List KeptEdge) → AreOrdered d s found numbered sorted kept → All (IsPlaced (resolved_view d) s) kept
+kept_placed : (d : Lookup) (s : SettingModel) (found : List FoundEdge) (numbered sorted : List NumberedEdge) (kept : List KeptEdge) → AreOrdered d s found numbered sorted kept → All (IsPlaced (resolved_view d) s) kept
 kept_placed d s found numbered sorted kept o k z lt = here (get_or kept k z) (contains_or kept k z lt)
   where
     here : (e : KeptEdge) → Contains kept e → IsPlaced (resolved_view d) s e
@@ -164,6 +164,14 @@ numbered_copies d found numbered sorted kept z from copied = beside_copies d sor
     n_right : (n : NumberedEdge) → ((f : FoundEdge) × Contains found f × IsNumbered d f n) → IsNumbered d n.edge n
     n_right n f = subst (λ (e : FoundEdge). IsNumbered d e n) (sym f.2.edge) f.2
 
-pub kept_ascending : (d : Lookup) (s : SettingModel) (found : List FoundEdge) (numbered sorted : List NumberedEdge) (kept : List KeptEdge) → AreOrdered d s found numbered sorted kept → IsStrictlySortedBy place_cmp kept
+kept_ascending : (d : Lookup) (s : SettingModel) (found : List FoundEdge) (numbered sorted : List NumberedEdge) (kept : List KeptEdge) → AreOrdered d s found numbered sorted kept → IsStrictlySortedBy place_cmp kept
 kept_ascending d s found numbered sorted kept o =
     sorted_zip numbered_cmp place_cmp (IsNumberedCopy d) (edges_compare d o.lookup) sorted kept (numbered_copies d found numbered sorted kept o.numbered_right o.from o.copied) o.ascending
+
+-- the kept edges are in order
+pub kept_in_order : (d : Lookup) (s : SettingModel) (found : List FoundEdge) (numbered sorted : List NumberedEdge) (kept : List KeptEdge) → AreOrdered d s found numbered sorted kept → AreInOrder (resolved_view d) s found kept
+kept_in_order d s found numbered sorted kept o = record {
+  same = kept_same d s found numbered sorted kept o;
+  ascending = kept_ascending d s found numbered sorted kept o;
+  placed = kept_placed d s found numbered sorted kept o;
+}

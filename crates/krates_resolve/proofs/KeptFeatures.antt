@@ -1,21 +1,17 @@
 -- Features that are ordered by the numbers of their crates.
-use Rattle.std.proofs.Common.{◌≡◌, ◌&&◌, ◌==◌, ◌<◌, ℕ, List, [], ◌∷◌, Bool, Ordering, true, false, String, length, get_or, map, All, Contains, Some, refl, sym, ap, ◌∙◌, subst, eqb-true, arith}
-use Rattle.std.proofs.lemmas.Bool.{eqb-false}
+use Rattle.std.proofs.Common.{◌≡◌, ◌&&◌, ◌==◌, ℕ, List, [], ◌∷◌, Bool, Ordering, true, false, map, All, Contains, refl, sym, ap, ◌∙◌, subst}
 use Rattle.std.proofs.lemmas.List.Elements.{All-contains, Contains-append_right}
 use Rattle.std.proofs.lemmas.List.Sorted.{IsPermutation-map}
-use Rattle.std.specs.List.{AllByRecursion, AllZip, IsDistinct, slice_get}
+use Rattle.std.specs.List.{AllByRecursion, AllZip, IsDistinct}
 use Rattle.std.specs.List.Sorted.{IsPermutation, IsStrictlySortedBy}
 use Rattle.std.specs.Ordering.{nat_cmp, ordering_then}
-use Rattle.krates_ids.specs.Identity.{Identity, id_cmp, same_id}
 use Rattle.krates_lookups.specs.Lookup.{IsLookup, resolved_view}
 use Rattle.krates_lookups.specs.declared.lookup.Lookup.{Lookup}
-use Rattle.krates_rules.specs.Resolved.{id_of}
 use Rattle.krates_resolve.specs.Found.{HasEach, HaveNumbers}
 use Rattle.krates_resolve.specs.KeptFeatures.{AreSorted, HasItsNumber, as_feature}
 use Rattle.krates_resolve.specs.SelectionOrder.{feature_cmp, same_feature, same_text, text_cmp}
 use Rattle.krates_resolve.specs.declared.kept_features.NumberedFeature.{NumberedFeature}
 use Rattle.krates_resolve.specs.declared.selection.EnabledFeature.{EnabledFeature}
-use Rattle.krates_document.proofs.DistinctIds.{id_of_same}
 use Rattle.krates_rules.proofs.Standings.{contains_at}
 use Rattle.krates_resolve.proofs.ByNumber.{sorted_zip}
 use Rattle.krates_resolve.proofs.NodeNumber.{ids_compare, ids_equal}

@@ -1,24 +1,22 @@
 -- The numbers of crates, and their order.
-use Rattle.std.proofs.Common.{◌≡◌, ◌<◌, ◌==◌, ℕ, Bool, Option, Ordering, Less, Equal, Greater, true, false, length, get_or, map, None, Some, refl, sym, ap, ◌∙◌, subst, rules, eq-eqb, eqb-true}
+use Rattle.std.proofs.Common.{◌≡◌, ◌<◌, ◌==◌, ℕ, Bool, Option, true, false, length, get_or, map, None, Some, refl, sym, ap, ◌∙◌, subst, eq-eqb, eqb-true}
 use Rattle.std.proofs.lemmas.Option.{same_Some}
-use Rattle.std.specs.Cmp.{IsTotalOrder, ranks}
-use Rattle.std.specs.Cmp.Rules.{comparing}
 use Rattle.std.specs.List.{slice_get}
-use Rattle.std.specs.Ordering.{MatchOrdering, nat_cmp}
+use Rattle.std.specs.Ordering.{nat_cmp}
 use Rattle.krates_ids.specs.Identity.{Identity, id_cmp, same_id}
 use Rattle.krates_lookups.specs.Lookup.{IsLookup, IsNumberIn, resolved_view}
 use Rattle.krates_lookups.specs.declared.lookup.Lookup.{Lookup}
 use Rattle.krates_rules.specs.Facts.{Id}
-use Rattle.krates_rules.specs.Referent.{id_order}
 use Rattle.krates_rules.specs.Resolved.{id_of}
 use Rattle.krates_resolve.specs.NodeNumber.{IsNumberOfId, IsNumberOfNode}
 use Rattle.krates_document.proofs.DistinctIds.{id_of_same, same_of}
 use Rattle.krates_lookups.proofs.NodeNumbers.{node_numbered}
 use Rattle.krates_lookups.proofs.NodeParts.{node_here, nodes_long}
+use Rattle.krates_lookups.proofs.NumberedPlaces.{id_order_total, one_number}
 use Rattle.krates_rules.proofs.OnlyOne.{place_in}
 use Rattle.krates_rules.proofs.Readings.{ReadsOnce}
 use Rattle.krates_rules.proofs.Standings.{contains_at}
-use Rattle.krates_resolve.proofs.ByNumber.{compared_by_place, equal_self}
+use Rattle.krates_resolve.proofs.ByNumber.{compared_by_place}
 use Rattle.krates_resolve.proofs.LinkLemmas.{there_is}
 use Rattle.krates_resolve.proofs.Selected.{EqualityTellsSame}
 
@@ -39,28 +37,13 @@ number_told once d place answer number h is some i at = subst (IsNumberIn d i) s
 
 -- ---- their order
 
--- ids are in one order
-ids_total : IsTotalOrder id_order
-ids_total = search (comparing, rules) depth 9
-
 -- ids compare as their numbers
 pub ids_compare : (d : Lookup) (a b : Identity) (m n : ℕ) → IsLookup d → IsNumberOfId d (id_of a) m → IsNumberOfId d (id_of b) n → id_cmp a b ≡ nat_cmp m n
-ids_compare d a b m n h at_a at_b = compared_by_place ids_total (map id_of d.table.ids.items) h.table.numbered (id_of a) (id_of b) m n at_a at_b
+ids_compare d a b m n h at_a at_b = compared_by_place id_order_total (map id_of d.table.ids.items) h.table.numbered (id_of a) (id_of b) m n at_a at_b
 
 -- one number is that of one id
 pub one_id : (d : Lookup) (i j : Id) (m n : ℕ) → IsNumberOfId d i m → IsNumberOfId d j n → m ≡ n → i ≡ j
 one_id d i j m n at_i at_j e = same_Some i j (sym at_i ∙ ap (slice_get (map id_of d.table.ids.items)) e ∙ at_j)
-
--- one id has one number
-equal_numbers : (m n : ℕ) (r : Ordering) → r ≡ Equal → MatchOrdering r (m < n) (m ≡ n) (n < m) → m ≡ n
-equal_numbers m n Less e h = absurd cc
-equal_numbers m n Equal e h = h
-equal_numbers m n Greater e h = absurd cc
-
-one_number : (d : Lookup) (i : Id) (m n : ℕ) → IsLookup d → IsNumberOfId d i m → IsNumberOfId d i n → m ≡ n
-one_number d i m n h at_m at_n =
-    let compared = compared_by_place ids_total (map id_of d.table.ids.items) h.table.numbered i i m n at_m at_n in
-    equal_numbers m n (nat_cmp m n) (sym compared ∙ equal_self ids_total i) (ranks m n)
 
 same_truth : (p q : Bool) → (p ≡ true → q ≡ true) → (q ≡ true → p ≡ true) → p ≡ q
 same_truth true q f g = sym (f refl)
@@ -74,7 +57,7 @@ ids_equal tells d a b m n h at_a at_b = same_truth (same_id a b) (m == n) forth 
     forth : same_id a b ≡ true → (m == n) ≡ true
     forth e =
         let same : id_of a ≡ id_of b = id_of_same a b ((tells a b).0 e) in
-        eq-eqb m n (one_number d (id_of b) m n h (subst (λ (i : Id). IsNumberOfId d i m) same at_a) at_b)
+        eq-eqb m n (one_number (map id_of d.table.ids.items) m n (id_of b) h.table.numbered (subst (λ (i : Id). IsNumberOfId d i m) same at_a) at_b)
 
     back : (m == n) ≡ true → same_id a b ≡ true
     back e = (tells a b).1 (same_of a b (one_id d (id_of a) (id_of b) m n at_a at_b (eqb-true m n e)))

@@ -1,22 +1,22 @@
 -- A selection that is made of the crates, edges and features that were found.
-use Rattle.std.proofs.Common.{◌≡◌, ◌↔◌, ℕ, ◌+◌, ◌<◌, List, [], ◌∷◌, ◌++◌, length, get_or, map, take, Bool, true, false, ◌&&◌, ◌==◌, All, Contains, Some, String, option_map, inl, inr, refl, sym, ap, ◌∙◌, subst, arith, eqb-true}
+use Rattle.std.proofs.Common.{◌≡◌, ◌↔◌, ℕ, ◌+◌, ◌<◌, List, [], ◌∷◌, ◌++◌, length, get_or, map, take, Bool, true, false, ◌&&◌, ◌==◌, All, Contains, Some, String, option_map, inl, inr, refl, sym, ap, ◌∙◌, subst, arith}
 use Rattle.std.proofs.lemmas.Bool.{cases_lt, eqb-false}
 use Rattle.std.proofs.lemmas.List.{get_or_default, map-append, take_more}
-use Rattle.std.proofs.lemmas.List.Elements.{All-contains, Contains-append_left, Contains-append_right, Contains-append_cases}
-use Rattle.std.proofs.lemmas.Option.{slice_get-map, slice_get_read, same_Some}
+use Rattle.std.proofs.lemmas.List.Elements.{Contains-append_left, Contains-append_right, Contains-append_cases}
+use Rattle.std.proofs.lemmas.Option.{slice_get-map, slice_get_read}
 use Rattle.std.specs.Cmp.Lexicographic.{same_text as equal_texts}
 use Rattle.std.specs.List.{AllZip, slice_get}
 use Rattle.std.specs.List.Sorted.{IsStrictlySortedBy}
 use Rattle.std.specs.declared.alloc.Global.{Global}
-use Rattle.krates_cm.specs.Document.{Text, NodeDepModel, DepKindInfoModel, text_view}
+use Rattle.krates_cm.specs.Document.{Text, text_view}
 use Rattle.krates_ids.specs.Identity.{Identity, Reads, IsSameId, same_id, id_cmp}
 use Rattle.krates_rules.specs.Admission.{NoneDoubled, node_texts}
 use Rattle.krates_rules.specs.Derivation.{Derivable}
 use Rattle.krates_rules.specs.Facts.{Id, Edge, Fact, Crate, Feature, Kept, Toggled, Lost}
 use Rattle.krates_resolve.specs.Found.{HasFound, IsEnabled}
 use Rattle.krates_resolve.specs.FoundEdge.{found_view}
-use Rattle.krates_rules.specs.Questions.{edge_between, kind_info_of, questions}
-use Rattle.krates_rules.specs.Resolved.{Resolved, id_of, HasNode, HasDep}
+use Rattle.krates_rules.specs.Questions.{questions}
+use Rattle.krates_rules.specs.Resolved.{Resolved, id_of}
 use Rattle.krates_resolve.specs.Selection.{edge_view, crate_fact, edge_fact, feature_fact, toggled_fact, facts_of, IsPlaced, IsSelection}
 use Rattle.krates_resolve.specs.Work.{CountsEach}
 use Rattle.krates_resolve.specs.SelectionOrder.{place_cmp, same_text, same_feature, feature_cmp, same_toggled, toggled_cmp}
@@ -31,7 +31,7 @@ use Rattle.krates_document.proofs.DistinctIds.{id_of_same}
 use Rattle.krates_document.proofs.FirstPlaces.{seen_at}
 use Rattle.krates_lookups.proofs.Lookups.{one_id}
 use Rattle.krates_lookups.proofs.NodeParts.{node_here}
-use Rattle.krates_rules.proofs.OnlyOne.{place_in, one_dep}
+use Rattle.krates_rules.proofs.OnlyOne.{place_in}
 use Rattle.krates_rules.proofs.Standings.{contains_at}
 
 -- ---- elements of a mapped list

@@ -1,10 +1,14 @@
 -- Found edges by the numbers of their crates, and copies of them.
-use Rattle.std.specs.Prelude.{◌≡◌}
+use Rattle.std.specs.Prelude.{◌≡◌, ◌↔◌, List, All, Contains, map}
+use Rattle.std.specs.List.Sorted.{IsStrictlySortedBy}
 use Rattle.krates_lookups.specs.declared.lookup.Lookup.{Lookup}
+use Rattle.krates_rules.specs.Facts.{Edge}
 use Rattle.krates_rules.specs.Resolved.{NodeAt, Resolved, id_of}
+use Rattle.krates_rules.specs.Setting.{SettingModel}
 use Rattle.krates_resolve.specs.FoundEdge.{found_view}
 use Rattle.krates_resolve.specs.NodeNumber.{IsNumberOfId}
-use Rattle.krates_resolve.specs.Selection.{edge_view}
+use Rattle.krates_resolve.specs.Selection.{IsPlaced, edge_view}
+use Rattle.krates_resolve.specs.SelectionOrder.{place_cmp}
 use Rattle.krates_resolve.specs.declared.found_edge.FoundEdge.{FoundEdge}
 use Rattle.krates_resolve.specs.declared.kept_edges.NumberedEdge.{NumberedEdge}
 use Rattle.krates_resolve.specs.declared.selection.KeptEdge.{KeptEdge}
@@ -31,3 +35,9 @@ pub record HasCopied (e : FoundEdge) (k : KeptEdge) : Type 0 where
 
 abbrev pub IsCopyOf : NumberedEdge → KeptEdge → Type 0
 IsCopyOf n k = HasCopied n.edge k
+
+-- the kept edges are the found ones, in order, each once
+pub record AreInOrder (r : Resolved) (s : SettingModel) (found : List FoundEdge) (kept : List KeptEdge) : Type 0 where
+  pub same : (e : Edge) → Contains (map found_view found) e ↔ Contains (map edge_view kept) e
+  pub ascending : IsStrictlySortedBy place_cmp kept
+  pub placed : All (IsPlaced r s) kept

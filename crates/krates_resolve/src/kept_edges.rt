@@ -1,14 +1,10 @@
 //! The kept edges in order, as a selection has them.
 
-ghost use Rattle.std.specs.Prelude.{◌↔◌, All, Contains, IfOk, map};
+ghost use Rattle.std.specs.Prelude.{All, IfOk};
 ghost use Rattle.std.specs.List.{AllZip};
-ghost use Rattle.std.specs.List.Sorted.{IsStrictlySortedBy};
 ghost use Rattle.krates_lookups.specs.Lookup.{IsLookup, resolved_view};
-ghost use Rattle.krates_resolve.specs.FoundEdge.{IsFoundEdge, found_view};
-ghost use Rattle.krates_resolve.specs.KeptEdges.{HasCopied, IsCopyOf, IsNumbered, StandAtNodes};
-ghost use Rattle.krates_resolve.specs.Selection.{IsPlaced, edge_view};
-ghost use Rattle.krates_resolve.specs.SelectionOrder.{place_cmp};
-ghost use Rattle.krates_rules.specs.Facts.{Edge};
+ghost use Rattle.krates_resolve.specs.FoundEdge.{IsFoundEdge};
+ghost use Rattle.krates_resolve.specs.KeptEdges.{AreInOrder, HasCopied, IsCopyOf, IsNumbered, StandAtNodes};
 
 use crate::found_edge::FoundEdge;
 use crate::node_number::number_of_node;
@@ -43,11 +39,8 @@ pub(crate) fn kept_edges<'a>(
 ) -> Result<Vec<KeptEdge>, AllocError>
     requires lookup { IsLookup basis.now.lookup.now }
     requires found { All (IsFoundEdge (resolved_view basis.now.lookup.now) basis.now.setting.now) found.now }
-    ensures same { IfOk result (λ kept. (e : Edge) → Contains (map found_view found.now) e
-        ↔ Contains (map edge_view kept.items) e) }
-    ensures ascending { IfOk result (λ kept. IsStrictlySortedBy place_cmp kept.items) }
-    ensures placed { IfOk result (λ kept. All (IsPlaced (resolved_view basis.now.lookup.now)
-        basis.now.setting.now) kept.items) }
+    ensures { IfOk result (λ kept. AreInOrder (resolved_view basis.now.lookup.now) basis.now.setting.now
+        found.now kept.items) }
 {
     laws::comparison();
     let numbered = numbered_edges(basis.alloc, basis.lookup, found)?;

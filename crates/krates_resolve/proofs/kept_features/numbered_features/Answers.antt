@@ -1,4 +1,4 @@
-use Rattle.std.proofs.Common.{◌≡◌, ◌+◌, ◌<◌, List, [], ◌∷◌, ◌++◌, length, get_or, map, take, Some, rules, refl, sym, ap, ◌∙◌, subst, arith}
+use Rattle.std.proofs.Common.{◌≡◌, ◌+◌, ◌<◌, [], ◌∷◌, ◌++◌, length, get_or, map, take, Some, rules, refl, sym, ap, ◌∙◌, subst, arith}
 use Rattle.std.proofs.lemmas.List.{map-append}
 use Rattle.std.proofs.lemmas.List.Elements.{All-from_recursion}
 use Rattle.std.proofs.lemmas.Option.{slice_get_read}
@@ -10,7 +10,6 @@ use Rattle.krates_rules.specs.Resolved.{id_of}
 use Rattle.krates_resolve.specs.KeptFeatures.{HasItsNumber, as_feature}
 use Rattle.krates_resolve.specs.NodeNumber.{IsNumberOfId}
 use Rattle.krates_resolve.specs.declared.kept_features.NumberedFeature.{NumberedFeature}
-use Rattle.krates_resolve.specs.declared.selection.EnabledFeature.{EnabledFeature}
 use Rattle.krates_resolve.proofs.FeaturesAt.{HasNumber, HaveImages, as_they_are, itself, enabled_told, listed_long, place_within, numbered_here}
 use Rattle.krates_lookups.proofs.NodeParts.{node_here, nodes_long, within_vec}
 use Rattle.krates_document.proofs.Zips.{each_push, zip_read, zip_all}
