@@ -14,8 +14,8 @@ processor seconds, user and system, and its rows are the crates:
 The time of a process is that of its last reading, so it misses at most half a second of each. Below the table stands the time of
 all processes as the system counts it, and the time that passed.
 
-Each processor proves a crate by itself (`RT_JOBS`). Left to itself, the gate has several processors share the proof of one crate, each
-of which reads the crates below it once more: that costs more of their time than it saves of ours.
+Each processor proves a crate by itself (`RT_JOBS`). Left to itself, the gate has several processors share one proof where others would be
+idle; each of them reads the crates below once more, so that small crates cost twice their time.
 """
 import os
 import re
