@@ -1,3 +1,4 @@
+pub mod BeginningLemmas
 pub mod CheckedLemmas
 pub mod ComparisonLemmas
 pub mod CorrectedLemmas

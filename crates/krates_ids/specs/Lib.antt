@@ -1,3 +1,4 @@
+pub mod Beginning
 pub mod Correction
 pub mod ErrorTexts
 pub mod Escapes

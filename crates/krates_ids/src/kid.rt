@@ -1,16 +1,19 @@
 //! Package ids, read and compared.
 
-ghost use Rattle.std.specs.Prelude.{◌≡◌, Some};
+ghost use Rattle.std.specs.Prelude.{◌≡◌, Some, string_bytes};
 ghost use Rattle.std.proofs.Common.{rules};
 ghost use Rattle.std.specs.Cmp.{partial_order_from_own_ties};
+ghost use Rattle.std.specs.Cmp.Lexicographic.{slice_cmp};
 ghost use Rattle.std.specs.Cmp.Rules.{comparing, hashing};
-ghost use Rattle.std.specs.Ordering.{as_partial_cmp};
+ghost use Rattle.std.specs.Ordering.{as_partial_cmp, nat_cmp};
 ghost use Rattle.krates_cm.specs.Document.{id_view};
 ghost use Rattle.krates_text.specs.Cuts.{Lacks};
 ghost use Rattle.krates_ids.specs.Identity.{empty_identity, same_id, id_cmp, id_hash_input};
 ghost use Rattle.krates_ids.specs.Refusals.{Converts};
 ghost use Rattle.krates_ids.specs.Separators.{blank};
+ghost use Rattle.krates_ids.specs.Spans.{AreSpans, identity_of};
 
+use crate::beginning::beginning_of;
 use crate::cuts::has;
 use crate::escapes::{are_escapes, decoded_text};
 use crate::id_error::IdError;
@@ -33,19 +36,23 @@ use std::marker::Model;
 pub struct Kid {
     repr: String,
     parts: Parts,
+    /// How the name begins, as a number: by it alone most ids are ordered.
+    beginning: u64,
     is_opaque: bool,
 }
 
 impl Model for Kid {
     ghost use Rattle.std.specs.Prelude.{string_bytes};
+    ghost use Rattle.krates_ids.specs.Beginning.{IsBeginning};
     ghost use Rattle.krates_ids.specs.Identity.{Identity};
-    ghost use Rattle.krates_ids.specs.Spans.{AreSpans, identity_of};
+    ghost use Rattle.krates_ids.specs.Spans.{AreSpans, identity_of, part};
 
     ghost Value = { Identity };
 
     ghost view = { λ k. identity_of (string_bytes k.repr) k.parts k.is_opaque };
 
-    ghost invariant = { λ k. AreSpans (string_bytes k.repr) k.parts };
+    ghost invariant = { λ k. AreSpans (string_bytes k.repr) k.parts
+        × IsBeginning (part (string_bytes k.repr) k.parts.name) k.beginning };
 }
 
 impl TryFrom<PackageId> for Kid {
@@ -65,11 +72,7 @@ impl TryFrom<PackageId> for Kid {
             return read_stable(id);
         }
         match opaque_parts(id.repr.as_str()) {
-            Some(parts) => Ok(Kid {
-                repr: id.repr,
-                parts,
-                is_opaque: true,
-            }),
+            Some(parts) => Ok(kid_of(id.repr, parts, true)),
             None => Err(IdError::Opaque(id)),
         }
     }
@@ -85,11 +88,7 @@ fn read_stable(id: PackageId) -> Result<Kid, IdError>
     };
     let Some((front, query)) = escaped_query(pieces.left) else {
         let parts = parts_in(id.repr.as_str(), pieces);
-        return Ok(Kid {
-            repr: id.repr,
-            parts,
-            is_opaque: false,
-        });
+        return Ok(kid_of(id.repr, parts, false));
     };
     if !are_escapes(query) {
         return Err(IdError::Escape(id));
@@ -98,11 +97,21 @@ fn read_stable(id: PackageId) -> Result<Kid, IdError>
         return Err(IdError::Memory(id));
     };
     let parts = parts_in(repr.as_str(), pieces);
-    Ok(Kid {
+    Ok(kid_of(repr, parts, false))
+}
+
+/// The id of a text in which its parts stand so.
+fn kid_of(repr: String, parts: Parts, is_opaque: bool) -> Kid
+    requires { AreSpans (string_bytes repr) parts }
+    ensures { result ≡ identity_of (string_bytes repr) parts is_opaque }
+{
+    let beginning = beginning_of(part(repr.as_str(), parts.name).as_bytes());
+    Kid {
         repr,
         parts,
-        is_opaque: false,
-    })
+        beginning,
+        is_opaque,
+    }
 }
 
 impl Kid {
@@ -118,6 +127,7 @@ impl Kid {
                 version: nowhere,
                 source: nowhere,
             },
+            beginning: 0,
             is_opaque: false,
         }
     }
@@ -171,6 +181,7 @@ impl Clone for Kid {
         Ok(Kid {
             repr: self.repr.clone()?,
             parts: self.parts,
+            beginning: self.beginning,
             is_opaque: self.is_opaque,
         })
     }
@@ -202,13 +213,23 @@ impl Ord for Kid {
     ghost matches_eq = { Prim.search (comparing, rules) depth 9 };
 
     fn cmp(&self, other: &Kid) -> Ordering {
-        match self.name().cmp(&other.name()) {
+        match order_of_names(self, other) {
             Ordering::Equal => match self.version().cmp(&other.version()) {
                 Ordering::Equal => self.source().cmp(&other.source()),
                 order => order,
             },
             order => order,
         }
+    }
+}
+
+/// How the names of two ids compare by their bytes: mostly as their beginnings do.
+fn order_of_names(one: &Kid, other: &Kid) -> Ordering
+    ensures { result ≡ slice_cmp nat_cmp one.now.name other.now.name }
+{
+    match one.beginning.cmp(&other.beginning) {
+        Ordering::Equal => one.name().cmp(&other.name()),
+        order => order,
     }
 }
 

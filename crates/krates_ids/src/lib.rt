@@ -1,6 +1,7 @@
 //! Package ids: the text that cargo gives a package, taken apart into name, version and source.
 #![tactic(auto)]
 
+mod beginning;
 mod corrected_features;
 pub mod correction;
 mod cuts;

@@ -4,14 +4,14 @@ ghost use Rattle.std.specs.Prelude.{◌≡◌};
 ghost use Rattle.krates_ids.specs.Spans as spans;
 
 /// Where a piece stands in a text: from the byte `start` up to the byte `end`.
-#[derive(Clone, Copy, Debug, PartialEq, Eq)]
+#[derive(Clone, Copy, Debug)]
 pub(crate) struct Span {
     pub start: usize,
     pub end: usize,
 }
 
 /// Where the three parts of an id stand.
-#[derive(Clone, Copy, Debug, PartialEq, Eq)]
+#[derive(Clone, Copy, Debug)]
 pub(crate) struct Parts {
     pub name: Span,
     pub version: Span,

@@ -17,8 +17,8 @@ parts_in-parts-requires c =
     let form = rw c.as_str.ensures.value at c.in-Some.ensures.found in
     rw c.as_str-in_default-escaped_query.ensures.value (_, IsWithSource-written _ _ _ _ _ _ (IsUtf8-string_bytes c.args.id.repr) form c.in-Some.ensures.named)
 
-pub invariant_of-result : goal.invariant_of-result
-invariant_of-result c =
+pub kid_of-requires : goal.kid_of-requires
+kid_of-requires c =
     let form = rw c.as_str.ensures.value at c.in-Some.ensures.found in
     let gives = rw c.as_str-in_default-escaped_query.ensures.value at c.parts_in-parts.ensures in
     (ReadsAs-written c.args.id _ _ _ _ _ _ form c.in-Some.ensures.named c.in_default-escaped_query.ensures gives).0
@@ -27,7 +27,7 @@ pub returns-in_default-escaped_query : goal.returns-in_default-escaped_query
 returns-in_default-escaped_query c =
     let form = rw c.as_str.ensures.value at c.in-Some.ensures.found in
     let gives = rw c.as_str-in_default-escaped_query.ensures.value at c.parts_in-parts.ensures in
-    (ReadsAs-written c.args.id _ _ _ _ _ _ form c.in-Some.ensures.named c.in_default-escaped_query.ensures gives).1
+    rw c.kid_of.ensures ((ReadsAs-written c.args.id _ _ _ _ _ _ form c.in-Some.ensures.named c.in_default-escaped_query.ensures gives).1)
 
 pub returns-then-not-are_escapes : goal.returns-then-not-are_escapes
 returns-then-not-are_escapes c =
@@ -41,8 +41,8 @@ parts_in-parts-requires-2 c =
     let good = rw c.if-not-are_escapes.false at c.are_escapes.ensures in
     (_, IsWithSource-decoded _ _ _ _ _ _ _ _ _ (IsUtf8-string_bytes c.args.id.repr) form c.in-Some.ensures.named c.in-Some-escaped_query.ensures.0 good (c.as_str-2.ensures.value ∙ c.in-Ok.ensures))
 
-pub invariant_of-result-2 : goal.invariant_of-result-2
-invariant_of-result-2 c =
+pub kid_of-requires-2 : goal.kid_of-requires-2
+kid_of-requires-2 c =
     let form = rw c.as_str.ensures.value at c.in-Some.ensures.found in
     let good = rw c.if-not-are_escapes.false at c.are_escapes.ensures in
     let gives = rw c.as_str-2.ensures.value at c.parts_in-parts-2.ensures in
@@ -53,4 +53,4 @@ returns c =
     let form = rw c.as_str.ensures.value at c.in-Some.ensures.found in
     let good = rw c.if-not-are_escapes.false at c.are_escapes.ensures in
     let gives = rw c.as_str-2.ensures.value at c.parts_in-parts-2.ensures in
-    (ReadsAs-decoded c.args.id _ _ _ _ _ _ _ _ _ form c.in-Some.ensures.named c.in-Some-escaped_query.ensures.0 good c.in-Ok.ensures gives).1
+    rw c.kid_of-2.ensures ((ReadsAs-decoded c.args.id _ _ _ _ _ _ _ _ _ form c.in-Some.ensures.named c.in-Some-escaped_query.ensures.0 good c.in-Ok.ensures gives).1)

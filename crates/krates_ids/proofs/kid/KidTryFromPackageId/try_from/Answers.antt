@@ -7,7 +7,7 @@ use Rattle.krates_ids.proofs.kid.KidTryFromPackageId.try_from.Goals as goal
 pub returns-in-Some : goal.returns-in-Some
 returns-in-Some c =
     let marks = rw c.as_str-2.ensures.value at c.in-Some.ensures in
-    Converts-reads c.args.id _ (inl (record { form = marks.form; text_is = refl; marked = refl }))
+    rw c.kid_of.ensures (Converts-reads c.args.id _ (inl (record { form = marks.form; text_is = refl; marked = refl })))
 
 pub returns-in-None : goal.returns-in-None
 returns-in-None c =
