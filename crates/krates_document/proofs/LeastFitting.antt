@@ -1,17 +1,21 @@
 -- The least candidate that fits is the first declared dependency that fits.
-use Rattle.std.proofs.Common.{◌≡◌, ◌⊎◌, ◌↔◌, ℕ, ◌+◌, ◌<◌, ◌≤◌, List, [], ◌∷◌, ◌++◌, length, map, take, get_or, Bool, true, false, IsTrue, IfSome, Option, Some, None, Contains, option_map, slice_get, cond, nat_lt, refl, sym, ap, ◌∙◌, subst, arith, inl, inr}
+use Rattle.std.proofs.Common.{◌≡◌, ◌⊎◌, ◌↔◌, ℕ, ◌+◌, ◌<◌, ◌≤◌, List, [], ◌∷◌, ◌++◌, length, map, take, get_or, Bool, true, false, IsTrue, IfSome, Option, Some, None, Contains, option_map, slice_get, cond, nat_lt, Ordering, refl, sym, ap, ◌∙◌, subst, arith, inl, inr}
 use Rattle.std.proofs.lemmas.Bool.{cases_lt}
 use Rattle.std.proofs.lemmas.Bool.Decides.{nat_tests}
 use Rattle.std.proofs.lemmas.List.{length-map, map-append, take_all, take_more}
 use Rattle.std.proofs.lemmas.List.Elements.{Contains-append_left, Contains-append_right, Contains-append_cases, Contains-push, Contains-push_cases}
 use Rattle.std.proofs.lemmas.Option.{same_Some, slice_get-map, slice_get_within}
+use Rattle.std.proofs.lemmas.Map.Text.{is_eq-slice_cmp}
+use Rattle.std.specs.Cmp.Lexicographic.{bytes_decides}
 use Rattle.std.specs.Option.{is_some}
+use Rattle.std.specs.Ordering.{is_eq}
 use Rattle.krates_cm.specs.Document.{Text, DependencyModel, DepKindInfoModel, dependency_view}
 use Rattle.krates_cm.specs.declared.dependency.Dependency.{Dependency}
 use Rattle.krates_document.specs.DeclaredPlaces.{AreCandidates, AreDeclaredPlaces, FitsAs, FitsAt, FitsWhere, IsBelow, IsLeast, IsWantedAmong, among, entry_in, kind_in, lesser, target_key}
-use Rattle.krates_document.specs.FoldedNames.{folded, folded_byte}
+use Rattle.krates_document.specs.FoldedNames.{folded, folded_byte, folded_order}
 use Rattle.krates_document.specs.NamedPlaces.{StandsUnder, places_in}
 use Rattle.krates_document.specs.declared.declared_dependency.Candidates.{Candidates}
+use Rattle.krates_document.specs.declared.declared_dependency.Sought.{Sought}
 use Rattle.krates_document.specs.declared.declared_dependency.Wanted.{Wanted}
 use Rattle.krates_document.specs.declared.named_places.NamedPlace.{NamedPlace}
 use Rattle.krates_rules.specs.DeclaredDependency.{DependencyEntry, FirstAt, Fits, IsDeclared, IsFirstPlace, SeveralFit, declared_name}
@@ -122,6 +126,31 @@ pub under_other : (all : List NamedPlace) (name other target there : Text) (k : 
 under_other all name other target there k e f s =
     record { there = s.there; among = s.among; key = s.key ∙ ap (λ (n : Text). (n, target)) (sym e) ∙ ap (λ (t : Text). (folded other, t)) f; is = s.is }
 
+-- names of which neither comes before the other are the same once '-' counts as '_'
+tied_folded : (a b : Text) (o : Ordering) → o ≡ folded_order a b → is_eq o ≡ true → folded a ≡ folded b
+tied_folded a b o is tied = (bytes_decides (folded a) (folded b)).0 (sym (is_eq-slice_cmp (folded a) (folded b)) ∙ ap is_eq (sym is) ∙ tied)
+
+-- where the two names are the same, what stands under the first is all
+pub candidates_of_one_name : (places : List NamedPlace) (x : Sought) (all : Candidates) (o : Ordering) → o ≡ folded_order (entry_in x).dep.name (entry_in x).id.name → is_eq o ≡ true
+    → ((k : ℕ) → StandsUnder places (entry_in x).dep.name (target_key (kind_in x).target) k → Contains (places_in all.of_dep.now) k) → AreCandidates places x all
+candidates_of_one_name places x all o is tied of_dep =
+    let names = tied_folded (entry_in x).dep.name (entry_in x).id.name o is tied in
+    let target = target_key (kind_in x).target in
+    let among_all = λ (k : ℕ) (h : StandsUnder places (entry_in x).dep.name target k). Contains-append_left (places_in all.of_dep.now) (places_in all.of_package.now) k (of_dep k h) in
+    record {
+      of_dep = among_all;
+      of_package = λ k h. among_all k (under_other places (entry_in x).id.name (entry_in x).dep.name target target k names refl h);
+    }
+
+-- else what stands under both
+pub candidates_of_both : (places : List NamedPlace) (x : Sought) (all : Candidates)
+    → ((k : ℕ) → StandsUnder places (entry_in x).dep.name (target_key (kind_in x).target) k → Contains (places_in all.of_dep.now) k)
+    → ((k : ℕ) → StandsUnder places (entry_in x).id.name (target_key (kind_in x).target) k → Contains (places_in all.of_package.now) k) → AreCandidates places x all
+candidates_of_both places x all of_dep of_package = record {
+  of_dep = λ k h. Contains-append_left (places_in all.of_dep.now) (places_in all.of_package.now) k (of_dep k h);
+  of_package = λ k h. Contains-append_right (places_in all.of_dep.now) (places_in all.of_package.now) k (of_package k h);
+}
+
 fits_where : (b : Bool) (n : DependencyEntry) (k : DepKindInfoModel) (d : DependencyModel) → FitsWhere b n k d → Fits n k d
 fits_where false n k d h = h
 fits_where true n k d h = h.fits
@@ -134,10 +163,8 @@ candidate x places all k d h c at fits =
     let stands = h.each k d at in
     let target = ap target_key fits.target in
     elim fits.name [
-      | inl own ↦ Contains-append_left (places_in all.of_dep.now) (places_in all.of_package.now) k
-          (c.of_dep k (under_other places (declared_name d) n.dep.name (target_key d.target) (target_key t) k (same_folded n.dep.name (declared_name d) own) target stands))
-      | inr its ↦ Contains-append_right (places_in all.of_dep.now) (places_in all.of_package.now) k
-          (c.of_package k (under_other places (declared_name d) n.id.name (target_key d.target) (target_key t) k (same_folded n.id.name (declared_name d) its) target stands))
+      | inl own ↦ c.of_dep k (under_other places (declared_name d) n.dep.name (target_key d.target) (target_key t) k (same_folded n.dep.name (declared_name d) own) target stands)
+      | inr its ↦ c.of_package k (under_other places (declared_name d) n.id.name (target_key d.target) (target_key t) k (same_folded n.id.name (declared_name d) its) target stands)
     ]
 
 fits_among : (x : Wanted) (places : List NamedPlace) (all : Candidates) (k : ℕ) (d : DependencyModel) → AreDeclaredPlaces (map dependency_view x.declared.now) places → AreCandidates places x.sought.now all

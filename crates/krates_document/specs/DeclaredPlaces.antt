@@ -35,14 +35,14 @@ target_key target = unwrap_or target no_target
 abbrev pub AreDeclaredPlaces : List DependencyModel → List NamedPlace → Type 0
 AreDeclaredPlaces = AreNamed declared_name (λ d. target_key d.target)
 
--- each place under one of the two names that are sought, and the target, is among these
-pub record AreCandidates (places : List NamedPlace) (x : Sought) (all : Candidates) : Type 0 where
-  pub of_dep : (k : ℕ) → StandsUnder places (entry_in x).dep.name (target_key (kind_in x).target) k → Contains (places_in all.of_dep.now) k
-  pub of_package : (k : ℕ) → StandsUnder places (entry_in x).id.name (target_key (kind_in x).target) k → Contains (places_in all.of_package.now) k
-
--- all of them
+-- all candidates
 abbrev pub among : Candidates → List ℕ
 among all = places_in all.of_dep.now ++ places_in all.of_package.now
+
+-- each place under one of the two names that are sought, and the target, is among these
+pub record AreCandidates (places : List NamedPlace) (x : Sought) (all : Candidates) : Type 0 where
+  pub of_dep : (k : ℕ) → StandsUnder places (entry_in x).dep.name (target_key (kind_in x).target) k → Contains (among all) k
+  pub of_package : (k : ℕ) → StandsUnder places (entry_in x).id.name (target_key (kind_in x).target) k → Contains (among all) k
 
 -- ---- which of them is the least that fits
 

@@ -11,6 +11,7 @@ ghost use Rattle.krates_rules.specs.Resolved.{id_of};
 
 use crate::declared_source::has_source;
 use crate::dependency_name::is_name_of;
+use crate::folded_name::folded_order;
 use crate::named_places::{HasName, NamedPlace, places_under};
 use krates_cm::{DepKindInfo, Dependency, NodeDep};
 use krates_ids::Kid;
@@ -105,7 +106,7 @@ pub fn declared_of(
 struct Candidates<'a, 's> {
     /// Those under the node's name for the dependency.
     of_dep: &'s [NamedPlace<'a>],
-    /// Those under the name of its package.
+    /// Those under the name of its package, where that is another name.
     of_package: &'s [NamedPlace<'a>],
 }
 
@@ -115,7 +116,12 @@ fn candidates_of<'a, 's>(places: &'s [NamedPlace<'a>], sought: &Sought<'_>) -> C
     ensures { AreCandidates places.now sought.now result }
 {
     let target = target_text(&sought.info.target);
-    let of_dep = places_under(places, sought.dep.name.as_str(), target);
+    let name = sought.dep.name.as_str();
+    let of_dep = places_under(places, name, target);
+    if folded_order(name, sought.kid.name()).is_eq() {
+        let of_package = &places[..0];
+        return Candidates { of_dep, of_package };
+    }
     let of_package = places_under(places, sought.kid.name(), target);
     Candidates { of_dep, of_package }
 }
