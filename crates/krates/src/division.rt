@@ -66,7 +66,7 @@ fn divided(
     ensures others { IfOk result
         (λ d. d.others.items ≡ filter (λ k. not (is_selected (sheet_ids selected.now) k)) krates.items) }
 {
-    let mut kept = Vec::new(alloc);
+    let mut kept = Vec::with_capacity(alloc, selected.len())?;
     let mut others = Vec::new(alloc);
     for krate in krates {
         if has(selected, &krate.id) {

@@ -114,6 +114,7 @@ fn stored<N: FromPackage + Drop, E: FromEdge + Drop>(
     ensures refused { IfErr result (λ e. e ≡ Memory) }
 {
     let mut graph = Graph::with_limits(alloc, limits.nodes, limits.edges);
+    graph.reserve(nodes.len(), arrows.len())?;
     store_nodes(alloc, nodes, &mut graph)?;
     match store_arrows(alloc, arrows, &mut graph) {
         Ok(()) => Ok(graph),

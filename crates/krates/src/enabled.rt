@@ -35,7 +35,7 @@ fn empty_sets(alloc: Global, krates: &[Krate]) -> Result<Vec<EnabledFeatures>, A
     ensures matched { IfOk result (λ sets. length sets.items ≡ length krates.now) }
     ensures empty { IfOk result (λ sets. All (λ set. keys set ≡ []) sets.items) }
 {
-    let mut sets = Vec::new(alloc);
+    let mut sets = Vec::with_capacity(alloc, krates.len())?;
     for _krate in krates {
         sets.push(BTreeSet::new(alloc))?;
     }

@@ -29,7 +29,7 @@ pub(crate) fn parts_of(alloc: Global, spots: Vec<Spot>) -> Result<Parts, AllocEr
     ensures features { IfOk result (λ parts. parts.features.items ≡ flat_map feature_in spots.items) }
 {
     let mut mappings = Vec::new(alloc);
-    let mut features = Vec::new(alloc);
+    let mut features = Vec::with_capacity(alloc, spots.len())?;
     for spot in spots {
         push_part(spot, &mut mappings, &mut features)?;
     }

@@ -96,7 +96,7 @@ fn counts_of<'a>(
     ensures { IfOk result (λ counts. AllZip (λ i n. CountTold (as_resolved document.now)
         (id_of i) n) krates.now counts.items) }
 {
-    let mut counts = Vec::new(alloc);
+    let mut counts = Vec::with_capacity(alloc, krates.len())?;
     for krate in krates {
         counts.push(count_of(document, krate))?;
     }
@@ -112,7 +112,7 @@ fn givens_of<'a>(
     ensures { IfOk result (λ givens. AllZip (GivenTold (as_resolved document.now)) edges.now
         (map texts_view givens.items)) }
 {
-    let mut givens = Vec::new(alloc);
+    let mut givens = Vec::with_capacity(alloc, edges.len())?;
     for edge in edges {
         givens.push(given_by(alloc, document, edge)?)?;
     }
@@ -130,7 +130,7 @@ fn names_of<'a>(
         IfOk result (λ names. AllZip (MeaningsTold (as_resolved document.now) all) features.now
         (map meanings_view names.items)) }
 {
-    let mut names = Vec::new(alloc);
+    let mut names = Vec::with_capacity(alloc, features.len())?;
     for feature in features {
         names.push(meanings_by(alloc, document, setting, feature)?)?;
     }

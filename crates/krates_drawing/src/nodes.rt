@@ -124,7 +124,7 @@ pub fn draw_nodes(alloc: Global, sheet: &Sheet) -> Result<Vec<Spot>, AllocError>
     requires ordered { IsOrdered sheet.now }
     ensures { IfOk result (λ v. map spot_view v.items ≡ spots (sheet_view sheet.now)) }
 {
-    let mut out = Vec::new(alloc);
+    let mut out = Vec::with_capacity(alloc, sheet.krates.len() + sheet.features.len())?;
     push_crates(alloc, sheet, &mut out)?;
     push_features(sheet, &mut out)?;
     Ok(out)

@@ -71,7 +71,7 @@ fn chosen(
     requires within { All (λ n. n < length steps.now) part.now.chosen.items }
     ensures { IfOk result (λ kept. AreChosen keys.now steps.now part.now.chosen.items part.now.uses.items kept.items) }
 {
-    let mut kept = Vec::new(alloc);
+    let mut kept = Vec::with_capacity(alloc, part.chosen.len())?;
     for (place, number) in part.chosen.iter().enumerate() {
         kept.push(KeptStep {
             fact: fact_of(alloc, &keys[*number])?,

@@ -19,7 +19,7 @@ pub use edge_id::EdgeId;
 pub use edges_directed::{EdgeReference, EdgesDirected};
 pub use graph_error::GraphError;
 pub use node_id::NodeId;
-use std::alloc::{AllocFailed, Global};
+use std::alloc::{AllocError, AllocFailed, Global};
 use std::marker::Model;
 use std::ops::Index;
 
@@ -68,6 +68,20 @@ impl<N, E> Graph<N, E> {
             node_limit: nodes,
             edge_limit: edges,
         }
+    }
+
+    /// Makes room for this many more nodes and edges, so that those that are there needn't be moved while these are added. The graph
+    /// stays as it is; the only error is running out of memory. Time O(1), or O(nodes and edges) where they are moved.
+    ///
+    /// ```text
+    /// graph.reserve(2, 1)?;
+    /// let (a, b) = (graph.add_node("a")?, graph.add_node("b")?);
+    /// ```
+    pub fn reserve(&mut self, nodes: usize, edges: usize) -> Result<(), AllocError>
+        ensures unchanged { self.new ≡ self.old }
+    {
+        self.nodes.reserve(nodes)?;
+        self.edges.reserve(edges)
     }
 
     /// Appends a node, under the next number. `Full` comes exactly where the limit is reached, `Memory` where there

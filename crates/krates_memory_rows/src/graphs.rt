@@ -5,22 +5,23 @@ use krates_graph::graph::{Graph, GraphError, NodeId};
 use std::alloc::Global;
 use std::test::Fail;
 
-/// What is added to a graph: a node where there is none, or an edge where there is one node.
+/// What is added to a graph: a node where there is none, or an edge or room for more where there is one node.
 #[derive(Debug)]
 enum Add {
     Node,
     Edge,
+    Room,
 }
 
 /// All that may be added.
-const ADDED: &[Add] = &[Add::Node, Add::Edge];
+const ADDED: &[Add] = &[Add::Node, Add::Edge, Add::Room];
 
 impl Call for Add {
     type Given = Graph<u32, u32>;
 
     fn given(&self, alloc: Global) -> Result<Graph<u32, u32>, Fail> {
         let mut graph = Graph::with_limits(alloc, 9, 9);
-        if matches!(self, Add::Edge) {
+        if !matches!(self, Add::Node) {
             graph.add_node(7)?;
         }
         Ok(graph)
@@ -35,6 +36,7 @@ impl Call for Add {
         match self {
             Add::Node => has_node(given, little),
             Add::Edge => has_edge(given, little),
+            Add::Room => has_room(given, little),
         }
     }
 }
@@ -63,6 +65,18 @@ fn has_edge(given: Graph<u32, u32>, little: Little) -> Result<bool, Fail> {
         Ok(edge) => granted(edge.index() == 0 && graph.edge_count() == 1),
         Err(GraphError::Memory(value)) => refused(value == 5 && graph.edge_count() == 0),
         Err(_) => other_refusal(),
+    }
+}
+
+/// Makes room for more nodes and edges, with which and without which the graph is as it was.
+fn has_room(given: Graph<u32, u32>, little: Little) -> Result<bool, Fail> {
+    let mut graph = given;
+    let answer = graph.reserve(100, 100);
+    drop(little);
+    let is_unchanged = graph.raw_nodes() == [7].as_slice() && graph.edge_count() == 0;
+    match answer {
+        Ok(()) => granted(is_unchanged),
+        Err(_) => refused(is_unchanged),
     }
 }
 

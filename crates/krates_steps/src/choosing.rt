@@ -40,8 +40,8 @@ pub(crate) fn part_of(alloc: Global, choice: &Choice<'_>, count: usize) -> Resul
 {
     let numbers: Vec<Option<usize>> = vec![in alloc; None; count]?;
     let mut making = Making {
-        chosen: Vec::new(alloc),
-        uses: Vec::new(alloc),
+        chosen: Vec::with_capacity(alloc, choice.steps.len())?,
+        uses: Vec::with_capacity(alloc, choice.steps.len())?,
         numbers,
     };
     choose_all(choice, &mut making)?;

@@ -67,6 +67,7 @@ fn nodes_of(alloc: Global, nodes: &[char], edges: usize) -> Result<Graph<char, u
     let nodes_at_most = u32::try_from(nodes.len())?;
     let edges_at_most = u32::try_from(edges)?;
     let mut graph = Graph::with_limits(alloc, nodes_at_most, edges_at_most);
+    graph.reserve(nodes.len(), edges)?;
     for &node in nodes {
         graph.add_node(node)?;
     }
@@ -233,7 +234,8 @@ fn a_refused_growth_changes_nothing(rt: HostRuntime) {
 
 #[test]
 fn lists_and_ends_are_read(rt: HostRuntime) -> Result<(), Fail> {
-    let graph = graph_of(rt.alloc(), &['a', 'b', 'c'], JOINED)?;
+    let mut graph = graph_of(rt.alloc(), &['a', 'b', 'c'], JOINED)?;
+    graph.reserve(9, 9)?;
     let told = format!(in rt.alloc();
         "{:?}",
         (
