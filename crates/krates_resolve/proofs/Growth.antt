@@ -14,13 +14,13 @@ use Rattle.krates_rules.specs.Resolved.{DepAt, NodeAt, Resolved}
 use Rattle.krates_resolve.specs.Links.{IsMarked, IsMarkedBy, IsWaiter, NotesAsked, Waits, HasMarked, HasWaiter}
 use Rattle.krates_rules.specs.Questions.{edge_between, questions}
 use Rattle.krates_lookups.specs.Numbering.{FeatureAt, IsOwn}
-use Rattle.krates_resolve.specs.Selection.{toggled_fact}
+use Rattle.krates_resolve.specs.FoundToggle.{found_toggled}
 use Rattle.krates_rules.specs.Setting.{SettingModel}
 use Rattle.krates_resolve.specs.declared.found.Found.{Found}
 use Rattle.krates_resolve.specs.Trace.{HasSomeStep, HasStep, IsTrace, MayFind, Names}
 use Rattle.krates_resolve.specs.declared.links.Links.{Links}
 use Rattle.krates_resolve.specs.declared.links.Waiting.{Waiting}
-use Rattle.krates_resolve.specs.declared.selection.ToggledFeature.{ToggledFeature}
+use Rattle.krates_resolve.specs.declared.found_toggle.FoundToggle.{FoundToggle}
 use Rattle.krates_resolve.specs.declared.trace.NumberedStep.{NumberedStep}
 use Rattle.krates_rules.proofs.Readings.{ReadsOnce}
 use Rattle.krates_resolve.proofs.Growing.{used_grows, tried_grows}
@@ -230,20 +230,20 @@ seen_still f xs ys x y more h = subst (λ zs. Contains zs y) (sym (ap (map f) mo
 pub seen_there : {A B : Type 0} (f : A → B) (xs ys : List A) (x : A) → ys ≡ xs ++ x ∷ [] → Contains (map f ys) (f x)
 seen_there f xs ys x more = subst (λ zs. Contains zs (f x)) (sym (ap (map f) more ∙ map-append f xs (x ∷ []))) (Contains-push (map f xs) (f x))
 
-abbrev WithToggled : Found → Vec ToggledFeature → Found
+abbrev WithToggled : Found → Vec FoundToggle → Found
 WithToggled x v = record x { toggled = v }
 
-toggled_found : (r : Resolved) (x : Found) (v : Vec ToggledFeature) (t : ToggledFeature) (f : Fact) → v.items ≡ x.toggled.items ++ t ∷ [] → HasFound r x f → HasFound r (WithToggled x v) f
-toggled_found r x v t (Toggled i j g) more h = seen_still toggled_fact x.toggled.items v.items t (Toggled i j g) more h
+toggled_found : (r : Resolved) (x : Found) (v : Vec FoundToggle) (t : FoundToggle) (f : Fact) → v.items ≡ x.toggled.items ++ t ∷ [] → HasFound r x f → HasFound r (WithToggled x v) f
+toggled_found r x v t (Toggled i j g) more h = seen_still found_toggled x.toggled.items v.items t (Toggled i j g) more h
 toggled_found r x v t (Crate i) more h = h
 toggled_found r x v t (Kept e) more h = h
 toggled_found r x v t (Feature i g) more h = h
 toggled_found r x v t (Lost c) more h = h
 
 -- what holds of each fact found before, and of the toggled feature that is added, holds of each fact found now
-toggled_each : (P : Fact → Type 0) → (r : Resolved) (x : Found) (v : Vec ToggledFeature) (t : ToggledFeature) (f : Fact) → ((g : Fact) → HasFound r x g → P g) → v.items ≡ x.toggled.items ++ t ∷ [] → P (toggled_fact t)
+toggled_each : (P : Fact → Type 0) → (r : Resolved) (x : Found) (v : Vec FoundToggle) (t : FoundToggle) (f : Fact) → ((g : Fact) → HasFound r x g → P g) → v.items ≡ x.toggled.items ++ t ∷ [] → P (found_toggled t)
     → HasFound r (WithToggled x v) f → P f
-toggled_each P r x v t (Toggled i j g) old more d h = elim (seen_from toggled_fact x.toggled.items v.items t (Toggled i j g) more h) [
+toggled_each P r x v t (Toggled i j g) old more d h = elim (seen_from found_toggled x.toggled.items v.items t (Toggled i j g) more h) [
   | inl o ↦ old (Toggled i j g) o
   | inr e ↦ subst P e d
 ]
@@ -258,7 +258,7 @@ enabled_by (Toggled i j g) = Feature j g
 enabled_by f = f
 
 -- a toggled feature is added, which is enabled
-pub toggled_advances : (r : Resolved) (s : SettingModel) (x : Found) (v : Vec ToggledFeature) (t : ToggledFeature) (p c : Id) (g : Text) → IsSound r s x → v.items ≡ x.toggled.items ++ t ∷ [] → toggled_fact t ≡ Toggled p c g
+pub toggled_advances : (r : Resolved) (s : SettingModel) (x : Found) (v : Vec FoundToggle) (t : FoundToggle) (p c : Id) (g : Text) → IsSound r s x → v.items ≡ x.toggled.items ++ t ∷ [] → found_toggled t ≡ Toggled p c g
     → HasFound r x (Feature c g) → Derivable (questions r s) (Toggled p c g) → HasSomeStep r x.trace.items (Toggled p c g) → Advances r s x (record x { toggled = v }) × HasFound r (record x { toggled = v }) (Toggled p c g)
 toggled_advances r s x v t p c g sound more is enabled d step =
     let y = WithToggled x v in
@@ -282,7 +282,7 @@ toggled_advances r s x v t p c g sound more is enabled d step =
           tried = λ e m k at was. tried_grows r s x y e IsAny grown (sound.tried e m k at was);
           arrived = sound.arrived;
           kept = sound.kept;
-          toggled = λ b k z h. elim (seen_from toggled_fact x.toggled.items v.items t (Toggled b k z) more h) [
+          toggled = λ b k z h. elim (seen_from found_toggled x.toggled.items v.items t (Toggled b k z) more h) [
             | inl o ↦ sound.toggled b k z o
             | inr e ↦ subst (HasFound r x) (ap enabled_by (sym is ∙ e)) enabled
           ];
@@ -290,7 +290,7 @@ toggled_advances r s x v t p c g sound more is enabled d step =
         };
         grows = grown;
       },
-      subst (Contains (map toggled_fact v.items)) is (seen_there toggled_fact x.toggled.items v.items t more),
+      subst (Contains (map found_toggled v.items)) is (seen_there found_toggled x.toggled.items v.items t more),
     )
 
 -- ---- other links

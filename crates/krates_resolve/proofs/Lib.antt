@@ -13,6 +13,7 @@ pub mod Heedings
 pub mod KeptEdges
 pub mod KeptFeatures
 pub mod KeptSteps
+pub mod KeptToggled
 pub mod KindOrder
 pub mod LinkLemmas
 pub mod NodeNumber

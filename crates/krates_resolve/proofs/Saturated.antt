@@ -19,13 +19,13 @@ use Rattle.krates_rules.specs.Referent.{IsReferent}
 use Rattle.krates_rules.specs.Rules.{Rule, IsAskedFor, root_crate, root_feature, lost_root_package, lost_root_node, feature_crate, named, lost_named, asked, toggled_strongly, lost_asked_package, lost_asked_node, lost_toggled_strongly, required, target, lost_undeclared, lost_required_package, lost_required_node, declared, by_default, lost_declared, toggled_weakly, toggled_feature, lost_toggled_weakly}
 use Rattle.krates_resolve.specs.Saturation.{AreDone}
 use Rattle.krates_resolve.specs.FoundEdge.{found_view, IsFoundEdge}
-use Rattle.krates_resolve.specs.Selection.{toggled_fact}
+use Rattle.krates_resolve.specs.FoundToggle.{found_toggled}
 use Rattle.krates_rules.specs.Setting.{SettingModel}
 use Rattle.krates_rules.specs.Steps.{StepModel}
 use Rattle.krates_resolve.specs.Trace.{IsTrace}
 use Rattle.krates_resolve.specs.declared.found.Found.{Found}
 use Rattle.krates_resolve.specs.declared.found_edge.FoundEdge.{FoundEdge}
-use Rattle.krates_resolve.specs.declared.selection.ToggledFeature.{ToggledFeature}
+use Rattle.krates_resolve.specs.declared.found_toggle.FoundToggle.{FoundToggle}
 use Rattle.krates_rules.proofs.DerivationLaws.{closed_under}
 use Rattle.krates_rules.proofs.OnlyOne.{place_in}
 use Rattle.krates_resolve.proofs.Waking.{as_declared, declared_as_once}
@@ -206,7 +206,7 @@ nothing_found : (r : Resolved) (x : Found) → IsEmpty x → (f : Fact) → HasF
 nothing_found r x none (Crate i) h = no_element h.place (subst (λ (ps : List ℕ). Contains ps h.place) none.krates h.among)
 nothing_found r x none (Feature i f) h = no_element h.number (subst (λ (ns : List ℕ). Contains ns h.number) none.features h.among)
 nothing_found r x none (Kept e) h = no_element e (subst (λ (es : List FoundEdge). Contains (map found_view es) e) none.edges h)
-nothing_found r x none (Toggled p c g) h = no_element (Toggled p c g) (subst (λ (ts : List ToggledFeature). Contains (map toggled_fact ts) (Toggled p c g)) none.toggled h)
+nothing_found r x none (Toggled p c g) h = no_element (Toggled p c g) (subst (λ (ts : List FoundToggle). Contains (map found_toggled ts) (Toggled p c g)) none.toggled h)
 nothing_found r x none (Lost c) h = h
 
 no_step : (k : ℕ) (y : StepModel) → slice_get [] k ≡ Some y → ⊥

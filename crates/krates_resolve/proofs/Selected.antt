@@ -15,11 +15,12 @@ use Rattle.krates_rules.specs.Derivation.{Derivable}
 use Rattle.krates_rules.specs.Facts.{Id, Edge, Fact, Crate, Feature, Kept, Toggled, Lost}
 use Rattle.krates_resolve.specs.Found.{HasFound, IsEnabled}
 use Rattle.krates_resolve.specs.FoundEdge.{found_view}
+use Rattle.krates_resolve.specs.FoundToggle.{found_toggled}
 use Rattle.krates_rules.specs.Questions.{questions}
 use Rattle.krates_rules.specs.Resolved.{Resolved, id_of}
 use Rattle.krates_resolve.specs.Selection.{edge_view, crate_fact, edge_fact, feature_fact, toggled_fact, facts_of, IsPlaced, IsSelection}
 use Rattle.krates_resolve.specs.Work.{CountsEach}
-use Rattle.krates_resolve.specs.SelectionOrder.{place_cmp, same_text, same_feature, feature_cmp, same_toggled, toggled_cmp}
+use Rattle.krates_resolve.specs.SelectionOrder.{place_cmp, same_text, same_feature, feature_cmp, toggled_cmp}
 use Rattle.krates_resolve.specs.declared.found.Found.{Found}
 use Rattle.krates_resolve.specs.declared.selection.EnabledFeature.{EnabledFeature}
 use Rattle.krates_resolve.specs.declared.selection.KeptEdge.{KeptEdge}
@@ -97,16 +98,6 @@ one_feature tells a b same =
     let name = same_name a.name b.name parts.1 in
     ap (λ (i : Id). Feature i (text_view b.name)) (sym krate) ∙ ap (λ (t : Text). Feature (id_of a.krate) t) (sym name)
 
-one_toggled : EqualityTellsSame → (a b : ToggledFeature) → same_toggled a b ≡ true → toggled_fact b ≡ toggled_fact a
-one_toggled tells a b same =
-    let outer = both (same_id a.by b.by) _ same in
-    let inner = both (same_id a.krate b.krate) _ outer.1 in
-    let by : id_of a.by ≡ id_of b.by = id_of_same a.by b.by ((tells a.by b.by).0 outer.0) in
-    let krate : id_of a.krate ≡ id_of b.krate = id_of_same a.krate b.krate ((tells a.krate b.krate).0 inner.0) in
-    let name = same_name a.name b.name inner.1 in
-    ap (λ (i : Id). Toggled i (id_of b.krate) (text_view b.name)) (sym by) ∙ ap (λ (i : Id). Toggled (id_of a.by) i (text_view b.name)) (sym krate)
-    ∙ ap (λ (t : Text). Toggled (id_of a.by) (id_of a.krate) t) (sym name)
-
 -- ---- the facts of a selection
 
 crate_there : (x : Selection) (k : Identity) → Contains x.krates.items k → Contains (facts_of x) (crate_fact k)
@@ -159,7 +150,7 @@ pub record IsInOrder (r : Resolved) (s : SettingModel) (found : Found) (kids : L
   pub edges_rise : IsStrictlySortedBy place_cmp x.edges.items
   pub features : IsOrdered same_feature enabled x.features.items
   pub features_rise : IsStrictlySortedBy feature_cmp x.features.items
-  pub toggled : IsOrdered same_toggled found.toggled.items x.toggled.items
+  pub toggled : (f : Fact) → Contains (map found_toggled found.toggled.items) f ↔ Contains (map toggled_fact x.toggled.items) f
   pub toggled_rise : IsStrictlySortedBy toggled_cmp x.toggled.items
 
 pub selected : ReadsOnce → EqualityTellsSame → (r : Resolved) (s : SettingModel) (ids : List Identity) (found : Found) (kids : List Identity) (enabled : List EnabledFeature) (x : Selection)
@@ -198,9 +189,8 @@ selected once tells r s ids found kids enabled x whole order counts = record {
         let y = order.features.kept a.0 a.1 in
         subst (Contains (facts_of x)) (one_feature tells a.0 y.0 y.2 ∙ a.2) (feature_there x y.0 y.1)
     forth (Toggled p c g) d =
-        let a = contains_source toggled_fact found.toggled.items (Toggled p c g) ((whole.exact (Toggled p c g)).0 d) in
-        let y = order.toggled.kept a.0 a.1 in
-        subst (Contains (facts_of x)) (one_toggled tells a.0 y.0 y.2 ∙ a.2) (toggled_there x y.0 y.1)
+        let a = contains_source toggled_fact x.toggled.items (Toggled p c g) ((order.toggled (Toggled p c g)).0 ((whole.exact (Toggled p c g)).0 d)) in
+        subst (Contains (facts_of x)) a.2 (toggled_there x a.0 a.1)
     forth (Lost c) d = absurd ((whole.exact (Lost c)).0 d)
 
     crate_back : (f : Fact) → Contains (map crate_fact x.krates.items) f → Derivable (questions r s) f
@@ -223,7 +213,7 @@ selected once tells r s ids found kids enabled x whole order counts = record {
     toggled_back : (f : Fact) → Contains (map toggled_fact x.toggled.items) f → Derivable (questions r s) f
     toggled_back f h =
         let a = contains_source toggled_fact x.toggled.items f h in
-        subst (Derivable (questions r s)) a.2 ((whole.exact (toggled_fact a.0)).1 (contains_image toggled_fact found.toggled.items a.0 (order.toggled.from a.0 a.1)))
+        subst (Derivable (questions r s)) a.2 ((whole.exact (toggled_fact a.0)).1 ((order.toggled (toggled_fact a.0)).1 (contains_image toggled_fact x.toggled.items a.0 a.1)))
 
     back : (f : Fact) → Contains (facts_of x) f → Derivable (questions r s) f
     back f c = elim (Contains-append_cases (map crate_fact x.krates.items) _ f c) [

@@ -17,7 +17,8 @@ use Rattle.krates_rules.specs.Referent.{IsReferent}
 use Rattle.krates_rules.specs.Roots.{IsRoot}
 use Rattle.krates_rules.specs.Rules.{default_name}
 use Rattle.krates_resolve.specs.FoundEdge.{IsFoundEdge, found_view}
-use Rattle.krates_resolve.specs.Selection.{feature_fact, toggled_fact}
+use Rattle.krates_resolve.specs.FoundToggle.{found_toggled}
+use Rattle.krates_resolve.specs.Selection.{feature_fact}
 use Rattle.krates_rules.specs.Setting.{SettingModel}
 use Rattle.krates_resolve.specs.declared.found.Found.{Found}
 use Rattle.krates_resolve.specs.declared.links.Links.{Links}
@@ -25,7 +26,7 @@ use Rattle.krates_resolve.specs.declared.links.Waiting.{Waiting}
 use Rattle.krates_resolve.specs.declared.trace.NumberedStep.{NumberedStep}
 use Rattle.krates_resolve.specs.declared.selection.EnabledFeature.{EnabledFeature}
 use Rattle.krates_resolve.specs.declared.found_edge.FoundEdge.{FoundEdge}
-use Rattle.krates_resolve.specs.declared.selection.ToggledFeature.{ToggledFeature}
+use Rattle.krates_resolve.specs.declared.found_toggle.FoundToggle.{FoundToggle}
 
 -- ---- which facts have been found
 
@@ -46,13 +47,13 @@ pub record Findings : Type 0 where
   pub krates : List ℕ
   pub features : List ℕ
   pub edges : List FoundEdge
-  pub toggled : List ToggledFeature
+  pub toggled : List FoundToggle
 
 abbrev pub IsAmongFindings : Resolved → Findings → Fact → Type 0
 IsAmongFindings r x (Crate i) = IsPut r x.krates i
 IsAmongFindings r x (Feature i f) = IsEnabled r x.features i f
 IsAmongFindings r x (Kept e) = Contains (map found_view x.edges) e
-IsAmongFindings r x (Toggled p c g) = Contains (map toggled_fact x.toggled) (Toggled p c g)
+IsAmongFindings r x (Toggled p c g) = Contains (map found_toggled x.toggled) (Toggled p c g)
 IsAmongFindings r x _ = ⊥
 
 abbrev pub findings : Found → Findings

@@ -3,9 +3,11 @@ pub mod Counting
 pub mod Explained
 pub mod Found
 pub mod FoundEdge
+pub mod FoundToggle
 pub mod Heeding
 pub mod KeptEdges
 pub mod KeptFeatures
+pub mod KeptToggled
 pub mod Kinds
 pub mod Links
 pub mod NodeNumber

@@ -38,10 +38,6 @@ feature_cmp = then_cmp (on (λ f. f.krate) id_cmp) (on (λ f. f.name) text_cmp)
 
 -- ---- toggled features, by the crate that toggles them, their own and their name
 
--- whether the same crate toggles the same feature
-abbrev pub same_toggled : ToggledFeature → ToggledFeature → Bool
-same_toggled = eq_of_both (on (λ t. t.by) same_id) (eq_of_both (on (λ t. t.krate) same_id) (on (λ t. t.name) same_text))
-
 -- the order by the crate that toggles, then the crate of the feature, then its name
 abbrev pub toggled_cmp : ToggledFeature → ToggledFeature → Ordering
 toggled_cmp = then_cmp (on (λ t. t.by) id_cmp) (then_cmp (on (λ t. t.krate) id_cmp) (on (λ t. t.name) text_cmp))

@@ -14,7 +14,7 @@ ghost use Rattle.krates_rules.specs.Rules.{default_name};
 
 use crate::found::Found;
 use crate::found_edge::found_edge;
-use crate::selection::ToggledFeature;
+use crate::found_toggle::FoundToggle;
 use crate::trace::{NumberedFact, NumberedStep, Reason};
 use crate::tracing::{put_feature, put_krate, put_step};
 use krates_cm::Dependency;
@@ -158,10 +158,10 @@ pub(crate) fn toggle<'a>(
     };
     let toggled = put_step(basis, step, found)?;
     put_feature(basis, number, Reason::by_one(7, toggled), found)?;
-    found.toggled.push(ToggledFeature {
-        by: by.id.clone()?,
-        krate: node.id.clone()?,
-        name: String::from_str(basis.alloc, feature.name)?,
+    found.toggled.push(FoundToggle {
+        by: by.id,
+        krate: node.id,
+        name: feature.name,
     })?;
     Ok(())
 }

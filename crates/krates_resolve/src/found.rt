@@ -1,8 +1,8 @@
 //! What has been found of a selection while it is looked for.
 
 use crate::found_edge::FoundEdge;
+use crate::found_toggle::FoundToggle;
 use crate::links::Links;
-use crate::selection::ToggledFeature;
 use crate::trace::NumberedStep;
 use krates_graph::agenda::Agenda;
 
@@ -16,7 +16,7 @@ pub(crate) struct Found<'a> {
     /// The kept edges, in the order in which they were found.
     pub edges: Vec<FoundEdge<'a>>,
     /// The toggled features, in the order in which they were found.
-    pub toggled: Vec<ToggledFeature>,
+    pub toggled: Vec<FoundToggle<'a>>,
     /// The steps by which all of that was found, each behind those that it uses.
     pub trace: Vec<NumberedStep>,
     /// The step of each crate that was put, in the order of their puts.

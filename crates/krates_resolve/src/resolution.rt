@@ -14,6 +14,7 @@ ghost use Rattle.krates_rules.specs.SelectionRefusals.{SelectionRefusal};
 use crate::found::Found;
 use crate::kept_edges::kept_edges;
 use crate::kept_features::kept_features;
+use crate::kept_toggled::kept_toggled;
 use crate::saturation::saturate;
 use crate::selection::Selection;
 use crate::work::Work;
@@ -84,7 +85,7 @@ pub fn select_in<'a>(
         krates,
         edges,
         features,
-        toggled: in_order(toggled)?,
+        toggled: kept_toggled(alloc, toggled)?,
         steps: trace,
         work,
     })

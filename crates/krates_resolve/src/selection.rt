@@ -51,7 +51,7 @@ pub struct EnabledFeature {
 }
 
 /// A feature of a crate that a feature of another crate enables.
-#[derive(Debug, Drop, PartialEq, Eq, PartialOrd, Ord)]
+#[derive(Debug, Drop)]
 pub struct ToggledFeature {
     /// The crate whose feature enables it.
     pub by: Kid,

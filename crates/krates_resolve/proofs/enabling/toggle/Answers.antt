@@ -3,9 +3,9 @@ use Rattle.krates_rules.specs.Facts.{Crate, Feature, Toggled}
 use Rattle.krates_lookups.specs.Lookup.{resolved_view}
 use Rattle.krates_rules.specs.Resolved.{id_of}
 use Rattle.krates_resolve.specs.Found.{HasFound}
-use Rattle.krates_resolve.specs.Selection.{toggled_fact}
+use Rattle.krates_resolve.specs.FoundToggle.{found_toggled}
 use Rattle.krates_resolve.specs.Trace.{HasSomeStep}
-use Rattle.krates_resolve.specs.declared.selection.ToggledFeature.{ToggledFeature}
+use Rattle.krates_resolve.specs.declared.found_toggle.FoundToggle.{FoundToggle}
 use Rattle.krates_lookups.proofs.FeatureNumbers.{listed_at}
 use Rattle.krates_resolve.proofs.Enabled.{toggled_here}
 use Rattle.krates_resolve.proofs.Finding.{finds_toggled, for_reason}
@@ -63,8 +63,8 @@ returns-clause-advanced c =
     let has = noted.put (Toggled p i g) (record { by = p; krate = i; name = g; node = c.requires.by; at = at; is = refl }) in
     let some : HasSomeStep r z.trace.items (Toggled p i g) = (c.in_ok-toggled.toggled, step.advanced.grows.steps c.in_ok-toggled.toggled (Toggled p i g) has) in
     let enabled : HasFound r z (Feature i g) = record { number = number; among = step.put; at = at } in
-    let t : ToggledFeature = record { by = c.in_ok-clone.field-0; krate = c.in_ok-clone-2.field-0; name = c.in_ok-from_str.field-0 } in
-    let is : toggled_fact t ≡ Toggled p i g = rw (c.in_ok-clone.ensures.cases, c.in_ok-clone-2.ensures.cases, c.in_ok-from_str.ensures.ok) refl in
+    let t : FoundToggle = record { by = c.args.by.id; krate = c.args.node.id; name = c.args.feature.name } in
+    let is : found_toggled t ≡ Toggled p i g = refl in
     let lists = listed_at r i g number at in
     advances_trans r s c.args.found.now z _ (advances_trans r s c.args.found.now y z noted.advanced step.advanced)
     (toggled_advances r s z c.push.new.self t p i g step.advanced.sound c.in_ok-push.ensures.items is enabled (c.requires.may.toggled lists) some).0
@@ -84,8 +84,8 @@ returns-clause-toggled c =
     let has = noted.put (Toggled p i g) (record { by = p; krate = i; name = g; node = c.requires.by; at = at; is = refl }) in
     let some : HasSomeStep r z.trace.items (Toggled p i g) = (c.in_ok-toggled.toggled, step.advanced.grows.steps c.in_ok-toggled.toggled (Toggled p i g) has) in
     let enabled : HasFound r z (Feature i g) = record { number = number; among = step.put; at = at } in
-    let t : ToggledFeature = record { by = c.in_ok-clone.field-0; krate = c.in_ok-clone-2.field-0; name = c.in_ok-from_str.field-0 } in
-    let is : toggled_fact t ≡ Toggled p i g = rw (c.in_ok-clone.ensures.cases, c.in_ok-clone-2.ensures.cases, c.in_ok-from_str.ensures.ok) refl in
+    let t : FoundToggle = record { by = c.args.by.id; krate = c.args.node.id; name = c.args.feature.name } in
+    let is : found_toggled t ≡ Toggled p i g = refl in
     let lists = listed_at r i g number at in
     toggled_here r _ p i g c.requires.lookup.distinct lists
     (toggled_advances r s z c.push.new.self t p i g step.advanced.sound c.in_ok-push.ensures.items is enabled (c.requires.may.toggled lists) some).1

@@ -39,7 +39,7 @@ returns-clause-selected c =
     let kids = c.in_ok-kids_at.field-0.items in
     let features = c.in_ok-features.ensures in
     let enabled = features.enabled in
-    let x : Selection = record { krates = c.in_ok-krates.krates; edges = c.in_ok-edges.edges; features = c.in_ok-features.features; toggled = c.in_ok-in_order.field-0; steps = found.trace; work = c.saturate.new.work } in
+    let x : Selection = record { krates = c.in_ok-krates.krates; edges = c.in_ok-edges.edges; features = c.in_ok-features.features; toggled = c.in_ok-kept_toggled.field-0; steps = found.trace; work = c.saturate.new.work } in
     let at_nodes = subst (λ (is : List Identity). AreAt is c.numbers-2.result.now kids) c.deref.ensures.value c.in_ok-kids_at.ensures in
     let features_there = subst (λ (ns : List ℕ). (i : Id) (f : Text) → IsEnabled r ns i f ↔ Contains (map feature_fact enabled) (Feature i f)) c.numbers-3.ensures.put features.each in
     let whole : IsWhole r s ids found kids enabled = record {
@@ -58,8 +58,8 @@ returns-clause-selected c =
       edges_rise = c.in_ok-edges.ensures.ascending;
       features = record { from = features.from; kept = features.kept };
       features_rise = features.ascending;
-      toggled = record { from = c.in_ok-in_order.ensures.from; kept = c.in_ok-in_order.ensures.kept };
-      toggled_rise = c.in_ok-in_order.ensures.ascending;
+      toggled = c.in_ok-kept_toggled.ensures.same;
+      toggled_rise = c.in_ok-kept_toggled.ensures.ascending;
     } in
     let numbered = subst (λ (ns : List ℕ). HaveNumbers r ns enabled) c.numbers-3.ensures.put features.numbered in
     let counted : IsCountedWhole r s ids found kids enabled x.work = record {

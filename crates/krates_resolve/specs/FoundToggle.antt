@@ -1,0 +1,8 @@
+-- A toggled feature as the search finds it.
+use Rattle.krates_rules.specs.Facts.{Fact, Toggled}
+use Rattle.krates_rules.specs.Resolved.{id_of}
+use Rattle.krates_resolve.specs.declared.found_toggle.FoundToggle.{FoundToggle}
+
+-- that a crate toggles the feature
+abbrev pub found_toggled : FoundToggle → Fact
+found_toggled t = Toggled (id_of t.by.now) (id_of t.krate.now) t.name.now
