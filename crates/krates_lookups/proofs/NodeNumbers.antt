@@ -33,12 +33,18 @@ read_number numbers k n number at is = sym (is ∙ get_or_from_slice_get numbers
 
 -- ---- of a node
 
-node_there : ReadsOnce → (d : Lookup) (place : ℕ) (i : Id) → IsLookup d → NodeAt (resolved_view d) i place → (number : Option ℕ) × (slice_get d.table.node_numbers.items place ≡ Some number) × IsNumberIn d i number
-node_there once d place i h at =
+-- among any ids
+pub node_among : ReadsOnce → (d : Lookup) (ids : List Id) (numbers : List (Option ℕ)) (place : ℕ) (i : Id) → IsLookup d → AreNumbersOf ids d.ids.now.nodes.items numbers → NodeAt (resolved_view d) i place
+    → (number : Option ℕ) × (slice_get numbers place ≡ Some number) × IsNumberOf ids i number
+node_among once d ids numbers place i h are at =
     let g = (resolved_view d).graph in
     let id : NodeModel → Text = λ n. n.id in
     let text : slice_get (node_texts g) place ≡ Some at.node.id = slice_get-map id g.nodes place ∙ ap (option_map id) at.at in
-    numbered_there once (map id_of d.table.ids.items) (node_texts g) d.ids.now.nodes.items d.table.node_numbers.items place at.node.id i h.ids.nodes h.table.node_numbers text at.id
+    numbered_there once ids (node_texts g) d.ids.now.nodes.items numbers place at.node.id i h.ids.nodes are text at.id
+
+-- among those of the document
+node_there : ReadsOnce → (d : Lookup) (place : ℕ) (i : Id) → IsLookup d → NodeAt (resolved_view d) i place → (number : Option ℕ) × (slice_get d.table.node_numbers.items place ≡ Some number) × IsNumberIn d i number
+node_there once d place i h at = node_among once d (map id_of d.table.ids.items) d.table.node_numbers.items place i h h.table.node_numbers at
 
 pub node_numbered : ReadsOnce → (d : Lookup) (place : ℕ) (i : Id) (number : Option ℕ) → IsLookup d → NodeAt (resolved_view d) i place → number ≡ get_or d.table.node_numbers.items place number → IsNumberIn d i number
 node_numbered once d place i number h at is =
