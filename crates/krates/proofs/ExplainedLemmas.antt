@@ -14,7 +14,8 @@ use Rattle.krates_drawing.specs.declared.sheet.Sheet.{Sheet}
 use Rattle.krates_explain.proofs.KeptCrates.{same_in}
 use Rattle.krates_explain.proofs.PickedSteps.{seen_back}
 use Rattle.krates_explain.specs.Explanation.{AreBelow, explained_steps}
-use Rattle.krates_explain.specs.KeptFacts.{Enables, IsBelow, KeepsCrate, KeepsEdge, KeptModel, Toggles, fact_in, facts_in, id_at, kept_view, no_id, step_in, steps_in}
+use Rattle.krates_resolve.specs.CrateNumbers.{id_at, no_id}
+use Rattle.krates_explain.specs.KeptFacts.{Enables, IsBelow, KeepsCrate, KeepsEdge, KeptModel, Toggles, fact_in, facts_in, kept_view, step_in, steps_in}
 use Rattle.krates_explain.specs.Tables.{AreStepsOf, IsKeptIn}
 use Rattle.krates_explain.specs.declared.kept.Explanation.{Explanation}
 use Rattle.krates_explain.specs.declared.kept.KeptStep.{KeptStep}

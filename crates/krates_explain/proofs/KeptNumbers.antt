@@ -1,14 +1,13 @@
 -- The numbers of kept crates, and what stands at the places of a document.
-use Rattle.std.proofs.Common.{◌≡◌, ℕ, ◌<◌, List, [], ◌∷◌, ◌++◌, ◌+◌, take, length, get_or, map, Option, Some, None, IfSome, option_map, refl, sym, ap, ◌∙◌, subst, arith}
-use Rattle.std.proofs.lemmas.List.{length-map, take_more}
+use Rattle.std.proofs.Common.{◌≡◌, ℕ, ◌<◌, List, length, get_or, map, Option, Some, None, IfSome, option_map, refl, sym, ap, ◌∙◌, subst, arith}
+use Rattle.std.proofs.lemmas.List.{length-map}
 use Rattle.std.proofs.lemmas.Option.{slice_get-map, slice_get_read, slice_get_within, get_or_from_slice_get, same_Some}
 use Rattle.std.specs.List.{slice_get}
 use Rattle.krates_cm.specs.Document.{NodeModel, NodeDepModel, Text}
-use Rattle.krates_explain.specs.KeptFacts.{id_at, no_id}
-use Rattle.krates_explain.specs.Tables.{AreNumbersIn, IsChildAt, IsKeptChild, IsKeptIn, IsKeptNode, IsKeptWithNode, IsNumberAt, IsTables, document_in, kids_in}
+use Rattle.krates_resolve.specs.CrateNumbers.{id_at, no_id}
+use Rattle.krates_explain.specs.Tables.{IsChildAt, IsKeptChild, IsKeptIn, IsKeptNode, IsKeptWithNode, IsNumberAt, IsTables, document_in, kids_in}
 use Rattle.krates_explain.specs.declared.keys.Tables.{Tables}
 use Rattle.krates_explain.proofs.FactPlaces.{zip_long}
-use Rattle.krates_explain.proofs.PickedSteps.{seen_back}
 use Rattle.krates_ids.specs.Identity.{Identity, Reads}
 use Rattle.krates_lookups.proofs.Lookups.{one_id}
 use Rattle.krates_lookups.specs.CrateTable.{IsNumberOf, at_number}
@@ -42,19 +41,6 @@ has_number kids i (Some n) kept h = record {
   below = omega (arith, slice_get_within (map id_of kids) n i h, length-map kids id_of);
 }
 
-numbers_push : (kids ids : List Identity) (numbers : List (Option ℕ)) (k : Identity) (n : Option ℕ) → AreNumbersIn kids ids numbers → IsNumberOf (map id_of kids) (id_of k) n → AreNumbersIn kids (ids ++ k ∷ []) (numbers ++ n ∷ [])
-numbers_push kids [] [] k n h here = (here, tt)
-numbers_push kids [] (b ∷ ns) k n h here = absurd h
-numbers_push kids (a ∷ ids) [] k n h here = absurd h
-numbers_push kids (a ∷ ids) (b ∷ ns) k n h here = (h.0, numbers_push kids ids ns k n h.1 here)
-
--- one more id has its number
-pub numbers_next : (kids ids : List Identity) (i : ℕ) (k : Identity) (old new : List (Option ℕ)) (n : Option ℕ) → i < length ids → k ≡ get_or ids i k → IsNumberOf (map id_of kids) (id_of k) n → new ≡ old ++ n ∷ []
-    → AreNumbersIn kids (take i ids) old → AreNumbersIn kids (take (i + 1) ids) new
-numbers_next kids ids i k old new n lt is here pushed h =
-    let more : take (i + 1) ids ≡ take i ids ++ k ∷ [] = take_more ids i k lt ∙ ap (λ (z : Identity). take i ids ++ z ∷ []) (sym is) in
-    rw (more, pushed) (numbers_push kids (take i ids) old k n h here)
-
 -- a crate that has a node has a number in the document
 node_has : ReadsOnce → (d : Lookup) (i : Id) → IsLookup d → (n : NodeModel) × HasNode (resolved_view d) i n → IsNumberIn d i None → ⊥
 node_has once d i h (n, has) none =
@@ -74,13 +60,14 @@ kept_number once t i None answer h kept n is = absurd (node_has once t.lookup.no
 kept_number once t i (Some m) answer h kept n is =
     let ids = t.lookup.now.table.ids.items in
     let kids = map id_of t.krates.now in
-    let kid = seen_back id_of ids m i n in
-    let w = right_of (λ (k : Identity) (o : Option ℕ). IsNumberOf kids (id_of k) o) ids t.numbers.now m kid.0 h.numbers kid.1 in
+    let w = right_of (IsNumberOf kids) (map id_of ids) t.numbers.now m i h.numbers n in
     let answered : w.0 ≡ answer = sym (is ∙ get_or_from_slice_get t.numbers.now m w.0 None w.1) in
-    has_number t.krates.now i answer kept.0 (subst (IsNumberOf kids i) answered (subst (λ (j : Id). IsNumberOf kids j w.0) kid.2 w.2))
+    has_number t.krates.now i answer kept.0 (subst (IsNumberOf kids i) answered w.2)
 
 numbers_long : (t : Tables) → IsTables t → length t.numbers.now ≡ length t.lookup.now.table.ids.items
-numbers_long t h = zip_long (λ (i : Identity) (n : Option ℕ). IsNumberOf (map id_of t.krates.now) (id_of i) n) t.lookup.now.table.ids.items t.numbers.now h.numbers
+numbers_long t h =
+    let ids = t.lookup.now.table.ids.items in
+    zip_long (IsNumberOf (map id_of t.krates.now)) (map id_of ids) t.numbers.now h.numbers ∙ length-map ids id_of
 
 -- each number of the document has a place in the table
 pub number_within : (t : Tables) (i : Id) (number : Option ℕ) → IsTables t → IsNumberIn t.lookup.now i number → IfSome number (λ n. n < length t.numbers.now)

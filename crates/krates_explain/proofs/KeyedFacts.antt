@@ -4,7 +4,8 @@ use Rattle.std.proofs.lemmas.Option.{same_Some}
 use Rattle.std.specs.List.{slice_get}
 use Rattle.krates_cm.specs.Document.{Text}
 use Rattle.krates_cm.specs.declared.dependency.DependencyKind.{DependencyKind}
-use Rattle.krates_explain.specs.KeptFacts.{edge_in, id_at}
+use Rattle.krates_explain.specs.KeptFacts.{edge_in}
+use Rattle.krates_resolve.specs.CrateNumbers.{id_at}
 use Rattle.krates_explain.specs.Tables.{IsEdgeIn, IsFeatureIn, IsKeyOf, IsNumberAt, document_in, kids_in}
 use Rattle.krates_explain.specs.declared.key.EdgeKey.{EdgeKey}
 use Rattle.krates_explain.specs.declared.key.FactKey.TheVariants as keys

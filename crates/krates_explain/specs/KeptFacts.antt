@@ -1,5 +1,5 @@
 -- Facts by the numbers of the kept crates, and what they say for crates with these ids.
-use Rattle.std.specs.Prelude.{ℕ, ◌<◌, List, [], Option, get_or, map, option_map}
+use Rattle.std.specs.Prelude.{ℕ, ◌<◌, List, Option, map, option_map}
 use Rattle.krates_cm.specs.Document.{Text, text_view}
 use Rattle.krates_cm.specs.declared.dependency.DependencyKind.{DependencyKind}
 use Rattle.krates_derive.specs.Told.{written_of}
@@ -9,8 +9,8 @@ use Rattle.krates_explain.specs.declared.kept.KeptStep.{KeptStep}
 use Rattle.krates_explain.specs.declared.kept.Subject.{Subject}
 use Rattle.krates_explain.specs.declared.kept.Subject.TheVariants as subjects
 use Rattle.krates_ids.specs.Identity.{Identity}
-use Rattle.krates_rules.specs.Facts.{Id, Edge, Fact, Crate, Feature, Kept, Toggled}
-use Rattle.krates_rules.specs.Resolved.{id_of}
+use Rattle.krates_resolve.specs.CrateNumbers.{id_at}
+use Rattle.krates_rules.specs.Facts.{Edge, Fact, Crate, Feature, Kept, Toggled}
 use Rattle.krates_rules.specs.Steps.{StepModel}
 use Rattle.krates_rules.specs.Uses.{numbers_used}
 
@@ -40,14 +40,6 @@ IsBelow n (KeepsEdge parent child kind cfg) = (parent < n) × (child < n)
 IsBelow n (Toggles by krate name) = (by < n) × (krate < n)
 
 -- ---- what they say
-
--- the id under a number that no crate has
-abbrev pub no_id : Id
-no_id = record { name = []; version = []; source = [] }
-
--- the id of the crate of a number
-abbrev pub id_at : List Identity → ℕ → Id
-id_at kids n = get_or (map id_of kids) n no_id
 
 abbrev pub edge_in : List Identity → ℕ → ℕ → DependencyKind → Option Text → Edge
 edge_in kids parent child kind cfg = record { parent = id_at kids parent; child = id_at kids child; kind = kind; cfg = cfg }

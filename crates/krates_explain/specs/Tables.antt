@@ -1,9 +1,8 @@
 -- Numbered facts by the numbers of the kept crates.
-use Rattle.std.specs.Prelude.{◌≡◌, ℕ, ◌<◌, List, All, Contains, Option, length, map}
-use Rattle.std.specs.List.{AllZip}
+use Rattle.std.specs.Prelude.{◌≡◌, ℕ, ◌<◌, List, All, Contains, length, map}
 use Rattle.krates_cm.specs.Document.{NodeModel, Text}
 use Rattle.krates_explain.specs.Explanation.{AreBelow, uses_in}
-use Rattle.krates_explain.specs.KeptFacts.{IsBelow, fact_in, facts_in, id_at, steps_in}
+use Rattle.krates_explain.specs.KeptFacts.{IsBelow, fact_in, facts_in, steps_in}
 use Rattle.krates_explain.specs.Keys.{edge_view, key_view}
 use Rattle.krates_explain.specs.declared.key.EdgeKey.{EdgeKey}
 use Rattle.krates_explain.specs.declared.key.FactKey.{FactKey}
@@ -11,9 +10,10 @@ use Rattle.krates_explain.specs.declared.key.FeatureKey.{FeatureKey}
 use Rattle.krates_explain.specs.declared.keys.Tables.{Tables}
 use Rattle.krates_explain.specs.declared.kept.KeptStep.{KeptStep}
 use Rattle.krates_ids.specs.Identity.{Identity}
-use Rattle.krates_lookups.specs.CrateTable.{AreNumbered, IsNumberOf}
+use Rattle.krates_lookups.specs.CrateTable.{AreNumbered, AreNumbersOf}
 use Rattle.krates_lookups.specs.Lookup.{IsLookup, resolved_view}
 use Rattle.krates_lookups.specs.Numbering.{FeatureAt}
+use Rattle.krates_resolve.specs.CrateNumbers.{id_at}
 use Rattle.krates_resolve.specs.Trace.{EdgeAt, HasSomeStep, Names}
 use Rattle.krates_resolve.specs.declared.trace.NumberedFact.{NumberedFact}
 use Rattle.krates_resolve.specs.declared.trace.NumberedStep.{NumberedStep}
@@ -31,15 +31,11 @@ document_in t = resolved_view t.lookup.now
 abbrev pub kids_in : Tables → List Identity
 kids_in t = t.krates.now
 
--- the number of each id among those of the crates, or none where it isn't among them
-abbrev pub AreNumbersIn : List Identity → List Identity → List (Option ℕ) → Type 0
-AreNumbersIn kids ids numbers = AllZip (λ (i : Identity) (n : Option ℕ). IsNumberOf (map id_of kids) (id_of i) n) ids numbers
-
 -- the document is looked up, the crates are in order, and those of the document have their numbers among them
 pub record IsTables (t : Tables) : Type 0 where
   pub lookup : IsLookup t.lookup.now
   pub ascending : AreNumbered (map id_of t.krates.now)
-  pub numbers : AreNumbersIn t.krates.now t.lookup.now.table.ids.items t.numbers.now
+  pub numbers : AreNumbersOf (map id_of t.krates.now) t.lookup.now.table.ids.items t.numbers.now
 
 -- ---- what is kept
 

@@ -12,9 +12,10 @@ ghost use Rattle.krates_rules.specs.Facts.{Crate, Id};
 
 use crate::kept::KeptStep;
 use crate::key::{FactKey, fact_of};
-use crate::keys::{Tables, keys_of, numbers_in};
+use crate::keys::{Tables, keys_of};
 use crate::numbering::numbers_of;
 use krates_ids::{Kid, laws};
+use krates_lookups::crate_table::numbers_of as crate_numbers_of;
 use krates_questions::basis::Basis;
 use krates_resolve::NumberedStep;
 use krates_rules::Uses;
@@ -39,7 +40,7 @@ pub fn kept_steps<'a>(
     laws::one_reading();
     laws::comparison();
     step_laws::firsts();
-    let krate_numbers = numbers_in(basis.alloc, krates, &basis.lookup.table.ids)?;
+    let krate_numbers = crate_numbers_of(basis.alloc, krates, &basis.lookup.table.ids)?;
     let tables = Tables {
         lookup: basis.lookup,
         krates,

@@ -1,15 +1,13 @@
 //! Numbered facts by the numbers of the kept crates.
 
-ghost use Rattle.std.specs.Prelude.{◌≡◌, IfOk, map};
+ghost use Rattle.std.specs.Prelude.{◌≡◌, IfOk};
 ghost use Rattle.std.specs.List.{AllZip};
 ghost use Rattle.krates_cm.specs.Document.{dep_kind_info_view};
-ghost use Rattle.krates_explain.specs.Tables.{AreKeptFacts, AreNumbersIn, IsChildAt, IsEdgeIn, IsFeatureIn, IsKeptChild, IsKeptEdge, IsKeptFact, IsKeptFeature, IsKeptNode, IsKeyOf, IsNumberAt, IsTables, numbered_facts};
-ghost use Rattle.krates_lookups.specs.CrateTable.{AreNumbered, IsNumberOf};
+ghost use Rattle.krates_explain.specs.Tables.{AreKeptFacts, IsChildAt, IsEdgeIn, IsFeatureIn, IsKeptChild, IsKeptEdge, IsKeptFact, IsKeptFeature, IsKeptNode, IsKeyOf, IsNumberAt, IsTables, numbered_facts};
 ghost use Rattle.krates_lookups.specs.Lookup.{IsLookup, resolved_view};
 ghost use Rattle.krates_resolve.specs.Trace.{EdgeAt};
 ghost use Rattle.krates_rules.specs.Facts.{Edge};
 ghost use Rattle.krates_rules.specs.Questions.{kind_info_of};
-ghost use Rattle.krates_rules.specs.Resolved.{id_of};
 
 use crate::key::{EdgeKey, FactKey, FeatureKey, ToggleKey, purpose_of};
 use krates_cm::DepKindInfo;
@@ -27,31 +25,6 @@ pub(crate) struct Tables<'a, 's> {
     pub krates: &'s [Kid],
     /// By the number of a crate in the document, its number among the kept ones, where it is kept.
     pub numbers: &'s [Option<usize>],
-}
-
-/// For each of these ids, the number of the kept crate that has it, where one has.
-pub(crate) fn numbers_in(
-    alloc: Global,
-    krates: &[Kid],
-    ids: &[Kid],
-) -> Result<Vec<Option<usize>>, AllocError>
-    requires { AreNumbered (map id_of krates.now) }
-    ensures { IfOk result (λ numbers. AreNumbersIn krates.now ids.now numbers.items) }
-{
-    let mut numbers = Vec::with_capacity(alloc, ids.len())?;
-    for id in ids {
-        numbers.push(number_in(krates, id))?;
-    }
-    Ok(numbers)
-}
-
-/// The number of the kept crate that has the id, where one has.
-fn number_in(krates: &[Kid], kid: &Kid) -> Option<usize>
-    requires { AreNumbered (map id_of krates.now) }
-    ensures { IsNumberOf (map id_of krates.now) (id_of kid.now) result }
-{
-    laws::comparison();
-    krates.binary_search(kid).ok()
 }
 
 /// The key of the fact of each step.

@@ -1,5 +1,5 @@
 -- What is in order by number is in order by what the numbers stand for; lists related item by item.
-use Rattle.std.proofs.Common.{◌≡◌, ℕ, ◌<◌, ◌≤◌, ◌+◌, List, [], ◌∷◌, ◌++◌, length, get_or, take, Ordering, Less, Some, sym, ap, ◌∙◌, inl, inr, subst}
+use Rattle.std.proofs.Common.{◌≡◌, ℕ, ◌<◌, ◌≤◌, ◌+◌, List, [], ◌∷◌, ◌++◌, length, get_or, take, All, Ordering, Less, Some, sym, ap, ◌∙◌, inl, inr, subst}
 use Rattle.std.proofs.lemmas.Bool.{cases_order}
 use Rattle.std.proofs.lemmas.Cmp.{nat_cmp_total}
 use Rattle.std.proofs.lemmas.List.{map-id, take_all}
@@ -56,3 +56,7 @@ zip_more R xs i x ys y lt is here so_far =
 -- all items
 pub zip_whole : {A B : Type 0} (R : A → B → Type 0) (xs : List A) (i : ℕ) (ys : List B) → length xs ≤ i → AllZip R (take i xs) ys → AllZip R xs ys
 zip_whole R xs i ys le h = subst (λ zs. AllZip R zs ys) (take_all i xs le) h
+
+-- what holds of all holds of the item that is read
+pub all_item : {A : Type 0} (P : A → Type 0) (xs : List A) (i : ℕ) (x : A) → All P xs → i < length xs → x ≡ get_or xs i x → P x
+all_item P xs i x all lt is = subst P (sym is) (all i x lt)

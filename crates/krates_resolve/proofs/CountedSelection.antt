@@ -1,5 +1,5 @@
 -- The counts of a search are the counts of its selection.
-use Rattle.std.proofs.Common.{◌≡◌, ◌≢◌, ℕ, zero, suc, ◌<◌, ◌≤◌, List, [], ◌∷◌, length, get_or, Bool, true, false, Some, Contains, option_map, refl, sym, ap, ◌∙◌, subst, arith}
+use Rattle.std.proofs.Common.{◌≡◌, ◌≢◌, ℕ, zero, suc, ◌<◌, ◌≤◌, List, [], ◌∷◌, length, get_or, Bool, true, false, ◌==◌, Some, Contains, option_map, refl, sym, ap, ◌∙◌, subst, eqb-true, arith}
 use Rattle.std.proofs.lemmas.List.{length-map}
 use Rattle.std.proofs.lemmas.List.Sorted.{length_permutation}
 use Rattle.std.proofs.lemmas.Option.{slice_get-get_or, slice_get-map, slice_get_within, same_Some}
@@ -11,7 +11,6 @@ use Rattle.krates_rules.specs.Admission.{NoneDoubled, node_texts}
 use Rattle.krates_rules.specs.Facts.{Id}
 use Rattle.krates_rules.specs.Resolved.{NodeAt, Resolved, id_of}
 use Rattle.krates_resolve.specs.Counting.{HasCountedAll}
-use Rattle.krates_resolve.specs.Found.{HaveNumbers}
 use Rattle.krates_lookups.specs.ListedFeatures.{listed_features}
 use Rattle.krates_lookups.specs.Numbering.{FeatureAt, IsOwn}
 use Rattle.krates_resolve.specs.SelectionOrder.{same_feature}
@@ -27,7 +26,11 @@ use Rattle.krates_rules.proofs.Readings.{left_of}
 use Rattle.krates_rules.proofs.Standings.{contains_at}
 use Rattle.krates_lookups.proofs.Distinct.{distinct_from, zip_shuffled}
 use Rattle.krates_lookups.proofs.NodeParts.{node_here}
-use Rattle.krates_resolve.proofs.Selected.{AreAt, EqualityTellsSame, both, same_name}
+use Rattle.krates_resolve.specs.CrateNumbers.{id_at}
+use Rattle.krates_resolve.specs.KeptFeatures.{AreSorted, IsFeatureOf}
+use Rattle.krates_resolve.proofs.Elements.{both}
+use Rattle.krates_resolve.proofs.KeptFeatures.{same_name}
+use Rattle.krates_resolve.proofs.Selected.{AreAt, EqualityTellsSame}
 
 -- a boolean that isn't true is false
 is_false : (b : Bool) → (b ≡ true → ⊥) → b ≡ false
@@ -71,14 +74,14 @@ one_number r i j f g n m none a b x y krate name =
     neither_less n m (a m (y.place, g) here y.at) (b n (y.place, g) y.at here)
 
 -- no feature was put twice
-distinct_enabled : EqualityTellsSame → (r : Resolved) (numbers : List ℕ) (enabled : List EnabledFeature) → NoneDoubled r.metadata r.graph → ((n : ℕ) → Contains numbers n → IsOwn r n) → AllPairs (λ a b. a ≢ b) numbers
-    → HaveNumbers r numbers enabled → IsDistinct same_feature enabled
-distinct_enabled tells r numbers enabled none own distinct zip = distinct_from same_feature enabled (λ j k a b lt x y. is_false (same_feature a b) (λ same.
-    (let n = left_of (λ n x. FeatureAt r (id_of x.krate) (text_view x.name) n) numbers enabled j a zip x in
-    let m = left_of (λ n x. FeatureAt r (id_of x.krate) (text_view x.name) n) numbers enabled k b zip y in
-    let parts = both (same_id a.krate b.krate) _ same in
-    let krate : id_of a.krate ≡ id_of b.krate = id_of_same a.krate b.krate ((tells a.krate b.krate).0 parts.0) in
-    let e : n.0 ≡ m.0 = one_number r (id_of a.krate) (id_of b.krate) (text_view a.name) (text_view b.name) n.0 m.0 none (own n.0 (contains_at numbers j n.0 n.1)) (own m.0 (contains_at numbers k m.0 m.1)) n.2 m.2 krate (same_name a.name b.name parts.1) in
+distinct_enabled : (r : Resolved) (kids : List Identity) (numbers : List ℕ) (enabled : List EnabledFeature) → NoneDoubled r.metadata r.graph → ((n : ℕ) → Contains numbers n → IsOwn r n) → AllPairs (λ a b. a ≢ b) numbers
+    → AllZip (IsFeatureOf r kids) numbers enabled → IsDistinct same_feature enabled
+distinct_enabled r kids numbers enabled none own distinct zip = distinct_from same_feature enabled (λ j k a b lt x y. is_false (same_feature a b) (λ same.
+    (let n = left_of (IsFeatureOf r kids) numbers enabled j a zip x in
+    let m = left_of (IsFeatureOf r kids) numbers enabled k b zip y in
+    let parts = both (a.krate == b.krate) _ same in
+    let krate : id_at kids a.krate ≡ id_at kids b.krate = ap (id_at kids) (eqb-true a.krate b.krate parts.0) in
+    let e : n.0 ≡ m.0 = one_number r (id_at kids a.krate) (id_at kids b.krate) (text_view a.name) (text_view b.name) n.0 m.0 none (own n.0 (contains_at numbers j n.0 n.1)) (own m.0 (contains_at numbers k m.0 m.1)) n.2.at m.2.at krate (same_name a.name b.name parts.1) in
     apart numbers j k m.0 distinct lt (subst (λ (i : ℕ). slice_get numbers j ≡ Some i) e n.1) m.1)))
 
 -- place by place
@@ -89,43 +92,39 @@ zip_from R (x ∷ xs) [] long each = absurd (omega (arith, long))
 zip_from R (x ∷ xs) (n ∷ ns) long each = (each zero x n refl refl, zip_from R xs ns (omega (arith, long)) (λ k y m a b. each (suc k) y m a b))
 
 -- there are as many numbers as features
-numbers_long : (r : Resolved) (numbers : List ℕ) (enabled : List EnabledFeature) → HaveNumbers r numbers enabled → length enabled ≡ length numbers
-numbers_long r [] [] z = refl
-numbers_long r [] (x ∷ xs) z = absurd z
-numbers_long r (n ∷ ns) [] z = absurd z
-numbers_long r (n ∷ ns) (x ∷ xs) z = ap suc (numbers_long r ns xs z.1)
+numbers_long : (r : Resolved) (kids : List Identity) (numbers : List ℕ) (enabled : List EnabledFeature) → AllZip (IsFeatureOf r kids) numbers enabled → length enabled ≡ length numbers
+numbers_long r kids [] [] z = refl
+numbers_long r kids [] (x ∷ xs) z = absurd z
+numbers_long r kids (n ∷ ns) [] z = absurd z
+numbers_long r kids (n ∷ ns) (x ∷ xs) z = ap suc (numbers_long r kids ns xs z.1)
 
 -- what was found, and counted
-pub record IsCountedWhole (r : Resolved) (s : SettingModel) (ids : List Identity) (found : Found) (kids : List Identity) (enabled : List EnabledFeature) (work : Work) : Type 0 where
+pub record IsCountedWhole (r : Resolved) (s : SettingModel) (ids : List Identity) (found : Found) (put kids : List Identity) (work : Work) : Type 0 where
   pub none_doubled : NoneDoubled r.metadata r.graph
   pub reads : AllZip Reads (node_texts r.graph) ids
-  pub krates : AreAt ids found.krates.put kids
+  pub krates : AreAt ids found.krates.put put
   pub krates_once : AllPairs (λ a b. a ≢ b) found.krates.put
-  pub features : HaveNumbers r found.features.put enabled
+  pub krates_moved : IsDistinct same_id put → IsPermutation put kids
   pub features_once : AllPairs (λ a b. a ≢ b) found.features.put
   pub own : (n : ℕ) → Contains found.features.put n → IsOwn r n
   pub counted : HasCountedAll r s found work
 
--- the same crates and features in another order, none of them twice
-pub record AreMoved (kids others : List Identity) (enabled features : List EnabledFeature) : Type 0 where
-  pub krates_moved : IsDistinct same_id kids → IsPermutation kids others
-  pub features_moved : IsDistinct same_feature enabled → IsPermutation enabled features
-
-pub counts_each : EqualityTellsSame → (r : Resolved) (s : SettingModel) (ids : List Identity) (found : Found) (kids others : List Identity) (enabled features : List EnabledFeature) (work : Work) → IsCountedWhole r s ids found kids enabled work → AreMoved kids others enabled features
-    → CountsEach r s (length others) features work
-counts_each tells r s ids found kids others enabled features work whole moved =
-    let refers : EnabledFeature → ℕ → Type 0 = λ f k. HasReferences r s (id_of f.krate) (text_view f.name) k in
+pub counts_each : EqualityTellsSame → (r : Resolved) (s : SettingModel) (ids : List Identity) (found : Found) (put kids : List Identity) (features : List EnabledFeature) (work : Work) → IsCountedWhole r s ids found put kids work
+    → AreSorted r kids found.features.put features → CountsEach r s kids features work
+counts_each tells r s ids found put kids features work whole sorted =
+    let refers : EnabledFeature → ℕ → Type 0 = λ f k. HasReferences r s (id_at kids f.krate) (text_view f.name) k in
+    let enabled = sorted.enabled in
     let c = whole.counted in
     let t = c.counted.references.1 in
-    let p = moved.krates_moved (distinct_kids tells r ids found.krates.put kids whole.none_doubled whole.reads whole.krates_once whole.krates) in
-    let q = moved.features_moved (distinct_enabled tells r found.features.put enabled whole.none_doubled whole.own whole.features_once whole.features) in
-    let kids_long : length kids ≡ length found.krates.put = sym (length-map kids (λ (k : Identity). Some k)) ∙ ap length (sym whole.krates) ∙ length-map found.krates.put (slice_get ids) in
-    let krates : found.krates.taken ≡ length others = c.krates ∙ sym kids_long ∙ sym (length_permutation kids others p) in
-    let enabled_long = numbers_long r found.features.put enabled whole.features in
+    let p = whole.krates_moved (distinct_kids tells r ids found.krates.put put whole.none_doubled whole.reads whole.krates_once whole.krates) in
+    let q = sorted.whole (distinct_enabled r kids found.features.put enabled whole.none_doubled whole.own whole.features_once sorted.numbered) in
+    let put_long : length put ≡ length found.krates.put = sym (length-map put (λ (k : Identity). Some k)) ∙ ap length (sym whole.krates) ∙ length-map found.krates.put (slice_get ids) in
+    let krates : found.krates.taken ≡ length kids = c.krates ∙ sym put_long ∙ sym (length_permutation put kids p) in
+    let enabled_long = numbers_long r kids found.features.put enabled sorted.numbered in
     let taken : found.features.taken ≡ length features = c.features ∙ sym enabled_long ∙ sym (length_permutation enabled features q) in
     let zip : AllZip refers enabled t.counts = zip_from refers enabled t.counts (t.long ∙ c.features ∙ sym enabled_long) (λ k x n at count.
-    (let w = left_of (λ n x. FeatureAt r (id_of x.krate) (text_view x.name) n) found.features.put enabled k x whole.features at in
-    t.each k w.0 n w.1 count (id_of x.krate) (text_view x.name) w.2)) in
+    (let w = left_of (IsFeatureOf r kids) found.features.put enabled k x sorted.numbered at in
+    t.each k w.0 n w.1 count (id_at kids x.krate) (text_view x.name) w.2.at)) in
     let z = zip_shuffled refers enabled features t.counts q zip in
     record {
       krates = c.counted.krates ∙ ap counted krates;

@@ -83,6 +83,7 @@ edge_advances r s x v e edge sound more is placed reached used marked d step =
           stepped = λ f h. edge_each (HasSomeStep r x.trace.items) r x v e f sound.stepped more (subst (λ (z : Edge). HasSomeStep r x.trace.items (Kept z)) back step) h;
           numbered = record { krates = sound.numbered.krates; features = sound.numbered.features; marked = sound.numbered.marked; waiting = sound.numbered.waiting };
           placed = subst (All (IsFoundEdge r s)) (sym more) (All-push (IsFoundEdge r s) x.edges.items e sound.placed placed);
+          toggles = sound.toggles;
           reached = each_edge x v e (λ z. HasFound r x (Crate z.child)) more sound.reached (subst (λ (z : Edge). HasFound r x (Crate z.child)) back reached);
           used = λ z h b w. used_grows r x y b z.child grown (each_edge x v e (IsUsed r s x) more sound.used (subst (IsUsed r s x) back used) z h b w);
           marked = λ z place index h at.

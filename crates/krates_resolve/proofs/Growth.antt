@@ -1,7 +1,7 @@
 -- What was found grows by a crate, a feature, an edge, a toggled feature, a mark, or a feature that waits.
-use Rattle.std.proofs.Common.{◌≡◌, ◌⊎◌, ℕ, List, [], ◌∷◌, ◌++◌, length, map, Bool, true, false, Some, Contains, refl, sym, ap, ◌∙◌, subst, inl, inr}
+use Rattle.std.proofs.Common.{◌≡◌, ◌⊎◌, ℕ, List, [], ◌∷◌, ◌++◌, length, map, Bool, true, false, Some, All, Contains, refl, sym, ap, ◌∙◌, subst, inl, inr}
 use Rattle.std.proofs.lemmas.List.{map-append}
-use Rattle.std.proofs.lemmas.List.Elements.{Contains-push, Contains-push_cases, Contains-append_left}
+use Rattle.std.proofs.lemmas.List.Elements.{All-push, Contains-push, Contains-push_cases, Contains-append_left}
 use Rattle.std.specs.Bool.{OnTrue, OnFalse}
 use Rattle.std.specs.List.{AllZip, slice_get}
 use Rattle.std.specs.Global.{Vec}
@@ -14,7 +14,7 @@ use Rattle.krates_rules.specs.Resolved.{DepAt, NodeAt, Resolved}
 use Rattle.krates_resolve.specs.Links.{IsMarked, IsMarkedBy, IsWaiter, NotesAsked, Waits, HasMarked, HasWaiter}
 use Rattle.krates_rules.specs.Questions.{edge_between, questions}
 use Rattle.krates_lookups.specs.Numbering.{FeatureAt, IsOwn}
-use Rattle.krates_resolve.specs.FoundToggle.{found_toggled}
+use Rattle.krates_resolve.specs.FoundToggle.{IsFoundToggle, found_toggled}
 use Rattle.krates_rules.specs.Setting.{SettingModel}
 use Rattle.krates_resolve.specs.declared.found.Found.{Found}
 use Rattle.krates_resolve.specs.Trace.{HasSomeStep, HasStep, IsTrace, MayFind, Names}
@@ -114,6 +114,7 @@ crate_advances once r s x a v place n i sound is more at step =
           waiting = sound.numbered.waiting;
         };
         placed = sound.placed;
+        toggles = sound.toggles;
         reached = λ e h. g.found (Crate e.child) (sound.reached e h);
         used = λ e h b w. used_grows r x y b e.child g (sound.used e h b w);
         marked = sound.marked;
@@ -201,6 +202,7 @@ feature_advances once r s x a v number n i f sound is more at own kept step =
           waiting = sound.numbered.waiting;
         };
         placed = sound.placed;
+        toggles = sound.toggles;
         reached = sound.reached;
         used = λ e h b w. used_grows r x y b e.child g (sound.used e h b w);
         marked = sound.marked;
@@ -259,8 +261,8 @@ enabled_by f = f
 
 -- a toggled feature is added, which is enabled
 pub toggled_advances : (r : Resolved) (s : SettingModel) (x : Found) (v : Vec FoundToggle) (t : FoundToggle) (p c : Id) (g : Text) → IsSound r s x → v.items ≡ x.toggled.items ++ t ∷ [] → found_toggled t ≡ Toggled p c g
-    → HasFound r x (Feature c g) → Derivable (questions r s) (Toggled p c g) → HasSomeStep r x.trace.items (Toggled p c g) → Advances r s x (record x { toggled = v }) × HasFound r (record x { toggled = v }) (Toggled p c g)
-toggled_advances r s x v t p c g sound more is enabled d step =
+    → IsFoundToggle r t → HasFound r x (Feature c g) → Derivable (questions r s) (Toggled p c g) → HasSomeStep r x.trace.items (Toggled p c g) → Advances r s x (record x { toggled = v }) × HasFound r (record x { toggled = v }) (Toggled p c g)
+toggled_advances r s x v t p c g sound more is nodes enabled d step =
     let y = WithToggled x v in
     let grown : Grows r x y = record { found = λ f h. toggled_found r x v t f more h; steps = λ n f h. h; waits = λ b k m n z at h. inl h; krates = λ k n h. h; features = λ k n h. h; krates_taken = refl; features_taken = refl } in (
       record {
@@ -274,6 +276,7 @@ toggled_advances r s x v t p c g sound more is enabled d step =
           stepped = λ f h. toggled_each (HasSomeStep r x.trace.items) r x v t f sound.stepped more (subst (HasSomeStep r x.trace.items) (sym is) step) h;
           numbered = record { krates = sound.numbered.krates; features = sound.numbered.features; marked = sound.numbered.marked; waiting = sound.numbered.waiting };
           placed = sound.placed;
+          toggles = subst (All (IsFoundToggle r)) (sym more) (All-push (IsFoundToggle r) x.toggled.items t sound.toggles nodes);
           reached = sound.reached;
           used = λ e h b w. used_grows r x y b e.child grown (sound.used e h b w);
           marked = sound.marked;
@@ -352,6 +355,7 @@ step_advances once r s x v step f sound more names finds =
               record { feature = old.feature; found = stay w.step (Feature p old.feature) old.found; name = old.name; refers = old.refers; referent = old.referent };
         };
         placed = sound.placed;
+        toggles = sound.toggles;
         reached = sound.reached;
         used = λ e h b w. used_grows r x y b e.child grown (sound.used e h b w);
         marked = sound.marked;
@@ -399,6 +403,7 @@ waiter_advances r s x l place index w sound more asked step unmarked =
           ];
         };
         placed = sound.placed;
+        toggles = sound.toggles;
         reached = sound.reached;
         used = λ e h b w. used_grows r x y b e.child grown (sound.used e h b w);
         marked = λ e k i h at. same_mark x.links l k i (λ n. (more.marks k i n).0) (sound.marked e k i h at);
@@ -444,6 +449,7 @@ asked_advances r s x l place index sound more now_tried =
           waiting = λ p c k i v at w. sound.numbered.waiting p c k i v at ((more.waits k i v).1 w);
         };
         placed = sound.placed;
+        toggles = sound.toggles;
         reached = sound.reached;
         used = λ e h b w. used_grows r x y b e.child grown (sound.used e h b w);
         marked = λ e k i h at. same_mark x.links l k i (λ n. (more.marks k i n).0) (sound.marked e k i h at);
@@ -498,6 +504,7 @@ mark_sound r s x l place index n waiters sound more arrived kept step =
         waiting = λ p c k i v at w. sound.numbered.waiting p c k i v at (more.waited k i v w);
       };
       placed = sound.placed;
+      toggles = sound.toggles;
       reached = sound.reached;
       used = λ e h b w. used_linked r x l b e.child (sound.used e h b w);
       marked = λ e k i h at. more.stays k i (sound.marked e k i h at);

@@ -1,7 +1,9 @@
 pub mod ByNumber
 pub mod Counted
 pub mod CountedSelection
+pub mod CrateNumbers
 pub mod EdgeGrowth
+pub mod Elements
 pub mod Enabled
 pub mod Entries
 pub mod FeaturesAt
@@ -11,12 +13,13 @@ pub mod Growing
 pub mod Growth
 pub mod Heedings
 pub mod KeptEdges
+pub mod KeptEnds
 pub mod KeptFeatures
+pub mod KeptNumbers
 pub mod KeptSteps
 pub mod KeptToggled
 pub mod KindOrder
 pub mod LinkLemmas
-pub mod NodeNumber
 pub mod Putting
 pub mod Referred
 pub mod Rooted

@@ -19,6 +19,7 @@ use Rattle.krates_rules.specs.Referent.{IsReferent}
 use Rattle.krates_rules.specs.Rules.{Rule, IsAskedFor, root_crate, root_feature, lost_root_package, lost_root_node, feature_crate, named, lost_named, asked, toggled_strongly, lost_asked_package, lost_asked_node, lost_toggled_strongly, required, target, lost_undeclared, lost_required_package, lost_required_node, declared, by_default, lost_declared, toggled_weakly, toggled_feature, lost_toggled_weakly}
 use Rattle.krates_resolve.specs.Saturation.{AreDone}
 use Rattle.krates_resolve.specs.FoundEdge.{found_view, IsFoundEdge}
+use Rattle.krates_resolve.specs.FoundToggle.{IsFoundToggle}
 use Rattle.krates_resolve.specs.FoundToggle.{found_toggled}
 use Rattle.krates_rules.specs.Setting.{SettingModel}
 use Rattle.krates_rules.specs.Steps.{StepModel}
@@ -231,6 +232,7 @@ sound_start r s x krates features links new none = record {
     waiting = λ p c place index w dep waits. absurd (new.none_waits place index w.name.now (record { waiter = w; waits = waits; named = refl }));
   };
   placed = subst (All (IsFoundEdge r s)) (sym none.edges) (λ k d lt. absurd (omega (arith, lt)));
+  toggles = subst (All (IsFoundToggle r)) (sym none.toggled) (λ k d lt. absurd (omega (arith, lt)));
   reached = λ e h. absurd (nothing_found r x none (Kept e) h);
   used = λ e h. absurd (nothing_found r x none (Kept e) h);
   marked = λ e place index h. absurd (nothing_found r x none (Kept e) h);

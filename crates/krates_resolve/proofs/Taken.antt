@@ -67,6 +67,7 @@ sound_taken r s x n m h = record {
   stepped = h.stepped;
   numbered = record { krates = h.numbered.krates; features = h.numbered.features; marked = h.numbered.marked; waiting = h.numbered.waiting };
   placed = h.placed;
+  toggles = h.toggles;
   reached = h.reached;
   used = λ e found d w. used_taken r x n m d e.child (h.used e found d w);
   marked = h.marked;

@@ -1,13 +1,13 @@
 -- What has been found during the search for a selection.
-use Rattle.std.specs.Prelude.{◌≡◌, ◌↔◌, ℕ, ◌<◌, Bool, List, [], ◌∷◌, ◌++◌, ◌⊎◌, All, Some, false, true, Contains, length, map, slice_get, ⊤}
+use Rattle.std.specs.Prelude.{◌≡◌, ℕ, ◌<◌, Bool, List, [], ◌∷◌, ◌++◌, ◌⊎◌, All, Some, false, true, Contains, length, map, slice_get, ⊤}
 use Rattle.krates_graph.specs.Agenda.{PutNumbers}
 use Rattle.std.specs.List.{AllZip}
-use Rattle.krates_cm.specs.Document.{Text, DependencyModel, DepKindInfoModel, NodeDepModel, text_view}
+use Rattle.krates_cm.specs.Document.{Text, DependencyModel, DepKindInfoModel, NodeDepModel}
 use Rattle.krates_text.specs.FeatureReference.{Reference, krate, weak, strong, simple, IsReference}
 use Rattle.krates_rules.specs.Derivation.{Derivable}
 use Rattle.krates_rules.specs.Facts.{Id, Edge, LostPackage, LostNode, LostFeature, Undeclared, Fact, Crate, Feature, Kept, Toggled, Lost}
 use Rattle.krates_rules.specs.Features.{ListsFeature, LacksFeature, HasReference}
-use Rattle.krates_rules.specs.Resolved.{DepAt, NodeAt, Resolved, NoPackage, id_of}
+use Rattle.krates_rules.specs.Resolved.{DepAt, NodeAt, Resolved, NoPackage}
 use Rattle.krates_resolve.specs.Links.{HasLinks, IsMarked, IsMarkedBy, IsWaiter, Waits, WasAsked}
 use Rattle.krates_resolve.specs.Trace.{HasSomeStep, HasStep, IsTrace}
 use Rattle.krates_rules.specs.Questions.{edge_between, Stands, LacksNode, IsWanted, IsLoose, questions}
@@ -17,14 +17,12 @@ use Rattle.krates_rules.specs.Referent.{IsReferent}
 use Rattle.krates_rules.specs.Roots.{IsRoot}
 use Rattle.krates_rules.specs.Rules.{default_name}
 use Rattle.krates_resolve.specs.FoundEdge.{IsFoundEdge, found_view}
-use Rattle.krates_resolve.specs.FoundToggle.{found_toggled}
-use Rattle.krates_resolve.specs.Selection.{feature_fact}
+use Rattle.krates_resolve.specs.FoundToggle.{IsFoundToggle, found_toggled}
 use Rattle.krates_rules.specs.Setting.{SettingModel}
 use Rattle.krates_resolve.specs.declared.found.Found.{Found}
 use Rattle.krates_resolve.specs.declared.links.Links.{Links}
 use Rattle.krates_resolve.specs.declared.links.Waiting.{Waiting}
 use Rattle.krates_resolve.specs.declared.trace.NumberedStep.{NumberedStep}
-use Rattle.krates_resolve.specs.declared.selection.EnabledFeature.{EnabledFeature}
 use Rattle.krates_resolve.specs.declared.found_edge.FoundEdge.{FoundEdge}
 use Rattle.krates_resolve.specs.declared.found_toggle.FoundToggle.{FoundToggle}
 
@@ -240,6 +238,7 @@ pub record IsSound (r : Resolved) (s : SettingModel) (x : Found) : Type 0 where
   pub stepped : (f : Fact) → HasFound r x f → HasSomeStep r x.trace.items f
   pub numbered : HaveTheirSteps r s (traced x)
   pub placed : All (IsFoundEdge r s) x.edges.items
+  pub toggles : All (IsFoundToggle r) x.toggled.items
   -- a kept edge
   pub reached : (e : Edge) → HasFound r x (Kept e) → HasFound r x (Crate e.child)
   pub used : (e : Edge) → HasFound r x (Kept e) → IsUsed r s x e
@@ -296,11 +295,3 @@ AreExpanded r s x n = (k place : ℕ) (i : Id) → k < n → slice_get x.krates.
 -- and the features of the first numbers
 abbrev pub AreHeeded : Resolved → SettingModel → Found → ℕ → Type 0
 AreHeeded r s x n = (k number : ℕ) (i : Id) (f : Text) → k < n → slice_get x.features.put k ≡ Some number → FeatureAt r i f number → IsHeeded r s x i f
-
--- each feature has the number at its place
-abbrev pub HaveNumbers : Resolved → List ℕ → List EnabledFeature → Type 0
-HaveNumbers r numbers list = AllZip (λ number x. FeatureAt r (id_of x.krate) (text_view x.name) number) numbers list
-
--- these are the features of the numbers
-abbrev pub HasEach : Resolved → List ℕ → List EnabledFeature → Type 0
-HasEach r numbers list = (i : Id) (f : Text) → IsEnabled r numbers i f ↔ Contains (map feature_fact list) (Feature i f)

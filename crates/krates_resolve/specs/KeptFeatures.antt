@@ -1,29 +1,40 @@
--- Enabled features by the numbers of their crates, and in order.
-use Rattle.std.specs.Prelude.{◌≡◌, ℕ, List, Contains, true}
-use Rattle.std.specs.List.{IsDistinct}
+-- Enabled features as a selection has them: with the numbers of their crates, and in order.
+use Rattle.std.specs.Prelude.{◌↔◌, ℕ, List, All, Contains, length, map}
+use Rattle.std.specs.List.{AllZip, IsDistinct}
 use Rattle.std.specs.List.Sorted.{IsPermutation, IsStrictlySortedBy}
-use Rattle.krates_lookups.specs.declared.lookup.Lookup.{Lookup}
-use Rattle.krates_resolve.specs.Found.{HasEach, HaveNumbers}
-use Rattle.krates_resolve.specs.NodeNumber.{IsNumberOfId}
+use Rattle.krates_cm.specs.Document.{Text, text_view}
+use Rattle.krates_ids.specs.Identity.{Identity}
+use Rattle.krates_lookups.specs.Numbering.{FeatureAt}
+use Rattle.krates_resolve.specs.CrateNumbers.{HasHome, id_at}
+use Rattle.krates_resolve.specs.Found.{IsEnabled}
+use Rattle.krates_resolve.specs.KeptNumbers.{IsKept}
+use Rattle.krates_resolve.specs.Selection.{feature_fact}
 use Rattle.krates_resolve.specs.SelectionOrder.{feature_cmp, same_feature}
-use Rattle.krates_resolve.specs.declared.kept_features.NumberedFeature.{NumberedFeature}
 use Rattle.krates_resolve.specs.declared.selection.EnabledFeature.{EnabledFeature}
-use Rattle.krates_rules.specs.Resolved.{Resolved, id_of}
+use Rattle.krates_rules.specs.Facts.{Id, Feature}
+use Rattle.krates_rules.specs.Resolved.{Resolved}
 
--- the feature, without the number of its crate
-abbrev pub as_feature : NumberedFeature → EnabledFeature
-as_feature n = record { krate = n.kid; name = n.name }
+-- the feature of the number is one of a kept crate
+pub record HasKeptHome (r : Resolved) (kids : List Identity) (number : ℕ) : Type 0 where
+  pub krate : Id
+  pub name : Text
+  pub at : FeatureAt r krate name number
+  pub kept : IsKept kids krate
 
--- the number is that of its crate
-abbrev pub HasItsNumber : Lookup → NumberedFeature → Type 0
-HasItsNumber d n = IsNumberOfId d (id_of n.kid) n.krate
+-- the feature is that of the number
+pub record IsFeatureOf (r : Resolved) (kids : List Identity) (number : ℕ) (f : EnabledFeature) : Type 0 where
+  pub at : FeatureAt r (id_at kids f.krate) (text_view f.name) number
+  pub home : HasHome (length kids) f
 
--- the features are those of the numbers, in order, of those that are equal one
-pub record AreSorted (r : Resolved) (numbers : List ℕ) (features : List EnabledFeature) : Type 0 where
+-- these are the features of the numbers
+abbrev pub HasEach : Resolved → List Identity → List ℕ → List EnabledFeature → Type 0
+HasEach r kids found kept = (i : Id) (f : Text) → IsEnabled r found i f ↔ Contains (map (feature_fact kids) kept) (Feature i f)
+
+-- the features are those of the numbers, in order, each once
+pub record AreSorted (r : Resolved) (kids : List Identity) (found : List ℕ) (kept : List EnabledFeature) : Type 0 where
+  pub each : HasEach r kids found kept
   pub enabled : List EnabledFeature
-  pub each : HasEach r numbers enabled
-  pub numbered : HaveNumbers r numbers enabled
-  pub from : (x : EnabledFeature) → Contains features x → Contains enabled x
-  pub kept : (x : EnabledFeature) → Contains enabled x → (y : EnabledFeature) × Contains features y × (same_feature x y ≡ true)
-  pub whole : IsDistinct same_feature enabled → IsPermutation enabled features
-  pub ascending : IsStrictlySortedBy feature_cmp features
+  pub numbered : AllZip (IsFeatureOf r kids) found enabled
+  pub whole : IsDistinct same_feature enabled → IsPermutation enabled kept
+  pub homes : All (HasHome (length kids)) kept
+  pub ascending : IsStrictlySortedBy feature_cmp kept

@@ -1,5 +1,6 @@
 pub mod Basis
 pub mod Counting
+pub mod CrateNumbers
 pub mod Explained
 pub mod Found
 pub mod FoundEdge
@@ -7,10 +8,10 @@ pub mod FoundToggle
 pub mod Heeding
 pub mod KeptEdges
 pub mod KeptFeatures
+pub mod KeptNumbers
 pub mod KeptToggled
 pub mod Kinds
 pub mod Links
-pub mod NodeNumber
 pub mod Saturation
 pub mod Selection
 pub mod SelectionOrder

@@ -2,12 +2,14 @@
 use Rattle.std.specs.Prelude.{◌≡◌, ℕ, ◌-◌, ◌^◌, Bool, List, length, max, min}
 use Rattle.std.specs.List.{AllZip, sum}
 use Rattle.krates_cm.specs.Document.{Text, PackageModel, text_view}
+use Rattle.krates_ids.specs.Identity.{Identity}
 use Rattle.krates_rules.specs.Facts.{Id}
 use Rattle.krates_rules.specs.Referent.{AreReferents}
-use Rattle.krates_rules.specs.Resolved.{Resolved, HasPackage, id_of}
+use Rattle.krates_rules.specs.Resolved.{Resolved, HasPackage}
 use Rattle.krates_rules.specs.Setting.{SettingModel}
 use Rattle.krates_text.specs.FeatureReference.{Reference, IsReference, krate, simple, strong, weak}
 use Rattle.krates_lookups.specs.FeatureValues.{values_of}
+use Rattle.krates_resolve.specs.CrateNumbers.{id_at}
 use Rattle.krates_resolve.specs.declared.selection.EnabledFeature.{EnabledFeature}
 use Rattle.krates_resolve.specs.declared.work.Work.{Work}
 
@@ -42,14 +44,14 @@ pub record HasReferences (r : Resolved) (s : SettingModel) (i : Id) (f : Text) (
   pub each : AllZip (CountsText r s.all_named i) (values_of pkg.features f) counts
   pub count : n ≡ sum counts
 
--- the features have so many references together
-pub record HaveReferences (r : Resolved) (s : SettingModel) (features : List EnabledFeature) (n : ℕ) : Type 0 where
+-- the features of these crates have so many references together
+pub record HaveReferences (r : Resolved) (s : SettingModel) (kids : List Identity) (features : List EnabledFeature) (n : ℕ) : Type 0 where
   pub counts : List ℕ
-  pub each : AllZip (λ f k. HasReferences r s (id_of f.krate) (text_view f.name) k) features counts
+  pub each : AllZip (λ f k. HasReferences r s (id_at kids f.krate) (text_view f.name) k) features counts
   pub total : n ≡ sum counts
 
 -- each of these crates is counted once, and so is each of these features, with all its references
-pub record CountsEach (r : Resolved) (s : SettingModel) (crates : ℕ) (features : List EnabledFeature) (work : Work) : Type 0 where
-  pub krates : work.krates ≡ counted crates
+pub record CountsEach (r : Resolved) (s : SettingModel) (kids : List Identity) (features : List EnabledFeature) (work : Work) : Type 0 where
+  pub krates : work.krates ≡ counted (length kids)
   pub features_once : work.features ≡ counted (length features)
-  pub references : (n : ℕ) × HaveReferences r s features n × (work.references ≡ counted n)
+  pub references : (n : ℕ) × HaveReferences r s kids features n × (work.references ≡ counted n)

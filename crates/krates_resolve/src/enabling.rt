@@ -162,6 +162,8 @@ pub(crate) fn toggle<'a>(
         by: by.id,
         krate: node.id,
         name: feature.name,
+        by_node: by.place,
+        krate_node: node.place,
     })?;
     Ok(())
 }

@@ -3,7 +3,7 @@
 use krates_ids::Kid;
 
 /// A toggled feature, by references into the document.
-#[derive(Clone, Copy, PartialEq, Eq, PartialOrd, Ord)]
+#[derive(Clone, Copy)]
 pub(crate) struct FoundToggle<'a> {
     /// The crate whose feature enables it.
     pub by: &'a Kid,
@@ -11,4 +11,8 @@ pub(crate) struct FoundToggle<'a> {
     pub krate: &'a Kid,
     /// The name of the feature.
     pub name: &'a str,
+    /// The place of the node of the crate whose feature enables it.
+    pub by_node: usize,
+    /// The place of the node of the crate whose feature it is.
+    pub krate_node: usize,
 }

@@ -1,12 +1,16 @@
 //! The toggled features in order, as a selection has them.
 
-ghost use Rattle.std.specs.Prelude.{IfOk};
+ghost use Rattle.std.specs.Prelude.{All, IfOk};
 ghost use Rattle.std.specs.List.{AllZip};
-ghost use Rattle.krates_resolve.specs.KeptToggled.{AreToggled, IsToggleCopy};
+ghost use Rattle.krates_lookups.specs.Lookup.{IsLookup, resolved_view};
+ghost use Rattle.krates_resolve.specs.KeptNumbers.{AreKeptNumbers, kids_in};
+ghost use Rattle.krates_resolve.specs.KeptToggled.{AreToggled, HasKeptCrates, IsToggleCopy};
 
 use crate::found_toggle::FoundToggle;
+use crate::kept_numbers::{KeptNumbers, number_at};
 use crate::selection::ToggledFeature;
 use krates_ids::laws;
+use krates_lookups::lookup::Lookup;
 use krates_lookups::sorted::in_order;
 use std::alloc::{AllocError, Global};
 
@@ -15,34 +19,54 @@ use std::alloc::{AllocError, Global};
 /// Time: O(n log n).
 pub(crate) fn kept_toggled(
     alloc: Global,
-    found: Vec<FoundToggle<'_>>,
+    lookup: &Lookup<'_>,
+    numbers: &KeptNumbers<'_>,
+    found: &[FoundToggle<'_>],
 ) -> Result<Vec<ToggledFeature>, AllocError>
-    ensures { IfOk result (λ kept. AreToggled found.entry.items kept.items) }
+    requires lookup { IsLookup lookup.now }
+    requires numbers { AreKeptNumbers lookup.now numbers.now }
+    requires kept { All (HasKeptCrates (resolved_view lookup.now) (kids_in numbers.now)) found.now }
+    ensures { IfOk result (λ kept. AreToggled (kids_in numbers.now) found.now kept.items) }
 {
     laws::comparison();
-    let sorted = in_order(found)?;
-    let kept = copies(alloc, &sorted)?;
-    Ok(kept)
+    let kept = copies(alloc, lookup, numbers, found)?;
+    let sorted = in_order(kept)?;
+    Ok(sorted)
 }
 
-/// Copies of the toggled features.
-fn copies(alloc: Global, toggled: &[FoundToggle<'_>]) -> Result<Vec<ToggledFeature>, AllocError>
-    ensures { IfOk result (λ kept. AllZip IsToggleCopy toggled.now kept.items) }
+/// Copies of the toggled features, with the numbers of their crates.
+fn copies(
+    alloc: Global,
+    lookup: &Lookup<'_>,
+    numbers: &KeptNumbers<'_>,
+    toggled: &[FoundToggle<'_>],
+) -> Result<Vec<ToggledFeature>, AllocError>
+    requires lookup { IsLookup lookup.now }
+    requires numbers { AreKeptNumbers lookup.now numbers.now }
+    requires kept { All (HasKeptCrates (resolved_view lookup.now) (kids_in numbers.now)) toggled.now }
+    ensures { IfOk result (λ kept. AllZip (IsToggleCopy (kids_in numbers.now)) toggled.now kept.items) }
 {
     let mut kept = Vec::with_capacity(alloc, toggled.len())?;
     for toggle in toggled {
-        kept.push(copy_of(alloc, toggle)?)?;
+        kept.push(copy_of(alloc, lookup, numbers, toggle)?)?;
     }
     Ok(kept)
 }
 
-/// A copy of what a toggled feature says.
-fn copy_of(alloc: Global, toggle: &FoundToggle<'_>) -> Result<ToggledFeature, AllocError>
-    ensures { IfOk result (IsToggleCopy toggle.now) }
+/// A copy of what a toggled feature says, with the numbers of its crates.
+fn copy_of(
+    alloc: Global,
+    lookup: &Lookup<'_>,
+    numbers: &KeptNumbers<'_>,
+    toggle: &FoundToggle<'_>,
+) -> Result<ToggledFeature, AllocError>
+    requires lookup { IsLookup lookup.now }
+    requires numbers { AreKeptNumbers lookup.now numbers.now }
+    requires kept { HasKeptCrates (resolved_view lookup.now) (kids_in numbers.now) toggle.now }
+    ensures { IfOk result (IsToggleCopy (kids_in numbers.now) toggle.now) }
 {
-    Ok(ToggledFeature {
-        by: toggle.by.clone()?,
-        krate: toggle.krate.clone()?,
-        name: String::from_str(alloc, toggle.name)?,
-    })
+    let by = number_at(lookup, numbers, toggle.by_node);
+    let krate = number_at(lookup, numbers, toggle.krate_node);
+    let name = String::from_str(alloc, toggle.name)?;
+    Ok(ToggledFeature { by, krate, name })
 }

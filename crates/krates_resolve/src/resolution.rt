@@ -14,6 +14,7 @@ ghost use Rattle.krates_rules.specs.SelectionRefusals.{SelectionRefusal};
 use crate::found::Found;
 use crate::kept_edges::kept_edges;
 use crate::kept_features::kept_features;
+use crate::kept_numbers::KeptNumbers;
 use crate::kept_toggled::kept_toggled;
 use crate::saturation::saturate;
 use crate::selection::Selection;
@@ -22,6 +23,7 @@ use krates_cm::Metadata;
 use krates_document::ids::Ids;
 use krates_document::setting::Setting;
 use krates_ids::{Error, Kid, laws};
+use krates_lookups::crate_table::numbers_of;
 use krates_lookups::lookup::{Lookup, lookup_of};
 use krates_lookups::sorted::in_order;
 use krates_questions::basis::Basis;
@@ -73,20 +75,26 @@ pub fn select_in<'a>(
         return Err(Error::NoRootKrates);
     }
     let krates = in_order(kids_at(alloc, &lookup.ids.nodes, found.krates.numbers())?)?;
-    let features = kept_features(alloc, lookup, found.features.numbers())?;
+    let of_nodes = numbers_of(alloc, &krates, &lookup.ids.nodes)?;
+    let numbers = KeptNumbers {
+        krates: &krates,
+        of_nodes: &of_nodes,
+    };
     let basis = Basis {
         alloc,
         lookup,
         setting,
     };
-    let edges = kept_edges(&basis, &found.edges)?;
-    let Found { toggled, trace, .. } = found;
+    let edges = kept_edges(&basis, &numbers, &found.edges)?;
+    let features = kept_features(alloc, lookup, &numbers, found.features.numbers())?;
+    let toggled = kept_toggled(alloc, lookup, &numbers, &found.toggled)?;
+    let Found { trace: steps, .. } = found;
     Ok(Selection {
         krates,
         edges,
         features,
-        toggled: kept_toggled(alloc, toggled)?,
-        steps: trace,
+        toggled,
+        steps,
         work,
     })
 }
@@ -96,7 +104,7 @@ fn kids_at(alloc: Global, ids: &[Kid], places: &[usize]) -> Result<Vec<Kid>, All
     requires { All (λ place. place < length ids.now) places.now }
     ensures { IfOk result (λ kids. map (slice_get ids.now) places.now ≡ map Some kids.items) }
 {
-    let mut kids = Vec::new(alloc);
+    let mut kids = Vec::with_capacity(alloc, places.len())?;
     for place in places {
         kids.push(ids[*place].clone()?)?;
     }

@@ -25,10 +25,19 @@ fn push_krates(text: &mut String, selection: &Selection) -> Result<(), Fail> {
     Ok(())
 }
 
+/// The word of the kept crate of a number.
+fn word_at(selection: &Selection, number: usize) -> &str {
+    match selection.krates.get(number) {
+        Some(krate) => word_of(krate.repr()),
+        None => "?",
+    }
+}
+
 /// Adds the kept edges, each with its first place and that of its declared dependency.
 fn push_edges(text: &mut String, selection: &Selection) -> Result<(), Fail> {
     for edge in selection.edges.as_slice() {
-        let (parent, child) = (word_of(edge.parent.repr()), word_of(edge.child.repr()));
+        let parent = word_at(selection, edge.parent);
+        let child = word_at(selection, edge.child);
         let kind = name_of(edge.kind);
         write!(
             text,
@@ -42,7 +51,8 @@ fn push_edges(text: &mut String, selection: &Selection) -> Result<(), Fail> {
 /// Adds the enabled features, each behind its crate.
 fn push_features(text: &mut String, selection: &Selection) -> Result<(), Fail> {
     for feature in selection.features.as_slice() {
-        write!(text, ", {}/{}", word_of(feature.krate.repr()), feature.name)?;
+        let krate = word_at(selection, feature.krate);
+        write!(text, ", {krate}/{}", feature.name)?;
     }
     Ok(())
 }

@@ -8,10 +8,11 @@ use Rattle.krates_explain.proofs.FactPlaces.{zip_long}
 use Rattle.krates_explain.proofs.ToldParts.{chosen_low}
 use Rattle.krates_explain.specs.Chosen.{AreChosen}
 use Rattle.krates_explain.specs.Keys.{AreFactNumbers, home, key_view}
-use Rattle.krates_explain.specs.Tables.{AreNumbersIn, AreStepsOf, IsKeyOf, numbered_facts}
+use Rattle.krates_explain.specs.Tables.{AreStepsOf, IsKeyOf, numbered_facts}
 use Rattle.krates_explain.specs.declared.kept.KeptStep.{KeptStep}
 use Rattle.krates_explain.specs.declared.key.FactKey.{FactKey}
 use Rattle.krates_explain.specs.declared.keys.Tables.{Tables}
+use Rattle.krates_lookups.specs.CrateTable.{AreNumbersOf}
 use Rattle.krates_lookups.proofs.SeenInOrder.{sorted_same}
 use Rattle.krates_questions.specs.Basis.{document_of, rules_of}
 use Rattle.krates_ids.specs.Identity.{Identity, id_cmp}
@@ -21,18 +22,18 @@ use Rattle.krates_rules.specs.Resolved.{id_of}
 use Rattle.krates_steps.specs.Part.{AreBackward, SameFact}
 use Rattle.krates_explain.proofs.explaining.kept_steps.Goals as goal
 
-pub numbers_in-requires : goal.numbers_in-requires
-numbers_in-requires c = sorted_same id_cmp id_order id_of (λ a b. refl) c.args.krates.now c.requires.ascending
+pub numbers_of-requires : goal.numbers_of-requires
+numbers_of-requires c = sorted_same id_cmp id_order id_of (λ a b. refl) c.args.krates.now c.requires.ascending
 
 pub keys_of-requires-clause-tables : goal.keys_of-requires-clause-tables
 keys_of-requires-clause-tables c =
     let kids = c.args.krates.now in
     let numbers = c.in_ok-krate_numbers.krate_numbers.items in
-    let among = subst (λ (ids : List Identity). AreNumbersIn kids ids numbers) c.deref.ensures.value c.in_ok-krate_numbers.ensures in
+    let among = subst (λ (ids : List Identity). AreNumbersOf (map id_of kids) ids numbers) c.deref.ensures.value c.in_ok-krate_numbers.ensures in
     record {
       lookup = c.requires.lookup;
       ascending = sorted_same id_cmp id_order id_of (λ a b. refl) kids c.requires.ascending;
-      numbers = subst (AreNumbersIn kids c.args.basis.now.lookup.now.table.ids.items) (sym c.deref-2.ensures.value) among;
+      numbers = subst (AreNumbersOf (map id_of kids) c.args.basis.now.lookup.now.table.ids.items) (sym c.deref-2.ensures.value) among;
     }
 
 pub keys_of-requires-clause-kept : goal.keys_of-requires-clause-kept
@@ -40,8 +41,8 @@ keys_of-requires-clause-kept c =
     let t : Tables = record { lookup = c.args.basis.now.lookup; krates = c.args.krates; numbers = c.deref-2.result } in
     kept_facts t c.args.basis.now.setting.now c.args.steps.now c.requires.trace c.requires.crates
 
-pub numbers_of-requires : goal.numbers_of-requires
-numbers_of-requires c =
+pub numbers_of-requires-2 : goal.numbers_of-requires-2
+numbers_of-requires-2 c =
     let steps = c.args.steps.now in
     let t : Tables = record { lookup = c.args.basis.now.lookup; krates = c.args.krates; numbers = c.deref-2.result } in
     let low = homes_low t (numbered_facts steps) c.in_ok-keys.keys.items c.in_ok-keys.ensures in

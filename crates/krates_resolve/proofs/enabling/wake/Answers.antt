@@ -16,7 +16,7 @@ use Rattle.krates_resolve.specs.declared.links.Waiting.{Waiting}
 use Rattle.krates_resolve.proofs.Finding.{finds_woken, for_reason}
 use Rattle.krates_resolve.proofs.Growing.{advances_refl, advances_trans, toggled_grows}
 use Rattle.krates_resolve.proofs.Growth.{mark_sound, mark_grows, with_links}
-use Rattle.krates_resolve.proofs.Selected.{contains_or}
+use Rattle.krates_resolve.proofs.Elements.{contains_or}
 use Rattle.krates_resolve.proofs.Steps.{finds_more}
 use Rattle.krates_document.proofs.Seen.{seen_more}
 use Rattle.krates_resolve.proofs.Waking.{may_wake, one_way}

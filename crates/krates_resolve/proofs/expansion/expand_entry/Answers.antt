@@ -12,7 +12,7 @@ use Rattle.krates_resolve.proofs.FirstKinds.{first_info, first_within, info_ther
 use Rattle.krates_resolve.proofs.Growing.{advances_refl, advances_trans}
 use Rattle.krates_resolve.proofs.Growth.{asked_advances, with_links}
 use Rattle.krates_resolve.proofs.Heedings.{noted_tried}
-use Rattle.krates_resolve.proofs.Selected.{both, contains_or}
+use Rattle.krates_resolve.proofs.Elements.{both, contains_or}
 use Rattle.krates_resolve.proofs.Steps.{finds_more}
 use Rattle.krates_resolve.proofs.TriedKinds.{kinds_in, kinds_more, kinds_whole}
 use Rattle.krates_resolve.proofs.expansion.expand_entry.Goals as goal

@@ -5,7 +5,7 @@ use Rattle.krates_resolve.proofs.Selected.{AreAt, at_more}
 use Rattle.krates_resolve.proofs.resolution.kids_at.Goals as goal
 
 pub loop-place-init : goal.loop-place-init
-loop-place-init c = subst (λ (kids : List Identity). AreAt c.args.ids.now [] kids) (sym c.new-kids.ensures.items) refl
+loop-place-init c = subst (λ (kids : List Identity). AreAt c.args.ids.now [] kids) (sym c.in_ok-kids.ensures.items) refl
 
 pub loop-place-preserved : goal.loop-place-preserved
 loop-place-preserved c =
