@@ -1,43 +1,38 @@
 -- The crates to which sorted edges lead.
-use Rattle.std.proofs.Common.{◌≡◌, ℕ, zero, suc, ◌+◌, ◌-◌, ◌<◌, Bool, true, false, not, ◌||◌, List, [], ◌∷◌, ◌++◌, length, get_or, slice_get, take, map, filter, cond, Option, Some, None, option_map, Ordering, Less, Equal, Greater, refl, sym, ap, ◌∙◌, subst, inl, inr, arith, rules}
+use Rattle.std.proofs.Common.{◌≡◌, ℕ, zero, suc, ◌+◌, ◌-◌, ◌<◌, ◌≤◌, ◌==◌, Bool, true, false, not, ◌||◌, List, [], ◌∷◌, ◌++◌, All, length, get_or, slice_get, take, map, filter, cond, Option, Some, Ordering, Less, Equal, Greater, refl, sym, ap, ◌∙◌, subst, inl, inr, arith}
 use Rattle.std.proofs.lemmas.Bool.{cases_lt}
-use Rattle.std.proofs.lemmas.List.{map_more}
-use Rattle.std.proofs.lemmas.Option.{same_Some, slice_get-map}
-use Rattle.std.specs.Cmp.{IsTotalOrder}
-use Rattle.std.specs.Cmp.Rules.{comparing}
-use Rattle.std.specs.List.{AllByRecursion, list_any}
+use Rattle.std.proofs.lemmas.List.{flat_map_more, length-map, map_more, take_more}
+use Rattle.std.proofs.lemmas.List.Elements.{All-take}
+use Rattle.std.proofs.lemmas.Option.{same_Some, slice_get-get_or}
+use Rattle.std.specs.List.{AllByRecursion, flat_map, list_any}
 use Rattle.std.specs.List.Sorted.{IsStrictlySortedBy}
-use Rattle.std.specs.Ordering.{is_eq, ordering_reverse}
-use Rattle.krates_ids.specs.Identity.{Identity, id_cmp}
+use Rattle.std.specs.Ordering.{is_eq, nat_cmp}
+use Rattle.krates_ids.specs.Identity.{id_cmp}
+use Rattle.krates_resolve.specs.CrateNumbers.{HasEnds, id_at}
 use Rattle.krates_rules.specs.Facts.{Id}
 use Rattle.krates_rules.specs.Referent.{id_order}
 use Rattle.krates_rules.specs.Resolved.{id_of}
-use Rattle.krates_drawing.specs.Drawing.{crate_number, id_eq, is_crate, is_to, last_from, leads_to, place_of}
+use Rattle.krates_drawing.specs.Drawing.{children_lines, crate_lines, crate_number, from_crate, id_eq, is_crate, is_to, last_from, leads_to, pair_lines, place_of}
 use Rattle.krates_drawing.specs.Sheet as model
-use Rattle.krates_drawing.specs.SheetOrder.{AreByChild, IsFirstTo, number_of}
-use Rattle.krates_drawing.specs.Views.{krate_view, link_view}
+use Rattle.krates_drawing.specs.SheetOrder.{AreByChild, children_of, has_child, number_of}
+use Rattle.krates_drawing.specs.Views.{kids_in, kids_of, krate_at, krate_view, link_view, no_krate, sheet_view}
+use Rattle.krates_drawing.specs.declared.origin.Home.{Home}
 use Rattle.krates_drawing.specs.declared.sheet.Krate.{Krate}
 use Rattle.krates_drawing.specs.declared.sheet.Link.{Link}
-use Rattle.krates_drawing.proofs.Halves.{get_take}
+use Rattle.krates_drawing.specs.declared.sheet.Sheet.{Sheet}
+use Rattle.krates_drawing.proofs.CratePlaces.{AreInOrder, id_of_krate, ids_compare, led_to, own_number}
 use Rattle.krates_drawing.proofs.Joined.{either, joined}
-use Rattle.krates_drawing.proofs.Members.{contains_of, mapped_of, passing_of}
 use Rattle.krates_drawing.proofs.NodeNumbers.{id_is, id_same}
-use Rattle.krates_drawing.proofs.OneSheet.{bools_same, filter_same}
-use Rattle.krates_drawing.proofs.Tests.{equal_ids, sorted_as}
+use Rattle.krates_drawing.proofs.Tests.{bools_same, equal_is, equal_order, equal_self, filter_same, not_high, order_total, sorted_as}
+
+-- edges between crates of a sheet
+abbrev pub AreWithin : List Krate → List Link → Type 0
+AreWithin ks mine = All (λ l. HasEnds (length ks) l.edge) mine
 
 -- ---- ids
 
-pub order_total : IsTotalOrder id_order
-order_total = search (comparing, rules) depth 9
-
 id_turned : (a b : Id) → id_eq a b ≡ id_eq b a
 id_turned a b = bools_same _ _ (λ e. subst (λ x. id_eq x a ≡ true) (id_is a b e) (id_same a)) (λ e. subst (λ x. id_eq x b ≡ true) (id_is b a e) (id_same b))
-
-pub equal_order : (a b : Id) → is_eq (id_order a b) ≡ id_eq a b
-equal_order a b =
-    let x : Identity = record { text = []; name = a.name; version = a.version; source = a.source; is_opaque = false } in
-    let y : Identity = record { text = []; name = b.name; version = b.version; source = b.source; is_opaque = false } in
-    equal_ids x y
 
 id_step : (a b : Id) (r : Ordering) → id_order a b ≡ r → is_eq r ≡ true → a ≡ b
 id_step a b r e t = id_is a b (sym (equal_order a b) ∙ ap is_eq e ∙ t)
@@ -48,15 +43,9 @@ below Less h k = refl
 below Equal h k = absurd (k refl)
 below Greater h k = absurd (h refl)
 
--- neither above the other means equal
-level : (a b : Id) → (id_order a b ≡ Greater → ⊥) → (id_order b a ≡ Greater → ⊥) → (r : Ordering) → id_order a b ≡ r → a ≡ b
-level a b h k Less e = absurd (k (order_total.antisymm b a ∙ ap ordering_reverse e))
-level a b h k Equal e = id_step a b Equal e refl
-level a b h k Greater e = absurd (h e)
-
 -- ---- places of edges
 
-same_default : (xs : List Link) (k : ℕ) (a b : Link) → k < length xs → get_or xs k a ≡ get_or xs k b
+same_default : {A : Type 0} (xs : List A) (k : ℕ) (a b : A) → k < length xs → get_or xs k a ≡ get_or xs k b
 same_default [] k a b l = absurd (omega (arith, l))
 same_default (y ∷ ys) zero a b l = refl
 same_default (y ∷ ys) (suc k) a b l = same_default ys k a b (omega (arith, l))
@@ -75,56 +64,60 @@ any_more p (y ∷ ys) x = step (p y) (list_any p ys) (p x) (list_any p (ys ++ x 
     step true b c d e = refl
     step false b c d e = e
 
--- the edges seen in a loop, and the next one
-pub seen_more : (p : model.Link → Bool) (mine : List Link) (i : ℕ) (x : Link) → i < length mine → x ≡ get_or mine i x
-    → list_any p (map link_view (take (i + 1) mine)) ≡ (list_any p (map link_view (take i mine)) || p (link_view x))
-seen_more p mine i x lt e =
-    let more : map link_view (take (i + 1) mine) ≡ map link_view (take i mine) ++ link_view x ∷ [] = map_more link_view mine i x lt ∙ ap (λ a. map link_view (take i mine) ++ link_view a ∷ []) (sym e) in
-    ap (list_any p) more ∙ any_more p (map link_view (take i mine)) (link_view x)
+-- what is seen of the edges in a loop, and of the next one
+pub seen_more : {B : Type 0} (v : Link → B) (p : B → Bool) (mine : List Link) (i : ℕ) (x : Link) → i < length mine → x ≡ get_or mine i x
+    → list_any p (map v (take (i + 1) mine)) ≡ (list_any p (map v (take i mine)) || p (v x))
+seen_more v p mine i x lt e =
+    let more : map v (take (i + 1) mine) ≡ map v (take i mine) ++ v x ∷ [] = map_more v mine i x lt ∙ ap (λ a. map v (take i mine) ++ v a ∷ []) (sym e) in
+    ap (list_any p) more ∙ any_more p (map v (take i mine)) (v x)
 
--- an edge that was seen, and its place
-pub record Seen (p : model.Link → Bool) (mine : List Link) (i : ℕ) : Type 0 where
+-- the place of an edge that was seen
+pub record Seen (p : Link → Bool) (mine : List Link) (i : ℕ) : Type 0 where
   pub place : ℕ
   pub earlier : place < i
   pub within : place < length mine
-  pub link : Link
-  pub is : get_or mine place link ≡ link
-  pub passes : p (link_view link) ≡ true
+  pub passes : (d : Link) → p (get_or mine place d) ≡ true
 
-pub seen_of : (p : model.Link → Bool) (mine : List Link) (i : ℕ) → list_any p (map link_view (take i mine)) ≡ true → Seen p mine i
-seen_of p mine i h =
-    let w = passing_of p (map link_view (take i mine)) h in
-    let m = mapped_of link_view (take i mine) w.from w.member in
-    let at = contains_of (take i mine) m.from m.member in
-    let there = taken mine i at.0 at.1 in
-    record { place = at.0; earlier = there.0; within = there.1; link = m.from; is = sym (get_take mine i at.0 m.from there.0) ∙ at.2; passes = ap p m.is ∙ w.passes }
-  where
-    taken : (xs : List Link) (m k : ℕ) → k < length (take m xs) → (k < m) × (k < length xs)
-    taken xs zero k lt = absurd (omega (arith, lt))
-    taken [] (suc m) k lt = absurd (omega (arith, lt))
-    taken (x ∷ xs) (suc m) zero lt = (omega arith, omega arith)
-    taken (x ∷ xs) (suc m) (suc k) lt = let w = taken xs m k (omega (arith, lt)) in (omega (arith, w.0), omega (arith, w.1))
+seen_step : (p : Link → Bool) (x : Link) (mine : List Link) (i : ℕ) (b : Bool) → p x ≡ b → (b || list_any p (take i mine)) ≡ true → (list_any p (take i mine) ≡ true → Seen p mine i) → Seen p (x ∷ mine) (suc i)
+seen_step p x mine i true e h more = record { place = zero; earlier = omega arith; within = omega arith; passes = λ d. e }
+seen_step p x mine i false e h more = let w = more h in record { place = suc w.place; earlier = omega (arith, w.earlier); within = omega (arith, w.within); passes = w.passes }
+
+seen_of : (p : Link → Bool) (mine : List Link) (i : ℕ) → list_any p (take i mine) ≡ true → Seen p mine i
+seen_of p mine zero h = absurd cc
+seen_of p [] (suc i) h = absurd cc
+seen_of p (x ∷ mine) (suc i) h = seen_step p x mine i (p x) refl h (seen_of p mine i)
+
+pub any_under : {A B : Type 0} (v : A → B) (p : B → Bool) (xs : List A) → list_any p (map v xs) ≡ list_any (λ x. p (v x)) xs
+any_under v p [] = refl
+any_under v p (x ∷ xs) = ap (λ b. p (v x) || b) (any_under v p xs)
+
+-- the same for what is seen of it
+pub seen_as : {B : Type 0} (v : Link → B) (p : B → Bool) (mine : List Link) (i : ℕ) → list_any p (map v (take i mine)) ≡ true → Seen (λ l. p (v l)) mine i
+seen_as v p mine i h = seen_of (λ l. p (v l)) mine i (sym (any_under v p (take i mine)) ∙ h)
 
 -- a crate to which a seen edge leads isn't above that of the next edge
-pub not_above : (p : model.Link → Bool) (mine : List Link) (i : ℕ) (x : Link) (z : Id) → AreByChild mine → i < length mine → x ≡ get_or mine i x → Seen p mine i → ((l : model.Link) → p l ≡ true → id_eq l.edge.child z ≡ true)
-    → id_order z (id_of x.edge.child) ≡ Greater → ⊥
-not_above p mine i x z by lt e w leads greater =
-    let child : id_of w.link.edge.child ≡ z = id_is (id_of w.link.edge.child) z (leads (link_view w.link) w.passes) in
-    let here : get_or mine w.place x ≡ w.link = same_default mine w.place x w.link w.within ∙ w.is in
-    by w.place i x w.earlier lt (ap (λ (l : Link). id_cmp l.edge.child (get_or mine i x).edge.child) here ∙ ap (λ (l : Link). id_cmp w.link.edge.child l.edge.child) (sym e) ∙ ap (λ j. id_order j (id_of x.edge.child)) child ∙ greater)
+pub not_above : (ks : List Krate) (p : model.Link → Bool) (mine : List Link) (i : ℕ) (x : Link) (z : Id) → AreInOrder ks → AreWithin ks mine → AreByChild mine → i < length mine → x ≡ get_or mine i x → Seen (λ l. p (link_view (kids_of ks) l)) mine i
+    → ((l : model.Link) → p l ≡ true → id_eq l.edge.child z ≡ true) → id_order z (id_at (kids_of ks) x.edge.child) ≡ Greater → ⊥
+not_above ks p mine i x z sorted within by lt e w leads greater =
+    let l = get_or mine w.place x in
+    let child : id_at (kids_of ks) l.edge.child ≡ z = id_is (id_at (kids_of ks) l.edge.child) z (leads (link_view (kids_of ks) l) (w.passes x)) in
+    let here : HasEnds (length ks) x.edge = subst (λ (k : Link). HasEnds (length ks) k.edge) (sym e) (within i x lt) in
+    let compare = ids_compare ks l.edge.child x.edge.child sorted (within w.place x w.within).child here.child in
+    let low : l.edge.child ≤ x.edge.child = subst (λ (k : Link). l.edge.child ≤ k.edge.child) (sym e) (by w.place i x w.earlier lt) in
+    not_high l.edge.child x.edge.child low (nat_cmp l.edge.child x.edge.child) refl (sym compare ∙ ap (λ j. id_order j (id_at (kids_of ks) x.edge.child)) child ∙ greater)
 
 -- ---- sorted crates
 
-pub crates_in_order : (ks : List Krate) → IsStrictlySortedBy id_cmp (map (λ k. k.id) ks) → IsStrictlySortedBy id_order (map (λ (q : model.Krate). q.id) (map krate_view ks))
+pub crates_in_order : (ks : List Krate) → AreInOrder ks → IsStrictlySortedBy id_order (map (λ (q : model.Krate). q.id) (map krate_view ks))
 crates_in_order ks h = subst (IsStrictlySortedBy id_order) (fused ks) (sorted_as id_cmp id_order (λ (k : Krate). k.id) (λ (k : Krate). id_of k.id) (λ a b. refl) ks h)
   where
     fused : (xs : List Krate) → map (λ (k : Krate). id_of k.id) xs ≡ map (λ (q : model.Krate). q.id) (map krate_view xs)
     fused [] = refl
     fused (x ∷ xs) = ap (λ ys. id_of x.id ∷ ys) (fused xs)
 
--- a crate to which the next edge leads
-pub to_next : (x : Link) (q : model.Krate) → is_to q.id (link_view x) ≡ is_eq (id_order q.id (id_of x.edge.child))
-to_next x q = id_turned (id_of x.edge.child) q.id ∙ sym (equal_order q.id (id_of x.edge.child))
+-- a crate to which an edge leads
+pub to_next : (c : Id) (q : model.Krate) → id_eq c q.id ≡ is_eq (id_order q.id c)
+to_next c q = id_turned c q.id ∙ sym (equal_order q.id c)
 
 pub these : (c : Id) (q : model.Krate) → is_eq (id_order q.id c) ≡ is_crate c q
 these c q = equal_order q.id c
@@ -132,28 +125,31 @@ these c q = equal_order q.id c
 -- ---- the crates to which edges lead
 
 -- the next edge leads to a crate to which none led before: that comes after the others
-pub child_more : (ks : List Krate) (mine : List Link) (i : ℕ) (x : Link) → IsStrictlySortedBy id_cmp (map (λ k. k.id) ks) → AreByChild mine → i < length mine → x ≡ get_or mine i x
-    → leads_to (map link_view (take i mine)) (id_of x.edge.child) ≡ false
-    → filter (λ q. leads_to (map link_view (take (i + 1) mine)) q.id) (map krate_view ks) ≡ filter (λ q. leads_to (map link_view (take i mine)) q.id) (map krate_view ks) ++ filter (is_crate (id_of x.edge.child)) (map krate_view ks)
-child_more ks mine i x sorted by lt e new =
-    let c = id_of x.edge.child in
-    let seen : model.Krate → Bool = λ q. leads_to (map link_view (take i mine)) q.id in
+child_more : (ks : List Krate) (mine : List Link) (i : ℕ) (x : Link) → AreInOrder ks → AreWithin ks mine → AreByChild mine → i < length mine → x ≡ get_or mine i x
+    → leads_to (map (link_view (kids_of ks)) (take i mine)) (id_at (kids_of ks) x.edge.child) ≡ false
+    → filter (λ q. leads_to (map (link_view (kids_of ks)) (take (i + 1) mine)) q.id) (map krate_view ks)
+    ≡ filter (λ q. leads_to (map (link_view (kids_of ks)) (take i mine)) q.id) (map krate_view ks) ++ filter (is_crate (id_at (kids_of ks) x.edge.child)) (map krate_view ks)
+child_more ks mine i x sorted within by lt e new =
+    let v = link_view (kids_of ks) in
+    let c = id_at (kids_of ks) x.edge.child in
+    let seen : model.Krate → Bool = λ q. leads_to (map v (take i mine)) q.id in
     let next : model.Krate → Bool = λ q. is_eq (id_order q.id c) in
     let low : (q : model.Krate) → seen q ≡ true → id_order q.id c ≡ Less = λ q t.
-    below (id_order q.id c) (not_above (is_to q.id) mine i x q.id by lt e (seen_of (is_to q.id) mine i t) (λ l h. h))
-    (λ same. (let is : q.id ≡ c = id_step q.id c (id_order q.id c) refl same in cc (sym (ap (leads_to (map link_view (take i mine))) is) ∙ t, new))) in
-    filter_same (λ q. leads_to (map link_view (take (i + 1) mine)) q.id) (either seen next) (map krate_view ks) (λ q. seen_more (is_to q.id) mine i x lt e ∙ ap (λ b. seen q || b) (to_next x q))
+    below (id_order q.id c) (not_above ks (is_to q.id) mine i x q.id sorted within by lt e (seen_as v (is_to q.id) mine i t) (λ l h. h))
+    (λ same. (let is : q.id ≡ c = id_step q.id c (id_order q.id c) refl same in cc (sym (ap (leads_to (map v (take i mine))) is) ∙ t, new))) in
+    filter_same (λ q. leads_to (map v (take (i + 1) mine)) q.id) (either seen next) (map krate_view ks) (λ q. seen_more v (is_to q.id) mine i x lt e ∙ ap (λ b. seen q || b) (to_next c q))
     ∙ joined order_total (λ (q : model.Krate). q.id) seen c (map krate_view ks) (crates_in_order ks sorted) low
     ∙ ap (λ l. filter seen (map krate_view ks) ++ l) (filter_same next (is_crate c) (map krate_view ks) (these c))
 
 -- the next edge leads to a crate to which another led before
-pub child_again : (ks : List Krate) (mine : List Link) (i : ℕ) (x : Link) → i < length mine → x ≡ get_or mine i x
-    → leads_to (map link_view (take i mine)) (id_of x.edge.child) ≡ true
-    → filter (λ q. leads_to (map link_view (take (i + 1) mine)) q.id) (map krate_view ks) ≡ filter (λ q. leads_to (map link_view (take i mine)) q.id) (map krate_view ks)
+child_again : (ks : List Krate) (mine : List Link) (i : ℕ) (x : Link) → i < length mine → x ≡ get_or mine i x
+    → leads_to (map (link_view (kids_of ks)) (take i mine)) (id_at (kids_of ks) x.edge.child) ≡ true
+    → filter (λ q. leads_to (map (link_view (kids_of ks)) (take (i + 1) mine)) q.id) (map krate_view ks) ≡ filter (λ q. leads_to (map (link_view (kids_of ks)) (take i mine)) q.id) (map krate_view ks)
 child_again ks mine i x lt e old =
-    filter_same (λ q. leads_to (map link_view (take (i + 1) mine)) q.id) (λ q. leads_to (map link_view (take i mine)) q.id) (map krate_view ks)
-    (λ q. seen_more (is_to q.id) mine i x lt e ∙ kept (leads_to (map link_view (take i mine)) q.id) (is_to q.id (link_view x))
-    (λ t. ap (leads_to (map link_view (take i mine))) (sym (id_is (id_of x.edge.child) q.id t)) ∙ old))
+    let v = link_view (kids_of ks) in
+    let c = id_at (kids_of ks) x.edge.child in
+    filter_same (λ q. leads_to (map v (take (i + 1) mine)) q.id) (λ q. leads_to (map v (take i mine)) q.id) (map krate_view ks)
+    (λ q. seen_more v (is_to q.id) mine i x lt e ∙ kept (leads_to (map v (take i mine)) q.id) (id_eq c q.id) (λ t. ap (leads_to (map v (take i mine))) (sym (id_is c q.id t)) ∙ old))
   where
     kept : (a b : Bool) → (b ≡ true → a ≡ true) → (a || b) ≡ a
     kept true b h = refl
@@ -162,37 +158,49 @@ child_again ks mine i x lt e old =
 
 -- ---- whether an edge is the first that leads to its crate
 
-pub first_at_start : (mine : List Link) → IsFirstTo mine 0 true
-first_at_start mine d = refl
-
 -- if a seen edge leads to the same crate as the next, so does the edge right before it
-before_same : (mine : List Link) (k : ℕ) (d : Link) → AreByChild mine → k + 1 < length mine → Seen (is_to (id_of (get_or mine (k + 1) d).edge.child)) mine (k + 1)
-    → id_eq (id_of (get_or mine k d).edge.child) (id_of (get_or mine (k + 1) d).edge.child) ≡ true
-before_same mine k d by lt w = elim (cases_lt w.place k) [
-  | inl l ↦ (
-      let a = id_of (get_or mine k d).edge.child in
-      let b = id_of (get_or mine (k + 1) d).edge.child in
-      let child : id_of w.link.edge.child ≡ b = id_is (id_of w.link.edge.child) b w.passes in
-      let up : id_order a b ≡ Greater → ⊥ = by k (k + 1) d (omega arith) lt in
-      let here : get_or mine w.place d ≡ w.link = same_default mine w.place d w.link w.within ∙ w.is in
-      let low : id_order b a ≡ Greater → ⊥ = λ g. by w.place k d l (omega (arith, lt)) (ap (λ (z : Link). id_cmp z.edge.child (get_or mine k d).edge.child) here ∙ ap (λ i. id_order i a) child ∙ g) in
-      subst (λ i. id_eq a i ≡ true) (level a b up low (id_order a b) refl) (id_same a))
-  | inr g ↦ (
-      let at : w.place ≡ k = omega (arith, g, w.earlier) in
-      let here : w.link ≡ get_or mine k d = sym w.is ∙ same_default mine w.place w.link d w.within ∙ ap (λ j. get_or mine j d) at in
-      subst (λ (z : Link). id_eq (id_of z.edge.child) (id_of (get_or mine (k + 1) d).edge.child) ≡ true) here w.passes)
-]
+before_same : (mine : List Link) (k : ℕ) (d : Link) → AreByChild mine → k + 1 < length mine → Seen (has_child (get_or mine (k + 1) d).edge.child) mine (k + 1)
+    → ((get_or mine k d).edge.child == (get_or mine (k + 1) d).edge.child) ≡ true
+before_same mine k d by lt w =
+    let n = (get_or mine (k + 1) d).edge.child in
+    let same : (get_or mine w.place d).edge.child ≡ n = equal_is _ n (w.passes d) in
+    let up : (get_or mine k d).edge.child ≤ n = by k (k + 1) d (omega arith) lt in
+    let low : n ≤ (get_or mine k d).edge.child = elim (cases_lt w.place k) [
+      | inl l ↦ subst (λ m. m ≤ (get_or mine k d).edge.child) same (by w.place k d l (omega (arith, lt)))
+      | inr g ↦ (let at : w.place ≡ k = omega (arith, g, w.earlier) in subst (λ j. n ≤ (get_or mine j d).edge.child) at (omega (arith, same)))
+    ] in
+    let is : n ≡ (get_or mine k d).edge.child = omega (arith, up, low) in
+    subst (λ m. (m == n) ≡ true) is (equal_self n)
 
 or_right : (a b : Bool) → b ≡ true → (a || b) ≡ true
 or_right true b e = refl
 or_right false b e = e
 
-pub first_after : (mine : List Link) (k : ℕ) (d : Link) → AreByChild mine → k + 1 < length mine
-    → leads_to (map link_view (take (k + 1) mine)) (id_of (get_or mine (k + 1) d).edge.child) ≡ id_eq (id_of (get_or mine k d).edge.child) (id_of (get_or mine (k + 1) d).edge.child)
+taken_more : (p : Link → Bool) (mine : List Link) (k : ℕ) (d : Link) → k < length mine → list_any p (take (k + 1) mine) ≡ (list_any p (take k mine) || p (get_or mine k d))
+taken_more p mine k d lt = ap (list_any p) (take_more mine k d lt) ∙ any_more p (take k mine) (get_or mine k d)
+
+first_after : (mine : List Link) (k : ℕ) (d : Link) → AreByChild mine → k + 1 < length mine
+    → list_any (has_child (get_or mine (k + 1) d).edge.child) (take (k + 1) mine) ≡ ((get_or mine k d).edge.child == (get_or mine (k + 1) d).edge.child)
 first_after mine k d by lt =
-    let p = is_to (id_of (get_or mine (k + 1) d).edge.child) in
-    let more = seen_more p mine k (get_or mine k d) (omega (arith, lt)) (same_default mine k d (get_or mine k d) (omega (arith, lt))) in
-    bools_same _ _ (λ h. before_same mine k d by lt (seen_of p mine (k + 1) h)) (λ h. more ∙ or_right (list_any p (map link_view (take k mine))) (p (link_view (get_or mine k d))) h)
+    let p = has_child (get_or mine (k + 1) d).edge.child in
+    let more = taken_more p mine k d (omega (arith, lt)) in
+    bools_same _ _ (λ h. before_same mine k d by lt (seen_of p mine (k + 1) h)) (λ h. more ∙ or_right (list_any p (take k mine)) (p (get_or mine k d)) h)
+
+not_twice : (b : Bool) → not (not b) ≡ b
+not_twice true = refl
+not_twice false = refl
+
+-- an edge is the first to its crate if the one before it leads elsewhere
+pub first_again : (mine : List Link) (place : ℕ) (d before here : Link) (answer : Bool) → AreByChild mine → place < length mine → (place ≡ 0 → ⊥) → before ≡ get_or mine (place - 1) before → here ≡ get_or mine place here
+    → answer ≡ not (before.edge.child == here.edge.child) → list_any (has_child (get_or mine place d).edge.child) (take place mine) ≡ not answer
+first_again mine place d before here answer by lt some at_before at_here is =
+    let k = place - 1 in
+    let next : k + 1 ≡ place = omega (arith, some) in
+    let told = first_after mine k d by (omega (arith, next, lt)) in
+    let there = subst (λ n. list_any (has_child (get_or mine n d).edge.child) (take n mine) ≡ ((get_or mine k d).edge.child == (get_or mine n d).edge.child)) next told in
+    let one : get_or mine k d ≡ before = same_default mine k d before (omega (arith, next, lt)) ∙ sym at_before in
+    let two : get_or mine place d ≡ here = same_default mine place d here lt ∙ sym at_here in
+    there ∙ ap (λ (l : Link). l.edge.child == (get_or mine place d).edge.child) one ∙ ap (λ (l : Link). before.edge.child == l.edge.child) two ∙ sym (ap not is ∙ not_twice (before.edge.child == here.edge.child))
 
 -- ---- one crate
 
@@ -222,94 +230,43 @@ unfolding IsStrictlySortedBy
 only_at c [] y sorted at = absurd cc
 only_at c (x ∷ xs) y sorted at = only_step c x xs y (is_crate c x) refl sorted.0 (only_at c xs y sorted.1) at
 
-none_step : (c : Id) (x : model.Krate) (xs : List model.Krate) (b : Bool) → (slice_get xs (place_of (is_crate c) xs) ≡ None → filter (is_crate c) xs ≡ []) → slice_get (x ∷ xs) (cond b 0 (suc (place_of (is_crate c) xs))) ≡ None → cond b (x ∷ filter (is_crate c) xs) (filter (is_crate c) xs) ≡ []
-none_step c x xs true more at = absurd cc
-none_step c x xs false more at = more at
-
-none_at : (c : Id) (xs : List model.Krate) → slice_get xs (place_of (is_crate c) xs) ≡ None → filter (is_crate c) xs ≡ []
-none_at c [] at = refl
-none_at c (x ∷ xs) at = none_step c x xs (is_crate c x) (none_at c xs) at
-
--- the crate under its number is the only one with its id
-pub only_crate : (ks : List Krate) (c : Id) (n : ℕ) (k : Krate) → IsStrictlySortedBy id_cmp (map (λ k. k.id) ks) → n ≡ place_of (is_crate c) (map krate_view ks) → slice_get ks n ≡ Some k → filter (is_crate c) (map krate_view ks) ≡ krate_view k ∷ []
-only_crate ks c n k sorted is at =
-    only_at c (map krate_view ks) (krate_view k) (crates_in_order ks sorted) (ap (slice_get (map krate_view ks)) (sym is) ∙ slice_get-map krate_view ks n ∙ ap (option_map krate_view) at)
-
--- if no crate stands under its number, there is none
-pub no_crate : (ks : List Krate) (c : Id) (n : ℕ) → n ≡ place_of (is_crate c) (map krate_view ks) → slice_get ks n ≡ None → filter (is_crate c) (map krate_view ks) ≡ []
-no_crate ks c n is at = none_at c (map krate_view ks) (ap (slice_get (map krate_view ks)) (sym is) ∙ slice_get-map krate_view ks n ∙ ap (option_map krate_view) at)
+-- the crate of a number is the only one with its id
+only_crate : (ks : List Krate) (n : ℕ) → AreInOrder ks → n < length ks → filter (is_crate (id_at (kids_of ks) n)) (map krate_view ks) ≡ get_or (map krate_view ks) n no_krate ∷ []
+only_crate ks n sorted lt =
+    let qs = map krate_view ks in
+    only_at (id_at (kids_of ks) n) qs (get_or qs n no_krate) (crates_in_order ks sorted) (ap (slice_get qs) (own_number ks n sorted lt) ∙ slice_get-get_or qs n no_krate (rw length-map lt))
 
 -- without edges, no crate is led to
 pub none_yet : (ks : List model.Krate) → filter (λ (q : model.Krate). leads_to [] q.id) ks ≡ []
 none_yet [] = refl
 none_yet (k ∷ ks) = none_yet ks
 
--- ---- its number
+-- its number, whatever was found before
+pub number_found : (t : Sheet) (n : ℕ) (o : Option ℕ) → AreInOrder t.krates.items → n < length t.krates.items → Some (crate_number (sheet_view t) (id_at (kids_in t) n)) ≡ number_of (sheet_view t) (id_at (kids_in t) n) o
+number_found t n o sorted lt =
+    let s = sheet_view t in
+    let ks = t.krates.items in
+    sym (ap (λ l. last_from o (map (λ (k : model.Krate). crate_number s k.id) l)) (only_crate ks n sorted lt) ∙ ap (λ i. Some (crate_number s i)) (id_of_krate ks n))
 
--- crates with the same id have the same number
-number_stays : (t : model.Sheet) (c : Id) (x : model.Krate) (xs : List model.Krate) (b : Bool) → is_crate c x ≡ b
-    → last_from (Some (crate_number t c)) (map (λ (k : model.Krate). crate_number t k.id) (filter (is_crate c) xs)) ≡ Some (crate_number t c)
-    → last_from (Some (crate_number t c)) (map (λ (k : model.Krate). crate_number t k.id) (cond b (x ∷ filter (is_crate c) xs) (filter (is_crate c) xs))) ≡ Some (crate_number t c)
-number_stays t c x xs true e more = ap (λ i. last_from (Some (crate_number t i)) (map (λ (k : model.Krate). crate_number t k.id) (filter (is_crate c) xs))) (id_is x.id c e) ∙ more
-number_stays t c x xs false e more = more
+-- ---- the edges up to a place, and the next one
 
-stays : (t : model.Sheet) (c : Id) (xs : List model.Krate) → last_from (Some (crate_number t c)) (map (λ (k : model.Krate). crate_number t k.id) (filter (is_crate c) xs)) ≡ Some (crate_number t c)
-stays t c [] = refl
-stays t c (x ∷ xs) = number_stays t c x xs (is_crate c x) refl (stays t c xs)
+pub child_again_at : (ks : List Krate) (mine : List Link) (place : ℕ) → AreInOrder ks → AreWithin ks mine → place < length mine → ((d : Link) → list_any (has_child (get_or mine place d).edge.child) (take place mine) ≡ true)
+    → filter (λ q. leads_to (map (link_view (kids_of ks)) (take (place + 1) mine)) q.id) (map krate_view ks) ≡ filter (λ q. leads_to (map (link_view (kids_of ks)) (take place mine)) q.id) (map krate_view ks)
+child_again_at ks [] place sorted within lt old = absurd (omega (arith, lt))
+child_again_at ks (x ∷ xs) place sorted within lt old =
+    let mine = x ∷ xs in
+    let l = get_or mine place x in
+    child_again ks mine place l lt (same_default mine place x l lt) (led_to ks l.edge.child (take place mine) sorted (within place x lt).child (All-take (λ (k : Link). HasEnds (length ks) k.edge) place mine within) ∙ old x)
 
-number_step : (t : model.Sheet) (c : Id) (o : Option ℕ) (x : model.Krate) (xs : List model.Krate) (b : Bool) → is_crate c x ≡ b → cond b 0 (suc (place_of (is_crate c) xs)) < suc (length xs)
-    → (place_of (is_crate c) xs < length xs → last_from o (map (λ (k : model.Krate). crate_number t k.id) (filter (is_crate c) xs)) ≡ Some (crate_number t c))
-    → last_from o (map (λ (k : model.Krate). crate_number t k.id) (cond b (x ∷ filter (is_crate c) xs) (filter (is_crate c) xs))) ≡ Some (crate_number t c)
-number_step t c o x xs true e lt more = ap (λ i. last_from (Some (crate_number t i)) (map (λ (k : model.Krate). crate_number t k.id) (filter (is_crate c) xs))) (id_is x.id c e) ∙ stays t c xs
-number_step t c o x xs false e lt more = more (omega (arith, lt))
-
-last_number : (t : model.Sheet) (c : Id) (o : Option ℕ) (xs : List model.Krate) → place_of (is_crate c) xs < length xs → last_from o (map (λ (k : model.Krate). crate_number t k.id) (filter (is_crate c) xs)) ≡ Some (crate_number t c)
-last_number t c o [] lt = absurd (omega (arith, lt))
-last_number t c o (x ∷ xs) lt = number_step t c o x xs (is_crate c x) refl lt (last_number t c o xs)
-
-no_number_step : (c : Id) (x : model.Krate) (xs : List model.Krate) (b : Bool) → (cond b 0 (suc (place_of (is_crate c) xs)) < suc (length xs) → ⊥) → ((place_of (is_crate c) xs < length xs → ⊥) → filter (is_crate c) xs ≡ []) → cond b (x ∷ filter (is_crate c) xs) (filter (is_crate c) xs) ≡ []
-no_number_step c x xs true h more = absurd (h (omega arith))
-no_number_step c x xs false h more = more (λ l. h (omega (arith, l)))
-
-no_number : (c : Id) (xs : List model.Krate) → (place_of (is_crate c) xs < length xs → ⊥) → filter (is_crate c) xs ≡ []
-no_number c [] h = refl
-no_number c (x ∷ xs) h = no_number_step c x xs (is_crate c x) h (no_number c xs)
-
--- the number of a crate, kept or not
-pub number_found : (t : model.Sheet) (c : Id) (o : Option ℕ) (n : ℕ) → n ≡ crate_number t c → n < length t.krates → Some n ≡ number_of t c o
-number_found t c o n is lt = ap (λ m. Some m) is ∙ sym (last_number t c o t.krates (subst (λ m. m < length t.krates) is lt))
-
-pub number_missing : (t : model.Sheet) (c : Id) (o : Option ℕ) (n : ℕ) → n ≡ crate_number t c → (n < length t.krates → ⊥) → o ≡ number_of t c o
-number_missing t c o n is h = sym (ap (λ l. last_from o (map (λ (k : model.Krate). crate_number t k.id) l)) (no_number c t.krates (λ lt. h (subst (λ m. m < length t.krates) (sym is) lt))))
-
-not_twice : (b : Bool) → not (not b) ≡ b
-not_twice true = refl
-not_twice false = refl
-
--- an edge is the first to its crate if the one before it leads elsewhere
-pub first_again : (mine : List Link) (place : ℕ) (d before here : Link) (answer : Bool) → AreByChild mine → place < length mine → (place ≡ 0 → ⊥) → before ≡ get_or mine (place - 1) before → here ≡ get_or mine place here
-    → answer ≡ not (id_eq (id_of before.edge.child) (id_of here.edge.child))
-    → leads_to (map link_view (take place mine)) (id_of (get_or mine place d).edge.child) ≡ not answer
-first_again mine place d before here answer by lt some at_before at_here is =
-    let k = place - 1 in
-    let next : k + 1 ≡ place = omega (arith, some) in
-    let told = first_after mine k d by (omega (arith, next, lt)) in
-    let there = subst (λ n. leads_to (map link_view (take n mine)) (id_of (get_or mine n d).edge.child) ≡ id_eq (id_of (get_or mine k d).edge.child) (id_of (get_or mine n d).edge.child)) next told in
-    let one : get_or mine k d ≡ before = same_default mine k d before (omega (arith, next, lt)) ∙ sym at_before in
-    let two : get_or mine place d ≡ here = same_default mine place d here lt ∙ sym at_here in
-    there ∙ ap (λ (l : Link). id_eq (id_of l.edge.child) (id_of (get_or mine place d).edge.child)) one ∙ ap (λ (l : Link). id_eq (id_of before.edge.child) (id_of l.edge.child)) two
-    ∙ sym (ap not is ∙ not_twice (id_eq (id_of before.edge.child) (id_of here.edge.child)))
-
--- the same, for the edges up to a place
-pub child_again_at : (ks : List Krate) (mine : List Link) (place : ℕ) → place < length mine → ((d : Link) → leads_to (map link_view (take place mine)) (id_of (get_or mine place d).edge.child) ≡ true)
-    → filter (λ q. leads_to (map link_view (take (place + 1) mine)) q.id) (map krate_view ks) ≡ filter (λ q. leads_to (map link_view (take place mine)) q.id) (map krate_view ks)
-child_again_at ks [] place lt old = absurd (omega (arith, lt))
-child_again_at ks (x ∷ xs) place lt old = child_again ks (x ∷ xs) place (get_or (x ∷ xs) place x) lt (same_default (x ∷ xs) place x (get_or (x ∷ xs) place x) lt) (old x)
-
-pub child_more_at : (ks : List Krate) (mine : List Link) (place : ℕ) (d : Link) → IsStrictlySortedBy id_cmp (map (λ k. k.id) ks) → AreByChild mine → place < length mine
-    → leads_to (map link_view (take place mine)) (id_of (get_or mine place d).edge.child) ≡ false
-    → filter (λ q. leads_to (map link_view (take (place + 1) mine)) q.id) (map krate_view ks) ≡ filter (λ q. leads_to (map link_view (take place mine)) q.id) (map krate_view ks) ++ filter (is_crate (id_of (get_or mine place d).edge.child)) (map krate_view ks)
-child_more_at ks mine place d sorted by lt new = child_more ks mine place (get_or mine place d) sorted by lt (same_default mine place d (get_or mine place d) lt) new
+pub child_more_at : (ks : List Krate) (mine : List Link) (place : ℕ) (d : Link) → AreInOrder ks → AreWithin ks mine → AreByChild mine → place < length mine
+    → list_any (has_child (get_or mine place d).edge.child) (take place mine) ≡ false
+    → filter (λ q. leads_to (map (link_view (kids_of ks)) (take (place + 1) mine)) q.id) (map krate_view ks)
+    ≡ filter (λ q. leads_to (map (link_view (kids_of ks)) (take place mine)) q.id) (map krate_view ks) ++ get_or (map krate_view ks) (get_or mine place d).edge.child no_krate ∷ []
+child_more_at ks mine place d sorted within by lt new =
+    let l = get_or mine place d in
+    let seen = filter (λ (q : model.Krate). leads_to (map (link_view (kids_of ks)) (take place mine)) q.id) (map krate_view ks) in
+    child_more ks mine place l sorted within by lt (same_default mine place d l lt) (led_to ks l.edge.child (take place mine) sorted (within place d lt).child (All-take (λ (k : Link). HasEnds (length ks) k.edge) place mine within) ∙ new)
+    ∙ ap (λ xs. seen ++ xs) (only_crate ks l.edge.child sorted (within place d lt).child)
 
 -- ---- edges that are drawn in two parts
 
@@ -319,3 +276,18 @@ assoc (x ∷ xs) ys zs = ap (λ l. x ∷ l) (assoc xs ys zs)
 
 pub two_parts : {A : Type 0} (a b c x y z w : List A) → b ≡ a ++ x → c ≡ b ++ y → x ≡ z → y ≡ w → c ≡ a ++ (z ++ w)
 two_parts a b c x y z w first second e f = second ∙ ap (λ l. l ++ y) first ∙ assoc a x y ∙ ap (λ l. a ++ (l ++ y)) e ∙ ap (λ l. a ++ (z ++ l)) f
+
+-- ---- edges that are drawn child by child
+
+pub drawn_more : {A B : Type 0} (f : A → List B) (before old new : List B) (xs : List A) (x : A) → new ≡ old ++ f x → old ≡ before ++ flat_map f xs → new ≡ before ++ flat_map f (xs ++ x ∷ [])
+drawn_more f before old new xs x more so_far = more ∙ ap (λ l. l ++ f x) so_far ∙ flat_map_more f before xs x
+
+-- to all children of the edges from a crate
+pub crate_drawn : (t : Sheet) (krate : ℕ) (h : Home) → h.krate ≡ krate → map (link_view (kids_in t)) h.mine.now ≡ from_crate (sheet_view t) (id_at (kids_in t) h.krate)
+    → flat_map (pair_lines (sheet_view t) (id_at (kids_in t) h.krate) (map (link_view (kids_in t)) h.mine.now)) (children_of t h.mine.now) ≡ crate_lines (sheet_view t) (krate_at t krate)
+unfolding crate_lines children_lines
+crate_drawn t krate h same links =
+    let s = sheet_view t in
+    let id : id_at (kids_in t) h.krate ≡ (krate_at t krate).id = ap (id_at (kids_in t)) same ∙ sym (id_of_krate t.krates.items krate) in
+    ap (λ mine. flat_map (pair_lines s (id_at (kids_in t) h.krate) mine) (filter (λ q. leads_to mine q.id) s.krates)) links
+    ∙ ap (λ i. flat_map (pair_lines s i (from_crate s i)) (filter (λ q. leads_to (from_crate s i) q.id) s.krates)) id

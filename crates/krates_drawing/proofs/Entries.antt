@@ -1,5 +1,5 @@
 -- Lists by their entries.
-use Rattle.std.proofs.Common.{◌≡◌, ℕ, zero, suc, ◌+◌, List, [], ◌∷◌, map, Some, option_map, slice_get, replicate, refl, sym, ap, ◌∙◌, arith}
+use Rattle.std.proofs.Common.{◌≡◌, ℕ, zero, suc, ◌+◌, ◌<◌, ◌≤◌, List, [], ◌∷◌, length, map, Option, Some, None, option_map, set, slice_get, replicate, refl, sym, ap, ◌∙◌, arith}
 use Rattle.std.proofs.lemmas.Option.{none-some, same_Some}
 use Rattle.std.specs.List.{range_with_len}
 
@@ -21,3 +21,23 @@ entries_changed f g change h a (suc n) (suc k) = let e : (a + 1) + k ≡ a + suc
 pub all_alike : {A : Type 0} (f : ℕ → A) (v : A) → ((k : ℕ) → f k ≡ v) → (a n : ℕ) → replicate n v ≡ map f (range_with_len a n)
 all_alike f v h a zero = refl
 all_alike f v h a (suc n) = ap (λ x. x ∷ replicate n v) (sym (h a)) ∙ ap (λ l. f a ∷ l) (all_alike f v h (a + 1) n)
+
+same_entry : {A : Type 0} (f : A → A) (o : Option A) → ((x : A) → f x ≡ x) → o ≡ option_map f o
+same_entry f None same = refl
+same_entry f (Some x) same = ap Some (sym (same x))
+
+-- if one element alone is changed
+pub entry_changed : {A : Type 0} (change : ℕ → A → A) (xs : List A) (k : ℕ) (y : A) → k < length xs → ((x : A) → change k x ≡ y) → ((j : ℕ) → (j ≡ k → ⊥) → (x : A) → change j x ≡ x)
+    → (j : ℕ) → slice_get (set xs k y) j ≡ option_map (change j) (slice_get xs j)
+entry_changed change [] k y lt here others j = absurd (omega (arith, lt))
+entry_changed change (x ∷ xs) zero y lt here others zero = ap Some (sym (here x))
+entry_changed change (x ∷ xs) zero y lt here others (suc j) = same_entry (change (suc j)) (slice_get xs j) (others (suc j) (λ e. omega (arith, e)))
+entry_changed change (x ∷ xs) (suc k) y lt here others zero = ap Some (sym (others zero (λ e. omega (arith, e)) x))
+entry_changed change (x ∷ xs) (suc k) y lt here others (suc j) = entry_changed (λ i. change (suc i)) xs k y (omega (arith, lt)) here (λ i apart. others (suc i) (λ e. apart (omega (arith, e)))) j
+
+-- or none
+pub entries_kept : {A : Type 0} (change : ℕ → A → A) (xs : List A) (k : ℕ) → length xs ≤ k → ((j : ℕ) → (j ≡ k → ⊥) → (x : A) → change j x ≡ x) → (j : ℕ) → slice_get xs j ≡ option_map (change j) (slice_get xs j)
+entries_kept change [] k past others j = refl
+entries_kept change (x ∷ xs) zero past others j = absurd (omega (arith, past))
+entries_kept change (x ∷ xs) (suc k) past others zero = ap Some (sym (others zero (λ e. omega (arith, e)) x))
+entries_kept change (x ∷ xs) (suc k) past others (suc j) = entries_kept (λ i. change (suc i)) xs k (omega (arith, past)) (λ i apart. others (suc i) (λ e. apart (omega (arith, e)))) j

@@ -1,96 +1,171 @@
 -- What is gathered from a selection is its sheet.
-use Rattle.std.proofs.Common.{◌≡◌, Bool, inl, inr, ℕ, List, [], ◌∷◌, map, zip, Some, slice_get, filter, refl, sym, ap, ◌∙◌, subst}
-use Rattle.std.proofs.lemmas.List.Elements.{All-contains}
-use Rattle.std.proofs.lemmas.Option.{none-some, same_Some}
+use Rattle.std.proofs.Common.{◌≡◌, Bool, inl, inr, ℕ, zero, suc, ◌<◌, List, [], ◌∷◌, All, length, map, zip, Option, Some, None, slice_get, refl, sym, ap, ◌∙◌, subst, arith}
+use Rattle.std.proofs.lemmas.List.{length-map}
+use Rattle.std.proofs.lemmas.List.Elements.{All-contains, All-from_recursion}
 use Rattle.std.specs.Global.{Vec}
 use Rattle.std.specs.List.{AllZip}
 use Rattle.std.specs.List.Sorted.{IsStrictlySortedBy}
 use Rattle.std.specs.declared.alloc.Global.{Global}
 use Rattle.std.specs.Prelude.{String}
-use Rattle.krates_cm.specs.Document.{PackageModel, texts_view}
+use Rattle.krates_cm.specs.Document.{NodeModel, PackageModel, text_view, texts_view}
 use Rattle.krates_ids.specs.Identity.{Identity, id_cmp}
+use Rattle.krates_lookups.specs.Lookup.{IsPackageOf, TellsPackage}
+use Rattle.krates_questions.specs.Contents.{IsNodeOf, TellsNode}
 use Rattle.krates_rules.specs.Admission.{NoneDoubled}
 use Rattle.krates_rules.specs.DeclaredDependency.{dependency_entry}
 use Rattle.krates_rules.specs.Derivation.{Derivable}
 use Rattle.krates_rules.specs.Facts.{Id, Crate}
 use Rattle.krates_rules.specs.Questions.{kind_info_of, questions}
-use Rattle.krates_rules.specs.Resolved.{Resolved, id_of, HasPackage, NoPackage, NoNode}
+use Rattle.krates_rules.specs.Resolved.{Resolved, id_of, HasNode, HasPackage, NoPackage, NoNode}
+use Rattle.krates_resolve.specs.CrateNumbers.{HasCrates, HasEnds, HasHome, id_at}
 use Rattle.krates_resolve.specs.Selection.{edge_view, IsPlaced, IsSelection, crate_fact, edge_fact, feature_fact}
 use Rattle.krates_rules.specs.Setting.{SettingModel}
 use Rattle.krates_resolve.specs.SelectionOrder.{place_cmp, feature_cmp, toggled_cmp}
 use Rattle.krates_resolve.specs.declared.selection.EnabledFeature.{EnabledFeature}
 use Rattle.krates_resolve.specs.declared.selection.KeptEdge.{KeptEdge}
 use Rattle.krates_resolve.specs.declared.selection.Selection.{Selection}
-use Rattle.krates_drawing.specs.Gathered.{CountTold, no_package, counted, GivenTold, no_parent, no_child, no_dependency, gives, MeaningsTold}
-use Rattle.krates_drawing.specs.Sheet.{IsKrate, IsLink, IsNamed, IsSheet, asked_by, has_text, toggle_of}
+use Rattle.krates_drawing.specs.Gathered.{MeaningsTold, AreMeant, count_in, declared_in, dependency_in, given_in, listed_of, values_in}
+use Rattle.krates_drawing.specs.Sheet.{IsKrate, IsLink, IsMeaning, IsNamed, IsSheet, toggle_of}
 use Rattle.krates_drawing.specs.SheetOrder.{IsOrdered}
-use Rattle.krates_drawing.specs.Views.{krate_view, link_view, meanings_view, named_view, sheet_view}
+use Rattle.krates_drawing.specs.Told.{IsToldOf, node_at, node_in, of_crate, package_at, package_in}
+use Rattle.krates_drawing.specs.Views.{kids_in, krate_view, link_view, meanings_view, named_view, sheet_view}
 use Rattle.krates_drawing.specs.declared.sheet.Krate.{Krate}
 use Rattle.krates_drawing.specs.declared.sheet.Link.{Link}
 use Rattle.krates_drawing.specs.declared.sheet.Meaning.{Meaning}
 use Rattle.krates_drawing.specs.declared.sheet.Named.{Named}
 use Rattle.krates_drawing.specs.declared.sheet.Sheet.{Sheet}
+use Rattle.krates_drawing.specs.declared.told.Told.{Told}
 use Rattle.krates_document.proofs.DeclaredOnce.{declared_stands}
+use Rattle.krates_drawing.proofs.ById.{zip_by}
 use Rattle.krates_drawing.proofs.Derivations.{child_kept, crate_of_feature, kept_stands}
 use Rattle.krates_drawing.proofs.Holding.{crate_there, edge_there, feature_there}
-use Rattle.krates_drawing.proofs.Members.{Member, contains_of}
+use Rattle.krates_drawing.proofs.Members.{Member, contains_of, member_map}
+use Rattle.krates_drawing.proofs.Standing.{each}
 use Rattle.krates_rules.proofs.OnlyOne.{one_package}
+
+-- ---- what is gathered
+
+-- what is put beside the crates, edges and features of a selection
+pub record AreGathered (r : Resolved) (s : SettingModel) (x : Selection) (told : List Told) (ns : List ℕ) (gs : List (Vec (String Global))) (ms : List (Vec Meaning)) : Type 0 where
+  pub each : AllZip (IsToldOf r) x.krates.items told
+  pub counts : ns ≡ map count_in told
+  pub givens : map texts_view gs ≡ map (given_in told) x.edges.items
+  pub names : AllZip (MeaningsTold r s.all_named told) x.features.items (map meanings_view ms)
+
+-- the sheet has each item of the selection with what is beside it
+pub record IsMadeOf (x : Selection) (ns : List ℕ) (gs : List (Vec (String Global))) (ms : List (Vec Meaning)) (t : Sheet) : Type 0 where
+  pub krates : t.krates.items ≡ map (λ pair. record { id = pair.0; declared = pair.1 }) (zip x.krates.items ns)
+  pub links : t.links.items ≡ map (λ pair. record { edge = pair.0; given = pair.1 }) (zip x.edges.items gs)
+  pub features : t.features.items ≡ map (λ pair. record { feature = pair.0; meanings = pair.1 }) (zip x.features.items ms)
+  pub toggled : t.toggled ≡ x.toggled
+
+-- the count beside a crate
+record CountTold (r : Resolved) (i : Identity) (n : ℕ) : Type 0 where
+  told : Told
+  is : IsToldOf r i told
+  count : n ≡ count_in told
+
+-- item by item
+counts_told : (r : Resolved) (kids : List Identity) (told : List Told) → AllZip (IsToldOf r) kids told → AllZip (CountTold r) kids (map count_in told)
+counts_told r [] [] z = tt
+counts_told r [] (t ∷ ts) z = absurd z
+counts_told r (i ∷ is) [] z = absurd z
+counts_told r (i ∷ is) (t ∷ ts) z = (record { told = t; is = z.0; count = refl }, counts_told r is ts z.1)
+
+zip_unmapped : {A B C : Type 0} (R : A → C → Type 0) (g : B → C) (xs : List A) (ys : List B) → AllZip R xs (map g ys) → AllZip (λ x y. R x (g y)) xs ys
+zip_unmapped R g [] [] z = tt
+zip_unmapped R g [] (y ∷ ys) z = absurd z
+zip_unmapped R g (x ∷ xs) [] z = absurd z
+zip_unmapped R g (x ∷ xs) (y ∷ ys) z = (z.0, zip_unmapped R g xs ys z.1)
+
+-- ---- what the document has for the crate of a number
+
+record ToldAt (r : Resolved) (kids : List Identity) (told : List Told) (n : ℕ) : Type 0 where
+  here : Told
+  at : slice_get told n ≡ Some here
+  krate : id_of here.krate.now ≡ id_at kids n
+  pkg : TellsPackage r (id_at kids n) here.pkg
+  node : TellsNode r (id_at kids n) here.node
+
+told_at : (r : Resolved) (kids : List Identity) (told : List Told) (n : ℕ) → AllZip (IsToldOf r) kids told → n < length kids → ToldAt r kids told n
+told_at r [] ts n z lt = absurd (omega (arith, lt))
+told_at r (i ∷ is) [] n z lt = absurd z
+told_at r (i ∷ is) (t ∷ ts) zero z lt = record { here = t; at = refl; krate = ap id_of z.0.krate; pkg = z.0.pkg; node = z.0.node }
+told_at r (i ∷ is) (t ∷ ts) (suc n) z lt =
+    let w = told_at r is ts n z.1 (omega (arith, lt)) in
+    record { here = w.here; at = w.at; krate = w.krate; pkg = w.pkg; node = w.node }
+
+some_package : (r : Resolved) (i : Id) (o : Option PackageModel) → IsPackageOf r i o → (NoPackage r i → ⊥) → (p : PackageModel) × (o ≡ Some p) × HasPackage r i p
+some_package r i None h some = absurd (some h)
+some_package r i (Some p) h some = (p, refl, h)
+
+some_node : (r : Resolved) (i : Id) (o : Option NodeModel) → IsNodeOf r i o → (NoNode r i → ⊥) → (n : NodeModel) × (o ≡ Some n) × HasNode r i n
+some_node r i None h some = absurd (some h)
+some_node r i (Some n) h some = (n, refl, h)
 
 -- ---- one element
 
-krate_told : (r : Resolved) (i : Identity) (n : ℕ) → (NoPackage r (id_of i) → ⊥) → CountTold r (id_of i) n → IsKrate r i (krate_view (record { id = i; declared = n }))
-krate_told r i n some (no_package none) = absurd (some none)
-krate_told r i n some (counted p h e) = record { id = refl; pkg = p; has_package = h; declared = e }
+krate_told : (r : Resolved) (i : Identity) (n : ℕ) → (NoPackage r (id_of i) → ⊥) → CountTold r i n → IsKrate r i (krate_view (record { id = i; declared = n }))
+krate_told r i n some w =
+    let p = some_package r (id_of i) (package_in w.told) w.is.pkg some in
+    record { id = refl; pkg = p.0; has_package = p.2; declared = w.count ∙ ap declared_in p.1 }
 
 -- the declared dependency of an edge stands at its place in the list of the parent's package
-at_place : (r : Resolved) (s : SettingModel) (e : KeptEdge) (w : IsPlaced r s e) (p : PackageModel) → NoneDoubled r.metadata r.graph → HasPackage r (id_of e.parent) p → slice_get p.dependencies e.declared ≡ Some w.dependency
-at_place r s e w p none h =
+at_place : (r : Resolved) (s : SettingModel) (kids : List Identity) (e : KeptEdge) (w : IsPlaced r s kids e) (p : PackageModel) → NoneDoubled r.metadata r.graph → HasPackage r (id_at kids e.parent) p
+    → slice_get p.dependencies e.declared ≡ Some w.dependency
+at_place r s kids e w p none h =
     let a = w.declared.declares in
-    let same = one_package r (id_of e.parent) a.pkg p none a.has_package h in
-    subst (λ (z : PackageModel). slice_get z.dependencies e.declared ≡ Some w.dependency) same (declared_stands a.pkg.dependencies (dependency_entry (id_of e.child) a.dep) (kind_info_of (edge_view e)) e.declared w.dependency a.declared)
+    let same = one_package r (id_at kids e.parent) a.pkg p none a.has_package h in
+    subst (λ (z : PackageModel). slice_get z.dependencies e.declared ≡ Some w.dependency) same
+    (declared_stands a.pkg.dependencies (dependency_entry (id_at kids e.child) a.dep) (kind_info_of (edge_view kids e)) e.declared w.dependency a.declared)
 
-link_told : (r : Resolved) (s : SettingModel) (e : KeptEdge) (v : Vec (String Global)) → NoneDoubled r.metadata r.graph → IsPlaced r s e → (NoNode r (id_of e.child) → ⊥) → GivenTold r e (texts_view v) → IsLink r s e (link_view (record { edge = e; given = v }))
-link_told r s e v none w some (no_parent gone) = absurd (gone w.declared.declares.pkg w.declared.declares.has_package)
-link_told r s e v none w some (no_child gone) = absurd (some gone)
-link_told r s e v none w some (no_dependency p h at) = absurd (none-some w.dependency (sym at ∙ at_place r s e w p none h))
-link_told r s e v none w some (gives p n d hp hn at is) =
-    let same : d ≡ w.dependency = same_Some d w.dependency (sym at ∙ at_place r s e w p none hp) in
-    record { edge = refl; place = refl; dependency = w.dependency; declared = w.declared; node = n; has_node = hn; given = is ∙ ap (λ z. filter (has_text n.features) (asked_by z)) same }
+link_told : (r : Resolved) (s : SettingModel) (kids : List Identity) (told : List Told) (e : KeptEdge) (v : Vec (String Global)) → NoneDoubled r.metadata r.graph → AllZip (IsToldOf r) kids told → HasEnds (length kids) e → IsPlaced r s kids e
+    → (NoNode r (id_at kids e.child) → ⊥) → given_in told e ≡ texts_view v → IsLink r s kids e (link_view kids (record { edge = e; given = v }))
+link_told r s kids told e v none z ends w some is =
+    let a = w.declared.declares in
+    let parent = told_at r kids told e.parent z ends.parent in
+    let child = told_at r kids told e.child z ends.child in
+    let p = some_package r (id_at kids e.parent) (package_in parent.here) parent.pkg (λ gone. gone a.pkg a.has_package) in
+    let n = some_node r (id_at kids e.child) (node_in child.here) child.node some in
+    let declared : dependency_in (package_at told e.parent) e.declared ≡ Some w.dependency =
+    ap (λ o. dependency_in (of_crate package_in o) e.declared) parent.at ∙ (ap (λ o. dependency_in o e.declared) p.1 ∙ at_place r s kids e w p.0 none p.2) in
+    let node : node_at told e.child ≡ Some n.0 = ap (of_crate node_in) child.at ∙ n.1 in
+    record {
+      edge = refl;
+      place = refl;
+      dependency = w.dependency;
+      declared = w.declared;
+      node = n.0;
+      has_node = n.2;
+      given = sym is ∙ (ap (λ o. listed_of o (node_at told e.child)) declared ∙ ap (listed_of (Some w.dependency)) node);
+    }
 
-named_told : (r : Resolved) (all : Bool) (f : EnabledFeature) (v : Vec Meaning) (p : PackageModel) → HasPackage r (id_of f.krate) p → MeaningsTold r all f (meanings_view v) → IsNamed r all f (named_view (record { feature = f; meanings = v }))
-named_told r all f v p h told = record { krate = refl; name = refl; pkg = p; has_package = h; meanings = told p h }
+named_told : (r : Resolved) (all : Bool) (kids : List Identity) (told : List Told) (f : EnabledFeature) (v : Vec Meaning) → AllZip (IsToldOf r) kids told → HasHome (length kids) f → (NoPackage r (id_at kids f.krate) → ⊥)
+    → MeaningsTold r all told f (meanings_view v) → IsNamed r all kids f (named_view kids (record { feature = f; meanings = v }))
+named_told r all kids told f v z home some h =
+    let here = told_at r kids told f.krate z home in
+    let i = id_at kids f.krate in
+    let p = some_package r i (package_in here.here) here.pkg some in
+    let name = text_view f.name in
+    let meant : AreMeant r all (Some here.here) name (meanings_view v) = subst (λ o. AreMeant r all o name (meanings_view v)) here.at h in
+    let of_it : AllZip (IsMeaning r all i) (values_in (package_in here.here) name) (meanings_view v) = subst (λ j. AllZip (IsMeaning r all j) (values_in (package_in here.here) name) (meanings_view v)) here.krate meant in
+    record { krate = refl; name = refl; pkg = p.0; has_package = p.2; meanings = subst (λ o. AllZip (IsMeaning r all i) (values_in o name) (meanings_view v)) p.1 of_it }
 
 -- ---- whole lists
 
-krates_told : (r : Resolved) (xs : List Identity) (ns : List ℕ) → ((i : Identity) → Member xs i → NoPackage r (id_of i) → ⊥) → AllZip (λ i n. CountTold r (id_of i) n) xs ns
-    → AllZip (IsKrate r) xs (map krate_view (map (λ pair. record { id = pair.0; declared = pair.1 }) (zip xs ns)))
-krates_told r [] [] some z = tt
-krates_told r [] (n ∷ ns) some z = absurd z
-krates_told r (x ∷ xs) [] some z = absurd z
-krates_told r (x ∷ xs) (n ∷ ns) some z = (krate_told r x n (some x (inl refl)) z.0, krates_told r xs ns (λ i m. some i (inr m)) z.1)
-
-links_told : (r : Resolved) (s : SettingModel) (xs : List KeptEdge) (vs : List (Vec (String Global))) → NoneDoubled r.metadata r.graph → ((e : KeptEdge) → Member xs e → IsPlaced r s e) → ((e : KeptEdge) → Member xs e → NoNode r (id_of e.child) → ⊥)
-    → AllZip (GivenTold r) xs (map texts_view vs) → AllZip (IsLink r s) xs (map link_view (map (λ pair. record { edge = pair.0; given = pair.1 }) (zip xs vs)))
-links_told r s [] [] none placed some z = tt
-links_told r s [] (v ∷ vs) none placed some z = absurd z
-links_told r s (x ∷ xs) [] none placed some z = absurd z
-links_told r s (x ∷ xs) (v ∷ vs) none placed some z =
-    (link_told r s x v none (placed x (inl refl)) (some x (inl refl)) z.0, links_told r s xs vs none (λ e m. placed e (inr m)) (λ e m. some e (inr m)) z.1)
-
-features_told : (r : Resolved) (all : Bool) (xs : List EnabledFeature) (vs : List (Vec Meaning)) → ((f : EnabledFeature) → Member xs f → (p : PackageModel) × HasPackage r (id_of f.krate) p)
-    → AllZip (MeaningsTold r all) xs (map meanings_view vs) → AllZip (IsNamed r all) xs (map named_view (map (λ pair. record { feature = pair.0; meanings = pair.1 }) (zip xs vs)))
-features_told r all [] [] some z = tt
-features_told r all [] (v ∷ vs) some z = absurd z
-features_told r all (x ∷ xs) [] some z = absurd z
-features_told r all (x ∷ xs) (v ∷ vs) some z =
-    let p = some x (inl refl) in
-    (named_told r all x v p.0 p.1 z.0, features_told r all xs vs (λ f m. some f (inr m)) z.1)
+-- what is made of the items of a list and of what is beside them
+made_zip : {A B C D : Type 0} (R : A → B → Type 0) (Q : A → D → Type 0) (make : A → B → C) (view : C → D) (xs : List A) (ys : List B) → ((x : A) (y : B) → Member xs x → R x y → Q x (view (make x y))) → AllZip R xs ys
+    → AllZip Q xs (map view (map (λ pair. make pair.0 pair.1) (zip xs ys)))
+made_zip R Q make view [] [] h z = tt
+made_zip R Q make view [] (y ∷ ys) h z = absurd z
+made_zip R Q make view (x ∷ xs) [] h z = absurd z
+made_zip R Q make view (x ∷ xs) (y ∷ ys) h z = (h x y (inl refl) z.0, made_zip R Q make view xs ys (λ a b m. h a b (inr m)) z.1)
 
 -- ---- what a kept crate has
 
-has_package : (r : Resolved) (s : SettingModel) (i : Id) → Derivable (questions r s) (Crate i) → (p : PackageModel) × HasPackage r i p
+has_package : (r : Resolved) (s : SettingModel) (i : Id) → Derivable (questions r s) (Crate i) → NoPackage r i → ⊥
 unfolding questions
-has_package r s i d = let w = kept_stands (questions r s) i d in (w.included.pkg, w.included.has_package)
+has_package r s i d none = let w = kept_stands (questions r s) i d in none w.included.pkg w.included.has_package
 
 has_node : (r : Resolved) (s : SettingModel) (i : Id) → Derivable (questions r s) (Crate i) → NoNode r i → ⊥
 unfolding questions
@@ -98,54 +173,92 @@ has_node r s i d none = let w = kept_stands (questions r s) i d in none w.node w
 
 -- ---- the sheet
 
-pub gathered : (r : Resolved) (s : SettingModel) (x : Selection) (ns : List ℕ) (gs : List (Vec (String Global))) (ms : List (Vec Meaning)) (t : Sheet) → NoneDoubled r.metadata r.graph → IsSelection r s x
-    → AllZip (λ i n. CountTold r (id_of i) n) x.krates.items ns → AllZip (GivenTold r) x.edges.items (map texts_view gs) → AllZip (MeaningsTold r s.all_named) x.features.items (map meanings_view ms)
-    → t.krates.items ≡ map (λ pair. record { id = pair.0; declared = pair.1 }) (zip x.krates.items ns)
-    → t.links.items ≡ map (λ pair. record { edge = pair.0; given = pair.1 }) (zip x.edges.items gs)
-    → t.features.items ≡ map (λ pair. record { feature = pair.0; meanings = pair.1 }) (zip x.features.items ms)
-    → t.toggled ≡ x.toggled
-    → IsSheet r s x (sheet_view t)
-gathered r s x ns gs ms t none h counts givens names ks ls fs ts = record {
-  krates = subst (λ zs. AllZip (IsKrate r) x.krates.items (map krate_view zs)) (sym ks)
-      (krates_told r x.krates.items ns (λ i m gone. (let p = has_package r s (id_of i) ((h.facts (crate_fact i)).1 (crate_there x i m)) in gone p.0 p.1)) counts);
-  links = subst (λ zs. AllZip (IsLink r s) x.edges.items (map link_view zs)) (sym ls)
-      (links_told r s x.edges.items gs none (λ e m. All-contains (IsPlaced r s) x.edges.items e h.placed (contains_of x.edges.items e m))
-      (λ e m. has_node r s (id_of e.child) (child_kept (questions r s) _ ((h.facts (edge_fact e)).1 (edge_there x e m)))) givens);
-  features = subst (λ zs. AllZip (IsNamed r s.all_named) x.features.items (map named_view zs)) (sym fs)
-      (features_told r s.all_named x.features.items ms (λ f m. has_package r s (id_of f.krate) (crate_of_feature (questions r s) (id_of f.krate) _ ((h.facts (feature_fact f)).1 (feature_there x f m)))) names);
-  toggled = ap (λ v. map toggle_of v.items) ts;
-}
-
--- ---- the order of the sheet
-
 -- the first parts of the pairs that are made are the first list
-first_parts : {A B C D : Type 0} (R : A → B → Type 0) (make : A → C → D) (back : D → A) (see : C → B) (xs : List A) (zs : List C) → ((x : A) (z : C) → back (make x z) ≡ x) → AllZip R xs (map see zs)
+first_parts : {A C D : Type 0} (R : A → C → Type 0) (make : A → C → D) (back : D → A) (xs : List A) (zs : List C) → ((x : A) (z : C) → back (make x z) ≡ x) → AllZip R xs zs
     → map back (map (λ pair. make pair.0 pair.1) (zip xs zs)) ≡ xs
-first_parts R make back see [] [] same z = refl
-first_parts R make back see [] (z ∷ zs) same h = absurd h
-first_parts R make back see (x ∷ xs) [] same h = absurd h
-first_parts R make back see (x ∷ xs) (z ∷ zs) same h =
-    ap (λ y. y ∷ map back (map (λ pair. make pair.0 pair.1) (zip xs zs))) (same x z) ∙ ap (λ ys. x ∷ ys) (first_parts R make back see xs zs same h.1)
+first_parts R make back [] [] same h = refl
+first_parts R make back [] (z ∷ zs) same h = absurd h
+first_parts R make back (x ∷ xs) [] same h = absurd h
+first_parts R make back (x ∷ xs) (z ∷ zs) same h =
+    ap (λ y. y ∷ map back (map (λ pair. make pair.0 pair.1) (zip xs zs))) (same x z) ∙ ap (λ ys. x ∷ ys) (first_parts R make back xs zs same h.1)
 
-itself : {A : Type 0} (xs : List A) → map (λ x. x) xs ≡ xs
-itself [] = refl
-itself (x ∷ xs) = ap (λ ys. x ∷ ys) (itself xs)
+-- what holds under a view holds of what is seen
+all_under : {A B : Type 0} (f : A → B) (P : B → Type 0) (xs : List A) → All P (map f xs) → All (λ x. P (f x)) xs
+all_under f P xs h = All-from_recursion (λ x. P (f x)) xs (each (λ x. P (f x)) xs (λ x m. All-contains P (map f xs) (f x) h (contains_of (map f xs) (f x) (member_map f xs x m))))
 
-pub ordered : (r : Resolved) (s : SettingModel) (x : Selection) (ns : List ℕ) (gs : List (Vec (String Global))) (ms : List (Vec Meaning)) (t : Sheet) → IsSelection r s x
-    → AllZip (λ i n. CountTold r (id_of i) n) x.krates.items ns → AllZip (GivenTold r) x.edges.items (map texts_view gs) → AllZip (MeaningsTold r s.all_named) x.features.items (map meanings_view ms)
-    → t.krates.items ≡ map (λ pair. record { id = pair.0; declared = pair.1 }) (zip x.krates.items ns)
-    → t.links.items ≡ map (λ pair. record { edge = pair.0; given = pair.1 }) (zip x.edges.items gs)
-    → t.features.items ≡ map (λ pair. record { feature = pair.0; meanings = pair.1 }) (zip x.features.items ms)
-    → t.toggled ≡ x.toggled
-    → IsOrdered t
-ordered r s x ns gs ms t h counts givens names ks ls fs ts =
-    let all = subst (λ zs. AllZip (λ i n. CountTold r (id_of i) n) x.krates.items zs) (sym (itself ns)) counts in
-    let krates = ap (map (λ (k : Krate). k.id)) ks ∙ first_parts (λ i n. CountTold r (id_of i) n) (λ i n. (let k : Krate = record { id = i; declared = n } in k)) (λ (k : Krate). k.id) (λ n. n) x.krates.items ns (λ i n. refl) all in
-    let links = ap (map (λ (l : Link). l.edge)) ls ∙ first_parts (GivenTold r) (λ e v. (let l : Link = record { edge = e; given = v } in l)) (λ (l : Link). l.edge) texts_view x.edges.items gs (λ e v. refl) givens in
-    let features = ap (map (λ (n : Named). n.feature)) fs ∙ first_parts (MeaningsTold r s.all_named) (λ f v. (let n : Named = record { feature = f; meanings = v } in n)) (λ (n : Named). n.feature) meanings_view x.features.items ms (λ f v. refl) names in
-    record {
-      krates = subst (IsStrictlySortedBy id_cmp) (sym krates) h.krates;
-      links = subst (IsStrictlySortedBy place_cmp) (sym links) h.edges;
-      features = subst (IsStrictlySortedBy feature_cmp) (sym features) h.features;
-      toggled = subst (λ v. IsStrictlySortedBy toggled_cmp v.items) (sym ts) h.toggled;
-    }
+abbrev make_krate : Identity → ℕ → Krate
+make_krate i n = record { id = i; declared = n }
+
+abbrev make_link : KeptEdge → Vec (String Global) → Link
+make_link e v = record { edge = e; given = v }
+
+abbrev make_named : EnabledFeature → Vec Meaning → Named
+make_named f v = record { feature = f; meanings = v }
+
+module _ (r : Resolved) (s : SettingModel) (x : Selection) (told : List Told) (ns : List ℕ) (gs : List (Vec (String Global))) (ms : List (Vec Meaning)) (t : Sheet) (h : IsSelection r s x) (w : AreGathered r s x told ns gs ms) (m : IsMadeOf x ns gs ms t) where
+  counts : AllZip (CountTold r) x.krates.items ns
+  counts = subst (AllZip (CountTold r) x.krates.items) (sym w.counts) (counts_told r x.krates.items told w.each)
+
+  givens : AllZip (λ e v. given_in told e ≡ texts_view v) x.edges.items gs
+  givens = zip_by (given_in told) texts_view x.edges.items gs (sym w.givens)
+
+  names : AllZip (λ f v. MeaningsTold r s.all_named told f (meanings_view v)) x.features.items ms
+  names = zip_unmapped (MeaningsTold r s.all_named told) meanings_view x.features.items ms w.names
+
+  same_kids : kids_in t ≡ x.krates.items
+  same_kids = ap (map (λ (k : Krate). k.id)) m.krates ∙ first_parts (CountTold r) make_krate (λ (k : Krate). k.id) x.krates.items ns (λ i n. refl) counts
+
+  same_edges : map (λ (l : Link). l.edge) t.links.items ≡ x.edges.items
+  same_edges = ap (map (λ (l : Link). l.edge)) m.links ∙ first_parts (λ e v. given_in told e ≡ texts_view v) make_link (λ (l : Link). l.edge) x.edges.items gs (λ e v. refl) givens
+
+  same_features : map (λ (n : Named). n.feature) t.features.items ≡ x.features.items
+  same_features = ap (map (λ (n : Named). n.feature)) m.features ∙ first_parts (λ f v. MeaningsTold r s.all_named told f (meanings_view v)) make_named (λ (n : Named). n.feature) x.features.items ms (λ f v. refl) names
+
+  as_many : length x.krates.items ≡ length t.krates.items
+  as_many = sym (ap length same_kids) ∙ length-map t.krates.items (λ (k : Krate). k.id)
+
+  -- the lists with what is beside them
+  krates_made : AllZip (IsKrate r) x.krates.items (map krate_view (map (λ pair. make_krate pair.0 pair.1) (zip x.krates.items ns)))
+  krates_made = made_zip (CountTold r) (IsKrate r) make_krate krate_view x.krates.items ns
+      (λ i n at c. krate_told r i n (has_package r s (id_of i) ((h.facts (crate_fact i)).1 (crate_there x i at))) c) counts
+
+  links_made : NoneDoubled r.metadata r.graph → AllZip (IsLink r s x.krates.items) x.edges.items (map (link_view x.krates.items) (map (λ pair. make_link pair.0 pair.1) (zip x.edges.items gs)))
+  links_made none = made_zip (λ e v. given_in told e ≡ texts_view v) (IsLink r s x.krates.items) make_link (link_view x.krates.items) x.edges.items gs
+      (λ e v at is. (
+      let among = contains_of x.edges.items e at in
+      let kept = (h.facts (edge_fact x.krates.items e)).1 (edge_there x e at) in
+      link_told r s x.krates.items told e v none w.each (All-contains (HasEnds (length x.krates.items)) x.edges.items e h.ends among) (All-contains (IsPlaced r s x.krates.items) x.edges.items e h.placed among)
+      (has_node r s (id_at x.krates.items e.child) (child_kept (questions r s) (edge_view x.krates.items e) kept)) is)) givens
+
+  features_made : AllZip (IsNamed r s.all_named x.krates.items) x.features.items (map (named_view x.krates.items) (map (λ pair. make_named pair.0 pair.1) (zip x.features.items ms)))
+  features_made = made_zip (λ f v. MeaningsTold r s.all_named told f (meanings_view v)) (IsNamed r s.all_named x.krates.items) make_named (named_view x.krates.items) x.features.items ms
+      (λ f v at is. (
+      let home = All-contains (HasHome (length x.krates.items)) x.features.items f h.homes (contains_of x.features.items f at) in
+      let i = id_at x.krates.items f.krate in
+      let kept = crate_of_feature (questions r s) i (text_view f.name) ((h.facts (feature_fact x.krates.items f)).1 (feature_there x f at)) in
+      named_told r s.all_named x.krates.items told f v w.each home (has_package r s i kept) is)) names
+
+  pub gathered : NoneDoubled r.metadata r.graph → IsSheet r s x (sheet_view t)
+  gathered none = record {
+    krates = subst (λ zs. AllZip (IsKrate r) x.krates.items (map krate_view zs)) (sym m.krates) krates_made;
+    links = subst (λ ks. AllZip (IsLink r s x.krates.items) x.edges.items (map (link_view ks) t.links.items)) (sym same_kids)
+        (subst (λ zs. AllZip (IsLink r s x.krates.items) x.edges.items (map (link_view x.krates.items) zs)) (sym m.links) (links_made none));
+    features = subst (λ ks. AllZip (IsNamed r s.all_named x.krates.items) x.features.items (map (named_view ks) t.features.items)) (sym same_kids)
+        (subst (λ zs. AllZip (IsNamed r s.all_named x.krates.items) x.features.items (map (named_view x.krates.items) zs)) (sym m.features) features_made);
+    toggled = ap (λ v. map (toggle_of (kids_in t)) v.items) m.toggled ∙ ap (λ ks. map (toggle_of ks) x.toggled.items) same_kids;
+  }
+
+  -- ---- the order of the sheet
+
+  pub ordered : IsOrdered t
+  ordered = record {
+    krates = subst (IsStrictlySortedBy id_cmp) (sym same_kids) h.krates;
+    links = subst (IsStrictlySortedBy place_cmp) (sym same_edges) h.edges;
+    ends = subst (λ n. All (λ (l : Link). HasEnds n l.edge) t.links.items) as_many
+        (all_under (λ (l : Link). l.edge) (HasEnds (length x.krates.items)) t.links.items (subst (All (HasEnds (length x.krates.items))) (sym same_edges) h.ends));
+    features = subst (IsStrictlySortedBy feature_cmp) (sym same_features) h.features;
+    homes = subst (λ k. All (λ (n : Named). HasHome k n.feature) t.features.items) as_many
+        (all_under (λ (n : Named). n.feature) (HasHome (length x.krates.items)) t.features.items (subst (All (HasHome (length x.krates.items))) (sym same_features) h.homes));
+    toggled = subst (λ v. IsStrictlySortedBy toggled_cmp v.items) (sym m.toggled) h.toggled;
+    toggled_crates = subst (λ n. All (HasCrates n) t.toggled.items) as_many (subst (λ v. All (HasCrates (length x.krates.items)) v.items) (sym m.toggled) h.toggled_crates);
+  }

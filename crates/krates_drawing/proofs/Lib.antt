@@ -1,12 +1,15 @@
 pub mod Agreed
 pub mod Answered
 pub mod Arrows
+pub mod ById
 pub mod Children
 pub mod Closed
+pub mod CratePlaces
 pub mod Derivations
 pub mod DocumentSheets
 pub mod Drawn
 pub mod Entries
+pub mod FeatureLines
 pub mod FeaturePlaces
 pub mod FewerLines
 pub mod Gathering

@@ -1,9 +1,8 @@
 -- The sheet of a narrower setting is a part of the sheet of the wider one.
-use Rattle.std.proofs.Common.{◌≡◌, Bool, List, [], ◌∷◌, ◌∙◌, Contains, ℕ, map, refl, sym, subst}
-use Rattle.std.proofs.lemmas.List.Elements.{All-contains}
+use Rattle.std.proofs.Common.{◌≡◌, Bool, List, ◌∙◌, Contains, ℕ, map, refl, sym, subst}
 use Rattle.std.specs.List.{AllZip}
 use Rattle.krates_cm.specs.Document.{DependencyModel, NodeModel}
-use Rattle.krates_ids.specs.Identity.{id_cmp}
+use Rattle.krates_ids.specs.Identity.{Identity, id_cmp}
 use Rattle.krates_rules.specs.Admission.{NoneDoubled}
 use Rattle.krates_rules.specs.Derivation.{Derivable}
 use Rattle.krates_rules.specs.Facts.{Edge, Kept}
@@ -13,18 +12,18 @@ use Rattle.krates_rules.specs.Reordering.{SayAlike, ReordersPackage}
 use Rattle.krates_rules.specs.Resolved.{Resolved}
 use Rattle.krates_rules.specs.Setting.{SettingModel, IsIgnored}
 use Rattle.krates_rules.proofs.OnlyOne.{one_package, one_node, one_dep}
-use Rattle.krates_resolve.specs.Selection.{edge_view, IsPlaced, IsSelection}
-use Rattle.krates_resolve.specs.SelectionOrder.{place_cmp, feature_cmp, toggled_cmp}
+use Rattle.krates_resolve.specs.Selection.{edge_fact, edge_view, IsPlaced, IsSelection}
 use Rattle.krates_resolve.specs.declared.selection.KeptEdge.{KeptEdge}
 use Rattle.krates_resolve.specs.declared.selection.Selection.{Selection}
-use Rattle.krates_resolve.specs.declared.selection.ToggledFeature.{ToggledFeature}
 use Rattle.krates_drawing.specs.Narrower.{IsPart, NarrowerDrawsNoMore}
 use Rattle.krates_drawing.specs.Sheet.{Link, IsKrate, IsLink, IsNamed, Sheet, IsSheet, Toggle, toggle_of}
+use Rattle.krates_drawing.proofs.ById.{edge_by_id, edge_order, edges_sorted, edges_total, feature_by_id, feature_order, features_sorted, features_total, list_part, part_by, toggle_order, toggles_sorted, toggles_total}
 use Rattle.krates_drawing.proofs.Derivations.{kept_by}
 use Rattle.krates_drawing.proofs.FewerLines.{IsPartSheet, draws_no_more}
 use Rattle.krates_drawing.proofs.Holding.{edge_there}
-use Rattle.krates_drawing.proofs.Members.{Member, contains_of}
-use Rattle.krates_drawing.proofs.OneSheet.{SameCrate, SameEdge, SameFeature, SameToggle, Carries, ReadsOneReference, crate_order, edge_order, feature_order, toggle_order, crate_likes, edge_likes, feature_likes, toggle_likes, turn_feature, turn_toggle, krates_same, links_same, features_same, toggle_views}
+use Rattle.krates_drawing.proofs.Members.{Member}
+use Rattle.krates_drawing.proofs.OneSheet.{SameCrate, SameEdge, SameFeature, Carries, ReadsOneReference, crate_order, crate_likes, edges_over, features_over, toggles_over, krates_same, links_same, features_same, one_place, placed}
+use Rattle.krates_drawing.proofs.Ordered.{itself}
 use Rattle.krates_drawing.proofs.Parts.{LikePart, likes_part, made_part}
 use Rattle.krates_drawing.proofs.SaidAlike.{SaidAlike, declared_alike, place_alike}
 use Rattle.krates_drawing.proofs.Zips.{zip_there}
@@ -74,21 +73,21 @@ record Narrowed (r : Resolved) (s z : SettingModel) (x y : Selection) : Type 0 w
   second : IsSelection r z y
   naming : s.all_named ≡ z.all_named
 
-regarded : (r : Resolved) (s z : SettingModel) (x y : Selection) → Narrowed r s z x y → (e : KeptEdge) → Member x.edges.items e → IsIgnored r z (edge_view e) → ⊥
-regarded r s z x y w e m = kept_regarded r z (edge_view e) (w.carries _ ((w.first.facts (Kept (edge_view e))).1 (edge_there x e m)))
+regarded : (r : Resolved) (s z : SettingModel) (x y : Selection) → Narrowed r s z x y → (e : KeptEdge) → Member x.edges.items e → IsIgnored r z (edge_view x.krates.items e) → ⊥
+regarded r s z x y w e m = kept_regarded r z (edge_view x.krates.items e) (w.carries _ ((w.first.facts (edge_fact x.krates.items e)).1 (edge_there x e m)))
 
-placed_wider : (r : Resolved) (s z : SettingModel) (x y : Selection) → Narrowed r s z x y → (e : KeptEdge) → Member x.edges.items e → IsPlaced r z e
+placed_wider : (r : Resolved) (s z : SettingModel) (x y : Selection) → Narrowed r s z x y → (e : KeptEdge) → Member x.edges.items e → IsPlaced r z x.krates.items e
 unfolding declared_wider
 placed_wider r s z x y w e m =
-    let p = All-contains (IsPlaced r s) x.edges.items e w.first.placed (contains_of x.edges.items e m) in
+    let p = placed r s x e w.first m in
     record {
       dependency = p.dependency;
-      declared = declared_wider r s z (edge_view e) e.declared p.dependency (regarded r s z x y w e m) p.declared;
+      declared = declared_wider r s z (edge_view x.krates.items e) e.declared p.dependency (regarded r s z x y w e m) p.declared;
       place = p.place;
     }
 
-link_wider : (r : Resolved) (s z : SettingModel) (e : KeptEdge) (l : Link) → (IsIgnored r z (edge_view e) → ⊥) → IsLink r s e l → IsLink r z e l
-link_wider r s z e l regarded h = record {
+link_wider : (r : Resolved) (s z : SettingModel) (kids : List Identity) (e : KeptEdge) (l : Link) → (IsIgnored r z (edge_view kids e) → ⊥) → IsLink r s kids e l → IsLink r z kids e l
+link_wider r s z kids e l regarded h = record {
   edge = h.edge;
   place = h.place;
   dependency = h.dependency;
@@ -104,42 +103,40 @@ crates_part : (r : Resolved) (s z : SettingModel) (x y : Selection) → Narrowed
 crates_part r s z x y w = likes_part id_cmp SameCrate x.krates.items y.krates.items crate_order w.first.krates w.second.krates
     (λ i m. let k = crate_likes r r s z x y w.carries w.first w.second i m in record { partner = k.0; member = k.1; related = sym k.2 })
 
-edges_part : (r : Resolved) (s z : SettingModel) (x y : Selection) → Narrowed r s z x y → LikePart SameEdge x.edges.items y.edges.items
-edges_part r s z x y w = likes_part place_cmp SameEdge x.edges.items y.edges.items edge_order w.first.edges w.second.edges
-    (λ e m.
-    let k = edge_likes r r s z x y w.carries w.first w.second e m in
-    let there = All-contains (IsPlaced r z) y.edges.items k.0 w.second.placed (contains_of y.edges.items k.0 k.1) in
-    record { partner = k.0; member = k.1; related = record { edge = sym k.2; place = (said_itself r z w.none).place e k.0 (sym k.2) (placed_wider r s z x y w e m) there } })
+edges_part : (r : Resolved) (s z : SettingModel) (x y : Selection) → Narrowed r s z x y → LikePart (SameEdge x.krates.items y.krates.items) x.edges.items y.edges.items
+edges_part r s z x y w = part_by (edge_by_id x.krates.items) (edge_by_id y.krates.items) x.edges.items y.edges.items (list_part edge_order _ _ edges_total
+    (edges_sorted x.krates.items x.edges.items w.first.krates w.first.ends w.first.edges) (edges_sorted y.krates.items y.edges.items w.second.krates w.second.ends w.second.edges)
+    (edges_over r r s z x y w.carries w.first w.second
+    (λ e f a b same. one_place r r z (said_itself r z w.none) y.krates.items x.krates.items f e (placed r z y f w.second b) (placed_wider r s z x y w e a) same)))
 
-features_part : (r : Resolved) (s z : SettingModel) (x y : Selection) → Narrowed r s z x y → LikePart SameFeature x.features.items y.features.items
-features_part r s z x y w = likes_part feature_cmp SameFeature x.features.items y.features.items feature_order w.first.features w.second.features
-    (λ e m. let k = feature_likes r r s z x y w.carries w.first w.second e m in record { partner = k.0; member = k.1; related = turn_feature k.0 e k.2 })
-
-toggled_part : (r : Resolved) (s z : SettingModel) (x y : Selection) → Narrowed r s z x y → LikePart SameToggle x.toggled.items y.toggled.items
-toggled_part r s z x y w = likes_part toggled_cmp SameToggle x.toggled.items y.toggled.items toggle_order w.first.toggled w.second.toggled
-    (λ e m. let k = toggle_likes r r s z x y w.carries w.first w.second e m in record { partner = k.0; member = k.1; related = turn_toggle k.0 e k.2 })
+features_part : (r : Resolved) (s z : SettingModel) (x y : Selection) → Narrowed r s z x y → LikePart (SameFeature x.krates.items y.krates.items) x.features.items y.features.items
+features_part r s z x y w = part_by (feature_by_id x.krates.items) (feature_by_id y.krates.items) x.features.items y.features.items (list_part feature_order _ _ features_total
+    (features_sorted x.krates.items x.features.items w.first.krates w.first.homes w.first.features) (features_sorted y.krates.items y.features.items w.second.krates w.second.homes w.second.features)
+    (features_over r r s z x y w.carries w.first w.second))
 
 -- ---- the sheets
 
-made_by : {A B : Type 0} (f : A → B) (xs : List A) → AllZip (λ x y. y ≡ f x) xs (map f xs)
-made_by f [] = tt
-made_by f (x ∷ xs) = (refl, made_by f xs)
+part_of_likes : {A : Type 0} (xs ys : List A) → LikePart (λ (a b : A). a ≡ b) xs ys → IsPart xs ys
+part_of_likes {A} xs ys w = made_part (λ (a b : A). a ≡ b) (λ (a b : A). a ≡ b) (λ (a b : A). a ≡ b) xs ys xs ys w (itself xs) (itself ys) (λ a b t u same p q. sym p ∙ (same ∙ q))
 
-toggles_part : (xs ys : List ToggledFeature) (ts us : List Toggle) → LikePart SameToggle xs ys → ts ≡ map toggle_of xs → us ≡ map toggle_of ys → IsPart ts us
-toggles_part xs ys ts us w e f =
-    let made = made_part SameToggle (λ a t. t ≡ toggle_of a) (λ a t. t ≡ toggle_of a) xs ys (map toggle_of xs) (map toggle_of ys) w (made_by toggle_of xs) (made_by toggle_of ys)
-    (λ a b t u same p q. p ∙ (toggle_views a b same ∙ sym q)) in
-    subst (λ zs. IsPart zs us) (sym e) (subst (IsPart (map toggle_of xs)) (sym f) made)
+toggles_part : (r : Resolved) (s z : SettingModel) (x y : Selection) (ts us : List Toggle) → Narrowed r s z x y → ts ≡ map (toggle_of x.krates.items) x.toggled.items → us ≡ map (toggle_of y.krates.items) y.toggled.items → IsPart ts us
+toggles_part r s z x y ts us w e f =
+    let likes = list_part toggle_order _ _ toggles_total
+    (toggles_sorted x.krates.items x.toggled.items w.first.krates w.first.toggled_crates w.first.toggled) (toggles_sorted y.krates.items y.toggled.items w.second.krates w.second.toggled_crates w.second.toggled)
+    (toggles_over r r s z x y w.carries w.first w.second) in
+    subst (λ zs. IsPart zs us) (sym e) (subst (IsPart (map (toggle_of x.krates.items) x.toggled.items)) (sym f) (part_of_likes _ _ likes))
 
 part_sheet : ReadsOneReference → (r : Resolved) (s z : SettingModel) (x y : Selection) → Narrowed r s z x y → (t v : Sheet) → IsSheet r s x t → IsSheet r z y v → IsPartSheet t v
 part_sheet one r s z x y w t v p q =
     let say = said_itself r z w.none in
     record {
       krates = made_part SameCrate (IsKrate r) (IsKrate r) x.krates.items y.krates.items t.krates v.krates (crates_part r s z x y w) p.krates q.krates (krates_same r r z say);
-      links = made_part SameEdge (IsLink r z) (IsLink r z) x.edges.items y.edges.items t.links v.links (edges_part r s z x y w)
-          (zip_there (IsLink r s) (IsLink r z) x.edges.items t.links (λ e m l is. link_wider r s z e l (regarded r s z x y w e m) is) p.links) q.links (links_same r r z say);
-      features = made_part SameFeature (IsNamed r z.all_named) (IsNamed r z.all_named) x.features.items y.features.items t.features v.features (features_part r s z x y w) (subst (λ (b : Bool). AllZip (IsNamed r b) x.features.items t.features) w.naming p.features) q.features (features_same one r r z say);
-      toggled = toggles_part x.toggled.items y.toggled.items t.toggled v.toggled (toggled_part r s z x y w) p.toggled q.toggled;
+      links = made_part (SameEdge x.krates.items y.krates.items) (IsLink r z x.krates.items) (IsLink r z y.krates.items) x.edges.items y.edges.items t.links v.links (edges_part r s z x y w)
+          (zip_there (IsLink r s x.krates.items) (IsLink r z x.krates.items) x.edges.items t.links (λ e m l is. link_wider r s z x.krates.items e l (regarded r s z x y w e m) is) p.links) q.links
+          (links_same r r z say x.krates.items y.krates.items);
+      features = made_part (SameFeature x.krates.items y.krates.items) (IsNamed r z.all_named x.krates.items) (IsNamed r z.all_named y.krates.items) x.features.items y.features.items t.features v.features (features_part r s z x y w)
+          (subst (λ (b : Bool). AllZip (IsNamed r b x.krates.items) x.features.items t.features) w.naming p.features) q.features (features_same one r r z say x.krates.items y.krates.items);
+      toggled = toggles_part r s z x y t.toggled v.toggled w p.toggled q.toggled;
     }
 
 -- ---- the law

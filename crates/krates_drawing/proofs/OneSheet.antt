@@ -1,36 +1,34 @@
 -- Documents that say the same have the same sheet.
-use Rattle.std.proofs.Common.{◌≡◌, ◌↔◌, ℕ, Bool, true, false, List, [], ◌∷◌, map, filter, Contains, Ordering, cond, length, unwrap_or, refl, sym, ap, ◌∙◌, subst}
+use Rattle.std.proofs.Common.{◌≡◌, ◌↔◌, ℕ, Bool, true, false, List, [], ◌∷◌, map, filter, Contains, cond, length, unwrap_or, refl, sym, ap, ◌∙◌, subst}
 use Rattle.std.proofs.lemmas.List.Elements.{All-contains}
 use Rattle.std.specs.Cmp.Rules.{comparing}
 use Rattle.std.proofs.Common.{rules}
 use Rattle.std.specs.List.{AllZip}
-use Rattle.std.specs.Cmp.Lexicographic.{slice_cmp}
-use Rattle.std.specs.Ordering.{nat_cmp, ordering_then}
 use Rattle.krates_cm.specs.Document.{Text, NodeModel, text_view}
 use Rattle.krates_ids.specs.Identity.{Identity, id_cmp}
 use Rattle.krates_text.specs.FeatureReference.{Reference, IsReference, HasOneReading}
 use Rattle.krates_text.specs.FeatureReference as references
 use Rattle.krates_rules.specs.Derivation.{Derivable}
-use Rattle.krates_rules.specs.Facts.{Id, Edge, Fact, Crate, Feature, Kept, Toggled}
+use Rattle.krates_rules.specs.Facts.{Id, Edge, Fact, Crate}
 use Rattle.krates_rules.specs.Questions.{IsDeclaredAt, questions}
 use Rattle.krates_rules.specs.Referent.{AreReferents, id_order}
 use Rattle.krates_rules.specs.Reordering.{IsOrderFree}
 use Rattle.krates_rules.specs.Resolved.{Resolved, id_of, HasPackage, HasNode}
 use Rattle.krates_rules.specs.Rules.{Questions}
-use Rattle.krates_resolve.specs.Selection.{edge_view, IsPlaced, IsSelection}
-use Rattle.krates_resolve.specs.SelectionOrder.{place_cmp, feature_cmp, toggled_cmp}
+use Rattle.krates_resolve.specs.Selection.{edge_fact, edge_view, feature_fact, toggled_fact, IsPlaced, IsPlacedAs, IsSelection}
+use Rattle.krates_resolve.specs.CrateNumbers.{id_at}
 use Rattle.krates_rules.specs.Setting.{SettingModel}
 use Rattle.krates_resolve.specs.declared.selection.EnabledFeature.{EnabledFeature}
 use Rattle.krates_resolve.specs.declared.selection.KeptEdge.{KeptEdge}
 use Rattle.krates_resolve.specs.declared.selection.Selection.{Selection}
-use Rattle.krates_resolve.specs.declared.selection.ToggledFeature.{ToggledFeature}
 use Rattle.krates_drawing.specs.Alike.{IsDrawnAlike}
 use Rattle.krates_drawing.specs.Drawing.{lines, spots}
 use Rattle.krates_lookups.specs.FeatureValues.{values_of}
 use Rattle.krates_drawing.specs.Sheet.{Krate, IsKrate, Link, IsLink, asked_by, has_text, Meaning, OwnFeature, Crates, FeatureOf, Named, IsNamed, IsMeaning, Names, Toggle, toggle_of, Sheet, IsSheet}
+use Rattle.krates_drawing.proofs.ById.{IsWithin, edge_by_id, edge_order, edges_sorted, edges_total, feature_by_id, feature_order, features_sorted, features_total, ids_total, same_lists, toggle_order, toggles_sorted, toggles_total, zip_by}
 use Rattle.krates_drawing.proofs.Closed.{text_there, text_has}
-use Rattle.krates_drawing.proofs.Holding.{crate_there, edge_there, feature_there, toggled_there, from_of, crate_from, link_from, feature_from, toggle_from}
-use Rattle.krates_drawing.proofs.Members.{Member, member_of, contains_of}
+use Rattle.krates_drawing.proofs.Holding.{crate_there, edge_there, feature_there, toggled_there, from_of, crate_from, link_from, feature_from, toggle_from, same_toggle}
+use Rattle.krates_drawing.proofs.Members.{Member, member_of, contains_of, mapped_of, member_map}
 use Rattle.krates_drawing.proofs.SaidAlike.{SaidAlike, said_alike, dependencies_same}
 use Rattle.krates_drawing.proofs.Ordered.{Respects, alike, made_same, equal_zip, itself}
 
@@ -39,70 +37,20 @@ use Rattle.krates_drawing.proofs.Ordered.{Respects, alike, made_same, equal_zip,
 abbrev pub SameCrate : Identity → Identity → Type 0
 SameCrate a b = id_of a ≡ id_of b
 
-pub record SameEdge (a b : KeptEdge) : Type 0 where
-  pub edge : edge_view a ≡ edge_view b
-  pub place : a.place ≡ b.place
+-- edges of selections with these crates
+abbrev pub SameEdge : List Identity → List Identity → KeptEdge → KeptEdge → Type 0
+SameEdge kids others a b = edge_by_id kids a ≡ edge_by_id others b
 
-pub record SameFeature (a b : EnabledFeature) : Type 0 where
-  pub krate : id_of a.krate ≡ id_of b.krate
-  pub name : text_view a.name ≡ text_view b.name
-
-pub record SameToggle (a b : ToggledFeature) : Type 0 where
-  pub by : id_of a.by ≡ id_of b.by
-  pub krate : id_of a.krate ≡ id_of b.krate
-  pub name : text_view a.name ≡ text_view b.name
+abbrev pub SameFeature : List Identity → List Identity → EnabledFeature → EnabledFeature → Type 0
+SameFeature kids others a b = feature_by_id kids a ≡ feature_by_id others b
 
 -- ---- orders
 
 pub crate_order : Respects id_cmp SameCrate
 crate_order = record { total = search (comparing, rules) depth 9; same = λ a b x y p q. ap (λ i. id_order i (id_of b)) p ∙ ap (id_order (id_of x)) q }
 
-edge_cmp : Edge → ℕ → Edge → ℕ → Ordering
-edge_cmp e m f n = ordering_then (id_order e.parent f.parent) (ordering_then (id_order e.child f.child) (nat_cmp m n))
-
-edge_same : (a b x y : KeptEdge) → SameEdge a x → SameEdge b y → place_cmp a b ≡ place_cmp x y
-unfolding edge_cmp
-edge_same a b x y p q =
-    let e : edge_cmp (edge_view a) a.place (edge_view b) b.place ≡ edge_cmp (edge_view x) a.place (edge_view b) b.place = ap (λ z. edge_cmp z a.place (edge_view b) b.place) p.edge in
-    let m : edge_cmp (edge_view x) a.place (edge_view b) b.place ≡ edge_cmp (edge_view x) x.place (edge_view b) b.place = ap (λ z. edge_cmp (edge_view x) z (edge_view b) b.place) p.place in
-    let f : edge_cmp (edge_view x) x.place (edge_view b) b.place ≡ edge_cmp (edge_view x) x.place (edge_view y) b.place = ap (λ z. edge_cmp (edge_view x) x.place z b.place) q.edge in
-    let n : edge_cmp (edge_view x) x.place (edge_view y) b.place ≡ edge_cmp (edge_view x) x.place (edge_view y) y.place = ap (λ z. edge_cmp (edge_view x) x.place (edge_view y) z) q.place in
-    e ∙ (m ∙ (f ∙ n))
-
-pub edge_order : Respects place_cmp SameEdge
-edge_order = record { total = search (comparing, rules) depth 9; same = edge_same }
-
-named_cmp : Id → Text → Id → Text → Ordering
-named_cmp i f j g = ordering_then (id_order i j) (slice_cmp nat_cmp f g)
-
-feature_same : (a b x y : EnabledFeature) → SameFeature a x → SameFeature b y → feature_cmp a b ≡ feature_cmp x y
-unfolding named_cmp
-feature_same a b x y p q =
-    let e : named_cmp (id_of a.krate) (text_view a.name) (id_of b.krate) (text_view b.name) ≡ named_cmp (id_of x.krate) (text_view a.name) (id_of b.krate) (text_view b.name) = ap (λ z. named_cmp z (text_view a.name) (id_of b.krate) (text_view b.name)) p.krate in
-    let m : named_cmp (id_of x.krate) (text_view a.name) (id_of b.krate) (text_view b.name) ≡ named_cmp (id_of x.krate) (text_view x.name) (id_of b.krate) (text_view b.name) = ap (λ z. named_cmp (id_of x.krate) z (id_of b.krate) (text_view b.name)) p.name in
-    let f : named_cmp (id_of x.krate) (text_view x.name) (id_of b.krate) (text_view b.name) ≡ named_cmp (id_of x.krate) (text_view x.name) (id_of y.krate) (text_view b.name) = ap (λ z. named_cmp (id_of x.krate) (text_view x.name) z (text_view b.name)) q.krate in
-    let n : named_cmp (id_of x.krate) (text_view x.name) (id_of y.krate) (text_view b.name) ≡ named_cmp (id_of x.krate) (text_view x.name) (id_of y.krate) (text_view y.name) = ap (λ z. named_cmp (id_of x.krate) (text_view x.name) (id_of y.krate) z) q.name in
-    e ∙ (m ∙ (f ∙ n))
-
-pub feature_order : Respects feature_cmp SameFeature
-feature_order = record { total = search (comparing, rules) depth 9; same = feature_same }
-
-toggle_same : (a b x y : ToggledFeature) → SameToggle a x → SameToggle b y → toggled_cmp a b ≡ toggled_cmp x y
-unfolding named_cmp
-toggle_same a b x y p q =
-    let cmp : Id → Id → Text → Id → Id → Text → Ordering = λ h i f j k g. ordering_then (id_order h j) (named_cmp i f k g) in
-    ap (λ z. cmp z (id_of a.krate) (text_view a.name) (id_of b.by) (id_of b.krate) (text_view b.name)) p.by
-    ∙ (ap (λ z. cmp (id_of x.by) z (text_view a.name) (id_of b.by) (id_of b.krate) (text_view b.name)) p.krate
-    ∙ (ap (λ z. cmp (id_of x.by) (id_of x.krate) z (id_of b.by) (id_of b.krate) (text_view b.name)) p.name
-    ∙ (ap (λ z. cmp (id_of x.by) (id_of x.krate) (text_view x.name) z (id_of b.krate) (text_view b.name)) q.by
-    ∙ (ap (λ z. cmp (id_of x.by) (id_of x.krate) (text_view x.name) (id_of y.by) z (text_view b.name)) q.krate
-    ∙ ap (λ z. cmp (id_of x.by) (id_of x.krate) (text_view x.name) (id_of y.by) (id_of y.krate) z) q.name))))
-
-pub toggle_order : Respects toggled_cmp SameToggle
-toggle_order = record { total = search (comparing, rules) depth 9; same = toggle_same }
-
 ids_order : Respects id_order (λ (a b : Id). a ≡ b)
-ids_order = record { total = search (comparing, rules) depth 9; same = λ a b x y p q. ap (λ i. id_order i b) p ∙ ap (id_order x) q }
+ids_order = record { total = ids_total; same = λ a b x y p q. ap (λ i. id_order i b) p ∙ ap (id_order x) q }
 
 -- ---- each element has its counterpart
 
@@ -113,29 +61,43 @@ Carries a b = (f : Fact) → Derivable a f → Derivable b f
 pub crate_likes : (r u : Resolved) (s z : SettingModel) (x y : Selection) → Carries (questions r s) (questions u z) → IsSelection r s x → IsSelection u z y → (i : Identity) → Member x.krates.items i → (j : Identity) × Member y.krates.items j × (id_of j ≡ id_of i)
 crate_likes r u s z x y c hx hy i m = crate_from y (id_of i) (from_of y (Crate (id_of i)) ((hy.facts (Crate (id_of i))).0 (c _ ((hx.facts (Crate (id_of i))).1 (crate_there x i m)))))
 
-pub edge_likes : (r u : Resolved) (s z : SettingModel) (x y : Selection) → Carries (questions r s) (questions u z) → IsSelection r s x → IsSelection u z y → (e : KeptEdge) → Member x.edges.items e → (f : KeptEdge) × Member y.edges.items f × (edge_view f ≡ edge_view e)
-edge_likes r u s z x y c hx hy e m = link_from y (edge_view e) (from_of y (Kept (edge_view e)) ((hy.facts (Kept (edge_view e))).0 (c _ ((hx.facts (Kept (edge_view e))).1 (edge_there x e m)))))
+pub edges_over : (r u : Resolved) (s z : SettingModel) (x y : Selection) → Carries (questions r s) (questions u z) → IsSelection r s x → IsSelection u z y
+    → ((e f : KeptEdge) → Member x.edges.items e → Member y.edges.items f → edge_view y.krates.items f ≡ edge_view x.krates.items e → f.place ≡ e.place)
+    → IsWithin (map (edge_by_id x.krates.items) x.edges.items) (map (edge_by_id y.krates.items) y.edges.items)
+edges_over r u s z x y c hx hy places k m =
+    let a = mapped_of (edge_by_id x.krates.items) x.edges.items k m in
+    let fact = edge_fact x.krates.items a.from in
+    let w = link_from y (edge_view x.krates.items a.from) (from_of y fact ((hy.facts fact).0 (c fact ((hx.facts fact).1 (edge_there x a.from a.member))))) in
+    let same : edge_by_id y.krates.items w.0 ≡ edge_by_id x.krates.items a.from = ap (λ e. (e, (w.0).place)) w.2 ∙ ap (λ n. (edge_view x.krates.items a.from, n)) (places a.from w.0 a.member w.1 w.2) in
+    subst (Member (map (edge_by_id y.krates.items) y.edges.items)) (same ∙ a.is) (member_map (edge_by_id y.krates.items) y.edges.items w.0 w.1)
 
-pub feature_likes : (r u : Resolved) (s z : SettingModel) (x y : Selection) → Carries (questions r s) (questions u z) → IsSelection r s x → IsSelection u z y → (e : EnabledFeature) → Member x.features.items e → (f : EnabledFeature) × Member y.features.items f × SameFeature f e
-feature_likes r u s z x y c hx hy e m =
-    let fact : Fact = Feature (id_of e.krate) (text_view e.name) in
-    let w = feature_from y (id_of e.krate) (text_view e.name) (from_of y fact ((hy.facts fact).0 (c _ ((hx.facts fact).1 (feature_there x e m))))) in
-    (w.0, w.1, record { krate = w.2; name = w.3 })
+pub features_over : (r u : Resolved) (s z : SettingModel) (x y : Selection) → Carries (questions r s) (questions u z) → IsSelection r s x → IsSelection u z y
+    → IsWithin (map (feature_by_id x.krates.items) x.features.items) (map (feature_by_id y.krates.items) y.features.items)
+features_over r u s z x y c hx hy k m =
+    let a = mapped_of (feature_by_id x.krates.items) x.features.items k m in
+    let i = id_at x.krates.items a.from.krate in
+    let fact = feature_fact x.krates.items a.from in
+    let w = feature_from y i (text_view a.from.name) (from_of y fact ((hy.facts fact).0 (c fact ((hx.facts fact).1 (feature_there x a.from a.member))))) in
+    let same : feature_by_id y.krates.items w.0 ≡ feature_by_id x.krates.items a.from = ap (λ j. (j, text_view (w.0).name)) w.2 ∙ ap (λ t. (i, t)) w.3 in
+    subst (Member (map (feature_by_id y.krates.items) y.features.items)) (same ∙ a.is) (member_map (feature_by_id y.krates.items) y.features.items w.0 w.1)
 
-pub toggle_likes : (r u : Resolved) (s z : SettingModel) (x y : Selection) → Carries (questions r s) (questions u z) → IsSelection r s x → IsSelection u z y → (e : ToggledFeature) → Member x.toggled.items e → (f : ToggledFeature) × Member y.toggled.items f × SameToggle f e
-toggle_likes r u s z x y c hx hy e m =
-    let fact : Fact = Toggled (id_of e.by) (id_of e.krate) (text_view e.name) in
-    let w = toggle_from y (id_of e.by) (id_of e.krate) (text_view e.name) (from_of y fact ((hy.facts fact).0 (c _ ((hx.facts fact).1 (toggled_there x e m))))) in
-    (w.0, w.1, record { by = w.2; krate = w.3; name = w.4 })
+pub toggles_over : (r u : Resolved) (s z : SettingModel) (x y : Selection) → Carries (questions r s) (questions u z) → IsSelection r s x → IsSelection u z y
+    → IsWithin (map (toggle_of x.krates.items) x.toggled.items) (map (toggle_of y.krates.items) y.toggled.items)
+toggles_over r u s z x y c hx hy k m =
+    let a = mapped_of (toggle_of x.krates.items) x.toggled.items k m in
+    let i = id_at x.krates.items a.from.by in
+    let j = id_at x.krates.items a.from.krate in
+    let fact = toggled_fact x.krates.items a.from in
+    let w = toggle_from y i j (text_view a.from.name) (from_of y fact ((hy.facts fact).0 (c fact ((hx.facts fact).1 (toggled_there x a.from a.member))))) in
+    let same : toggle_of y.krates.items w.0 ≡ toggle_of x.krates.items a.from = same_toggle _ i _ j _ (text_view a.from.name) w.2 w.3 w.4 in
+    subst (Member (map (toggle_of y.krates.items) y.toggled.items)) (same ∙ a.is) (member_map (toggle_of y.krates.items) y.toggled.items w.0 w.1)
 
-placed : (r : Resolved) (s : SettingModel) (x : Selection) (e : KeptEdge) → IsSelection r s x → Member x.edges.items e → IsPlaced r s e
-placed r s x e h m = All-contains (IsPlaced r s) x.edges.items e h.placed (contains_of x.edges.items e m)
+pub placed : (r : Resolved) (s : SettingModel) (x : Selection) (e : KeptEdge) → IsSelection r s x → Member x.edges.items e → IsPlaced r s x.krates.items e
+placed r s x e h m = All-contains (IsPlaced r s x.krates.items) x.edges.items e h.placed (contains_of x.edges.items e m)
 
-pub turn_feature : (a b : EnabledFeature) → SameFeature a b → SameFeature b a
-turn_feature a b p = record { krate = sym p.krate; name = sym p.name }
-
-pub turn_toggle : (a b : ToggledFeature) → SameToggle a b → SameToggle b a
-turn_toggle a b p = record { by = sym p.by; krate = sym p.krate; name = sym p.name }
+-- the places of one edge in documents that say the same
+pub one_place : (r u : Resolved) (s : SettingModel) → SaidAlike r u s → (kids others : List Identity) (e f : KeptEdge) → IsPlaced r s kids e → IsPlaced u s others f → edge_view kids e ≡ edge_view others f → e.place ≡ f.place
+one_place r u s w kids others e f p q same = w.place (edge_view others f) e.declared f.declared e.place f.place (subst (λ k. IsPlacedAs r s k e.declared e.place) same p) q
 
 -- ---- the lists of the selections, place by place
 
@@ -156,24 +118,21 @@ crates_zip r u s x y w = alike id_cmp SameCrate x.krates.items y.krates.items cr
     (λ i m. let k = crate_likes r u s s x y (there r u s w.say) w.first w.second i m in record { partner = k.0; member = k.1; related = sym k.2 })
     (λ i m. let k = crate_likes u r s s y x (back r u s w.say) w.second w.first i m in record { partner = k.0; member = k.1; related = k.2 })
 
-edges_zip : (r u : Resolved) (s : SettingModel) (x y : Selection) → Two r u s x y → AllZip SameEdge x.edges.items y.edges.items
-edges_zip r u s x y w = alike place_cmp SameEdge x.edges.items y.edges.items edge_order w.first.edges w.second.edges
-    (λ e m.
-    let k = edge_likes r u s s x y (there r u s w.say) w.first w.second e m in
-    record { partner = k.0; member = k.1; related = record { edge = sym k.2; place = w.say.place e k.0 (sym k.2) (placed r s x e w.first m) (placed u s y k.0 w.second k.1) } })
-    (λ e m.
-    let k = edge_likes u r s s y x (back r u s w.say) w.second w.first e m in
-    record { partner = k.0; member = k.1; related = record { edge = k.2; place = w.say.place k.0 e k.2 (placed r s x k.0 w.first k.1) (placed u s y e w.second m) } })
+edges_zip : (r u : Resolved) (s : SettingModel) (x y : Selection) → Two r u s x y → AllZip (SameEdge x.krates.items y.krates.items) x.edges.items y.edges.items
+edges_zip r u s x y w = zip_by (edge_by_id x.krates.items) (edge_by_id y.krates.items) x.edges.items y.edges.items (same_lists edge_order _ _ edges_total
+    (edges_sorted x.krates.items x.edges.items w.first.krates w.first.ends w.first.edges) (edges_sorted y.krates.items y.edges.items w.second.krates w.second.ends w.second.edges)
+    (edges_over r u s s x y (there r u s w.say) w.first w.second (λ e f a b same. sym (one_place r u s w.say x.krates.items y.krates.items e f (placed r s x e w.first a) (placed u s y f w.second b) (sym same))))
+    (edges_over u r s s y x (back r u s w.say) w.second w.first (λ f e b a same. one_place r u s w.say x.krates.items y.krates.items e f (placed r s x e w.first a) (placed u s y f w.second b) same)))
 
-features_zip : (r u : Resolved) (s : SettingModel) (x y : Selection) → Two r u s x y → AllZip SameFeature x.features.items y.features.items
-features_zip r u s x y w = alike feature_cmp SameFeature x.features.items y.features.items feature_order w.first.features w.second.features
-    (λ e m. let k = feature_likes r u s s x y (there r u s w.say) w.first w.second e m in record { partner = k.0; member = k.1; related = turn_feature k.0 e k.2 })
-    (λ e m. let k = feature_likes u r s s y x (back r u s w.say) w.second w.first e m in record { partner = k.0; member = k.1; related = k.2 })
+features_zip : (r u : Resolved) (s : SettingModel) (x y : Selection) → Two r u s x y → AllZip (SameFeature x.krates.items y.krates.items) x.features.items y.features.items
+features_zip r u s x y w = zip_by (feature_by_id x.krates.items) (feature_by_id y.krates.items) x.features.items y.features.items (same_lists feature_order _ _ features_total
+    (features_sorted x.krates.items x.features.items w.first.krates w.first.homes w.first.features) (features_sorted y.krates.items y.features.items w.second.krates w.second.homes w.second.features)
+    (features_over r u s s x y (there r u s w.say) w.first w.second) (features_over u r s s y x (back r u s w.say) w.second w.first))
 
-toggled_zip : (r u : Resolved) (s : SettingModel) (x y : Selection) → Two r u s x y → AllZip SameToggle x.toggled.items y.toggled.items
-toggled_zip r u s x y w = alike toggled_cmp SameToggle x.toggled.items y.toggled.items toggle_order w.first.toggled w.second.toggled
-    (λ e m. let k = toggle_likes r u s s x y (there r u s w.say) w.first w.second e m in record { partner = k.0; member = k.1; related = turn_toggle k.0 e k.2 })
-    (λ e m. let k = toggle_likes u r s s y x (back r u s w.say) w.second w.first e m in record { partner = k.0; member = k.1; related = k.2 })
+toggles_same : (r u : Resolved) (s : SettingModel) (x y : Selection) → Two r u s x y → map (toggle_of x.krates.items) x.toggled.items ≡ map (toggle_of y.krates.items) y.toggled.items
+toggles_same r u s x y w = same_lists toggle_order _ _ toggles_total
+    (toggles_sorted x.krates.items x.toggled.items w.first.krates w.first.toggled_crates w.first.toggled) (toggles_sorted y.krates.items y.toggled.items w.second.krates w.second.toggled_crates w.second.toggled)
+    (toggles_over r u s s x y (there r u s w.say) w.first w.second) (toggles_over u r s s y x (back r u s w.say) w.second w.first)
 
 -- ---- what stands beside them in the sheet
 
@@ -206,9 +165,9 @@ listed_same n m g h = bools_same _ _
     (λ e. text_has m.features g (member_of m.features g (h.0 (contains_of n.features g (text_there n.features g e)))))
     (λ e. text_has n.features g (member_of n.features g (h.1 (contains_of m.features g (text_there m.features g e)))))
 
-pub links_same : (r u : Resolved) (s : SettingModel) → SaidAlike r u s → (a b : KeptEdge) (k l : Link) → SameEdge a b → IsLink r s a k → IsLink u s b l → k ≡ l
-links_same r u s w a b k l same p q =
-    let edge : k.edge ≡ l.edge = p.edge ∙ (same.edge ∙ sym q.edge) in
+pub links_same : (r u : Resolved) (s : SettingModel) → SaidAlike r u s → (kids others : List Identity) (a b : KeptEdge) (k l : Link) → SameEdge kids others a b → IsLink r s kids a k → IsLink u s others b l → k ≡ l
+links_same r u s w kids others a b k l same p q =
+    let edge : k.edge ≡ l.edge = p.edge ∙ (ap (λ (e : Edge × ℕ). e.0) same ∙ sym q.edge) in
     let declared = w.declared k.edge k.place l.place p.dependency q.dependency p.declared (subst (λ e. IsDeclaredAt u s e l.place q.dependency) (sym edge) q.declared) in
     let node = subst (λ (e : Edge). HasNode u e.child q.node) (sym edge) q.has_node in
     let lists : (g : Text) → has_text p.node.features g ≡ has_text q.node.features g = λ g. listed_same p.node q.node g (w.features k.edge.child p.node q.node p.has_node node g) in
@@ -274,25 +233,15 @@ meanings_same one r u s i values ms ns w p q = made_same (λ (a b : Text). a ≡
 named_same : (i j : Id) (f g : Text) (ms ns : List Meaning) → i ≡ j → f ≡ g → ms ≡ ns → (let n : Named = record { krate = i; name = f; meanings = ms } in n) ≡ record { krate = j; name = g; meanings = ns }
 named_same i j f g ms ns a b c = ap (λ (z : Id). record { krate = z; name = f; meanings = ms }) a ∙ (ap (λ (z : Text). record { krate = j; name = z; meanings = ms }) b ∙ ap (λ (z : List Meaning). record { krate = j; name = g; meanings = z }) c)
 
-pub features_same : ReadsOneReference → (r u : Resolved) (s : SettingModel) → SaidAlike r u s → (a b : EnabledFeature) (k l : Named) → SameFeature a b → IsNamed r s.all_named a k → IsNamed u s.all_named b l → k ≡ l
-features_same one r u s w a b k l same p q =
-    let krate : k.krate ≡ l.krate = p.krate ∙ (same.krate ∙ sym q.krate) in
-    let name : k.name ≡ l.name = p.name ∙ (same.name ∙ sym q.name) in
+pub features_same : ReadsOneReference → (r u : Resolved) (s : SettingModel) → SaidAlike r u s → (kids others : List Identity) (a b : EnabledFeature) (k l : Named) → SameFeature kids others a b
+    → IsNamed r s.all_named kids a k → IsNamed u s.all_named others b l → k ≡ l
+features_same one r u s w kids others a b k l same p q =
+    let krate : k.krate ≡ l.krate = p.krate ∙ (ap (λ (f : Id × Text). f.0) same ∙ sym q.krate) in
+    let name : k.name ≡ l.name = p.name ∙ (ap (λ (f : Id × Text). f.1) same ∙ sym q.name) in
     let pkg = w.packages k.krate p.pkg q.pkg p.has_package (subst (λ i. HasPackage u i q.pkg) (sym krate) q.has_package) in
     let values : values_of q.pkg.features l.name ≡ values_of p.pkg.features k.name = ap (λ o. unwrap_or o []) (sym (pkg.features l.name)) ∙ ap (values_of p.pkg.features) (sym name) in
     let theirs = subst (λ vs. AllZip (IsMeaning u s.all_named k.krate) vs l.meanings) values (subst (λ i. AllZip (IsMeaning u s.all_named i) (values_of q.pkg.features l.name) l.meanings) (sym krate) q.meanings) in
     named_same k.krate l.krate k.name l.name k.meanings l.meanings krate name (meanings_same one r u s k.krate (values_of p.pkg.features k.name) k.meanings l.meanings w p.meanings theirs)
-
-pub toggle_views : (a b : ToggledFeature) → SameToggle a b → toggle_of a ≡ toggle_of b
-toggle_views a b p =
-    ap (λ (z : Id). (let t : Toggle = record { by = z; krate = id_of a.krate; name = text_view a.name } in t)) p.by
-    ∙ (ap (λ (z : Id). (let t : Toggle = record { by = id_of b.by; krate = z; name = text_view a.name } in t)) p.krate ∙ ap (λ (z : Text). (let t : Toggle = record { by = id_of b.by; krate = id_of b.krate; name = z } in t)) p.name)
-
-toggles_same : (xs ys : List ToggledFeature) → AllZip SameToggle xs ys → map toggle_of xs ≡ map toggle_of ys
-toggles_same [] [] z = refl
-toggles_same [] (y ∷ ys) z = absurd z
-toggles_same (x ∷ xs) [] z = absurd z
-toggles_same (x ∷ xs) (y ∷ ys) z = ap (λ w. w ∷ map toggle_of xs) (toggle_views x y z.0) ∙ ap (λ ws. toggle_of y ∷ ws) (toggles_same xs ys z.1)
 
 -- ---- the whole
 
@@ -309,9 +258,11 @@ one_sheet one r u s w x y hx hy t v p q =
     let two : Two r u s x y = record { say = w; first = hx; second = hy } in
     sheets t.krates v.krates t.links v.links t.features v.features t.toggled v.toggled
     (made_same SameCrate (IsKrate r) (IsKrate u) x.krates.items y.krates.items t.krates v.krates (crates_zip r u s x y two) p.krates q.krates (krates_same r u s w))
-    (made_same SameEdge (IsLink r s) (IsLink u s) x.edges.items y.edges.items t.links v.links (edges_zip r u s x y two) p.links q.links (links_same r u s w))
-    (made_same SameFeature (IsNamed r s.all_named) (IsNamed u s.all_named) x.features.items y.features.items t.features v.features (features_zip r u s x y two) p.features q.features (features_same one r u s w))
-    (p.toggled ∙ (toggles_same x.toggled.items y.toggled.items (toggled_zip r u s x y two) ∙ sym q.toggled))
+    (made_same (SameEdge x.krates.items y.krates.items) (IsLink r s x.krates.items) (IsLink u s y.krates.items) x.edges.items y.edges.items t.links v.links (edges_zip r u s x y two) p.links q.links
+    (links_same r u s w x.krates.items y.krates.items))
+    (made_same (SameFeature x.krates.items y.krates.items) (IsNamed r s.all_named x.krates.items) (IsNamed u s.all_named y.krates.items) x.features.items y.features.items t.features v.features (features_zip r u s x y two) p.features q.features
+    (features_same one r u s w x.krates.items y.krates.items))
+    (p.toggled ∙ (toggles_same r u s x y two ∙ sym q.toggled))
 
 -- ---- the law
 

@@ -9,20 +9,20 @@ use Rattle.std.specs.Ordering.{is_eq, ordering_reverse, ordering_then}
 use Rattle.krates_cm.specs.Document.{Text, text_view}
 use Rattle.krates_ids.specs.Identity.{Identity, id_cmp}
 use Rattle.krates_resolve.specs.Selection.{IsSelection}
-use Rattle.krates_resolve.specs.SelectionOrder.{feature_cmp}
 use Rattle.krates_resolve.specs.declared.selection.EnabledFeature.{EnabledFeature}
 use Rattle.krates_resolve.specs.declared.selection.Selection.{Selection}
 use Rattle.krates_rules.specs.Facts.{Id}
 use Rattle.krates_rules.specs.Referent.{id_order}
 use Rattle.krates_rules.specs.Resolved.{Resolved, id_of}
 use Rattle.krates_rules.specs.Setting.{SettingModel}
+use Rattle.krates_lookups.proofs.SeenInOrder.{equal_self}
 use Rattle.krates_drawing.specs.Agreement.{DependsOn, LeadsTo}
 use Rattle.krates_drawing.specs.Connected.{IsLedInto, LeadsHome, AreConnected}
 use Rattle.krates_drawing.specs.Drawing.{AtCrate, AtFeature, Feature, line, place_of, is_crate, is_feature, id_eq, crate_number, from_crate, lines, claimant, mapped, mapping, Spot, CrateSpot, FeatureSpot, crate_spot, feature_spot, spots}
 use Rattle.krates_drawing.specs.Sheet.{Krate, IsKrate, Named, IsNamed, Sheet, IsSheet}
 use Rattle.krates_drawing.proofs.Agreed.{claimant_of, image_of, between_leads}
 use Rattle.krates_drawing.proofs.Arrows.{own, arrow_in}
-use Rattle.krates_drawing.proofs.Children.{self_equal}
+use Rattle.krates_drawing.proofs.ById.{feature_by_id, feature_order, features_sorted, ids_total}
 use Rattle.krates_drawing.proofs.Closed.{keeps_ends}
 use Rattle.krates_drawing.proofs.Holding.{holds}
 use Rattle.krates_drawing.proofs.Members.{Member, member_of, contains_of, mapped_of}
@@ -48,6 +48,9 @@ then_less Greater y e h = absurd (cc e)
 not_same : (b : Bool) → (b ≡ true → ⊥) → b ≡ false
 not_same true h = absurd (h refl)
 not_same false h = refl
+
+self_equal : (a : Id) → is_eq (id_order a a) ≡ true
+self_equal a = ap is_eq (equal_self ids_total a)
 
 id_not_below : (a b : Id) → a ≡ b → id_order a b ≡ Less → ⊥
 id_not_below a b e h = equal_only (id_order a a) (self_equal a) (ap (id_order a) e ∙ h)
@@ -83,31 +86,40 @@ own_crate r (i ∷ is) (x ∷ xs) z sorted (suc p) k at =
 
 -- ---- features under theirs
 
-feature_below : (r : Resolved) (whole : Bool) (f : EnabledFeature) (fs : List EnabledFeature) (ns : List Named) (j : ℕ) (n : Named) → AllZip (IsNamed r whole) fs ns → AllByRecursion (λ g. feature_cmp f g ≡ Less) fs → slice_get ns j ≡ Some n
-    → ordering_then (id_order (id_of f.krate) n.krate) (slice_cmp nat_cmp (text_view f.name) n.name) ≡ Less
-feature_below r whole f [] [] j n z all at = absurd (none-some n at)
-feature_below r whole f [] (x ∷ xs) j n z all at = absurd z
-feature_below r whole f (g ∷ gs) [] j n z all at = absurd z
-feature_below r whole f (g ∷ gs) (x ∷ xs) zero n z all at =
-    subst (λ (q : Named). ordering_then (id_order (id_of f.krate) q.krate) (slice_cmp nat_cmp (text_view f.name) q.name) ≡ Less) (same_Some x n at)
-    (ap (λ i. ordering_then (id_order (id_of f.krate) i) (slice_cmp nat_cmp (text_view f.name) x.name)) z.0.krate
-    ∙ ap (λ t. ordering_then (id_order (id_of f.krate) (id_of g.krate)) (slice_cmp nat_cmp (text_view f.name) t)) z.0.name ∙ all.0)
-feature_below r whole f (g ∷ gs) (x ∷ xs) (suc j) n z all at = feature_below r whole f gs xs j n z.1 all.1 at
+-- a feature of the sheet by the id of its crate
+abbrev key : Named → Id × Text
+key n = (n.krate, n.name)
 
-pub own_feature : (r : Resolved) (whole : Bool) (fs : List EnabledFeature) (ns : List Named) → AllZip (IsNamed r whole) fs ns → IsStrictlySortedBy feature_cmp fs → (j : ℕ) (n : Named) → slice_get ns j ≡ Some n → place_of (is_feature n.krate n.name) ns ≡ j
+feature_below : (f : Id × Text) (ns : List Named) (j : ℕ) (n : Named) → AllByRecursion (λ g. feature_order f g ≡ Less) (map key ns) → slice_get ns j ≡ Some n → feature_order f (key n) ≡ Less
+feature_below f [] j n all at = absurd (none-some n at)
+feature_below f (x ∷ xs) zero n all at = subst (λ (q : Named). feature_order f (key q) ≡ Less) (same_Some x n at) all.0
+feature_below f (x ∷ xs) (suc j) n all at = feature_below f xs j n all.1 at
+
+pub own_feature : (ns : List Named) → IsStrictlySortedBy feature_order (map key ns) → (j : ℕ) (n : Named) → slice_get ns j ≡ Some n → place_of (is_feature n.krate n.name) ns ≡ j
 unfolding IsStrictlySortedBy
-own_feature r whole [] [] z sorted j n at = absurd (none-some n at)
-own_feature r whole [] (x ∷ xs) z sorted j n at = absurd z
-own_feature r whole (f ∷ fs) [] z sorted j n at = absurd z
-own_feature r whole (f ∷ fs) (x ∷ xs) z sorted zero n at =
+own_feature [] sorted j n at = absurd (none-some n at)
+own_feature (x ∷ xs) sorted zero n at =
     let here : is_feature n.krate n.name x ≡ true = subst (λ (q : Named). is_feature q.krate q.name x ≡ true) (same_Some x n at) (and_true _ _ (id_same x.krate) (text_same x.name)) in
     ap (λ b. cond b 0 (suc (place_of (is_feature n.krate n.name) xs))) here
-own_feature r whole (f ∷ fs) (x ∷ xs) z sorted (suc j) n at =
-    let below = feature_below r whole f fs xs j n z.1 sorted.0 at in
+own_feature (x ∷ xs) sorted (suc j) n at =
+    let below = feature_below (key x) xs j n sorted.0 at in
     let fails : is_feature n.krate n.name x ≡ false = not_same (is_feature n.krate n.name x) (λ h. (
     let w = both _ _ h in
-    feature_not_below (id_of f.krate) n.krate (text_view f.name) n.name (sym z.0.krate ∙ id_is x.krate n.krate w.0) (sym z.0.name ∙ text_is x.name n.name w.1) below)) in
-    ap (λ b. cond b 0 (suc (place_of (is_feature n.krate n.name) xs))) fails ∙ ap suc (own_feature r whole fs xs z.1 sorted.1 j n at)
+    feature_not_below x.krate n.krate x.name n.name (id_is x.krate n.krate w.0) (text_is x.name n.name w.1) below)) in
+    ap (λ b. cond b 0 (suc (place_of (is_feature n.krate n.name) xs))) fails ∙ ap suc (own_feature xs sorted.1 j n at)
+
+-- the features of the sheet are those of the selection
+same_keys : (r : Resolved) (whole : Bool) (kids : List Identity) (fs : List EnabledFeature) (ns : List Named) → AllZip (IsNamed r whole kids) fs ns → map (feature_by_id kids) fs ≡ map key ns
+same_keys r whole kids [] [] z = refl
+same_keys r whole kids [] (n ∷ ns) z = absurd z
+same_keys r whole kids (f ∷ fs) [] z = absurd z
+same_keys r whole kids (f ∷ fs) (n ∷ ns) z =
+    let krate = ap (λ i. (i, text_view f.name)) (sym z.0.krate) in
+    let name = ap (λ t. (n.krate, t)) (sym z.0.name) in
+    ap (λ k. k ∷ map (feature_by_id kids) fs) (krate ∙ name) ∙ ap (λ ks. key n ∷ ks) (same_keys r whole kids fs ns z.1)
+
+keys_sorted : (r : Resolved) (s : SettingModel) (x : Selection) (t : Sheet) → IsSelection r s x → IsSheet r s x t → IsStrictlySortedBy feature_order (map key t.features)
+keys_sorted r s x t h w = subst (IsStrictlySortedBy feature_order) (same_keys r s.all_named x.krates.items x.features.items t.features w.features) (features_sorted x.krates.items x.features.items h.krates h.homes h.features)
 
 -- ---- nodes by number
 
@@ -165,7 +177,7 @@ leads_home : (r : Resolved) (s : SettingModel) (x : Selection) (t : Sheet) → I
 leads_home r s x t selected sheet n d name (of_crate k at is) = absurd (cc is)
 leads_home r s x t selected sheet n d name (of_feature j f at place is) =
     let l = line t (AtFeature f.krate f.name) (AtCrate f.krate) Feature in
-    let here : place_of (is_feature f.krate f.name) t.features ≡ j = own_feature r s.all_named x.features.items t.features sheet.features selected.features j f at in
+    let here : place_of (is_feature f.krate f.name) t.features ≡ j = own_feature t.features (keys_sorted r s x t selected sheet) j f at in
     record {
       line = l;
       among = contains_of (lines t) l (arrow_in t _ _ _ (keeps_ends r s t (holds r s x t selected sheet)) (own f (got_member t.features j f at)));

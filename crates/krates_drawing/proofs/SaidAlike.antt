@@ -6,13 +6,12 @@ use Rattle.krates_rules.specs.Admission.{NoneDoubled}
 use Rattle.krates_rules.specs.DeclaredDependency.{FirstAt, IsDeclared, dependency_entry}
 use Rattle.krates_rules.specs.Derivation.{Derivable}
 use Rattle.krates_rules.specs.Facts.{Id, Edge, Fact}
-use Rattle.krates_rules.specs.Questions.{ListsEdge, IsDeclaredAt, kind_info_of, questions}
+use Rattle.krates_rules.specs.Questions.{IsDeclaredAt, kind_info_of, questions}
 use Rattle.krates_rules.specs.Referent.{IsReferent}
 use Rattle.krates_rules.specs.Reordering.{ReordersPackage, HasDerivation, SayAlike, ResolveAlike}
 use Rattle.krates_rules.specs.Resolved.{Resolved, HasPackage, HasNode, resolved}
 use Rattle.krates_rules.specs.Setting.{SettingModel}
-use Rattle.krates_resolve.specs.Selection.{edge_view, IsPlaced}
-use Rattle.krates_resolve.specs.declared.selection.KeptEdge.{KeptEdge}
+use Rattle.krates_resolve.specs.Selection.{IsPlacedAs}
 use Rattle.krates_document.proofs.DeclaredOnce.{one_first, declared_once}
 
 -- both say the same about each fact, package, node, edge and name
@@ -21,7 +20,7 @@ pub record SaidAlike (r u : Resolved) (s : SettingModel) : Type 0 where
   pub packages : (i : Id) (p q : PackageModel) → HasPackage r i p → HasPackage u i q → ReordersPackage p q
   pub features : (i : Id) (n o : NodeModel) → HasNode r i n → HasNode u i o → (f : Text) → Contains n.features f ↔ Contains o.features f
   pub declared : (e : Edge) (j k : ℕ) (d c : DependencyModel) → IsDeclaredAt r s e j d → IsDeclaredAt u s e k c → (j ≡ k) × (d ≡ c)
-  pub place : (a b : KeptEdge) → edge_view a ≡ edge_view b → IsPlaced r s a → IsPlaced u s b → a.place ≡ b.place
+  pub place : (e : Edge) (j k m n : ℕ) → IsPlacedAs r s e j m → IsPlacedAs u s e k n → m ≡ n
   pub referents : (i : Id) (name : Text) (c : Id) → IsReferent r s.all_named i name c ↔ IsReferent u s.all_named i name c
 
 -- ---- the declared dependency
@@ -40,15 +39,13 @@ declared_alike r u s w e j k d c p q =
     let here = subst (λ (z : NodeDepModel). IsDeclared b.pkg.dependencies (dependency_entry e.child z) (kind_info_of e) j d) dep there in
     declared_once b.pkg.dependencies (dependency_entry e.child b.dep) (kind_info_of e) j k d c here b.declared
 
-pub place_alike : (r u : Resolved) (s : SettingModel) → SayAlike r u → (a b : KeptEdge) → edge_view a ≡ edge_view b → IsPlaced r s a → IsPlaced u s b → a.place ≡ b.place
-place_alike r u s w a b same p q =
-    let da = p.declared.declares in
-    let db = q.declared.declares in
-    let lists = subst (λ e. ListsEdge r e da.dep) same da.lists in
-    let dep = w.deps (edge_view b) da.dep db.dep lists db.lists in
-    let there = subst (λ (z : NodeDepModel). FirstAt (λ k. k ≡ kind_info_of (edge_view a)) z.dep_kinds a.place (kind_info_of (edge_view a))) dep p.place in
-    let here = subst (λ (e : Edge). FirstAt (λ k. k ≡ kind_info_of e) db.dep.dep_kinds a.place (kind_info_of e)) same there in
-    (one_first (λ (k : DepKindInfoModel). k ≡ kind_info_of (edge_view b)) db.dep.dep_kinds a.place b.place (kind_info_of (edge_view b)) (kind_info_of (edge_view b)) here q.place).0
+pub place_alike : (r u : Resolved) (s : SettingModel) → SayAlike r u → (e : Edge) (j k m n : ℕ) → IsPlacedAs r s e j m → IsPlacedAs u s e k n → m ≡ n
+place_alike r u s w e j k m n p q =
+    let a = p.declared.declares in
+    let b = q.declared.declares in
+    let dep = w.deps e a.dep b.dep a.lists b.lists in
+    let there = subst (λ (z : NodeDepModel). FirstAt (λ i. i ≡ kind_info_of e) z.dep_kinds m (kind_info_of e)) dep p.place in
+    (one_first (λ (i : DepKindInfoModel). i ≡ kind_info_of e) b.dep.dep_kinds m n (kind_info_of e) (kind_info_of e) there q.place).0
 
 -- ---- the whole
 

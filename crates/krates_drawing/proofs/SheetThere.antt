@@ -14,6 +14,7 @@ use Rattle.krates_rules.specs.Referent.{AreReferents}
 use Rattle.krates_rules.specs.Reordering.{IsOrderFree, SayAlike}
 use Rattle.krates_rules.specs.Resolved.{Resolved, HasPackage, id_of}
 use Rattle.krates_rules.specs.Setting.{SettingModel}
+use Rattle.krates_resolve.specs.CrateNumbers.{id_at}
 use Rattle.krates_resolve.specs.Selection.{edge_view, crate_fact, edge_fact, feature_fact, IsPlaced, IsSelection}
 use Rattle.krates_resolve.specs.Work.{CountsEach, CountsName, CountsReference, CountsText, HasReferences}
 use Rattle.krates_resolve.specs.declared.selection.EnabledFeature.{EnabledFeature}
@@ -49,13 +50,13 @@ wanted_there u s e d = let k = kept_by (questions u s) e d in (k.dep, k.opened.w
 crate_stands : (r u : Resolved) (s : SettingModel) (x : Selection) → Carried r u s x → (i : Identity) → Member x.krates.items i → Stands u s (id_of i)
 crate_stands r u s x w i m = kept_there u s (id_of i) ((w.say.facts (crate_fact i)).0 ((w.selected.facts (crate_fact i)).1 (crate_there x i m)))
 
-edge_kept : (r u : Resolved) (s : SettingModel) (x : Selection) → Carried r u s x → (e : KeptEdge) → Member x.edges.items e → Derivable (questions u s) (Kept (edge_view e))
-edge_kept r u s x w e m = (w.say.facts (edge_fact e)).0 ((w.selected.facts (edge_fact e)).1 (edge_there x e m))
+edge_kept : (r u : Resolved) (s : SettingModel) (x : Selection) → Carried r u s x → (e : KeptEdge) → Member x.edges.items e → Derivable (questions u s) (Kept (edge_view x.krates.items e))
+edge_kept r u s x w e m = (w.say.facts (edge_fact x.krates.items e)).0 ((w.selected.facts (edge_fact x.krates.items e)).1 (edge_there x e m))
 
-feature_stands : (r u : Resolved) (s : SettingModel) (x : Selection) → Carried r u s x → (f : EnabledFeature) → Member x.features.items f → Stands u s (id_of f.krate)
+feature_stands : (r u : Resolved) (s : SettingModel) (x : Selection) → Carried r u s x → (f : EnabledFeature) → Member x.features.items f → Stands u s (id_at x.krates.items f.krate)
 feature_stands r u s x w f m =
-    let d = (w.say.facts (feature_fact f)).0 ((w.selected.facts (feature_fact f)).1 (feature_there x f m)) in
-    kept_there u s (id_of f.krate) (crate_of_feature (questions u s) (id_of f.krate) (text_view f.name) d)
+    let d = (w.say.facts (feature_fact x.krates.items f)).0 ((w.selected.facts (feature_fact x.krates.items f)).1 (feature_there x f m)) in
+    kept_there u s (id_at x.krates.items f.krate) (crate_of_feature (questions u s) (id_at x.krates.items f.krate) (text_view f.name) d)
 
 -- ---- the declared dependency
 
@@ -87,14 +88,14 @@ declared_there r u s w say e place d kept a =
 
 -- ---- the selection
 
-placed_there : (r u : Resolved) (s : SettingModel) (x : Selection) → Carried r u s x → (e : KeptEdge) → Member x.edges.items e → IsPlaced u s e
+placed_there : (r u : Resolved) (s : SettingModel) (x : Selection) → Carried r u s x → (e : KeptEdge) → Member x.edges.items e → IsPlaced u s x.krates.items e
 placed_there r u s x w e m =
-    let p = All-contains (IsPlaced r s) x.edges.items e w.selected.placed (contains_of x.edges.items e m) in
-    let d = declared_there r u s w.say w.deps (edge_view e) e.declared p.dependency (edge_kept r u s x w e m) p.declared in
+    let p = All-contains (IsPlaced r s x.krates.items) x.edges.items e w.selected.placed (contains_of x.edges.items e m) in
+    let d = declared_there r u s w.say w.deps (edge_view x.krates.items e) e.declared p.dependency (edge_kept r u s x w e m) p.declared in
     record {
       dependency = p.dependency;
       declared = d.declared;
-      place = subst (λ (z : NodeDepModel). FirstAt (λ k. k ≡ kind_info_of (edge_view e)) z.dep_kinds e.place (kind_info_of (edge_view e))) d.same p.place;
+      place = subst (λ (z : NodeDepModel). FirstAt (λ k. k ≡ kind_info_of (edge_view x.krates.items e)) z.dep_kinds e.place (kind_info_of (edge_view x.krates.items e))) d.same p.place;
     }
 
 referents_there : (r u : Resolved) (s : SettingModel) (i : Id) (name : Text) (ids : List Id) → SaidAlike r u s → AreReferents r s.all_named i name ids → AreReferents u s.all_named i name ids
@@ -123,7 +124,7 @@ referring_there r u s w i f n stands h =
     let there = zip_there (CountsText r s.all_named i) (CountsText u s.all_named i) (values_of h.pkg.features f) h.counts (λ t at n is. counts_text_there r u s i t n w is) h.each in
     record { pkg = q.pkg; has_package = q.has_package; counts = h.counts; each = subst (λ vs. AllZip (CountsText u s.all_named i) vs h.counts) values there; count = h.count }
 
-counts_there : (r u : Resolved) (s : SettingModel) (x : Selection) → Carried r u s x → CountsEach r s (length x.krates.items) x.features.items x.work → CountsEach u s (length x.krates.items) x.features.items x.work
+counts_there : (r u : Resolved) (s : SettingModel) (x : Selection) → Carried r u s x → CountsEach r s x.krates.items x.features.items x.work → CountsEach u s x.krates.items x.features.items x.work
 counts_there r u s x w h =
     let k = h.references.1 in
     record {
@@ -133,8 +134,8 @@ counts_there r u s x w h =
         h.references.0,
         record {
           counts = k.counts;
-          each = zip_there (λ f n. HasReferences r s (id_of f.krate) (text_view f.name) n) (λ f n. HasReferences u s (id_of f.krate) (text_view f.name) n) x.features.items k.counts
-              (λ f m n at. referring_there r u s w.say (id_of f.krate) (text_view f.name) n (feature_stands r u s x w f m) at) k.each;
+          each = zip_there (λ f n. HasReferences r s (id_at x.krates.items f.krate) (text_view f.name) n) (λ f n. HasReferences u s (id_at x.krates.items f.krate) (text_view f.name) n) x.features.items k.counts
+              (λ f m n at. referring_there r u s w.say (id_at x.krates.items f.krate) (text_view f.name) n (feature_stands r u s x w f m) at) k.each;
           total = k.total;
         },
         h.references.2,
@@ -147,9 +148,12 @@ selection_there r u s x w = record {
   some = (w.selected.some.0, (w.say.facts (Crate w.selected.some.0)).0 w.selected.some.1);
   krates = w.selected.krates;
   edges = w.selected.edges;
-  placed = All-from_recursion (IsPlaced u s) x.edges.items (each (IsPlaced u s) x.edges.items (placed_there r u s x w));
+  ends = w.selected.ends;
+  placed = All-from_recursion (IsPlaced u s x.krates.items) x.edges.items (each (IsPlaced u s x.krates.items) x.edges.items (placed_there r u s x w));
   features = w.selected.features;
+  homes = w.selected.homes;
   toggled = w.selected.toggled;
+  toggled_crates = w.selected.toggled_crates;
   work = counts_there r u s x w w.selected.work;
 }
 
@@ -162,8 +166,8 @@ krate_there r u s w i k stands h =
     let same = w.packages k.id h.pkg q.pkg h.has_package has in
     record { id = h.id; pkg = q.pkg; has_package = has; declared = h.declared ∙ ap length (dependencies_same h.pkg q.pkg same) }
 
-link_there : (r u : Resolved) (s : SettingModel) → SaidAlike r u s → SayAlike r u → (e : KeptEdge) (l : Link) → Derivable (questions u s) (Kept (edge_view e)) → IsLink r s e l → IsLink u s e l
-link_there r u s w say e l kept h =
+link_there : (r u : Resolved) (s : SettingModel) → SaidAlike r u s → SayAlike r u → (kids : List Identity) (e : KeptEdge) (l : Link) → Derivable (questions u s) (Kept (edge_view kids e)) → IsLink r s kids e l → IsLink u s kids e l
+link_there r u s w say kids e l kept h =
     let here : Derivable (questions u s) (Kept l.edge) = subst (λ z. Derivable (questions u s) (Kept z)) (sym h.edge) kept in
     let d = declared_there r u s w say l.edge l.place h.dependency here h.declared in
     let child = kept_there u s l.edge.child (child_kept (questions u s) l.edge here) in
@@ -195,8 +199,8 @@ names_there r u s i (references.weak d g) (FeatureOf ids name) w h = (referents_
 meaning_there : (r u : Resolved) (s : SettingModel) (i : Id) → SaidAlike r u s → (text : Text) (m : Meaning) → IsMeaning r s.all_named i text m → IsMeaning u s.all_named i text m
 meaning_there r u s i w text m h = record { reference = h.reference; is = h.is; names = names_there r u s i h.reference m w h.names }
 
-named_there : (r u : Resolved) (s : SettingModel) → SaidAlike r u s → (f : EnabledFeature) (n : Named) → Stands u s (id_of f.krate) → IsNamed r s.all_named f n → IsNamed u s.all_named f n
-named_there r u s w f n stands h =
+named_there : (r u : Resolved) (s : SettingModel) → SaidAlike r u s → (kids : List Identity) (f : EnabledFeature) (n : Named) → Stands u s (id_at kids f.krate) → IsNamed r s.all_named kids f n → IsNamed u s.all_named kids f n
+named_there r u s w kids f n stands h =
     let q = stands.included in
     let has : HasPackage u n.krate q.pkg = subst (λ j. HasPackage u j q.pkg) (sym h.krate) q.has_package in
     let same : values_of h.pkg.features n.name ≡ values_of q.pkg.features n.name = ap (λ o. unwrap_or o []) ((w.packages n.krate h.pkg q.pkg h.has_package has).features n.name) in
@@ -206,8 +210,8 @@ named_there r u s w f n stands h =
 carried_sheet : (r u : Resolved) (s : SettingModel) (x : Selection) → Carried r u s x → (t : Sheet) → IsSheet r s x t → IsSheet u s x t
 carried_sheet r u s x w t h = record {
   krates = zip_there (IsKrate r) (IsKrate u) x.krates.items t.krates (λ i m k is. krate_there r u s w.say i k (crate_stands r u s x w i m) is) h.krates;
-  links = zip_there (IsLink r s) (IsLink u s) x.edges.items t.links (λ e m l is. link_there r u s w.say w.deps e l (edge_kept r u s x w e m) is) h.links;
-  features = zip_there (IsNamed r s.all_named) (IsNamed u s.all_named) x.features.items t.features (λ f m n is. named_there r u s w.say f n (feature_stands r u s x w f m) is) h.features;
+  links = zip_there (IsLink r s x.krates.items) (IsLink u s x.krates.items) x.edges.items t.links (λ e m l is. link_there r u s w.say w.deps x.krates.items e l (edge_kept r u s x w e m) is) h.links;
+  features = zip_there (IsNamed r s.all_named x.krates.items) (IsNamed u s.all_named x.krates.items) x.features.items t.features (λ f m n is. named_there r u s w.say x.krates.items f n (feature_stands r u s x w f m) is) h.features;
   toggled = h.toggled;
 }
 

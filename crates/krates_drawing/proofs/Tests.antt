@@ -1,7 +1,8 @@
 -- Tests and orders of ids and features.
-use Rattle.std.proofs.Common.{◌≡◌, ◌&&◌, ◌||◌, ◌==◌, Bool, true, false, not, ℕ, suc, ◌+◌, List, [], ◌∷◌, get_or, length, map, filter, cond, Ordering, Less, Equal, Greater, rules, refl, sym, ap, ◌∙◌, subst, arith}
+use Rattle.std.proofs.Common.{◌≡◌, ◌&&◌, ◌||◌, ◌==◌, Bool, true, false, not, ℕ, suc, ◌+◌, ◌≤◌, List, [], ◌∷◌, All, get_or, length, map, filter, cond, Ordering, Less, Equal, Greater, rules, refl, sym, ap, ◌∙◌, subst, arith}
+use Rattle.std.proofs.lemmas.Cmp.{nat_cmp_total, ranked}
 use Rattle.std.proofs.lemmas.Map.Text.{is_eq-slice_cmp}
-use Rattle.std.specs.Cmp.{IsTotalOrder}
+use Rattle.std.specs.Cmp.{IsTotalOrder, unsigned_ties}
 use Rattle.std.specs.Cmp.Lexicographic.{slice_cmp}
 use Rattle.std.specs.Cmp.Rules.{comparing}
 use Rattle.std.specs.Ordering.{is_eq, nat_cmp, ordering_index, ordering_reverse, ordering_then}
@@ -12,12 +13,14 @@ use Rattle.krates_cm.specs.Document.{Text, text_view}
 use Rattle.krates_ids.specs.Identity.{Identity, id_cmp}
 use Rattle.krates_resolve.specs.SelectionOrder.{feature_cmp, place_cmp, toggled_cmp}
 use Rattle.krates_resolve.specs.declared.selection.ToggledFeature.{ToggledFeature}
+use Rattle.krates_rules.specs.Facts.{Id}
+use Rattle.krates_rules.specs.Referent.{id_order}
 use Rattle.krates_rules.specs.Resolved.{id_of}
 use Rattle.krates_drawing.specs.Drawing.{id_eq, place_of}
-use Rattle.krates_drawing.specs.SheetOrder.{AreByChild, AreByKrate}
+use Rattle.krates_drawing.specs.SheetOrder.{AreByChild, AreByKrate, has_child, has_krate}
 use Rattle.krates_drawing.specs.declared.sheet.Link.{Link}
 use Rattle.krates_drawing.specs.declared.sheet.Named.{Named}
-use Rattle.krates_drawing.proofs.Halves.{IsCut, below_later, rises_weakly, stands_in}
+use Rattle.krates_drawing.proofs.Halves.{IsCut, below_later, cut_is, rises_weakly, stands_in}
 
 -- ---- tests
 
@@ -39,19 +42,49 @@ equal_ids a b =
     then_eq version source ∙ and_same _ _ _ _ (is_eq-slice_cmp a.version b.version) (is_eq-slice_cmp a.source b.source) in
     then_eq name (ordering_then version source) ∙ and_same _ _ _ _ (is_eq-slice_cmp a.name b.name) inner
 
--- and so are ids with names
-pub equal_named : (a b : Identity) (f g : Text) → is_eq (ordering_then (id_cmp a b) (slice_cmp nat_cmp f g)) ≡ (id_eq (id_of a) (id_of b) && bytes_eq f g)
-equal_named a b f g = then_eq (id_cmp a b) (slice_cmp nat_cmp f g) ∙ and_same _ _ _ _ (equal_ids a b) (is_eq-slice_cmp f g)
+-- and so are numbers with names
+pub equal_named : (m n : ℕ) (f g : Text) → is_eq (ordering_then (nat_cmp m n) (slice_cmp nat_cmp f g)) ≡ ((m == n) && bytes_eq f g)
+equal_named m n f g = then_eq (nat_cmp m n) (slice_cmp nat_cmp f g) ∙ and_same _ _ _ _ (sym (unsigned_ties m n)) (is_eq-slice_cmp f g)
+
+-- numbers that pass are equal
+pub equal_is : (m n : ℕ) → (m == n) ≡ true → m ≡ n
+equal_is m n t = by (nat_cmp m n) refl (sym (unsigned_ties m n) ∙ t)
+  where
+    by : (r : Ordering) → r ≡ nat_cmp m n → is_eq r ≡ true → m ≡ n
+    by Less e h = absurd cc
+    by Equal e h = ranked m n Equal e
+    by Greater e h = absurd cc
+
+pub equal_self : (n : ℕ) → (n == n) ≡ true
+equal_self n = search rules
+
+pub unequal_is : (m n : ℕ) → (m ≡ n → ⊥) → (m == n) ≡ false
+unequal_is m n h = by (m == n) refl
+  where
+    by : (b : Bool) → (m == n) ≡ b → b ≡ false
+    by true e = absurd (h (equal_is m n e))
+    by false e = refl
+
+pub bools_same : (a b : Bool) → (a ≡ true → b ≡ true) → (b ≡ true → a ≡ true) → a ≡ b
+bools_same true b f g = sym (f refl)
+bools_same false true f g = g refl
+bools_same false false f g = refl
 
 -- ---- tests of what is seen
+
+head : {A : Type 0} (P : A → Type 0) (x : A) (xs : List A) → All P (x ∷ xs) → P x
+head P x xs all = all 0 x (omega arith)
+
+tail : {A : Type 0} (P : A → Type 0) (x : A) (xs : List A) → All P (x ∷ xs) → All P xs
+tail P x xs all k d lt = all (suc k) d (omega (arith, lt))
 
 step_place : (b c : Bool) (m n : ℕ) → b ≡ c → m ≡ n → cond b 0 (suc m) ≡ cond c 0 (suc n)
 step_place b c m n e f = ap (λ x. cond x 0 (suc m)) e ∙ ap (λ k. cond c 0 (suc k)) f
 
 -- the place among what is seen is the place among all
-pub place_seen : {A B : Type 0} (v : A → B) (p : B → Bool) (q : A → Bool) (xs : List A) → ((x : A) → q x ≡ p (v x)) → place_of p (map v xs) ≡ place_of q xs
-place_seen v p q [] same = refl
-place_seen v p q (x ∷ xs) same = step_place (p (v x)) (q x) (place_of p (map v xs)) (place_of q xs) (sym (same x)) (place_seen v p q xs same)
+pub place_seen : {A B : Type 0} (P : A → Type 0) (v : A → B) (p : B → Bool) (q : A → Bool) (xs : List A) → All P xs → ((x : A) → P x → q x ≡ p (v x)) → place_of p (map v xs) ≡ place_of q xs
+place_seen P v p q [] all same = refl
+place_seen P v p q (x ∷ xs) all same = step_place (p (v x)) (q x) (place_of p (map v xs)) (place_of q xs) (sym (same x (head P x xs all))) (place_seen P v p q xs (tail P x xs all) same)
 
 step_filter : {A B : Type 0} (v : A → B) (b c : Bool) (x : A) (ys : List B) (xs : List A) → b ≡ c → ys ≡ map v xs → cond b (v x ∷ ys) ys ≡ map v (cond c (x ∷ xs) xs)
 step_filter v true true x ys xs e f = ap (λ zs. v x ∷ zs) f
@@ -60,17 +93,42 @@ step_filter v false true x ys xs e f = absurd cc
 step_filter v false false x ys xs e f = f
 
 -- what is left of what is seen is what is seen of what is left
-pub filter_seen : {A B : Type 0} (v : A → B) (p : B → Bool) (q : A → Bool) (xs : List A) → ((x : A) → q x ≡ p (v x)) → filter p (map v xs) ≡ map v (filter q xs)
-filter_seen v p q [] same = refl
-filter_seen v p q (x ∷ xs) same = step_filter v (p (v x)) (q x) x (filter p (map v xs)) (filter q xs) (sym (same x)) (filter_seen v p q xs same)
+pub filter_seen : {A B : Type 0} (P : A → Type 0) (v : A → B) (p : B → Bool) (q : A → Bool) (xs : List A) → All P xs → ((x : A) → P x → q x ≡ p (v x)) → filter p (map v xs) ≡ map v (filter q xs)
+filter_seen P v p q [] all same = refl
+filter_seen P v p q (x ∷ xs) all same = step_filter v (p (v x)) (q x) x (filter p (map v xs)) (filter q xs) (sym (same x (head P x xs all))) (filter_seen P v p q xs (tail P x xs all) same)
+
+any_step : (a b c d : Bool) → a ≡ b → c ≡ d → (a || c) ≡ (b || d)
+any_step a b c d e f = ap (λ z. z || c) e ∙ ap (λ z. b || z) f
+
+-- something that is seen passes where something does
+pub any_seen : {A B : Type 0} (P : A → Type 0) (v : A → B) (p : B → Bool) (q : A → Bool) (xs : List A) → All P xs → ((x : A) → P x → q x ≡ p (v x)) → list_any p (map v xs) ≡ list_any q xs
+any_seen P v p q [] all same = refl
+any_seen P v p q (x ∷ xs) all same = any_step (p (v x)) (q x) (list_any p (map v xs)) (list_any q xs) (sym (same x (head P x xs all))) (any_seen P v p q xs (tail P x xs all) same)
+
+same_step : {A : Type 0} (b c : Bool) (x : A) (ys zs : List A) → b ≡ c → ys ≡ zs → cond b (x ∷ ys) ys ≡ cond c (x ∷ zs) zs
+same_step b c x ys zs e f = ap (λ d. cond d (x ∷ ys) ys) e ∙ ap (λ l. cond c (x ∷ l) l) f
+
+-- tests that agree leave the same
+pub filter_same : {A : Type 0} (p q : A → Bool) (xs : List A) → ((x : A) → p x ≡ q x) → filter p xs ≡ filter q xs
+filter_same p q [] h = refl
+filter_same p q (x ∷ xs) h = same_step (p x) (q x) x (filter p xs) (filter q xs) (h x) (filter_same p q xs h)
 
 -- ---- orders
+
+pub order_total : IsTotalOrder id_order
+order_total = search (comparing, rules) depth 9
+
+pub equal_order : (a b : Id) → is_eq (id_order a b) ≡ id_eq a b
+equal_order a b =
+    let x : Identity = record { text = []; name = a.name; version = a.version; source = a.source; is_opaque = false } in
+    let y : Identity = record { text = []; name = b.name; version = b.version; source = b.source; is_opaque = false } in
+    equal_ids x y
 
 pub ids_total : IsTotalOrder id_cmp
 ids_total = search (comparing, rules) depth 9
 
-abbrev pub named_cmp : Identity × Text → Identity × Text → Ordering
-named_cmp a b = ordering_then (id_cmp a.0 b.0) (slice_cmp nat_cmp a.1 b.1)
+abbrev pub named_cmp : ℕ × Text → ℕ × Text → Ordering
+named_cmp a b = ordering_then (nat_cmp a.0 b.0) (slice_cmp nat_cmp a.1 b.1)
 
 pub named_total : IsTotalOrder named_cmp
 named_total = search (comparing, rules) depth 9
@@ -86,7 +144,7 @@ unfolding IsStrictlySortedBy
 sorted_as R S f g same [] h = tt
 sorted_as R S f g same (x ∷ xs) h = (all_as R S f g same x xs h.0, sorted_as R S f g same xs h.1)
 
-abbrev pub feature_key : Named → Identity × Text
+abbrev pub feature_key : Named → ℕ × Text
 feature_key n = (n.feature.krate, text_view n.feature.name)
 
 -- features in order, by crate and name
@@ -105,60 +163,95 @@ second_low Less b c same e g = cc same
 second_low Equal b c same e g = first_low b c e g
 second_low Greater b c same e g = cc same
 
+low_of : (m n : ℕ) (r : Ordering) → r ≡ nat_cmp m n → (r ≡ Greater → ⊥) → m ≤ n
+low_of m n Less e low = let lt = ranked m n Less e in omega (arith, lt)
+low_of m n Equal e low = let same = ranked m n Equal e in omega (arith, same)
+low_of m n Greater e low = absurd (low refl)
+
+pub not_high : (m n : ℕ) → m ≤ n → (r : Ordering) → r ≡ nat_cmp m n → r ≡ Greater → ⊥
+not_high m n le Less e g = cc g
+not_high m n le Equal e g = cc g
+not_high m n le Greater e g = let gt = ranked m n Greater e in omega (arith, le, gt)
+
 -- edges in order rise by parent
-pub links_by_parent : (xs : List Link) (p : Identity) → IsStrictlySortedBy place_cmp (map (λ l. l.edge) xs) → IsNonDecreasingBy (λ (l : Link). ordering_index (id_cmp l.edge.parent p)) xs
-links_by_parent xs p sorted = rises_weakly ids_total (λ (l : Link). l.edge.parent) xs p (λ i j d l lt. first_low _ _ (below_later place_cmp (λ (l : Link). l.edge) xs i j d sorted l lt))
+pub links_by_parent : (xs : List Link) (p : ℕ) → IsStrictlySortedBy place_cmp (map (λ l. l.edge) xs) → IsNonDecreasingBy (λ (l : Link). ordering_index (nat_cmp l.edge.parent p)) xs
+links_by_parent xs p sorted = rises_weakly nat_cmp_total (λ (l : Link). l.edge.parent) xs p (λ i j d l lt. first_low _ _ (below_later place_cmp (λ (l : Link). l.edge) xs i j d sorted l lt))
 
 -- edges from a crate in order rise by child
-pub links_by_child : (mine : List Link) (q : Identity) → AreByChild mine → IsNonDecreasingBy (λ (l : Link). ordering_index (id_cmp l.edge.child q)) mine
-links_by_child mine q by = rises_weakly ids_total (λ (l : Link). l.edge.child) mine q by
+pub links_by_child : (mine : List Link) (q : ℕ) → AreByChild mine → IsNonDecreasingBy (λ (l : Link). ordering_index (nat_cmp l.edge.child q)) mine
+links_by_child mine q by = rises_weakly nat_cmp_total (λ (l : Link). l.edge.child) mine q (λ i j d l lt. not_high _ _ (by i j d l lt) _ refl)
 
 itself : {A : Type 0} (xs : List A) → map (λ x. x) xs ≡ xs
 itself [] = refl
 itself (x ∷ xs) = ap (λ ys. x ∷ ys) (itself xs)
 
 -- toggled features in order rise by the crate that toggles them
-pub toggled_by_crate : (xs : List ToggledFeature) (p : Identity) → IsStrictlySortedBy toggled_cmp xs → IsNonDecreasingBy (λ (t : ToggledFeature). ordering_index (id_cmp t.by p)) xs
+pub toggled_by_crate : (xs : List ToggledFeature) (p : ℕ) → IsStrictlySortedBy toggled_cmp xs → IsNonDecreasingBy (λ (t : ToggledFeature). ordering_index (nat_cmp t.by p)) xs
 toggled_by_crate xs p sorted =
-    rises_weakly ids_total (λ (t : ToggledFeature). t.by) xs p (λ i j d l lt. first_low _ _ (below_later toggled_cmp (λ (t : ToggledFeature). t) xs i j d (subst (IsStrictlySortedBy toggled_cmp) (sym (itself xs)) sorted) l lt))
+    rises_weakly nat_cmp_total (λ (t : ToggledFeature). t.by) xs p (λ i j d l lt. first_low _ _ (below_later toggled_cmp (λ (t : ToggledFeature). t) xs i j d (subst (IsStrictlySortedBy toggled_cmp) (sym (itself xs)) sorted) l lt))
 
 -- those of one crate rise by the crate whose they are
-pub toggled_by_krate : (mine : List ToggledFeature) (q : Identity) → AreByKrate mine → IsNonDecreasingBy (λ (t : ToggledFeature). ordering_index (id_cmp t.krate q)) mine
-toggled_by_krate mine q by = rises_weakly ids_total (λ (t : ToggledFeature). t.krate) mine q by
+pub toggled_by_krate : (mine : List ToggledFeature) (q : ℕ) → AreByKrate mine → IsNonDecreasingBy (λ (t : ToggledFeature). ordering_index (nat_cmp t.krate q)) mine
+toggled_by_krate mine q by = rises_weakly nat_cmp_total (λ (t : ToggledFeature). t.krate) mine q (λ i j d l lt. not_high _ _ (by i j d l lt) _ refl)
 
-is_equal : (r : Ordering) → is_eq r ≡ true → r ≡ Equal
-is_equal Less e = cc e
-is_equal Equal e = refl
-is_equal Greater e = cc e
+equal_both : (m n p : ℕ) → is_eq (nat_cmp m p) ≡ true → is_eq (nat_cmp n p) ≡ true → nat_cmp m n ≡ Equal
+equal_both m n p a b =
+    let first : nat_cmp m p ≡ Equal = is_equal (nat_cmp m p) a in
+    let second : nat_cmp n p ≡ Equal = is_equal (nat_cmp n p) b in
+    nat_cmp_total.congr m p n first ∙ nat_cmp_total.antisymm p n ∙ ap ordering_reverse second
+  where
+    is_equal : (r : Ordering) → is_eq r ≡ true → r ≡ Equal
+    is_equal Less e = cc e
+    is_equal Equal e = refl
+    is_equal Greater e = cc e
 
 -- the features that a crate toggles are in order by the crate whose they are
-pub cut_by_krate : (xs mine : List ToggledFeature) (p : Identity) → IsStrictlySortedBy toggled_cmp xs → IsCut (λ (t : ToggledFeature). id_cmp t.by p) xs mine → AreByKrate mine
-cut_by_krate xs mine p sorted w i j d l lt greater =
-    let ord : ToggledFeature → Ordering = λ t. id_cmp t.by p in
+pub cut_by_krate : (xs mine : List ToggledFeature) (p : ℕ) → IsStrictlySortedBy toggled_cmp xs → IsCut (λ (t : ToggledFeature). nat_cmp t.by p) xs mine → AreByKrate mine
+cut_by_krate xs mine p sorted w i j d l lt =
+    let ord : ToggledFeature → Ordering = λ t. nat_cmp t.by p in
     let here = stands_in ord xs mine w i d (omega (arith, l, lt)) in
     let there = stands_in ord xs mine w j d lt in
     let a = get_or xs (w.n + i) d in
     let b = get_or xs (w.n + j) d in
     let less : toggled_cmp a b ≡ Less = below_later toggled_cmp (λ (t : ToggledFeature). t) xs (w.n + i) (w.n + j) d (subst (IsStrictlySortedBy toggled_cmp) (sym (itself xs)) sorted) (omega (arith, l)) there.within in
-    let first : id_cmp a.by p ≡ Equal = is_equal (id_cmp a.by p) here.equal in
-    let second : id_cmp b.by p ≡ Equal = is_equal (id_cmp b.by p) there.equal in
-    let same : id_cmp a.by b.by ≡ Equal = ids_total.congr a.by p b.by first ∙ ids_total.antisymm p b.by ∙ ap ordering_reverse second in
-    second_low (id_cmp a.by b.by) (id_cmp a.krate b.krate) (slice_cmp nat_cmp (text_view a.name) (text_view b.name)) same less
-    (ap (λ (z : ToggledFeature). id_cmp z.krate b.krate) (sym here.same) ∙ ap (λ (z : ToggledFeature). id_cmp (get_or mine i d).krate z.krate) (sym there.same) ∙ greater)
+    let same : nat_cmp a.by b.by ≡ Equal = equal_both a.by b.by p here.equal there.equal in
+    let low : a.krate ≤ b.krate = low_of a.krate b.krate (nat_cmp a.krate b.krate) refl (second_low (nat_cmp a.by b.by) (nat_cmp a.krate b.krate) (slice_cmp nat_cmp (text_view a.name) (text_view b.name)) same less) in
+    subst (λ (z : ToggledFeature). z.krate ≤ (get_or mine j d).krate) (sym here.same) (subst (λ (z : ToggledFeature). a.krate ≤ z.krate) (sym there.same) low)
 
 -- the edges from a crate are in order by child
-pub cut_by_child : (xs mine : List Link) (p : Identity) → IsStrictlySortedBy place_cmp (map (λ l. l.edge) xs) → IsCut (λ (l : Link). id_cmp l.edge.parent p) xs mine → AreByChild mine
-cut_by_child xs mine p sorted w i j d l lt greater =
-    let here = stands_in (λ (l : Link). id_cmp l.edge.parent p) xs mine w i d (omega (arith, l, lt)) in
-    let there = stands_in (λ (l : Link). id_cmp l.edge.parent p) xs mine w j d lt in
+pub cut_by_child : (xs mine : List Link) (p : ℕ) → IsStrictlySortedBy place_cmp (map (λ l. l.edge) xs) → IsCut (λ (l : Link). nat_cmp l.edge.parent p) xs mine → AreByChild mine
+cut_by_child xs mine p sorted w i j d l lt =
+    let ord : Link → Ordering = λ l. nat_cmp l.edge.parent p in
+    let here = stands_in ord xs mine w i d (omega (arith, l, lt)) in
+    let there = stands_in ord xs mine w j d lt in
     let a = get_or xs (w.n + i) d in
     let b = get_or xs (w.n + j) d in
     let less : place_cmp a.edge b.edge ≡ Less = below_later place_cmp (λ (l : Link). l.edge) xs (w.n + i) (w.n + j) d sorted (omega (arith, l)) there.within in
-    let first : id_cmp a.edge.parent p ≡ Equal = is_equal (id_cmp a.edge.parent p) here.equal in
-    let second : id_cmp b.edge.parent p ≡ Equal = is_equal (id_cmp b.edge.parent p) there.equal in
-    let parents : id_cmp a.edge.parent b.edge.parent ≡ Equal = ids_total.congr a.edge.parent p b.edge.parent first ∙ ids_total.antisymm p b.edge.parent ∙ ap ordering_reverse second in
-    second_low (id_cmp a.edge.parent b.edge.parent) (id_cmp a.edge.child b.edge.child) (nat_cmp a.edge.place b.edge.place) parents less
-    (ap (λ (z : Link). id_cmp z.edge.child b.edge.child) (sym here.same) ∙ ap (λ (z : Link). id_cmp (get_or mine i d).edge.child z.edge.child) (sym there.same) ∙ greater)
+    let same : nat_cmp a.edge.parent b.edge.parent ≡ Equal = equal_both a.edge.parent b.edge.parent p here.equal there.equal in
+    let low : a.edge.child ≤ b.edge.child = low_of a.edge.child b.edge.child (nat_cmp a.edge.child b.edge.child) refl (second_low (nat_cmp a.edge.parent b.edge.parent) (nat_cmp a.edge.child b.edge.child) (nat_cmp a.edge.place b.edge.place) same less) in
+    subst (λ (z : Link). z.edge.child ≤ (get_or mine j d).edge.child) (sym here.same) (subst (λ (z : Link). a.edge.child ≤ z.edge.child) (sym there.same) low)
+
+-- ---- runs, by number
+
+-- whether the crate of this number has the edge
+abbrev pub has_parent : ℕ → Link → Bool
+has_parent parent l = l.edge.parent == parent
+
+-- whether it toggles the feature
+abbrev pub has_by : ℕ → ToggledFeature → Bool
+has_by by t = t.by == by
+
+pub cut_parent : (xs mine : List Link) (p : ℕ) → IsCut (λ (l : Link). nat_cmp l.edge.parent p) xs mine → mine ≡ filter (has_parent p) xs
+cut_parent xs mine p w = cut_is (λ (l : Link). nat_cmp l.edge.parent p) xs mine w ∙ filter_same (λ (l : Link). is_eq (nat_cmp l.edge.parent p)) (has_parent p) xs (λ l. sym (unsigned_ties l.edge.parent p))
+
+pub cut_child : (xs mine : List Link) (q : ℕ) → IsCut (λ (l : Link). nat_cmp l.edge.child q) xs mine → mine ≡ filter (has_child q) xs
+cut_child xs mine q w = cut_is (λ (l : Link). nat_cmp l.edge.child q) xs mine w ∙ filter_same (λ (l : Link). is_eq (nat_cmp l.edge.child q)) (has_child q) xs (λ l. sym (unsigned_ties l.edge.child q))
+
+pub cut_by : (xs mine : List ToggledFeature) (p : ℕ) → IsCut (λ (t : ToggledFeature). nat_cmp t.by p) xs mine → mine ≡ filter (has_by p) xs
+cut_by xs mine p w = cut_is (λ (t : ToggledFeature). nat_cmp t.by p) xs mine w ∙ filter_same (λ (t : ToggledFeature). is_eq (nat_cmp t.by p)) (has_by p) xs (λ t. sym (unsigned_ties t.by p))
+
+pub cut_krate : (xs mine : List ToggledFeature) (q : ℕ) → IsCut (λ (t : ToggledFeature). nat_cmp t.krate q) xs mine → mine ≡ filter (has_krate q) xs
+cut_krate xs mine q w = cut_is (λ (t : ToggledFeature). nat_cmp t.krate q) xs mine w ∙ filter_same (λ (t : ToggledFeature). is_eq (nat_cmp t.krate q)) (has_krate q) xs (λ t. sym (unsigned_ties t.krate q))
 
 -- ---- a filter of a filter
 

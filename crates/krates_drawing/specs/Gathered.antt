@@ -1,25 +1,46 @@
--- What is found in a document about kept crates and edges, or what is missing there.
-use Rattle.std.specs.Prelude.{◌≡◌, ℕ, Bool, List, Some, None, filter, length, slice_get}
+-- What is gathered about kept crates, edges and features.
+use Rattle.std.specs.Prelude.{◌≡◌, ℕ, Bool, List, [], Option, Some, None, filter, length, slice_get}
 use Rattle.std.specs.List.{AllZip}
 use Rattle.krates_cm.specs.Document.{Text, text_view, DependencyModel, PackageModel, NodeModel}
-use Rattle.krates_rules.specs.Facts.{Id}
-use Rattle.krates_rules.specs.Resolved.{Resolved, id_of, HasPackage, NoPackage, HasNode, NoNode}
+use Rattle.krates_rules.specs.Resolved.{Resolved, id_of}
 use Rattle.krates_resolve.specs.declared.selection.EnabledFeature.{EnabledFeature}
 use Rattle.krates_resolve.specs.declared.selection.KeptEdge.{KeptEdge}
 use Rattle.krates_lookups.specs.FeatureValues.{values_of}
 use Rattle.krates_drawing.specs.Sheet.{Meaning, IsMeaning, asked_by, has_text}
+use Rattle.krates_drawing.specs.Told.{node_at, package_at, package_in}
+use Rattle.krates_drawing.specs.declared.told.Told.{Told}
 
-pub data CountTold (r : Resolved) (i : Id) (n : ℕ) : Type 0 where
-  no_package : NoPackage r i → CountTold r i n
-  counted : (p : PackageModel) → HasPackage r i p → n ≡ length p.dependencies → CountTold r i n
+-- how many dependencies a package declares; none where there is no package
+abbrev pub declared_in : Option PackageModel → ℕ
+declared_in None = 0
+declared_in (Some pkg) = length pkg.dependencies
 
-pub data GivenTold (r : Resolved) (e : KeptEdge) (given : List Text) : Type 0 where
-  no_parent : NoPackage r (id_of e.parent) → GivenTold r e given
-  no_child : NoNode r (id_of e.child) → GivenTold r e given
-  no_dependency : (p : PackageModel) → HasPackage r (id_of e.parent) p → slice_get p.dependencies e.declared ≡ None → GivenTold r e given
-  gives : (p : PackageModel) (n : NodeModel) (d : DependencyModel) → HasPackage r (id_of e.parent) p → HasNode r (id_of e.child) n → slice_get p.dependencies e.declared ≡ Some d
-      → given ≡ filter (has_text n.features) (asked_by d) → GivenTold r e given
+abbrev pub count_in : Told → ℕ
+count_in t = declared_in (package_in t)
 
--- what the references of the feature name, if its crate has a package
-abbrev pub MeaningsTold : Resolved → Bool → EnabledFeature → List Meaning → Type 0
-MeaningsTold r all f meanings = (p : PackageModel) → HasPackage r (id_of f.krate) p → AllZip (IsMeaning r all (id_of f.krate)) (values_of p.features (text_view f.name)) meanings
+-- the declared dependency at a place; none where there is no package
+abbrev pub dependency_in : Option PackageModel → ℕ → Option DependencyModel
+dependency_in None place = None
+dependency_in (Some pkg) place = slice_get pkg.dependencies place
+
+-- of the features that the dependency asks for those that the node lists; none where one of them is missing
+abbrev pub listed_of : Option DependencyModel → Option NodeModel → List Text
+listed_of (Some d) (Some n) = filter (has_text n.features) (asked_by d)
+listed_of _ _ = []
+
+-- what a kept edge gives
+abbrev pub given_in : List Told → KeptEdge → List Text
+given_in told e = listed_of (dependency_in (package_at told e.parent) e.declared) (node_at told e.child)
+
+-- the values that a package has under a feature's name; none where there is no package
+abbrev pub values_in : Option PackageModel → Text → List Text
+values_in None name = []
+values_in (Some pkg) name = values_of pkg.features name
+
+-- what the references of a feature of this name mean for a crate; nothing where there is no such crate
+abbrev pub AreMeant : Resolved → Bool → Option Told → Text → List Meaning → Type 0
+AreMeant r all None name meanings = meanings ≡ []
+AreMeant r all (Some t) name meanings = AllZip (IsMeaning r all (id_of t.krate.now)) (values_in (package_in t) name) meanings
+
+abbrev pub MeaningsTold : Resolved → Bool → List Told → EnabledFeature → List Meaning → Type 0
+MeaningsTold r all told f meanings = AreMeant r all (slice_get told f.krate) (text_view f.name) meanings

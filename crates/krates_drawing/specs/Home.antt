@@ -1,19 +1,43 @@
 -- A kept crate from which edges are drawn.
-use Rattle.std.specs.Prelude.{◌≡◌, map}
+use Rattle.std.specs.Prelude.{◌≡◌, ◌<◌, ◌++◌, ℕ, true, List, All, filter, flat_map, length, map}
+use Rattle.std.specs.Global.{Vec}
+use Rattle.krates_resolve.specs.CrateNumbers.{HasCrates, id_at}
+use Rattle.krates_resolve.specs.declared.selection.ToggledFeature.{ToggledFeature}
 use Rattle.krates_rules.specs.Facts.{Id}
-use Rattle.krates_rules.specs.Resolved.{id_of}
-use Rattle.krates_drawing.specs.Drawing.{crate_number, from_crate}
-use Rattle.krates_drawing.specs.Sheet.{Sheet}
-use Rattle.krates_drawing.specs.SheetOrder.{AreByChild}
-use Rattle.krates_drawing.specs.Views.{link_view}
+use Rattle.krates_drawing.specs.Drawing.{Line, from_crate, leads_to, pair_lines}
+use Rattle.krates_drawing.specs.Sheet.{toggle_of}
+use Rattle.krates_drawing.specs.SheetOrder.{AreByChild, AreByKrate, HaveEnds, children_of, is_by}
+use Rattle.krates_drawing.specs.Views.{arrow_view, kids_in, link_view, sheet_view}
+use Rattle.krates_drawing.specs.declared.edge.Arrow.{Arrow}
 use Rattle.krates_drawing.specs.declared.origin.Home.{Home}
+use Rattle.krates_drawing.specs.declared.sheet.Link.{Link}
+use Rattle.krates_drawing.specs.declared.sheet.Sheet.{Sheet}
 
--- the number is that of the crate with this id, and the edges are the kept ones from it, by child
-pub record IsHomeOf (t : Sheet) (i : Id) (h : Home) : Type 0 where
-  pub number : h.number ≡ crate_number t i
-  pub links : map link_view h.mine.now ≡ from_crate t i
-  pub by_child : AreByChild h.mine.now
+-- these are the kept edges from the crate of the number, by child
+pub record AreLinksFrom (t : Sheet) (parent : ℕ) (mine : List Link) : Type 0 where
+  pub links : map (link_view (kids_in t)) mine ≡ from_crate (sheet_view t) (id_at (kids_in t) parent)
+  pub by_child : AreByChild mine
+  pub ends : HaveEnds t mine
 
--- the same of its own id
-abbrev pub IsHome : Sheet → Home → Type 0
-IsHome t h = IsHomeOf t (id_of h.krate.now) h
+-- the number is that of a crate, and the edges are the kept ones from it
+pub record IsHome (t : Sheet) (h : Home) : Type 0 where
+  pub within : h.krate < length t.krates.items
+  pub mine : AreLinksFrom t h.krate h.mine.now
+
+-- these are the features that the crate of the number toggles, by the crate whose they are
+pub record AreToggledBy (t : Sheet) (by : ℕ) (mine : List ToggledFeature) : Type 0 where
+  pub toggled : map (toggle_of (kids_in t)) mine ≡ filter (is_by (id_at (kids_in t) by)) (sheet_view t).toggled
+  pub by_krate : AreByKrate mine
+  pub crates : All (HasCrates (length t.krates.items)) mine
+
+-- the number is that of the crate with this id, and one of the edges leads to it
+pub record IsNumberOfChild (t : Sheet) (links : List Link) (i : Id) (n : ℕ) : Type 0 where
+  pub within : n < length t.krates.items
+  pub id : id_at (kids_in t) n ≡ i
+  pub leads : leads_to (map (link_view (kids_in t)) links) i ≡ true
+
+-- behind those lines stand the edges from the crate to all others to which these edges lead
+abbrev pub IsDrawnTo : Sheet → Home → List Link → List Line → Vec Arrow → Type 0
+IsDrawnTo t h links before out =
+    let mine = map (link_view (kids_in t)) h.mine.now in
+    map arrow_view out.items ≡ before ++ flat_map (pair_lines (sheet_view t) (id_at (kids_in t) h.krate) mine) (children_of t links)

@@ -15,4 +15,5 @@ pub mod Sheet
 pub mod SheetOrder
 pub mod Stored
 pub mod TextSet
+pub mod Told
 pub mod Views

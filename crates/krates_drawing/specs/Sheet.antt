@@ -12,6 +12,7 @@ use Rattle.krates_rules.specs.Referent.{AreReferents}
 use Rattle.krates_rules.specs.Resolved.{Resolved, id_of, HasPackage, HasNode}
 use Rattle.krates_rules.specs.Rules.{default_name}
 use Rattle.krates_lookups.specs.FeatureValues.{values_of}
+use Rattle.krates_resolve.specs.CrateNumbers.{id_at}
 use Rattle.krates_resolve.specs.Selection.{edge_view}
 use Rattle.krates_rules.specs.Setting.{SettingModel}
 use Rattle.krates_resolve.specs.declared.selection.EnabledFeature.{EnabledFeature}
@@ -75,8 +76,8 @@ abbrev pub has_text : List Text → Text → Bool
 has_text texts t = list_any (bytes_eq t) texts
 
 -- Of the features that its declared dependency asks for, the edge gives those that the child's node lists.
-pub record IsLink (r : Resolved) (s : SettingModel) (e : KeptEdge) (l : Link) : Type 0 where
-  pub edge : l.edge ≡ edge_view e
+pub record IsLink (r : Resolved) (s : SettingModel) (kids : List Identity) (e : KeptEdge) (l : Link) : Type 0 where
+  pub edge : l.edge ≡ edge_view kids e
   pub place : l.place ≡ e.declared
   pub dependency : DependencyModel
   pub declared : IsDeclaredAt r s l.edge l.place dependency
@@ -99,20 +100,20 @@ pub record IsMeaning (r : Resolved) (all : Bool) (i : Id) (text : Text) (m : Mea
   pub names : Names r all i reference m
 
 -- the sheet's feature is this one, with what each of its references names, in the package's order
-pub record IsNamed (r : Resolved) (all : Bool) (f : EnabledFeature) (n : Named) : Type 0 where
-  pub krate : n.krate ≡ id_of f.krate
+pub record IsNamed (r : Resolved) (all : Bool) (kids : List Identity) (f : EnabledFeature) (n : Named) : Type 0 where
+  pub krate : n.krate ≡ id_at kids f.krate
   pub name : n.name ≡ text_view f.name
   pub pkg : PackageModel
   pub has_package : HasPackage r n.krate pkg
   pub meanings : AllZip (IsMeaning r all n.krate) (values_of pkg.features n.name) n.meanings
 
--- a toggled feature, without what its ids' texts have beside their parts
-abbrev pub toggle_of : ToggledFeature → Toggle
-toggle_of t = record { by = id_of t.by; krate = id_of t.krate; name = text_view t.name }
+-- a toggled feature of these crates
+abbrev pub toggle_of : List Identity → ToggledFeature → Toggle
+toggle_of kids t = record { by = id_at kids t.by; krate = id_at kids t.krate; name = text_view t.name }
 
 -- the sheet is that of the selection
 pub record IsSheet (r : Resolved) (s : SettingModel) (x : Selection) (t : Sheet) : Type 0 where
   pub krates : AllZip (IsKrate r) x.krates.items t.krates
-  pub links : AllZip (IsLink r s) x.edges.items t.links
-  pub features : AllZip (IsNamed r s.all_named) x.features.items t.features
-  pub toggled : t.toggled ≡ map toggle_of x.toggled.items
+  pub links : AllZip (IsLink r s x.krates.items) x.edges.items t.links
+  pub features : AllZip (IsNamed r s.all_named x.krates.items) x.features.items t.features
+  pub toggled : t.toggled ≡ map (toggle_of x.krates.items) x.toggled.items

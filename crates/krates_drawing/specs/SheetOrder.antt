@@ -1,28 +1,28 @@
 -- The order of the lists of a sheet.
-use Rattle.std.specs.Prelude.{◌≡◌, ◌≢◌, ℕ, ◌<◌, ◌==◌, Bool, List, Option, Some, AllPairs, if◌then◌else◌, filter, length, map, not, option_map, slice_get, take, slice_index_or}
-use Rattle.std.specs.Borrow.{Bor}
-use Rattle.std.specs.Global.{Vec}
-use Rattle.std.specs.declared.cmp.Ordering.TheVariants.{Greater}
+use Rattle.std.specs.Prelude.{◌≡◌, ℕ, ◌<◌, ◌≤◌, ◌==◌, Bool, List, Option, Some, All, AllPairs, if◌then◌else◌, filter, length, map, not, option_map, slice_get, take, slice_index_or}
+use Rattle.std.specs.List.{list_any}
 use Rattle.std.specs.List.Sorted.{IsStrictlySortedBy}
 use Rattle.krates_ids.specs.Identity.{id_cmp}
+use Rattle.krates_resolve.specs.CrateNumbers.{HasCrates, HasEnds, HasHome}
 use Rattle.krates_resolve.specs.SelectionOrder.{place_cmp, feature_cmp, toggled_cmp}
 use Rattle.krates_resolve.specs.declared.selection.ToggledFeature.{ToggledFeature}
-use Rattle.krates_rules.specs.Resolved.{id_of}
 use Rattle.krates_rules.specs.Facts.{Id}
 use Rattle.krates_drawing.specs.Drawing.{crate_number, id_eq, is_crate, last_from, leads_to}
 use Rattle.krates_drawing.specs.Sheet as model
-use Rattle.krates_drawing.specs.Views.{krate_view, link_view}
-use Rattle.krates_drawing.specs.declared.sheet.Krate.{Krate}
+use Rattle.krates_drawing.specs.Views.{kids_in, krate_view, link_view}
 use Rattle.krates_drawing.specs.declared.sheet.Link.{Link}
 use Rattle.krates_drawing.specs.declared.sheet.Named.{Named}
 use Rattle.krates_drawing.specs.declared.sheet.Sheet.{Sheet}
 
--- each list is in the order of the selection's, without doubles
+-- each list is in the order of the selection's, without doubles, and has by number only crates of the sheet
 pub record IsOrdered (t : Sheet) : Type 0 where
-  pub krates : IsStrictlySortedBy id_cmp (map (λ k. k.id) t.krates.items)
+  pub krates : IsStrictlySortedBy id_cmp (kids_in t)
   pub links : IsStrictlySortedBy place_cmp (map (λ l. l.edge) t.links.items)
+  pub ends : All (λ l. HasEnds (length t.krates.items) l.edge) t.links.items
   pub features : IsStrictlySortedBy feature_cmp (map (λ n. n.feature) t.features.items)
+  pub homes : All (λ n. HasHome (length t.krates.items) n.feature) t.features.items
   pub toggled : IsStrictlySortedBy toggled_cmp t.toggled.items
+  pub toggled_crates : All (HasCrates (length t.krates.items)) t.toggled.items
 
 -- the feature stands at the place
 pub record IsPlaceOfFeature (t : Sheet) (place : ℕ) (n : Named) : Type 0 where
@@ -31,28 +31,35 @@ pub record IsPlaceOfFeature (t : Sheet) (place : ℕ) (n : Named) : Type 0 where
 
 -- no edge leads to a crate that comes before that of an earlier edge
 abbrev pub AreByChild : List Link → Type 0
-AreByChild links = AllPairs (λ a b. id_cmp a.edge.child b.edge.child ≢ Greater) links
+AreByChild links = AllPairs (λ a b. a.edge.child ≤ b.edge.child) links
+
+-- the edges are between crates of the sheet
+abbrev pub HaveEnds : Sheet → List Link → Type 0
+HaveEnds t links = All (λ l. HasEnds (length t.krates.items) l.edge) links
+
+-- whether the edge leads to the crate of this number
+abbrev pub has_child : ℕ → Link → Bool
+has_child child l = l.edge.child == child
 
 -- whether the crate toggles the feature
 abbrev pub is_by : Id → model.Toggle → Bool
 is_by p t = id_eq t.by p
 
--- whether it is a feature of the crate
-abbrev pub is_in : Id → model.Toggle → Bool
-is_in q t = id_eq t.krate q
+-- whether it is a feature of the crate of this number
+abbrev pub has_krate : ℕ → ToggledFeature → Bool
+has_krate krate t = t.krate == krate
 
 -- no feature is one of a crate that comes before that of an earlier feature
 abbrev pub AreByKrate : List ToggledFeature → Type 0
-AreByKrate toggled = AllPairs (λ a b. id_cmp a.krate b.krate ≢ Greater) toggled
+AreByKrate toggled = AllPairs (λ a b. a.krate ≤ b.krate) toggled
 
 -- no edge before this place leads to the same crate, or one does
 abbrev pub IsFirstTo : List Link → ℕ → Bool → Type 0
-IsFirstTo links place answer = (d : Link) → leads_to (map link_view (take place links)) (id_of (slice_index_or links place d).edge.child) ≡ not answer
+IsFirstTo links place answer = (d : Link) → list_any (has_child (slice_index_or links place d).edge.child) (take place links) ≡ not answer
 
--- these are the crates of the sheet to which the edges lead, in their order
-abbrev pub AreChildren : Sheet → List Link → Vec (Bor Krate) → Type 0
-AreChildren t links children =
-    map (λ k. krate_view k.now) children.items ≡ filter (λ q. leads_to (map link_view links) q.id) (map krate_view t.krates.items)
+-- the crates of the sheet to which the edges lead, in their order
+abbrev pub children_of : Sheet → List Link → List model.Krate
+children_of t links = filter (λ q. leads_to (map (link_view (kids_in t)) links) q.id) (map krate_view t.krates.items)
 
 -- the number of the crate where it is kept, else what was found before
 abbrev pub number_of : model.Sheet → Id → Option ℕ → Option ℕ

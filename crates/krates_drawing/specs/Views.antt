@@ -1,9 +1,11 @@
 -- The sheet and the planned edges of the program, as clauses see them.
-use Rattle.std.specs.Prelude.{◌≡◌, ◌+◌, ◌<◌, ◌^◌, List, [], ◌∷◌, ◌++◌, Option, Some, None, map, length}
+use Rattle.std.specs.Prelude.{◌≡◌, ℕ, ◌+◌, ◌<◌, ◌^◌, List, [], ◌∷◌, ◌++◌, Option, Some, None, get_or, map, length}
 use Rattle.std.specs.Option.{option_map}
 use Rattle.std.specs.Global.{Vec}
 use Rattle.krates_cm.specs.Document.{text_view}
 use Rattle.krates_rules.specs.Resolved.{id_of}
+use Rattle.krates_ids.specs.Identity.{Identity}
+use Rattle.krates_resolve.specs.CrateNumbers.{id_at, no_id}
 use Rattle.krates_resolve.specs.Selection.{edge_view}
 use Rattle.krates_drawing.specs.Drawing.{Tie, Dep, Feature, DepFeature, Line, Spot, CrateSpot, FeatureSpot}
 use Rattle.krates_drawing.specs.Sheet as model
@@ -23,8 +25,24 @@ use Rattle.krates_drawing.specs.declared.sheet.Sheet.{Sheet}
 abbrev pub krate_view : Krate → model.Krate
 krate_view k = record { id = id_of k.id; declared = k.declared }
 
-abbrev pub link_view : Link → model.Link
-link_view l = record { edge = edge_view l.edge; place = l.edge.declared; given = map text_view l.given.items }
+-- the ids of the kept crates
+abbrev pub kids_of : List Krate → List Identity
+kids_of krates = map (λ k. k.id) krates
+
+abbrev pub kids_in : Sheet → List Identity
+kids_in t = kids_of t.krates.items
+
+-- the crate under a number that none has
+abbrev pub no_krate : model.Krate
+no_krate = record { id = no_id; declared = 0 }
+
+-- the crate of a number
+abbrev pub krate_at : Sheet → ℕ → model.Krate
+krate_at t n = get_or (map krate_view t.krates.items) n no_krate
+
+-- an edge between these crates
+abbrev pub link_view : List Identity → Link → model.Link
+link_view kids l = record { edge = edge_view kids l.edge; place = l.edge.declared; given = map text_view l.given.items }
 
 abbrev pub meaning_view : Meaning → model.Meaning
 meaning_view (meaning.OwnFeature name) = OwnFeature (text_view name)
@@ -34,15 +52,16 @@ meaning_view (meaning.FeatureOf krates name) = FeatureOf (map id_of krates.items
 abbrev pub meanings_view : Vec Meaning → List model.Meaning
 meanings_view v = map meaning_view v.items
 
-abbrev pub named_view : Named → model.Named
-named_view n = record { krate = id_of n.feature.krate; name = text_view n.feature.name; meanings = map meaning_view n.meanings.items }
+-- a feature of one of these crates
+abbrev pub named_view : List Identity → Named → model.Named
+named_view kids n = record { krate = id_at kids n.feature.krate; name = text_view n.feature.name; meanings = map meaning_view n.meanings.items }
 
 abbrev pub sheet_view : Sheet → model.Sheet
 sheet_view t = record {
   krates = map krate_view t.krates.items;
-  links = map link_view t.links.items;
-  features = map named_view t.features.items;
-  toggled = map toggle_of t.toggled.items;
+  links = map (link_view (kids_in t)) t.links.items;
+  features = map (named_view (kids_in t)) t.features.items;
+  toggled = map (toggle_of (kids_in t)) t.toggled.items;
 }
 
 -- what an edge says, as the drawing has it

@@ -1,19 +1,37 @@
 //! The edges from features.
-ghost use Rattle.std.specs.Prelude.{◌≡◌, List, ◌++◌, map, filter, flat_map, OnOk};
+ghost use Rattle.std.specs.Prelude.{◌≡◌, List, MatchOption, false, map, filter, flat_map, OnOk};
+ghost use Rattle.krates_resolve.specs.CrateNumbers.{id_at};
 ghost use Rattle.krates_rules.specs.Resolved.{id_of};
 ghost use Rattle.krates_drawing.specs.Drawing.{AtCrate, AtFeature, leads_to as leads, feature_lines};
+ghost use Rattle.krates_drawing.specs.Home.{IsHome, IsNumberOfChild};
 ghost use Rattle.krates_drawing.specs.Origin.{line_from, meant_from};
-ghost use Rattle.krates_drawing.specs.Home.{IsHomeOf};
-ghost use Rattle.krates_drawing.specs.SheetOrder.{AreByChild, IsOrdered, IsPlaceOfFeature};
-ghost use Rattle.krates_drawing.specs.Views.{link_view, meaning_view, named_view, sheet_view, arrow_view, Draws, IsFew};
+ghost use Rattle.krates_drawing.specs.SheetOrder.{AreByChild, HaveEnds, IsOrdered, IsPlaceOfFeature};
+ghost use Rattle.krates_drawing.specs.Views.{kids_in, link_view, meaning_view, named_view, sheet_view, Draws, IsFew};
 
 use crate::edge::{Arrow, Edge};
-use crate::numbers::{crate_number, feature_number, number_at};
+use crate::numbers::{crate_number, feature_number, number_at, place_of_crate};
 use crate::origin::{Home, Origin, first_home, home_of};
-use crate::sheet::{Meaning, Named, Sheet};
+use crate::sheet::{Link, Meaning, Named, Sheet};
 use crate::stretches::leads_to;
 use krates_ids::Kid;
 use std::alloc::AllocError;
+
+/// The number of the crate with this id, where one of the edges leads to it.
+fn number_of_child(sheet: &Sheet, mine: &[Link], id: &Kid) -> Option<usize>
+    requires ordered { IsOrdered sheet.now }
+    requires by_child { AreByChild mine.now }
+    requires ends { HaveEnds sheet.now mine.now }
+    ensures { MatchOption result
+        (leads (map (link_view (kids_in sheet.now)) mine.now) (id_of id.now) ≡ false)
+        (IsNumberOfChild sheet.now mine.now (id_of id.now)) }
+{
+    let place = place_of_crate(&sheet.krates, id);
+    if place < sheet.krates.len() && leads_to(mine, place) {
+        Some(place)
+    } else {
+        None
+    }
+}
 
 /// Draws to the crates that have an edge.
 fn draw_to_crates(
@@ -24,13 +42,14 @@ fn draw_to_crates(
 ) -> Result<(), AllocError>
     requires few { IsFew sheet.now }
     requires ordered { IsOrdered sheet.now }
-    requires by_child { AreByChild from.now.mine.now }
+    requires home { IsHome sheet.now from.now.home }
     ensures { OnOk result (Draws out.old out.new (map (line_from (sheet_view sheet.now) from.now.number)
-        (map AtCrate (filter (leads (map link_view from.now.mine.now)) (map id_of krates.now))))) }
+        (map AtCrate (filter (leads (map (link_view (kids_in sheet.now)) from.now.home.mine.now))
+        (map id_of krates.now))))) }
 {
     for x in krates {
-        if leads_to(from.mine, x) {
-            let target = crate_number(sheet, x);
+        if let Some(child) = number_of_child(sheet, from.home.mine, x) {
+            let target = crate_number(sheet, child);
             out.push(Arrow {
                 source: from.number,
                 target,
@@ -51,14 +70,15 @@ fn draw_to_features(
 ) -> Result<(), AllocError>
     requires few { IsFew sheet.now }
     requires ordered { IsOrdered sheet.now }
-    requires by_child { AreByChild from.now.mine.now }
+    requires home { IsHome sheet.now from.now.home }
     ensures { OnOk result (Draws out.old out.new (map (line_from (sheet_view sheet.now) from.now.number)
         (map (λ q. AtFeature q name.now)
-        (filter (leads (map link_view from.now.mine.now)) (map id_of krates.now))))) }
+        (filter (leads (map (link_view (kids_in sheet.now)) from.now.home.mine.now))
+        (map id_of krates.now))))) }
 {
     for x in krates {
-        if leads_to(from.mine, x) {
-            let target = feature_number(sheet, x, name);
+        if let Some(child) = number_of_child(sheet, from.home.mine, x) {
+            let target = feature_number(sheet, child, name);
             out.push(Arrow {
                 source: from.number,
                 target,
@@ -78,14 +98,14 @@ fn draw_meaning(
 ) -> Result<(), AllocError>
     requires few { IsFew sheet.now }
     requires ordered { IsOrdered sheet.now }
-    requires by_child { AreByChild from.now.mine.now }
-    ensures { OnOk result (Draws out.old out.new
-        (meant_from (sheet_view sheet.now) from.now.number (map link_view from.now.mine.now)
-        (id_of from.now.krate.now) (meaning_view meaning.now))) }
+    requires home { IsHome sheet.now from.now.home }
+    ensures { OnOk result (Draws out.old out.new (meant_from (sheet_view sheet.now) from.now.number
+        (map (link_view (kids_in sheet.now)) from.now.home.mine.now)
+        (id_at (kids_in sheet.now) from.now.home.krate) (meaning_view meaning.now))) }
 {
     match meaning {
         Meaning::OwnFeature(name) => {
-            let target = feature_number(sheet, from.krate, name.as_str());
+            let target = feature_number(sheet, from.home.krate, name.as_str());
             out.push(Arrow {
                 source: from.number,
                 target,
@@ -109,10 +129,10 @@ fn draw_meanings(
 ) -> Result<(), AllocError>
     requires few { IsFew sheet.now }
     requires ordered { IsOrdered sheet.now }
-    requires by_child { AreByChild from.now.mine.now }
-    ensures { OnOk result (Draws out.old out.new (flat_map
-        (meant_from (sheet_view sheet.now) from.now.number (map link_view from.now.mine.now)
-        (id_of from.now.krate.now)) (map meaning_view meanings.now))) }
+    requires home { IsHome sheet.now from.now.home }
+    ensures { OnOk result (Draws out.old out.new (flat_map (meant_from (sheet_view sheet.now) from.now.number
+        (map (link_view (kids_in sheet.now)) from.now.home.mine.now)
+        (id_at (kids_in sheet.now) from.now.home.krate)) (map meaning_view meanings.now))) }
 {
     for x in meanings {
         draw_meaning(sheet, from, x, out)?;
@@ -131,19 +151,19 @@ fn draw_feature(
 ) -> Result<(), AllocError>
     requires few { IsFew sheet.now }
     requires ordered { IsOrdered sheet.now }
-    requires home { IsHomeOf (sheet_view sheet.now) (id_of named.now.feature.krate) home.now }
+    requires home { IsHome sheet.now home.now }
+    requires krate { home.now.krate ≡ named.now.feature.krate }
     requires place { IsPlaceOfFeature sheet.now place named.now }
     ensures { OnOk result (Draws out.old out.new (feature_lines (sheet_view sheet.now)
-        (named_view named.now))) }
+        (named_view (kids_in sheet.now) named.now))) }
 {
     let from = Origin {
         number: number_at(sheet, place, named),
-        krate: &named.feature.krate,
-        mine: home.mine,
+        home: *home,
     };
     out.push(Arrow {
         source: from.number,
-        target: home.number,
+        target: crate_number(sheet, home.krate),
         edge: Edge::Feature,
     })?;
     draw_meanings(sheet, &from, &named.meanings, out)
@@ -160,7 +180,7 @@ pub(crate) fn draw_features(sheet: &Sheet, out: &mut Vec<Arrow>) -> Result<(), A
         return Ok(());
     };
     for (place, x) in sheet.features.iter().enumerate() {
-        home = home_of(sheet, &x.feature.krate, &home);
+        home = home_of(sheet, x.feature.krate, &home);
         draw_feature(sheet, &home, place, x, out)?;
     }
     Ok(())

@@ -1,19 +1,20 @@
 //! What the document says of kept crates and edges.
-ghost use Rattle.std.specs.Prelude.{◌≡◌, map, length, slice_get, option_map, zip, IfOk};
-ghost use Rattle.krates_cm.specs.Document.{dependency_view, text_view, texts_view};
+ghost use Rattle.std.specs.Prelude.{◌≡◌, Some, map, length, slice_get, option_map, zip, IfOk};
+ghost use Rattle.std.specs.List.{AllZip};
+ghost use Rattle.krates_cm.specs.Document.{dependency_view, package_view, text_view, texts_view};
 ghost use Rattle.krates_rules.specs.Admission.{NoneDoubled};
 ghost use Rattle.krates_questions.specs.DocumentModel.{as_resolved};
-ghost use Rattle.krates_rules.specs.Resolved.{id_of};
 ghost use Rattle.krates_resolve.specs.Selection.{IsSelection};
 ghost use Rattle.krates_drawing.specs.Sheet.{IsSheet};
-ghost use Rattle.std.specs.List.{AllZip};
-ghost use Rattle.krates_drawing.specs.Gathered.{CountTold, GivenTold, MeaningsTold};
+ghost use Rattle.krates_drawing.specs.Gathered.{MeaningsTold, count_in, dependency_in, given_in, values_in};
 ghost use Rattle.krates_drawing.specs.SheetOrder.{IsOrdered};
+ghost use Rattle.krates_drawing.specs.Told.{package_at as package_told};
 ghost use Rattle.krates_drawing.specs.Views.{meaning_view, meanings_view, sheet_view};
 
 use crate::meanings::{given_of, meanings_of};
 use crate::sheet::{Krate, Link, Meaning, Named, Sheet};
-use krates_cm::Dependency;
+use crate::told::{Told, node_at, package_at, told_of};
+use krates_cm::{Dependency, Package};
 use krates_document::Setting;
 use krates_ids::Kid;
 use krates_resolve::{Document, EnabledFeature, KeptEdge, Selection};
@@ -21,12 +22,12 @@ use std::alloc::{AllocError, Global};
 
 /// How many dependencies the package of a crate declares; none where it has no package.
 ///
-/// Time: O(log n) for n crates.
-pub fn count_of<'a>(document: &Document<'a>, krate: &Kid) -> usize
-    ensures { CountTold (as_resolved document.now) (id_of krate.now) result }
+/// Time: O(1).
+pub fn count_of(krate: &Told<'_, '_>) -> usize
+    ensures { result ≡ count_in krate.now }
 {
-    match document.package_of(krate) {
-        Some(pkg) => length_of(&pkg.dependencies),
+    match krate.pkg {
+        Some(pkg) => pkg.dependencies.len(),
         None => 0,
     }
 }
@@ -34,40 +35,42 @@ pub fn count_of<'a>(document: &Document<'a>, krate: &Kid) -> usize
 /// The features that a kept edge gives; none where its declared dependency or its child's node isn't there. The only error is
 /// running out of memory.
 ///
-/// Time: O(log n + (a + f) log f) for n crates, a features that are asked for, and f that the node lists.
-pub fn given_by<'a>(
+/// Time: O((a + f) log f) for a features that are asked for, and f that the node lists.
+pub fn given_by(
     alloc: Global,
-    document: &Document<'a>,
+    told: &[Told<'_, '_>],
     edge: &KeptEdge,
 ) -> Result<Vec<String>, AllocError>
-    ensures { IfOk result (λ given. GivenTold (as_resolved document.now) edge.now
-        (map text_view given.items)) }
+    ensures { IfOk result (λ given. map text_view given.items ≡ given_in told.now edge.now) }
 {
-    let Some(pkg) = document.package_of(&edge.parent) else {
+    let Some(dependency) = dependency_of(told, edge) else {
         return Ok(Vec::new(alloc));
     };
-    let Some(node) = document.node_of(&edge.child) else {
-        return Ok(Vec::new(alloc));
-    };
-    let Some(dependency) = dependency_at(&pkg.dependencies, edge.declared) else {
-        return Ok(Vec::new(alloc));
-    };
-    given_of(alloc, dependency, node)
+    match node_at(told, edge.child) {
+        Some(node) => given_of(alloc, dependency, node),
+        None => Ok(Vec::new(alloc)),
+    }
 }
 
-/// The declared dependency at a place.
-fn dependency_at(dependencies: &[Dependency], place: usize) -> Option<&Dependency>
-    ensures { option_map (λ d. dependency_view d.now) result ≡ slice_get
-        (map dependency_view dependencies.now) place }
+/// The declared dependency of an edge.
+fn dependency_of<'a>(told: &[Told<'_, 'a>], edge: &KeptEdge) -> Option<&'a Dependency>
+    ensures { option_map (λ d. dependency_view d.now) result ≡ dependency_in (package_told told.now
+        edge.now.parent) edge.now.declared }
 {
-    dependencies.get(place)
+    match package_at(told, edge.parent) {
+        Some(pkg) => pkg.dependencies.get(edge.declared),
+        None => None,
+    }
 }
 
-/// How many dependencies there are.
-fn length_of(dependencies: &[Dependency]) -> usize
-    ensures { result ≡ length (map dependency_view dependencies.now) }
+/// The references of a feature, as a package has them, in its order; none where it lacks the feature.
+fn values_of<'a>(pkg: &'a Package, name: &str) -> &'a [String]
+    ensures { map text_view result.now ≡ values_in (Some (package_view pkg.now)) name.now }
 {
-    dependencies.len()
+    match pkg.features.get(name) {
+        Some(values) => values,
+        None => &[],
+    }
 }
 
 /// What the references of an enabled feature name. The only error is running out of memory.
@@ -77,44 +80,50 @@ pub fn meanings_by<'a>(
     alloc: Global,
     document: &Document<'a>,
     setting: &Setting,
+    told: &[Told<'_, 'a>],
     feature: &EnabledFeature,
 ) -> Result<Vec<Meaning>, AllocError>
     ensures { let all = setting.now.all_named in
-        IfOk result (λ meanings. MeaningsTold (as_resolved document.now) all feature.now
+        IfOk result (λ meanings. MeaningsTold (as_resolved document.now) all told.now feature.now
         (map meaning_view meanings.items)) }
 {
-    let values = document.values(&feature.krate, feature.name.as_str());
-    meanings_of(alloc, document, setting, &feature.krate, values)
+    let Some(krate) = told.get(feature.krate) else {
+        return Ok(Vec::new(alloc));
+    };
+    match krate.pkg {
+        Some(pkg) => meanings_of(
+            alloc,
+            document,
+            setting,
+            krate.krate,
+            values_of(pkg, feature.name.as_str()),
+        ),
+        None => Ok(Vec::new(alloc)),
+    }
 }
 
 /// How many dependencies the packages of the crates declare.
-fn counts_of<'a>(
-    alloc: Global,
-    document: &Document<'a>,
-    krates: &[Kid],
-) -> Result<Vec<usize>, AllocError>
-    ensures { IfOk result (λ counts. AllZip (λ i n. CountTold (as_resolved document.now)
-        (id_of i) n) krates.now counts.items) }
+fn counts_of(alloc: Global, told: &[Told<'_, '_>]) -> Result<Vec<usize>, AllocError>
+    ensures { IfOk result (λ counts. counts.items ≡ map count_in told.now) }
 {
-    let mut counts = Vec::with_capacity(alloc, krates.len())?;
-    for krate in krates {
-        counts.push(count_of(document, krate))?;
+    let mut counts = Vec::with_capacity(alloc, told.len())?;
+    for krate in told {
+        counts.push(count_of(krate))?;
     }
     Ok(counts)
 }
 
 /// The features that the edges give.
-fn givens_of<'a>(
+fn givens_of(
     alloc: Global,
-    document: &Document<'a>,
+    told: &[Told<'_, '_>],
     edges: &[KeptEdge],
 ) -> Result<Vec<Vec<String>>, AllocError>
-    ensures { IfOk result (λ givens. AllZip (GivenTold (as_resolved document.now)) edges.now
-        (map texts_view givens.items)) }
+    ensures { IfOk result (λ givens. map texts_view givens.items ≡ map (given_in told.now) edges.now) }
 {
     let mut givens = Vec::with_capacity(alloc, edges.len())?;
     for edge in edges {
-        givens.push(given_by(alloc, document, edge)?)?;
+        givens.push(given_by(alloc, told, edge)?)?;
     }
     Ok(givens)
 }
@@ -124,15 +133,16 @@ fn names_of<'a>(
     alloc: Global,
     document: &Document<'a>,
     setting: &Setting,
+    told: &[Told<'_, 'a>],
     features: &[EnabledFeature],
 ) -> Result<Vec<Vec<Meaning>>, AllocError>
     ensures { let all = setting.now.all_named in
-        IfOk result (λ names. AllZip (MeaningsTold (as_resolved document.now) all) features.now
+        IfOk result (λ names. AllZip (MeaningsTold (as_resolved document.now) all told.now) features.now
         (map meanings_view names.items)) }
 {
     let mut names = Vec::with_capacity(alloc, features.len())?;
     for feature in features {
-        names.push(meanings_by(alloc, document, setting, feature)?)?;
+        names.push(meanings_by(alloc, document, setting, told, feature)?)?;
     }
     Ok(names)
 }
@@ -208,9 +218,11 @@ pub fn sheet_of<'a>(
         steps: _,
         work: _,
     } = selection;
-    let counts = counts_of(alloc, document, &krates)?;
-    let givens = givens_of(alloc, document, &edges)?;
-    let names = names_of(alloc, document, setting, &features)?;
+    let told = told_of(alloc, document, &krates)?;
+    let counts = counts_of(alloc, &told)?;
+    let givens = givens_of(alloc, &told, &edges)?;
+    let names = names_of(alloc, document, setting, &told, &features)?;
+    drop(told);
     let krates = krates_with(alloc, krates, counts)?;
     let links = links_with(alloc, edges, givens)?;
     let features = features_with(alloc, features, names)?;

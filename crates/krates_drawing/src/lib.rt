@@ -17,3 +17,4 @@ pub mod sheet;
 pub mod store;
 mod stretches;
 mod text_set;
+pub mod told;

@@ -1,13 +1,13 @@
 //! The nodes, with the mappings of the crates.
-ghost use Rattle.std.specs.Prelude.{◌≡◌, ◌++◌, map, IfOk, OnOk};
+ghost use Rattle.std.specs.Prelude.{◌≡◌, ◌<◌, ◌++◌, length, map, IfOk, OnOk};
 ghost use Rattle.std.specs.List.{range_with_len};
-ghost use Rattle.krates_rules.specs.Resolved.{id_of};
+ghost use Rattle.krates_resolve.specs.CrateNumbers.{HasEnds};
 ghost use Rattle.krates_drawing.specs.Drawing.{crate_spot, feature_spot, mapped, mapping as mapping_of, spots};
-ghost use Rattle.krates_drawing.specs.SheetOrder.{AreByChild, IsClaimed, IsOrdered, number_of};
-ghost use Rattle.krates_drawing.specs.Views.{IsFew, krate_view, link_view, spot_view, sheet_view};
+ghost use Rattle.krates_drawing.specs.SheetOrder.{AreByChild, HaveEnds, IsClaimed, IsOrdered};
+ghost use Rattle.krates_drawing.specs.Views.{IsFew, kids_in, krate_at, link_view, spot_view, sheet_view};
 
-use crate::numbers::{crate_number, crate_place};
-use crate::sheet::{Krate, Link, Sheet};
+use crate::numbers::crate_number;
+use crate::sheet::{Link, Sheet};
 use crate::stretches::links_from;
 use krates_graph::graph::NodeId;
 use krates_ids::Kid;
@@ -28,29 +28,17 @@ pub enum Spot {
     },
 }
 
-/// The number of the crate, where it is kept, or what was found before.
-fn number_or(sheet: &Sheet, id: &Kid, found: Option<NodeId>) -> Option<NodeId>
-    requires few { IsFew sheet.now }
-    requires ordered { IsOrdered sheet.now }
-    ensures { result ≡ number_of (sheet_view sheet.now) (id_of id.now) found }
-{
-    let place = crate_place(sheet, id);
-    if place < sheet.krates.len() {
-        Some(NodeId::new(place as u32))
-    } else {
-        found
-    }
-}
-
 /// Writes the number of the crate to which the edge leads at the place of its declared dependency.
 fn claim(sheet: &Sheet, link: &Link, mapping: &mut [Option<NodeId>])
     requires few { IsFew sheet.now }
     requires ordered { IsOrdered sheet.now }
-    ensures { IsClaimed (sheet_view sheet.now) (link_view link.now) mapping.old mapping.new }
+    requires ends { HasEnds (length sheet.now.krates.items) link.now.edge }
+    ensures { IsClaimed (sheet_view sheet.now) (link_view (kids_in sheet.now) link.now) mapping.old
+        mapping.new }
 {
     let place = link.edge.declared;
     if place < mapping.len() {
-        mapping[place] = number_or(sheet, &link.edge.child, mapping[place]);
+        mapping[place] = Some(crate_number(sheet, link.edge.child));
     }
 }
 
@@ -64,8 +52,9 @@ fn mapping_over(
     requires few { IsFew sheet.now }
     requires ordered { IsOrdered sheet.now }
     requires by_child { AreByChild mine.now }
-    ensures { IfOk result (λ v. v.items ≡ map (mapped (sheet_view sheet.now) (map link_view mine.now))
-        (range_with_len 0 count)) }
+    requires ends { HaveEnds sheet.now mine.now }
+    ensures { IfOk result (λ v. v.items ≡ map (mapped (sheet_view sheet.now)
+        (map (link_view (kids_in sheet.now)) mine.now)) (range_with_len 0 count)) }
 {
     let mut mapping = vec![in alloc; None; count]?;
     for link in mine {
@@ -76,12 +65,18 @@ fn mapping_over(
 
 /// The mapping of a crate.
 #[tactic(auto, unfolding(crate::specs::Drawing::mapping))]
-fn mapping(alloc: Global, sheet: &Sheet, krate: &Krate) -> Result<Vec<Option<NodeId>>, AllocError>
+fn mapping(alloc: Global, sheet: &Sheet, krate: usize) -> Result<Vec<Option<NodeId>>, AllocError>
     requires few { IsFew sheet.now }
     requires ordered { IsOrdered sheet.now }
-    ensures { IfOk result (λ v. v.items ≡ mapping_of (sheet_view sheet.now) (krate_view krate.now)) }
+    requires within { krate < length sheet.now.krates.items }
+    ensures { IfOk result (λ v. v.items ≡ mapping_of (sheet_view sheet.now) (krate_at sheet.now krate)) }
 {
-    mapping_over(alloc, sheet, links_from(sheet, &krate.id), krate.declared)
+    mapping_over(
+        alloc,
+        sheet,
+        links_from(sheet, krate),
+        sheet.krates[krate].declared,
+    )
 }
 
 fn push_crates(alloc: Global, sheet: &Sheet, out: &mut Vec<Spot>) -> Result<(), AllocError>
@@ -90,10 +85,10 @@ fn push_crates(alloc: Global, sheet: &Sheet, out: &mut Vec<Spot>) -> Result<(), 
     ensures { OnOk result (map spot_view out.new.items ≡ map spot_view out.old.items ++ map (crate_spot
         (sheet_view sheet.now)) (sheet_view sheet.now).krates) }
 {
-    for x in &sheet.krates {
+    for (krate, x) in sheet.krates.iter().enumerate() {
         out.push(Spot::Krate {
             id: x.id.clone()?,
-            mapping: mapping(alloc, sheet, x)?,
+            mapping: mapping(alloc, sheet, krate)?,
         })?;
     }
     Ok(())
@@ -106,7 +101,7 @@ fn push_features(sheet: &Sheet, out: &mut Vec<Spot>) -> Result<(), AllocError>
         (sheet_view sheet.now)) (sheet_view sheet.now).features) }
 {
     for x in &sheet.features {
-        let krate_index = crate_number(sheet, &x.feature.krate);
+        let krate_index = crate_number(sheet, x.feature.krate);
         out.push(Spot::Feature {
             krate_index,
             name: x.feature.name.clone()?,

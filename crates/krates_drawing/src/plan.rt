@@ -20,7 +20,7 @@ pub fn plan(alloc: Global, sheet: &Sheet) -> Result<Vec<Arrow>, AllocError>
     ensures { IfOk result (λ v. map arrow_view v.items ≡ lines (sheet_view sheet.now)) }
 {
     let mut out = Vec::new(alloc);
-    draw_crates(alloc, sheet, &mut out)?;
+    draw_crates(sheet, &mut out)?;
     draw_features(sheet, &mut out)?;
     Ok(out)
 }

@@ -8,5 +8,5 @@ use Rattle.krates_drawing.proofs.gather.names_of.Goals as goal
 
 pub loop-feature-preserved : goal.loop-feature-preserved
 loop-feature-preserved c =
-    zip_next (MeaningsTold (as_resolved c.args.document.now) c.args.setting.now.all_named) c.args.features.now c.loop-feature.feature-index c.feature-item.result (map meanings_view c.loop-feature.names.items) _ (meanings_view c.in_ok-meanings_by.field-0)
+    zip_next (MeaningsTold (as_resolved c.args.document.now) c.args.setting.now.all_named c.args.told.now) c.args.features.now c.loop-feature.feature-index c.feature-item.result (map meanings_view c.loop-feature.names.items) _ (meanings_view c.in_ok-meanings_by.field-0)
     c.loop-feature-test.true c.feature-item.is c.loop-feature.invariant c.in_ok-meanings_by.ensures (ap (map meanings_view) c.in_ok-push.ensures.items ∙ map-append meanings_view c.loop-feature.names.items _)

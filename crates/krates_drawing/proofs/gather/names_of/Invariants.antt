@@ -6,4 +6,4 @@ use Rattle.krates_drawing.specs.Views.{meanings_view}
 use Rattle.krates_drawing.proofs.gather.names_of.Given as goal
 
 abbrev pub invariant-loop-feature : goal.invariant-loop-feature
-invariant-loop-feature l = AllZip (MeaningsTold (as_resolved l.document) l.setting.all_named) (take l.feature-index l.features) (map meanings_view l.names.items)
+invariant-loop-feature l = AllZip (MeaningsTold (as_resolved l.document) l.setting.all_named l.told) (take l.feature-index l.features) (map meanings_view l.names.items)
