@@ -134,7 +134,7 @@ builds once m s x selected d those sel div =
 
 -- the features of the selection are the enabled ones
 pub enabled : (m : Metadata) (s : SettingModel) (x : Selection) (d : Division) (P : Id → Text → Type 0) (facts : List Fact) → Selects (metadata_view m) s x → Builds m s d
-    → map feature_fact x.features.items ≡ facts → ((i : Id) (f : Text) → P i f ↔ (IsAmong (krate_ids d.kept.items) i × Contains facts (Feature i f)))
+    → map (feature_fact x.krates.items) x.features.items ≡ facts → ((i : Id) (f : Text) → P i f ↔ (IsAmong (krate_ids d.kept.items) i × Contains facts (Feature i f)))
     → (i : Id) (f : Text) → IsDerived (metadata_view m) s (Feature i f) ↔ P i f
 enabled m s x d P facts sel b same so i f =
     let told = enabled_among (metadata_view m) s x sel i f in

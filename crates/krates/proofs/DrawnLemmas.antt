@@ -1,5 +1,7 @@
 -- The graph of what is kept, assembled.
-use Rattle.std.proofs.Common.{◌≡◌, ◌↔◌, ◌∙◌, ℕ, Bool, ◌<◌, ◌^◌, List, [], ◌∷◌, All, Contains, Result, Ok, Err, IfOk, length, map, refl, sym, ap, subst}
+use Rattle.std.proofs.Common.{◌≡◌, ◌↔◌, ◌∙◌, ℕ, Bool, ◌<◌, ◌^◌, List, [], ◌∷◌, All, Contains, Result, Ok, Err, IfOk, get_or, length, map, refl, sym, ap, subst}
+use Rattle.std.proofs.lemmas.List.{length-map}
+use Rattle.std.proofs.lemmas.Option.{slice_get_within}
 use Rattle.std.specs.BTreeSet.{BTreeSet}
 use Rattle.std.specs.List.{AllZip, FoldsTo}
 use Rattle.std.specs.List.Sorted.{IsStrictlySortedBy}
@@ -22,10 +24,11 @@ use Rattle.krates_drawing.specs.declared.sheet.Named.{Named}
 use Rattle.krates_drawing.specs.declared.sheet.Sheet.{Sheet}
 use Rattle.krates_graph.specs.Graph.{StoredGraph}
 use Rattle.krates_ids.specs.Identity.{Identity, id_cmp}
+use Rattle.krates_resolve.specs.CrateNumbers.{id_at, no_id}
 use Rattle.krates_resolve.specs.Selection.{IsSelection, feature_fact}
 use Rattle.krates_resolve.specs.declared.selection.EnabledFeature.{EnabledFeature}
 use Rattle.krates_resolve.specs.declared.selection.Selection.{Selection}
-use Rattle.krates_rules.specs.Facts.{Id, Fact, Feature}
+use Rattle.krates_rules.specs.Facts.{Id, Feature}
 use Rattle.krates_rules.specs.Resolved.{HasGraphWith, Resolved, StandsAt, id_of, resolved}
 use Rattle.krates_rules.specs.Setting.{SettingModel}
 use Rattle.krates.specs.Build.{AreKeptMembers, AreThosePackages, HasOneEach, IsBuilt, IsResolvable, KeepsCrate}
@@ -35,24 +38,24 @@ use Rattle.krates_explain.specs.Explanation.{explained_steps}
 use Rattle.krates_explain.specs.declared.kept.Explanation.{Explanation}
 use Rattle.krates_queries.specs.Explained.{IsExplainedBy}
 use Rattle.krates_queries.specs.Drawn.{IsNumbered, IsSheetFor, node_spot}
-use Rattle.krates.specs.Enabled.{AreEnabledSets}
-use Rattle.krates_queries.specs.Kept.{AreFeatures, AreNodes, IsEnabledIn, names_in_each}
+use Rattle.krates.specs.Enabled.{AreEnabledSets, numbered}
+use Rattle.krates_queries.specs.Kept.{AreFeatures, AreNodes, IsEnabledIn, IsNameAt, names_in_each}
 use Rattle.krates.specs.KeptGraph.{IsGraphOf, named_fact}
 use Rattle.krates.specs.Krate.{krate_ids, krate_packages}
 use Rattle.krates.specs.MadeNodes.{IsMade}
-use Rattle.krates_queries.specs.Node.{crate_ids, crate_values, crate_features, CratesFirst}
+use Rattle.krates_queries.specs.Node.{crate_ids, crate_values, crate_features, CratesFirst, names_in}
 use Rattle.krates.specs.declared.division.Division.{Division}
 use Rattle.krates.specs.declared.krate.Krate.{Krate}
 use Rattle.krates_queries.specs.declared.node.Node.{Node}
 use Rattle.krates.proofs.BuildLemmas.{Builds, builds, enabled}
 use Rattle.krates.proofs.MadeLemmas.{AreDrawnNodes, alike, first_alike, mapped_length}
 use Rattle.krates_drawing.proofs.DocumentSheets.{selected_in}
-use Rattle.krates_drawing.proofs.Members.{member_of, contains_of, member_map}
-use Rattle.krates.proofs.EnabledLemmas.{stands_at_some}
-use Rattle.krates.proofs.FeaturesDrawn.{HaveCrates, are_features}
+use Rattle.krates_drawing.proofs.Members.{Member, member_of, contains_of, mapped_of, member_map}
+use Rattle.krates.proofs.EnabledLemmas.{listed_at}
+use Rattle.krates.proofs.FeaturesDrawn.{are_features, id_here, stands_here, viewed_ids}
 use Rattle.krates.proofs.DivisionLemmas.{ReadsOnce}
 use Rattle.krates_queries.proofs.OrderedIds.{Compares, HasLike, one_order}
-use Rattle.krates.proofs.SelectionFacts.{Selects, feature_kept, kept_among}
+use Rattle.krates.proofs.SelectionFacts.{Selects, kept_among}
 
 -- ---- the sheet
 
@@ -84,50 +87,79 @@ ids_same r [] (k ∷ ks) h = absurd h
 ids_same r (i ∷ is) [] h = absurd h
 ids_same r (i ∷ is) (k ∷ ks) h = ap (λ js. id_of i ∷ js) (ids_same r is ks h.1) ∙ ap (λ j. j ∷ map (λ (x : model.Krate). x.id) ks) (sym h.0.id)
 
-viewed_ids : (ks : List SheetKrate) → map id_of (sheet_ids ks) ≡ map (λ (k : model.Krate). k.id) (map krate_view ks)
-viewed_ids [] = refl
-viewed_ids (k ∷ ks) = ap (λ js. id_of k.id ∷ js) (viewed_ids ks)
-
 -- ---- the features of the sheet
 
-pub facts_in : (ns : List Named) → map feature_fact (map (λ (n : Named). n.feature) ns) ≡ map named_fact (map named_view ns)
-facts_in [] = refl
-facts_in (n ∷ ns) = ap (λ fs. feature_fact n.feature ∷ fs) (facts_in ns)
+-- features of crates whose ids are the same are the same facts
+pub facts_in : (ids kids : List Identity) (ns : List Named) → map id_of ids ≡ map id_of kids → map (feature_fact ids) (map (λ (n : Named). n.feature) ns) ≡ map named_fact (map (named_view kids) ns)
+facts_in ids kids [] e = refl
+facts_in ids kids (n ∷ ns) e =
+    ap (λ fs. feature_fact ids n.feature ∷ fs) (facts_in ids kids ns e) ∙ ap (λ (is : List Id). Feature (get_or is n.feature.krate no_id) (text_view n.feature.name) ∷ map named_fact (map (named_view kids) ns)) e
 
-facts_same : (r : Resolved) (all : Bool) (fs : List EnabledFeature) (ns : List model.Named) → AllZip (IsNamed r all) fs ns → map feature_fact fs ≡ map named_fact ns
-facts_same r all [] [] h = refl
-facts_same r all [] (n ∷ ns) h = absurd h
-facts_same r all (f ∷ fs) [] h = absurd h
-facts_same r all (f ∷ fs) (n ∷ ns) h =
-    ap (λ gs. feature_fact f ∷ gs) (facts_same r all fs ns h.1) ∙ ap (λ i. Feature i (text_view f.name) ∷ map named_fact ns) (sym h.0.krate) ∙ ap (λ t. Feature n.krate t ∷ map named_fact ns) (sym h.0.name)
+facts_same : (r : Resolved) (all : Bool) (kids : List Identity) (fs : List EnabledFeature) (ns : List model.Named) → AllZip (IsNamed r all kids) fs ns → map (feature_fact kids) fs ≡ map named_fact ns
+facts_same r all kids [] [] h = refl
+facts_same r all kids [] (n ∷ ns) h = absurd h
+facts_same r all kids (f ∷ fs) [] h = absurd h
+facts_same r all kids (f ∷ fs) (n ∷ ns) h =
+    ap (λ gs. feature_fact kids f ∷ gs) (facts_same r all kids fs ns h.1) ∙ ap (λ i. Feature i (text_view f.name) ∷ map named_fact ns) (sym h.0.krate) ∙ ap (λ t. Feature n.krate t ∷ map named_fact ns) (sym h.0.name)
 
 -- the features of the selection are those of the sheet
-pub facts_named : (m : MetadataModel) (s : SettingModel) (t : Sheet) → (h : IsSheetFor m s (sheet_view t)) → map feature_fact h.holds.selection.features.items ≡ map named_fact (sheet_view t).features
-facts_named m s t h = facts_same (resolved m h.graph) s.all_named h.holds.selection.features.items (sheet_view t).features h.holds.is_sheet.features
+pub facts_named : (m : MetadataModel) (s : SettingModel) (t : Sheet) → (h : IsSheetFor m s (sheet_view t))
+    → map (feature_fact h.holds.selection.krates.items) h.holds.selection.features.items ≡ map named_fact (sheet_view t).features
+facts_named m s t h = facts_same (resolved m h.graph) s.all_named h.holds.selection.krates.items h.holds.selection.features.items (sheet_view t).features h.holds.is_sheet.features
+
+-- the crates of a sheet are as many as those with the same ids
+pub as_many_crates : (krates : List Krate) (ks : List SheetKrate) → map id_of (krate_ids krates) ≡ map (λ (k : model.Krate). k.id) (map krate_view ks) → length ks ≡ length krates
+as_many_crates krates ks e =
+    sym (length-map ks (λ (k : SheetKrate). k.id)) ∙ sym (length-map (sheet_ids ks) id_of) ∙ ap length (viewed_ids ks ∙ sym e) ∙ length-map (krate_ids krates) id_of ∙ mapped_length krates
+
+-- what is enabled by number is enabled by id
+enabled_by_id : (ids : List Identity) (lists : List (List Text)) (features : List EnabledFeature) → length lists ≡ length ids → ((n : ℕ) (f : Text) → IsNameAt lists n f ↔ Contains (map numbered features) (n, f))
+    → (i : Id) (f : Text) → IsEnabledIn ids lists i f ↔ (IsAmong ids i × Contains (map (feature_fact ids) features) (Feature i f))
+enabled_by_id ids lists features same so i f = (
+  λ h.
+      (let stands = h.theirs.stands in
+      let w = mapped_of numbered features (h.theirs.place, f) (member_of _ (h.theirs.place, f) ((so h.theirs.place f).0 (record { names = h.names; at = h.theirs.at; among = h.among }))) in
+      let place : w.from.krate ≡ h.theirs.place = ap (λ (p : ℕ × Text). p.0) w.is in
+      let name : text_view w.from.name ≡ f = ap (λ (p : ℕ × Text). p.1) w.is in
+      let id : id_at ids w.from.krate ≡ i = ap (id_at ids) place ∙ (id_here ids h.theirs.place stands.there stands.at ∙ stands.same) in
+      let fact : feature_fact ids w.from ≡ Feature i f = ap (λ j. Feature j (text_view w.from.name)) id ∙ ap (Feature i) name in (
+        contains_of (map id_of ids) i (subst (λ z. Member (map id_of ids) z) stands.same (listed_at ids h.theirs.place stands.there stands.at)),
+        contains_of (map (feature_fact ids) features) (Feature i f) (subst (Member (map (feature_fact ids) features)) fact (member_map (feature_fact ids) features w.from w.member)),
+      )),
+  λ both.
+      (let w = mapped_of (feature_fact ids) features (Feature i f) (member_of _ (Feature i f) both.1) in
+      let id : id_at ids w.from.krate ≡ i = cc (w.is) in
+      let name : text_view w.from.name ≡ f = cc (w.is) in
+      let here : ◌≡◌ {A = ℕ × Text} (numbered w.from) (w.from.krate, f) = ap (λ (t : Text). (w.from.krate, t)) name in
+      let at = (so w.from.krate f).1 (contains_of _ (w.from.krate, f) (subst (Member (map numbered features)) here (member_map numbered features w.from w.member))) in
+      let within : w.from.krate < length ids = subst (λ n. w.from.krate < n) same (slice_get_within lists w.from.krate at.names at.at) in
+      record { names = at.names; theirs = record { place = w.from.krate; stands = stands_here ids w.from.krate i within id; at = at.at }; among = at.among }),
+)
 
 -- ---- the graph of the sheet
 
 pub graph_is : {N E : Type 0} (made : Package → N → Type 0) (made_edge : Edge → E → Type 0) (t : model.Sheet) (krates : List Krate) (sets : List (BTreeSet (String Global))) (features : List EnabledFeature)
-    (nodes : List (Node Package)) (arrows : List Line) → AreDrawnNodes t krates sets nodes → AreEnabledSets (krate_ids krates) features sets → map feature_fact features ≡ map named_fact t.features
-    → arrows ≡ lines t → (g : StoredGraph (Node N) E) → AllZip (IsMade made) nodes g.nodes → AllZip (IsStoredAs made_edge) arrows g.edges → IsGraphOf made made_edge t krates g
-graph_is made made_edge t krates sets features nodes arrows d so facts e g stored edges =
+    (nodes : List (Node Package)) (arrows : List Line) → AreDrawnNodes t krates sets nodes → length sets ≡ length krates → AreEnabledSets features sets
+    → map (feature_fact (krate_ids krates)) features ≡ map named_fact t.features → arrows ≡ lines t → (g : StoredGraph (Node N) E) → AllZip (IsMade made) nodes g.nodes → AllZip (IsStoredAs made_edge) arrows g.edges → IsGraphOf made made_edge t krates g
+graph_is made made_edge t krates sets features nodes arrows d matched so facts e g stored edges =
     let w = alike made nodes g.nodes stored in
     let ids : crate_ids g.nodes ≡ krate_ids krates = w.ids ∙ d.made.ids in
     let names : crate_features g.nodes ≡ names_in_each sets = w.features ∙ d.made.features in
+    let as_many : length (names_in_each sets) ≡ length (krate_ids krates) = length-map sets names_in ∙ matched ∙ sym (mapped_length krates) in
     record {
       drawing = record { nodes = w.spots_are ∙ d.spots_are; edges = subst (λ ls. AllZip (IsStoredAs made_edge) ls g.edges) e edges };
       ids = ids;
       values = subst (λ ps. AllZip made ps (crate_values g.nodes)) d.made.values w.values;
-      enabled = λ i f. rw (ids, names, ← facts) (so i f);
+      enabled = λ i f. rw (ids, names, ← facts) (enabled_by_id (krate_ids krates) (names_in_each sets) features as_many so i f);
       first = first_alike made nodes g.nodes stored d.made.first;
     }
 
 pub if_graph : {N E X : Type 0} (made : Package → N → Type 0) (made_edge : Edge → E → Type 0) (t : model.Sheet) (krates : List Krate) (sets : List (BTreeSet (String Global))) (features : List EnabledFeature)
-    (nodes : List (Node Package)) (arrows : List Line) (result : Result (StoredGraph (Node N) E) X) → AreDrawnNodes t krates sets nodes → AreEnabledSets (krate_ids krates) features sets
-    → map feature_fact features ≡ map named_fact t.features → arrows ≡ lines t → IfOk result (λ g. AllZip (IsMade made) nodes g.nodes) → IfOk result (λ g. AllZip (IsStoredAs made_edge) arrows g.edges)
+    (nodes : List (Node Package)) (arrows : List Line) (result : Result (StoredGraph (Node N) E) X) → AreDrawnNodes t krates sets nodes → length sets ≡ length krates → AreEnabledSets features sets
+    → map (feature_fact (krate_ids krates)) features ≡ map named_fact t.features → arrows ≡ lines t → IfOk result (λ g. AllZip (IsMade made) nodes g.nodes) → IfOk result (λ g. AllZip (IsStoredAs made_edge) arrows g.edges)
     → IfOk result (IsGraphOf made made_edge t krates)
-if_graph made made_edge t krates sets features nodes arrows (Ok g) d so facts e stored edges = graph_is made made_edge t krates sets features nodes arrows d so facts e g stored edges
-if_graph made made_edge t krates sets features nodes arrows (Err x) d so facts e stored edges = tt
+if_graph made made_edge t krates sets features nodes arrows (Ok g) d matched so facts e stored edges = graph_is made made_edge t krates sets features nodes arrows d matched so facts e g stored edges
+if_graph made made_edge t krates sets features nodes arrows (Err x) d matched so facts e stored edges = tt
 
 -- ---- the nodes of a graph
 
@@ -180,28 +212,15 @@ kept_ids o m s t d h ordered b =
     member_of (map id_of ids) i ((b.kept i).0 ((kept_among (metadata_view m) s x sel i).1 k))) in
     one_order o.total ids drawn b.packages.ascending ordered.krates there back ∙ viewed_ids t.krates.items
 
--- the crates of the features of the sheet are kept
-have_crates : (m : Metadata) (s : SettingModel) (t : Sheet) (d : Division) → IsSheetFor (metadata_view m) s (sheet_view t) → Builds m s d → HaveCrates (krate_ids d.kept.items) t.features.items
-have_crates m s t d h b f member =
-    let x = h.holds.selection in
-    let i = id_of f.feature.krate in
-    let name = text_view f.feature.name in
-    let fact : Fact = Feature i name in
-    let facts = facts_same (resolved (metadata_view m) h.graph) s.all_named x.features.items (sheet_view t).features h.holds.is_sheet.features in
-    let here = contains_of (map named_fact (sheet_view t).features) fact (member_map named_fact (sheet_view t).features (named_view f) (member_map named_view t.features.items f member)) in
-    let kept = feature_kept (metadata_view m) s x (selects (metadata_view m) s (sheet_view t) h) i name (subst (λ fs. Contains fs fact) (sym facts) here) in
-    stands_at_some (krate_ids d.kept.items) i (member_of (map id_of (krate_ids d.kept.items)) i ((b.kept i).0 kept))
-
 -- the nodes of the graph are sorted
 pub graph_nodes : Compares → {N E : Type 0} (made : Package → N → Type 0) (made_edge : Edge → E → Type 0) (m : Metadata) (s : SettingModel) (t : Sheet) (d : Division) (g : StoredGraph (Node N) E)
     → IsSheetFor (metadata_view m) s (sheet_view t) → IsOrdered t → Builds m s d → IsGraphOf made made_edge (sheet_view t) d.kept.items g → length d.kept.items < 2 ^ 32 → length g.nodes < 2 ^ 32 → AreNodes g.nodes
 graph_nodes o made made_edge m s t d g h ordered b w few numbered =
     let ids : map id_of (crate_ids g.nodes) ≡ map (λ (k : model.Krate). k.id) (sheet_view t).krates = ap (λ (is : List Identity). map id_of is) w.ids ∙ kept_ids o m s t d h ordered b in
     let ascending = subst (λ (is : List Identity). IsStrictlySortedBy id_cmp is) (sym w.ids) b.packages.ascending in
-    let have = subst (λ (is : List Identity). HaveCrates is t.features.items) (sym w.ids) (have_crates m s t d h b) in
     let enabled_by = λ (i : Id) (f : Text).
     subst (λ (is : List Identity). IsEnabledIn (crate_ids g.nodes) (crate_features g.nodes) i f ↔ (IsAmong is i × Contains (map named_fact (sheet_view t).features) (Feature i f))) (sym w.ids) (w.enabled i f) in
-    are_nodes d.kept.items g.nodes w.ids w.first b.packages.ascending few (are_features o t g.nodes w.drawing.nodes ids ascending have ordered.features enabled_by) numbered
+    are_nodes d.kept.items g.nodes w.ids w.first b.packages.ascending few (are_features o t g.nodes w.drawing.nodes ids ascending ordered enabled_by) numbered
 
 -- both ends of each edge of a sheet are nodes
 pub sheet_stands : EndsStand → (m : MetadataModel) (s : SettingModel) (t : model.Sheet) → IsSheetFor m s t → All (HasEnds (length (spots t))) (lines t)
@@ -217,7 +236,7 @@ pub is_built : {F N E : Type 0} (filters : F → Package → F → Type 0) (made
     → IsBuilt filters made made_edge m s before after (record { graph = g; members = members; workspace_root = text_view m.workspace_root; work = found.work; explanation = e })
 is_built filters made made_edge m s t d g members before after found h b w run selected resolvable numbered listed agree e explained =
     let x = h.holds.selection in
-    let facts = facts_same (resolved (metadata_view m) h.graph) s.all_named x.features.items (sheet_view t).features h.holds.is_sheet.features in
+    let facts = facts_same (resolved (metadata_view m) h.graph) s.all_named x.krates.items x.features.items (sheet_view t).features h.holds.is_sheet.features in
     record {
       resolvable = resolvable;
       kept = λ i. subst (λ ids. KeepsCrate (metadata_view m) s i ↔ Contains (map id_of ids) i) (sym w.ids) (b.kept i);

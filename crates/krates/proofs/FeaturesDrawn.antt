@@ -1,30 +1,31 @@
 -- The features of a drawn graph stand in the order of the sheet, and are those enabled for the crates.
-use Rattle.std.proofs.Common.{◌≡◌, ◌↔◌, ◌∙◌, ℕ, zero, suc, ◌<◌, List, [], ◌∷◌, ◌++◌, Bool, true, false, cond, Contains, Some, slice_get, length, get_or, map, refl, sym, ap, subst, inl, inr, arith, Ordering, Less, Equal, Greater}
-use Rattle.std.proofs.lemmas.Bool.{cases_order}
-use Rattle.std.proofs.lemmas.Map.Keys.{Less-from_sorted}
+use Rattle.std.proofs.Common.{◌≡◌, ◌↔◌, ◌∙◌, ℕ, zero, suc, ◌<◌, List, [], ◌∷◌, ◌++◌, Bool, true, false, cond, Contains, Some, slice_get, length, get_or, map, refl, sym, ap, subst, inl, inr, Less, Equal}
+use Rattle.std.proofs.lemmas.List.{length-map}
+use Rattle.std.proofs.lemmas.List.Elements.{All-contains}
 use Rattle.std.proofs.lemmas.Option.{slice_get-get_or, get_or_from_slice_get, slice_get_within}
-use Rattle.std.specs.Cmp.{ranks}
-use Rattle.std.specs.Cmp.Lexicographic.{slice_cmp}
 use Rattle.std.specs.List.{AllByRecursion}
 use Rattle.std.specs.List.Sorted.{IsStrictlySortedBy}
-use Rattle.std.specs.Ordering.{MatchOrdering, nat_cmp, ordering_then}
 use Rattle.krates_cm.specs.Document.{Text, text_view}
 use Rattle.krates_drawing.proofs.NodeNumbers.{id_is, id_same}
-use Rattle.krates_drawing.specs.Drawing as drawing
 use Rattle.krates_drawing.specs.Drawing.{Spot, CrateSpot, FeatureSpot, crate_number, crate_spot, feature_spot, id_eq, is_crate, place_of, spots}
 use Rattle.krates_drawing.specs.Sheet as sheet
-use Rattle.krates_drawing.specs.Views.{named_view, sheet_view}
+use Rattle.krates_drawing.specs.SheetOrder.{IsOrdered}
+use Rattle.krates_drawing.specs.Views.{kids_in, krate_view, named_view, sheet_view}
+use Rattle.krates_drawing.specs.declared.sheet.Krate.{Krate as SheetKrate}
 use Rattle.krates_drawing.specs.declared.sheet.Named.{Named}
 use Rattle.krates_drawing.specs.declared.sheet.Sheet.{Sheet}
 use Rattle.krates_ids.specs.Identity.{Identity, empty_identity, id_cmp}
+use Rattle.krates_lookups.proofs.SeenInOrder.{sorted_same}
+use Rattle.krates_resolve.proofs.CrateNumbers.{seen_id}
+use Rattle.krates_resolve.specs.CrateNumbers.{HasHome, id_at, no_id}
 use Rattle.krates_resolve.specs.SelectionOrder.{feature_cmp}
 use Rattle.krates_rules.specs.Facts.{Id, Fact}
 use Rattle.krates_rules.specs.Facts as facts
-use Rattle.krates_rules.specs.Referent.{id_order}
 use Rattle.krates_rules.specs.Resolved.{id_of, StandsAt}
-use Rattle.krates.specs.Division.{IsAmong}
+use Rattle.krates.specs.Division.{IsAmong, sheet_ids}
+use Rattle.krates.specs.Enabled.{numbered}
 use Rattle.krates_queries.specs.Drawn.{node_spot}
-use Rattle.krates_queries.specs.Kept.{AreFeatures, IsEnabledIn, IsNameAt, feature_order}
+use Rattle.krates_queries.specs.Kept.{AreFeatures, IsEnabledIn, feature_order}
 use Rattle.krates.specs.KeptGraph.{named_fact}
 use Rattle.krates_queries.specs.Node.{crate_ids, crate_features, feature_names}
 use Rattle.krates_queries.specs.declared.node.Node.{Node}
@@ -32,7 +33,7 @@ use Rattle.krates_queries.specs.declared.node.Node.TheVariants.{Krate, Feature}
 use Rattle.krates.proofs.EnabledLemmas.{listed_at}
 use Rattle.krates_drawing.proofs.Members.{Member, member_of, contains_of, mapped_of, member_map}
 use Rattle.krates_queries.proofs.NodeLemmas.{as_many_features}
-use Rattle.krates_queries.proofs.OrderedIds.{Compares, equal_of, id_of_equal, one_place, stands_same, stands_within}
+use Rattle.krates_queries.proofs.OrderedIds.{Compares, equal_of}
 
 -- ---- the names of the features are those of the sheet
 
@@ -87,109 +88,75 @@ number_is o (x ∷ ids) (k ∷ ks) i (suc n) e s h =
     ap (λ b. cond b 0 (suc (place_of (is_crate i) ks))) (not_equal k.id i apart (id_eq k.id i) refl)
     ∙ ap suc (number_is o ids ks i n rest s.1 (record { there = h.there; at = h.at; same = h.same }))
 
--- ---- numbers follow the order of ids
+-- ---- crates by number
 
-less_number : (m n : ℕ) → m < n → (r : Ordering) → MatchOrdering r (m < n) (m ≡ n) (n < m) → r ≡ Less
-less_number m n lt Less h = refl
-less_number m n lt Equal h = absurd (omega (arith, lt, h))
-less_number m n lt Greater h = absurd (omega (arith, lt, h))
+pub viewed_ids : (ks : List SheetKrate) → map id_of (sheet_ids ks) ≡ map (λ (k : sheet.Krate). k.id) (map krate_view ks)
+viewed_ids [] = refl
+viewed_ids (k ∷ ks) = ap (λ js. id_of k.id ∷ js) (viewed_ids ks)
 
-equal_numbers : (m n : ℕ) → m ≡ n → (r : Ordering) → MatchOrdering r (m < n) (m ≡ n) (n < m) → r ≡ Equal
-equal_numbers m n e Less h = absurd (omega (arith, e, h))
-equal_numbers m n e Equal h = refl
-equal_numbers m n e Greater h = absurd (omega (arith, e, h))
+-- the id of a number is that of the crate at the place
+pub id_here : (ids : List Identity) (n : ℕ) (x : Identity) → slice_get ids n ≡ Some x → id_at ids n ≡ id_of x
+id_here ids n x at = seen_id ids n (slice_get_within ids n x at) ∙ ap id_of (get_or_from_slice_get ids n x empty_identity at)
 
-lower : Compares → (ids : List Identity) → IsStrictlySortedBy id_cmp ids → (a b : Identity) (m n : ℕ) → StandsAt ids (id_of a) m → StandsAt ids (id_of b) n → id_cmp a b ≡ Less → m < n
-lower o ids s a b m n x y less = elim (cases_order m n) [
-  | inl is ↦ (
-      let there : id_of x.there ≡ id_of y.there = ap id_of (one_at ids m n x.there y.there is x.at y.at) in
-      let equal = equal_of o a b (sym x.same ∙ there ∙ y.same) in absurd (cc (less, equal)))
-  | inr (inl lt) ↦ lt
-  | inr (inr gt) ↦ (
-      let turned : id_cmp y.there x.there ≡ Less = less_at ids s n m y.there x.there gt y.at x.at in
-      let back : id_cmp b a ≡ Less = as_ids y.there x.there b a y.same x.same turned in
-      let e = o.total.antisymm a b in absurd (cc (e, less, back)))
-]
-  where
-    one_at : (ids : List Identity) (m n : ℕ) (p q : Identity) → m ≡ n → slice_get ids m ≡ Some p → slice_get ids n ≡ Some q → p ≡ q
-    one_at ids m n p q is here there = let e : Some p ≡ Some q = sym here ∙ ap (slice_get ids) is ∙ there in cc e
+pub stands_here : (ids : List Identity) (n : ℕ) (i : Id) → n < length ids → id_at ids n ≡ i → StandsAt ids i n
+stands_here ids n i lt e = record { there = get_or ids n empty_identity; at = slice_get-get_or ids n empty_identity lt; same = sym (seen_id ids n lt) ∙ e }
 
-    less_at : (ids : List Identity) → IsStrictlySortedBy id_cmp ids → (k l : ℕ) (p q : Identity) → k < l → slice_get ids k ≡ Some p → slice_get ids l ≡ Some q → id_cmp p q ≡ Less
-    less_at ids s k l p q lt here there =
-        let first = get_or_from_slice_get ids k p p here in
-        let second = get_or_from_slice_get ids l q p there in
-        ap (λ z. id_cmp z q) (sym first) ∙ ap (λ z. id_cmp (get_or ids k p) z) (sym second) ∙ Less-from_sorted id_cmp ids k l p s lt (slice_get_within ids l q there)
+-- the crates of a sheet stand where those of the same ids do
+module _ (t : Sheet) (ids : List Identity) (e : map id_of ids ≡ map (λ (k : sheet.Krate). k.id) (sheet_view t).krates) where
+  same_ids : map id_of ids ≡ map id_of (kids_in t)
+  same_ids = e ∙ sym (viewed_ids t.krates.items)
 
-    as_ids : (p q a b : Identity) → id_of p ≡ id_of a → id_of q ≡ id_of b → id_cmp p q ≡ Less → id_cmp a b ≡ Less
-    as_ids p q a b e f less = let first = subst (λ z. id_order z (id_of q) ≡ Less) e less in subst (λ z. id_order (id_of a) z ≡ Less) f first
+  as_many : length t.krates.items ≡ length ids
+  as_many = sym (length-map t.krates.items (λ (k : SheetKrate). k.id)) ∙ sym (length-map (kids_in t) id_of) ∙ sym (ap length same_ids) ∙ length-map ids id_of
+
+  stands_by_number : (n : ℕ) → n < length t.krates.items → StandsAt ids (id_at (kids_in t) n) n
+  stands_by_number n lt = stands_here ids n (id_at (kids_in t) n) (subst (λ k. n < k) as_many lt) (ap (λ (is : List Id). get_or is n no_id) same_ids)
+
+  -- the number of the crate of a feature is what the feature has
+  own_number : Compares → IsStrictlySortedBy id_cmp ids → (n : ℕ) → n < length t.krates.items → crate_number (sheet_view t) (id_at (kids_in t) n) ≡ n
+  own_number o sorted n lt = number_is o ids (sheet_view t).krates (id_at (kids_in t) n) n e sorted (stands_by_number n lt)
 
 -- ---- the features ascend
 
-all_into : {A B C : Type 0} (R : B → B → Ordering) (S : C → C → Ordering) (f : A → B) (g : A → C) (x : A) (ys : List A) → ((b : A) → Member ys b → R (f x) (f b) ≡ Less → S (g x) (g b) ≡ Less)
-    → AllByRecursion (λ z. R (f x) z ≡ Less) (map f ys) → AllByRecursion (λ z. S (g x) z ≡ Less) (map g ys)
-all_into R S f g x [] k t = tt
-all_into R S f g x (y ∷ ys) k t = (k y (inl refl) t.0, all_into R S f g x ys (λ b m. k b (inr m)) t.1)
-
-into : {A B C : Type 0} (R : B → B → Ordering) (S : C → C → Ordering) (f : A → B) (g : A → C) (xs : List A) → ((a b : A) → Member xs a → Member xs b → R (f a) (f b) ≡ Less → S (g a) (g b) ≡ Less)
-    → IsStrictlySortedBy R (map f xs) → IsStrictlySortedBy S (map g xs)
-unfolding IsStrictlySortedBy
-into R S f g [] h s = tt
-into R S f g (x ∷ xs) h s = (all_into R S f g x xs (λ b m. h x b (inl refl) (inr m)) s.0, into R S f g xs (λ a b m n. h a b (inr m) (inr n)) s.1)
-
--- the crate of each feature is in this list
-abbrev pub HaveCrates : List Identity → List Named → Type 0
-HaveCrates ids fs = (f : Named) → Member fs f → (n : ℕ) × StandsAt ids (id_of f.feature.krate) n
-
 abbrev key_of : Sheet → Named → ℕ × Text
-key_of t f = (crate_number (sheet_view t) (id_of f.feature.krate), text_view f.feature.name)
+key_of t f = (crate_number (sheet_view t) (id_at (kids_in t) f.feature.krate), text_view f.feature.name)
 
-in_order : (r s : Ordering) (a b : Ordering) → ordering_then r s ≡ Less → (r ≡ Less → a ≡ Less) → (r ≡ Equal → a ≡ Equal) → s ≡ b → ordering_then a b ≡ Less
-in_order Less s a b e less equal same = ap (λ z. ordering_then z b) (less refl)
-in_order Equal s a b e less equal same = ap (λ z. ordering_then z b) (equal refl) ∙ sym same ∙ e
-in_order Greater s a b e less equal same = absurd cc
+-- the features of the sheet with their numbers
+abbrev numbers_of : List Named → List (ℕ × Text)
+numbers_of fs = map numbered (map (λ (f : Named). f.feature) fs)
 
-keys_ascend : Compares → (t : Sheet) (ids : List Identity) → map id_of ids ≡ map (λ (k : sheet.Krate). k.id) (sheet_view t).krates → IsStrictlySortedBy id_cmp ids
-    → HaveCrates ids t.features.items → IsStrictlySortedBy feature_cmp (map (λ (f : Named). f.feature) t.features.items) → IsStrictlySortedBy feature_order (map (key_of t) t.features.items)
-keys_ascend o t ids e s have sorted = into feature_cmp feature_order (λ (f : Named). f.feature) (key_of t) t.features.items (λ a b m n less.
-    let x = have a m in
-    let y = have b n in
-    let first : crate_number (sheet_view t) (id_of a.feature.krate) ≡ x.0 = number_is o ids (sheet_view t).krates (id_of a.feature.krate) x.0 e s x.1 in
-    let second : crate_number (sheet_view t) (id_of b.feature.krate) ≡ y.0 = number_is o ids (sheet_view t).krates (id_of b.feature.krate) y.0 e s y.1 in
-    let numbers = ap (λ (k : ℕ). nat_cmp k (crate_number (sheet_view t) (id_of b.feature.krate))) first ∙ ap (λ (k : ℕ). nat_cmp x.0 k) second in
-    in_order (id_cmp a.feature.krate b.feature.krate) (slice_cmp nat_cmp (text_view a.feature.name) (text_view b.feature.name)) (nat_cmp (key_of t a).0 (key_of t b).0) (slice_cmp nat_cmp (key_of t a).1 (key_of t b).1) less
-    (λ l. numbers ∙ less_number x.0 y.0 (lower o ids s a.feature.krate b.feature.krate x.0 y.0 x.1 y.1 l) (nat_cmp x.0 y.0) (ranks x.0 y.0))
-    (λ q. numbers ∙ equal_numbers x.0 y.0 (same_place a.feature.krate b.feature.krate x.0 y.0 x.1 y.1 q) (nat_cmp x.0 y.0) (ranks x.0 y.0))
-    refl) sorted
-  where
-    same_place : (a b : Identity) (m n : ℕ) → StandsAt ids (id_of a) m → StandsAt ids (id_of b) n → id_cmp a b ≡ Equal → m ≡ n
-    same_place a b m n x y q = one_place o ids s m n a (stands_within ids (id_of a) m x) (stands_within ids (id_of b) n y) (stands_same ids (id_of a) m a x ∙ id_of_equal o a b q ∙ sym (stands_same ids (id_of b) n a y))
-
-keys_seen : (t : Sheet) (fs : List Named) → map (named_key (sheet_view t)) (map named_view fs) ≡ map (key_of t) fs
+keys_seen : (t : Sheet) (fs : List Named) → map (named_key (sheet_view t)) (map (named_view (kids_in t)) fs) ≡ map (key_of t) fs
 keys_seen t [] = refl
 keys_seen t (f ∷ fs) = ap (λ xs. key_of t f ∷ xs) (keys_seen t fs)
+
+keys_are : (t : Sheet) (fs : List Named) → ((f : Named) → Member fs f → (key_of t f).0 ≡ f.feature.krate) → map (key_of t) fs ≡ numbers_of fs
+keys_are t [] h = refl
+keys_are t (f ∷ fs) h = ap (λ (n : ℕ). (n, text_view f.feature.name) ∷ map (key_of t) fs) (h f (inl refl)) ∙ ap (λ xs. numbered f.feature ∷ xs) (keys_are t fs (λ g m. h g (inr m)))
 
 -- ---- the features are sorted, and are those enabled for the crates
 
 pub are_features : Compares → {N : Type 0} (t : Sheet) (nodes : List (Node N)) → map node_spot nodes ≡ spots (sheet_view t) → map id_of (crate_ids nodes) ≡ map (λ (k : sheet.Krate). k.id) (sheet_view t).krates
-    → IsStrictlySortedBy id_cmp (crate_ids nodes) → HaveCrates (crate_ids nodes) t.features.items → IsStrictlySortedBy feature_cmp (map (λ (f : Named). f.feature) t.features.items)
+    → IsStrictlySortedBy id_cmp (crate_ids nodes) → IsOrdered t
     → ((i : Id) (f : Text) → IsEnabledIn (crate_ids nodes) (crate_features nodes) i f ↔ (IsAmong (crate_ids nodes) i × Contains (map named_fact (sheet_view t).features) (facts.Feature i f)))
     → AreFeatures nodes
-are_features o t nodes drawn ids s have sorted enabled =
+are_features o t nodes drawn ids s ordered enabled =
     let seen : feature_names nodes ≡ map (named_key (sheet_view t)) (sheet_view t).features = names_are (sheet_view t) nodes drawn in
     let names : feature_names nodes ≡ map (key_of t) t.features.items = seen ∙ keys_seen t t.features.items in
     let krates = (sheet_view t).krates in
+    let home : (f : Named) → Member t.features.items f → f.feature.krate < length t.krates.items = λ f m. All-contains (λ (n : Named). HasHome (length t.krates.items) n.feature) t.features.items f ordered.homes (contains_of t.features.items f m) in
+    let numbers = keys_are t t.features.items (λ f m. own_number t (crate_ids nodes) ids o s f.feature.krate (home f m)) in
     record {
-      ascending = subst (λ (ns : List (ℕ × Text)). IsStrictlySortedBy feature_order ns) (sym names) (keys_ascend o t (crate_ids nodes) ids s have sorted);
+      ascending = subst (λ (ns : List (ℕ × Text)). IsStrictlySortedBy feature_order ns) (sym (names ∙ numbers)) (sorted_same feature_cmp feature_order numbered (λ a b. refl) (map (λ (f : Named). f.feature) t.features.items) ordered.features);
       exactly = λ n name. (
         λ c.
             (let w = mapped_of (key_of t) t.features.items (n, name) (member_of (map (key_of t) t.features.items) (n, name) (subst (λ (ns : List (ℕ × Text)). Contains ns (n, name)) names c)) in
-            let i = id_of w.from.feature.krate in
+            let i = id_at (kids_in t) w.from.feature.krate in
             let f = text_view w.from.feature.name in
-            let x = have w.from w.member in
+            let x = stands_by_number t (crate_ids nodes) ids w.from.feature.krate (home w.from w.member) in
             let first : crate_number (sheet_view t) i ≡ n = ap (λ (p : ℕ × Text). p.0) w.is in
             let second : f ≡ name = ap (λ (p : ℕ × Text). p.1) w.is in
-            let among = contains_of (map id_of (crate_ids nodes)) i (subst (λ (z : Id). Member (map id_of (crate_ids nodes)) z) x.1.same (listed_at (crate_ids nodes) x.0 x.1.there x.1.at)) in
-            let fact = contains_of (map named_fact (sheet_view t).features) (facts.Feature i f) (member_map named_fact (sheet_view t).features (named_view w.from) (member_map named_view t.features.items w.from w.member)) in
+            let among = contains_of (map id_of (crate_ids nodes)) i (subst (λ (z : Id). Member (map id_of (crate_ids nodes)) z) x.same (listed_at (crate_ids nodes) w.from.feature.krate x.there x.at)) in
+            let fact = contains_of (map named_fact (sheet_view t).features) (facts.Feature i f) (member_map named_fact (sheet_view t).features (named_view (kids_in t) w.from) (member_map (named_view (kids_in t)) t.features.items w.from w.member)) in
             let e = (enabled i f).1 (among, fact) in
             let place : e.theirs.place ≡ n = sym (number_is o (crate_ids nodes) krates i e.theirs.place ids s e.theirs.stands) ∙ first in
             record {

@@ -1,5 +1,5 @@
 -- What a search by id finds among sorted crates with their packages.
-use Rattle.std.proofs.Common.{◌≡◌, ◌↔◌, ℕ, ◌<◌, List, [], ◌∷◌, length, get_or, map, true, false, ◌||◌, refl, sym, ap, ◌∙◌, subst, inl, inr, arith, HoldsAt, Ordering, Less, Equal, Greater}
+use Rattle.std.proofs.Common.{◌≡◌, ◌↔◌, ℕ, ◌<◌, List, [], ◌∷◌, length, get_or, map, true, false, ◌||◌, refl, sym, ap, ◌∙◌, inl, inr, arith, HoldsAt, Ordering, Less, Equal, Greater}
 use Rattle.std.proofs.Math.Bool.{or_comm}
 use Rattle.std.proofs.lemmas.List.{get_or-map, length-map}
 use Rattle.std.proofs.lemmas.List.Folds.{list_any_at, list_any_none}
@@ -8,12 +8,10 @@ use Rattle.std.proofs.lemmas.Option.{slice_get_cases}
 use Rattle.std.specs.List.Sorted.{IsStrictlySortedBy, IsPartitionPoint, IsNonDecreasingBy}
 use Rattle.std.specs.Ordering.{is_eq, ordering_index}
 use Rattle.krates_ids.specs.Identity.{Identity, id_cmp}
-use Rattle.krates_rules.specs.Resolved.{id_of, StandsAt}
+use Rattle.krates_rules.specs.Resolved.{id_of}
 use Rattle.krates.specs.Division.{has_same, IsAmong}
-use Rattle.krates.specs.Krate.{krate_ids}
-use Rattle.krates.specs.declared.krate.Krate.{Krate}
 use Rattle.krates_drawing.proofs.Members.{Member, member_of, contains_of}
-use Rattle.krates_queries.proofs.OrderedIds.{Compares, equal_of, id_of_equal, sorted_weakly, weakly_by, none_equal, one_place, stands, stands_within, stands_same}
+use Rattle.krates_queries.proofs.OrderedIds.{Compares, equal_of, id_of_equal, sorted_weakly, weakly_by, none_equal}
 
 unequal : (r : Ordering) → (r ≡ Equal → ⊥) → is_eq r ≡ false
 unequal Less h = refl
@@ -59,33 +57,3 @@ same_member o (i ∷ ids) x (inr m) = rw (same_member o ids x m) (or_comm (is_eq
 
 pub is_among : Compares → (ids : List Identity) (x : Identity) → (has_same ids x ≡ true) ↔ IsAmong ids (id_of x)
 is_among o ids x = (λ h. contains_of (map id_of ids) (id_of x) (member_same o ids x h), λ c. same_member o ids x (member_of (map id_of ids) (id_of x) c))
-
--- ---- an id's place among sorted crates
-
--- the place that the search found
-pub number_found : Compares → (krates : List Krate) (kid : Identity) (place : ℕ) → IsStrictlySortedBy id_cmp (krate_ids krates) → place < length krates
-    → HoldsAt (λ k. id_cmp k.id kid ≡ Equal) krates place → (n : ℕ) → (place ≡ n) ↔ StandsAt (krate_ids krates) (id_of kid) n
-number_found o krates kid place s lt at n =
-    let within : place < length (krate_ids krates) = rw length-map lt in
-    let equal : id_of (get_or (krate_ids krates) place kid) ≡ id_of kid = elim (slice_get_cases krates place).1 [
-      | inl (k, low, got, is) ↦ ap id_of (get_or-map (λ (x : Krate). x.id) krates place k kid lt) ∙ id_of_equal o (get_or krates place k).id kid (at k)
-      | inr past ↦ absurd (omega (arith, past.0))
-    ] in (
-      λ e. subst (λ m. StandsAt (krate_ids krates) (id_of kid) m) e (stands (krate_ids krates) (id_of kid) place kid within equal),
-      λ h. one_place o (krate_ids krates) s place n kid within (stands_within _ _ n h) (equal ∙ sym (stands_same _ _ n kid h)),
-    )
-
--- the search found none
-pub no_number : Compares → (krates : List Krate) (kid : Identity) (place : ℕ) → IsStrictlySortedBy id_cmp (krate_ids krates)
-    → (IsNonDecreasingBy (λ k. ordering_index (id_cmp k.id kid)) krates → IsPartitionPoint (λ k. id_cmp k.id kid ≡ Less) (λ k. id_cmp k.id kid ≡ Greater) krates place)
-    → (n : ℕ) → StandsAt (krate_ids krates) (id_of kid) n → ⊥
-no_number o krates kid place s parts n h =
-    let lt : n < length krates = simp length-map at (stands_within _ _ n h) in
-    let rises : IsNonDecreasingBy (λ k. ordering_index (id_cmp k.id kid)) krates = searchable_from_sorted o.total (λ (k : Krate). k.id) krates kid (weakly_by (λ (k : Krate). k.id) krates (sorted_weakly o (krate_ids krates) s)) in
-    elim (slice_get_cases krates n).1 [
-      | inl (k, low, got, is) ↦ (
-          let same : id_of (get_or krates n k).id ≡ id_of kid = sym (ap id_of (get_or-map (λ (x : Krate). x.id) krates n k kid lt)) ∙ stands_same _ _ n kid h in
-          none_equal (λ (x : Krate). id_cmp x.id kid) krates place (parts rises) n k lt (equal_of o (get_or krates n k).id kid same)
-          )
-      | inr past ↦ absurd (omega (arith, past.0))
-    ]

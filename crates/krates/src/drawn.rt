@@ -2,8 +2,6 @@
 
 ghost use Rattle.std.specs.Prelude.{◌≡◌, ◌≤◌, All, IfErr, IfOk, length, map};
 ghost use Rattle.std.specs.List.{AllZip};
-ghost use Rattle.std.specs.List.Sorted.{IsStrictlySortedBy};
-ghost use Rattle.krates_ids.specs.Identity.{id_cmp};
 ghost use Rattle.krates_cm.specs.Document.{metadata_view};
 ghost use Rattle.krates_document.specs.Ids.{ids_view};
 ghost use Rattle.krates_drawing.specs.Drawing.{lines, spots};
@@ -133,7 +131,6 @@ pub(crate) fn graph_of<N: FromPackage + Drop, E: FromEdge + Drop>(
 ) -> Result<Graph<Node<N>, E>, Error>
     requires ordered { IsOrdered sheet }
     requires ids { map id_of (krate_ids krates.items) ≡ map (λ k. k.id) (sheet_view sheet).krates }
-    requires ascending { IsStrictlySortedBy id_cmp (krate_ids krates.items) }
     requires stand { All (HasEnds (length (spots (sheet_view sheet)))) (lines (sheet_view sheet)) }
     ensures graph { IfOk result (IsGraphOf N.made_from E.made_from_edge (sheet_view sheet) krates.items) }
     ensures within { IfOk result (λ _. IsWithin limits (sheet_view sheet)) }
@@ -141,7 +138,7 @@ pub(crate) fn graph_of<N: FromPackage + Drop, E: FromEdge + Drop>(
 {
     let plan = plan_within(alloc, &sheet, limits)?;
     let features = features_in(alloc, sheet.features)?;
-    let sets = enabled_of(alloc, &krates, features)?;
+    let sets = enabled_of(alloc, krates.len(), features)?;
     let parts = parts_of(alloc, plan.spots)?;
     let nodes = nodes_of(alloc, krates, sets, parts)?;
     stored(alloc, limits, nodes, &plan.arrows)

@@ -1,17 +1,13 @@
 //! Packages with their ids.
 
 ghost use Rattle.std.proofs.Common.{rules};
-ghost use Rattle.std.specs.Prelude.{◌≡◌, ◌↔◌, ℕ, Some};
 ghost use Rattle.std.specs.Cmp.{partial_order_from_own_ties};
 ghost use Rattle.std.specs.Cmp.Rules.{comparing};
-ghost use Rattle.std.specs.List.Sorted.{IsStrictlySortedBy};
 ghost use Rattle.std.specs.Ordering.{as_partial_cmp};
-ghost use Rattle.krates_ids.specs.Identity.{id_cmp};
-ghost use Rattle.krates_rules.specs.Resolved.{id_of, StandsAt};
-ghost use Rattle.krates.specs.Krate.{krate_ids, same_krate, krate_cmp};
+ghost use Rattle.krates.specs.Krate.{same_krate, krate_cmp};
 
 use krates_cm::Package;
-use krates_ids::{Kid, laws};
+use krates_ids::Kid;
 use std::cmp::Ordering;
 
 /// A package with its id, as which the text of its id is read.
@@ -59,17 +55,5 @@ impl PartialOrd for Krate {
 
     fn partial_cmp(&self, other: &Krate) -> Option<Ordering> {
         Some(self.cmp(other))
-    }
-}
-
-/// The place of the crate with an id among crates in their order, where there is one.
-pub(crate) fn place_of(krates: &[Krate], kid: &Kid) -> Option<usize>
-    requires { IsStrictlySortedBy id_cmp (krate_ids krates.now) }
-    ensures { (n : ℕ) → (result ≡ Some n) ↔ StandsAt (krate_ids krates.now) (id_of kid.now) n }
-{
-    laws::comparison();
-    match krates.binary_search_by(|krate| krate.id.cmp(kid)) {
-        Ok(place) => Some(place),
-        Err(_) => None,
     }
 }

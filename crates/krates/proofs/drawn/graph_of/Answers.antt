@@ -1,48 +1,58 @@
-use Rattle.std.proofs.Common.{◌≡◌, ◌∙◌, ◌≤◌, List, length, map, sym, ap, subst}
+use Rattle.std.proofs.Common.{◌≡◌, ◌∙◌, ◌≤◌, All, List, length, map, sym, ap, subst}
+use Rattle.std.proofs.lemmas.List.Elements.{All-map}
 use Rattle.krates_drawing.specs.Drawing.{lines, spots}
-use Rattle.krates_drawing.specs.Views.{arrow_view, sheet_view}
+use Rattle.krates_drawing.specs.Views.{arrow_view, kids_in, sheet_view}
 use Rattle.krates_drawing.specs.declared.edge.Arrow.{Arrow}
+use Rattle.krates_drawing.specs.declared.sheet.Named.{Named}
+use Rattle.krates_resolve.specs.CrateNumbers.{HasHome}
 use Rattle.krates_resolve.specs.Selection.{feature_fact}
 use Rattle.krates_resolve.specs.declared.selection.EnabledFeature.{EnabledFeature}
 use Rattle.krates_queries.specs.Drawn.{node_spot}
-use Rattle.krates.specs.Enabled.{AreEnabledSets}
 use Rattle.krates.specs.Krate.{krate_ids}
-use Rattle.krates.specs.declared.krate.Krate.{Krate}
-use Rattle.krates.proofs.DrawnLemmas.{facts_in, if_graph, stand_there}
+use Rattle.krates.proofs.DrawnLemmas.{as_many_crates, facts_in, if_graph, stand_there}
+use Rattle.krates.proofs.FeaturesDrawn.{viewed_ids}
 use Rattle.krates.proofs.MadeLemmas.{count_of, drawn_from}
 use Rattle.krates.proofs.Numbered.{if_memory, if_within}
 use Rattle.krates.proofs.drawn.graph_of.Goals as goal
 
+pub enabled_of-requires : goal.enabled_of-requires
+enabled_of-requires g c =
+    let sheet = c.args.sheet in
+    let homes = All-map (HasHome (length sheet.krates.items)) (λ (n : Named). n.feature) sheet.features.items c.requires.ordered.homes in
+    let as_many = as_many_crates c.args.krates.items sheet.krates.items c.requires.ids in
+    subst (λ n. All (HasHome n) c.in_ok-features.features.items) (as_many ∙ sym (c.len.ensures ∙ c.args.krates.ok.0)) (subst (All (HasHome (length sheet.krates.items))) (sym c.in_ok-features.ensures) homes)
+
 pub stored-requires-clause-nodes : goal.stored-requires-clause-nodes
 stored-requires-clause-nodes g c =
-    let matched = subst (λ (ks : List Krate). length c.in_ok-sets.sets.items ≡ length ks) c.deref.ensures.value c.in_ok-sets.ensures.matched in
+    let matched = c.in_ok-sets.ensures.matched ∙ (c.len.ensures ∙ c.args.krates.ok.0) in
     let d = drawn_from (sheet_view c.args.sheet) c.args.krates.items c.in_ok-sets.sets.items c.in_ok-plan.plan.spots.items c.in_ok-parts.parts.mappings.items c.in_ok-parts.parts.features.items c.in_ok-nodes.nodes.items matched c.in_ok-plan.ensures.nodes c.requires.ids c.in_ok-parts.ensures.mappings c.in_ok-parts.ensures.features c.in_ok-nodes.ensures in
     let count = count_of node_spot c.in_ok-nodes.nodes.items (spots (sheet_view c.args.sheet)) d.spots_are in
     subst (λ n. n ≤ c.args.limits.nodes) (sym count) c.in_ok-plan.ensures.within.nodes
 
 pub stored-requires-clause-edges : goal.stored-requires-clause-edges
 stored-requires-clause-edges g c =
-    let same : map arrow_view c.deref-2.result.now ≡ lines (sheet_view c.args.sheet) = ap (λ (xs : List Arrow). map arrow_view xs) c.deref-2.ensures.value ∙ c.in_ok-plan.ensures.edges in
-    let count = count_of arrow_view c.deref-2.result.now (lines (sheet_view c.args.sheet)) same in
+    let same : map arrow_view c.deref.result.now ≡ lines (sheet_view c.args.sheet) = ap (λ (xs : List Arrow). map arrow_view xs) c.deref.ensures.value ∙ c.in_ok-plan.ensures.edges in
+    let count = count_of arrow_view c.deref.result.now (lines (sheet_view c.args.sheet)) same in
     subst (λ n. n ≤ c.args.limits.edges) (sym count) c.in_ok-plan.ensures.within.edges
 
 pub stored-requires-clause-stand : goal.stored-requires-clause-stand
 stored-requires-clause-stand g c =
-    let matched = subst (λ (ks : List Krate). length c.in_ok-sets.sets.items ≡ length ks) c.deref.ensures.value c.in_ok-sets.ensures.matched in
+    let matched = c.in_ok-sets.ensures.matched ∙ (c.len.ensures ∙ c.args.krates.ok.0) in
     let d = drawn_from (sheet_view c.args.sheet) c.args.krates.items c.in_ok-sets.sets.items c.in_ok-plan.plan.spots.items c.in_ok-parts.parts.mappings.items c.in_ok-parts.parts.features.items c.in_ok-nodes.nodes.items matched c.in_ok-plan.ensures.nodes c.requires.ids c.in_ok-parts.ensures.mappings c.in_ok-parts.ensures.features c.in_ok-nodes.ensures in
     let count = count_of node_spot c.in_ok-nodes.nodes.items (spots (sheet_view c.args.sheet)) d.spots_are in
-    let same : map arrow_view c.deref-2.result.now ≡ lines (sheet_view c.args.sheet) = ap (λ (xs : List Arrow). map arrow_view xs) c.deref-2.ensures.value ∙ c.in_ok-plan.ensures.edges in
+    let same : map arrow_view c.deref.result.now ≡ lines (sheet_view c.args.sheet) = ap (λ (xs : List Arrow). map arrow_view xs) c.deref.ensures.value ∙ c.in_ok-plan.ensures.edges in
     stand_there _ _ _ _ c.requires.stand (sym count) (sym same)
 
 pub returns-clause-graph : goal.returns-clause-graph
 returns-clause-graph g c =
-    let matched = subst (λ (ks : List Krate). length c.in_ok-sets.sets.items ≡ length ks) c.deref.ensures.value c.in_ok-sets.ensures.matched in
+    let matched = c.in_ok-sets.ensures.matched ∙ (c.len.ensures ∙ c.args.krates.ok.0) in
     let d = drawn_from (sheet_view c.args.sheet) c.args.krates.items c.in_ok-sets.sets.items c.in_ok-plan.plan.spots.items c.in_ok-parts.parts.mappings.items c.in_ok-parts.parts.features.items c.in_ok-nodes.nodes.items matched c.in_ok-plan.ensures.nodes c.requires.ids c.in_ok-parts.ensures.mappings c.in_ok-parts.ensures.features c.in_ok-nodes.ensures in
-    let same : map arrow_view c.deref-2.result.now ≡ lines (sheet_view c.args.sheet) = ap (λ (xs : List Arrow). map arrow_view xs) c.deref-2.ensures.value ∙ c.in_ok-plan.ensures.edges in
-    let so = subst (λ (ks : List Krate). AreEnabledSets (krate_ids ks) c.in_ok-features.features.items c.in_ok-sets.sets.items) c.deref.ensures.value c.in_ok-sets.ensures.enabled in
-    let facts = ap (λ (fs : List EnabledFeature). map feature_fact fs) c.in_ok-features.ensures ∙ facts_in c.args.sheet.features.items in
+    let same : map arrow_view c.deref.result.now ≡ lines (sheet_view c.args.sheet) = ap (λ (xs : List Arrow). map arrow_view xs) c.deref.ensures.value ∙ c.in_ok-plan.ensures.edges in
+    let kids = kids_in c.args.sheet in
+    let ids = krate_ids c.args.krates.items in
+    let facts = ap (λ (fs : List EnabledFeature). map (feature_fact ids) fs) c.in_ok-features.ensures ∙ facts_in ids kids c.args.sheet.features.items (c.requires.ids ∙ sym (viewed_ids c.args.sheet.krates.items)) in
     if_graph g.N.FromPackage.made_from g.E.FromEdge.made_from_edge (sheet_view c.args.sheet) c.args.krates.items c.in_ok-sets.sets.items c.in_ok-features.features.items c.in_ok-nodes.nodes.items
-    (map arrow_view c.deref-2.result.now) c.stored.result d so facts same c.stored.ensures.nodes c.stored.ensures.edges
+    (map arrow_view c.deref.result.now) c.stored.result d matched c.in_ok-sets.ensures.enabled facts same c.stored.ensures.nodes c.stored.ensures.edges
 
 pub returns-clause-within : goal.returns-clause-within
 returns-clause-within g c = if_within c.args.limits (sheet_view c.args.sheet) c.stored.result c.in_ok-plan.ensures.within

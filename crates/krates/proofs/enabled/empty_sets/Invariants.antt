@@ -3,4 +3,4 @@ use Rattle.std.specs.BTreeSet.{keys}
 use Rattle.krates.proofs.enabled.empty_sets.Given as goal
 
 abbrev pub invariant-loop-krate : goal.invariant-loop-krate
-invariant-loop-krate l = (length l.sets.items ≡ l._krate-index) × All (λ set. keys set ≡ []) l.sets.items
+invariant-loop-krate l = (length l.sets.items ≡ l._krate) × All (λ set. keys set ≡ []) l.sets.items
