@@ -42,7 +42,7 @@ SHOWN_BY = {
     "Document::roots": ("choice_of",),
     "Document::presence": ("standing_of", "standing_of_child"),
     # a selection is made in look-ups of the document
-    "select": ("select_in",),
+    "select": ("select_in", "numbers_of"),
     # the graph of a build: its sheet, nodes and edges, and how they are stored
     "build_with_metadata": "count_of given_by meanings_by draw_nodes plan store_arrows in_order Krates::new".split(),
     # the steps that a build keeps, and those of them that lead to a node
