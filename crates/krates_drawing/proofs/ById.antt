@@ -26,6 +26,7 @@ use Rattle.krates_drawing.specs.Sheet.{Toggle, toggle_of}
 use Rattle.krates_drawing.proofs.Members.{Member}
 use Rattle.krates_drawing.proofs.Ordered.{Respects, alike, equal_zip}
 use Rattle.krates_drawing.proofs.Parts.{LikePart, like_nothing, like_keeps, like_leaves, likes_part}
+use Rattle.krates_drawing.proofs.CratePlaces.{numbers_compare}
 
 -- an edge, with the first place of its kind and target
 abbrev pub edge_by_id : List Identity → KeptEdge → Edge × ℕ
@@ -57,36 +58,25 @@ features_total = search (comparing, rules) depth 9
 pub toggles_total : IsTotalOrder toggle_order
 toggles_total = search (comparing, rules) depth 9
 
-kids_total : IsTotalOrder id_cmp
-kids_total = search (comparing, rules) depth 9
-
--- ids of kept crates compare as their numbers
-by_number : (kids : List Identity) → IsStrictlySortedBy id_cmp kids → (m n : ℕ) → m < length kids → n < length kids → id_order (id_at kids m) (id_at kids n) ≡ nat_cmp m n
-by_number kids sorted m n lm ln =
-    let a = get_or kids m empty_identity in
-    let b = get_or kids n empty_identity in
-    let same : id_order (id_of a) (id_of b) ≡ nat_cmp m n = compared_by_place kids_total kids sorted a b m n (slice_get-get_or kids m empty_identity lm) (slice_get-get_or kids n empty_identity ln) in
-    ap (λ i. id_order i (id_at kids n)) (seen_id kids m lm) ∙ (ap (id_order (id_of a)) (seen_id kids n ln) ∙ same)
-
 -- ---- the lists of a selection
 
 pub edges_sorted : (kids : List Identity) (es : List KeptEdge) → IsStrictlySortedBy id_cmp kids → All (HasEnds (length kids)) es → IsStrictlySortedBy place_cmp es → IsStrictlySortedBy edge_order (map (edge_by_id kids) es)
 edges_sorted kids es sorted ends h = sorted_seen place_cmp edge_order (edge_by_id kids) (HasEnds (length kids))
     (λ a b p q.
-    ap (λ o. ordering_then o (ordering_then (id_order (id_at kids a.child) (id_at kids b.child)) (nat_cmp a.place b.place))) (by_number kids sorted a.parent b.parent p.parent q.parent)
-    ∙ ap (λ o. ordering_then (nat_cmp a.parent b.parent) (ordering_then o (nat_cmp a.place b.place))) (by_number kids sorted a.child b.child p.child q.child))
+    ap (λ o. ordering_then o (ordering_then (id_order (id_at kids a.child) (id_at kids b.child)) (nat_cmp a.place b.place))) (numbers_compare kids sorted a.parent b.parent p.parent q.parent)
+    ∙ ap (λ o. ordering_then (nat_cmp a.parent b.parent) (ordering_then o (nat_cmp a.place b.place))) (numbers_compare kids sorted a.child b.child p.child q.child))
     es (recursion_from_All (HasEnds (length kids)) es ends) h
 
 pub features_sorted : (kids : List Identity) (fs : List EnabledFeature) → IsStrictlySortedBy id_cmp kids → All (HasHome (length kids)) fs → IsStrictlySortedBy feature_cmp fs → IsStrictlySortedBy feature_order (map (feature_by_id kids) fs)
 features_sorted kids fs sorted homes h = sorted_seen feature_cmp feature_order (feature_by_id kids) (HasHome (length kids))
-    (λ a b p q. ap (λ o. ordering_then o (slice_cmp nat_cmp (text_view a.name) (text_view b.name))) (by_number kids sorted a.krate b.krate p q))
+    (λ a b p q. ap (λ o. ordering_then o (slice_cmp nat_cmp (text_view a.name) (text_view b.name))) (numbers_compare kids sorted a.krate b.krate p q))
     fs (recursion_from_All (HasHome (length kids)) fs homes) h
 
 pub toggles_sorted : (kids : List Identity) (ts : List ToggledFeature) → IsStrictlySortedBy id_cmp kids → All (HasCrates (length kids)) ts → IsStrictlySortedBy toggled_cmp ts → IsStrictlySortedBy toggle_order (map (toggle_of kids) ts)
 toggles_sorted kids ts sorted crates h = sorted_seen toggled_cmp toggle_order (toggle_of kids) (HasCrates (length kids))
     (λ a b p q.
-    ap (λ o. ordering_then o (ordering_then (id_order (id_at kids a.krate) (id_at kids b.krate)) (slice_cmp nat_cmp (text_view a.name) (text_view b.name)))) (by_number kids sorted a.by b.by p.by q.by)
-    ∙ ap (λ o. ordering_then (nat_cmp a.by b.by) (ordering_then o (slice_cmp nat_cmp (text_view a.name) (text_view b.name)))) (by_number kids sorted a.krate b.krate p.krate q.krate))
+    ap (λ o. ordering_then o (ordering_then (id_order (id_at kids a.krate) (id_at kids b.krate)) (slice_cmp nat_cmp (text_view a.name) (text_view b.name)))) (numbers_compare kids sorted a.by b.by p.by q.by)
+    ∙ ap (λ o. ordering_then (nat_cmp a.by b.by) (ordering_then o (slice_cmp nat_cmp (text_view a.name) (text_view b.name)))) (numbers_compare kids sorted a.krate b.krate p.krate q.krate))
     ts (recursion_from_All (HasCrates (length kids)) ts crates) h
 
 -- ---- lists in strict order, of the same items or of some of them

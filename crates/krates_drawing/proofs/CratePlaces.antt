@@ -43,15 +43,15 @@ id_of_krate (k ∷ ks) (suc n) = id_of_krate ks n
 
 -- ---- ids compare as numbers
 
-pub ids_compare : (ks : List Krate) (m n : ℕ) → AreInOrder ks → m < length ks → n < length ks → id_order (id_at (kids_of ks) m) (id_at (kids_of ks) n) ≡ nat_cmp m n
-ids_compare ks m n sorted a b =
-    let kids = kids_of ks in
+pub numbers_compare : (kids : List Identity) → IsStrictlySortedBy id_cmp kids → (m n : ℕ) → m < length kids → n < length kids → id_order (id_at kids m) (id_at kids n) ≡ nat_cmp m n
+numbers_compare kids sorted m n lm ln =
     let x = get_or kids m empty_identity in
     let y = get_or kids n empty_identity in
-    let lm : m < length kids = rw length-map a in
-    let ln : n < length kids = rw length-map b in
     ap (λ i. id_order i (id_at kids n)) (seen_id kids m lm) ∙ ap (id_order (id_of x)) (seen_id kids n ln)
     ∙ compared_by_place ids_total kids sorted x y m n (slice_get-get_or kids m empty_identity lm) (slice_get-get_or kids n empty_identity ln)
+
+pub ids_compare : (ks : List Krate) (m n : ℕ) → AreInOrder ks → m < length ks → n < length ks → id_order (id_at (kids_of ks) m) (id_at (kids_of ks) n) ≡ nat_cmp m n
+ids_compare ks m n sorted a b = numbers_compare (kids_of ks) sorted m n (rw length-map a) (rw length-map b)
 
 -- they are equal where the numbers are
 pub same_ids : (ks : List Krate) (m n : ℕ) → AreInOrder ks → m < length ks → n < length ks → (m == n) ≡ id_eq (id_at (kids_of ks) m) (id_at (kids_of ks) n)

@@ -31,6 +31,7 @@ use Rattle.krates_drawing.proofs.Holding.{crate_there, edge_there, feature_there
 use Rattle.krates_drawing.proofs.Members.{Member, member_of, contains_of, mapped_of, member_map}
 use Rattle.krates_drawing.proofs.SaidAlike.{SaidAlike, said_alike, dependencies_same}
 use Rattle.krates_drawing.proofs.Ordered.{Respects, alike, made_same, equal_zip, itself}
+use Rattle.krates_drawing.proofs.Tests.{bools_same, filter_same}
 
 -- ---- what is alike
 
@@ -144,18 +145,6 @@ krates_same r u s w a b k l same p q =
     let id : k.id ≡ l.id = p.id ∙ (same ∙ sym q.id) in
     let pkg = w.packages k.id p.pkg q.pkg p.has_package (subst (λ i. HasPackage u i q.pkg) (sym id) q.has_package) in
     krate_same k.id l.id k.declared l.declared id (p.declared ∙ (ap length (dependencies_same p.pkg q.pkg pkg) ∙ sym q.declared))
-
-pub bools_same : (a b : Bool) → (a ≡ true → b ≡ true) → (b ≡ true → a ≡ true) → a ≡ b
-bools_same true b f g = sym (f refl)
-bools_same false true f g = g refl
-bools_same false false f g = refl
-
-filter_step : {A : Type 0} (b c : Bool) (x : A) (xs ys : List A) → b ≡ c → xs ≡ ys → cond b (x ∷ xs) xs ≡ cond c (x ∷ ys) ys
-filter_step b c x xs ys e h = ap (λ z. cond z (x ∷ xs) xs) e ∙ ap (λ zs. cond c (x ∷ zs) zs) h
-
-pub filter_same : {A : Type 0} (p q : A → Bool) (xs : List A) → ((x : A) → p x ≡ q x) → filter p xs ≡ filter q xs
-filter_same p q [] h = refl
-filter_same p q (x ∷ xs) h = filter_step (p x) (q x) x (filter p xs) (filter q xs) (h x) (filter_same p q xs h)
 
 link_same : (e f : Edge) (m n : ℕ) (gs hs : List Text) → e ≡ f → m ≡ n → gs ≡ hs → (let l : Link = record { edge = e; place = m; given = gs } in l) ≡ record { edge = f; place = n; given = hs }
 link_same e f m n gs hs a b c = ap (λ (z : Edge). record { edge = z; place = m; given = gs }) a ∙ (ap (λ (z : ℕ). record { edge = f; place = z; given = gs }) b ∙ ap (λ (z : List Text). record { edge = f; place = n; given = z }) c)

@@ -26,7 +26,8 @@ use Rattle.krates_lookups.specs.FeatureValues.{values_of}
 use Rattle.krates_drawing.proofs.Derivations.{child_kept, crate_of_feature, kept_by, kept_stands}
 use Rattle.krates_drawing.proofs.Holding.{crate_there, edge_there, feature_there}
 use Rattle.krates_drawing.proofs.Members.{Member, contains_of}
-use Rattle.krates_drawing.proofs.OneSheet.{filter_same, listed_same}
+use Rattle.krates_drawing.proofs.OneSheet.{listed_same}
+use Rattle.krates_drawing.proofs.Tests.{filter_same}
 use Rattle.krates_drawing.proofs.SaidAlike.{SaidAlike, said_alike, dependencies_same}
 use Rattle.krates_drawing.proofs.Standing.{each}
 use Rattle.krates_drawing.proofs.Zips.{zip_there}

@@ -1,6 +1,6 @@
 //! The edges from crates.
-ghost use Rattle.std.specs.Prelude.{All, ◌≡◌, ◌+◌, ◌<◌, List, not, map, length, take, flat_map, IfOk, OnOk, ◌==◌};
-ghost use Rattle.krates_resolve.specs.CrateNumbers.{HasCrates, HasEnds, id_at};
+ghost use Rattle.std.specs.Prelude.{All, ◌≡◌, ◌+◌, ◌<◌, List, map, length, take, flat_map, OnOk};
+ghost use Rattle.krates_resolve.specs.CrateNumbers.{HasEnds, id_at};
 ghost use Rattle.krates_drawing.specs.Drawing.{AtFeature, Line, crate_lines, crate_number as number_of_crate, pair_lines, uses};
 ghost use Rattle.krates_drawing.specs.Home.{IsDrawnTo, IsHome, AreToggledBy};
 ghost use Rattle.krates_drawing.specs.Origin.{line_from};
