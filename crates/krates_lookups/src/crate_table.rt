@@ -113,7 +113,11 @@ fn places_of(alloc: Global, ids: &[Kid], list: &[Kid]) -> Result<Vec<Option<usiz
 /// The number of each id of the list among these ids, which are in order, where it has one. The only error is running out of memory.
 ///
 /// Time: O(n log n).
-pub fn numbers_of(alloc: Global, ids: &[Kid], list: &[Kid]) -> Result<Vec<Option<usize>>, AllocError>
+pub fn numbers_of(
+    alloc: Global,
+    ids: &[Kid],
+    list: &[Kid],
+) -> Result<Vec<Option<usize>>, AllocError>
     requires { AreNumbered (map id_of ids.now) }
     ensures { IfOk result (λ numbers. AreNumbersOf (map id_of ids.now) list.now numbers.items) }
 {
