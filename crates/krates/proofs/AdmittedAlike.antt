@@ -3,10 +3,11 @@ use Rattle.std.proofs.Common.{◌≡◌, List, [], ◌∷◌, map, Option, Some,
 use Rattle.std.proofs.lemmas.List.Sorted.{IsPermutation-sym, IsPermutation-map}
 use Rattle.std.proofs.lemmas.Option.{same_Some}
 use Rattle.std.specs.List.{AllZip, AllByRecursion}
-use Rattle.krates_cm.specs.Document.{Text, PackageModel, NodeDepModel, NodeModel, ResolveModel, MetadataModel}
+use Rattle.krates_cm.specs.Document.{Text, VersionModel, PackageModel, NodeDepModel, NodeModel, ResolveModel, MetadataModel}
+use Rattle.krates_cm.specs.Names.{version_named}
 use Rattle.krates_ids.specs.Correction.{with_features}
 use Rattle.krates_ids.specs.Identity.{Identity, Reads}
-use Rattle.krates_rules.specs.Admission.{AreIdsOf, AreDepIds, HasVersion, IsRootId, package_texts, node_texts, dep_texts, IdsModel}
+use Rattle.krates_rules.specs.Admission.{AreIdsOf, AreDepIds, HasVersion, HasThisVersion, IsRootId, package_texts, node_texts, dep_texts, IdsModel}
 use Rattle.krates_rules.specs.Reordering.{ReordersPackage, ReordersPackages, ReordersNode, ReordersGraph, ReordersResolve, Reorders, ResolveAlike}
 use Rattle.krates.specs.Build.{IsResolvable}
 use Rattle.krates.proofs.MovedLists.{moved_zip, zip_turned}
@@ -107,6 +108,27 @@ each_moved (x ∷ xs) (y ∷ ys) (ids ∷ lists) z h =
     let rest = each_moved xs ys lists z.1 h.1 in
     (first.0 ∷ rest.0, (first.1, rest.1))
 
+-- the version of an id that has one
+version_of : (version : Option VersionModel) → (version ≡ None → ⊥) → (v : VersionModel) × (version ≡ Some v)
+version_of None has = absurd (has refl)
+version_of (Some v) has = (v, refl)
+
+versions_of : (ids : List Identity) → AllByRecursion HasVersion ids → (versions : List VersionModel) × AllZip HasThisVersion ids versions
+versions_of [] has = ([], tt)
+versions_of (i ∷ ids) has =
+    let first = version_of (version_named i.version) has.0 in
+    let rest = versions_of ids has.1 in
+    (first.0 ∷ rest.0, (first.1, rest.1))
+
+all_versions : (nodes : List NodeModel) (lists : List (List Identity)) → AllZip AreDepIds nodes lists → (versions : List (List VersionModel)) × AllZip (AllZip HasThisVersion) lists versions
+all_versions [] [] h = ([], tt)
+all_versions [] (ids ∷ lists) h = absurd h
+all_versions (n ∷ nodes) [] h = absurd h
+all_versions (n ∷ nodes) (ids ∷ lists) h =
+    let first = versions_of ids h.0.versions in
+    let rest = all_versions nodes lists h.1 in
+    (first.0 ∷ rest.0, (first.1, rest.1))
+
 ids_moved : (m n : MetadataModel) (g h : ResolveModel) (ids : IdsModel) → Reorders m n → ReordersGraph g h → AreIdsOf m g ids → (js : IdsModel) × AreIdsOf n h js
 ids_moved m n g h ids w x a =
     let packages = moved_zip Reads (package_texts m) (package_texts n) ids.packages (package_texts_moved m n w) a.packages in
@@ -114,8 +136,9 @@ ids_moved m n g h ids w x a =
     let nodes = moved_zip Reads (node_texts g) (node_texts h) ids.nodes (node_texts_moved g h x) a.nodes in
     let each = each_moved g.nodes x.nodes ids.deps x.each a.deps in
     let deps = moved_zip AreDepIds x.nodes h.nodes each.0 x.moved each.1 in
-    let js : IdsModel = record { packages = packages.list; members = members.list; root = ids.root; nodes = nodes.list; deps = deps.list } in
-    (js, record { packages = packages.zip; members = members.zip; root = subst (λ t. IsRootId t ids.root) (sym x.root) a.root; nodes = nodes.zip; deps = deps.zip })
+    let versions = all_versions h.nodes deps.list deps.zip in
+    let js : IdsModel = record { packages = packages.list; members = members.list; root = ids.root; nodes = nodes.list; deps = deps.list; versions = versions.0 } in
+    (js, record { packages = packages.zip; members = members.zip; root = subst (λ t. IsRootId t ids.root) (sym x.root) a.root; nodes = nodes.zip; deps = deps.zip; versions = versions.1 })
 
 graph_there : (a b : Option ResolveModel) (g : ResolveModel) → ReordersResolve a b → a ≡ Some g → (h : ResolveModel) × (b ≡ Some h) × ReordersGraph g h
 graph_there None b g w is = absurd cc

@@ -44,6 +44,7 @@ same_admitted m n ids graph members texts a = record {
     root = a.read.root;
     nodes = a.read.nodes;
     deps = a.read.deps;
+    versions = a.read.versions;
   };
   none_doubled = λ id d. a.none_doubled id (same_doubled m n a.graph id texts d);
 }

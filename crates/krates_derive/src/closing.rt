@@ -192,7 +192,7 @@ fn is_kept_in<'a>(claim: &Claim<'a, '_>, edge: &ToldEdge<'a>) -> Result<bool, Al
     if !claim.facts.has(&FactKey::Crate(edge.child)) {
         return Ok(false);
     }
-    match declaration_of(claim.alloc, claim.document, edge)? {
+    match declaration_of(claim.document, edge)? {
         Some(dependency) => Ok(is_used_in(claim, edge.child, dependency)),
         None => Ok(true),
     }

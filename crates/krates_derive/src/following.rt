@@ -38,14 +38,13 @@ pub(crate) fn need_of<'a>(
 
 /// The dependency that an edge is declared as.
 pub(crate) fn declaration_of<'a>(
-    alloc: Global,
     document: &Document<'a>,
     edge: &ToldEdge<'a>,
 ) -> Result<Option<&'a Dependency>, AllocError>
     ensures { IfOk result (TellsDeclaration (as_resolved document.now) (told_edge edge.now)) }
 {
     let info = info_of(edge)?;
-    document.declaration(alloc, edge.parent, edge.child, &info)
+    Ok(document.declaration(edge.parent, edge.child, &info))
 }
 
 /// Whether an edge may be kept.
@@ -79,7 +78,6 @@ fn must_keep<'a>(basis: &Basis<'a, '_>, edge: &ToldEdge<'a>) -> Result<bool, All
 
 /// Whether an edge asks for a feature of its child.
 fn asks_for_feature<'a>(
-    alloc: Global,
     document: &Document<'a>,
     edge: &ToldEdge<'a>,
     name: &str,
@@ -87,7 +85,7 @@ fn asks_for_feature<'a>(
     ensures { IfOk result
         (λ b. IsTrue b ↔ AsksForFeature (as_resolved document.now) (told_edge edge.now) name.now) }
 {
-    match declaration_of(alloc, document, edge)? {
+    match declaration_of(document, edge)? {
         Some(dependency) => Ok(asks_feature(dependency, name)),
         None => Ok(false),
     }
@@ -254,7 +252,7 @@ fn is_declared<'a>(
     if !is_child(basis.document, rule, edge, feature) {
         return Ok(false);
     }
-    asks_for_feature(basis.alloc, basis.document, edge, feature.name)
+    asks_for_feature(basis.document, edge, feature.name)
 }
 
 /// Whether a feature is toggled over an edge, by weak references or by strong ones.

@@ -93,7 +93,7 @@ fn of_edge(
     edge: &Edge,
 ) -> Result<String, Fail> {
     let need = asked.need(alloc, setting, &edge.parent, &edge.child, &edge.info)?;
-    let declaration = asked.declaration(alloc, &edge.parent, &edge.child, &edge.info)?;
+    let declaration = asked.declaration(&edge.parent, &edge.child, &edge.info);
     Ok(format!(in alloc;
         "{} of {}, {:?}",
         need_word(need),

@@ -3,8 +3,9 @@ use Rattle.std.proofs.Common.{◌≡◌, ℕ, zero, suc, ◌<◌, List, [], ◌�
 use Rattle.std.specs.List.{AllZip, AllByRecursion}
 use Rattle.std.specs.Prelude.{String}
 use Rattle.std.specs.declared.alloc.Global.{Global}
+use Rattle.std.proofs.lemmas.Option.{none-some}
 use Rattle.std.proofs.lemmas.Simd.{map-map}
-use Rattle.krates_cm.specs.Document.{Text, NodeModel, ResolveModel, MetadataModel, id_view, node_view, node_dep_view, package_view, resolve_view, metadata_view}
+use Rattle.krates_cm.specs.Document.{Text, VersionModel, NodeModel, ResolveModel, MetadataModel, id_view, node_view, node_dep_view, package_view, resolve_view, metadata_view}
 use Rattle.krates_cm.specs.declared.metadata.Metadata.{Metadata}
 use Rattle.krates_cm.specs.declared.package.Package.{Package}
 use Rattle.krates_cm.specs.declared.resolve.Resolve.{Resolve}
@@ -14,7 +15,7 @@ use Rattle.krates_cm.specs.declared.package_id.PackageId.{PackageId}
 use Rattle.krates_ids.specs.Identity.{Identity, Reads, Fault, IsFault}
 use Rattle.krates_ids.specs.declared.error.Error.{Error}
 use Rattle.krates_ids.specs.declared.error.Error.TheVariants as errors
-use Rattle.krates_rules.specs.Admission.{package_texts, node_texts, dep_texts, StandsForId, of_dep, IsInvalidId, unread, bad_version, AreDepIds, AreIdsOf, IsDoubledIn, IsDoubled, doubled_package, doubled_node, doubled_dep, NoneDoubled, IdsModel}
+use Rattle.krates_rules.specs.Admission.{package_texts, node_texts, dep_texts, HasVersion, HasThisVersion, StandsForId, of_dep, IsInvalidId, unread, bad_version, AreDepIds, AreIdsOf, IsDoubledIn, IsDoubled, doubled_package, doubled_node, doubled_dep, NoneDoubled, IdsModel}
 use Rattle.krates_rules.specs.AdmissionRefusals.{AdmissionRefusal}
 use Rattle.krates_document.specs.AdmissionSteps.{IsInvalidBy, InvalidIdRefusal, IsNoId, UnreadRefusal, IsBadText, InvalidDepRefusal, InvalidNodeRefusal, IsDoubledAmong, AreDistinct, AreAllDistinct, IsDoubledBy, DoubledRefusal, DoubledInRefusal, IsDoubledWithin, among_packages, among_nodes, among_deps, DoubledWithinRefusal}
 use Rattle.krates_rules.specs.Facts.{Id}
@@ -44,6 +45,12 @@ node_texts_of g = map-map (λ n. n.id) node_view g.nodes.items
 pub dep_texts_of : (n : Node) → dep_texts (node_view n) ≡ map (λ (d : NodeDep). id_view d.pkg) n.deps.items
 dep_texts_of n = map-map (λ d. d.pkg) node_dep_view n.deps.items
 
+-- ids whose versions are read have versions
+pub have_versions : (ids : List Identity) (versions : List VersionModel) → AllZip HasThisVersion ids versions → AllByRecursion HasVersion ids
+have_versions [] versions z = tt
+have_versions (i ∷ ids) [] z = absurd z
+have_versions (i ∷ ids) (v ∷ versions) z = (λ none. none-some v (sym none ∙ z.0), have_versions ids versions z.1)
+
 -- ---- a refusal by its class
 
 -- what follows from each invalid id, and from running out of memory, follows from the refusal
@@ -71,6 +78,15 @@ doubled_so P R so memory (errors.Lost x) h = absurd h
 doubled_so P R so memory errors.TooMany h = absurd h
 
 -- ---- a fault of an id is a fault of the document
+
+-- what stands in a list of one
+only : (t u : Text) (k : ℕ) → k < length (t ∷ []) → get_or (t ∷ []) k u ≡ u → t ≡ u
+only t u zero lt is = is
+only t u (suc k) lt is = absurd (omega (arith, lt))
+
+-- an invalid id of a dependency is one of the list
+pub bad_dep : (texts : List Text) (t : Text) → Contains texts t → (e : Error) → InvalidDepRefusal (t ∷ []) e → InvalidDepRefusal texts e
+bad_dep texts t among = invalid_so (λ u. Contains (t ∷ []) u × IsBadText u) (InvalidDepRefusal texts) (λ u h. (subst (Contains texts) (only t (string_bytes u) h.0.0 h.0.1 h.0.2) among, h.1)) tt
 
 -- an invalid id of a node's dependency is one of the nodes
 pub bad_node : (nodes : List NodeModel) (n : NodeModel) → Contains nodes n → (e : Error) → InvalidDepRefusal (dep_texts n) e → InvalidNodeRefusal nodes e

@@ -1,20 +1,21 @@
 //! Which documents can be resolved at all.
 
-ghost use Rattle.std.specs.Prelude.{◌≡◌, IfOk, IfErr, OnOk, None, [], ◌∷◌, MatchBool, map, option_map, option_to_list};
+ghost use Rattle.std.specs.Prelude.{◌≡◌, IfOk, IfErr, OnOk, [], ◌∷◌, map, option_map, option_to_list};
 ghost use Rattle.std.specs.List.{AllZip, AllByRecursion};
+ghost use Rattle.semver.specs.Identifiers.{parts_of};
 ghost use Rattle.krates_cm.specs.Document.{Text, id_view, node_view, resolve_view, metadata_view};
-ghost use Rattle.krates_cm.specs.Names.{version_named};
 ghost use Rattle.krates_ids.specs.Identity.{Reads};
-ghost use Rattle.krates_rules.specs.Admission.{HasVersion, AreDepIds, IsRootId, AreIdsOf, IsAdmitted};
+ghost use Rattle.krates_rules.specs.Admission.{HasThisVersion, AreDepIds, IsRootId, AreIdsOf, IsAdmitted};
 ghost use Rattle.krates_rules.specs.AdmissionRefusals.{AdmissionRefusal};
 ghost use Rattle.krates_document.specs.AdmissionSteps.{InvalidIdRefusal, UnreadRefusal, InvalidDepRefusal, InvalidNodeRefusal, AreDistinct, DoubledRefusal, DoubledInRefusal, AreAllDistinct, DoubledWithinRefusal};
-ghost use Rattle.krates_document.specs.Ids.{ids_view};
+ghost use Rattle.krates_document.specs.Ids.{ids_view, kids_in, versions_in};
 
 use crate::declared_dependency::version_of;
 use crate::ids::Ids;
 use krates_cm::{Metadata, Node, NodeDep, Package, PackageId, Resolve};
 use krates_ids::{Error, IdError, Kid, laws};
-use std::alloc::{AllocError, Global};
+use semver::Version;
+use std::alloc::Global;
 use std::collections::BTreeSet;
 
 /// Reads the ids of a document, and refuses a document that can't be resolved.
@@ -50,12 +51,14 @@ fn ids_of(alloc: Global, metadata: &Metadata, resolve: &Resolve) -> Result<Ids, 
     let root = read_root(&resolve.root)?;
     let nodes = read_ids(alloc, &resolve.nodes)?;
     let deps = read_deps(alloc, &resolve.nodes)?;
+    let DepLists { kids, versions } = deps;
     Ok(Ids {
         packages,
         members,
         root,
         nodes,
-        deps,
+        deps: kids,
+        versions,
     })
 }
 
@@ -152,50 +155,69 @@ fn read_ids<T: HasId>(alloc: Global, items: &[T]) -> Result<Vec<Kid>, Error>
     Ok(kids)
 }
 
-/// Whether the version of an id is semantic.
-fn has_version(alloc: Global, kid: &Kid) -> Result<bool, AllocError>
-    ensures { IfOk result (λ has. MatchBool has (HasVersion kid.now) (version_named kid.now.version ≡ None)) }
-{
-    Ok(version_of(alloc, kid)?.is_some())
-}
-
-/// Reads the id of a dependency, whose version has to be semantic.
-fn read_dep_id(alloc: Global, dep: &NodeDep) -> Result<Kid, Error>
-    ensures read { IfOk result (λ kid. Reads (id_view dep.now.pkg) kid) }
-    ensures version { IfOk result HasVersion }
+/// Reads the id of a dependency, and its version, which has to be semantic.
+fn read_dep_id(alloc: Global, dep: &NodeDep) -> Result<(Kid, Version), Error>
+    ensures read { IfOk result (λ d. Reads (id_view dep.now.pkg) d.0) }
+    ensures version { IfOk result (λ d. HasThisVersion d.0 (parts_of d.1)) }
     ensures refused { IfErr result (InvalidDepRefusal (id_view dep.now.pkg ∷ [])) }
 {
     let kid = read_id(&dep.pkg)?;
-    if has_version(alloc, &kid)? {
-        return Ok(kid);
+    match version_of(alloc, &kid)? {
+        Some(version) => Ok((kid, version)),
+        None => Err(Error::InvalidId(dep.pkg.repr.clone()?)),
     }
-    Err(Error::InvalidId(dep.pkg.repr.clone()?))
 }
 
-/// Reads the ids of a node's dependencies, in order.
-fn read_dep_ids(alloc: Global, deps: &[NodeDep]) -> Result<Vec<Kid>, Error>
-    ensures read { IfOk result (λ kids. AllZip Reads (map (λ d. id_view d.pkg) deps.now) kids.items) }
-    ensures versions { IfOk result (λ kids. AllByRecursion HasVersion kids.items) }
+/// The ids of dependencies, and their versions.
+#[derive(Drop)]
+struct DepIds {
+    kids: Vec<Kid>,
+    versions: Vec<Version>,
+}
+
+/// Reads the ids of a node's dependencies, in order, and their versions.
+fn read_dep_ids(alloc: Global, deps: &[NodeDep]) -> Result<DepIds, Error>
+    ensures read { IfOk result (λ ids. AllZip Reads (map (λ d. id_view d.pkg) deps.now) ids.kids.items) }
+    ensures versions { IfOk result
+        (λ ids. AllZip HasThisVersion ids.kids.items (map parts_of ids.versions.items)) }
     ensures refused { IfErr result (InvalidDepRefusal (map (λ d. id_view d.pkg) deps.now)) }
 {
     let mut kids = Vec::with_capacity(alloc, deps.len())?;
+    let mut versions = Vec::with_capacity(alloc, deps.len())?;
     for dep in deps {
-        kids.push(read_dep_id(alloc, dep)?)?;
+        let (kid, version) = read_dep_id(alloc, dep)?;
+        kids.push(kid)?;
+        versions.push(version)?;
     }
-    Ok(kids)
+    Ok(DepIds { kids, versions })
 }
 
-/// Reads the ids of each node's dependencies.
-fn read_deps(alloc: Global, nodes: &[Node]) -> Result<Vec<Vec<Kid>>, Error>
-    ensures read { IfOk result
-        (λ lists. AllZip AreDepIds (map node_view nodes.now) (map (λ kids. kids.items) lists.items)) }
+/// The ids of the dependencies of nodes, and their versions.
+#[derive(Drop)]
+struct DepLists {
+    kids: Vec<Vec<Kid>>,
+    versions: Vec<Vec<Version>>,
+}
+
+/// Reads the ids of each node's dependencies, and their versions.
+fn read_deps(alloc: Global, nodes: &[Node]) -> Result<DepLists, Error>
+    ensures read { IfOk result (λ lists. AllZip AreDepIds (map node_view nodes.now) (kids_in lists.kids)) }
+    ensures versions { IfOk result
+        (λ lists. AllZip (AllZip HasThisVersion) (kids_in lists.kids) (versions_in lists.versions)) }
     ensures refused { IfErr result (InvalidNodeRefusal (map node_view nodes.now)) }
 {
-    let mut lists = Vec::new(alloc);
+    let mut kids = Vec::with_capacity(alloc, nodes.len())?;
+    let mut versions = Vec::with_capacity(alloc, nodes.len())?;
     for node in nodes {
-        lists.push(read_dep_ids(alloc, &node.deps)?)?;
+        let ids = read_dep_ids(alloc, &node.deps)?;
+        let DepIds {
+            kids: own,
+            versions: theirs,
+        } = ids;
+        kids.push(own)?;
+        versions.push(theirs)?;
     }
-    Ok(lists)
+    Ok(DepLists { kids, versions })
 }
 
 /// Refuses an id that stands twice.

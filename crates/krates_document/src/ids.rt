@@ -1,6 +1,7 @@
 //! The ids of a document, read.
 
 use krates_ids::Kid;
+use semver::Version;
 
 /// An id for each place of a document at which one has to stand, in the order of the document.
 #[derive(Debug, Drop)]
@@ -15,4 +16,6 @@ pub struct Ids {
     pub nodes: Vec<Kid>,
     /// Those of the dependencies of each node.
     pub deps: Vec<Vec<Kid>>,
+    /// The versions of these, read.
+    pub versions: Vec<Vec<Version>>,
 }

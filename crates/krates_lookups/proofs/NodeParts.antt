@@ -1,21 +1,23 @@
 -- A node of the document at its place, with the ids of its dependencies.
 use Rattle.std.proofs.Common.{◌≡◌, ℕ, suc, Bool, ◌<◌, List, [], ◌∷◌, length, get_or, map, Some, option_map, inl, inr, refl, sym, ap, ◌∙◌, subst, arith}
 use Rattle.std.proofs.lemmas.List.{length-map}
-use Rattle.std.proofs.lemmas.List.Elements.{All-from_recursion}
-use Rattle.std.proofs.lemmas.Option.{slice_get-map, slice_get-get_or, get_or_from_slice_get, slice_get_within, slice_get_read, slice_get_cases, same_Some}
+use Rattle.std.proofs.lemmas.Option.{slice_get-map, slice_get-get_or, slice_get_within, slice_get_read, slice_get_cases, same_Some}
 use Rattle.std.specs.Global.{Vec}
 use Rattle.std.specs.Vec.{vec_len}
 use Rattle.std.specs.List.{AllZip, slice_get}
-use Rattle.krates_cm.specs.Document.{DependencyModel, NodeModel, NodeDepModel, ResolveModel, dependency_view, node_view, node_dep_view}
+use Rattle.semver.specs.Identifiers.{parts_of}
+use Rattle.semver.specs.declared.Version.{Version}
+use Rattle.krates_cm.specs.Document.{DependencyModel, VersionModel, NodeModel, NodeDepModel, ResolveModel, dependency_view, node_view, node_dep_view}
 use Rattle.krates_cm.specs.declared.dependency.Dependency.{Dependency}
 use Rattle.krates_cm.specs.declared.resolve.Node.{Node}
 use Rattle.krates_cm.specs.declared.resolve.NodeDep.{NodeDep}
 use Rattle.krates_ids.specs.Identity.{Identity, Reads}
-use Rattle.krates_rules.specs.Admission.{AreDepIds, HasVersion, node_texts, dep_texts}
+use Rattle.krates_rules.specs.Admission.{AreDepIds, HasThisVersion, node_texts, dep_texts}
+use Rattle.krates_document.specs.Ids.{kids_in, versions_in}
 use Rattle.krates_rules.specs.Facts.{Id}
 use Rattle.krates_rules.specs.Resolved.{DepAt, NodeAt, Resolved, id_of, ReadsAs, HasNode, HasDep}
 use Rattle.krates_lookups.specs.Lookup.{IsLookup, TellsMember, resolved_view}
-use Rattle.krates_lookups.specs.NodeEntry.{AreDeclaredBy, AreParts, IsEntry, IsEntryOf}
+use Rattle.krates_lookups.specs.NodeEntry.{AreDeclaredBy, AreParts, HasItsVersion, IsEntry, IsEntryOf}
 use Rattle.krates_lookups.specs.declared.lookup.Lookup.{Lookup}
 use Rattle.krates_lookups.specs.declared.node_entry.NodeEntry.{NodeEntry}
 use Rattle.krates_lookups.specs.declared.node_entry.NodeParts.{NodeParts}
@@ -46,10 +48,6 @@ has_dep_here n ids k d i z here at =
     let w = at_place (λ (d : NodeDepModel). d.pkg) n.deps ids (id_of i) k z.read (record { there = i; at = at; same = refl }) in
     record { among = contains_at n.deps k d here; id = subst (λ (e : NodeDepModel). ReadsAs e.pkg (id_of i)) (same_Some w.0 d (sym w.1 ∙ here)) w.2 }
 
-pub has_version_here : (n : NodeModel) (ids : List Identity) (k : ℕ) (i : Identity) → AreDepIds n ids → slice_get ids k ≡ Some i → HasVersion i
-has_version_here n ids k i z at =
-    subst HasVersion (get_or_from_slice_get ids k i i at) (All-from_recursion HasVersion ids z.versions k i (slice_get_within ids k i at))
-
 pub dep_ids_here : (g : ResolveModel) (lists : List (List Identity)) (k : ℕ) (n : NodeModel) (ids : List Identity) → AllZip AreDepIds g.nodes lists → slice_get g.nodes k ≡ Some n → slice_get lists k ≡ Some ids → AreDepIds n ids
 dep_ids_here g lists k n ids z a b = zip_at AreDepIds g.nodes lists k n ids z a b
 
@@ -65,6 +63,14 @@ nodes_long d h =
       long_zip AreDepIds r.graph.nodes (map items d.ids.now.deps.items) h.ids.deps ∙ length-map d.ids.now.deps.items items,
     )
 
+-- as many versions as lists of ids
+pub versions_long : (d : Lookup) → IsLookup d → length (resolved_view d).graph.nodes ≡ length d.ids.now.versions.items
+versions_long d h =
+    let items : Vec Identity → List Identity = λ v. v.items in
+    let versions : Vec Version → List VersionModel = λ v. map parts_of v.items in
+    (nodes_long d h).2 ∙ sym (length-map d.ids.now.deps.items items) ∙ long_zip (AllZip HasThisVersion) (kids_in d.ids.now.deps) (versions_in d.ids.now.versions) h.ids.versions
+    ∙ length-map d.ids.now.versions.items versions
+
 -- ---- at a place, as the code finds them
 
 node_seen : (d : Lookup) (place : ℕ) (n : Node) → place < length (resolved_view d).graph.nodes → n ≡ get_or d.resolve.now.nodes.items place n → slice_get (resolved_view d).graph.nodes place ≡ Some (node_view n)
@@ -73,25 +79,44 @@ node_seen d place n lt is =
     let below : place < length ns = subst (λ (m : ℕ). place < m) (length-map ns node_view) lt in
     slice_get-map node_view ns place ∙ ap (option_map node_view) (slice_get_read ns (length ns) place n refl below is)
 
+-- the ids of the dependencies of the node at a place
+ids_there : (d : Lookup) (place : ℕ) (ids : Vec Identity) → IsLookup d → place < length (resolved_view d).graph.nodes → ids ≡ get_or d.ids.now.deps.items place ids → slice_get (kids_in d.ids.now.deps) place ≡ Some ids.items
+ids_there d place ids h lt is =
+    let lists = d.ids.now.deps.items in
+    let items : Vec Identity → List Identity = λ v. v.items in
+    slice_get-map items lists place ∙ ap (option_map items) (slice_get_read lists (length lists) place ids refl (subst (λ (m : ℕ). place < m) (nodes_long d h).2 lt) is)
+
+-- and their versions
+versions_there : (d : Lookup) (place : ℕ) (versions : Vec Version) → IsLookup d → place < length (resolved_view d).graph.nodes → versions ≡ get_or d.ids.now.versions.items place versions
+    → slice_get (versions_in d.ids.now.versions) place ≡ Some (map parts_of versions.items)
+versions_there d place versions h lt is =
+    let lists = d.ids.now.versions.items in
+    let parts : Vec Version → List VersionModel = λ v. map parts_of v.items in
+    slice_get-map parts lists place ∙ ap (option_map parts) (slice_get_read lists (length lists) place versions refl (subst (λ (m : ℕ). place < m) (versions_long d h) lt) is)
+
+-- they belong together
+pub versions_here : (d : Lookup) (place : ℕ) (x : NodeParts) (ids : Vec Identity) (versions : Vec Version) → IsLookup d → place < length (resolved_view d).graph.nodes → ids ≡ get_or d.ids.now.deps.items place ids
+    → versions ≡ get_or d.ids.now.versions.items place versions → x.children.now ≡ ids.items → x.versions.now ≡ versions.items → AllZip HasThisVersion x.children.now (map parts_of x.versions.now)
+versions_here d place x ids versions h lt is_ids is_versions children own =
+    rw (children, own) (zip_at (AllZip HasThisVersion) (kids_in d.ids.now.deps) (versions_in d.ids.now.versions) place ids.items (map parts_of versions.items) h.ids.versions (ids_there d place ids h lt is_ids) (versions_there d place versions h lt is_versions))
+
 pub parts_here : (d : Lookup) (place : ℕ) (x : NodeParts) (n : Node) (ids : Vec Identity) → IsLookup d → place < length (resolved_view d).graph.nodes → x.parent.now ≡ get_or d.ids.now.nodes.items place x.parent.now
-    → n ≡ get_or d.resolve.now.nodes.items place n → ids ≡ get_or d.ids.now.deps.items place ids → x.deps.now ≡ n.deps.items → x.children.now ≡ ids.items
+    → n ≡ get_or d.resolve.now.nodes.items place n → ids ≡ get_or d.ids.now.deps.items place ids → x.deps.now ≡ n.deps.items → x.children.now ≡ ids.items → AllZip HasThisVersion x.children.now (map parts_of x.versions.now)
     → AreDeclaredBy (resolved_view d) (id_of x.parent.now) (map dependency_view x.declared.now) → TellsMember (resolved_view d) (id_of x.parent.now) x.is_member → x.place ≡ place → AreParts (resolved_view d) place x
-parts_here d place x n ids h lt is_id is_node is_ids deps children declares tells place_is =
+parts_here d place x n ids h lt is_id is_node is_ids deps children versions declares tells place_is =
     let r = resolved_view d in
     let long = nodes_long d h in
     let nodes = d.ids.now.nodes.items in
-    let lists = d.ids.now.deps.items in
     let here = node_seen d place n lt is_node in
     let at = node_here r nodes place x.parent.now h.ids.nodes (slice_get_read nodes (length nodes) place x.parent.now refl (subst (λ (m : ℕ). place < m) long.0 lt) is_id) in
     let same : at.node ≡ node_view n = same_Some at.node (node_view n) (sym at.at ∙ here) in
-    let items : Vec Identity → List Identity = λ v. v.items in
-    let list = slice_get-map items lists place ∙ ap (option_map items) (slice_get_read lists (length lists) place ids refl (subst (λ (m : ℕ). place < m) long.2 lt) is_ids) in
-    let whole = dep_ids_here r.graph (map items lists) place (node_view n) ids.items h.ids.deps here list in
+    let whole = dep_ids_here r.graph (kids_in d.ids.now.deps) place (node_view n) ids.items h.ids.deps here (ids_there d place ids h lt is_ids) in
     record {
       at = at;
       has_node = record { among = contains_at r.graph.nodes place at.node at.at; id = at.id };
       deps = ap (λ (m : NodeModel). m.deps) same ∙ ap (map node_dep_view) (sym deps);
       children = subst (λ (m : NodeModel). AreDepIds m x.children.now) (sym same) (subst (AreDepIds (node_view n)) (sym children) whole);
+      versions = versions;
       declares = declares;
       tells = tells;
       place_is = place_is;
@@ -101,6 +126,10 @@ parts_here d place x n ids h lt is_id is_node is_ids deps children declares tell
 pub deps_long : (r : Resolved) (place : ℕ) (x : NodeParts) → AreParts r place x → length x.children.now ≡ length x.deps.now
 deps_long r place x p =
     sym (long_zip Reads (dep_texts p.at.node) x.children.now p.children.read) ∙ length-map p.at.node.deps (λ (d : NodeDepModel). d.pkg) ∙ ap length p.deps ∙ length-map x.deps.now node_dep_view
+
+-- and so has its version
+pub own_long : (r : Resolved) (place : ℕ) (x : NodeParts) → AreParts r place x → length x.versions.now ≡ length x.children.now
+own_long r place x p = sym (long_zip HasThisVersion x.children.now (map parts_of x.versions.now) p.versions ∙ length-map x.versions.now parts_of)
 
 pub dep_seen : (ds : List NodeDep) (k : ℕ) (d : NodeDep) → k < length ds → slice_get (map node_dep_view ds) k ≡ Some (node_dep_view (get_or ds k d))
 dep_seen ds k d lt = slice_get-map node_dep_view ds k ∙ ap (option_map node_dep_view) (slice_get-get_or ds k d lt)
@@ -134,8 +163,14 @@ record HasEntry (r : Resolved) (parent : Id) (child : Identity) (dep : NodeDepMo
   tells : TellsMember r parent is_member
   at : DepAt r parent (id_of child) place index
 
--- an entry of the parts of a node belongs together, and the version of its child is semantic
-pub entry_here : (r : Resolved) (place : ℕ) (x : NodeParts) (k : ℕ) (y : NodeEntry) → AreParts r place x → IsEntryOf x k y → IsEntry r y × HasVersion y.child.now
+-- the version of an entry is that of its child
+version_here : (r : Resolved) (place : ℕ) (x : NodeParts) (k : ℕ) (y : NodeEntry) → AreParts r place x → IsEntryOf x k y → HasItsVersion y
+version_here r place x k y p e =
+    let version = slice_get-map parts_of x.versions.now k ∙ ap (option_map parts_of) e.version in
+    zip_at HasThisVersion x.children.now (map parts_of x.versions.now) k y.child.now (parts_of y.version.now) p.versions e.child version
+
+-- an entry of the parts of a node belongs together
+pub entry_here : (r : Resolved) (place : ℕ) (x : NodeParts) (k : ℕ) (y : NodeEntry) → AreParts r place x → IsEntryOf x k y → IsEntry r y
 entry_here r place x k y p e =
     let dep = slice_get-map node_dep_view x.deps.now k ∙ ap (option_map node_dep_view) e.dep in
     let here : HasEntry r (id_of x.parent.now) y.child.now (node_dep_view y.dep.now) (map dependency_view x.declared.now) x.is_member x.place k = record {
@@ -151,7 +186,7 @@ entry_here r place x k y p e =
     let of_member = subst (λ (b : Bool). HasEntry r (id_of y.parent.now) y.child.now (node_dep_view y.dep.now) (map dependency_view y.declared.now) b x.place k) (sym e.is_member) of_declared in
     let of_place = subst (λ (n : ℕ). HasEntry r (id_of y.parent.now) y.child.now (node_dep_view y.dep.now) (map dependency_view y.declared.now) y.is_member n k) (sym e.place) of_member in
     let whole = subst (λ (n : ℕ). HasEntry r (id_of y.parent.now) y.child.now (node_dep_view y.dep.now) (map dependency_view y.declared.now) y.is_member y.place n) (sym e.index) of_place in
-    (record { node = whole.node; has_node = whole.has_node; has_dep = whole.has_dep; declares = whole.declares; tells = whole.tells; at = whole.at }, has_version_here p.at.node x.children.now k y.child.now p.children e.child)
+    record { node = whole.node; has_node = whole.has_node; has_dep = whole.has_dep; version = version_here r place x k y p e; declares = whole.declares; tells = whole.tells; at = whole.at }
 
 -- within a vector's items is within the vector
 pub within_vec : {A : Type 0} (v : Vec A) (k : ℕ) → k < length v.items → k < vec_len v

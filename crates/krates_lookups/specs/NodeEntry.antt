@@ -1,12 +1,12 @@
 -- The node of a kept crate, and each of its dependencies together with what its package declares.
+use Rattle.std.specs.List.{AllZip}
 use Rattle.std.specs.Prelude.{◌≡◌, ℕ, Contains, List, Some, map, slice_get}
 use Rattle.semver.specs.Identifiers.{parts_of}
-use Rattle.krates_cm.specs.Names.{version_named}
 use Rattle.krates_cm.specs.Document.{DependencyModel, DepKindInfoModel, NodeModel, PackageModel, dep_kind_info_view, node_dep_view, dependency_view}
 use Rattle.krates_cm.specs.declared.resolve.DepKindInfo.{DepKindInfo}
 use Rattle.krates_document.specs.DeclaredPlaces.{AreDeclaredPlaces}
 use Rattle.krates_document.specs.declared.named_places.NamedPlace.{NamedPlace}
-use Rattle.krates_rules.specs.Admission.{AreDepIds}
+use Rattle.krates_rules.specs.Admission.{AreDepIds, HasThisVersion}
 use Rattle.krates_rules.specs.Facts.{Id, Edge}
 use Rattle.krates_rules.specs.Resolved.{DepAt, NodeAt, Resolved, id_of, HasPackage, HasNode, HasDep}
 use Rattle.krates_lookups.specs.Lookup.{TellsMember}
@@ -27,6 +27,7 @@ pub record AreParts (r : Resolved) (place : ℕ) (x : NodeParts) : Type 0 where
   pub has_node : HasNode r (id_of x.parent.now) at.node
   pub deps : at.node.deps ≡ map node_dep_view x.deps.now
   pub children : AreDepIds at.node x.children.now
+  pub versions : AllZip HasThisVersion x.children.now (map parts_of x.versions.now)
   pub declares : AreDeclaredBy r (id_of x.parent.now) (map dependency_view x.declared.now)
   pub tells : TellsMember r (id_of x.parent.now) x.is_member
   pub place_is : x.place ≡ place
@@ -47,11 +48,16 @@ declared_in x = map dependency_view x.declared.now
 abbrev pub entry_of : NodeEntry → DependencyEntry
 entry_of x = dependency_entry (child_of x) (node_dep_view x.dep.now)
 
+-- the version is that of the crate that is depended on
+abbrev pub HasItsVersion : NodeEntry → Type 0
+HasItsVersion x = HasThisVersion x.child.now (parts_of x.version.now)
+
 -- the parts of an entry are consistent
 pub record IsEntry (r : Resolved) (x : NodeEntry) : Type 0 where
   pub node : NodeModel
   pub has_node : HasNode r (parent_of x) node
   pub has_dep : HasDep node (child_of x) (node_dep_view x.dep.now)
+  pub version : HasItsVersion x
   pub declares : AreDeclaredBy r (parent_of x) (declared_in x)
   pub tells : TellsMember r (parent_of x) x.is_member
   pub at : DepAt r (parent_of x) (child_of x) x.place x.index
@@ -62,6 +68,7 @@ pub record IsEntryOf (parts : NodeParts) (at : ℕ) (x : NodeEntry) : Type 0 whe
   pub declared : x.declared.now ≡ parts.declared.now
   pub dep : slice_get parts.deps.now at ≡ Some x.dep.now
   pub child : slice_get parts.children.now at ≡ Some x.child.now
+  pub version : slice_get parts.versions.now at ≡ Some x.version.now
   pub place : x.place ≡ parts.place
   pub index : x.index ≡ at
   pub is_member : x.is_member ≡ parts.is_member
@@ -72,10 +79,6 @@ edge_for x k = edge_between (parent_of x) (child_of x) k
 
 abbrev pub edge_of : EntryEdge → Edge
 edge_of x = edge_for x.entry.now (dep_kind_info_view x.info.now)
-
--- the version is that of the crate that is depended on
-abbrev pub HasItsVersion : EntryEdge → Type 0
-HasItsVersion x = version_named x.entry.now.child.now.version ≡ Some (parts_of x.version.now)
 
 -- what the package of the crate declares stands there by name
 abbrev pub TellsDeclaredPlaces : Resolved → Id → List NamedPlace → Type 0

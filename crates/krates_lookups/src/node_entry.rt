@@ -26,6 +26,8 @@ pub struct NodeEntry<'a> {
     pub dep: &'a NodeDep,
     /// The crate that is depended on.
     pub child: &'a Kid,
+    /// The version of its id.
+    pub version: &'a Version,
     /// The place of the node.
     pub place: usize,
     /// The place of the dependency among those of the node.
@@ -41,8 +43,6 @@ pub struct EntryEdge<'a, 's> {
     pub entry: &'s NodeEntry<'a>,
     /// The kind and target.
     pub info: &'s DepKindInfo,
-    /// The version of the crate that is depended on.
-    pub version: &'s Version,
     /// Where what the package of the kept crate declares stands by name.
     pub places: &'s [NamedPlace<'a>],
 }
@@ -58,6 +58,8 @@ pub struct NodeParts<'a> {
     pub deps: &'a [NodeDep],
     /// Their ids.
     pub children: &'a [Kid],
+    /// The versions of these.
+    pub versions: &'a [Version],
     /// The place of the node.
     pub place: usize,
     /// Whether the kept crate is a member of the workspace.
@@ -77,6 +79,7 @@ pub fn parts_of<'a>(lookup: &Lookup<'a>, place: usize) -> NodeParts<'a>
         declared: declared_by(lookup, number),
         deps: &lookup.resolve.nodes[place].deps,
         children: &lookup.ids.deps[place],
+        versions: &lookup.ids.versions[place],
         place,
         is_member: is_member_at(lookup, number),
     }
@@ -85,6 +88,7 @@ pub fn parts_of<'a>(lookup: &Lookup<'a>, place: usize) -> NodeParts<'a>
 /// The dependency of a node at a place. Time O(1).
 pub fn entry_at<'a>(parts: &NodeParts<'a>, index: usize) -> NodeEntry<'a>
     requires lengths { length parts.now.deps.now ≡ length parts.now.children.now }
+    requires versions { length parts.now.versions.now ≡ length parts.now.children.now }
     requires within { index < length parts.now.children.now }
     ensures { IsEntryOf parts.now index result }
 {
@@ -93,6 +97,7 @@ pub fn entry_at<'a>(parts: &NodeParts<'a>, index: usize) -> NodeEntry<'a>
         declared: parts.declared,
         dep: &parts.deps[index],
         child: &parts.children[index],
+        version: &parts.versions[index],
         place: parts.place,
         index,
         is_member: parts.is_member,

@@ -63,10 +63,8 @@ no_dep_told once r parent child x none of absent n d has dep =
 -- the entry at the child's place is the one between the two crates
 pub entry_told : (r : Resolved) (parent child : Id) (x : NodeParts) (k : ℕ) (y : NodeEntry) → ArePartsOf r parent x → StandsAt x.children.now child k → IsEntryOf x k y → IsEntryBetween r parent child y
 entry_told r parent child x k y of s e =
-    let here = entry_here r x.place x k y of.parts e in
     record {
-      entry = here.0;
-      version = here.1;
+      entry = entry_here r x.place x k y of.parts e;
       parent = ap id_of e.parent ∙ of.parent;
       child = ap id_of (same_Some y.child.now s.there (sym e.child ∙ s.at)) ∙ s.same;
     }

@@ -4,7 +4,6 @@ use Rattle.std.specs.Borrow.{Bor}
 use Rattle.std.specs.Global.{Vec}
 use Rattle.krates_cm.specs.Document.{DependencyModel, DepKindInfoModel, NodeDepModel, NodeModel, node_dep_view}
 use Rattle.krates_ids.specs.Identity.{Identity}
-use Rattle.krates_rules.specs.Admission.{HasVersion}
 use Rattle.krates_rules.specs.DeclaredDependency.{IsDeclared, IsUndeclared}
 use Rattle.krates_rules.specs.Facts.{Id}
 use Rattle.krates_rules.specs.Roots.{IsRoot}
@@ -29,10 +28,9 @@ TellsParts r i answer = MatchOption answer (NoNode r i) (ArePartsOf r i)
 abbrev pub NoDep : Resolved → Id → Id → Type 0
 NoDep r p c = (n : NodeModel) (d : NodeDepModel) → HasNode r p n → HasDep n c d → ⊥
 
--- this is the dependency of the parent's node on the child, whose version is semantic
+-- this is the dependency of the parent's node on the child
 pub record IsEntryBetween (r : Resolved) (p c : Id) (x : NodeEntry) : Type 0 where
   pub entry : IsEntry r x
-  pub version : HasVersion x.child.now
   pub parent : parent_of x ≡ p
   pub child : child_of x ≡ c
 

@@ -8,7 +8,6 @@ ghost use Rattle.krates_questions.specs.Basis.{document_of};
 ghost use Rattle.krates_questions.specs.DocumentModel.{as_resolved};
 ghost use Rattle.krates_questions.specs.DocumentAnswers.{edge_asked};
 ghost use Rattle.krates_questions.specs.Need.{HasChild, ListsKind, TellsDeclaration, TellsNeed};
-ghost use Rattle.krates_rules.specs.Admission.{HasVersion};
 ghost use Rattle.krates_rules.specs.Facts.{Id};
 ghost use Rattle.krates_rules.specs.Questions.{edge_between};
 ghost use Rattle.krates_rules.specs.Referent.{IsReferent};
@@ -92,21 +91,18 @@ impl<'a> Document<'a> {
     }
 
     /// As what a dependency of a crate on another is declared, of one kind and for one target, whatever the setting; none where
-    /// it isn't.
-    ///
-    /// The only error is running out of memory. Time: as `need`.
+    /// it isn't. Time: as `declared`.
     pub fn declaration(
         &self,
-        alloc: Global,
         parent: &Kid,
         child: &Kid,
         info: &DepKindInfo,
-    ) -> Result<Option<&'a Dependency>, AllocError>
+    ) -> Option<&'a Dependency>
         ensures { let edge = edge_between (id_of parent.now) (id_of child.now)
             (dep_kind_info_view info.now) in
-            IfOk result (TellsDeclaration (as_resolved self.now) edge) }
+            TellsDeclaration (as_resolved self.now) edge result }
     {
-        declaration_in(alloc, &self.lookup, parent, child, info)
+        declaration_in(&self.lookup, parent, child, info)
     }
 }
 
@@ -190,7 +186,6 @@ fn entry_need<'a>(
 ) -> Result<Need<'a>, AllocError>
     requires lookup { IsLookup lookup.now }
     requires entry { IsEntry (resolved_view lookup.now) entry.now }
-    requires version { HasVersion entry.now.child.now }
     ensures { IfOk result (TellsNeed (resolved_view lookup.now) setting.now
         (edge_for entry.now (dep_kind_info_view info.now))) }
 {
@@ -200,8 +195,7 @@ fn entry_need<'a>(
     if setting.ignores(info.kind, entry.is_member) {
         return Ok(Need::Nothing);
     }
-    let declared = declared_for(alloc, lookup, entry, info)?;
-    let Some(place) = declared else {
+    let Some(place) = declared_for(lookup, entry, info) else {
         return Ok(Need::Undeclared);
     };
     let passes = setting.passes(alloc, &info.target)?;
@@ -213,38 +207,34 @@ fn entry_need<'a>(
 
 /// As what an edge between two crates is declared.
 fn declaration_in<'a>(
-    alloc: Global,
     lookup: &Lookup<'a>,
     parent: &Kid,
     child: &Kid,
     info: &DepKindInfo,
-) -> Result<Option<&'a Dependency>, AllocError>
+) -> Option<&'a Dependency>
     requires { IsLookup lookup.now }
     ensures { let edge = edge_asked parent.now child.now info.now in
-        IfOk result (TellsDeclaration (resolved_view lookup.now) edge) }
+        TellsDeclaration (resolved_view lookup.now) edge result }
 {
     match entry_between(lookup, parent, child) {
-        Some(entry) => entry_declaration(alloc, lookup, &entry, info),
-        None => Ok(None),
+        Some(entry) => entry_declaration(lookup, &entry, info),
+        None => None,
     }
 }
 
 /// As what an edge of an entry is declared.
 fn entry_declaration<'a>(
-    alloc: Global,
     lookup: &Lookup<'a>,
     entry: &NodeEntry<'a>,
     info: &DepKindInfo,
-) -> Result<Option<&'a Dependency>, AllocError>
+) -> Option<&'a Dependency>
     requires lookup { IsLookup lookup.now }
     requires entry { IsEntry (resolved_view lookup.now) entry.now }
-    requires version { HasVersion entry.now.child.now }
-    ensures { IfOk result (TellsDeclaration (resolved_view lookup.now)
-        (edge_for entry.now (dep_kind_info_view info.now))) }
+    ensures { let edge = edge_for entry.now (dep_kind_info_view info.now) in
+        TellsDeclaration (resolved_view lookup.now) edge result }
 {
-    let declared = declared_for(alloc, lookup, entry, info)?;
-    let Some(place) = declared else {
-        return Ok(None);
+    let Some(place) = declared_for(lookup, entry, info) else {
+        return None;
     };
-    Ok(Some(declared_at(entry, place)))
+    Some(declared_at(entry, place))
 }

@@ -3,7 +3,7 @@
 ghost use Rattle.std.specs.Prelude.{◌≡◌, ◌↔◌, ◌∷◌, [], All, Contains, IfOk, IsTrue, map};
 ghost use Rattle.krates_questions.specs.Basis.{document_of};
 ghost use Rattle.krates_cm.specs.Document.{dep_kind_info_view, metadata_view, node_dep_view};
-ghost use Rattle.krates_rules.specs.Admission.{HasVersion, IsAdmitted};
+ghost use Rattle.krates_rules.specs.Admission.{IsAdmitted};
 ghost use Rattle.krates_questions.specs.DocumentModel.{IsDocumentOf, as_resolved};
 ghost use Rattle.krates_document.specs.Ids.{ids_view};
 ghost use Rattle.krates_lookups.specs.Lookup.{IsLookup, resolved_view};
@@ -23,7 +23,7 @@ use crate::referent::{Referent, referent_of, referents_of};
 use crate::root_choice::{RootChoice, choice_of, is_root};
 use crate::standing::{Standing, standing_of};
 use krates_cm::{DepKindInfo, Metadata, NodeDep};
-use krates_document::declared_dependency::{Sought, declared_of, version_of};
+use krates_document::declared_dependency::{Sought, declared_of};
 use krates_document::ids::Ids;
 use krates_document::named_places::{NamedPlace, places_under};
 use krates_document::setting::Setting;
@@ -137,20 +137,13 @@ impl<'a> Document<'a> {
     ///
     /// A declared dependency fits where kind, target, name and version do. Where several fit, it is the first of them
     /// whose source is that of the other crate. None where the crate's node doesn't list the dependency of this kind
-    /// and target, where none fits, and where several fit and none of them has the source.
-    ///
-    /// The only error is running out of memory. Time: as `need`.
-    pub fn declared(
-        &self,
-        alloc: Global,
-        parent: &Kid,
-        child: &Kid,
-        info: &DepKindInfo,
-    ) -> Result<Option<usize>, AllocError>
+    /// and target, where none fits, and where several fit and none of them has the source. Time: as `kinds`, and the
+    /// dependencies that the package declares under the names of the other.
+    pub fn declared(&self, parent: &Kid, child: &Kid, info: &DepKindInfo) -> Option<usize>
         ensures { let edge = edge_asked parent.now child.now info.now in
-            IfOk result (TellsDeclaredPlace (as_resolved self.now) edge) }
+            TellsDeclaredPlace (as_resolved self.now) edge result }
     {
-        declared_in(alloc, &self.lookup, parent, child, info)
+        declared_in(&self.lookup, parent, child, info)
     }
 
     /// Whether a crate's dependency on another, of one kind and for one target, may be kept under a setting: the crate's node
@@ -314,19 +307,18 @@ fn root_members<'a>(
 
 /// The place of the declared dependency of an edge between two crates.
 fn declared_in<'a>(
-    alloc: Global,
     lookup: &Lookup<'a>,
     parent: &Kid,
     child: &Kid,
     info: &DepKindInfo,
-) -> Result<Option<usize>, AllocError>
+) -> Option<usize>
     requires { IsLookup lookup.now }
     ensures { let edge = edge_asked parent.now child.now info.now in
-        IfOk result (TellsDeclaredPlace (resolved_view lookup.now) edge) }
+        TellsDeclaredPlace (resolved_view lookup.now) edge result }
 {
     match entry_between(lookup, parent, child) {
-        Some(entry) => declared_for(alloc, lookup, &entry, info),
-        None => Ok(None),
+        Some(entry) => declared_for(lookup, &entry, info),
+        None => None,
     }
 }
 
@@ -351,30 +343,25 @@ pub(crate) fn entry_between<'a>(
 
 /// The place of the declared dependency of an entry, of a kind and for a target that it lists.
 pub(crate) fn declared_for<'a>(
-    alloc: Global,
     lookup: &Lookup<'a>,
     entry: &NodeEntry<'a>,
     info: &DepKindInfo,
-) -> Result<Option<usize>, AllocError>
+) -> Option<usize>
     requires lookup { IsLookup lookup.now }
     requires entry { IsEntry (resolved_view lookup.now) entry.now }
-    requires version { HasVersion entry.now.child.now }
-    ensures { IfOk result (TellsDeclared entry.now (dep_kind_info_view info.now)) }
+    ensures { TellsDeclared entry.now (dep_kind_info_view info.now) result }
 {
     if !lists(entry.dep, info) {
-        return Ok(None);
+        return None;
     }
-    let Some(version) = version_of(alloc, entry.child)? else {
-        unreachable!()
-    };
     let sought = Sought {
         dep: entry.dep,
         kid: entry.child,
-        version: &version,
+        version: entry.version,
         info,
     };
     let places = declared_places(lookup, entry.parent);
-    Ok(declared_of(entry.declared, places, &sought))
+    declared_of(entry.declared, places, &sought)
 }
 
 /// Whether the dependency of a node lists this kind and target.
@@ -416,15 +403,13 @@ fn is_entry_open<'a>(
 ) -> Result<bool, AllocError>
     requires lookup { IsLookup lookup.now }
     requires entry { IsEntry (resolved_view lookup.now) entry.now }
-    requires version { HasVersion entry.now.child.now }
     ensures { let edge = edge_for entry.now (dep_kind_info_view info.now) in
         IfOk result (λ b. IsTrue b ↔ IsOpenAs (resolved_view lookup.now) setting.now edge) }
 {
     if setting.ignores(info.kind, entry.is_member) {
         return Ok(false);
     }
-    let declared = declared_for(alloc, lookup, entry, info)?;
-    let Some(_) = declared else {
+    let Some(_) = declared_for(lookup, entry, info) else {
         return Ok(false);
     };
     let passes = setting.passes(alloc, &info.target)?;

@@ -132,7 +132,7 @@ dep_of_entry r parts y index e is =
 pub tried_at : ReadsOnce → (r : Resolved) (s : SettingModel) (x : Found) (parts : NodeParts) (y : NodeEntry) (index : ℕ) (e : Edge) → NoneDoubled r.metadata r.graph → AreParts r parts.place parts → IsEntryOf parts index y
     → AreTried r s x (parent_of y) (child_of y) (node_dep_view y.dep.now) IsAny → DepAt r e.parent e.child parts.place index → IsTried r s x e IsAny
 tried_at once r s x parts y index e none p of tried there =
-    let is = (entry_here r parts.place parts index y p of).0 in
+    let is = entry_here r parts.place parts index y p of in
     let same = one_way once r (id_of parts.parent.now) (child_of y) e.parent e.child parts.place index (dep_of_entry r parts y index of is) there in
     entry_tried r s x y e none is (ap id_of of.parent ∙ same.0) same.1 tried
 

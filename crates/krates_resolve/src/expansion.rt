@@ -2,11 +2,9 @@
 
 ghost use Rattle.krates_questions.specs.Basis.{HasEntry, Refuses};
 ghost use Rattle.krates_resolve.specs.Basis.{FindsEdge, HasExpandedTaken, HasKrateStep, HasStanding, HasTried, HasTriedEntry, IsRight, MayKeep, Moves};
-ghost use Rattle.krates_lookups.specs.NodeEntry.{HasItsPlaces, HasItsVersion, IsListedEdge, edge_for, edge_of};
+ghost use Rattle.krates_lookups.specs.NodeEntry.{HasItsPlaces, IsListedEdge, edge_for, edge_of};
 ghost use Rattle.std.specs.Prelude.{◌≡◌, ◌<◌, IfErr, IfOk, OnOk, Some, Contains, true};
-ghost use Rattle.semver.specs.Identifiers.{parts_of};
 ghost use Rattle.krates_cm.specs.Document.{DepKindInfoModel};
-ghost use Rattle.krates_rules.specs.Admission.{HasVersion};
 ghost use Rattle.krates_resolve.specs.Found.{IsAny, TakenWhen};
 ghost use Rattle.krates_resolve.specs.Kinds.{IsFirstOf};
 ghost use Rattle.krates_lookups.specs.Lookup.{IsLookup};
@@ -15,7 +13,7 @@ use crate::enabling::{Keeping, keep};
 use crate::found::Found;
 use crate::kinds::{first_kinds, info_at};
 use crate::trace::Reason;
-use krates_document::declared_dependency::{Sought, declared_of, version_of};
+use krates_document::declared_dependency::{Sought, declared_of};
 use krates_graph::agenda::Taken;
 use krates_ids::{Error, Lost, laws};
 use krates_lookups::node_entry::{EntryEdge, NodeEntry, entry_at, parts_of, places_for};
@@ -75,7 +73,6 @@ pub(crate) fn expand_entry<'a>(
 ) -> Result<(), Error>
     requires lookup { IsLookup basis.now.lookup.now }
     requires entry { HasEntry basis.now entry.now }
-    requires version { HasVersion entry.now.child.now }
     requires sound { IsRight basis.now found.old }
     requires may { (k : DepKindInfoModel) → MayKeep basis.now (edge_for entry.now k) (TakenWhen asked) }
     requires step { (k : DepKindInfoModel)
@@ -85,9 +82,6 @@ pub(crate) fn expand_entry<'a>(
     ensures refused { IfErr result (Refuses basis.now) }
 {
     laws::one_reading();
-    let Some(version) = version_of(basis.alloc, entry.child)? else {
-        unreachable!()
-    };
     let places = places_for(basis.lookup, entry);
     let standing = standing_of_child(basis.lookup, basis.setting, entry);
     let infos = entry.dep.dep_kinds.as_slice();
@@ -97,7 +91,6 @@ pub(crate) fn expand_entry<'a>(
         let edge = EntryEdge {
             entry,
             info: info_at(infos, *kind),
-            version: &version,
             places,
         };
         let trial = Trial {
@@ -127,7 +120,6 @@ fn expand_edge<'a>(
 ) -> Result<bool, Error>
     requires lookup { IsLookup basis.now.lookup.now }
     requires entry { HasEntry basis.now edge.now.entry.now }
-    requires version { HasItsVersion edge.now }
     requires places { HasItsPlaces edge.now }
     requires listed { IsListedEdge edge.now }
     requires first { IsFirstOf edge.now trial.now.kind }
@@ -149,7 +141,7 @@ fn expand_edge<'a>(
     let sought = Sought {
         dep: entry.dep,
         kid: entry.child,
-        version: edge.version,
+        version: entry.version,
         info,
     };
     let Some(declared) = declared_of(entry.declared, edge.places, &sought) else {

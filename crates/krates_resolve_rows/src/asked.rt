@@ -83,7 +83,7 @@ fn roots(alloc: Global, asked: &Document<'_>, setting: &Setting) -> Result<Strin
 /// The place of the declared dependency of an edge.
 fn declared(alloc: Global, asked: &Document<'_>, words: &str) -> Result<String, Fail> {
     let edge = edge_of(alloc, words)?;
-    let place = asked.declared(alloc, &edge.parent, &edge.child, &edge.info)?;
+    let place = asked.declared(&edge.parent, &edge.child, &edge.info);
     Ok(format!(in alloc; "{place:?}")?)
 }
 

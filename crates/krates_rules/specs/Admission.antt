@@ -2,7 +2,7 @@
 -- doubled (Cargo Book, "cargo metadata", "JSON format").
 use Rattle.std.specs.Prelude.{◌≡◌, ℕ, ◌<◌, List, Option, Some, None, map, Contains, slice_get, MatchOption, IsSomeAnd}
 use Rattle.std.specs.List.{AllZip, AllByRecursion}
-use Rattle.krates_cm.specs.Document.{Text, NodeModel, ResolveModel, MetadataModel}
+use Rattle.krates_cm.specs.Document.{Text, VersionModel, NodeModel, ResolveModel, MetadataModel}
 use Rattle.krates_cm.specs.Names.{version_named}
 use Rattle.krates_ids.specs.Identity.{Identity, Reads}
 use Rattle.krates_rules.specs.Facts.{Id}
@@ -28,6 +28,10 @@ dep_texts n = map (λ d. d.pkg) n.deps
 abbrev pub HasVersion : Identity → Type 0
 HasVersion i = version_named i.version ≡ None → ⊥
 
+-- this is the version of the id, read
+abbrev pub HasThisVersion : Identity → VersionModel → Type 0
+HasThisVersion i version = version_named i.version ≡ Some version
+
 -- these are the ids of the node's dependencies, and their versions are semantic
 pub record AreDepIds (n : NodeModel) (ids : List Identity) : Type 0 where
   pub read : AllZip Reads (dep_texts n) ids
@@ -45,6 +49,8 @@ pub record IdsModel : Type 0 where
   pub nodes : List Identity
   -- those of the dependencies of each node
   pub deps : List (List Identity)
+  -- the versions of these, read
+  pub versions : List (List VersionModel)
 
 -- these are the ids of the document, place by place
 pub record AreIdsOf (m : MetadataModel) (g : ResolveModel) (ids : IdsModel) : Type 0 where
@@ -53,6 +59,7 @@ pub record AreIdsOf (m : MetadataModel) (g : ResolveModel) (ids : IdsModel) : Ty
   pub root : IsRootId g.root ids.root
   pub nodes : AllZip Reads (node_texts g) ids.nodes
   pub deps : AllZip AreDepIds g.nodes ids.deps
+  pub versions : AllZip (AllZip HasThisVersion) ids.deps ids.versions
 
 -- ---- texts that don't read
 

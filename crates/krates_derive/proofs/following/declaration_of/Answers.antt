@@ -1,4 +1,4 @@
-use Rattle.std.proofs.Common.{subst, IfOk}
+use Rattle.std.proofs.Common.{subst}
 use Rattle.krates_cm.specs.Document.{DepKindInfoModel}
 use Rattle.krates_questions.specs.DocumentModel.{as_resolved}
 use Rattle.krates_questions.specs.Need.{TellsDeclaration}
@@ -9,4 +9,4 @@ use Rattle.krates_derive.proofs.following.declaration_of.Goals as goal
 pub returns : goal.returns
 returns c =
     let e = c.args.edge.now in
-    subst (λ (k : DepKindInfoModel). IfOk c.declaration.result (TellsDeclaration (as_resolved c.args.document.now) (edge_between (id_of e.parent.now) (id_of e.child.now) k))) c.in_ok-info.ensures c.declaration.ensures
+    subst (λ (k : DepKindInfoModel). TellsDeclaration (as_resolved c.args.document.now) (edge_between (id_of e.parent.now) (id_of e.child.now) k) c.declaration.result) c.in_ok-info.ensures c.declaration.ensures

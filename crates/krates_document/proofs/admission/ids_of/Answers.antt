@@ -7,6 +7,7 @@ use Rattle.krates_cm.specs.declared.package.Package.{Package}
 use Rattle.krates_ids.specs.Identity.{Reads}
 use Rattle.krates_rules.specs.Admission.{AreDepIds, package_texts, node_texts, of_package, of_node}
 use Rattle.krates_document.specs.AdmissionSteps.{UnreadRefusal, InvalidNodeRefusal}
+use Rattle.krates_document.specs.Ids.{kids_in}
 use Rattle.krates_document.proofs.AdmissionLemmas.{package_texts_of, node_texts_of, unread_bad, node_bad}
 use Rattle.krates_document.proofs.admission.ids_of.Goals as goal
 
@@ -44,5 +45,6 @@ returns-clause-read c =
       members = subst (λ (ts : List Text). AllZip Reads ts c.in_ok-members.members.items) (ap (map id_view) c.deref-2.ensures.value) c.in_ok-members.ensures.read;
       root = c.in_ok-root.ensures.read;
       nodes = subst (λ (ts : List Text). AllZip Reads ts c.in_ok-nodes.nodes.items) nodes c.in_ok-nodes.ensures.read;
-      deps = subst (λ (ns : List NodeModel). AllZip AreDepIds ns (map (λ kids. kids.items) c.in_ok-deps.deps.items)) (ap (map node_view) c.deref-4.ensures.value) c.in_ok-deps.ensures.read;
+      deps = subst (λ (ns : List NodeModel). AllZip AreDepIds ns (kids_in c.in_ok-deps.deps.kids)) (ap (map node_view) c.deref-4.ensures.value) c.in_ok-deps.ensures.read;
+      versions = c.in_ok-deps.ensures.versions;
     }

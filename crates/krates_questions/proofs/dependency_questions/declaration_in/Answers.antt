@@ -1,4 +1,3 @@
-use Rattle.std.proofs.lemmas.Result.{IfOk-weaker}
 use Rattle.krates_cm.specs.Document.{dep_kind_info_view}
 use Rattle.krates_lookups.specs.Lookup.{resolved_view}
 use Rattle.krates_questions.specs.Need.{TellsDeclaration}
@@ -9,8 +8,7 @@ use Rattle.krates_questions.proofs.dependency_questions.declaration_in.Goals as 
 pub returns-in-Some : goal.returns-in-Some
 returns-in-Some c =
     let r = resolved_view c.args.lookup.now in
-    IfOk-weaker c.entry_declaration.result _ _ (λ answer told.
-    between (λ e. TellsDeclaration r e answer) r (id_of c.args.parent.now) (id_of c.args.child.now) c.in-Some.entry (dep_kind_info_view c.args.info.now) c.in-Some.ensures told) c.entry_declaration.ensures
+    between (λ e. TellsDeclaration r e c.entry_declaration.result) r (id_of c.args.parent.now) (id_of c.args.child.now) c.in-Some.entry (dep_kind_info_view c.args.info.now) c.in-Some.ensures c.entry_declaration.ensures
 
 pub returns-in-None : goal.returns-in-None
 returns-in-None c d h = undeclared_without (resolved_view c.args.lookup.now) (id_of c.args.parent.now) (id_of c.args.child.now) (dep_kind_info_view c.args.info.now) c.in-None.ensures h.0 d h.1

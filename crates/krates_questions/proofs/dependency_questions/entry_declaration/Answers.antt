@@ -1,7 +1,6 @@
-use Rattle.std.proofs.Common.{None, subst}
+use Rattle.std.proofs.Common.{None}
 use Rattle.krates_cm.specs.Document.{dep_kind_info_view}
 use Rattle.krates_lookups.specs.Lookup.{resolved_view}
-use Rattle.krates_questions.specs.LookedUp.{TellsDeclared}
 use Rattle.krates_questions.proofs.Asked.{declared_told}
 use Rattle.krates_questions.proofs.Needs.{declaration_here, declared_below}
 use Rattle.krates_questions.proofs.dependency_questions.entry_declaration.Goals as goal
@@ -11,17 +10,17 @@ returns-in_default c d h =
     let r = resolved_view c.args.lookup.now in
     let x = c.args.entry.now in
     let k = dep_kind_info_view c.args.info.now in
-    declared_told r x k None c.requires.lookup.distinct c.requires.entry (subst (TellsDeclared x k) c.in_default.is c.in_ok-declared.ensures) h.0 d h.1
+    declared_told r x k None c.requires.lookup.distinct c.requires.entry c.in_default.ensures h.0 d h.1
 
 pub declared_at-requires : goal.declared_at-requires
 declared_at-requires c =
     let k = dep_kind_info_view c.args.info.now in
-    let told = subst (TellsDeclared c.args.entry.now k) c.in-Some.is c.in_ok-declared.ensures in
+    let told = c.in-Some.ensures in
     declared_below c.args.entry.now k c.in-Some.place told.dependency told.declared
 
 pub returns : goal.returns
 returns c =
     let x = c.args.entry.now in
     let k = dep_kind_info_view c.args.info.now in
-    let told = subst (TellsDeclared x k) c.in-Some.is c.in_ok-declared.ensures in
+    let told = c.in-Some.ensures in
     declaration_here (resolved_view c.args.lookup.now) x k c.in-Some.place c.declared_at.result.now c.requires.lookup.distinct c.requires.entry told c.declared_at.ensures

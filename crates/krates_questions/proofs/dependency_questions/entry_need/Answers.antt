@@ -1,7 +1,5 @@
-use Rattle.std.proofs.Common.{subst}
 use Rattle.krates_cm.specs.Document.{dep_kind_info_view}
 use Rattle.krates_lookups.specs.Lookup.{resolved_view}
-use Rattle.krates_questions.specs.LookedUp.{TellsDeclared}
 use Rattle.krates_questions.proofs.Entries.{heeds}
 use Rattle.krates_questions.proofs.Needs.{unlisted_need, undeclared_need, barred_need, wanted_need, wanted_here, declared_below}
 use Rattle.krates_questions.proofs.dependency_questions.entry_need.Goals as goal
@@ -17,20 +15,20 @@ returns-in_default c =
     let k = dep_kind_info_view c.args.info.now in
     let among = c.lists.ensures.0 c.if-not-lists.false in
     let h = heeds r c.args.setting.now c.args.entry.now k c.requires.entry among c.ignores.result c.ignores.ensures c.if-ignores.false in
-    let none = subst (TellsDeclared c.args.entry.now k) c.in_default.is c.in_ok-declared.ensures in
+    let none = c.in_default.ensures in
     undeclared_need r c.args.setting.now c.args.entry.now k c.requires.lookup.distinct h (none among)
 
 pub returns-then-not-passes : goal.returns-then-not-passes
 returns-then-not-passes c =
     let k = dep_kind_info_view c.args.info.now in
-    let told = subst (TellsDeclared c.args.entry.now k) c.in-Some.is c.in_ok-declared.ensures in
+    let told = c.in-Some.ensures in
     barred_need (resolved_view c.args.lookup.now) c.args.setting.now c.args.entry.now k c.in-Some.place told.dependency c.requires.lookup.distinct c.requires.entry told.declared
     (λ p. absurd (cc (c.in_ok-passes.ensures.1 p, c.if-not-passes.true)))
 
 pub declared_at-requires : goal.declared_at-requires
 declared_at-requires c =
     let k = dep_kind_info_view c.args.info.now in
-    let told = subst (TellsDeclared c.args.entry.now k) c.in-Some.is c.in_ok-declared.ensures in
+    let told = c.in-Some.ensures in
     declared_below c.args.entry.now k c.in-Some.place told.dependency told.declared
 
 pub returns : goal.returns
@@ -39,7 +37,7 @@ returns c =
     let s = c.args.setting.now in
     let x = c.args.entry.now in
     let k = dep_kind_info_view c.args.info.now in
-    let told = subst (TellsDeclared x k) c.in-Some.is c.in_ok-declared.ensures in
+    let told = c.in-Some.ensures in
     let d = told.dependency in
     let h = heeds r s x k c.requires.entry (c.lists.ensures.0 c.if-not-lists.false) c.ignores.result c.ignores.ensures c.if-ignores.false in
     let w = wanted_need r s x k c.in-Some.place d c.requires.lookup.distinct h told.declared (c.in_ok-passes.ensures.0 c.if-not-passes.false) in

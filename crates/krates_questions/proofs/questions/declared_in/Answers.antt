@@ -1,5 +1,4 @@
 use Rattle.std.proofs.Common.{ℕ, MatchOption}
-use Rattle.std.proofs.lemmas.Result.{IfOk-weaker}
 use Rattle.krates_cm.specs.Document.{DependencyModel, dep_kind_info_view}
 use Rattle.krates_rules.specs.Questions.{Declares}
 use Rattle.krates_rules.specs.Facts.{Edge}
@@ -17,9 +16,9 @@ returns-in-Some c =
     let x = c.in-Some.entry in
     let k = dep_kind_info_view c.args.info.now in
     let b = c.in-Some.ensures in
-    IfOk-weaker c.declared_for.result _ _ (λ answer told.
+    let answer = c.declared_for.result in
     between (λ (e : Edge). MatchOption answer ((place : ℕ) (d : DependencyModel) → Declares r e place d → ⊥) (λ place. (d : DependencyModel) × Declares r e place d)) r (id_of c.args.parent.now) (id_of c.args.child.now) x k b
-    (declared_told r x k answer c.requires.distinct b.entry told)) c.declared_for.ensures
+    (declared_told r x k answer c.requires.distinct b.entry c.declared_for.ensures)
 
 pub returns-in-None : goal.returns-in-None
 returns-in-None c = undeclared_without (resolved_view c.args.lookup.now) (id_of c.args.parent.now) (id_of c.args.child.now) (dep_kind_info_view c.args.info.now) c.in-None.ensures

@@ -2,7 +2,7 @@ use Rattle.std.proofs.Common.{sym}
 use Rattle.std.proofs.lemmas.Option.{slice_get_within}
 use Rattle.krates_lookups.specs.Lookup.{resolved_view}
 use Rattle.krates_rules.specs.Resolved.{id_of}
-use Rattle.krates_lookups.proofs.NodeParts.{deps_long}
+use Rattle.krates_lookups.proofs.NodeParts.{deps_long, own_long}
 use Rattle.krates_questions.proofs.Asked.{no_dep_told, entry_told}
 use Rattle.krates_questions.proofs.questions.entry_between.Goals as goal
 
@@ -15,6 +15,9 @@ returns-in_default-place_of_child c =
 
 pub entry_at-requires-clause-lengths : goal.entry_at-requires-clause-lengths
 entry_at-requires-clause-lengths c = sym (deps_long (resolved_view c.args.lookup.now) c.in-Some.parts.place c.in-Some.parts c.in-Some.ensures.parts)
+
+pub entry_at-requires-clause-versions : goal.entry_at-requires-clause-versions
+entry_at-requires-clause-versions c = own_long (resolved_view c.args.lookup.now) c.in-Some.parts.place c.in-Some.parts c.in-Some.ensures.parts
 
 pub entry_at-requires-clause-within : goal.entry_at-requires-clause-within
 entry_at-requires-clause-within c = slice_get_within c.in-Some.parts.children.now c.in-Some-place_of_child.index c.in-Some-place_of_child.ensures.there c.in-Some-place_of_child.ensures.at

@@ -5,7 +5,7 @@ use Rattle.krates_rules.specs.Facts.{Id}
 use Rattle.krates_lookups.specs.Lookup.{resolved_view}
 use Rattle.krates_rules.specs.Referent.{IsReferent}
 use Rattle.krates_rules.specs.Resolved.{id_of}
-use Rattle.krates_lookups.proofs.NodeParts.{deps_long}
+use Rattle.krates_lookups.proofs.NodeParts.{deps_long, own_long}
 use Rattle.krates_questions.proofs.questions.referent_in.Goals as goal
 
 pub returns-in_default : goal.returns-in_default
@@ -18,6 +18,9 @@ returns-in_default-referent_of c child is =
 
 pub entry_at-requires-clause-lengths : goal.entry_at-requires-clause-lengths
 entry_at-requires-clause-lengths c = sym (deps_long (resolved_view c.args.lookup.now) c.in-Some.parts.place c.in-Some.parts c.in-Some.ensures.parts)
+
+pub entry_at-requires-clause-versions : goal.entry_at-requires-clause-versions
+entry_at-requires-clause-versions c = own_long (resolved_view c.args.lookup.now) c.in-Some.parts.place c.in-Some.parts c.in-Some.ensures.parts
 
 pub entry_at-requires-clause-within : goal.entry_at-requires-clause-within
 entry_at-requires-clause-within c = slice_get_within c.in-Some.parts.children.now c.in-Some-referent_of.index c.in-Some-referent_of.ensures.child c.in-Some-referent_of.ensures.at

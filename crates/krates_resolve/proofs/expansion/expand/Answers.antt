@@ -14,20 +14,19 @@ use Rattle.krates_resolve.specs.Trace.{HasStep}
 use Rattle.krates_resolve.proofs.Finding.{finds_required, for_reason}
 use Rattle.krates_resolve.proofs.Growing.{advances_trans}
 use Rattle.krates_lookups.proofs.Lookups.{one_id}
-use Rattle.krates_lookups.proofs.NodeParts.{deps_long, entry_here}
+use Rattle.krates_lookups.proofs.NodeParts.{deps_long, entry_here, own_long}
 use Rattle.krates_resolve.proofs.TriedParts.{tried_more, tried_whole, expanded_here}
 use Rattle.krates_resolve.proofs.expansion.expand.Goals as goal
 
 pub entry_at-entry-requires-clause-lengths : goal.entry_at-entry-requires-clause-lengths
 entry_at-entry-requires-clause-lengths c = sym (deps_long (resolved_view c.args.basis.now.lookup.now) c.number.result c.parts_of-parts.result c.parts_of-parts.ensures)
 
+pub entry_at-entry-requires-clause-versions : goal.entry_at-entry-requires-clause-versions
+entry_at-entry-requires-clause-versions c = own_long (resolved_view c.args.basis.now.lookup.now) c.number.result c.parts_of-parts.result c.parts_of-parts.ensures
+
 pub expand_entry-requires-clause-entry : goal.expand_entry-requires-clause-entry
 expand_entry-requires-clause-entry c =
-    (entry_here (resolved_view c.args.basis.now.lookup.now) c.number.result c.parts_of-parts.result c.loop-index.index c.entry_at-entry.result c.parts_of-parts.ensures c.entry_at-entry.ensures).0
-
-pub expand_entry-requires-clause-version : goal.expand_entry-requires-clause-version
-expand_entry-requires-clause-version c =
-    (entry_here (resolved_view c.args.basis.now.lookup.now) c.number.result c.parts_of-parts.result c.loop-index.index c.entry_at-entry.result c.parts_of-parts.ensures c.entry_at-entry.ensures).1
+    entry_here (resolved_view c.args.basis.now.lookup.now) c.number.result c.parts_of-parts.result c.loop-index.index c.entry_at-entry.result c.parts_of-parts.ensures c.entry_at-entry.ensures
 
 pub expand_entry-requires-clause-may : goal.expand_entry-requires-clause-may
 expand_entry-requires-clause-may c k =

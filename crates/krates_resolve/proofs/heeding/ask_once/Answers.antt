@@ -8,7 +8,7 @@ use Rattle.krates_rules.specs.Questions.{edge_between}
 use Rattle.krates_rules.specs.Resolved.{DepAt, id_of}
 use Rattle.krates_resolve.specs.Basis.{FindsEdge}
 use Rattle.krates_resolve.proofs.Heedings.{child_dep, dep_of_entry, tried_at}
-use Rattle.krates_lookups.proofs.NodeParts.{deps_long, entry_here}
+use Rattle.krates_lookups.proofs.NodeParts.{deps_long, entry_here, own_long}
 use Rattle.krates_resolve.proofs.heeding.ask_once.Goals as goal
 
 pub is_asked-requires : goal.is_asked-requires
@@ -27,13 +27,12 @@ returns-then-is_asked-clause-asked c e same there =
 pub entry_at-entry-requires-clause-lengths : goal.entry_at-entry-requires-clause-lengths
 entry_at-entry-requires-clause-lengths c = sym (deps_long (resolved_view c.args.basis.now.lookup.now) c.args.parts.now.place c.args.parts.now c.requires.parts)
 
+pub entry_at-entry-requires-clause-versions : goal.entry_at-entry-requires-clause-versions
+entry_at-entry-requires-clause-versions c = own_long (resolved_view c.args.basis.now.lookup.now) c.args.parts.now.place c.args.parts.now c.requires.parts
+
 pub expand_entry-requires-clause-entry : goal.expand_entry-requires-clause-entry
 expand_entry-requires-clause-entry c =
-    (entry_here (resolved_view c.args.basis.now.lookup.now) c.args.parts.now.place c.args.parts.now c.args.index c.entry_at-entry.result c.requires.parts c.entry_at-entry.ensures).0
-
-pub expand_entry-requires-clause-version : goal.expand_entry-requires-clause-version
-expand_entry-requires-clause-version c =
-    (entry_here (resolved_view c.args.basis.now.lookup.now) c.args.parts.now.place c.args.parts.now c.args.index c.entry_at-entry.result c.requires.parts c.entry_at-entry.ensures).1
+    entry_here (resolved_view c.args.basis.now.lookup.now) c.args.parts.now.place c.args.parts.now c.args.index c.entry_at-entry.result c.requires.parts c.entry_at-entry.ensures
 
 pub expand_entry-requires-clause-may : goal.expand_entry-requires-clause-may
 expand_entry-requires-clause-may c k =
@@ -41,7 +40,7 @@ expand_entry-requires-clause-may c k =
     let s = c.args.basis.now.setting.now in
     let e = c.entry_at-entry.ensures in
     let entry = c.entry_at-entry.result in
-    let is = (entry_here r c.args.parts.now.place c.args.parts.now c.args.index entry c.requires.parts e).0 in
+    let is = entry_here r c.args.parts.now.place c.args.parts.now c.args.index entry c.requires.parts e in
     let at = dep_of_entry r c.args.parts.now entry c.args.index e is in
     subst (λ (i : Id). MayTry r s (edge_between i (child_of entry) k) IsAny) (sym (ap id_of e.parent)) (c.requires.may (child_of entry) k at)
 
@@ -50,7 +49,7 @@ expand_entry-requires-clause-step c k =
     let r = resolved_view c.args.basis.now.lookup.now in
     let e = c.entry_at-entry.ensures in
     let entry = c.entry_at-entry.result in
-    let is = (entry_here r c.args.parts.now.place c.args.parts.now c.args.index entry c.requires.parts e).0 in
+    let is = entry_here r c.args.parts.now.place c.args.parts.now c.args.index entry c.requires.parts e in
     let at = dep_of_entry r c.args.parts.now entry c.args.index e is in
     subst (λ (i : Id). FindsEdge c.args.basis.now c.args.found.now c.args.reason (edge_between i (child_of entry) k) IsAny) (sym (ap id_of e.parent)) (c.requires.step (child_of entry) k at)
 

@@ -5,7 +5,7 @@ use Rattle.krates_resolve.specs.Found.{IsToggledIn}
 use Rattle.krates_lookups.specs.Lookup.{resolved_view}
 use Rattle.krates_lookups.specs.NodeEntry.{child_of}
 use Rattle.krates_rules.specs.Resolved.{id_of}
-use Rattle.krates_lookups.proofs.NodeParts.{deps_long, entry_here}
+use Rattle.krates_lookups.proofs.NodeParts.{deps_long, entry_here, own_long}
 use Rattle.krates_resolve.proofs.Heedings.{dep_of_entry, found_node}
 use Rattle.krates_resolve.proofs.Waking.{one_way}
 use Rattle.krates_resolve.proofs.heeding.toggle_child.Goals as goal
@@ -13,16 +13,19 @@ use Rattle.krates_resolve.proofs.heeding.toggle_child.Goals as goal
 pub entry_at-entry-requires-clause-lengths : goal.entry_at-entry-requires-clause-lengths
 entry_at-entry-requires-clause-lengths c = sym (deps_long (resolved_view c.args.basis.now.lookup.now) c.args.parts.now.place c.args.parts.now c.requires.parts)
 
+pub entry_at-entry-requires-clause-versions : goal.entry_at-entry-requires-clause-versions
+entry_at-entry-requires-clause-versions c = own_long (resolved_view c.args.basis.now.lookup.now) c.args.parts.now.place c.args.parts.now c.requires.parts
+
 pub child_place-requires-clause-entry : goal.child_place-requires-clause-entry
 child_place-requires-clause-entry c =
-    (entry_here (resolved_view c.args.basis.now.lookup.now) c.args.parts.now.place c.args.parts.now c.args.index c.entry_at-entry.result c.requires.parts c.entry_at-entry.ensures).0
+    entry_here (resolved_view c.args.basis.now.lookup.now) c.args.parts.now.place c.args.parts.now c.args.index c.entry_at-entry.result c.requires.parts c.entry_at-entry.ensures
 
 pub unreachable-requires : goal.unreachable-requires
 unreachable-requires c =
     let r = resolved_view c.args.basis.now.lookup.now in
     let parts = c.args.parts.now in
     let entry = c.entry_at-entry.result in
-    let is = (entry_here r parts.place parts c.args.index entry c.requires.parts c.entry_at-entry.ensures).0 in
+    let is = entry_here r parts.place parts c.args.index entry c.requires.parts c.entry_at-entry.ensures in
     let dep = dep_of_entry r parts entry c.args.index c.entry_at-entry.ensures is in
     found_node r c.args.found.now (child_of entry) (c.requires.sound.arrived (id_of parts.parent.now) (child_of entry) parts.place c.args.index dep c.requires.marked) c.in_default.ensures
 
@@ -31,7 +34,7 @@ toggle-requires-clause-kept c =
     let r = resolved_view c.args.basis.now.lookup.now in
     let parts = c.args.parts.now in
     let entry = c.entry_at-entry.result in
-    let is = (entry_here r parts.place parts c.args.index entry c.requires.parts c.entry_at-entry.ensures).0 in
+    let is = entry_here r parts.place parts c.args.index entry c.requires.parts c.entry_at-entry.ensures in
     let dep = dep_of_entry r parts entry c.args.index c.entry_at-entry.ensures is in
     c.requires.sound.arrived (id_of parts.parent.now) (child_of entry) parts.place c.args.index dep c.requires.marked
 
@@ -40,7 +43,7 @@ toggle-requires-clause-may c =
     let r = resolved_view c.args.basis.now.lookup.now in
     let parts = c.args.parts.now in
     let entry = c.entry_at-entry.result in
-    let is = (entry_here r parts.place parts c.args.index entry c.requires.parts c.entry_at-entry.ensures).0 in
+    let is = entry_here r parts.place parts c.args.index entry c.requires.parts c.entry_at-entry.ensures in
     c.requires.may (child_of entry) (dep_of_entry r parts entry c.args.index c.entry_at-entry.ensures is)
 
 pub toggle-requires-clause-by : goal.toggle-requires-clause-by
@@ -48,7 +51,7 @@ toggle-requires-clause-by c =
     let r = resolved_view c.args.basis.now.lookup.now in
     let parts = c.args.parts.now in
     let entry = c.entry_at-entry.result in
-    let is = (entry_here r parts.place parts c.args.index entry c.requires.parts c.entry_at-entry.ensures).0 in
+    let is = entry_here r parts.place parts c.args.index entry c.requires.parts c.entry_at-entry.ensures in
     (dep_of_entry r parts entry c.args.index c.entry_at-entry.ensures is).node
 
 pub toggle-requires-clause-step : goal.toggle-requires-clause-step
@@ -56,7 +59,7 @@ toggle-requires-clause-step c lists =
     let r = resolved_view c.args.basis.now.lookup.now in
     let parts = c.args.parts.now in
     let entry = c.entry_at-entry.result in
-    let is = (entry_here r parts.place parts c.args.index entry c.requires.parts c.entry_at-entry.ensures).0 in
+    let is = entry_here r parts.place parts c.args.index entry c.requires.parts c.entry_at-entry.ensures in
     c.requires.step (child_of entry) (dep_of_entry r parts entry c.args.index c.entry_at-entry.ensures is) lists
 
 pub returns-clause-toggled : goal.returns-clause-toggled
@@ -65,7 +68,7 @@ returns-clause-toggled c =
     let parts = c.args.parts.now in
     let parent = id_of parts.parent.now in
     let entry = c.entry_at-entry.result in
-    let is = (entry_here r parts.place parts c.args.index entry c.requires.parts c.entry_at-entry.ensures).0 in
+    let is = entry_here r parts.place parts c.args.index entry c.requires.parts c.entry_at-entry.ensures in
     let dep = dep_of_entry r parts entry c.args.index c.entry_at-entry.ensures is in
     on_ok_weaker c.toggle.result (λ toggled other there.
     subst (λ (i : Id). IsToggledIn r c.toggle.new.found parent i c.args.feature.name.now) (one_way c.one_reading.ensures.once r parent (child_of entry) parent other parts.place c.args.index dep there).1 toggled)
