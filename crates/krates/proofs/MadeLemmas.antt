@@ -19,9 +19,10 @@ use Rattle.krates_rules.specs.Facts.{Id}
 use Rattle.krates_rules.specs.Resolved.{id_of}
 use Rattle.krates_queries.specs.Drawn.{node_spot}
 use Rattle.krates.specs.Krate.{krate_ids, krate_packages}
-use Rattle.krates.specs.MadeNodes.{AreNodesWith, IsMade, crate_node, feature_in, mapping_in}
+use Rattle.krates.specs.MadeNodes.{AreNodesWith, IsMade, crate_node, feature_in, feature_node, mapping_in}
 use Rattle.krates_queries.specs.Node.{crate_ids, crate_values, crate_features, CratesFirst, names_in}
 use Rattle.krates.specs.declared.krate.Krate.{Krate}
+use Rattle.krates.specs.declared.nodes.DrawnFeature.{DrawnFeature}
 use Rattle.krates_queries.specs.declared.node.Node.{Node}
 use Rattle.krates_queries.specs.declared.node.Node.TheVariants as node
 
@@ -32,6 +33,18 @@ zip_push R [] (b ∷ ys) x y h r = absurd h
 zip_push R (a ∷ xs) [] x y h r = absurd h
 zip_push R (a ∷ xs) (b ∷ ys) x y h r = (h.0, zip_push R xs ys x y h.1 r)
 
+-- two parts, one behind the other
+pub zip_joined : {A B : Type 0} (R : A → B → Type 0) (xs us : List A) (ys vs : List B) → AllZip R xs ys → AllZip R us vs → AllZip R (xs ++ us) (ys ++ vs)
+zip_joined R [] us [] vs h r = r
+zip_joined R [] us (y ∷ ys) vs h r = absurd h
+zip_joined R (x ∷ xs) us [] vs h r = absurd h
+zip_joined R (x ∷ xs) us (y ∷ ys) vs h r = (h.0, zip_joined R xs us ys vs h.1 r)
+
+-- the node of a feature has no package, so it stays as it is
+pub features_made : {N : Type 0} (made : Package → N → Type 0) (fs : List DrawnFeature) → AllZip (IsMade made) (map feature_node fs) (map feature_node fs)
+features_made made [] = tt
+features_made made (f ∷ fs) = ((refl, refl), features_made made fs)
+
 -- ---- what was drawn, in two lists
 
 abbrev Set : Type 0
@@ -40,9 +53,12 @@ Set = BTreeSet (String Global)
 abbrev Mapping : Type 0
 Mapping = Vec (Option ℕ)
 
+abbrev nodes_for : List DrawnFeature → List (Node Package)
+nodes_for fs = map feature_node fs
+
 record Parted (t : Sheet) (ks : List sheet.Krate) (fs : List sheet.Named) (xs : List Spot) : Type 0 where
   mappings : flat_map mapping_in xs ≡ map (mapping t) ks
-  features : map node_spot (flat_map feature_in xs) ≡ map (feature_spot t) fs
+  features : map node_spot (nodes_for (flat_map feature_in xs)) ≡ map (feature_spot t) fs
 
 parted : (t : Sheet) (ks : List sheet.Krate) (fs : List sheet.Named) (xs : List Spot) → map spot_view xs ≡ map (crate_spot t) ks ++ map (feature_spot t) fs → Parted t ks fs xs
 parted t [] [] [] e = record { mappings = refl; features = refl }
@@ -54,7 +70,7 @@ parted t [] (f ∷ fs) (drawn.Feature krate_index name ∷ xs) e =
     let here : Node Package = node.Feature krate_index name in
     let head : node_spot here ≡ feature_spot t f = cc in
     let more = parted t [] fs xs rest in
-    record { mappings = more.mappings; features = ap (λ s. s ∷ map node_spot (flat_map feature_in xs)) head ∙ ap (λ ss. feature_spot t f ∷ ss) more.features }
+    record { mappings = more.mappings; features = ap (λ s. s ∷ map node_spot (nodes_for (flat_map feature_in xs))) head ∙ ap (λ ss. feature_spot t f ∷ ss) more.features }
 parted t (k ∷ ks) fs [] e = absurd cc
 parted t (k ∷ ks) fs (drawn.Feature krate_index name ∷ xs) e = absurd cc
 parted t (k ∷ ks) fs (drawn.Krate id m ∷ xs) e =
@@ -66,10 +82,9 @@ parted t (k ∷ ks) fs (drawn.Krate id m ∷ xs) e =
 -- ---- nodes that are made of both
 
 -- the features contain no crate
-no_crates : (xs : List Spot) → (crate_ids (flat_map feature_in xs) ≡ []) × (crate_values (flat_map feature_in xs) ≡ []) × (crate_features (flat_map feature_in xs) ≡ []) × CratesFirst (flat_map feature_in xs)
+no_crates : (fs : List DrawnFeature) → (crate_ids (nodes_for fs) ≡ []) × (crate_values (nodes_for fs) ≡ []) × (crate_features (nodes_for fs) ≡ []) × CratesFirst (nodes_for fs)
 no_crates [] = (refl, refl, refl, tt)
-no_crates (drawn.Krate id m ∷ xs) = no_crates xs
-no_crates (drawn.Feature krate_index name ∷ xs) = let w = no_crates xs in (w.0, w.1, w.2, w.0)
+no_crates (f ∷ fs) = let w = no_crates fs in (w.0, w.1, w.2, w.0)
 
 -- all that is said about the nodes
 pub record AreMadeOf (t : Sheet) (krates : List Krate) (sets : List Set) (nodes : List (Node Package)) : Type 0 where
@@ -78,8 +93,8 @@ pub record AreMadeOf (t : Sheet) (krates : List Krate) (sets : List Set) (nodes 
   pub features : crate_features nodes ≡ map names_in sets
   pub first : CratesFirst nodes
 
-joined : (t : Sheet) (krates : List Krate) (sets : List Set) (maps : List Mapping) (rest : List Spot) → length sets ≡ length krates → length maps ≡ length krates
-    → AreMadeOf t krates sets (map crate_node (zip krates (zip sets maps)) ++ flat_map feature_in rest)
+joined : (t : Sheet) (krates : List Krate) (sets : List Set) (maps : List Mapping) (rest : List DrawnFeature) → length sets ≡ length krates → length maps ≡ length krates
+    → AreMadeOf t krates sets (map crate_node (zip krates (zip sets maps)) ++ nodes_for rest)
 joined t [] [] [] rest e d = let w = no_crates rest in record { ids = w.0; values = w.1; features = w.2; first = w.3 }
 joined t [] [] (m ∷ maps) rest e d = absurd cc
 joined t [] (s ∷ sets) maps rest e d = absurd cc
@@ -138,8 +153,8 @@ drawn_nodes t krates sets xs nodes e d i w =
     let many : length maps ≡ length t.krates = same_length (λ (m : Mapping). m.items) (mapping t) maps t.krates mapped in
     let ids : length (krate_ids krates) ≡ length t.krates = same_length id_of (λ (k : sheet.Krate). k.id) (krate_ids krates) t.krates i in
     let crates : length (krate_ids krates) ≡ length krates = mapped_length krates in
-    let made = joined t krates sets maps xs e (many ∙ sym ids ∙ crates) in
-    let there = spots_joined t t.krates krates sets maps (flat_map feature_in xs) (map (feature_spot t) t.features) e mapped i p.features in
+    let made = joined t krates sets maps (flat_map feature_in xs) e (many ∙ sym ids ∙ crates) in
+    let there = spots_joined t t.krates krates sets maps (nodes_for (flat_map feature_in xs)) (map (feature_spot t) t.features) e mapped i p.features in
     record {
       made = subst (AreMadeOf t krates sets) (sym w.are) made;
       spots_are = ap (λ (ns : List (Node Package)). map node_spot ns) w.are ∙ there;
@@ -150,11 +165,11 @@ many f [] = refl
 many f (x ∷ xs) = ap suc (many f xs)
 
 -- the same, for the values in the code
-pub drawn_from : (t : Sheet) (krates : List Krate) (sets : List Set) (xs : List Spot) (maps : List Mapping) (features nodes : List (Node Package)) → length sets ≡ length krates → map spot_view xs ≡ spots t
+pub drawn_from : (t : Sheet) (krates : List Krate) (sets : List Set) (xs : List Spot) (maps : List Mapping) (features : List DrawnFeature) (nodes : List (Node Package)) → length sets ≡ length krates → map spot_view xs ≡ spots t
     → map id_of (krate_ids krates) ≡ map (λ (k : sheet.Krate). k.id) t.krates → map (λ (m : Mapping). m.items) maps ≡ flat_map mapping_in xs → features ≡ flat_map feature_in xs
-    → nodes ≡ map crate_node (zip krates (zip sets maps)) ++ features → AreDrawnNodes t krates sets nodes
+    → nodes ≡ map crate_node (zip krates (zip sets maps)) ++ map feature_node features → AreDrawnNodes t krates sets nodes
 drawn_from t krates sets xs maps features nodes e d i m f n =
-    drawn_nodes t krates sets xs nodes e d i (record { mappings = maps; drawn = m; are = n ∙ ap (λ (fs : List (Node Package)). map crate_node (zip krates (zip sets maps)) ++ fs) f })
+    drawn_nodes t krates sets xs nodes e d i (record { mappings = maps; drawn = m; are = n ∙ ap (λ (fs : List DrawnFeature). map crate_node (zip krates (zip sets maps)) ++ map feature_node fs) f })
 
 pub count_of : {X Y : Type 0} (f : X → Y) (xs : List X) (ys : List Y) → map f xs ≡ ys → length xs ≡ length ys
 count_of f xs ys e = many f xs ∙ ap length e
@@ -192,6 +207,12 @@ alike made (node.Feature krate_index name ∷ xs) (node.Feature k n ∷ ys) h =
       spots_are = ap (λ ss. model.FeatureSpot k (text_view n) ∷ ss) w.spots_are ∙ ap (λ j. model.FeatureSpot j (text_view n) ∷ map node_spot xs) h.0.0 ∙ ap (λ (s : String Global). model.FeatureSpot krate_index (text_view s) ∷ map node_spot xs) h.0.1;
       count = ap suc w.count;
     }
+
+-- as many as there were, with the features
+pub as_many : {N : Type 0} (made : Package → N → Type 0) (crates : List (Node Package)) (nodes : List (Node N)) (features : List DrawnFeature) → AllZip (IsMade made) crates nodes
+    → length (nodes ++ map feature_node features) ≡ length (crates ++ map feature_node features)
+as_many made crates nodes features h =
+    (alike made (crates ++ map feature_node features) (nodes ++ map feature_node features) (zip_joined (IsMade made) crates (map feature_node features) nodes (map feature_node features) h (features_made made features))).count
 
 pub first_alike : {N : Type 0} (made : Package → N → Type 0) (xs : List (Node Package)) (ys : List (Node N)) → AllZip (IsMade made) xs ys → CratesFirst xs → CratesFirst ys
 first_alike made [] [] h first = tt

@@ -10,6 +10,8 @@ use Rattle.krates_drawing.specs.declared.nodes.Spot.TheVariants as drawn
 use Rattle.krates_ids.specs.declared.error.Error.{Error}
 use Rattle.krates_ids.specs.declared.error.Error.TheVariants as errors
 use Rattle.krates.specs.declared.krate.Krate.{Krate}
+use Rattle.krates.specs.declared.nodes.DrawnFeature.{DrawnFeature}
+use Rattle.krates.specs.declared.nodes.Nodes.{Nodes}
 use Rattle.krates_queries.specs.declared.node.Node.{Node}
 use Rattle.krates_queries.specs.declared.node.Node.TheVariants as node
 
@@ -26,10 +28,18 @@ abbrev pub mapping_in : Spot → List (List (Option ℕ))
 mapping_in (drawn.Krate id mapping) = mapping.items ∷ []
 mapping_in (drawn.Feature krate_index name) = []
 
--- the node of a drawn feature
-abbrev pub feature_in : Spot → List (Node Package)
+-- the drawn feature
+abbrev pub feature_in : Spot → List DrawnFeature
 feature_in (drawn.Krate id mapping) = []
-feature_in (drawn.Feature krate_index name) = node.Feature krate_index name ∷ []
+feature_in (drawn.Feature index name) = record { krate_index = index; name = name } ∷ []
+
+-- its node
+abbrev pub feature_node : {P : Type 0} → DrawnFeature → Node P
+feature_node f = node.Feature f.krate_index f.name
+
+-- the nodes that were drawn
+abbrev pub nodes_in : Nodes → List (Node Package)
+nodes_in nodes = nodes.crates.items ++ map feature_node nodes.features.items
 
 -- ---- with packages
 
@@ -41,7 +51,7 @@ crate_node parts = node.Krate parts.0.id parts.0.pkg parts.1.0 parts.1.1
 pub record AreNodesWith (krates : List Krate) (sets : List (BTreeSet (String Global))) (spots : List Spot) (nodes : List (Node Package)) : Type 0 where
   pub mappings : List (Vec (Option ℕ))
   pub drawn : map (λ m. m.items) mappings ≡ flat_map mapping_in spots
-  pub are : nodes ≡ map crate_node (zip krates (zip sets mappings)) ++ flat_map feature_in spots
+  pub are : nodes ≡ map crate_node (zip krates (zip sets mappings)) ++ map feature_node (flat_map feature_in spots)
 
 -- ---- with values in the place of packages
 

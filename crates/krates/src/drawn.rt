@@ -19,13 +19,13 @@ ghost use Rattle.krates_resolve.specs.Selection.{IsSelection, RefusesSelection};
 ghost use Rattle.krates_rules.specs.Resolved.{id_of};
 ghost use Rattle.krates.specs.KeptGraph.{IsGraphOf};
 ghost use Rattle.krates.specs.Krate.{krate_ids};
-ghost use Rattle.krates.specs.MadeNodes.{IsMade};
+ghost use Rattle.krates.specs.MadeNodes.{IsMade, nodes_in};
 ghost use Rattle.krates.specs.Sketch.{IsSketchOf};
 
 use crate::enabled::enabled_of;
 use crate::krate::Krate;
-use crate::nodes::{nodes_of, parts_of, store_nodes};
-use krates_cm::{Metadata, Package};
+use crate::nodes::{Nodes, nodes_of, parts_of, store_nodes};
+use krates_cm::Metadata;
 use krates_drawing::edge::Arrow;
 use krates_drawing::gather::sheet_of;
 use krates_drawing::limits::{Limits, plan_within};
@@ -100,19 +100,19 @@ fn features_in(alloc: Global, named: Vec<Named>) -> Result<Vec<EnabledFeature>, 
 fn stored<N: FromPackage + Drop, E: FromEdge + Drop>(
     alloc: Global,
     limits: Limits,
-    nodes: Vec<Node<Package>>,
+    nodes: Nodes,
     arrows: &[Arrow],
 ) -> Result<Graph<Node<N>, E>, Error>
-    requires nodes { length nodes.items ≤ limits.nodes }
+    requires nodes { length (nodes_in nodes) ≤ limits.nodes }
     requires edges { length arrows.now ≤ limits.edges }
-    requires stand { All (HasEnds (length nodes.items)) (map arrow_view arrows.now) }
-    ensures nodes { IfOk result (λ graph. AllZip (IsMade N.made_from) nodes.items graph.nodes) }
+    requires stand { All (HasEnds (length (nodes_in nodes))) (map arrow_view arrows.now) }
+    ensures nodes { IfOk result (λ graph. AllZip (IsMade N.made_from) (nodes_in nodes) graph.nodes) }
     ensures edges { IfOk result
         (λ graph. AllZip (IsStoredAs E.made_from_edge) (map arrow_view arrows.now) graph.edges) }
     ensures refused { IfErr result (λ e. e ≡ Memory) }
 {
     let mut graph = Graph::with_limits(alloc, limits.nodes, limits.edges);
-    graph.reserve(nodes.len(), arrows.len())?;
+    graph.reserve(nodes.crates.len() + nodes.features.len(), arrows.len())?;
     store_nodes(alloc, nodes, &mut graph)?;
     match store_arrows(alloc, arrows, &mut graph) {
         Ok(()) => Ok(graph),

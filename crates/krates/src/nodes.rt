@@ -1,8 +1,11 @@
 //! The nodes of the graph: packages moved into what was drawn, and that into the graph.
+//!
+//! A node is as large as a package with its crate's features and mapping. So only the crates are put together as nodes before they
+//! are stored; a feature, of which there may be many, becomes a node where it is stored.
 
 ghost use Rattle.std.specs.Prelude.{◌≡◌, ◌++◌, [], IfErr, IfOk, OnOk, flat_map, length, map};
 ghost use Rattle.std.specs.List.{AllZip, zip};
-ghost use Rattle.krates.specs.MadeNodes.{CountRefusal, IsMade, crate_node, feature_in, mapping_in};
+ghost use Rattle.krates.specs.MadeNodes.{CountRefusal, IsMade, crate_node, feature_in, feature_node, mapping_in, nodes_in};
 
 use crate::krate::Krate;
 use krates_cm::Package;
@@ -13,16 +16,34 @@ use krates_queries::from_package::FromPackage;
 use krates_queries::node::{EnabledFeatures, Node};
 use std::alloc::{AllocError, Global};
 
-/// What was drawn, without the packages: the mappings of the crates, and the nodes of the features.
+/// An enabled feature, as it was drawn.
+#[derive(Drop)]
+pub(crate) struct DrawnFeature {
+    /// The number of its crate.
+    krate_index: NodeId,
+    /// Its name.
+    name: String,
+}
+
+/// What was drawn, without the packages: the mappings of the crates, and the features.
 #[derive(Drop)]
 pub(crate) struct Parts {
     /// The mappings of the crates.
     pub(crate) mappings: Vec<Vec<Option<NodeId>>>,
-    /// The nodes of the features.
-    pub(crate) features: Vec<Node<Package>>,
+    /// The features.
+    pub(crate) features: Vec<DrawnFeature>,
 }
 
-/// The mappings of the crates and the nodes of the features, each in the order in which they were drawn.
+/// The nodes that were drawn: first those of the crates, with their packages, and then the features.
+#[derive(Drop)]
+pub(crate) struct Nodes {
+    /// The crates.
+    pub(crate) crates: Vec<Node<Package>>,
+    /// The features.
+    pub(crate) features: Vec<DrawnFeature>,
+}
+
+/// The mappings of the crates and the features, each in the order in which they were drawn.
 pub(crate) fn parts_of(alloc: Global, spots: Vec<Spot>) -> Result<Parts, AllocError>
     ensures mappings { IfOk result
         (λ parts. map (λ m. m.items) parts.mappings.items ≡ flat_map mapping_in spots.items) }
@@ -40,7 +61,7 @@ pub(crate) fn parts_of(alloc: Global, spots: Vec<Spot>) -> Result<Parts, AllocEr
 fn push_part(
     spot: Spot,
     mappings: &mut Vec<Vec<Option<NodeId>>>,
-    features: &mut Vec<Node<Package>>,
+    features: &mut Vec<DrawnFeature>,
 ) -> Result<(), AllocError>
     ensures mappings { OnOk result (map (λ m. m.items) mappings.new.items
         ≡ map (λ m. m.items) mappings.old.items ++ mapping_in spot) }
@@ -52,7 +73,7 @@ fn push_part(
             mappings.push(mapping)?;
         }
         Spot::Feature { krate_index, name } => {
-            features.push(Node::Feature { krate_index, name })?;
+            features.push(DrawnFeature { krate_index, name })?;
         }
     }
     Ok(())
@@ -86,18 +107,14 @@ pub(crate) fn nodes_of(
     krates: Vec<Krate>,
     sets: Vec<EnabledFeatures>,
     parts: Parts,
-) -> Result<Vec<Node<Package>>, AllocError>
+) -> Result<Nodes, AllocError>
     ensures { IfOk result
-        (λ nodes. nodes.items ≡ map crate_node (zip krates.items (zip sets.items parts.mappings.items))
-        ++ parts.features.items) }
+        (λ nodes. nodes_in nodes ≡ map crate_node (zip krates.items (zip sets.items parts.mappings.items))
+        ++ map feature_node parts.features.items) }
 {
-    let Parts {
-        mappings,
-        mut features,
-    } = parts;
-    let mut nodes = crates_with(alloc, krates, sets, mappings)?;
-    nodes.append(&mut features)?;
-    Ok(nodes)
+    let Parts { mappings, features } = parts;
+    let crates = crates_with(alloc, krates, sets, mappings)?;
+    Ok(Nodes { crates, features })
 }
 
 /// The node with a value in the place of its package.
@@ -123,6 +140,43 @@ fn made<N: FromPackage + Drop>(alloc: Global, node: Node<Package>) -> Result<Nod
 /// Adds the nodes to a graph that has none, in their order, with a value in the place of each package. It is refused as `TooMany`
 /// only where there are more than the graph may have.
 pub(crate) fn store_nodes<N: FromPackage + Drop, E: Drop>(
+    alloc: Global,
+    nodes: Nodes,
+    graph: &mut Graph<Node<N>, E>,
+) -> Result<(), Error>
+    requires empty { graph.old.nodes ≡ [] }
+    ensures stored { OnOk result (AllZip (IsMade N.made_from) (nodes_in nodes) graph.new.nodes) }
+    ensures rest { graph.new ≡ record graph.old { nodes = graph.new.nodes } }
+    ensures refused { IfErr result (CountRefusal graph.old.node_limit (length (nodes_in nodes))) }
+{
+    let Nodes { crates, features } = nodes;
+    store_crates(alloc, crates, graph)?;
+    store_features(features, graph)
+}
+
+/// Adds the features to a graph, in their order, behind the nodes that it has.
+fn store_features<N: Drop, E: Drop>(
+    features: Vec<DrawnFeature>,
+    graph: &mut Graph<Node<N>, E>,
+) -> Result<(), Error>
+    ensures stored { OnOk result (graph.new.nodes ≡ graph.old.nodes ++ map feature_node features.items) }
+    ensures rest { graph.new ≡ record graph.old { nodes = graph.new.nodes } }
+    ensures refused { IfErr result
+        (CountRefusal graph.old.node_limit (length (graph.old.nodes ++ map (feature_node {P = N}) features.items))) }
+{
+    for feature in features {
+        let DrawnFeature { krate_index, name } = feature;
+        match graph.add_node(Node::Feature { krate_index, name }) {
+            Ok(_) => {}
+            Err(GraphError::Full(_)) => return Err(Error::TooMany),
+            Err(GraphError::Memory(_)) => return Err(Error::Memory),
+        }
+    }
+    Ok(())
+}
+
+/// Adds the crates to a graph that has no node, in their order, with a value in the place of each package.
+fn store_crates<N: FromPackage + Drop, E: Drop>(
     alloc: Global,
     nodes: Vec<Node<Package>>,
     graph: &mut Graph<Node<N>, E>,

@@ -9,6 +9,7 @@ use Rattle.krates_resolve.specs.Selection.{feature_fact}
 use Rattle.krates_resolve.specs.declared.selection.EnabledFeature.{EnabledFeature}
 use Rattle.krates_queries.specs.Drawn.{node_spot}
 use Rattle.krates.specs.Krate.{krate_ids}
+use Rattle.krates.specs.MadeNodes.{nodes_in}
 use Rattle.krates.proofs.DrawnLemmas.{as_many_crates, facts_in, if_graph, stand_there}
 use Rattle.krates.proofs.FeaturesDrawn.{viewed_ids}
 use Rattle.krates.proofs.MadeLemmas.{count_of, drawn_from}
@@ -25,8 +26,8 @@ enabled_of-requires g c =
 pub stored-requires-clause-nodes : goal.stored-requires-clause-nodes
 stored-requires-clause-nodes g c =
     let matched = c.in_ok-sets.ensures.matched ∙ (c.len.ensures ∙ c.args.krates.ok.0) in
-    let d = drawn_from (sheet_view c.args.sheet) c.args.krates.items c.in_ok-sets.sets.items c.in_ok-plan.plan.spots.items c.in_ok-parts.parts.mappings.items c.in_ok-parts.parts.features.items c.in_ok-nodes.nodes.items matched c.in_ok-plan.ensures.nodes c.requires.ids c.in_ok-parts.ensures.mappings c.in_ok-parts.ensures.features c.in_ok-nodes.ensures in
-    let count = count_of node_spot c.in_ok-nodes.nodes.items (spots (sheet_view c.args.sheet)) d.spots_are in
+    let d = drawn_from (sheet_view c.args.sheet) c.args.krates.items c.in_ok-sets.sets.items c.in_ok-plan.plan.spots.items c.in_ok-parts.parts.mappings.items c.in_ok-parts.parts.features.items (nodes_in c.in_ok-nodes.nodes) matched c.in_ok-plan.ensures.nodes c.requires.ids c.in_ok-parts.ensures.mappings c.in_ok-parts.ensures.features c.in_ok-nodes.ensures in
+    let count = count_of node_spot (nodes_in c.in_ok-nodes.nodes) (spots (sheet_view c.args.sheet)) d.spots_are in
     subst (λ n. n ≤ c.args.limits.nodes) (sym count) c.in_ok-plan.ensures.within.nodes
 
 pub stored-requires-clause-edges : goal.stored-requires-clause-edges
@@ -38,20 +39,20 @@ stored-requires-clause-edges g c =
 pub stored-requires-clause-stand : goal.stored-requires-clause-stand
 stored-requires-clause-stand g c =
     let matched = c.in_ok-sets.ensures.matched ∙ (c.len.ensures ∙ c.args.krates.ok.0) in
-    let d = drawn_from (sheet_view c.args.sheet) c.args.krates.items c.in_ok-sets.sets.items c.in_ok-plan.plan.spots.items c.in_ok-parts.parts.mappings.items c.in_ok-parts.parts.features.items c.in_ok-nodes.nodes.items matched c.in_ok-plan.ensures.nodes c.requires.ids c.in_ok-parts.ensures.mappings c.in_ok-parts.ensures.features c.in_ok-nodes.ensures in
-    let count = count_of node_spot c.in_ok-nodes.nodes.items (spots (sheet_view c.args.sheet)) d.spots_are in
+    let d = drawn_from (sheet_view c.args.sheet) c.args.krates.items c.in_ok-sets.sets.items c.in_ok-plan.plan.spots.items c.in_ok-parts.parts.mappings.items c.in_ok-parts.parts.features.items (nodes_in c.in_ok-nodes.nodes) matched c.in_ok-plan.ensures.nodes c.requires.ids c.in_ok-parts.ensures.mappings c.in_ok-parts.ensures.features c.in_ok-nodes.ensures in
+    let count = count_of node_spot (nodes_in c.in_ok-nodes.nodes) (spots (sheet_view c.args.sheet)) d.spots_are in
     let same : map arrow_view c.deref.result.now ≡ lines (sheet_view c.args.sheet) = ap (λ (xs : List Arrow). map arrow_view xs) c.deref.ensures.value ∙ c.in_ok-plan.ensures.edges in
     stand_there _ _ _ _ c.requires.stand (sym count) (sym same)
 
 pub returns-clause-graph : goal.returns-clause-graph
 returns-clause-graph g c =
     let matched = c.in_ok-sets.ensures.matched ∙ (c.len.ensures ∙ c.args.krates.ok.0) in
-    let d = drawn_from (sheet_view c.args.sheet) c.args.krates.items c.in_ok-sets.sets.items c.in_ok-plan.plan.spots.items c.in_ok-parts.parts.mappings.items c.in_ok-parts.parts.features.items c.in_ok-nodes.nodes.items matched c.in_ok-plan.ensures.nodes c.requires.ids c.in_ok-parts.ensures.mappings c.in_ok-parts.ensures.features c.in_ok-nodes.ensures in
+    let d = drawn_from (sheet_view c.args.sheet) c.args.krates.items c.in_ok-sets.sets.items c.in_ok-plan.plan.spots.items c.in_ok-parts.parts.mappings.items c.in_ok-parts.parts.features.items (nodes_in c.in_ok-nodes.nodes) matched c.in_ok-plan.ensures.nodes c.requires.ids c.in_ok-parts.ensures.mappings c.in_ok-parts.ensures.features c.in_ok-nodes.ensures in
     let same : map arrow_view c.deref.result.now ≡ lines (sheet_view c.args.sheet) = ap (λ (xs : List Arrow). map arrow_view xs) c.deref.ensures.value ∙ c.in_ok-plan.ensures.edges in
     let kids = kids_in c.args.sheet in
     let ids = krate_ids c.args.krates.items in
     let facts = ap (λ (fs : List EnabledFeature). map (feature_fact ids) fs) c.in_ok-features.ensures ∙ facts_in ids kids c.args.sheet.features.items (c.requires.ids ∙ sym (viewed_ids c.args.sheet.krates.items)) in
-    if_graph g.N.FromPackage.made_from g.E.FromEdge.made_from_edge (sheet_view c.args.sheet) c.args.krates.items c.in_ok-sets.sets.items c.in_ok-features.features.items c.in_ok-nodes.nodes.items
+    if_graph g.N.FromPackage.made_from g.E.FromEdge.made_from_edge (sheet_view c.args.sheet) c.args.krates.items c.in_ok-sets.sets.items c.in_ok-features.features.items (nodes_in c.in_ok-nodes.nodes)
     (map arrow_view c.deref.result.now) c.stored.result d matched c.in_ok-sets.ensures.enabled facts same c.stored.ensures.nodes c.stored.ensures.edges
 
 pub returns-clause-within : goal.returns-clause-within

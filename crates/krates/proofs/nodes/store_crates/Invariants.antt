@@ -1,7 +1,7 @@
 use Rattle.std.proofs.Common.{◌≡◌, ◌≤◌, length}
 use Rattle.std.specs.List.{AllZip}
 use Rattle.krates.specs.MadeNodes.{IsMade}
-use Rattle.krates.proofs.nodes.store_nodes.Given as goal
+use Rattle.krates.proofs.nodes.store_crates.Given as goal
 
 abbrev pub invariant-loop-node : goal.invariant-loop-node
 invariant-loop-node g l =
