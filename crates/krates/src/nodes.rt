@@ -161,8 +161,8 @@ fn store_features<N: Drop, E: Drop>(
 ) -> Result<(), Error>
     ensures stored { OnOk result (graph.new.nodes ≡ graph.old.nodes ++ map feature_node features.items) }
     ensures rest { graph.new ≡ record graph.old { nodes = graph.new.nodes } }
-    ensures refused { IfErr result
-        (CountRefusal graph.old.node_limit (length (graph.old.nodes ++ map (feature_node {P = N}) features.items))) }
+    ensures refused { IfErr result (CountRefusal graph.old.node_limit
+        (length (graph.old.nodes ++ map (feature_node {P = N}) features.items))) }
 {
     for feature in features {
         let DrawnFeature { krate_index, name } = feature;
