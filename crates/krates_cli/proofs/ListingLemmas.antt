@@ -1,5 +1,5 @@
 -- What a refused build says of a text.
-use Rattle.std.proofs.Common.{◌≡◌, ◌<◌, ◌∷◌, ◌++◌, ℕ, zero, suc, List, [], true, Option, None, Some, IfSome, IsUtf8, Result, Ok, Err, IfOk, IfErr, String, Global, string_bytes, arith, get_or, length, map, refl, sym, ap, subst, ◌∙◌}
+use Rattle.std.proofs.Common.{◌≡◌, ◌<◌, ◌∷◌, ◌++◌, codes, ℕ, zero, suc, List, [], true, Option, None, Some, IfSome, IsUtf8, Result, Ok, Err, IfOk, IfErr, String, Global, string_bytes, arith, get_or, length, map, refl, sym, ap, subst, ◌∙◌}
 use Rattle.std.specs.List.{AllZip}
 use Rattle.std.specs.Prelude.{MatchOption, ⊤}
 use Rattle.krates_cm.specs.Document.{Text, metadata_view}
@@ -7,6 +7,7 @@ use Rattle.krates_cm.specs.Parsing.{IsDocument}
 use Rattle.krates_cm.specs.declared.error.Error as cm
 use Rattle.krates_cm.specs.declared.metadata.Metadata.{Metadata}
 use Rattle.krates_cm.specs.declared.package.Package.{Package}
+use Rattle.krates_cm.specs.declared.package_id.PackageId.{PackageId}
 use Rattle.krates_cargo.specs.Running.{IsSomeAnswer, IsUnrun}
 use Rattle.krates_drawing.specs.declared.edge.Edge.{Edge}
 use Rattle.krates_ids.specs.declared.error.Error as build
@@ -15,19 +16,20 @@ use Rattle.krates_rules.specs.Facts.{Id}
 use Rattle.krates_rules.specs.Resolved.{StandsAt, id_of, resolved}
 use Rattle.krates_rules.specs.Setting.{SettingModel}
 use Rattle.krates_ids.specs.declared.error.Error.TheVariants as causes
-use Rattle.krates.specs.Build.{AreThosePackages, BuildRefusal, KeepsCrate, IsBuilt, BuildRefusalAsGiven, GraphRefusal, IsResolvable}
+use Rattle.krates.specs.Build.{BuildRefusal, KeepsCrate, IsBuilt, BuildRefusalAsGiven, GraphRefusal, IsResolvable}
 use Rattle.krates.specs.Indexed.{Answering, Sees}
 use Rattle.krates_cli.specs.declared.run_error.RunError.{RunError}
 use Rattle.krates_cli.specs.declared.run_error.RunError.TheVariants as errors
 use Rattle.krates_queries.specs.Kept.{KeptCrates, ids_of, values_of}
 use Rattle.krates_cli.specs.CargoListing.{CargoRefusal, IsCargoListing}
 use Rattle.krates_cli.specs.Counted.{AppendsFront}
-use Rattle.krates_cli.specs.Lines.{kept_lines, reported_lines}
+use Rattle.krates_cli.specs.Lines.{IsListedOf, id_line, kept_lines, line, listed_lines, reported_lines}
 use Rattle.krates_cli.specs.Listing.{ExplainsCrate, IsListing, IsListingOf, IsSplit, ListsPackages, WritesBeginning}
 use Rattle.krates_cli.specs.ListingRefusals.{IsUnlisted, ListingRefusal, RunRefusal}
 use Rattle.krates_cli.specs.Reported.{Reports, lines_in, is_whole}
 use Rattle.krates_cli.specs.Request.{Request}
 use Rattle.krates_cli.specs.WhyKept.{ExplainsKept, IsUnexplained}
+use Rattle.krates_cli.specs.declared.listed.Listed.{Listed}
 use Rattle.krates_cli.specs.declared.reported.Reported.{Reported}
 use Rattle.krates_cli.proofs.ReportedLemmas.{all_reported}
 use Rattle.krates_cli.specs.RunError.{BuildErrorBecomes, ParseErrorBecomes}
@@ -118,56 +120,54 @@ cargo_unrun a cause (errors.Build same) unrun becomes = absurd becomes
 cargo_unrun a cause errors.Write unrun becomes = absurd becomes
 cargo_unrun a cause (errors.NotKept krate) unrun becomes = absurd becomes
 
--- a package stands for itself
-abbrev pub IsItself : Package → Package → Type 0
-IsItself pkg value = value ≡ pkg
-
-itself : (xs ys : List Package) → AllZip IsItself xs ys → xs ≡ ys
-itself [] [] h = refl
-itself [] (y ∷ ys) h = absurd h
-itself (x ∷ xs) [] h = absurd h
-itself (x ∷ xs) (y ∷ ys) h = ap (λ (p : Package). p ∷ xs) (sym h.0) ∙ ap (λ ps. y ∷ ps) (itself xs ys h.1)
+-- what is listed of packages has the lines of these
+lines_listed : (packages : List Package) (values : List Listed) → AllZip IsListedOf packages values → listed_lines values ≡ kept_lines packages
+lines_listed [] [] h = refl
+lines_listed [] (l ∷ values) h = absurd h
+lines_listed (pkg ∷ packages) [] h = absurd h
+lines_listed (pkg ∷ packages) (l ∷ values) h =
+    ap (λ (id : PackageId). id_line (codes "+ ") id ++ listed_lines values) h.0 ∙ ap (λ ls. line (codes "+ ") pkg ++ ls) (lines_listed packages values h.1)
 
 -- what is built without an index is built of the document as it is given
-pub built_as_given : {S : Type 0} (may_answer : Answering S) (index : Option S) (s meant : SettingModel) (m : Metadata) (made_edge : Edge → Edge → Type 0) (kept : KeptCrates Package Edge) (before after : Reported) → index ≡ None → s ≡ meant
-    → Sees may_answer index m (λ seen. IsBuilt Reports IsItself made_edge seen s before after kept) → IsBuilt Reports IsItself made_edge m meant before after kept
+pub built_as_given : {S : Type 0} (may_answer : Answering S) (index : Option S) (s meant : SettingModel) (m : Metadata) (made_edge : Edge → Edge → Type 0) (kept : KeptCrates Listed Edge) (before after : Reported) → index ≡ None → s ≡ meant
+    → Sees may_answer index m (λ seen. IsBuilt Reports IsListedOf made_edge seen s before after kept) → IsBuilt Reports IsListedOf made_edge m meant before after kept
 built_as_given may_answer index s meant m made_edge kept before after none same sees =
-    subst (λ t. IsBuilt Reports IsItself made_edge m t before after kept) same (as_given may_answer m (λ seen. IsBuilt Reports IsItself made_edge seen s before after kept) (subst (λ i. Sees may_answer i m (λ seen. IsBuilt Reports IsItself made_edge seen s before after kept)) none sees))
+    subst (λ t. IsBuilt Reports IsListedOf made_edge m t before after kept) same (as_given may_answer m (λ seen. IsBuilt Reports IsListedOf made_edge seen s before after kept) (subst (λ i. Sees may_answer i m (λ seen. IsBuilt Reports IsListedOf made_edge seen s before after kept)) none sees))
 
 -- its packages are those that are kept, and those that are reported
-pub split_by : (s : SettingModel) (m : Metadata) (made_edge : Edge → Edge → Type 0) (kept : KeptCrates Package Edge) (before after : Reported) → IsResolvable (metadata_view m) → (built : IsBuilt Reports IsItself made_edge m s before after kept)
-    → IsSplit s m (values_of kept) built.reported.others
+pub split_by : (s : SettingModel) (m : Metadata) (made_edge : Edge → Edge → Type 0) (kept : KeptCrates Listed Edge) (before after : Reported) → IsResolvable (metadata_view m) → (built : IsBuilt Reports IsListedOf made_edge m s before after kept)
+    → IsSplit s m built.values.packages built.reported.others
 split_by s m made_edge kept before after resolvable built = record {
   resolvable = resolvable;
   none_lost = built.none_lost;
   some = built.some;
   kept_ids = ids_of kept;
   every = built.kept;
-  kept_are = subst (AreThosePackages m.packages.items (KeepsCrate (metadata_view m) s) (ids_of kept)) (itself built.values.packages (values_of kept) built.values.made_of) built.values.those;
+  kept_are = built.values.those;
   other_ids = built.reported.ids;
   others_are = built.reported.not_kept;
 }
 
 -- and the lines of both are its list
-pub listed : (s : SettingModel) (m : Metadata) (made_edge : Edge → Edge → Type 0) (kept : KeptCrates Package Edge) (before after : Reported) (lines told : Text) → IsResolvable (metadata_view m) → IsBuilt Reports IsItself made_edge m s before after kept
-    → lines_in before ≡ [] → is_whole after ≡ true → told ≡ lines_in after → lines ≡ kept_lines (values_of kept) ++ told → ListsPackages s m lines
+pub listed : (s : SettingModel) (m : Metadata) (made_edge : Edge → Edge → Type 0) (kept : KeptCrates Listed Edge) (before after : Reported) (lines told : Text) → IsResolvable (metadata_view m) → IsBuilt Reports IsListedOf made_edge m s before after kept
+    → lines_in before ≡ [] → is_whole after ≡ true → told ≡ lines_in after → lines ≡ listed_lines (values_of kept) ++ told → ListsPackages s m lines
 listed s m made_edge kept before after lines told resolvable built empty whole told_is written =
     let reported = built.reported in
     let collected = all_reported before reported.others after reported.run whole in
     let others : told ≡ reported_lines reported.others = told_is ∙ collected.1 ∙ ap (λ ls. ls ++ reported_lines reported.others) empty in record {
-      kept = values_of kept;
+      kept = built.values.packages;
       others = reported.others;
       split = split_by s m made_edge kept before after resolvable built;
-      written = written ∙ ap (λ ls. kept_lines (values_of kept) ++ ls) others;
+      written = written ∙ ap (λ ls. listed_lines (values_of kept) ++ ls) others ∙ ap (λ ls. ls ++ reported_lines reported.others) (lines_listed built.values.packages (values_of kept) built.values.made_of);
     }
 
 -- the lines of a derivation of a crate that is kept explain it
-pub explained : (s : SettingModel) (m : Metadata) (made_edge : Edge → Edge → Type 0) (kept : KeptCrates Package Edge) (before after : Reported) (krate : Identity) (lines : Text) → IsResolvable (metadata_view m) → IsBuilt Reports IsItself made_edge m s before after kept
+pub explained : (s : SettingModel) (m : Metadata) (made_edge : Edge → Edge → Type 0) (kept : KeptCrates Listed Edge) (before after : Reported) (krate : Identity) (lines : Text) → IsResolvable (metadata_view m) → IsBuilt Reports IsListedOf made_edge m s before after kept
     → ExplainsKept kept krate lines → ExplainsCrate s m krate lines
 unfolding split_by
 explained s m made_edge kept before after krate lines resolvable built e =
     let follows = built.explained.follows in record {
-      kept = values_of kept;
+      kept = built.values.packages;
       others = built.reported.others;
       split = split_by s m made_edge kept before after resolvable built;
       steps = e.steps;
@@ -192,11 +192,11 @@ place_of (x ∷ xs) i zero lt is = (0, record { there = x; at = refl; same = is 
 place_of (x ∷ xs) i (suc k) lt is = let w = place_of xs i k (omega arith) is in (suc w.0, record { there = w.1.there; at = w.1.at; same = w.1.same })
 
 -- a crate that a build doesn't keep has no derivation; and where memory ran out, it did
-pub unexplained : (a : Request) (m : Metadata) (made_edge : Edge → Edge → Type 0) (kept : KeptCrates Package Edge) (before after : Reported) (krate : Identity) (e : RunError) → IsResolvable (metadata_view m) → IsBuilt Reports IsItself made_edge m a.setting before after kept
+pub unexplained : (a : Request) (m : Metadata) (made_edge : Edge → Edge → Type 0) (kept : KeptCrates Listed Edge) (before after : Reported) (krate : Identity) (e : RunError) → IsResolvable (metadata_view m) → IsBuilt Reports IsListedOf made_edge m a.setting before after kept
     → a.explaining ≡ Some krate → IsUnexplained kept krate e → IsUnlisted a m e
 unexplained a m made_edge kept before after krate (errors.NotKept same) resolvable built asked why = record {
   asked = asked ∙ ap (λ (i : Identity). Some i) (sym why.0);
-  kept = values_of kept;
+  kept = built.values.packages;
   others = built.reported.others;
   split = split_by a.setting m made_edge kept before after resolvable built;
   dropped = λ keeps.
@@ -221,12 +221,12 @@ none_asked_for a m lines none lists = subst (λ (o : Option Identity). MatchOpti
 
 -- ---- the answer of the derivation
 
-pub explained_answer : {E : Type 0} (s : SettingModel) (m : Metadata) (made_edge : Edge → Edge → Type 0) (kept : KeptCrates Package Edge) (before after : Reported) (krate : Identity) (r : Result (String Global) E) → IsResolvable (metadata_view m) → IsBuilt Reports IsItself made_edge m s before after kept
+pub explained_answer : {E : Type 0} (s : SettingModel) (m : Metadata) (made_edge : Edge → Edge → Type 0) (kept : KeptCrates Listed Edge) (before after : Reported) (krate : Identity) (r : Result (String Global) E) → IsResolvable (metadata_view m) → IsBuilt Reports IsListedOf made_edge m s before after kept
     → IfOk r (λ lines. ExplainsKept kept krate (string_bytes lines)) → IfOk r (λ lines. ExplainsCrate s m krate (string_bytes lines))
 explained_answer s m made_edge kept before after krate (Ok lines) resolvable built e = explained s m made_edge kept before after krate (string_bytes lines) resolvable built e
 explained_answer s m made_edge kept before after krate (Err e) resolvable built h = h
 
-pub unexplained_answer : {A : Type 0} (a : Request) (m : Metadata) (made_edge : Edge → Edge → Type 0) (kept : KeptCrates Package Edge) (before after : Reported) (krate : Identity) (r : Result A RunError) → IsResolvable (metadata_view m) → IsBuilt Reports IsItself made_edge m a.setting before after kept
+pub unexplained_answer : {A : Type 0} (a : Request) (m : Metadata) (made_edge : Edge → Edge → Type 0) (kept : KeptCrates Listed Edge) (before after : Reported) (krate : Identity) (r : Result A RunError) → IsResolvable (metadata_view m) → IsBuilt Reports IsListedOf made_edge m a.setting before after kept
     → a.explaining ≡ Some krate → IfErr r (IsUnexplained kept krate) → IfErr r (IsUnlisted a m)
 unexplained_answer a m made_edge kept before after krate (Ok x) resolvable built asked h = h
 unexplained_answer a m made_edge kept before after krate (Err e) resolvable built asked h = unexplained a m made_edge kept before after krate e resolvable built asked h

@@ -7,6 +7,7 @@ pub mod derivation_lines;
 mod failed_call;
 pub mod laws;
 mod lines;
+mod listed;
 pub mod listing;
 pub mod options;
 mod reported;

@@ -10,6 +10,7 @@ ghost use Rattle.krates_cli.specs.declared.run_error.RunError.TheVariants as err
 
 use crate::counted::Counted;
 use crate::lines::all_lines;
+use crate::listed::Listed;
 use crate::options::{Options, set_options};
 use crate::reported::Reported;
 use crate::run_error::RunError;
@@ -40,7 +41,7 @@ fn listing_of(alloc: Global, options: &Options, metadata: Metadata) -> Result<St
     let mut reported = Reported::new(alloc);
     let mut builder = Builder::new(alloc);
     set_options(alloc, options, &mut builder)?;
-    let krates: Krates = builder.build_with_metadata(metadata, &mut reported)?;
+    let krates: Krates<Listed> = builder.build_with_metadata(metadata, &mut reported)?;
     if let Some(krate) = &options.why {
         return why_kept(alloc, &krates, krate);
     }

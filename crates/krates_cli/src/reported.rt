@@ -38,6 +38,6 @@ impl OnFilter for Reported {
     ghost filters = { Reports };
 
     fn filtered(&mut self, pkg: Package) {
-        self.is_whole = self.is_whole && push_line(&mut self.lines, "- ", &pkg).is_ok();
+        self.is_whole = self.is_whole && push_line(&mut self.lines, "- ", &pkg.id).is_ok();
     }
 }

@@ -1,8 +1,8 @@
 use Rattle.std.proofs.Common.{◌≡◌, ◌++◌, string_bytes}
-use Rattle.krates_cli.specs.Lines.{kept_lines}
+use Rattle.krates_cli.specs.Lines.{listed_lines}
 use Rattle.krates_cli.proofs.lines.all_lines.Given as goal
 
-abbrev pub invariant-loop-pkg : goal.invariant-loop-pkg
-invariant-loop-pkg l =
-    goal.iterator-loop-pkg.can_next l.pkg-iterator
-    × (string_bytes l.lines ++ kept_lines l.pkg-iterator ≡ kept_lines l.initial.pkg-iterator)
+abbrev pub invariant-loop-listed : goal.invariant-loop-listed
+invariant-loop-listed l =
+    goal.iterator-loop-listed.can_next l.listed-iterator
+    × (string_bytes l.lines ++ listed_lines l.listed-iterator ≡ listed_lines l.initial.listed-iterator)

@@ -1,0 +1,25 @@
+//! What a listing holds of a package.
+
+ghost use Rattle.krates_cli.specs.Lines.{IsListedOf};
+
+use krates::cm::PackageId;
+use krates::{FromPackage, Package};
+use std::alloc::{AllocError, Global};
+
+/// The id of a kept package, which is all that is listed of it.
+///
+/// A node of the graph has room for what it holds in place of a package, also where it is that of a feature. So with
+/// many features this takes a fourth of the memory that packages would.
+#[derive(Drop)]
+pub(crate) struct Listed {
+    /// Its id, as the document has it.
+    pub(crate) id: PackageId,
+}
+
+impl FromPackage for Listed {
+    ghost made_from = { IsListedOf };
+
+    fn from_package(_alloc: Global, pkg: Package) -> Result<Listed, AllocError> {
+        Ok(Listed { id: pkg.id })
+    }
+}
