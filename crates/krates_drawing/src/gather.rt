@@ -215,9 +215,11 @@ pub fn sheet_of<'a>(
         edges,
         features,
         toggled,
-        steps: _,
+        steps,
         work: _,
     } = selection;
+    // what is made next takes their room
+    drop(steps);
     let told = told_of(alloc, document, &krates)?;
     let counts = counts_of(alloc, &told)?;
     let givens = givens_of(alloc, &told, &edges)?;

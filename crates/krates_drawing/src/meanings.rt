@@ -43,7 +43,7 @@ fn referents_of<'a>(
 fn ids_of<'a>(alloc: Global, referents: &[Referent<'a>]) -> Result<Vec<Kid>, AllocError>
     ensures { IfOk result (λ ids. map id_of ids.items ≡ map referent_id referents.now) }
 {
-    let mut ids = Vec::new(alloc);
+    let mut ids = Vec::with_capacity(alloc, referents.len())?;
     for referent in referents {
         ids.push(referent.id.clone()?)?;
     }
@@ -100,7 +100,7 @@ pub fn meanings_of<'a>(
         IfOk result (λ meanings. AllZip (IsMeaning (as_resolved document.now) all (id_of krate.now))
         (map text_view values.now) (map meaning_view meanings.items)) }
 {
-    let mut meanings = Vec::new(alloc);
+    let mut meanings = Vec::with_capacity(alloc, values.len())?;
     for text in values {
         meanings.push(meaning_of(alloc, document, setting, krate, text.as_str())?)?;
     }

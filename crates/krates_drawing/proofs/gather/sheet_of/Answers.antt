@@ -10,7 +10,7 @@ use Rattle.krates_drawing.specs.declared.told.Told.{Told}
 use Rattle.krates_drawing.proofs.Gathering.{AreGathered, gathered, ordered}
 use Rattle.krates_drawing.proofs.gather.sheet_of.Goals as goal
 
-are_gathered : (c : goal.After-drop-selection-2) → AreGathered (as_resolved c.args.document.now) c.args.setting.now c.args.selection c.in_ok-told.told.items c.in_ok-counts.counts.items c.in_ok-givens.givens.items c.in_ok-names.names.items
+are_gathered : (c : goal.In_ok-features) → AreGathered (as_resolved c.args.document.now) c.args.setting.now c.args.selection c.in_ok-told.told.items c.in_ok-counts.counts.items c.in_ok-givens.givens.items c.in_ok-names.names.items
 are_gathered c =
     let s = c.args.setting.now in
     let r = as_resolved c.args.document.now in
