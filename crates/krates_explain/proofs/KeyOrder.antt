@@ -1,71 +1,20 @@
 -- The order of keys: two compare as equal exactly where they are the same fact.
-use Rattle.std.proofs.Common.{◌≡◌, ◌↔◌, ℕ, Option, Some, None, Ordering, Less, Equal, Greater, String, option_map, refl, ap, subst}
-use Rattle.std.proofs.lemmas.Cmp.{tied_itself, nat_list_cmp_total, nat_cmp_total}
-use Rattle.std.proofs.lemmas.Map.Lookups.{exact_bytes, exact_unsigned}
-use Rattle.std.proofs.lemmas.Option.{same_Some}
-use Rattle.std.specs.Cmp.Lexicographic.{slice_cmp}
-use Rattle.std.specs.Global.{Global}
-use Rattle.std.specs.Option.{option_cmp}
-use Rattle.std.specs.Ordering.{nat_cmp, ordering_then}
-use Rattle.std.specs.String.{string_cmp}
-use Rattle.krates_cm.specs.Document.{Text, text_view}
-use Rattle.krates_explain.specs.Keys.{key_cmp, key_view, purpose_view}
-use Rattle.krates_explain.specs.contracts.key.PurposeOrd.TheImpl as purpose_order
+use Rattle.std.proofs.Common.{◌≡◌, ◌↔◌, ℕ, Equal, option_map, refl, subst}
+use Rattle.std.proofs.lemmas.Cmp.{tied_itself, nat_cmp_total}
+use Rattle.std.proofs.lemmas.Map.Lookups.{exact_unsigned}
+use Rattle.std.specs.Ordering.{nat_cmp}
+use Rattle.krates_cm.specs.Document.{text_view}
+use Rattle.krates_explain.specs.Keys.{key_cmp, key_view}
 use Rattle.krates_explain.specs.declared.key.EdgeKey.{EdgeKey}
 use Rattle.krates_explain.specs.declared.key.FactKey.{FactKey}
 use Rattle.krates_explain.specs.declared.key.FactKey.TheVariants as keys
 use Rattle.krates_explain.specs.declared.key.FeatureKey.{FeatureKey}
 use Rattle.krates_explain.specs.declared.key.ToggleKey.{ToggleKey}
-use Rattle.krates_explain.specs.declared.key.Purpose.{Purpose}
-use Rattle.krates_explain.specs.declared.key.Purpose.TheVariants as purposes
-
--- both parts decide
-then_equal : (a b : Ordering) → ordering_then a b ≡ Equal → (a ≡ Equal) × (b ≡ Equal)
-then_equal Less b h = absurd cc
-then_equal Equal b h = (refl, h)
-then_equal Greater b h = absurd cc
-
-equal_then : (a b : Ordering) → a ≡ Equal → b ≡ Equal → ordering_then a b ≡ Equal
-equal_then Less b x y = absurd cc
-equal_then Equal b x y = y
-equal_then Greater b x y = absurd cc
-
-text_tells : (a b : Text) → (slice_cmp nat_cmp a b ≡ Equal) ↔ (a ≡ b)
-text_tells a b = (λ h. exact_bytes a b h, λ e. subst (λ (c : Text). slice_cmp nat_cmp a c ≡ Equal) e (tied_itself nat_list_cmp_total a))
+use Rattle.krates_rules.proofs.KeyOrder.{equal_then, kind_tells, option_tells, text_tells, then_equal}
+use Rattle.krates_rules.specs.Kind.{written_of}
 
 number_tells : (a b : ℕ) → (nat_cmp a b ≡ Equal) ↔ (a ≡ b)
 number_tells a b = (λ h. exact_unsigned a b h, λ e. subst (λ c. nat_cmp a c ≡ Equal) e (tied_itself nat_cmp_total a))
-
-purpose_to : (a b : Purpose) → (purpose_order.ghosts).cmp a b ≡ Equal → purpose_view a ≡ purpose_view b
-purpose_to purposes.Normal purposes.Normal h = refl
-purpose_to purposes.Normal purposes.Build h = absurd cc
-purpose_to purposes.Normal purposes.Dev h = absurd cc
-purpose_to purposes.Build purposes.Normal h = absurd cc
-purpose_to purposes.Build purposes.Build h = refl
-purpose_to purposes.Build purposes.Dev h = absurd cc
-purpose_to purposes.Dev purposes.Normal h = absurd cc
-purpose_to purposes.Dev purposes.Build h = absurd cc
-purpose_to purposes.Dev purposes.Dev h = refl
-
-purpose_from : (a b : Purpose) → purpose_view a ≡ purpose_view b → (purpose_order.ghosts).cmp a b ≡ Equal
-purpose_from purposes.Normal purposes.Normal e = refl
-purpose_from purposes.Normal purposes.Build e = absurd cc
-purpose_from purposes.Normal purposes.Dev e = absurd cc
-purpose_from purposes.Build purposes.Normal e = absurd cc
-purpose_from purposes.Build purposes.Build e = refl
-purpose_from purposes.Build purposes.Dev e = absurd cc
-purpose_from purposes.Dev purposes.Normal e = absurd cc
-purpose_from purposes.Dev purposes.Build e = absurd cc
-purpose_from purposes.Dev purposes.Dev e = refl
-
-option_tells : (a b : Option (String Global)) → (option_cmp string_cmp a b ≡ Equal) ↔ (option_map text_view a ≡ option_map text_view b)
-option_tells None None = (λ h. refl, λ h. refl)
-option_tells None (Some y) = (λ h. absurd cc, λ h. absurd cc)
-option_tells (Some x) None = (λ h. absurd cc, λ h. absurd cc)
-option_tells (Some x) (Some y) = (
-  λ h. ap (λ (t : Text). Some t) ((text_tells (text_view x) (text_view y)).0 h),
-  λ h. (text_tells (text_view x) (text_view y)).1 (same_Some (text_view x) (text_view y) h),
-)
 
 feature_to : (a b : FeatureKey) → key_cmp (keys.Feature a) (keys.Feature b) ≡ Equal → (a.krate ≡ b.krate) × (a.name.now ≡ b.name.now)
 feature_to a b h =
@@ -82,7 +31,7 @@ kept_to a b h =
     let u = then_equal _ _ v.1 in
     let p = (number_tells a.parent b.parent).0 w.0 in
     let c = (number_tells a.child b.child).0 v.0 in
-    let k = purpose_to a.purpose b.purpose u.0 in
+    let k = (kind_tells a.kind b.kind).0 u.0 in
     let t = (option_tells a.cfg.now b.cfg.now).0 u.1 in
     rw (p, c, k, t) refl
 
@@ -90,9 +39,9 @@ kept_from : (a b : EdgeKey) → key_view (keys.Kept a) ≡ key_view (keys.Kept b
 kept_from a b e =
     let p : a.parent ≡ b.parent = cc in
     let c : a.child ≡ b.child = cc in
-    let k : purpose_view a.purpose ≡ purpose_view b.purpose = cc in
+    let k : written_of a.kind ≡ written_of b.kind = cc in
     let t : option_map text_view a.cfg.now ≡ option_map text_view b.cfg.now = cc in
-    equal_then _ _ ((number_tells a.parent b.parent).1 p) (equal_then _ _ ((number_tells a.child b.child).1 c) (equal_then _ _ (purpose_from a.purpose b.purpose k) ((option_tells a.cfg.now b.cfg.now).1 t)))
+    equal_then _ _ ((number_tells a.parent b.parent).1 p) (equal_then _ _ ((number_tells a.child b.child).1 c) (equal_then _ _ ((kind_tells a.kind b.kind).1 k) ((option_tells a.cfg.now b.cfg.now).1 t)))
 
 toggled_to : (a b : ToggleKey) → key_cmp (keys.Toggled a) (keys.Toggled b) ≡ Equal → key_view (keys.Toggled a) ≡ key_view (keys.Toggled b)
 toggled_to a b h =

@@ -2,7 +2,7 @@
 use Rattle.std.specs.Prelude.{ℕ, ◌<◌, List, Option, map, option_map}
 use Rattle.krates_cm.specs.Document.{Text, text_view}
 use Rattle.krates_cm.specs.declared.dependency.DependencyKind.{DependencyKind}
-use Rattle.krates_derive.specs.Told.{written_of}
+use Rattle.krates_rules.specs.Kind.{written_of}
 use Rattle.krates_explain.specs.declared.kept.KeptFact.{KeptFact}
 use Rattle.krates_explain.specs.declared.kept.KeptFact.TheVariants as kept
 use Rattle.krates_explain.specs.declared.kept.KeptStep.{KeptStep}

@@ -3,26 +3,17 @@ use Rattle.std.specs.Prelude.{◌≡◌, ◌↔◌, ℕ, ◌<◌, List, All, Non
 use Rattle.std.specs.BTreeMap.{BTreeMap, get}
 use Rattle.std.specs.declared.cmp.Ordering.{Ordering}
 use Rattle.krates_cm.specs.Document.{text_view}
-use Rattle.krates_cm.specs.declared.dependency.DependencyKind.{DependencyKind}
-use Rattle.krates_cm.specs.declared.dependency.DependencyKind.TheVariants as written
 use Rattle.krates_explain.specs.KeptFacts.{KeptModel, KeepsCrate, KeepsEdge, Enables, Toggles}
 use Rattle.krates_explain.specs.contracts.key.FactKeyOrd.TheImpl as key_order
 use Rattle.krates_explain.specs.declared.key.EdgeKey.{EdgeKey}
 use Rattle.krates_explain.specs.declared.key.FactKey.{FactKey}
 use Rattle.krates_explain.specs.declared.key.FactKey.TheVariants as keys
-use Rattle.krates_explain.specs.declared.key.Purpose.{Purpose}
-use Rattle.krates_explain.specs.declared.key.Purpose.TheVariants as purposes
+use Rattle.krates_rules.specs.Kind.{written_of}
 use Rattle.krates_steps.specs.Part.{SameFact}
-
--- the kind as the document writes it
-abbrev pub purpose_view : Purpose → DependencyKind
-purpose_view purposes.Normal = written.Normal
-purpose_view purposes.Build = written.Build
-purpose_view purposes.Dev = written.Development
 
 -- the edge
 abbrev pub edge_view : EdgeKey → KeptModel
-edge_view e = KeepsEdge e.parent e.child (purpose_view e.purpose) (option_map text_view e.cfg.now)
+edge_view e = KeepsEdge e.parent e.child (written_of e.kind) (option_map text_view e.cfg.now)
 
 -- the fact
 abbrev pub key_view : FactKey → KeptModel

@@ -1,25 +1,12 @@
 //! Facts as keys of a map. Their texts are lent, and two keys compare as equal where they are the same fact.
 
 ghost use Rattle.std.specs.Prelude.{◌≡◌, IfOk};
-ghost use Rattle.krates_derive.specs.Told.{written_of};
 ghost use Rattle.krates_explain.specs.KeptFacts.{kept_view};
-ghost use Rattle.krates_explain.specs.Keys.{edge_view, home, key_view, purpose_view};
+ghost use Rattle.krates_explain.specs.Keys.{edge_view, home, key_view};
 
 use crate::kept::KeptFact;
-use krates_cm::DependencyKind;
 use krates_rules::DepKind;
 use std::alloc::{AllocError, Global};
-
-/// For what a dependency is needed, in an order.
-#[derive(Clone, Copy, PartialEq, Eq, PartialOrd, Ord)]
-pub(crate) enum Purpose {
-    /// For the package itself.
-    Normal,
-    /// For the build script.
-    Build,
-    /// For tests, examples and benchmarks.
-    Dev,
-}
 
 /// A feature.
 #[derive(Clone, Copy, PartialEq, Eq, PartialOrd, Ord)]
@@ -38,7 +25,7 @@ pub(crate) struct EdgeKey<'a> {
     /// The number of the crate that it depends on.
     pub child: usize,
     /// For what it is needed.
-    pub purpose: Purpose,
+    pub kind: DepKind,
     /// The target that it is needed for.
     pub cfg: &'a Option<String>,
 }
@@ -63,28 +50,6 @@ pub(crate) enum FactKey<'a> {
     Kept(EdgeKey<'a>),
     /// The feature is toggled.
     Toggled(ToggleKey<'a>),
-}
-
-/// For what a dependency of this kind is needed.
-pub(crate) fn purpose_of(kind: DependencyKind) -> Purpose
-    ensures { purpose_view result ≡ kind }
-{
-    match kind {
-        DependencyKind::Normal => Purpose::Normal,
-        DependencyKind::Build => Purpose::Build,
-        DependencyKind::Development => Purpose::Dev,
-    }
-}
-
-/// The kind of a dependency that is needed for this.
-fn kind_for(purpose: Purpose) -> DepKind
-    ensures { written_of result ≡ purpose_view purpose }
-{
-    match purpose {
-        Purpose::Normal => DepKind::Normal,
-        Purpose::Build => DepKind::Build,
-        Purpose::Dev => DepKind::Dev,
-    }
 }
 
 /// The number of the crate among whose facts a fact is looked for: the one that is kept or has the feature, or from which the edge or
@@ -130,7 +95,7 @@ fn edge_of(edge: &EdgeKey<'_>) -> Result<KeptFact, AllocError>
     Ok(KeptFact::Kept {
         parent: edge.parent,
         child: edge.child,
-        kind: kind_for(edge.purpose),
+        kind: edge.kind,
         cfg: edge.cfg.clone()?,
     })
 }

@@ -9,11 +9,12 @@ ghost use Rattle.krates_resolve.specs.Trace.{EdgeAt};
 ghost use Rattle.krates_rules.specs.Facts.{Edge};
 ghost use Rattle.krates_rules.specs.Questions.{kind_info_of};
 
-use crate::key::{EdgeKey, FactKey, FeatureKey, ToggleKey, purpose_of};
+use crate::key::{EdgeKey, FactKey, FeatureKey, ToggleKey};
 use krates_cm::DepKindInfo;
 use krates_ids::{Kid, laws};
 use krates_lookups::lookup::{Lookup, at_number};
 use krates_resolve::{NumberedFact, NumberedStep};
+use krates_rules::DepKind;
 use std::alloc::{AllocError, Global};
 
 /// A document, and the kept crates of it in the order of their ids.
@@ -116,12 +117,12 @@ fn edge_at<'a>(tables: &Tables<'a, '_>, place: usize, index: usize, kind: usize)
     EdgeKey {
         parent: crate_at(tables, place),
         child: child_at(tables, place, index),
-        purpose: purpose_of(info.kind),
+        kind: DepKind::from(info.kind),
         cfg: &info.target,
     }
 }
 
-/// The purpose and target at these places.
+/// The kind and target at these places.
 fn info_at<'a>(lookup: &Lookup<'a>, place: usize, index: usize, kind: usize) -> &'a DepKindInfo
     requires lookup { IsLookup lookup.now }
     requires there { (e : Edge) × EdgeAt (resolved_view lookup.now) e place index kind }

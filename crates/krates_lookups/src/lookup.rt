@@ -114,8 +114,8 @@ pub fn at_number(places: &[Option<usize>], number: Option<usize>) -> Option<usiz
     }
 }
 
-/// The place of the package of the crate with the number.
-pub(crate) fn package_place_at(lookup: &Lookup<'_>, number: Option<usize>) -> Option<usize>
+/// The place of the package of the crate with the number. None where it has none. Time O(1).
+pub fn package_place_at(lookup: &Lookup<'_>, number: Option<usize>) -> Option<usize>
     requires lookup { IsLookup lookup.now }
     requires number { IsNumber lookup.now number }
     ensures { (i : Id) → IsNumberIn lookup.now i number → IsPackagePlace (resolved_view lookup.now) i result }

@@ -74,6 +74,7 @@ edge_advances r s x v e edge sound more is placed reached used marked d step =
     let back = sym is in (
       record {
         sound = record {
+          excluded = sound.excluded;
           krates_size = sound.krates_size;
           features_size = sound.features_size;
           own = sound.own;

@@ -99,6 +99,7 @@ crate_advances once r s x a v place n i sound is more at step =
     let here : IsKrateStep r x.trace.items place n = λ j there. subst (λ (k : Id). HasStep r x.trace.items n (Crate k)) (one_id once r i j place at there) step in
     record {
       sound = record {
+        excluded = sound.excluded;
         krates_size = (put_taken x.krates a place p).1 ∙ sound.krates_size;
         features_size = sound.features_size;
         own = sound.own;
@@ -184,6 +185,7 @@ feature_advances once r s x a v number n i f sound is more at own kept step =
     subst (λ (k : Id). HasStep r x.trace.items n (Feature k t)) same.0 (subst (λ (h : Text). HasStep r x.trace.items n (Feature i h)) same.1 step) in
     record {
       sound = record {
+        excluded = sound.excluded;
         krates_size = sound.krates_size;
         features_size = (put_taken x.features a number p).1 ∙ sound.features_size;
         own = λ m c. elim (put_from x.features a number m p c) [
@@ -267,6 +269,7 @@ toggled_advances r s x v t p c g sound more is nodes enabled d step =
     let grown : Grows r x y = record { found = λ f h. toggled_found r x v t f more h; steps = λ n f h. h; waits = λ b k m n z at h. inl h; krates = λ k n h. h; features = λ k n h. h; krates_taken = refl; features_taken = refl } in (
       record {
         sound = record {
+          excluded = sound.excluded;
           krates_size = sound.krates_size;
           features_size = sound.features_size;
           own = sound.own;
@@ -305,7 +308,7 @@ dep_there r p c k i place index a b at = subst (λ (m : ℕ). DepAt r p c m inde
 -- what was found, with other links
 abbrev pub with_links : Found → Links → Found
 with_links x l =
-    record { krates = x.krates; features = x.features; edges = x.edges; toggled = x.toggled; trace = x.trace; krate_steps = x.krate_steps; feature_steps = x.feature_steps; links = l }
+    record { krates = x.krates; features = x.features; edges = x.edges; toggled = x.toggled; trace = x.trace; krate_steps = x.krate_steps; feature_steps = x.feature_steps; links = l; excluded = x.excluded }
 
 links_found : (r : Resolved) (x : Found) (l : Links) (f : Fact) → HasFound r x f → HasFound r (with_links x l) f
 links_found r x l (Crate i) h = h
@@ -339,6 +342,7 @@ step_advances once r s x v step f sound more names finds =
     let grown : Grows r x y = record { found = λ g h. h; steps = stay; waits = λ b k m n z at h. inl h; krates = λ k n h. h; features = λ k n h. h; krates_taken = refl; features_taken = refl } in
     record {
       sound = record {
+        excluded = sound.excluded;
         krates_size = sound.krates_size;
         features_size = sound.features_size;
         own = sound.own;
@@ -386,6 +390,7 @@ waiter_advances r s x l place index w sound more asked step unmarked =
     let back : (k i : ℕ) → IsMarked l k i → IsMarked x.links k i = λ k i. same_mark l x.links k i (λ n. (more.marks k i n).1) in
     record {
       sound = record {
+        excluded = sound.excluded;
         krates_size = sound.krates_size;
         features_size = sound.features_size;
         own = sound.own;
@@ -435,6 +440,7 @@ asked_advances r s x l place index sound more now_tried =
     let waited : (k i : ℕ) (t : Text) → Waits l k i t → Waits x.links k i t = λ k i t w. record { waiter = w.waiter; waits = (more.waits k i w.waiter).1 w.waits; named = w.named } in
     record {
       sound = record {
+        excluded = sound.excluded;
         krates_size = sound.krates_size;
         features_size = sound.features_size;
         own = sound.own;
@@ -487,6 +493,7 @@ pub mark_sound : (r : Resolved) (s : SettingModel) (x : Found) (l : Links) (plac
 mark_sound r s x l place index n waiters sound more arrived kept step =
     let waited : (k i : ℕ) (t : Text) → Waits l k i t → Waits x.links k i t = λ k i t w. record { waiter = w.waiter; waits = more.waited k i w.waiter w.waits; named = w.named } in
     record {
+      excluded = sound.excluded;
       krates_size = sound.krates_size;
       features_size = sound.features_size;
       own = sound.own;

@@ -13,6 +13,7 @@ use Rattle.krates_resolve.specs.Found.{HasFound, IsSound, Advances, HasRoots, Is
 use Rattle.krates_rules.specs.Resolved.{DepAt, Resolved}
 use Rattle.krates_resolve.specs.Links.{AreNew, HasLinks}
 use Rattle.krates_lookups.specs.ListedFeatures.{listed_features}
+use Rattle.krates_questions.specs.Standing.{AreExclusions}
 use Rattle.krates_rules.specs.Questions.{IsDeclaredAs, Stands, IsWanted, questions}
 use Rattle.krates_rules.specs.References.{Demands}
 use Rattle.krates_rules.specs.Referent.{IsReferent}
@@ -216,8 +217,9 @@ no_step k y at = cc
 empty_zip : (R : ℕ → ℕ → Type 0) (xs ys : List ℕ) → xs ≡ [] → ys ≡ [] → AllZip R xs ys
 empty_zip R xs ys a b = subst (λ (us : List ℕ). AllZip R us ys) (sym a) (subst (AllZip R []) (sym b) tt)
 
-pub sound_start : (r : Resolved) (s : SettingModel) (x : Found) → x.krates.size ≡ length r.graph.nodes → x.features.size ≡ length (listed_features r) → HasLinks r x.links → AreNew x.links → IsEmpty x → IsSound r s x
-sound_start r s x krates features links new none = record {
+pub sound_start : (r : Resolved) (s : SettingModel) (x : Found) → AreExclusions r s x.excluded.items → x.krates.size ≡ length r.graph.nodes → x.features.size ≡ length (listed_features r) → HasLinks r x.links → AreNew x.links → IsEmpty x → IsSound r s x
+sound_start r s x excluded krates features links new none = record {
+  excluded = excluded;
   krates_size = krates;
   features_size = features;
   own = λ n c. absurd (no_element n (subst (λ (ns : List ℕ). Contains ns n) none.features c));

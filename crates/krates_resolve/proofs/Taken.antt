@@ -21,7 +21,7 @@ use Rattle.krates_rules.proofs.Standings.{contains_at}
 
 -- the same was found, and this many crates and features were taken
 abbrev pub taken_to : Found → ℕ → ℕ → Found
-taken_to x n m = record { krates = record x.krates { taken = n }; features = record x.features { taken = m }; edges = x.edges; toggled = x.toggled; trace = x.trace; krate_steps = x.krate_steps; feature_steps = x.feature_steps; links = x.links }
+taken_to x n m = record { krates = record x.krates { taken = n }; features = record x.features { taken = m }; edges = x.edges; toggled = x.toggled; trace = x.trace; krate_steps = x.krate_steps; feature_steps = x.feature_steps; links = x.links; excluded = x.excluded }
 
 named_taken : (r : Resolved) (x : Found) (n m : ℕ) (i : Id) (f : Text) → IsEnabledBySome r x i f → IsEnabledBySome r (taken_to x n m) i f
 named_taken r x n m i f h = record { enabled = h.enabled; listed = h.listed }
@@ -58,6 +58,7 @@ roots_taken r s x n m h i root = let y = h i root in record { kept = y.kept; ena
 
 pub sound_taken : (r : Resolved) (s : SettingModel) (x : Found) (n m : ℕ) → IsSound r s x → IsSound r s (taken_to x n m)
 sound_taken r s x n m h = record {
+  excluded = h.excluded;
   krates_size = h.krates_size;
   features_size = h.features_size;
   own = h.own;
@@ -100,7 +101,7 @@ unchanged a b n e same = e ∙ ap (λ (k : ℕ). record a { taken = k }) same
 
 -- what has been found, with other agendas
 abbrev pub with_agendas : Found → PutNumbers → PutNumbers → Found
-with_agendas x a b = record { krates = a; features = b; edges = x.edges; toggled = x.toggled; trace = x.trace; krate_steps = x.krate_steps; feature_steps = x.feature_steps; links = x.links }
+with_agendas x a b = record { krates = a; features = b; edges = x.edges; toggled = x.toggled; trace = x.trace; krate_steps = x.krate_steps; feature_steps = x.feature_steps; links = x.links; excluded = x.excluded }
 
 pub same_agendas : (x : Found) (a b c d : PutNumbers) → a ≡ c → b ≡ d → with_agendas x a b ≡ with_agendas x c d
 same_agendas x a b c d e h = ap (λ (n : PutNumbers). with_agendas x n b) e ∙ ap (λ (n : PutNumbers). with_agendas x c n) h

@@ -10,6 +10,7 @@ use Rattle.krates_rules.specs.Features.{ListsFeature, LacksFeature, HasReference
 use Rattle.krates_rules.specs.Resolved.{DepAt, NodeAt, Resolved, NoPackage}
 use Rattle.krates_resolve.specs.Links.{HasLinks, IsMarked, IsMarkedBy, IsWaiter, Waits, WasAsked}
 use Rattle.krates_resolve.specs.Trace.{HasSomeStep, HasStep, IsTrace}
+use Rattle.krates_questions.specs.Standing.{AreExclusions}
 use Rattle.krates_rules.specs.Questions.{edge_between, Stands, LacksNode, IsWanted, IsLoose, questions}
 use Rattle.krates_lookups.specs.ListedFeatures.{listed_features}
 use Rattle.krates_lookups.specs.Numbering.{FeatureAt, IsOwn}
@@ -226,6 +227,8 @@ pub record HaveTheirSteps (r : Resolved) (s : SettingModel) (x : Traced) : Type 
 
 -- all that has been found is derivable, and what follows from kept edges, toggled and enabled features alone stands in it
 pub record IsSound (r : Resolved) (s : SettingModel) (x : Found) : Type 0 where
+  -- it is known which packages are excluded
+  pub excluded : AreExclusions r s x.excluded.items
   -- there is room for each node, each feature and each dependency
   pub krates_size : x.krates.size ≡ length r.graph.nodes
   pub features_size : x.features.size ≡ length (listed_features r)

@@ -2,25 +2,16 @@
 use Rattle.std.specs.Prelude.{◌≡◌, ℕ, List, Contains, Some, option_map, slice_get}
 use Rattle.std.specs.declared.cmp.Ordering.{Ordering}
 use Rattle.krates_cm.specs.Document.{DepKindInfoModel, text_view}
-use Rattle.krates_cm.specs.declared.dependency.DependencyKind.{DependencyKind}
-use Rattle.krates_cm.specs.declared.dependency.DependencyKind.TheVariants as written
 use Rattle.krates_lookups.specs.NodeEntry.{IsFirstInfo}
 use Rattle.krates_lookups.specs.declared.node_entry.EntryEdge.{EntryEdge}
 use Rattle.krates_resolve.specs.contracts.kinds.KindKeyOrd.TheImpl as key_order
 use Rattle.krates_resolve.specs.declared.kinds.KindKey.{KindKey}
-use Rattle.krates_resolve.specs.declared.kinds.Purpose.{Purpose}
-use Rattle.krates_resolve.specs.declared.kinds.Purpose.TheVariants as purposes
 use Rattle.krates_rules.specs.DeclaredDependency.{FirstAt}
-
--- the kind as the document writes it
-abbrev pub purpose_view : Purpose → DependencyKind
-purpose_view purposes.Normal = written.Normal
-purpose_view purposes.Build = written.Build
-purpose_view purposes.Dev = written.Development
+use Rattle.krates_rules.specs.Kind.{written_of}
 
 -- the kind and target of a key
 abbrev pub kind_view : KindKey → DepKindInfoModel
-kind_view k = record { kind = purpose_view k.purpose; target = option_map text_view k.target.now }
+kind_view k = record { kind = written_of k.kind; target = option_map text_view k.target.now }
 
 -- the derived order
 abbrev pub kind_cmp : KindKey → KindKey → Ordering

@@ -18,7 +18,7 @@ use krates_graph::agenda::Taken;
 use krates_ids::{Error, Lost, laws};
 use krates_lookups::node_entry::{EntryEdge, NodeEntry, entry_at, parts_of, places_for};
 use krates_questions::basis::Basis;
-use krates_questions::standing::{Standing, standing_of_child};
+use krates_questions::standing::{Standing, known_standing_of_child};
 
 /// Keeps what a kept crate needs: tries each edge of its node.
 ///
@@ -83,7 +83,7 @@ pub(crate) fn expand_entry<'a>(
 {
     laws::one_reading();
     let places = places_for(basis.lookup, entry);
-    let standing = standing_of_child(basis.lookup, basis.setting, entry);
+    let standing = known_standing_of_child(basis, &found.excluded, entry);
     let infos = entry.dep.dep_kinds.as_slice();
     let kinds = first_kinds(basis.alloc, infos)?;
     let mut whole = true;

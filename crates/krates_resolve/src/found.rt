@@ -25,4 +25,6 @@ pub(crate) struct Found<'a> {
     pub feature_steps: Vec<usize>,
     /// What is kept for each dependency of each node.
     pub links: Links<'a>,
+    /// Whether each package is excluded, in the order of the document: asked once, before the search.
+    pub excluded: Vec<bool>,
 }

@@ -1,29 +1,19 @@
 //! The kinds and targets of a dependency, each once.
 
 ghost use Rattle.krates_cm.specs.Document.{dep_kind_info_view};
-ghost use Rattle.krates_resolve.specs.Kinds.{AreFirstKinds, kind_view, purpose_view};
+ghost use Rattle.krates_resolve.specs.Kinds.{AreFirstKinds, kind_view};
 ghost use Rattle.std.specs.Prelude.{◌≡◌, ◌<◌, IfOk, Some, length, map, slice_get};
 
-use krates_cm::{DepKindInfo, DependencyKind};
+use krates_cm::DepKindInfo;
+use krates_rules::DepKind;
 use std::alloc::{AllocError, Global};
 use std::collections::BTreeSet;
-
-/// For what a dependency is needed, in an order.
-#[derive(Clone, Copy, PartialEq, Eq, PartialOrd, Ord)]
-pub(crate) enum Purpose {
-    /// For the package itself.
-    Normal,
-    /// For the build script.
-    Build,
-    /// For tests, examples and benchmarks.
-    Dev,
-}
 
 /// A kind and a target, as a key of a set.
 #[derive(Clone, Copy, PartialEq, Eq, PartialOrd, Ord)]
 pub(crate) struct KindKey<'a> {
     /// For what the dependency is needed.
-    pub purpose: Purpose,
+    pub kind: DepKind,
     /// The target that it is needed for.
     pub target: &'a Option<String>,
 }
@@ -60,18 +50,7 @@ fn key_of<'a>(info: &'a DepKindInfo) -> KindKey<'a>
     ensures { kind_view result ≡ dep_kind_info_view info.now }
 {
     KindKey {
-        purpose: purpose_of(info.kind),
+        kind: DepKind::from(info.kind),
         target: &info.target,
-    }
-}
-
-/// For what a dependency of this kind is needed.
-fn purpose_of(kind: DependencyKind) -> Purpose
-    ensures { purpose_view result ≡ kind }
-{
-    match kind {
-        DependencyKind::Normal => Purpose::Normal,
-        DependencyKind::Build => Purpose::Build,
-        DependencyKind::Development => Purpose::Dev,
     }
 }

@@ -7,6 +7,10 @@ ghost use Rattle.krates_rules.specs.Admission.{IsAdmitted};
 ghost use Rattle.krates_resolve.specs.Explained.{IsExplained, IsExplainedOf};
 ghost use Rattle.krates_document.specs.Ids.{ids_view};
 ghost use Rattle.krates_lookups.specs.Lookup.{IsLookup, resolved_view};
+ghost use Rattle.krates_questions.specs.Basis.{document_of};
+ghost use Rattle.krates_resolve.specs.Counting.{HasCountedAll};
+ghost use Rattle.krates_resolve.specs.Found.{IsSound};
+ghost use Rattle.krates_resolve.specs.Saturation.{HasExactly};
 ghost use Rattle.krates_resolve.specs.Selection.{IsSelection, IsSelectionOf, RefusesSelection};
 ghost use Rattle.krates_rules.specs.Questions.{questions};
 ghost use Rattle.krates_rules.specs.SelectionRefusals.{SelectionRefusal};
@@ -18,6 +22,7 @@ use crate::kept_numbers::KeptNumbers;
 use crate::kept_toggled::kept_toggled;
 use crate::saturation::saturate;
 use crate::selection::Selection;
+use crate::trace::NumberedStep;
 use crate::work::Work;
 use krates_cm::Metadata;
 use krates_document::ids::Ids;
@@ -67,36 +72,64 @@ pub fn select_in<'a>(
     ensures explained { IfOk result (IsExplained (resolved_view lookup.now) setting.now) }
     ensures refused { IfErr result (SelectionRefusal (questions (resolved_view lookup.now) setting.now)) }
 {
-    laws::one_reading();
-    laws::comparison();
     let mut work = Work::new();
     let found = saturate(alloc, lookup, setting, &mut work)?;
     if found.krates.numbers().is_empty() {
         return Err(Error::NoRootKrates);
     }
+    let basis = Basis {
+        alloc,
+        lookup,
+        setting,
+    };
+    let mut selection = selection_of(&basis, &found, work)?;
+    selection.steps = trace_of(found);
+    Ok(selection)
+}
+
+/// What was found, with the work that it was, in the order of the ids: a selection that has no steps yet.
+fn selection_of<'a>(
+    basis: &Basis<'a, '_>,
+    found: &Found<'a>,
+    work: Work,
+) -> Result<Selection, AllocError>
+    requires lookup { IsLookup basis.now.lookup.now }
+    requires exact { HasExactly (document_of basis.now) basis.now.setting.now found.now }
+    requires sound { IsSound (document_of basis.now) basis.now.setting.now found.now }
+    requires counted { HasCountedAll (document_of basis.now) basis.now.setting.now found.now work }
+    requires some { 0 < length found.now.krates.put }
+    ensures { IfOk result (IsSelection (document_of basis.now) basis.now.setting.now) }
+{
+    laws::one_reading();
+    laws::comparison();
+    let alloc = basis.alloc;
+    let lookup = basis.lookup;
     let krates = in_order(kids_at(alloc, &lookup.ids.nodes, found.krates.numbers())?)?;
     let of_nodes = numbers_of(alloc, &krates, &lookup.ids.nodes)?;
     let numbers = KeptNumbers {
         krates: &krates,
         of_nodes: &of_nodes,
     };
-    let basis = Basis {
-        alloc,
-        lookup,
-        setting,
-    };
-    let edges = kept_edges(&basis, &numbers, &found.edges)?;
+    let edges = kept_edges(basis, &numbers, &found.edges)?;
     let features = kept_features(alloc, lookup, &numbers, found.features.numbers())?;
     let toggled = kept_toggled(alloc, lookup, &numbers, &found.toggled)?;
-    let Found { trace: steps, .. } = found;
     Ok(Selection {
         krates,
         edges,
         features,
         toggled,
-        steps,
+        steps: Vec::new(alloc),
         work,
     })
+}
+
+/// The steps by which all was found, in no more room than they need, since they are kept as long as the graph.
+fn trace_of(found: Found<'_>) -> Vec<NumberedStep>
+    ensures { result.items ≡ found.entry.trace.items }
+{
+    let mut steps = found.trace;
+    steps.shrink_to_fit();
+    steps
 }
 
 /// The ids at these places of a list.

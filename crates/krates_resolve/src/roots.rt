@@ -16,7 +16,7 @@ use krates_graph::agenda::Agenda;
 use krates_ids::{Error, Kid, Lost, laws};
 use krates_questions::basis::Basis;
 use krates_questions::root_choice::{RootChoice, choice_of, is_root};
-use krates_questions::standing::{Standing, standing_of};
+use krates_questions::standing::{Standing, known_standing};
 
 /// Puts the roots: the graph's root, every member, or the members with one of the manifests that are asked for.
 ///
@@ -105,7 +105,7 @@ fn put_root<'a>(
     ensures refused { IfErr result (Refuses basis.now) }
 {
     laws::one_reading();
-    match standing_of(basis.lookup, basis.setting, root) {
+    match known_standing(basis, &found.excluded, root) {
         Standing::NoPackage => Err(Error::Lost(Lost::Package(root.clone()?))),
         Standing::NoNode => Err(Error::Lost(Lost::Node(root.clone()?))),
         Standing::Excluded => Ok(()),

@@ -2,7 +2,7 @@
 
 ghost use Rattle.krates_resolve.specs.Basis.{HasCounted, HasDone, TakesOne};
 ghost use Rattle.krates_questions.specs.Basis.{Refuses};
-ghost use Rattle.std.specs.Prelude.{IfErr, IfOk, OnOk};
+ghost use Rattle.std.specs.Prelude.{◌≡◌, IfErr, IfOk, OnOk};
 ghost use Rattle.krates_resolve.specs.Counting.{HasCountedAll, IsFresh};
 ghost use Rattle.krates_resolve.specs.Found.{IsSound};
 ghost use Rattle.krates_resolve.specs.Saturation.{HasExactly};
@@ -21,7 +21,8 @@ use krates_graph::agenda::Agenda;
 use krates_ids::Error;
 use krates_lookups::lookup::Lookup;
 use krates_questions::basis::Basis;
-use std::alloc::Global;
+use krates_questions::standing::exclusions_of;
+use std::alloc::{AllocError, Global};
 
 /// All that is kept of a document: exactly what has a derivation from the roots by the rules. The work is counted.
 ///
@@ -42,16 +43,7 @@ pub(crate) fn saturate<'a>(
         (λ found. HasCountedAll (resolved_view lookup.now) setting.now found work.new) }
     ensures refused { IfErr result (SelectionRefusal (questions (resolved_view lookup.now) setting.now)) }
 {
-    let mut found = Found {
-        krates: Agenda::new(alloc, lookup.resolve.nodes.len())?,
-        features: Agenda::new(alloc, lookup.features.listed.len())?,
-        edges: Vec::new(alloc),
-        toggled: Vec::new(alloc),
-        trace: Vec::new(alloc),
-        krate_steps: Vec::new(alloc),
-        feature_steps: Vec::new(alloc),
-        links: links_of(alloc, lookup)?,
-    };
+    let mut found = nothing_found(alloc, lookup, setting)?;
     let basis = Basis {
         alloc,
         lookup,
@@ -60,6 +52,34 @@ pub(crate) fn saturate<'a>(
     put_roots(&basis, &mut found)?;
     while take_next(&basis, &mut found, work)? {}
     Ok(found)
+}
+
+/// Nothing is found yet. The agendas have a place for each node and each feature.
+fn nothing_found<'a>(
+    alloc: Global,
+    lookup: &Lookup<'a>,
+    setting: &Setting,
+) -> Result<Found<'a>, AllocError>
+    requires { IsLookup lookup.now }
+    ensures sound { IfOk result (IsSound (resolved_view lookup.now) setting.now) }
+    ensures krates { IfOk result (λ found. found.krates.taken ≡ 0) }
+    ensures features { IfOk result (λ found. found.features.taken ≡ 0) }
+{
+    let krates = Agenda::new(alloc, lookup.resolve.nodes.len())?;
+    let features = Agenda::new(alloc, lookup.features.listed.len())?;
+    let links = links_of(alloc, lookup)?;
+    let excluded = exclusions_of(alloc, &lookup.metadata.packages, setting)?;
+    Ok(Found {
+        krates,
+        features,
+        edges: Vec::new(alloc),
+        toggled: Vec::new(alloc),
+        trace: Vec::new(alloc),
+        krate_steps: Vec::new(alloc),
+        feature_steps: Vec::new(alloc),
+        links,
+        excluded,
+    })
 }
 
 /// Takes the next crate and expands it, or else the next feature and follows its references, and counts that. Answers whether

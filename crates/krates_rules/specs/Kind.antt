@@ -16,6 +16,12 @@ kind_of written.Normal = kinds.Normal
 kind_of written.Development = kinds.Dev
 kind_of written.Build = kinds.Build
 
+-- the kind as the document writes it
+abbrev pub written_of : DepKind → DependencyKind
+written_of kinds.Normal = written.Normal
+written_of kinds.Build = written.Build
+written_of kinds.Dev = written.Development
+
 -- the text that is printed for a kind
 abbrev pub kind_text : DepKind → Text
 kind_text kinds.Normal = codes ""

@@ -7,7 +7,7 @@ use krates_cm::DependencyKind;
 use std::fmt;
 
 /// The kind of a dependency: what it is needed for (Cargo Book, "Specifying Dependencies").
-#[derive(Clone, Copy, Debug, PartialEq, Eq)]
+#[derive(Clone, Copy, Debug, PartialEq, Eq, PartialOrd, Ord)]
 pub enum DepKind {
     /// For the package itself.
     Normal,

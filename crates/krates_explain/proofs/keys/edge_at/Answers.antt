@@ -1,7 +1,8 @@
 use Rattle.std.proofs.Common.{◌∙◌, ap}
 use Rattle.krates_cm.specs.Document.{DepKindInfoModel}
 use Rattle.krates_explain.proofs.KeyedFacts.{edge_same}
-use Rattle.krates_explain.specs.Keys.{purpose_view}
+use Rattle.krates_rules.proofs.KeyOrder.{written_back}
+use Rattle.krates_rules.specs.Kind.{written_of}
 use Rattle.krates_explain.proofs.keys.edge_at.Goals as goal
 
 pub child_at-requires-clause-kept : goal.child_at-requires-clause-kept
@@ -13,7 +14,7 @@ pub returns : goal.returns
 returns c = record {
   is = λ e at. (
       let info = c.info_at-info.ensures e at in
-      edge_same c.args.tables.now.krates.now c.crate_at.result c.child_at.result (purpose_view c.purpose_of.result) _ e (c.crate_at.ensures.is e.parent at.dep.node) (c.child_at.ensures.is e.parent e.child at.dep)
-      (c.purpose_of.ensures ∙ ap (λ (k : DepKindInfoModel). k.kind) info) (ap (λ (k : DepKindInfoModel). k.target) info));
+      edge_same c.args.tables.now.krates.now c.crate_at.result c.child_at.result (written_of c.from.result) _ e (c.crate_at.ensures.is e.parent at.dep.node) (c.child_at.ensures.is e.parent e.child at.dep)
+      (ap written_of c.from.ensures ∙ written_back c.info_at-info.result.now.kind ∙ ap (λ (k : DepKindInfoModel). k.kind) info) (ap (λ (k : DepKindInfoModel). k.target) info));
   below = (c.crate_at.ensures.below, c.child_at.ensures.below);
 }

@@ -1,0 +1,31 @@
+use Rattle.std.proofs.Common.{ℕ, List, length, map, sym, ap, subst, ◌∙◌}
+use Rattle.std.proofs.lemmas.List.{length-map}
+use Rattle.std.specs.List.{AllZip}
+use Rattle.krates_cm.specs.Document.{Text, node_view, package_view}
+use Rattle.krates_cm.specs.declared.package.Package.{Package}
+use Rattle.krates_questions.specs.Standing.{TellsExcluded}
+use Rattle.krates_graph.specs.Agenda.{PutNumbers}
+use Rattle.krates_lookups.specs.FeatureTable.{listed_view}
+use Rattle.krates_lookups.specs.Lookup.{resolved_view}
+use Rattle.krates_resolve.proofs.Saturated.{sound_start}
+use Rattle.krates_resolve.proofs.saturation.nothing_found.Goals as goal
+
+pub returns-clause-sound : goal.returns-clause-sound
+returns-clause-sound c =
+    let look = c.args.lookup.now in
+    let nodes = look.resolve.now.nodes in
+    let listed = look.features.listed in
+    let krates = c.in_ok-krates.ensures in
+    let features = c.in_ok-features.ensures in
+    let krates_size = ap (λ (a : PutNumbers). a.size) krates ∙ c.len.ensures ∙ nodes.ok.0 ∙ sym (length-map nodes.items node_view) in
+    let features_size = ap (λ (a : PutNumbers). a.size) features ∙ c.len-2.ensures ∙ listed.ok.0 ∙ sym (length-map listed.items listed_view) ∙ ap (λ (fs : List (ℕ × Text)). length fs) c.requires.features in
+    let told : List Package → Type 0 = λ ps. AllZip (TellsExcluded c.args.setting.now) (map package_view ps) c.in_ok-excluded.excluded.items in
+    let excluded = subst told c.deref.ensures.value c.in_ok-excluded.ensures in
+    sound_start (resolved_view look) c.args.setting.now _ excluded krates_size features_size c.in_ok-links.ensures.has c.in_ok-links.ensures.new
+    (record { krates = ap (λ (a : PutNumbers). a.put) krates; features = ap (λ (a : PutNumbers). a.put) features; edges = c.new-3.ensures.items; toggled = c.new-4.ensures.items; trace = c.new-5.ensures.items; krate_steps = c.new-6.ensures.items; feature_steps = c.new-7.ensures.items })
+
+pub returns-clause-krates : goal.returns-clause-krates
+returns-clause-krates c = ap (λ (a : PutNumbers). a.taken) c.in_ok-krates.ensures
+
+pub returns-clause-features : goal.returns-clause-features
+returns-clause-features c = ap (λ (a : PutNumbers). a.taken) c.in_ok-features.ensures
