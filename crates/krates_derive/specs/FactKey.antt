@@ -2,31 +2,22 @@
 use Rattle.std.specs.Prelude.{option_map}
 use Rattle.std.specs.declared.cmp.Ordering.{Ordering}
 use Rattle.krates_cm.specs.Document.{text_view}
-use Rattle.krates_cm.specs.declared.dependency.DependencyKind.{DependencyKind}
-use Rattle.krates_cm.specs.declared.dependency.DependencyKind.TheVariants as written
 use Rattle.krates_derive.specs.contracts.fact_key.FactKeyOrd.TheImpl as key_order
 use Rattle.krates_derive.specs.contracts.fact_key.PairOrd.TheImpl as pair_order
 use Rattle.krates_derive.specs.declared.fact_key.EdgeKey.{EdgeKey}
 use Rattle.krates_derive.specs.declared.fact_key.FactKey.{FactKey}
 use Rattle.krates_derive.specs.declared.fact_key.FactKey.TheVariants as keys
 use Rattle.krates_derive.specs.declared.fact_key.Pair.{Pair}
-use Rattle.krates_derive.specs.declared.fact_key.Purpose.{Purpose}
-use Rattle.krates_derive.specs.declared.fact_key.Purpose.TheVariants as purposes
 use Rattle.krates_rules.specs.Facts.{Edge, Fact, Crate, Feature, Kept, Toggled}
+use Rattle.krates_rules.specs.Kind.{written_of}
 use Rattle.krates_rules.specs.Resolved.{id_of}
-
--- the kind as the document writes it
-abbrev pub purpose_view : Purpose → DependencyKind
-purpose_view purposes.Normal = written.Normal
-purpose_view purposes.Build = written.Build
-purpose_view purposes.Dev = written.Development
 
 -- the edge
 abbrev pub edge_view : EdgeKey → Edge
 edge_view e = record {
   parent = id_of e.pair.parent.now;
   child = id_of e.pair.child.now;
-  kind = purpose_view e.purpose;
+  kind = written_of e.kind;
   cfg = option_map text_view e.cfg.now;
 }
 

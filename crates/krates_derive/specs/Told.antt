@@ -1,8 +1,6 @@
 -- A caller's facts, steps and edges, as the rules see them.
 use Rattle.std.specs.Prelude.{List, map, option_map}
 use Rattle.krates_cm.specs.Document.{text_view}
-use Rattle.krates_cm.specs.declared.dependency.DependencyKind.{DependencyKind}
-use Rattle.krates_cm.specs.declared.dependency.DependencyKind.TheVariants as written
 use Rattle.krates_derive.specs.declared.derivation.Fact.{Fact as ToldFact}
 use Rattle.krates_derive.specs.declared.derivation.Fact.TheVariants as told
 use Rattle.krates_derive.specs.declared.derivation.Step.{Step}
@@ -12,16 +10,9 @@ use Rattle.krates_derive.specs.declared.told.ToldEdge.{ToldEdge}
 use Rattle.krates_derive.specs.declared.told.ToldFeature.{ToldFeature}
 use Rattle.krates_derive.specs.declared.told.ToldToggle.{ToldToggle}
 use Rattle.krates_rules.specs.Facts.{Edge, Fact, Crate, Feature, Kept, Toggled}
+use Rattle.krates_rules.specs.Kind.{written_of}
 use Rattle.krates_rules.specs.Resolved.{id_of}
 use Rattle.krates_rules.specs.Steps.{StepModel}
-use Rattle.krates_rules.specs.declared.kind.DepKind.{DepKind}
-use Rattle.krates_rules.specs.declared.kind.DepKind.TheVariants as kinds
-
--- the kind as the document writes it
-abbrev pub written_of : DepKind → DependencyKind
-written_of kinds.Normal = written.Normal
-written_of kinds.Build = written.Build
-written_of kinds.Dev = written.Development
 
 -- the caller's fact
 abbrev pub fact_view : ToldFact → Fact

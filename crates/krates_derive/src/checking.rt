@@ -9,7 +9,8 @@ ghost use Rattle.krates_derive.specs.Told.{facts_view, step_view, steps_view};
 ghost use Rattle.krates_document.specs.Ids.{ids_view};
 ghost use Rattle.krates_ids.specs.Correction.{index_view};
 ghost use Rattle.krates_rules.specs.Admission.{IsAdmitted};
-ghost use Rattle.krates_rules.specs.Checks.{IsAcceptedFor, IsClosedFor};
+ghost use Rattle.krates_rules.specs.Checks.{Answers, IsAcceptedFor, IsClosedFor};
+ghost use Rattle.krates_rules.specs.Derivation.{IsClosed};
 ghost use Rattle.krates_rules.specs.Steps.{EachFollows, StepFollows};
 
 use crate::basis::Basis;
@@ -129,10 +130,27 @@ fn check_seen(
         (steps_view derivation.now.steps.items)) }
 {
     let ids = ids_of(alloc, metadata)?;
-    let document = Document::new(alloc, metadata, &ids)?;
+    check_admitted(alloc, metadata, &ids, setting, derivation)
+}
+
+/// Checks a list of steps for a document that was admitted with these ids.
+fn check_admitted(
+    alloc: Global,
+    metadata: &Metadata,
+    ids: &Ids,
+    setting: &Setting,
+    derivation: &Derivation,
+) -> Result<(), CheckError>
+    requires { IsAdmitted (metadata_view metadata.now) (ids_view ids.now) }
+    ensures accepted { OnOk result (IsAcceptedFor (metadata_view metadata.now) setting.now
+        (steps_view derivation.now.steps.items)) }
+    ensures refused { IfErr result (IsCheckRefused (metadata_view metadata.now) setting.now
+        (steps_view derivation.now.steps.items)) }
+{
     if derivation.steps.is_empty() {
         return Err(CheckError::Empty);
     }
+    let document = Document::new(alloc, metadata, ids)?;
     let basis = Basis {
         alloc,
         document: &document,
@@ -154,16 +172,49 @@ fn check_closed_seen(
         (facts_view facts.now)) }
 {
     let ids = ids_of(alloc, metadata)?;
-    let document = Document::new(alloc, metadata, &ids)?;
+    check_closed_admitted(alloc, metadata, &ids, setting, facts)
+}
+
+/// Checks a list of facts for a document that was admitted with these ids.
+fn check_closed_admitted(
+    alloc: Global,
+    metadata: &Metadata,
+    ids: &Ids,
+    setting: &Setting,
+    facts: &[Fact],
+) -> Result<(), CheckError>
+    requires { IsAdmitted (metadata_view metadata.now) (ids_view ids.now) }
+    ensures closed { OnOk result (IsClosedFor (metadata_view metadata.now) setting.now
+        (facts_view facts.now)) }
+    ensures refused { IfErr result (IsClosedRefused (metadata_view metadata.now) setting.now
+        (facts_view facts.now)) }
+{
+    if is_closed_admitted(alloc, metadata, ids, setting, facts)? {
+        return Ok(());
+    }
+    Err(CheckError::Open)
+}
+
+/// Whether a list of facts is closed for a document that was admitted with these ids.
+fn is_closed_admitted(
+    alloc: Global,
+    metadata: &Metadata,
+    ids: &Ids,
+    setting: &Setting,
+    facts: &[Fact],
+) -> Result<bool, AllocError>
+    requires { IsAdmitted (metadata_view metadata.now) (ids_view ids.now) }
+    ensures { let m = metadata_view metadata.now in
+        let fs = facts_view facts.now in
+        IfOk result (λ b. Answers m setting.now (λ q. IsTrue b ↔ IsClosed q fs)) }
+{
+    let document = Document::new(alloc, metadata, ids)?;
     let basis = Basis {
         alloc,
         document: &document,
         setting,
     };
-    if is_closed(&basis, facts)? {
-        return Ok(());
-    }
-    Err(CheckError::Open)
+    is_closed(&basis, facts)
 }
 
 /// The ids of a document that is admitted.

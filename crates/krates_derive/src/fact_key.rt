@@ -1,8 +1,8 @@
 //! Facts as keys of a set. Their parts are borrowed, and two keys compare as equal where they are the same fact.
 
 ghost use Rattle.std.specs.Prelude.{◌≡◌};
-ghost use Rattle.krates_derive.specs.FactKey.{edge_view, key_view, purpose_view};
-ghost use Rattle.krates_derive.specs.Told.{fact_view, told_edge, written_of};
+ghost use Rattle.krates_derive.specs.FactKey.{edge_view, key_view};
+ghost use Rattle.krates_derive.specs.Told.{fact_view, told_edge};
 
 use crate::derivation::Fact;
 use crate::told::ToldEdge;
@@ -18,24 +18,13 @@ pub(crate) struct Pair<'a> {
     pub child: &'a Kid,
 }
 
-/// The kind of a dependency, with an order.
-#[derive(Clone, Copy, PartialEq, Eq, PartialOrd, Ord)]
-pub(crate) enum Purpose {
-    /// For the package itself.
-    Normal,
-    /// For the build script.
-    Build,
-    /// For tests, examples and benchmarks.
-    Dev,
-}
-
 /// An edge.
 #[derive(Clone, Copy, PartialEq, Eq, PartialOrd, Ord)]
 pub(crate) struct EdgeKey<'a> {
     /// The crates.
     pub pair: Pair<'a>,
     /// What it is needed for.
-    pub purpose: Purpose,
+    pub kind: DepKind,
     /// The target that it is needed for.
     pub cfg: &'a Option<String>,
 }
@@ -91,18 +80,7 @@ pub(crate) fn edge_key<'a>(edge: &ToldEdge<'a>) -> EdgeKey<'a>
             parent: edge.parent,
             child: edge.child,
         },
-        purpose: purpose_of(edge.kind),
+        kind: edge.kind,
         cfg: edge.cfg,
-    }
-}
-
-/// The kind, as a key.
-fn purpose_of(kind: DepKind) -> Purpose
-    ensures { purpose_view result ≡ written_of kind }
-{
-    match kind {
-        DepKind::Normal => Purpose::Normal,
-        DepKind::Build => Purpose::Build,
-        DepKind::Dev => Purpose::Dev,
     }
 }

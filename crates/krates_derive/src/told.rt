@@ -2,7 +2,8 @@
 
 ghost use Rattle.std.specs.Prelude.{◌≡◌, ◌↔◌, IfOk, IsTrue};
 ghost use Rattle.krates_cm.specs.Document.{dep_kind_info_view};
-ghost use Rattle.krates_derive.specs.Told.{fact_view, told_edge, told_fact, written_of};
+ghost use Rattle.krates_derive.specs.Told.{fact_view, told_edge, told_fact};
+ghost use Rattle.krates_rules.specs.Kind.{written_of};
 ghost use Rattle.krates_rules.specs.Questions.{edge_between, kind_info_of};
 ghost use Rattle.krates_rules.specs.Resolved.{id_of};
 

@@ -19,3 +19,9 @@ pub returns-in-Excluded : goal.returns-in-Excluded
 returns-in-Excluded c =
     let h = c.in-Excluded.ensures in
     (λ t. record { kept = λ s. absurd (h.excluded s.included); enabled = λ s f l. absurd (h.excluded s.included); has_package = h.has_package; has_node = λ lost. h.excluded lost.included }, λ x. refl)
+
+pub returns-in-NoPackage : goal.returns-in-NoPackage
+returns-in-NoPackage c = (λ t. absurd cc, λ h. absurd (h.has_package c.in-NoPackage.ensures))
+
+pub returns-in-NoNode : goal.returns-in-NoNode
+returns-in-NoNode c = (λ t. absurd cc, λ h. absurd (h.has_node c.in-NoNode.ensures))

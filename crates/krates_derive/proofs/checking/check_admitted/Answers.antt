@@ -1,4 +1,4 @@
-use Rattle.std.proofs.Common.{◌≡◌, ◌<◌, List, length, subst, arith, rules, tests}
+use Rattle.std.proofs.Common.{◌≡◌, ◌<◌, ◌∙◌, List, length, subst, arith, rules, tests}
 use Rattle.std.proofs.lemmas.List.{length-map}
 use Rattle.std.proofs.lemmas.Result.{on_ok_weaker}
 use Rattle.krates_cm.specs.Document.{metadata_view}
@@ -9,7 +9,7 @@ use Rattle.krates_questions.specs.DocumentModel.{as_resolved}
 use Rattle.krates_rules.specs.Questions.{questions}
 use Rattle.krates_rules.specs.Steps.{EachFollows, IsAccepted}
 use Rattle.krates_derive.proofs.Checked.{answering}
-use Rattle.krates_derive.proofs.checking.check_seen.Goals as goal
+use Rattle.krates_derive.proofs.checking.check_admitted.Goals as goal
 
 pub returns-clause-accepted : goal.returns-clause-accepted
 returns-clause-accepted c =
@@ -21,5 +21,11 @@ returns-clause-accepted c =
     let lt : 0 < length xs = search (rules, tests) in
     let some : 0 < length (steps_view xs) = omega (arith, long, lt) in
     on_ok_weaker c.check_steps.result (λ each.
-    answering m s (ids_view c.in_ok-ids.ids) r (λ q. IsAccepted q (steps_view xs)) c.in_ok-ids.ensures.admitted c.in_ok-document.ensures
+    answering m s (ids_view c.args.ids.now) r (λ q. IsAccepted q (steps_view xs)) c.requires c.in_ok-document.ensures
     (record { some = some; each = subst (λ (ys : List Step). EachFollows (questions r s) (steps_view ys)) c.deref.ensures.value each })) c.check_steps.ensures.follows
+
+pub returns-then-is_empty-clause-refused : goal.returns-then-is_empty-clause-refused
+returns-then-is_empty-clause-refused c =
+    let xs = c.args.derivation.now.steps.items in
+    let none : length xs ≡ 0 = search (rules, tests) in
+    record { ids = ids_view c.args.ids.now; admitted = c.requires; holds = record { graph = c.requires.graph; has_graph = c.requires.has_graph; holds = length-map xs step_view ∙ none } }
