@@ -1,20 +1,11 @@
 -- What cargo's output means.
-use Rattle.std.specs.Prelude.{◌≡◌, ◌==◌, Bool, true, false, Option, Some, None, ⊤, slice_index}
-use Rattle.std.specs.List.{find}
+use Rattle.std.specs.Prelude.{◌≡◌, Bool, true, false, Some, None, ⊤}
 use Rattle.std.specs.Str.{IsUtf8}
-use Rattle.std.specs.Str.Lines.{lines}
 use Rattle.krates_cm.specs.Document.{Text, MetadataModel, text_view}
 use Rattle.krates_cm.specs.Parsing.{IsDocument, IsRefusal}
 use Rattle.krates_cm.specs.declared.error.Error.{Error}
 use Rattle.krates_cm.specs.declared.error.Error.TheVariants as errors
-
--- the line begins with `{`
-abbrev pub begins_object : Text → Bool
-begins_object line = slice_index line 0 == 123
-
--- the first line that begins a JSON object
-abbrev pub json_line : Text → Option Text
-json_line output = find begins_object (lines output)
+use Rattle.krates_text.specs.JsonLine.{json_line}
 
 -- cargo succeeded, what it wrote is a text, and this is its JSON line
 pub record Answers (success : Bool) (stdout line : Text) : Type 0 where

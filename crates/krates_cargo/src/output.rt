@@ -3,10 +3,12 @@
 ghost use Rattle.std.specs.Prelude.{◌≡◌, [], IfOk, IfErr, false};
 ghost use Rattle.std.specs.Option.{option_map};
 ghost use Rattle.krates_cm.specs.Document.{metadata_view};
-ghost use Rattle.krates_cargo.specs.Output.{IsAnswer, IsNoAnswer, begins_object, json_line};
+ghost use Rattle.krates_cargo.specs.Output.{IsAnswer, IsNoAnswer};
+ghost use Rattle.krates_text.specs.JsonLine.{json_line};
 
 use crate::command::MetadataCommand;
 use krates_cm::{Error, Metadata};
+use krates_text::json_line::first_object_line;
 use std::alloc::Global;
 
 impl MetadataCommand {
@@ -19,7 +21,7 @@ impl MetadataCommand {
     pub fn json_line(output: &str) -> Option<&str>
         ensures { option_map (λ line. line.now) result ≡ json_line output.now }
     {
-        output.lines().find(|line| begins_object(line))
+        first_object_line(output)
     }
 
     /// The metadata in what cargo wrote, given whether cargo succeeded.
@@ -46,13 +48,6 @@ impl MetadataCommand {
         };
         MetadataCommand::parse(alloc, line)
     }
-}
-
-/// Whether the line begins with `{`.
-fn begins_object(line: &str) -> bool
-    ensures { result ≡ begins_object line.now }
-{
-    line.starts_with('{')
 }
 
 /// The refusal for a cargo that failed and wrote this to standard error.

@@ -1,6 +1,7 @@
 pub mod Text
 pub mod Cuts
 pub mod FeatureReference
+pub mod JsonLine
 pub mod Path
 pub mod TargetTable
 pub mod TableRow

@@ -4,6 +4,7 @@
 
 pub mod cfg;
 pub mod features;
+pub mod json_line;
 pub mod laws;
 pub mod passing;
 pub mod path;
