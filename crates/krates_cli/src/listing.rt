@@ -1,6 +1,7 @@
 //! The run of `krates-list`: from the bytes that come in to the bytes that go out.
 
 ghost use Rattle.std.specs.Prelude.{◌≡◌, ◌≢◌, IfErr, IfOk, IfSome, OnOk, string_bytes};
+ghost use Rattle.std.specs.Str.{IsUtf8};
 ghost use Rattle.krates_cli.specs.CargoListing.{CargoRefusal, IsCargoListing, WritesCargoBeginning, WritesCargoListing};
 ghost use Rattle.krates_cli.specs.Counted.{HasFailed, inner_of};
 ghost use Rattle.krates_cli.specs.Listing.{IsListing, IsListingOf, WritesBeginning, WritesListing};
@@ -22,12 +23,15 @@ use std::io::{Read, Write};
 use std::process::Processes;
 
 /// The lines of a text's document under the options. It is refused as `Parse`, `Build`, `NotKept` or `Memory`.
-fn listing(alloc: Global, options: &Options, text: &str) -> Result<String, RunError>
+fn listing(alloc: Global, options: &Options, text: String) -> Result<String, RunError>
+    ensures is_text { IsUtf8 (string_bytes text) }
     ensures listed { IfOk result
-        (λ lines. IsListing (meant_request options.now) text.now (string_bytes lines)) }
-    ensures refused { IfErr result (ListingRefusal (meant_request options.now) text.now) }
+        (λ lines. IsListing (meant_request options.now) (string_bytes text) (string_bytes lines)) }
+    ensures refused { IfErr result (ListingRefusal (meant_request options.now) (string_bytes text)) }
 {
-    let metadata = MetadataCommand::parse(alloc, text)?;
+    let metadata = MetadataCommand::parse(alloc, text.as_str())?;
+    // the graph takes its room
+    drop(text);
     listing_of(alloc, options, metadata)
 }
 
@@ -84,7 +88,7 @@ pub fn run<R: Read, W: Write>(
     let Ok(text) = String::from_utf8(bytes) else {
         return Err(RunError::Utf8);
     };
-    let lines = listing(alloc, options, text.as_str())?;
+    let lines = listing(alloc, options, text)?;
     output.write_all(lines.as_bytes())
 }
 

@@ -4,6 +4,7 @@
 
 mod crate_edges;
 pub mod edge;
+mod edge_count;
 mod feature_edges;
 pub mod gather;
 pub mod laws;

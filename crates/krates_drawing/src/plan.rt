@@ -6,6 +6,7 @@ ghost use Rattle.krates_drawing.specs.Views.{sheet_view, arrow_view, IsFew};
 
 use crate::crate_edges::draw_crates;
 use crate::edge::Arrow;
+use crate::edge_count::edges_at_most;
 use crate::feature_edges::draw_features;
 use crate::sheet::Sheet;
 use std::alloc::{AllocError, Global};
@@ -19,7 +20,7 @@ pub fn plan(alloc: Global, sheet: &Sheet) -> Result<Vec<Arrow>, AllocError>
     requires ordered { IsOrdered sheet.now }
     ensures { IfOk result (λ v. map arrow_view v.items ≡ lines (sheet_view sheet.now)) }
 {
-    let mut out = Vec::new(alloc);
+    let mut out = Vec::with_capacity(alloc, edges_at_most(sheet))?;
     draw_crates(sheet, &mut out)?;
     draw_features(sheet, &mut out)?;
     Ok(out)
