@@ -3,7 +3,7 @@ use Rattle.std.specs.Prelude.{List, Option, option_map}
 use Rattle.semver.specs.Identifiers.{parts_of}
 use Rattle.serde_json.specs.Data.{Data}
 use Rattle.serde_json.specs.View.{view}
-use Rattle.krates_cm.specs.Document.{Text, text_view, texts_view, VersionModel}
+use Rattle.krates_cm.specs.Document.{PackageModel, Text, text_view, texts_view, VersionModel}
 use Rattle.krates_cm.specs.declared.read.package.About.{About}
 use Rattle.krates_cm.specs.declared.read.package.Settings.{Settings}
 use Rattle.krates_cm.specs.declared.target.Edition.{Edition}
@@ -35,6 +35,21 @@ about_view a = record {
   documentation = option_map text_view a.documentation;
 }
 
+-- what the package says of itself
+abbrev pub about_of : PackageModel → AboutModel
+about_of p = record {
+  authors = p.authors;
+  description = p.description;
+  license = p.license;
+  license_file = p.license_file;
+  categories = p.categories;
+  keywords = p.keywords;
+  readme = p.readme;
+  repository = p.repository;
+  homepage = p.homepage;
+  documentation = p.documentation;
+}
+
 -- how a package is built and published
 pub record SettingsModel : Type 0 where
   pub edition : Edition
@@ -52,4 +67,15 @@ settings_view s = record {
   publish = option_map texts_view s.publish;
   default_run = option_map text_view s.default_run;
   rust_version = option_map parts_of s.rust_version;
+}
+
+-- how the package is built and published
+abbrev pub settings_of : PackageModel → SettingsModel
+settings_of p = record {
+  edition = p.edition;
+  metadata = p.metadata;
+  links = p.links;
+  publish = p.publish;
+  default_run = p.default_run;
+  rust_version = p.rust_version;
 }

@@ -1,12 +1,15 @@
 //! Copies: each is equal to its original, field by field.
 
-ghost use Rattle.std.specs.Prelude.{◌≡◌};
+ghost use Rattle.std.specs.Prelude.{◌≡◌, IfOk};
 ghost use Rattle.krates_cm.specs.Document.{default_members_view, dep_kind_info_view, dependency_view, id_view, metadata_view, node_dep_view, node_view, package_view, resolve_view, source_view, target_view};
+ghost use Rattle.krates_cm.specs.PackageParts.{about_view, settings_view};
+ghost use Rattle.krates_cm.specs.PackageParts as parts;
 
 use crate::dependency::Dependency;
 use crate::metadata::{Metadata, WorkspaceDefaultMembers};
 use crate::package::{Package, Source};
 use crate::package_id::PackageId;
+use crate::read::package::{About, Settings};
 use crate::resolve::{DepKindInfo, Node, NodeDep, Resolve};
 use crate::target::Target;
 use std::alloc::AllocError;
@@ -120,33 +123,75 @@ impl Clone for Package {
     ghost is_clone = { λ pkg copy. package_view copy ≡ package_view pkg };
 
     fn clone(&self) -> Result<Package, AllocError> {
+        let name = self.name.clone()?;
+        let version = self.version.clone()?;
+        let id = self.id.clone()?;
+        let source = self.source.clone()?;
+        let dependencies = self.dependencies.clone()?;
+        let targets = self.targets.clone()?;
+        let features = self.features.clone()?;
+        let manifest_path = self.manifest_path.clone()?;
+        let about = about_of(self)?;
+        let settings = settings_of(self)?;
         Ok(Package {
-            name: self.name.clone()?,
-            version: self.version.clone()?,
-            authors: self.authors.clone()?,
-            id: self.id.clone()?,
-            source: self.source.clone()?,
-            description: self.description.clone()?,
-            dependencies: self.dependencies.clone()?,
-            license: self.license.clone()?,
-            license_file: self.license_file.clone()?,
-            targets: self.targets.clone()?,
-            features: self.features.clone()?,
-            manifest_path: self.manifest_path.clone()?,
-            categories: self.categories.clone()?,
-            keywords: self.keywords.clone()?,
-            readme: self.readme.clone()?,
-            repository: self.repository.clone()?,
-            homepage: self.homepage.clone()?,
-            documentation: self.documentation.clone()?,
-            edition: self.edition,
-            metadata: self.metadata.clone()?,
-            links: self.links.clone()?,
-            publish: self.publish.clone()?,
-            default_run: self.default_run.clone()?,
-            rust_version: self.rust_version.clone()?,
+            name,
+            version,
+            authors: about.authors,
+            id,
+            source,
+            description: about.description,
+            dependencies,
+            license: about.license,
+            license_file: about.license_file,
+            targets,
+            features,
+            manifest_path,
+            categories: about.categories,
+            keywords: about.keywords,
+            readme: about.readme,
+            repository: about.repository,
+            homepage: about.homepage,
+            documentation: about.documentation,
+            edition: settings.edition,
+            metadata: settings.metadata,
+            links: settings.links,
+            publish: settings.publish,
+            default_run: settings.default_run,
+            rust_version: settings.rust_version,
         })
     }
+}
+
+/// A copy of what a package says about itself.
+fn about_of(pkg: &Package) -> Result<About, AllocError>
+    ensures { IfOk result (λ about. about_view about ≡ parts.about_of (package_view pkg.now)) }
+{
+    Ok(About {
+        authors: pkg.authors.clone()?,
+        description: pkg.description.clone()?,
+        license: pkg.license.clone()?,
+        license_file: pkg.license_file.clone()?,
+        categories: pkg.categories.clone()?,
+        keywords: pkg.keywords.clone()?,
+        readme: pkg.readme.clone()?,
+        repository: pkg.repository.clone()?,
+        homepage: pkg.homepage.clone()?,
+        documentation: pkg.documentation.clone()?,
+    })
+}
+
+/// A copy of how a package is built and published.
+fn settings_of(pkg: &Package) -> Result<Settings, AllocError>
+    ensures { IfOk result (λ settings. settings_view settings ≡ parts.settings_of (package_view pkg.now)) }
+{
+    Ok(Settings {
+        edition: pkg.edition,
+        metadata: pkg.metadata.clone()?,
+        links: pkg.links.clone()?,
+        publish: pkg.publish.clone()?,
+        default_run: pkg.default_run.clone()?,
+        rust_version: pkg.rust_version.clone()?,
+    })
 }
 
 impl Clone for WorkspaceDefaultMembers {

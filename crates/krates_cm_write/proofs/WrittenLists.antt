@@ -1,13 +1,13 @@
 -- A list that is written item by item.
 use Rattle.std.proofs.Common.{◌≡◌, ℕ, ◌+◌, ◌<◌, ◌≤◌, List, [], ◌∷◌, ◌++◌, length, get_or, take, map, String, Global, string_bytes, refl, sym, ap, ◌∙◌, subst}
 use Rattle.std.proofs.lemmas.List.{map-append, take_more, take_all}
-use Rattle.serde_json.specs.Data.{Data, Members, no_members, put}
+use Rattle.serde_json.specs.Data.{Data, Members}
 use Rattle.serde_json.specs.View.{view, items_view, members_view}
 use Rattle.serde_json.proofs.Views.{Entry}
 use Rattle.serde_json.specs.declared.value.Value.{Value}
 use Rattle.krates_cm.specs.Document.{Text}
 use Rattle.krates_cm.proofs.MapReading.{entry_seen}
-use Rattle.krates_cm_write.specs.Objects.{EachWritten, EntriesWritten, put_all}
+use Rattle.krates_cm_write.specs.Objects.{EachWritten, EntriesWritten}
 
 each_pushed : {A : Type 0} (W : A → Data → Type 0) (xs : List A) (vs : List Value) (x : A) (v : Value) → EachWritten W xs (items_view vs) → W x (view v) → EachWritten W (xs ++ x ∷ []) (items_view (vs ++ v ∷ []))
 each_pushed W [] [] x v h here = (here, tt)
@@ -24,14 +24,6 @@ written_next W seen xs i x vs v lt is here so_far =
 
 pub written_all : {X A : Type 0} (W : A → Data → Type 0) (seen : X → A) (xs : List X) (i : ℕ) (vs : List Value) → length xs ≤ i → EachWritten W (map seen (take i xs)) (items_view vs) → EachWritten W (map seen xs) (items_view vs)
 written_all W seen xs i vs le h = subst (λ ys. EachWritten W (map seen ys) (items_view vs)) (take_all i xs le) h
-
-put_last : (fs : List (Text × Data)) (f : Text × Data) (ms : Members) → put_all (fs ++ f ∷ []) ms ≡ put f.0 f.1 (put_all fs ms)
-put_last [] f ms = refl
-put_last (g ∷ fs) f ms = put_last fs f (put g.0 g.1 ms)
-
--- one more member is put
-pub member_next : {X : Type 0} (seen : X → Text × Data) (xs : List X) (x : X) (old new : Members) → old ≡ put_all (map seen xs) no_members → new ≡ put (seen x).0 (seen x).1 old → new ≡ put_all (map seen (xs ++ x ∷ [])) no_members
-member_next seen xs x old new so_far is = rw map-append (is ∙ ap (put (seen x).0 (seen x).1) so_far ∙ sym (put_last (map seen xs) (seen x) no_members))
 
 -- one more entry is written
 pub entry_next : {X A : Type 0} (W : A → Data → Type 0) (seen : X → A) (done : List (String Global × X)) (made : List Entry) (e : String Global × X) (copy : String Global) (v : Value) → string_bytes copy ≡ string_bytes e.0

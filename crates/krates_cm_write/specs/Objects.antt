@@ -1,6 +1,6 @@
 -- How the JSON data that is written for a value is made.
 use Rattle.std.specs.Prelude.{◌≡◌, ℕ, List, [], ◌∷◌, Bool, true, false, Option, Some, None, ⊤}
-use Rattle.serde_json.specs.Data.{Data, null, boolean, number, unsigned, string, array, object, Items, no_items, item, Members, no_members, member, put}
+use Rattle.serde_json.specs.Data.{Data, null, boolean, number, unsigned, string, array, object, Items, no_items, item, Members, no_members, member}
 use Rattle.krates_cm.specs.Document.{Text}
 
 -- which data may be written for a value
@@ -83,8 +83,3 @@ MembersWritten (row false key W rest) ms = MembersWritten rest ms
 abbrev pub ObjectWritten : Table → Data → Type 0
 ObjectWritten table (object ms) = MembersWritten table ms
 ObjectWritten table _ = ⊥
-
--- the members, with these put in one after another
-abbrev pub put_all : List (Text × Data) → Members → Members
-put_all [] ms = ms
-put_all (f ∷ fs) ms = put_all fs (put f.0 f.1 ms)

@@ -5,7 +5,7 @@ ghost use Rattle.krates_cm.specs.Document.{Text, default_members_view, MetadataM
 ghost use Rattle.krates_cm_write.specs.Objects.{TextWritten, OptionWritten, ListWritten};
 ghost use Rattle.krates_cm_write.specs.WrittenTables.{MetadataWritten};
 
-use crate::object::object_of;
+use crate::object::Fields;
 use crate::to_value::ToValue;
 use krates_cm::{Metadata, WorkspaceDefaultMembers};
 use serde_json::Value;
@@ -32,21 +32,19 @@ impl ToValue for Metadata {
     ghost Writes = { MetadataWritten };
 
     fn to_value(&self, alloc: Global) -> Result<Value, AllocError> {
-        let mut fields = vec![in alloc;
-            ("metadata", self.workspace_metadata.to_value(alloc)?),
-            ("packages", self.packages.to_value(alloc)?),
-            ("resolve", self.resolve.to_value(alloc)?),
-            ("target_directory", self.target_directory.to_value(alloc)?),
-            ("version", self.version.to_value(alloc)?),
-            ("workspace_members", self.workspace_members.to_value(alloc)?),
-            ("workspace_root", self.workspace_root.to_value(alloc)?),
-        ]?;
-        if let Some(directory) = &self.build_directory {
-            fields.push(("build_directory", directory.to_value(alloc)?))?;
-        }
-        if let Some(members) = &self.workspace_default_members.0 {
-            fields.push(("workspace_default_members", members.to_value(alloc)?))?;
-        }
-        object_of(alloc, fields)
+        let fields = Fields::new(alloc)
+            .with_some("build_directory", &self.build_directory)?
+            .with("metadata", &self.workspace_metadata)?
+            .with("packages", &self.packages)?
+            .with("resolve", &self.resolve)?
+            .with("target_directory", &self.target_directory)?
+            .with("version", &self.version)?
+            .with_some(
+                "workspace_default_members",
+                &self.workspace_default_members.0,
+            )?
+            .with("workspace_members", &self.workspace_members)?
+            .with("workspace_root", &self.workspace_root)?;
+        Ok(fields.object())
     }
 }

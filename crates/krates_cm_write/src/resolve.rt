@@ -3,7 +3,7 @@
 ghost use Rattle.krates_cm.specs.Document.{DepKindInfoModel, dep_kind_info_view, NodeDepModel, node_dep_view, NodeModel, node_view, ResolveModel, resolve_view};
 ghost use Rattle.krates_cm_write.specs.WrittenTables.{DepKindInfoWritten, NodeDepWritten, NodeWritten, ResolveWritten};
 
-use crate::object::object_of;
+use crate::object::Fields;
 use crate::to_value::ToValue;
 use krates_cm::{DepKindInfo, Node, NodeDep, Resolve};
 use serde_json::Value;
@@ -17,11 +17,10 @@ impl ToValue for DepKindInfo {
     ghost Writes = { DepKindInfoWritten };
 
     fn to_value(&self, alloc: Global) -> Result<Value, AllocError> {
-        let fields = vec![in alloc;
-            ("kind", self.kind.to_value(alloc)?),
-            ("target", self.target.to_value(alloc)?),
-        ]?;
-        object_of(alloc, fields)
+        let fields = Fields::new(alloc)
+            .with("kind", &self.kind)?
+            .with("target", &self.target)?;
+        Ok(fields.object())
     }
 }
 
@@ -33,12 +32,11 @@ impl ToValue for NodeDep {
     ghost Writes = { NodeDepWritten };
 
     fn to_value(&self, alloc: Global) -> Result<Value, AllocError> {
-        let fields = vec![in alloc;
-            ("dep_kinds", self.dep_kinds.to_value(alloc)?),
-            ("name", self.name.to_value(alloc)?),
-            ("pkg", self.pkg.to_value(alloc)?),
-        ]?;
-        object_of(alloc, fields)
+        let fields = Fields::new(alloc)
+            .with("dep_kinds", &self.dep_kinds)?
+            .with("name", &self.name)?
+            .with("pkg", &self.pkg)?;
+        Ok(fields.object())
     }
 }
 
@@ -50,13 +48,12 @@ impl ToValue for Node {
     ghost Writes = { NodeWritten };
 
     fn to_value(&self, alloc: Global) -> Result<Value, AllocError> {
-        let fields = vec![in alloc;
-            ("dependencies", self.dependencies.to_value(alloc)?),
-            ("deps", self.deps.to_value(alloc)?),
-            ("features", self.features.to_value(alloc)?),
-            ("id", self.id.to_value(alloc)?),
-        ]?;
-        object_of(alloc, fields)
+        let fields = Fields::new(alloc)
+            .with("dependencies", &self.dependencies)?
+            .with("deps", &self.deps)?
+            .with("features", &self.features)?
+            .with("id", &self.id)?;
+        Ok(fields.object())
     }
 }
 
@@ -68,10 +65,9 @@ impl ToValue for Resolve {
     ghost Writes = { ResolveWritten };
 
     fn to_value(&self, alloc: Global) -> Result<Value, AllocError> {
-        let fields = vec![in alloc;
-            ("nodes", self.nodes.to_value(alloc)?),
-            ("root", self.root.to_value(alloc)?),
-        ]?;
-        object_of(alloc, fields)
+        let fields = Fields::new(alloc)
+            .with("nodes", &self.nodes)?
+            .with("root", &self.root)?;
+        Ok(fields.object())
     }
 }
