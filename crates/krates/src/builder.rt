@@ -13,17 +13,17 @@ ghost use Rattle.krates.specs.Builder.{RestsUnchanged};
 ghost use Rattle.krates.specs.BuilderModel.{AsksForCrates, at_targets, excluding, ignoring, with_setting};
 ghost use Rattle.krates.specs.Indexed.{IsAskable, Sees};
 
-use crate::division::divide;
-use crate::drawn::{graph_of, sketch_of};
+use crate::division::{Division, divide};
+use crate::drawn::{Sketch, graph_of, sketch_of};
 use crate::explained::explanation_of;
 use crate::filter::{OnFilter, report};
 use crate::indexed::{IndexSource, seen_through};
 use crate::members::members_of;
-use krates_cm::Metadata;
+use krates_cm::{Metadata, Package};
 use krates_drawing::laws as drawing_laws;
 use krates_drawing::limits::Limits;
 use krates_drawing::store::FromEdge;
-use krates_ids::{BuildIndexCache, Error, PkgSpec, laws};
+use krates_ids::{BuildIndexCache, Error, Kid, PkgSpec, laws};
 use krates_queries::from_package::FromPackage;
 use krates_queries::kept::{Findings, Krates};
 use krates_resolve::{DepKind, Ids, Scope, Setting, admit};
@@ -318,15 +318,49 @@ fn build_admitted<N: FromPackage + Drop, E: FromEdge + Drop, F: OnFilter>(
         edges: u32::MAX,
     };
     let sketch = sketch_of(alloc, &metadata, &ids, setting)?;
-    let division = divide(alloc, metadata.packages, ids.packages, &sketch.sheet.krates)?;
-    let count = division.kept.len();
-    let explanation = explanation_of(alloc, &division.kept, sketch.steps)?;
-    let graph = graph_of(alloc, limits, sketch.sheet, division.kept)?;
-    let members = members_of(alloc, graph.raw_nodes(), &ids.members)?;
-    report(division.others, filter);
-    let findings = Findings {
-        work: sketch.work,
-        explanation,
-    };
-    Ok(Krates::new(graph, count, members, metadata.workspace_root, findings))
+    let Sketch { sheet, steps, work } = sketch;
+    let rest = rest_of(metadata, ids);
+    let Rest {
+        packages,
+        kids,
+        members,
+        workspace_root,
+    } = rest;
+    let division = divide(alloc, packages, kids, &sheet.krates)?;
+    let Division { kept, others } = division;
+    let count = kept.len();
+    let explanation = explanation_of(alloc, &kept, steps)?;
+    let graph = graph_of(alloc, limits, sheet, kept)?;
+    let members = members_of(alloc, graph.raw_nodes(), &members)?;
+    report(others, filter);
+    let findings = Findings { work, explanation };
+    Ok(Krates::new(graph, count, members, workspace_root, findings))
+}
+
+/// What a build still needs of a document, once that is sketched.
+#[derive(Drop)]
+struct Rest {
+    packages: Vec<Package>,
+    /// The ids of the packages.
+    kids: Vec<Kid>,
+    /// The ids of the workspace's members.
+    members: Vec<Kid>,
+    workspace_root: String,
+}
+
+/// Takes this out of a document and its ids. All else is dropped here, once, and not at each refusal of a build.
+fn rest_of(metadata: Metadata, ids: Ids) -> Rest
+    ensures { result ≡ record {
+      packages = metadata.packages;
+      kids = ids.packages;
+      members = ids.members;
+      workspace_root = metadata.workspace_root;
+    } }
+{
+    Rest {
+        packages: metadata.packages,
+        kids: ids.packages,
+        members: ids.members,
+        workspace_root: metadata.workspace_root,
+    }
 }

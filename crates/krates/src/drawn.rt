@@ -28,8 +28,8 @@ use crate::nodes::{Nodes, nodes_of, parts_of, store_nodes};
 use krates_cm::Metadata;
 use krates_drawing::edge::Arrow;
 use krates_drawing::gather::sheet_of;
-use krates_drawing::limits::{Limits, plan_within};
-use krates_drawing::sheet::{Named, Sheet};
+use krates_drawing::limits::{Limits, Plan, plan_within};
+use krates_drawing::sheet::Sheet;
 use krates_drawing::store::{FromEdge, StoreError, store_arrows};
 use krates_explain::{KeptStep, kept_steps};
 use krates_graph::graph::Graph;
@@ -90,10 +90,14 @@ fn steps_of(
 }
 
 /// The enabled features of a sheet.
-fn features_in(alloc: Global, named: Vec<Named>) -> Result<Vec<EnabledFeature>, AllocError>
-    ensures { IfOk result (λ features. features.items ≡ map (λ n. n.feature) named.items) }
+fn features_in(alloc: Global, sheet: Sheet) -> Result<Vec<EnabledFeature>, AllocError>
+    ensures { IfOk result (λ features. features.items ≡ map (λ n. n.feature) sheet.features.items) }
 {
-    named.into_iter().map(|named| named.feature).collect(alloc)
+    sheet
+        .features
+        .into_iter()
+        .map(|named| named.feature)
+        .collect(alloc)
 }
 
 /// Puts nodes, with values in the place of packages, and edges into a graph with these limits.
@@ -137,9 +141,10 @@ pub(crate) fn graph_of<N: FromPackage + Drop, E: FromEdge + Drop>(
     ensures refused { IfErr result (DrawingRefusal limits (sheet_view sheet)) }
 {
     let plan = plan_within(alloc, &sheet, limits)?;
-    let features = features_in(alloc, sheet.features)?;
+    let Plan { spots, arrows } = plan;
+    let features = features_in(alloc, sheet)?;
     let sets = enabled_of(alloc, krates.len(), features)?;
-    let parts = parts_of(alloc, plan.spots)?;
+    let parts = parts_of(alloc, spots)?;
     let nodes = nodes_of(alloc, krates, sets, parts)?;
-    stored(alloc, limits, nodes, &plan.arrows)
+    stored(alloc, limits, nodes, &arrows)
 }

@@ -1,9 +1,11 @@
-use Rattle.std.proofs.Common.{ap, ◌∙◌, subst, List, sym}
+use Rattle.std.proofs.Common.{◌≡◌, ap, ◌∙◌, subst, List, sym}
 use Rattle.std.proofs.lemmas.Result.{err_from_is_err_and}
 use Rattle.std.specs.Global.{Vec}
 use Rattle.std.specs.List.Sorted.{IsStrictlySortedBy}
 use Rattle.krates_cm.specs.Document.{metadata_view}
+use Rattle.krates_cm.specs.declared.metadata.Metadata.{Metadata}
 use Rattle.krates_document.specs.Ids.{ids_view}
+use Rattle.krates_document.specs.declared.ids.Ids.{Ids}
 use Rattle.krates_drawing.specs.Views.{sheet_view}
 use Rattle.krates_drawing.specs.declared.sheet.Krate.{Krate as SheetKrate}
 use Rattle.krates_explain.specs.declared.kept.KeptStep.{KeptStep}
@@ -11,6 +13,8 @@ use Rattle.krates_ids.specs.Identity.{Identity, id_cmp}
 use Rattle.krates.specs.Division.{IsDivision, sheet_ids}
 use Rattle.krates_queries.specs.Kept.{AreNodes}
 use Rattle.krates.specs.Krate.{krate_ids}
+use Rattle.krates.specs.declared.builder.Rest.{Rest}
+use Rattle.krates.specs.declared.division.Division.{Division}
 use Rattle.krates.specs.Members.{AreNumbersOf}
 use Rattle.krates_queries.specs.Node.{crate_ids}
 use Rattle.krates.proofs.BuildLemmas.{package_ids, ids_distinct, resolvable}
@@ -22,11 +26,21 @@ use Rattle.krates.proofs.MemberLemmas.{crate_numbers, kept_members}
 use Rattle.krates_queries.proofs.OrderedIds.{Compares}
 use Rattle.krates.proofs.builder.build_admitted.Goals as goal
 
+-- these are the fields of the document and of its ids
+abbrev IsRestOf : Metadata → Ids → Rest → Type 0
+IsRestOf m ids p = p ≡ record { packages = m.packages; kids = ids.packages; members = ids.members; workspace_root = m.workspace_root }
+
+-- what is divided are the document's packages, by the crates of the sheet
+divided_of : (m : Metadata) (ids : Ids) (rest : Rest) (krates ks : List SheetKrate) (d : Division) → IsRestOf m ids rest → ks ≡ krates
+    → IsDivision rest.packages.items (sheet_ids ks) d → IsDivision m.packages.items (sheet_ids krates) d
+divided_of m ids rest krates ks d is same h =
+    subst (λ (ks : List SheetKrate). IsDivision m.packages.items (sheet_ids ks) d) same (subst (λ (p : Rest). IsDivision p.packages.items (sheet_ids ks) d) is h)
+
 pub divide-requires-clause-read : goal.divide-requires-clause-read
-divide-requires-clause-read g c = package_ids c.args.metadata (ids_view c.args.ids) c.requires.admitted
+divide-requires-clause-read g c = rw (c.rest_of-rest.ensures) (package_ids c.args.metadata (ids_view c.args.ids) c.requires.admitted)
 
 pub divide-requires-clause-distinct : goal.divide-requires-clause-distinct
-divide-requires-clause-distinct g c = ids_distinct (metadata_view c.args.metadata) (ids_view c.args.ids) c.requires.admitted
+divide-requires-clause-distinct g c = rw (c.rest_of-rest.ensures) (ids_distinct (metadata_view c.args.metadata) (ids_view c.args.ids) c.requires.admitted)
 
 pub divide-requires-clause-ascending : goal.divide-requires-clause-ascending
 divide-requires-clause-ascending g c = subst (λ (ks : List SheetKrate). IsStrictlySortedBy id_cmp (sheet_ids ks)) (sym c.deref.ensures.value) c.in_ok-sketch.ensures.sketched.ordered.krates
@@ -42,7 +56,7 @@ pub graph_of-requires-clause-ids : goal.graph_of-requires-clause-ids
 graph_of-requires-clause-ids g c =
     let o : Compares = record { total = c.comparison.ensures.total; tells = c.comparison.ensures.order } in
     let division = c.in_ok-division.division in
-    let divided = subst (λ (ks : List SheetKrate). IsDivision c.args.metadata.packages.items (sheet_ids ks) division) c.deref.ensures.value c.in_ok-division.ensures in
+    let divided = divided_of c.args.metadata c.args.ids c.rest_of-rest.result c.in_ok-sketch.sketch.sheet.krates.items c.deref.result.now division c.rest_of-rest.ensures c.deref.ensures.value c.in_ok-division.ensures in
     let b = builds_sheet c.one_reading.ensures.once c.args.metadata c.args.setting.now c.in_ok-sketch.sketch.sheet division c.in_ok-sketch.ensures.sketched.sheet divided in
     kept_ids o c.args.metadata c.args.setting.now c.in_ok-sketch.sketch.sheet division c.in_ok-sketch.ensures.sketched.sheet c.in_ok-sketch.ensures.sketched.ordered b
 
@@ -58,7 +72,7 @@ members_of-requires g c =
     let division = c.in_ok-division.division in
     let graph = c.in_ok-graph.ensures.graph in
     let sheet_is = c.in_ok-sketch.ensures.sketched.sheet in
-    let divided = subst (λ (ks : List SheetKrate). IsDivision c.args.metadata.packages.items (sheet_ids ks) division) c.deref.ensures.value c.in_ok-division.ensures in
+    let divided = divided_of c.args.metadata c.args.ids c.rest_of-rest.result c.in_ok-sketch.sketch.sheet.krates.items c.deref.result.now division c.rest_of-rest.ensures c.deref.ensures.value c.in_ok-division.ensures in
     let b = builds_sheet c.one_reading.ensures.once c.args.metadata c.args.setting.now c.in_ok-sketch.sketch.sheet division sheet_is divided in
     let n = numbered g.E.FromEdge.made_from_edge (sheet_view c.in_ok-sketch.sketch.sheet) c.in_ok-graph.graph graph.drawing c.in_ok-graph.ensures.within in
     let nodes = numbered_graph o g.N.FromPackage.made_from g.E.FromEdge.made_from_edge c.args.metadata c.args.setting.now c.in_ok-sketch.sketch.sheet division c.in_ok-graph.graph sheet_is
@@ -71,7 +85,7 @@ new-requires-clause-nodes g c =
     let division = c.in_ok-division.division in
     let graph = c.in_ok-graph.ensures.graph in
     let sheet_is = c.in_ok-sketch.ensures.sketched.sheet in
-    let divided = subst (λ (ks : List SheetKrate). IsDivision c.args.metadata.packages.items (sheet_ids ks) division) c.deref.ensures.value c.in_ok-division.ensures in
+    let divided = divided_of c.args.metadata c.args.ids c.rest_of-rest.result c.in_ok-sketch.sketch.sheet.krates.items c.deref.result.now division c.rest_of-rest.ensures c.deref.ensures.value c.in_ok-division.ensures in
     let b = builds_sheet c.one_reading.ensures.once c.args.metadata c.args.setting.now c.in_ok-sketch.sketch.sheet division sheet_is divided in
     let n = numbered g.E.FromEdge.made_from_edge (sheet_view c.in_ok-sketch.sketch.sheet) c.in_ok-graph.graph graph.drawing c.in_ok-graph.ensures.within in
     numbered_graph o g.N.FromPackage.made_from g.E.FromEdge.made_from_edge c.args.metadata c.args.setting.now c.in_ok-sketch.sketch.sheet division c.in_ok-graph.graph sheet_is
@@ -95,7 +109,7 @@ new-requires-clause-explained g c =
     let division = c.in_ok-division.division in
     let graph = c.in_ok-graph.ensures.graph in
     let sheet_is = c.in_ok-sketch.ensures.sketched.sheet in
-    let divided = subst (λ (ks : List SheetKrate). IsDivision c.args.metadata.packages.items (sheet_ids ks) division) c.deref.ensures.value c.in_ok-division.ensures in
+    let divided = divided_of c.args.metadata c.args.ids c.rest_of-rest.result c.in_ok-sketch.sketch.sheet.krates.items c.deref.result.now division c.rest_of-rest.ensures c.deref.ensures.value c.in_ok-division.ensures in
     let b = builds_sheet c.one_reading.ensures.once c.args.metadata c.args.setting.now c.in_ok-sketch.sketch.sheet division sheet_is divided in
     let n = numbered g.E.FromEdge.made_from_edge (sheet_view c.in_ok-sketch.sketch.sheet) c.in_ok-graph.graph graph.drawing c.in_ok-graph.ensures.within in
     let nodes = numbered_graph o g.N.FromPackage.made_from g.E.FromEdge.made_from_edge c.args.metadata c.args.setting.now c.in_ok-sketch.sketch.sheet division c.in_ok-graph.graph sheet_is
@@ -107,11 +121,11 @@ new-requires-clause-explained g c =
 pub returns-clause-built : goal.returns-clause-built
 returns-clause-built g c =
     let division = c.in_ok-division.division in
-    let divided = subst (λ (ks : List SheetKrate). IsDivision c.args.metadata.packages.items (sheet_ids ks) division) c.deref.ensures.value c.in_ok-division.ensures in
+    let divided = divided_of c.args.metadata c.args.ids c.rest_of-rest.result c.in_ok-sketch.sketch.sheet.krates.items c.deref.result.now division c.rest_of-rest.ensures c.deref.ensures.value c.in_ok-division.ensures in
     let b = builds_sheet c.one_reading.ensures.once c.args.metadata c.args.setting.now c.in_ok-sketch.sketch.sheet division c.in_ok-sketch.ensures.sketched.sheet divided in
     let numbers = c.in_ok-members.members.items in
     let there = subst (λ ns. AreNumbersOf (crate_ids ns) c.deref-3.result.now numbers) c.raw_nodes.ensures.nodes c.in_ok-members.ensures.exactly in
-    let listed = subst (λ (is : List Identity). AreNumbersOf (crate_ids c.in_ok-graph.graph.nodes) is numbers) c.deref-3.ensures.value there in
+    let listed = subst (λ (is : List Identity). AreNumbersOf (crate_ids c.in_ok-graph.graph.nodes) is numbers) (c.deref-3.ensures.value ∙ ap (λ (p : Rest). p.members.items) c.rest_of-rest.ensures) there in
     let members = kept_members c.one_reading.ensures.once (metadata_view c.args.metadata) (ids_view c.args.ids) (crate_ids c.in_ok-graph.graph.nodes) numbers c.requires.admitted c.in_ok-members.ensures.ascending listed in
     let agree = agrees g.E.FromEdge.made_from_edge (metadata_view c.args.metadata) c.args.setting.now (sheet_view c.in_ok-sketch.sketch.sheet) c.in_ok-graph.graph (ids_view c.args.ids) c.connected.ensures c.dependencies_agree.ensures c.requires.admitted
     c.in_ok-sketch.ensures.sketched.sheet c.in_ok-graph.ensures.graph.drawing c.in_ok-graph.ensures.graph.first in
@@ -119,6 +133,6 @@ returns-clause-built g c =
     let kids = c.in_ok-explanation.ensures.ids ∙ ap krate_ids c.deref-2.ensures.value in
     let explained = explained_by o c.args.metadata c.args.setting.now division c.in_ok-sketch.ensures.sketched.selection c.in_ok-explanation.explanation c.in_ok-sketch.sketch.steps.items b c.in_ok-sketch.ensures.sketched.selected kids
     (ap (λ (v : Vec KeptStep). v.items) c.in_ok-explanation.ensures.steps) c.in_ok-sketch.ensures.sketched.steps in
-    rw (c.new.ensures, c.in_ok-sketch.ensures.sketched.work) (is_built g.F.OnFilter.filters g.N.FromPackage.made_from g.E.FromEdge.made_from_edge c.args.metadata c.args.setting.now c.in_ok-sketch.sketch.sheet division c.in_ok-graph.graph numbers c.args.filter.now c.report.new.filter c.in_ok-sketch.ensures.sketched.selection
+    rw (c.new.ensures, c.in_ok-sketch.ensures.sketched.work, c.rest_of-rest.ensures) (is_built g.F.OnFilter.filters g.N.FromPackage.made_from g.E.FromEdge.made_from_edge c.args.metadata c.args.setting.now c.in_ok-sketch.sketch.sheet division c.in_ok-graph.graph numbers c.args.filter.now c.report.new.filter c.in_ok-sketch.ensures.sketched.selection
     c.in_ok-sketch.ensures.sketched.sheet b c.in_ok-graph.ensures.graph c.report.ensures.run c.in_ok-sketch.ensures.sketched.selected
     (resolvable (metadata_view c.args.metadata) (ids_view c.args.ids) c.requires.admitted) (numbered g.E.FromEdge.made_from_edge (sheet_view c.in_ok-sketch.sketch.sheet) c.in_ok-graph.graph c.in_ok-graph.ensures.graph.drawing c.in_ok-graph.ensures.within) members agree c.in_ok-explanation.explanation explained)
