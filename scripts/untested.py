@@ -23,6 +23,8 @@ LEFT_OUT = ("krates_samples", "krates_stand_in", "krates_steps")
 # The calls that the crates above make for their own answers, by the call whose worked examples show them. A body that always gave up
 # would be seen there.
 SHOWN_BY = {
+    # the line that a command reads of what cargo wrote
+    "MetadataCommand::json_line": ("first_object_line",),
     # what a setting has is asked of the setting
     "ignores": ("IgnoredKinds::with", "IgnoredKinds::has"),
     # a checker with an index looks at the corrected document
@@ -33,21 +35,21 @@ SHOWN_BY = {
         " is_same_info"
     ).split(),
     # a document that is asked looks its crates, features and names up
-    "Document::new": "lookup_of node_place child_place crate_number at_number package_at node_place_at child_number".split(),
+    "Document::new": "lookup_of node_place child_place crate_number at_number package_place_at package_at node_place_at child_number".split(),
     "Document::is_root": ("is_member",),
     "Document::lists": ("feature_number",),
     "Document::values": ("feature_values",),
     "Document::referent": ("referent_of", "is_library_rename"),
     "Document::referents": ("referents_of",),
     "Document::roots": ("choice_of",),
-    "Document::presence": ("standing_of", "standing_of_child"),
+    "Document::presence": ("standing_of",),
     # a selection is made in look-ups of the document
-    "select": ("select_in", "numbers_of"),
+    "select": "select_in numbers_of exclusions_of known_standing known_standing_of_child".split(),
     # the graph of a build: its sheet, nodes and edges, and how they are stored
     "build_with_metadata": "count_of given_by meanings_by draw_nodes plan store_arrows in_order Krates::new".split(),
     # the steps that a build keeps, and those of them that lead to a node
     "facts": ("kept_steps", "Document::lookup"),
-    "why": ("derivation_of",),
+    "why": ("derivation_of", "step_of"),
 }
 
 IMPL = re.compile(r"^impl(?:<[^>]*>)? (?:[\w<>' ,:]+ for )?(\w+)")

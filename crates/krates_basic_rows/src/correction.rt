@@ -1,11 +1,12 @@
 //! Features of packages, corrected by what an index answers.
 
 use crate::packages::package;
+use krates_cm::Package;
 use krates_ids::{
     BuildIndexCache, CachingIndex, IndexAnswer, IndexKrate, IndexKrateVersion, PackageNames,
 };
 use krates_samples::table::{Question, Row, hold};
-use std::alloc::Global;
+use std::alloc::{AllocError, Global};
 use std::collections::{BTreeMap, BTreeSet};
 use std::test::Fail;
 
@@ -70,6 +71,18 @@ fn index(alloc: Global, version: Option<&str>) -> Result<CachingIndex, Fail> {
     Ok(CachingIndex::new(build, names))
 }
 
+/// The features of a package after one correction and after two.
+fn features_twice(
+    alloc: Global,
+    index: &CachingIndex,
+    package: &mut Package,
+) -> Result<String, AllocError> {
+    index.correct(alloc, package)?;
+    let once = format!(in alloc; "{:?}", package.features)?;
+    index.correct(alloc, package)?;
+    format!(in alloc; "{once}, then {:?}", package.features)
+}
+
 /// The features of the package after one correction and after two.
 struct Corrected;
 
@@ -81,10 +94,7 @@ impl Question for Corrected {
         };
         let index = index(alloc, version)?;
         let mut package = package(alloc, "1.0.0", source, r#"{"default":["std","foo"]}"#)?;
-        index.correct(alloc, &mut package)?;
-        let once = format!(in alloc; "{:?}", package.features)?;
-        index.correct(alloc, &mut package)?;
-        Ok(format!(in alloc; "{once}, then {:?}", package.features)?)
+        Ok(features_twice(alloc, &index, &mut package)?)
     }
 }
 

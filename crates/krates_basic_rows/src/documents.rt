@@ -78,11 +78,7 @@ impl Question for Parsed {
 }
 
 #[test]
-fn two_packages(rt: HostRuntime) -> Result<(), Fail> {
-    hold::<Parsed>(rt.alloc(), READ)
-}
-
-#[test]
-fn texts_that_are_no_document(rt: HostRuntime) -> Result<(), Fail> {
+fn texts_are_read_or_refused(rt: HostRuntime) -> Result<(), Fail> {
+    hold::<Parsed>(rt.alloc(), READ)?;
     hold::<Parsed>(rt.alloc(), REFUSED)
 }

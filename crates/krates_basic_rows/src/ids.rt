@@ -219,7 +219,8 @@ const KEYS: &[Row] = &[
     ("git+https://x.org/a#0.2.0", "None"),
 ];
 
-fn package_id(alloc: Global, text: &str) -> Result<PackageId, AllocError> {
+/// The id of this text, not read.
+pub(crate) fn package_id(alloc: Global, text: &str) -> Result<PackageId, AllocError> {
     Ok(PackageId {
         repr: String::from_str(alloc, text)?,
     })
@@ -230,54 +231,46 @@ pub(crate) fn kid(alloc: Global, text: &str) -> Result<Kid, Fail> {
     Ok(Kid::try_from(package_id(alloc, text)?)?)
 }
 
-/// The form of an id, whether its text is kept, and its name, version and source; or why a text is no id.
+/// The form of an id, whether its text is kept, and its name, version and source.
+fn described(alloc: Global, kid: &Kid, text: &str) -> Result<String, AllocError> {
+    let form = if kid.is_opaque() { "opaque" } else { "stable" };
+    let repr = if kid.repr() == text {
+        "as written"
+    } else {
+        "decoded"
+    };
+    let (name, version, source) = (kid.name(), kid.version(), kid.source());
+    format!(in alloc; "{form}, {repr}: {name} | {version} | {source}")
+}
+
+/// The description of the id that a text is, or why it is none.
 struct Read;
 
 impl Question for Read {
     fn told(alloc: Global, text: &str) -> Result<String, Fail> {
-        let kid = match Kid::try_from(package_id(alloc, text)?) {
-            Ok(kid) => kid,
-            Err(error) => return Ok(format!(in alloc; "{error}")?),
-        };
-        let form = if kid.is_opaque() { "opaque" } else { "stable" };
-        let repr = if kid.repr() == text {
-            "as written"
-        } else {
-            "decoded"
-        };
-        let (name, version, source) = (kid.name(), kid.version(), kid.source());
-        Ok(format!(in alloc; "{form}, {repr}: {name} | {version} | {source}")?)
+        match Kid::try_from(package_id(alloc, text)?) {
+            Ok(kid) => Ok(described(alloc, &kid, text)?),
+            Err(error) => Ok(error.to_string(alloc)?),
+        }
     }
 }
 
 #[test]
-fn reads_stable_ids(rt: HostRuntime) -> Result<(), Fail> {
-    hold::<Read>(rt.alloc(), STABLE)
+fn reads_each_form_and_refuses_other_texts(rt: HostRuntime) -> Result<(), Fail> {
+    hold::<Read>(rt.alloc(), STABLE)?;
+    hold::<Read>(rt.alloc(), GIT)?;
+    hold::<Read>(rt.alloc(), OPAQUE)?;
+    hold::<Read>(rt.alloc(), REFUSED)
 }
 
 #[test]
-fn reads_git_ids(rt: HostRuntime) -> Result<(), Fail> {
-    hold::<Read>(rt.alloc(), GIT)
-}
-
-#[test]
-fn reads_git_ids_of_a_document(rt: HostRuntime) -> Result<(), Fail> {
-    hold::<Read>(rt.alloc(), GIT_OF_A_DOCUMENT)
-}
-
-#[test]
-fn reads_opaque_ids(rt: HostRuntime) -> Result<(), Fail> {
-    hold::<Read>(rt.alloc(), OPAQUE)
-}
-
-#[test]
-fn reads_ids_of_packages_that_exist(rt: HostRuntime) -> Result<(), Fail> {
+fn reads_ids_as_cargo_wrote_them(rt: HostRuntime) -> Result<(), Fail> {
+    hold::<Read>(rt.alloc(), GIT_OF_A_DOCUMENT)?;
     hold::<Read>(rt.alloc(), OF_PACKAGES_THAT_EXIST)
 }
 
 #[test]
-fn refuses_other_texts(rt: HostRuntime) -> Result<(), Fail> {
-    hold::<Read>(rt.alloc(), REFUSED)?;
+fn prints_that_memory_is_out(rt: HostRuntime) -> Result<(), Fail> {
     let error = IdError::Memory(package_id(rt.alloc(), "x")?);
     assert_eq!(rt; error.to_string(rt.alloc())?.as_str(), "out of memory");
     Ok(())
@@ -313,12 +306,8 @@ impl Question for Compared {
 }
 
 #[test]
-fn compares_by_parts(rt: HostRuntime) -> Result<(), Fail> {
-    hold::<Compared>(rt.alloc(), OF_EQUAL_PARTS)
-}
-
-#[test]
-fn orders_versions_as_text(rt: HostRuntime) -> Result<(), Fail> {
+fn compares_by_parts_and_orders_versions_as_text(rt: HostRuntime) -> Result<(), Fail> {
+    hold::<Compared>(rt.alloc(), OF_EQUAL_PARTS)?;
     hold::<Compared>(rt.alloc(), ORDERED)
 }
 
@@ -346,23 +335,39 @@ fn is_a_key(rt: HostRuntime) -> Result<(), Fail> {
     hold::<Key>(rt.alloc(), KEYS)
 }
 
+/// An id whose query is decoded, and what it, a copy of it and the empty id print and answer.
+const COPIED: &[Row] = &[(
+    "git+https://x.org/y?branch=c%2fd#n@1.0.0",
+    "git+https://x.org/y?branch=c/d#n@1.0.0 | git+https://x.org/y?branch=c/d#n@1.0.0 | git+https://x.org/y?branch=c/d#n@1.0.0 | 1.0.0 |  |  | ",
+)];
+
+/// Writes what an id prints, its text, and the text and the version of a copy of it.
+fn push_copied(text: &mut String, kid: &Kid) -> Result<(), AllocError> {
+    let copy = kid.clone()?;
+    let (copied, version) = (copy.repr(), copy.version());
+    write!(text, "{kid} | {} | {copied} | {version}", kid.repr())
+}
+
+/// Writes the text, the name and the source of the empty id.
+fn push_empty(text: &mut String, alloc: Global) -> Result<(), AllocError> {
+    let empty = Kid::empty(alloc);
+    let (repr, name, source) = (empty.repr(), empty.name(), empty.source());
+    write!(text, " | {repr} | {name} | {source}")
+}
+
+/// What an id, a copy of it and the empty id print and answer.
+struct Copied;
+
+impl Question for Copied {
+    fn told(alloc: Global, text: &str) -> Result<String, Fail> {
+        let mut told = String::new(alloc);
+        push_copied(&mut told, &kid(alloc, text)?)?;
+        push_empty(&mut told, alloc)?;
+        Ok(told)
+    }
+}
+
 #[test]
 fn prints_and_copies(rt: HostRuntime) -> Result<(), Fail> {
-    let decoded = kid(rt.alloc(), "git+https://x.org/y?branch=c%2fd#n@1.0.0")?;
-    let copy = decoded.clone()?;
-    let empty = Kid::empty(rt.alloc());
-    let told = format!(in rt.alloc();
-        "{decoded} | {} | {} | {} | {} | {} | {}",
-        decoded.repr(),
-        copy.repr(),
-        copy.version(),
-        empty.repr(),
-        empty.name(),
-        empty.source()
-    )?;
-    assert_eq!(rt;
-        told.as_str(),
-        "git+https://x.org/y?branch=c/d#n@1.0.0 | git+https://x.org/y?branch=c/d#n@1.0.0 | git+https://x.org/y?branch=c/d#n@1.0.0 | 1.0.0 |  |  | "
-    );
-    Ok(())
+    hold::<Copied>(rt.alloc(), COPIED)
 }

@@ -1,7 +1,7 @@
 //! Values that are read of JSON, and the packages that specifications are asked about, and whose features an index corrects.
 
 use krates_cm::{FromValue, Package};
-use krates_samples::table::{Question, Row};
+use krates_samples::table::{Question, Row, compare};
 use serde_json::Value;
 use std::alloc::Global;
 use std::test::Fail;
@@ -12,19 +12,32 @@ pub(crate) fn read<T: FromValue>(alloc: Global, json: &str) -> Result<T, Fail> {
     Ok(T::from_value(alloc, &value)?)
 }
 
+/// The answer to a line with what stands around it.
+pub(crate) fn told_within<Q: Question>(
+    alloc: Global,
+    around: (&str, &str),
+    line: &str,
+) -> Result<String, Fail> {
+    let (before, behind) = around;
+    let json = format!(in alloc; "{before}{line}{behind}")?;
+    Q::told(alloc, json.as_str())
+}
+
+/// Compares the answer to one line, with what stands around it, with the one that is known.
+fn hold_row_within<Q: Question>(alloc: Global, around: (&str, &str), row: Row) -> Result<(), Fail> {
+    let (line, answer) = row;
+    let told = told_within::<Q>(alloc, around, line)?;
+    compare(line, told.as_str(), answer)
+}
+
 /// Compares the answer to each line, with what stands around it, with the one that is known; names the first row where they differ.
 pub(crate) fn hold_within<Q: Question>(
     alloc: Global,
     around: (&str, &str),
     rows: &[Row],
 ) -> Result<(), Fail> {
-    let (before, behind) = around;
-    for &(line, answer) in rows {
-        let json = format!(in alloc; "{before}{line}{behind}")?;
-        let told = Q::told(alloc, json.as_str())?;
-        if told.as_str() != answer {
-            return Err(Fail::new(format_args!("{line}: {told} in place of {answer}")));
-        }
+    for &row in rows {
+        hold_row_within::<Q>(alloc, around, row)?;
     }
     Ok(())
 }

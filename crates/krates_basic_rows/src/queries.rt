@@ -1,11 +1,12 @@
 //! What a document answers, what its kinds and ids print, and copies of its types.
 
+use crate::ids::package_id;
 use crate::packages::{hold_within, read};
 use krates_cm::{
     DepKindInfo, Dependency, DependencyKind, Edition, FromValue, Metadata, Package, PackageId,
     Source, Target, TargetKind, WorkspaceDefaultMembers,
 };
-use krates_samples::table::{Question, Row};
+use krates_samples::table::{Question, Row, compare};
 use std::alloc::{AllocError, Global};
 use std::fmt::Debug;
 use std::test::Fail;
@@ -89,7 +90,11 @@ const KINDS: &[Row] = &[
 
 /// The names of packages.
 fn names<'a>(alloc: Global, packages: &[&'a Package]) -> Result<Vec<&'a str>, AllocError> {
-    packages.iter().map(|p| p.name.as_str()).collect(alloc)
+    let mut names = Vec::new(alloc);
+    for &package in packages {
+        names.push(package.name.as_str())?;
+    }
+    Ok(names)
 }
 
 /// What a document answers.
@@ -108,11 +113,24 @@ fn document_answers(alloc: Global, metadata: &Metadata) -> Result<String, AllocE
     format!(in alloc; "root {root:?}, members {members:?}, default {defaults:?}, B is {package:?}")
 }
 
+/// Writes where the licence file of a package is.
+fn push_license(text: &mut String, alloc: Global, package: &Package) -> Result<(), AllocError> {
+    let license = package.license_file(alloc)?;
+    write!(text, "{license:?}, ")
+}
+
+/// Writes where the readme of a package is.
+fn push_readme(text: &mut String, alloc: Global, package: &Package) -> Result<(), AllocError> {
+    let readme = package.readme(alloc)?;
+    write!(text, "{readme:?}")
+}
+
 /// Where the files of a package are.
 fn files(alloc: Global, package: &Package) -> Result<String, AllocError> {
-    let license = package.license_file(alloc)?;
-    let readme = package.readme(alloc)?;
-    format!(in alloc; "{license:?}, {readme:?}")
+    let mut text = String::new(alloc);
+    push_license(&mut text, alloc, package)?;
+    push_readme(&mut text, alloc, package)?;
+    Ok(text)
 }
 
 /// The tests that say yes of a target.
@@ -144,11 +162,6 @@ impl Question for OfDocument {
     }
 }
 
-#[test]
-fn documents_answer(rt: HostRuntime) -> Result<(), Fail> {
-    hold_within::<OfDocument>(rt.alloc(), DOCUMENT, ANSWERS)
-}
-
 /// Where the files of a package are, of its JSON.
 struct FilesOf;
 
@@ -156,11 +169,6 @@ impl Question for FilesOf {
     fn told(alloc: Global, json: &str) -> Result<String, Fail> {
         Ok(files(alloc, &read(alloc, json)?)?)
     }
-}
-
-#[test]
-fn files_of_packages(rt: HostRuntime) -> Result<(), Fail> {
-    hold_within::<FilesOf>(rt.alloc(), PACKAGE, FILES)
 }
 
 /// The tests that say yes of a target, of its JSON.
@@ -173,7 +181,9 @@ impl Question for KindsOf {
 }
 
 #[test]
-fn kinds_of_targets(rt: HostRuntime) -> Result<(), Fail> {
+fn documents_packages_and_targets_answer(rt: HostRuntime) -> Result<(), Fail> {
+    hold_within::<OfDocument>(rt.alloc(), DOCUMENT, ANSWERS)?;
+    hold_within::<FilesOf>(rt.alloc(), PACKAGE, FILES)?;
     hold_within::<KindsOf>(rt.alloc(), TARGET, KINDS)
 }
 
@@ -194,13 +204,18 @@ const COPIED_PACKAGE: &str =
 const COPIED_DOCUMENT: &str =
     r#"{"packages":[],"workspace_members":["a"],"workspace_default_members":["b"],"workspace_root":"/w","target_directory":"/t","build_directory":"/b","metadata":{"k":[true]},"version":1,"resolve":{"nodes":[{"id":"a","deps":[{"name":"b","pkg":"c","dep_kinds":[{"kind":"build","target":"t"}]}],"dependencies":["c"],"features":["f"]}],"root":"a"}}"#;
 
-/// Fails where a copy of what is read of a text shows other fields.
+/// Fails where a copy shows other fields than what was read of a text.
+fn same_fields<T: Debug>(alloc: Global, json: &str, copy: &T, read: &T) -> Result<(), Fail> {
+    let copy = format!(in alloc; "{copy:?}")?;
+    let read = format!(in alloc; "{read:?}")?;
+    compare(json, copy.as_str(), read.as_str())
+}
+
+/// A copy of what is read of a text. Fails where it shows other fields.
 fn copy<T: FromValue + Clone + Debug>(alloc: Global, json: &str) -> Result<T, Fail> {
     let read: T = read(alloc, json)?;
     let copy = read.clone()?;
-    if format!(in alloc; "{read:?}")? != format!(in alloc; "{copy:?}")? {
-        return Err(Fail::new(format_args!("{json}: a copy shows {copy:?}")));
-    }
+    same_fields(alloc, json, &copy, &read)?;
     Ok(copy)
 }
 
@@ -220,56 +235,61 @@ fn copies(rt: HostRuntime) -> Result<(), Fail> {
 fn copies_of_documents(rt: HostRuntime) -> Result<(), Fail> {
     let copied = copy::<Metadata>(rt.alloc(), COPIED_DOCUMENT)?;
     let members: WorkspaceDefaultMembers = copied.workspace_default_members.clone()?;
-    assert_eq!(rt; members.as_slice().map(|ids| ids.len()), Some(1));
+    assert!(rt; matches!(members.as_slice(), Some([_])));
     Ok(())
 }
 
-#[test]
-fn printed_texts(rt: HostRuntime) -> Result<(), Fail> {
-    let alloc = rt.alloc();
-    let id = PackageId {
-        repr: String::from_str(alloc, "i")?,
-    };
-    let source = Source {
-        repr: String::from_str(alloc, "s")?,
-    };
-    let kinds = [
+/// The source of this text.
+fn source(alloc: Global, text: &str) -> Result<Source, AllocError> {
+    Ok(Source {
+        repr: String::from_str(alloc, text)?,
+    })
+}
+
+/// What an id, a source, the kinds of dependencies and two editions print.
+fn printed(alloc: Global, id: &PackageId, source: &Source) -> Result<String, AllocError> {
+    let [normal, dev, build] = [
         DependencyKind::default(),
         DependencyKind::Development,
         DependencyKind::Build,
     ];
-    let [normal, dev, build] = kinds;
-    let text = format!(in alloc;
-        "{id} {source} {normal} {dev} {build} {} {}",
-        Edition::default(),
-        Edition::E2024
-    )?;
-    assert_eq!(rt; text.as_str(), "i s normal dev build 2015 2024");
+    let [first, latest] = [Edition::default(), Edition::E2024];
+    format!(in alloc; "{id} {source} {normal} {dev} {build} {first} {latest}")
+}
+
+#[test]
+fn printed_texts(rt: HostRuntime) -> Result<(), Fail> {
+    let id = package_id(rt.alloc(), "i")?;
+    let source = source(rt.alloc(), "s")?;
+    assert_eq!(rt;
+        printed(rt.alloc(), &id, &source)?.as_str(),
+        "i s normal dev build 2015 2024"
+    );
     assert_eq!(rt; Edition::E2018.as_str(), "2018");
     Ok(())
 }
 
 #[test]
 fn comparisons(rt: HostRuntime) -> Result<(), Fail> {
-    let alloc = rt.alloc();
     assert!(rt; TargetKind::CustomBuild < TargetKind::CDyLib);
     assert!(rt; Edition::E2015 < Edition::E2018);
-    let upper = PackageId {
-        repr: String::from_str(alloc, "B")?,
-    };
-    let lower = PackageId {
-        repr: String::from_str(alloc, "a")?,
-    };
+    let upper = package_id(rt.alloc(), "B")?;
+    let lower = package_id(rt.alloc(), "a")?;
     assert!(rt; upper < lower);
-    let crates_io = String::from_str(
-        alloc,
+    Ok(())
+}
+
+#[test]
+fn sources_that_are_crates_io(rt: HostRuntime) -> Result<(), Fail> {
+    let crates_io = source(
+        rt.alloc(),
         "registry+https://github.com/rust-lang/crates.io-index",
     )?;
-    assert!(rt; Source { repr: crates_io }.is_crates_io());
-    let other = String::from_str(
-        alloc,
+    assert!(rt; crates_io.is_crates_io());
+    let other = source(
+        rt.alloc(),
         "registry+https://github.com/rust-lang/crates.io-index/",
     )?;
-    assert!(rt; !Source { repr: other }.is_crates_io());
+    assert!(rt; !other.is_crates_io());
     Ok(())
 }

@@ -3,13 +3,13 @@
 use crate::packages::hold_within;
 use json::Scratch;
 use krates_cm::{
-    DepKindInfo, Dependency, FromValue, Metadata, Node, NodeDep, Package, PackageId, Resolve,
-    Source, Target,
+    DepKindInfo, Dependency, FromValue, Metadata, Node, NodeDep, Package, PackageId, ReadError,
+    Resolve, Source, Target,
 };
 use krates_json::{Borrowed, JsonRef, Parsed};
-use krates_samples::table::{Question, Row, hold};
+use krates_samples::table::{Question, Row, compare, hold};
 use serde_json::Value;
-use std::alloc::Global;
+use std::alloc::{AllocError, Global};
 use std::fmt::Debug;
 use std::test::Fail;
 
@@ -248,30 +248,43 @@ struct Read<T> {
     value: T,
 }
 
-/// What is read as this type from a value that is kept somewhere.
-fn read_from<T: FromValue + Debug, J: JsonRef>(alloc: Global, value: J) -> Result<String, Fail> {
-    match T::from_json_at(alloc, value, "") {
-        Ok(read) => Ok(format!(in alloc; "{read:?}")?),
-        Err(error) => Ok(format!(in alloc; "{error}")?),
+/// What was read, with all its fields, or the text of the refusal.
+fn shown<T: Debug + Drop>(alloc: Global, read: Result<T, ReadError>) -> Result<String, AllocError> {
+    match read {
+        Ok(read) => format!(in alloc; "{read:?}"),
+        Err(error) => error.to_string(alloc),
     }
+}
+
+/// What is read as this type from a value of `serde_json`.
+fn read_in_value<T: FromValue + Debug>(alloc: Global, json: &str) -> Result<String, Fail> {
+    let value = Value::from_str(alloc, json)?;
+    Ok(shown(alloc, T::from_value(alloc, &value))?)
+}
+
+/// What is read as this type from a value that is kept somewhere.
+fn read_from<T: FromValue + Debug, J: JsonRef>(
+    alloc: Global,
+    value: J,
+) -> Result<String, AllocError> {
+    shown(alloc, T::from_json_at(alloc, value, ""))
+}
+
+/// What is read as this type from a value in its text.
+fn read_in_text<T: FromValue + Debug>(alloc: Global, json: &str) -> Result<String, Fail> {
+    let mut scratch = Scratch::new(alloc);
+    let Some(parsed) = Parsed::parse(alloc, json, &mut scratch)? else {
+        return Err(Fail::new(format_args!("not read in its text: {json}")));
+    };
+    Ok(read_from::<T, Borrowed<'_, '_>>(alloc, parsed.root())?)
 }
 
 /// A value in a text reads as the same as one of `serde_json`.
 impl<T: FromValue + Debug> Question for Read<T> {
     fn told(alloc: Global, json: &str) -> Result<String, Fail> {
-        let value = Value::from_str(alloc, json)?;
-        let told = match T::from_value(alloc, &value) {
-            Ok(read) => format!(in alloc; "{read:?}")?,
-            Err(error) => format!(in alloc; "{error}")?,
-        };
-        let mut scratch = Scratch::new(alloc);
-        let Some(parsed) = Parsed::parse(alloc, json, &mut scratch)? else {
-            return Err(Fail::new(format_args!("not read in its text: {json}")));
-        };
-        let in_text = read_from::<T, Borrowed<'_, '_>>(alloc, parsed.root())?;
-        if in_text != told {
-            return Err(Fail::new(format_args!("{json}: {in_text} in its text")));
-        }
+        let told = read_in_value::<T>(alloc, json)?;
+        let in_text = read_in_text::<T>(alloc, json)?;
+        compare(json, in_text.as_str(), told.as_str())?;
         Ok(told)
     }
 }
@@ -283,47 +296,23 @@ fn texts(rt: HostRuntime) -> Result<(), Fail> {
 }
 
 #[test]
-fn kinds_of_resolved_dependencies(rt: HostRuntime) -> Result<(), Fail> {
-    hold::<Read<DepKindInfo>>(rt.alloc(), KINDS)
-}
-
-#[test]
-fn dependencies_of_nodes(rt: HostRuntime) -> Result<(), Fail> {
-    hold::<Read<NodeDep>>(rt.alloc(), NODE_DEPENDENCIES)
-}
-
-#[test]
-fn nodes(rt: HostRuntime) -> Result<(), Fail> {
-    hold::<Read<Node>>(rt.alloc(), NODES)
-}
-
-#[test]
 fn resolved_graphs(rt: HostRuntime) -> Result<(), Fail> {
+    hold::<Read<DepKindInfo>>(rt.alloc(), KINDS)?;
+    hold::<Read<NodeDep>>(rt.alloc(), NODE_DEPENDENCIES)?;
+    hold::<Read<Node>>(rt.alloc(), NODES)?;
     hold::<Read<Resolve>>(rt.alloc(), GRAPHS)
 }
 
 #[test]
-fn declared_dependencies(rt: HostRuntime) -> Result<(), Fail> {
-    hold::<Read<Dependency>>(rt.alloc(), DECLARED)
-}
-
-#[test]
-fn targets(rt: HostRuntime) -> Result<(), Fail> {
-    hold::<Read<Target>>(rt.alloc(), TARGETS)
-}
-
-#[test]
-fn targets_that_are_refused(rt: HostRuntime) -> Result<(), Fail> {
+fn dependencies_and_targets(rt: HostRuntime) -> Result<(), Fail> {
+    hold::<Read<Dependency>>(rt.alloc(), DECLARED)?;
+    hold::<Read<Target>>(rt.alloc(), TARGETS)?;
     hold::<Read<Target>>(rt.alloc(), TARGETS_REFUSED)
 }
 
 #[test]
-fn a_package_of_every_key(rt: HostRuntime) -> Result<(), Fail> {
-    hold::<Read<Package>>(rt.alloc(), EVERY_KEY)
-}
-
-#[test]
-fn packages_that_are_refused(rt: HostRuntime) -> Result<(), Fail> {
+fn packages(rt: HostRuntime) -> Result<(), Fail> {
+    hold::<Read<Package>>(rt.alloc(), EVERY_KEY)?;
     hold_within::<Read<Package>>(rt.alloc(), PACKAGE, PACKAGES_REFUSED)
 }
 

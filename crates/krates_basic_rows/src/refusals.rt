@@ -3,7 +3,7 @@
 
 use crate::ids::kid;
 use krates_cm::{Error as MetadataError, ReadError, UnknownName};
-use krates_ids::{Error, Lost};
+use krates_ids::{Error, Kid, Lost};
 use krates_samples::table::{Question, Row, hold};
 use std::alloc::{AllocError, Global};
 use std::test::Fail;
@@ -49,21 +49,29 @@ const OF_CAUSES: &[Row] = &[
     ("ErrUtf8", "cannot convert the stderr of `cargo metadata`: "),
 ];
 
+/// The failure where there is no refusal of this name.
+fn no_refusal(name: &str) -> Fail {
+    Fail::new(format_args!("no refusal {name}"))
+}
+
+/// A dependency that a package doesn't declare.
+fn undeclared(alloc: Global, krate: Kid) -> Result<Lost, Fail> {
+    let dep = kid(alloc, "path+file:///w/b#0.1.0")?;
+    Ok(Lost::Undeclared { krate, dep })
+}
+
 /// What a package lacks, or an error of a name that is none.
 fn lost(alloc: Global, name: &str) -> Result<Lost, Fail> {
     let krate = kid(alloc, "path+file:///w/a#0.1.0")?;
     match name {
         "Package" => Ok(Lost::Package(krate)),
         "Node" => Ok(Lost::Node(krate)),
-        "Feature" => Ok(Lost::Feature {
-            krate,
-            name: String::from_str(alloc, "f")?,
-        }),
-        "Undeclared" => Ok(Lost::Undeclared {
-            krate,
-            dep: kid(alloc, "path+file:///w/b#0.1.0")?,
-        }),
-        _ => Err(Fail::new(format_args!("no refusal {name}"))),
+        "Feature" => {
+            let name = String::from_str(alloc, "f")?;
+            Ok(Lost::Feature { krate, name })
+        }
+        "Undeclared" => undeclared(alloc, krate),
+        _ => Err(no_refusal(name)),
     }
 }
 
@@ -103,7 +111,7 @@ fn of_metadata(alloc: Global, name: &str) -> Result<MetadataError, Fail> {
         "FeaturesTwice" => Ok(MetadataError::FeaturesTwice),
         "NoManifestParent" => Ok(MetadataError::NoManifestParent),
         "Memory" => Ok(MetadataError::Memory),
-        _ => Err(Fail::new(format_args!("no refusal {name}"))),
+        _ => Err(no_refusal(name)),
     }
 }
 
@@ -130,12 +138,7 @@ impl Question for OfMetadata {
     }
 }
 
-#[test]
-fn refusals_of_metadata(rt: HostRuntime) -> Result<(), Fail> {
-    hold::<OfMetadata>(rt.alloc(), OF_METADATA)
-}
-
-/// What it prints up to the first colon and the blank behind that, where it has one.
+/// What the refusal prints up to the first colon and the blank behind that, where it has one.
 struct Begun;
 
 impl Question for Begun {
@@ -149,7 +152,8 @@ impl Question for Begun {
 }
 
 #[test]
-fn refusals_with_causes(rt: HostRuntime) -> Result<(), Fail> {
+fn refusals_of_metadata(rt: HostRuntime) -> Result<(), Fail> {
+    hold::<OfMetadata>(rt.alloc(), OF_METADATA)?;
     hold::<Begun>(rt.alloc(), OF_CAUSES)
 }
 

@@ -1,6 +1,7 @@
 //! Package specifications: what they are read as, why a text is none, and which packages they match.
 
 use crate::packages::package;
+use krates_cm::Package;
 use krates_ids::PkgSpec;
 use krates_samples::table::{Question, Row, hold};
 use std::alloc::{AllocError, Global};
@@ -118,7 +119,10 @@ const MATCHES: &[Row] = &[
 /// The name, version and url of a specification.
 fn described(alloc: Global, spec: &PkgSpec) -> Result<String, AllocError> {
     let name = &spec.name;
-    let url = spec.url.as_ref().map_or("any url", |url| url.as_str());
+    let url = match &spec.url {
+        Some(url) => url.as_str(),
+        None => "any url",
+    };
     match &spec.version {
         Some(version) => format!(in alloc; "{name}, {version}, {url}"),
         None => format!(in alloc; "{name}, any version, {url}"),
@@ -132,19 +136,9 @@ impl Question for Read {
     fn told(alloc: Global, text: &str) -> Result<String, Fail> {
         match PkgSpec::from_str(alloc, text) {
             Ok(spec) => Ok(described(alloc, &spec)?),
-            Err(error) => Ok(format!(in alloc; "{error}")?),
+            Err(error) => Ok(error.to_string(alloc)?),
         }
     }
-}
-
-#[test]
-fn texts_that_are_specifications(rt: HostRuntime) -> Result<(), Fail> {
-    hold::<Read>(rt.alloc(), READ)
-}
-
-#[test]
-fn texts_that_are_no_specification(rt: HostRuntime) -> Result<(), Fail> {
-    hold::<Read>(rt.alloc(), REFUSED)
 }
 
 /// The copy of the specification that a text is.
@@ -158,19 +152,32 @@ impl Question for Copied {
 }
 
 #[test]
-fn copies_of_specifications(rt: HostRuntime) -> Result<(), Fail> {
-    hold::<Copied>(rt.alloc(), READ)
+fn texts_are_specifications_or_refused(rt: HostRuntime) -> Result<(), Fail> {
+    hold::<Read>(rt.alloc(), READ)?;
+    hold::<Copied>(rt.alloc(), READ)?;
+    hold::<Read>(rt.alloc(), REFUSED)
+}
+
+/// Whether the specification that a text is matches a package.
+fn is_match(alloc: Global, spec: &str, package: &Package) -> Result<bool, Fail> {
+    let spec = PkgSpec::from_str(alloc, spec)?;
+    Ok(spec.matches(package))
 }
 
 /// Whether a specification matches the package `cargo` of a version, with a source as JSON.
+fn is_match_of(alloc: Global, line: &str) -> Result<bool, Fail> {
+    let (spec, line) = line.split_once(' ').unwrap_or((line, ""));
+    let (version, source) = line.split_once(' ').unwrap_or((line, ""));
+    let package = package(alloc, version, source, "{}")?;
+    is_match(alloc, spec, &package)
+}
+
+/// Whether the specification of a line matches its package.
 struct Matches;
 
 impl Question for Matches {
     fn told(alloc: Global, line: &str) -> Result<String, Fail> {
-        let (spec, line) = line.split_once(' ').unwrap_or((line, ""));
-        let (version, source) = line.split_once(' ').unwrap_or((line, ""));
-        let package = package(alloc, version, source, "{}")?;
-        let is_match = PkgSpec::from_str(alloc, spec)?.matches(&package);
+        let is_match = is_match_of(alloc, line)?;
         Ok(format!(in alloc; "{is_match}")?)
     }
 }

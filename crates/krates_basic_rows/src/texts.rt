@@ -4,7 +4,7 @@ use json::Scratch;
 use krates_json::{JsonRef, Owned, Parsed};
 use krates_samples::table::{Question, Row, hold};
 use serde_json::Value;
-use std::alloc::Global;
+use std::alloc::{AllocError, Global};
 use std::test::Fail;
 
 /// Texts, and the value of each; or that it isn't read.
@@ -70,25 +70,42 @@ fn same_parts<J: JsonRef, K: JsonRef>(alloc: Global, a: J, b: K, text: &str) -> 
 }
 
 /// A part, printed; empty where there is none.
-fn printed<J: JsonRef>(alloc: Global, part: Option<J>) -> Result<String, Fail> {
-    match part {
-        Some(value) => Ok(value.to_value(alloc)?.to_string(alloc)?),
-        None => Ok(String::new(alloc)),
-    }
+fn printed<J: JsonRef>(alloc: Global, part: Option<J>) -> Result<String, AllocError> {
+    let Some(part) = part else {
+        return Ok(String::new(alloc));
+    };
+    let value = part.to_value(alloc)?;
+    value.to_string(alloc)
+}
+
+/// Writes a member of an object, as a line.
+fn push_member<J: JsonRef>(
+    lines: &mut String,
+    alloc: Global,
+    name: &str,
+    member: J,
+) -> Result<(), AllocError> {
+    let printed = printed(alloc, Some(member))?;
+    write!(lines, "{name}{printed}\n")
 }
 
 /// The members of an object, a line each; empty where it has none.
-fn names<J: JsonRef>(alloc: Global, value: J) -> Result<String, Fail> {
+fn names<J: JsonRef>(alloc: Global, value: J) -> Result<String, AllocError> {
     let mut lines = String::new(alloc);
     let Some(members) = value.members(alloc)? else {
         return Ok(lines);
     };
     for (name, member) in members.iter() {
-        lines.push_str(name)?;
-        lines.push_str(printed(alloc, Some(*member))?.as_str())?;
-        lines.push_str("\n")?;
+        push_member(&mut lines, alloc, name, *member)?;
     }
     Ok(lines)
+}
+
+/// Arrays that nest so deep.
+fn arrays(alloc: Global, depth: usize) -> Result<String, AllocError> {
+    let opened = "[".repeat(alloc, depth)?;
+    let closed = "]".repeat(alloc, depth)?;
+    format!(in alloc; "{opened}{closed}")
 }
 
 /// Whether arrays that nest so deep are read.
@@ -96,42 +113,37 @@ struct Nested;
 
 impl Question for Nested {
     fn told(alloc: Global, depth: &str) -> Result<String, Fail> {
-        let Ok(depth) = depth.parse::<usize>() else {
-            return Err(Fail::new(format_args!("no depth: {depth}")));
-        };
-        let mut text = String::new(alloc);
-        for _ in 0..depth {
-            text.push('[')?;
-        }
-        for _ in 0..depth {
-            text.push(']')?;
-        }
+        let text = arrays(alloc, depth.parse()?)?;
         let mut scratch = Scratch::new(alloc);
-        match Parsed::parse(alloc, text.as_str(), &mut scratch)? {
-            Some(_) => Ok(String::from_str(alloc, "read")?),
-            None => Ok(String::from_str(alloc, "not read")?),
-        }
+        let told = match Parsed::parse(alloc, text.as_str(), &mut scratch)? {
+            Some(_) => "read",
+            None => "not read",
+        };
+        Ok(String::from_str(alloc, told)?)
     }
 }
 
 #[test]
 fn texts_in_place(rt: HostRuntime) -> Result<(), Fail> {
-    hold::<InPlace>(rt.alloc(), TEXTS)
+    hold::<InPlace>(rt.alloc(), TEXTS)?;
+    hold::<Nested>(rt.alloc(), DEPTHS)
 }
 
-#[test]
-fn depths(rt: HostRuntime) -> Result<(), Fail> {
-    hold::<Nested>(rt.alloc(), DEPTHS)
+/// Fails where `serde_json` reads a text that isn't read in place, or refuses one that is.
+fn refused_alike_of(alloc: Global, row: Row) -> Result<(), Fail> {
+    let (text, value) = row;
+    let is_read = Value::from_str(alloc, text).is_ok();
+    if is_read != (value != "not read") {
+        return Err(Fail::new(format_args!("{text}: read by one alone")));
+    }
+    Ok(())
 }
 
 /// `serde_json` refuses what isn't read.
 #[test]
 fn refused_alike(rt: HostRuntime) -> Result<(), Fail> {
-    for &(text, value) in TEXTS {
-        let is_read = Value::from_str(rt.alloc(), text).is_ok();
-        if is_read != (value != "not read") {
-            return Err(Fail::new(format_args!("{text}: read by one alone")));
-        }
+    for &row in TEXTS {
+        refused_alike_of(rt.alloc(), row)?;
     }
     Ok(())
 }

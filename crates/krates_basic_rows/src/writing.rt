@@ -1,6 +1,6 @@
 //! What each type is written as, and that what was written is read as it was.
 
-use crate::packages::read;
+use crate::packages::{read, told_within};
 use krates_cm::{
     Dependency, FromValue, Metadata, Node, Package, PackageId, Resolve, Source, Target,
 };
@@ -118,20 +118,21 @@ impl<T: FromValue + ToValue + Debug> Question for Written<T> {
     }
 }
 
+/// What is written between all else that is written of a package, or the whole where other things are written.
+fn between(written: &str) -> &str {
+    match written.strip_prefix(WRITTEN_BEFORE) {
+        Some(rest) => rest.strip_suffix(WRITTEN_BEHIND).unwrap_or(""),
+        None => written,
+    }
+}
+
 /// What is written for the version of Rust that a package needs, between all else that is written of the package.
 struct RustVersion;
 
 impl Question for RustVersion {
     fn told(alloc: Global, json: &str) -> Result<String, Fail> {
-        let package = format!(in alloc; "{BEFORE}{json}}}")?;
-        let told = Written::<Package>::told(alloc, package.as_str())?;
-        match told.strip_prefix(WRITTEN_BEFORE) {
-            Some(told) => Ok(String::from_str(
-                alloc,
-                told.strip_suffix(WRITTEN_BEHIND).unwrap_or(""),
-            )?),
-            None => Ok(told),
-        }
+        let told = told_within::<Written<Package>>(alloc, (BEFORE, "}"), json)?;
+        Ok(String::from_str(alloc, between(told.as_str()))?)
     }
 }
 
@@ -142,32 +143,20 @@ fn texts_are_written(rt: HostRuntime) -> Result<(), Fail> {
 }
 
 #[test]
-fn declared_dependencies_are_written(rt: HostRuntime) -> Result<(), Fail> {
-    hold::<Written<Dependency>>(rt.alloc(), DECLARED)
-}
-
-#[test]
-fn targets_are_written(rt: HostRuntime) -> Result<(), Fail> {
+fn dependencies_and_targets_are_written(rt: HostRuntime) -> Result<(), Fail> {
+    hold::<Written<Dependency>>(rt.alloc(), DECLARED)?;
     hold::<Written<Target>>(rt.alloc(), TARGETS)
 }
 
 #[test]
 fn packages_are_written(rt: HostRuntime) -> Result<(), Fail> {
-    hold::<Written<Package>>(rt.alloc(), PACKAGES)
-}
-
-#[test]
-fn versions_of_rust_are_written(rt: HostRuntime) -> Result<(), Fail> {
+    hold::<Written<Package>>(rt.alloc(), PACKAGES)?;
     hold::<RustVersion>(rt.alloc(), RUST_VERSIONS)
 }
 
 #[test]
-fn resolved_graphs_are_written(rt: HostRuntime) -> Result<(), Fail> {
+fn graphs_and_documents_are_written(rt: HostRuntime) -> Result<(), Fail> {
     hold::<Written<Node>>(rt.alloc(), NODES)?;
-    hold::<Written<Resolve>>(rt.alloc(), GRAPHS)
-}
-
-#[test]
-fn documents_are_written(rt: HostRuntime) -> Result<(), Fail> {
+    hold::<Written<Resolve>>(rt.alloc(), GRAPHS)?;
     hold::<Written<Metadata>>(rt.alloc(), DOCUMENTS)
 }

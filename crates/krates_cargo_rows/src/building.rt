@@ -3,6 +3,7 @@
 ghost use Rattle.std.specs.Prelude.{⊤};
 
 use crate::stand_in::command;
+use crate::table::{Question, Row, hold, hold_beginnings};
 use krates::{Builder, Error, Krates, OnFilter, Package};
 use krates_cargo::MetadataCommand;
 use krates_cli::{Counted, Options, program, run_by_cargo};
@@ -26,7 +27,7 @@ impl OnFilter for Count {
 }
 
 /// The last word of a run of cargo, and how the answer of its build begins, with how many packages the filter was called.
-const BUILDS: &[(&str, &str)] = &[
+const BUILDS: &[Row] = &[
     ("x", "0 reported, 2 kept"),
     (
         "--fake=fail",
@@ -59,15 +60,19 @@ fn told(rt: &HostRuntime, command: MetadataCommand) -> Result<String, Fail> {
     }
 }
 
+/// The answer of a build by a command with this last word.
+struct Built;
+
+impl Question for Built {
+    fn told(rt: &HostRuntime, line: &str) -> Result<String, Fail> {
+        let command = command(rt, line)?;
+        told(rt, command)
+    }
+}
+
 #[test]
 fn builds(rt: HostRuntime) -> Result<(), Fail> {
-    for &(last, begins) in BUILDS {
-        let told = told(&rt, command(&rt, last)?)?;
-        if !told.starts_with(begins) {
-            return Err(Fail::new(format_args!("{last}: {told} in place of {begins}")));
-        }
-    }
-    Ok(())
+    hold_beginnings::<Built>(&rt, BUILDS)
 }
 
 #[test]
@@ -84,7 +89,7 @@ fn no_build_without_a_program(rt: HostRuntime) -> Result<(), Fail> {
 
 /// The words of a run of the program, `SELF` being the stand-in, and the status, what it tells and what it lists; of what is told
 /// only the beginning up to the mark.
-const LISTINGS: &[(&str, &str)] = &[
+const LISTINGS: &[Row] = &[
     (
         "--cargo SELF",
         "0 |+ path+file:///w/a#0.1.0\n+ path+file:///w/b#0.1.0\n",
@@ -113,43 +118,49 @@ const LISTINGS: &[(&str, &str)] = &[
     ),
 ];
 
-/// The words, with the path of this program where it is meant.
-fn words_of(rt: &HostRuntime, line: &str) -> Result<Vec<String>, Fail> {
-    let mut words = Vec::new(rt.alloc());
-    for word in line.split_whitespace() {
-        if word == "SELF" {
-            words.push(String::from_str(rt.alloc(), std::env::current_exe(rt)?.as_str())?)?;
-        } else {
-            words.push(String::from_str(rt.alloc(), word)?)?;
-        }
-    }
-    Ok(words)
+/// Adds a word, or the path of this program where it is meant.
+fn push_word(words: &mut Vec<String>, rt: &HostRuntime, word: &str) -> Result<(), Fail> {
+    let this = std::env::current_exe(rt)?;
+    let word = if word == "SELF" { this.as_str() } else { word };
+    words.push(String::from_str(rt.alloc(), word)?)?;
+    Ok(())
 }
 
-/// The status and what goes to standard error, a bar, and what goes to standard output; nothing is read.
-fn listed(rt: &HostRuntime, line: &str) -> Result<String, Fail> {
+/// Adds the words, each in that way.
+fn push_words(words: &mut Vec<String>, rt: &HostRuntime, line: &str) -> Result<(), Fail> {
+    for word in line.split_whitespace() {
+        push_word(words, rt, word)?;
+    }
+    Ok(())
+}
+
+/// The status and what goes to standard error, a bar, and what goes to standard output; before them, whether something was read.
+fn listed(rt: &HostRuntime, words: &[String]) -> Result<String, Fail> {
     let mut input = Counted::new(b"{}".as_slice());
     let mut output = Counted::new(Vec::new(rt.alloc()));
     let mut errors = Counted::new(Vec::new(rt.alloc()));
-    let words = words_of(rt, line)?;
-    let status = program(words.as_slice(), &mut input, &mut output, &mut errors, rt);
-    if input.get_ref().len() != 2 {
-        return Err(Fail::new(format_args!("{line}: something was read")));
-    }
+    let status = program(words, &mut input, &mut output, &mut errors, rt);
+    let unread = input.get_ref().len() == 2;
+    let read = if unread { "" } else { "something was read: " };
     let told = str::from_utf8(errors.get_ref().as_slice())?;
     let lines = str::from_utf8(output.get_ref().as_slice())?;
-    Ok(format!(in rt.alloc(); "{status} {told}|{lines}")?)
+    Ok(format!(in rt.alloc(); "{read}{status} {told}|{lines}")?)
+}
+
+/// What a run of the program with these words tells and lists.
+struct Listing;
+
+impl Question for Listing {
+    fn told(rt: &HostRuntime, line: &str) -> Result<String, Fail> {
+        let mut words = Vec::new(rt.alloc());
+        push_words(&mut words, rt, line)?;
+        listed(rt, words.as_slice())
+    }
 }
 
 #[test]
 fn listings(rt: HostRuntime) -> Result<(), Fail> {
-    for &(line, want) in LISTINGS {
-        let told = listed(&rt, line)?;
-        if told.as_str() != want {
-            return Err(Fail::new(format_args!("{line}: {told} in place of {want}")));
-        }
-    }
-    Ok(())
+    hold::<Listing>(&rt, LISTINGS)
 }
 
 /// What a run with this program in cargo's place writes, or why it is refused.
@@ -176,7 +187,7 @@ fn lines_by_cargo(rt: HostRuntime) -> Result<(), Fail> {
 
 #[test]
 fn no_listing_without_a_program(rt: HostRuntime) -> Result<(), Fail> {
-    let told = listed(&rt, "--cargo /no/such/program")?;
+    let told = Listing::told(&rt, "--cargo /no/such/program")?;
     assert!(rt;
         told.starts_with("1 refused: failed to start `cargo metadata`: ") && told.ends_with("\n|"),
         "{told}"

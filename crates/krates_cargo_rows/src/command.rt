@@ -1,14 +1,12 @@
 //! The command: the words that cargo is run with, the command of a tool's options, and what is read from cargo's output.
 
+use crate::table::{Question, Row, compare, compare_beginning, hold, hold_beginnings};
 use krates_cargo::{Cmd, Features, LockOptions, MetadataCommand};
-use krates_cm::Error;
+use krates_cm::{Error, Metadata};
 use krates_stand_in::DOCUMENT;
 use std::alloc::{AllocError, Global};
 use std::process::Command;
 use std::test::Fail;
-
-/// A line that asks, and the line that is known to answer it.
-type Row = (&'static str, &'static str);
 
 /// Settings of a command, in order, and the words that it runs cargo with, after the refusals of its setters.
 const WORDS: &[Row] = &[
@@ -134,16 +132,10 @@ fn parts(alloc: Global, text: &str) -> Result<Vec<String>, AllocError> {
     Ok(parts)
 }
 
-/// The words with a bar between each two.
-fn barred(alloc: Global, words: &[String]) -> Result<String, AllocError> {
-    let mut text = String::new(alloc);
-    for word in words {
-        if !text.is_empty() {
-            text.push('|')?;
-        }
-        text.push_str(word.as_str())?;
-    }
-    Ok(text)
+/// The words of a command, with a bar between each two.
+fn barred(alloc: Global, command: &MetadataCommand) -> Result<String, AllocError> {
+    let words = command.args()?;
+    words.as_slice().join(alloc, "|")
 }
 
 /// Sets what a word says.
@@ -182,22 +174,65 @@ fn set(alloc: Global, command: &mut MetadataCommand, word: &str) -> Result<(), E
     Ok(())
 }
 
-/// The words of the command with these settings, after the refusals of its setters; those of its copy are the same.
-fn words(alloc: Global, line: &str) -> Result<String, Fail> {
-    let mut command = MetadataCommand::new(alloc);
-    let mut told = String::new(alloc);
+/// Sets what each word says.
+fn set_all(alloc: Global, command: &mut MetadataCommand, line: &str) -> Result<(), Error> {
     for word in line.split_whitespace() {
-        if let Err(error) = set(alloc, &mut command, word) {
-            told = format!(in alloc; "{error}! ")?;
-        }
+        set(alloc, command, word)?;
     }
-    let words = barred(alloc, &command.args()?)?;
-    let copied = barred(alloc, &command.clone()?.args()?)?;
-    if words != copied {
-        return Err(Fail::new(format_args!("the copy has the words {copied}")));
+    Ok(())
+}
+
+/// Sets what a word says, and adds why the setter refuses it.
+fn try_set(
+    told: &mut String,
+    alloc: Global,
+    command: &mut MetadataCommand,
+    word: &str,
+) -> Result<(), Fail> {
+    if let Err(error) = set(alloc, command, word) {
+        write!(told, "{error}! ")?;
     }
-    told.push_str(words.as_str())?;
-    Ok(told)
+    Ok(())
+}
+
+/// Sets what each word says, and adds why setters refuse some of them.
+fn try_set_all(
+    told: &mut String,
+    alloc: Global,
+    command: &mut MetadataCommand,
+    line: &str,
+) -> Result<(), Fail> {
+    for word in line.split_whitespace() {
+        try_set(told, alloc, command, word)?;
+    }
+    Ok(())
+}
+
+/// The words of a command, which those of its copy equal.
+fn words(alloc: Global, command: &MetadataCommand) -> Result<String, Fail> {
+    let copy = command.clone()?;
+    let (words, copied) = (barred(alloc, command)?, barred(alloc, &copy)?);
+    compare("the words of the copy", copied.as_str(), words.as_str())?;
+    Ok(words)
+}
+
+/// Asks for the words of a command with these settings, after the refusals of its setters.
+struct CommandWords;
+
+impl Question for CommandWords {
+    fn told(rt: &HostRuntime, line: &str) -> Result<String, Fail> {
+        let alloc = rt.alloc();
+        let mut told = String::new(alloc);
+        let mut command = MetadataCommand::new(alloc);
+        try_set_all(&mut told, alloc, &mut command, line)?;
+        told.push_str(words(alloc, &command)?.as_str())?;
+        Ok(told)
+    }
+}
+
+#[test]
+fn words_of_a_command(rt: HostRuntime) -> Result<(), Fail> {
+    hold::<CommandWords>(&rt, WORDS)
 }
 
 /// Sets what a word says.
@@ -236,151 +271,129 @@ fn ask(alloc: Global, cmd: &mut Cmd, word: &str) -> Result<(), AllocError> {
     Ok(())
 }
 
-/// The command that the settings become.
-fn becomes(alloc: Global, line: &str) -> Result<String, Fail> {
-    let mut cmd = Cmd::new(alloc);
+/// Sets what each word says.
+fn ask_all(alloc: Global, cmd: &mut Cmd, line: &str) -> Result<(), AllocError> {
     for word in line.split_whitespace() {
-        ask(alloc, &mut cmd, word)?;
+        ask(alloc, cmd, word)?;
     }
-    match cmd.into_command() {
-        Ok(command) => Ok(shown(alloc, &command)?),
-        Err(error) => Ok(format!(in alloc; "{error}")?),
-    }
+    Ok(())
 }
 
-/// The variables that a process gets, each with its value.
-fn variables(alloc: Global, process: &Command) -> Result<String, Error> {
-    let mut text = String::new(alloc);
+/// Adds the variables that a process gets, each with its value.
+fn push_variables(text: &mut String, process: &Command) -> Result<(), AllocError> {
     for (name, value) in process.get_envs() {
-        text.push_str(format!(in alloc; "{name}={} ", value.unwrap_or(""))?.as_str())?;
+        write!(text, "{name}={} ", value.unwrap_or(""))?;
     }
-    Ok(text)
+    Ok(())
 }
 
 /// The variables, the program, the directory and the words.
 fn shown(alloc: Global, command: &MetadataCommand) -> Result<String, Error> {
-    let words = barred(alloc, &command.args()?)?;
+    let words = barred(alloc, command)?;
     let process = command.cargo_command(None)?;
     let dir = match process.get_current_dir() {
         Some(dir) => dir.as_str(),
         None => "none",
     };
-    let call = format!(in alloc; "{} in {dir}: {words}", process.get_program())?;
-    let mut text = variables(alloc, &process)?;
-    text.push_str(call.as_str())?;
+    let mut text = String::new(alloc);
+    push_variables(&mut text, &process)?;
+    write!(text, "{} in {dir}: {words}", process.get_program())?;
     Ok(text)
 }
 
-/// The process of the command with these settings.
-fn process(alloc: Global, line: &str) -> Result<String, Fail> {
-    let mut command = MetadataCommand::new(alloc);
-    for word in line.split_whitespace() {
-        set(alloc, &mut command, word)?;
-    }
-    Ok(shown(alloc, &command.clone()?)?)
-}
-
-/// What is read from a text.
-fn parsed(alloc: Global, text: &str) -> Result<String, AllocError> {
-    match MetadataCommand::parse(alloc, text) {
-        Ok(metadata) => format!(in alloc; "{} packages", metadata.packages.len()),
-        Err(error) => format!(in alloc; "{error}"),
-    }
-}
-
-/// What is read from cargo's output.
-fn read(alloc: Global, success: bool, stdout: &[u8], stderr: &[u8]) -> Result<String, AllocError> {
-    match MetadataCommand::interpret(alloc, success, stdout, stderr) {
-        Ok(metadata) => format!(in alloc; "{} packages", metadata.packages.len()),
-        Err(error) => format!(in alloc; "{error}"),
-    }
-}
-
-/// What the lines of a table ask.
-trait Question {
-    /// The answer to a line.
-    fn told(alloc: Global, line: &str) -> Result<String, Fail>;
-}
-
-/// Asks for the words of a command.
-struct CommandWords;
-
-impl Question for CommandWords {
-    fn told(alloc: Global, line: &str) -> Result<String, Fail> {
-        words(alloc, line)
-    }
-}
-
-/// Asks for the process of a command.
+/// Asks for the process of a command with these settings.
 struct CommandProcess;
 
 impl Question for CommandProcess {
-    fn told(alloc: Global, line: &str) -> Result<String, Fail> {
-        process(alloc, line)
+    fn told(rt: &HostRuntime, line: &str) -> Result<String, Fail> {
+        let mut command = MetadataCommand::new(rt.alloc());
+        set_all(rt.alloc(), &mut command, line)?;
+        let copy = command.clone()?;
+        Ok(shown(rt.alloc(), &copy)?)
     }
-}
-
-/// Asks what a tool's options become.
-struct OptionsCommand;
-
-impl Question for OptionsCommand {
-    fn told(alloc: Global, line: &str) -> Result<String, Fail> {
-        becomes(alloc, line)
-    }
-}
-
-/// Holds each row to its answer.
-fn hold<Q: Question>(alloc: Global, rows: &[Row]) -> Result<(), Fail> {
-    for &(line, answer) in rows {
-        let told = Q::told(alloc, line)?;
-        if told.as_str() != answer {
-            return Err(Fail::new(format_args!("{line}: {told} in place of {answer}")));
-        }
-    }
-    Ok(())
-}
-
-#[test]
-fn words_of_a_command(rt: HostRuntime) -> Result<(), Fail> {
-    hold::<CommandWords>(rt.alloc(), WORDS)
 }
 
 #[test]
 fn process_of_a_command(rt: HostRuntime) -> Result<(), Fail> {
-    hold::<CommandProcess>(rt.alloc(), PROCESSES)
+    hold::<CommandProcess>(&rt, PROCESSES)
 }
 
-#[test]
-fn options_become_a_command(rt: HostRuntime) -> Result<(), Fail> {
-    hold::<OptionsCommand>(rt.alloc(), BECOMES)
-}
+/// Asks for the command that the settings of a tool's options become.
+struct OptionsCommand;
 
-#[test]
-fn first_json_line(rt: HostRuntime) {
-    for &(text, want) in JSON_LINES {
-        assert_eq!(rt; MetadataCommand::json_line(text), want, "at {text}");
+impl Question for OptionsCommand {
+    fn told(rt: &HostRuntime, line: &str) -> Result<String, Fail> {
+        let mut cmd = Cmd::new(rt.alloc());
+        ask_all(rt.alloc(), &mut cmd, line)?;
+        match cmd.into_command() {
+            Ok(command) => Ok(shown(rt.alloc(), &command)?),
+            Err(error) => Ok(format!(in rt.alloc(); "{error}")?),
+        }
     }
 }
 
 #[test]
+fn options_become_a_command(rt: HostRuntime) -> Result<(), Fail> {
+    hold::<OptionsCommand>(&rt, BECOMES)
+}
+
+/// What is read, or why nothing is.
+fn read(alloc: Global, parsed: Result<Metadata, Error>) -> Result<String, AllocError> {
+    match parsed {
+        Ok(metadata) => format!(in alloc; "{} packages", metadata.packages.len()),
+        Err(error) => format!(in alloc; "{error}"),
+    }
+}
+
+/// Asks what is read from a text.
+struct Text;
+
+impl Question for Text {
+    fn told(rt: &HostRuntime, line: &str) -> Result<String, Fail> {
+        let parsed = MetadataCommand::parse(rt.alloc(), line);
+        Ok(read(rt.alloc(), parsed)?)
+    }
+}
+
+#[test]
+fn texts_are_parsed(rt: HostRuntime) -> Result<(), Fail> {
+    hold_beginnings::<Text>(&rt, PARSED)
+}
+
+/// Holds what is read from cargo's output to how it is known to begin.
+fn hold_output(
+    alloc: Global,
+    success: bool,
+    stdout: &[u8],
+    stderr: &[u8],
+    begins: &str,
+) -> Result<(), Fail> {
+    let parsed = MetadataCommand::interpret(alloc, success, stdout, stderr);
+    let told = read(alloc, parsed)?;
+    compare_beginning("an output", told.as_str(), begins)
+}
+
+#[test]
 fn output_is_interpreted(rt: HostRuntime) -> Result<(), Fail> {
-    let alloc = rt.alloc();
     for &(success, stdout, stderr, begins) in READ {
-        let told = read(alloc, success, stdout, stderr)?;
-        if !told.starts_with(begins) {
-            return Err(Fail::new(format_args!("{told} in place of {begins}")));
-        }
+        hold_output(rt.alloc(), success, stdout, stderr, begins)?;
+    }
+    Ok(())
+}
+
+/// Compares the first line of a text that begins with `{` with the one that is known.
+fn hold_json_line(text: &str, want: Option<&str>) -> Result<(), Fail> {
+    let line = MetadataCommand::json_line(text);
+    if line != want {
+        return Err(Fail::new(format_args!("{text}: {line:?} in place of {want:?}")));
     }
     Ok(())
 }
 
 #[test]
-fn texts_are_parsed(rt: HostRuntime) -> Result<(), Fail> {
-    for &(text, begins) in PARSED {
-        let told = parsed(rt.alloc(), text)?;
-        if !told.starts_with(begins) {
-            return Err(Fail::new(format_args!("{told} in place of {begins}")));
-        }
+fn first_json_line() -> Result<(), Fail> {
+    for &(text, want) in JSON_LINES {
+        hold_json_line(text, want)?;
     }
     Ok(())
 }

@@ -12,6 +12,8 @@ mod command;
 mod readme;
 #[cfg(test)]
 mod stand_in;
+#[cfg(test)]
+mod table;
 
 #[cfg(test)]
 use std::test::Fail;

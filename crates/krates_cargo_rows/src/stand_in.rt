@@ -1,5 +1,6 @@
 //! The runs, and what stands in for cargo in them.
 
+use crate::table::{Question, Row, hold_beginnings};
 use krates_cargo::MetadataCommand;
 use krates_cm::Error;
 use krates_stand_in::answer;
@@ -7,7 +8,7 @@ use std::io::Write;
 use std::test::Fail;
 
 /// The last word of a run, and how what is read from it begins.
-const RUNS: &[(&str, &str)] = &[
+const RUNS: &[Row] = &[
     ("x", "2 packages"),
     (
         "--fake=fail",
@@ -35,24 +36,23 @@ const RUNS: &[(&str, &str)] = &[
     ),
 ];
 
-/// Writes what the last word says, if words follow the name of the test, and returns the status.
-pub(crate) fn run(rt: &HostRuntime) -> Result<u8, Fail> {
-    let mut words = Vec::new(rt.alloc());
-    for word in std::env::args(rt)?.skip(1) {
-        words.push(word)?;
-    }
-    if words.len() < 2 {
-        return Ok(0);
-    }
+/// Writes what the last of these words says, and returns the status.
+fn stand_in(rt: &HostRuntime, words: &[String]) -> Result<u8, Fail> {
     let variable = std::env::var(rt, "FAKE_CARGO").ok();
-    let answer = answer(
-        rt.alloc(),
-        words.as_slice(),
-        variable.as_ref().map(|value| value.as_str()),
-    )?;
+    let value = variable.as_ref().map(|value| value.as_str());
+    let answer = answer(rt.alloc(), words, value)?;
     std::io::writer(rt).write_all(&answer.stdout)?;
     rt.stderr().write_all(&answer.stderr)?;
     Ok(answer.status)
+}
+
+/// Writes what the last word says, if words follow the name of the test, and returns the status.
+pub(crate) fn run(rt: &HostRuntime) -> Result<u8, Fail> {
+    let words: Vec<String> = std::env::args(rt)?.skip(1).collect(rt.alloc())?;
+    if words.len() < 2 {
+        return Ok(0);
+    }
+    stand_in(rt, words.as_slice())
 }
 
 /// A command that this program runs in cargo's place, with this last word.
@@ -79,15 +79,19 @@ fn told(rt: &HostRuntime, command: &MetadataCommand) -> Result<String, Fail> {
     }
 }
 
+/// What is read of a run with this last word.
+struct Ran;
+
+impl Question for Ran {
+    fn told(rt: &HostRuntime, line: &str) -> Result<String, Fail> {
+        let command = command(rt, line)?;
+        told(rt, &command)
+    }
+}
+
 #[test]
 fn runs(rt: HostRuntime) -> Result<(), Fail> {
-    for &(last, begins) in RUNS {
-        let told = told(&rt, &command(&rt, last)?)?;
-        if !told.starts_with(begins) {
-            return Err(Fail::new(format_args!("{last}: {told} in place of {begins}")));
-        }
-    }
-    Ok(())
+    hold_beginnings::<Ran>(&rt, RUNS)
 }
 
 /// What a verbose run writes as an error goes to the standard error of this program, and isn't collected.

@@ -4,10 +4,9 @@ ghost use Rattle.std.specs.Prelude.{◌≡◌, IfOk, None, OnOk};
 
 use crate::closed_lists::{ADDED, LOST};
 use crate::derivations::{DECLARED, ORDERED, STRONG};
-use crate::facts::{facts_of, steps_of, told};
-use krates::derive::{check, check_closed};
+use crate::lists::{Facts, List, Steps, list_in};
 use krates::{Builder, DepKind, PkgSpec, Scope};
-use krates_samples::documents::{kind_named, metadata, section};
+use krates_samples::documents::{kind_named, metadata};
 use krates_samples::table::{Question, hold};
 use std::alloc::Global;
 use std::test::Fail;
@@ -41,39 +40,24 @@ pub(crate) fn builder_of(alloc: Global, line: &str) -> Result<Builder, Fail>
     Ok(builder)
 }
 
-/// What the check of a list of steps answers by a builder.
-struct Checked;
-
-impl Question for Checked {
-    fn told(alloc: Global, line: &str) -> Result<String, Fail> {
-        let metadata = metadata(alloc, line)?;
-        let builder = builder_of(alloc, line)?;
-        let derivation = steps_of(alloc, section(line, "steps").unwrap_or(""))?;
-        told(alloc, check(&metadata, &builder, None, &derivation))
-    }
+/// What the check of the list of a line answers by a builder.
+struct ByBuilder<L> {
+    list: L,
 }
 
-/// What the check of a list of facts answers by a builder.
-struct Closed;
-
-impl Question for Closed {
+impl<L: List> Question for ByBuilder<L> {
     fn told(alloc: Global, line: &str) -> Result<String, Fail> {
         let metadata = metadata(alloc, line)?;
         let builder = builder_of(alloc, line)?;
-        let facts = facts_of(alloc, section(line, "facts").unwrap_or(""))?;
-        told(alloc, check_closed(&metadata, &builder, None, &facts))
+        L::by_builder(alloc, &metadata, &builder, list_in::<L>(line))
     }
 }
 
 #[test]
-fn steps_by_a_builder(rt: HostRuntime) -> Result<(), Fail> {
-    hold::<Checked>(rt.alloc(), ORDERED)?;
-    hold::<Checked>(rt.alloc(), STRONG)?;
-    hold::<Checked>(rt.alloc(), DECLARED)
-}
-
-#[test]
-fn closed_lists_by_a_builder(rt: HostRuntime) -> Result<(), Fail> {
-    hold::<Closed>(rt.alloc(), ADDED)?;
-    hold::<Closed>(rt.alloc(), LOST)
+fn lists_by_a_builder(rt: HostRuntime) -> Result<(), Fail> {
+    hold::<ByBuilder<Steps>>(rt.alloc(), ORDERED)?;
+    hold::<ByBuilder<Steps>>(rt.alloc(), STRONG)?;
+    hold::<ByBuilder<Steps>>(rt.alloc(), DECLARED)?;
+    hold::<ByBuilder<Facts>>(rt.alloc(), ADDED)?;
+    hold::<ByBuilder<Facts>>(rt.alloc(), LOST)
 }

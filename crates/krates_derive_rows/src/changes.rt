@@ -1,8 +1,8 @@
 //! Lists of steps that are changed step by step: each change leaves a step that doesn't follow, and it is the first.
 
-use crate::derivations::told_of;
-use crate::facts::rule_of;
-use krates_samples::documents::section;
+use crate::facts::steps_of;
+use crate::lists::{Given, List, Steps, given_in, list_in};
+use krates_derive::{CheckError, Derivation, check};
 use krates_samples::table::{Question, Row, hold};
 use std::alloc::Global;
 use std::test::Fail;
@@ -31,53 +31,118 @@ const CHANGES: &[Change] = &[
     Change::Swapped,
 ];
 
-/// The words of a fact about a crate that the document lacks.
-fn of_another(alloc: Global, fact: &str) -> Result<String, Fail> {
-    Ok(match fact.strip_prefix("+") {
-        Some(krate) => format!(in alloc; "+z{krate}")?,
-        None => format!(in alloc; "z{fact}")?,
-    })
+/// A step in words.
+#[derive(Clone, Copy)]
+struct Words<'a> {
+    rule: u8,
+    /// The plus sign of a crate that is kept.
+    sign: &'static str,
+    /// What is put before the name of the crate that the fact is about.
+    prefix: &'static str,
+    fact: &'a str,
+    uses: &'a str,
+    /// What it uses besides.
+    more: &'a str,
 }
 
-/// The words of a step with this number after the change.
-fn changed(alloc: Global, step: &str, number: usize, change: Change) -> Result<String, Fail> {
+/// The words of a step after the change; where it uses itself, its own number stands before what it uses.
+fn changed(step: &str, change: Change) -> Result<Words<'_>, Fail> {
     let (rule, rest) = step.trim().split_once(' ').unwrap_or((step, ""));
     let (fact, uses) = rest.split_once(' ').unwrap_or((rest, ""));
     let (first, second) = uses.split_once(' ').unwrap_or((uses, ""));
-    Ok(match change {
-        Change::Rule => format!(in alloc; "{} {rest}", rule_of(rule)? % 7 + 1)?,
-        Change::Crate => format!(in alloc; "{rule} {} {uses}", of_another(alloc, fact)?)?,
-        Change::Later => format!(in alloc; "{rule} {fact} {number} {second}")?,
-        Change::More => format!(in alloc; "{rule} {fact} {uses} 0")?,
-        Change::Swapped => format!(in alloc; "{rule} {fact} {second} {first}")?,
+    let (sign, fact) = match fact.strip_prefix("+") {
+        Some(krate) => ("+", krate),
+        None => ("", fact),
+    };
+    let rule = rule.parse::<u8>()?;
+    let rule = if let Change::Rule = change {
+        rule % 7 + 1
+    } else {
+        rule
+    };
+    let prefix = if let Change::Crate = change { "z" } else { "" };
+    let (uses, more) = match change {
+        Change::Rule | Change::Crate => (uses, ""),
+        Change::Later => (second, ""),
+        Change::More => (uses, "0"),
+        Change::Swapped => (second, first),
+    };
+    Ok(Words {
+        rule,
+        sign,
+        prefix,
+        fact,
+        uses,
+        more,
     })
 }
 
-/// The steps with the one of this number changed.
-fn with_change(alloc: Global, steps: &str, number: usize, change: Change) -> Result<String, Fail> {
-    let mut all = String::new(alloc);
+/// Adds a step with this number after the change.
+fn push_changed(text: &mut String, step: &str, number: usize, change: Change) -> Result<(), Fail> {
+    let words = changed(step, change)?;
+    write!(
+        text,
+        "{} {}{}{} ",
+        words.rule, words.sign, words.prefix, words.fact
+    )?;
+    if let Change::Later = change {
+        write!(text, "{number} ")?;
+    }
+    write!(text, "{} {};", words.uses, words.more)?;
+    Ok(())
+}
+
+/// Adds the steps with the one of this number changed.
+fn push_steps(text: &mut String, steps: &str, number: usize, change: Change) -> Result<(), Fail> {
     for (place, step) in steps.split(';').enumerate() {
         if place == number {
-            let changed = changed(alloc, step, number, change)?;
-            write!(all, "{};", changed)?;
+            push_changed(text, step, number, change)?;
         } else {
-            write!(all, "{};", step)?;
+            write!(text, "{step};")?;
         }
     }
-    Ok(all)
+    Ok(())
+}
+
+/// The steps with the one of this number changed.
+fn with_change(
+    alloc: Global,
+    steps: &str,
+    number: usize,
+    change: Change,
+) -> Result<Derivation, Fail> {
+    let mut text = String::new(alloc);
+    push_steps(&mut text, steps, number, change)?;
+    steps_of(alloc, &text)
+}
+
+/// Whether this change of the step with this number is refused for that step.
+fn is_refused(given: &Given, steps: &str, number: usize, change: Change) -> Result<bool, Fail> {
+    let (alloc, metadata, setting) = (given.alloc, &given.metadata, &given.setting);
+    let derivation = with_change(alloc, steps, number, change)?;
+    Ok(match check(alloc, metadata, setting, None, &derivation) {
+        Err(CheckError::Step(refused)) => refused == number,
+        _ => false,
+    })
 }
 
 /// How many changes of the step with this number are refused for that step.
-fn refused(alloc: Global, line: &str, steps: &str, number: usize) -> Result<usize, Fail> {
+fn refused(given: &Given, steps: &str, number: usize) -> Result<usize, Fail> {
     let mut count = 0usize;
     for &change in CHANGES {
-        let text = with_change(alloc, steps, number, change)?;
-        let expected = format!(in alloc; "step {number}")?;
-        if told_of(alloc, line, &text)?.as_str() == expected.as_str() {
+        if is_refused(given, steps, number, change)? {
             count = count.saturating_add(1);
         }
     }
     Ok(count)
+}
+
+/// Adds how many changes of each step are refused for it.
+fn push_refused(told: &mut String, given: &Given, steps: &str) -> Result<(), Fail> {
+    for (number, _) in steps.split(';').enumerate() {
+        write!(told, " {}", refused(given, steps, number)?)?;
+    }
+    Ok(())
 }
 
 /// What the check answers of the list, and of each step how many of its changes are refused for it.
@@ -85,12 +150,10 @@ struct EachChanged;
 
 impl Question for EachChanged {
     fn told(alloc: Global, line: &str) -> Result<String, Fail> {
-        let steps = section(line, "steps").unwrap_or("");
-        let mut told = told_of(alloc, line, steps)?;
-        for (number, _) in steps.split(';').enumerate() {
-            let count = refused(alloc, line, steps, number)?;
-            write!(told, " {count}")?;
-        }
+        let given = given_in(alloc, line)?;
+        let steps = list_in::<Steps>(line);
+        let mut told = Steps::by_setting(&given, None, steps)?;
+        push_refused(&mut told, &given, steps)?;
         Ok(told)
     }
 }

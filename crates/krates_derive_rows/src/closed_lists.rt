@@ -1,55 +1,38 @@
 //! Lists of facts: each is closed as it was written, and open without any one of its facts.
 
-use crate::facts::{fact_of, facts_of, setting_of, told};
-use krates_cm::Metadata;
+use crate::facts::{facts_of, push_fact, told};
+use crate::lists::{Checked, Facts, Given, List, given_in, list_in};
 use krates_derive::{Fact, check_closed};
-use krates_document::Setting;
-use krates_samples::documents::{metadata, section};
 use krates_samples::table::{Question, Row, hold};
 use std::alloc::Global;
 use std::test::Fail;
 
-/// What the check answers of these facts, for the document and the setting of a line.
-fn told_of(alloc: Global, line: &str, facts: &str) -> Result<String, Fail> {
-    let metadata = metadata(alloc, line)?;
-    let setting = setting_of(alloc, line)?;
-    let facts = facts_of(alloc, facts)?;
-    told(
+/// Adds what the check answers of these facts.
+fn push_answer(all: &mut String, given: &Given, facts: &[Fact]) -> Result<(), Fail> {
+    let alloc = given.alloc;
+    let answer = told(
         alloc,
-        check_closed(alloc, &metadata, &setting, None, &facts),
-    )
+        check_closed(alloc, &given.metadata, &given.setting, None, facts),
+    )?;
+    write!(all, " {answer}")?;
+    Ok(())
 }
 
-/// The facts of the words, but for the one at this place.
-fn facts_but(alloc: Global, text: &str, left_out: usize) -> Result<Vec<Fact>, Fail> {
-    let mut facts = Vec::new(alloc);
-    for (place, word) in text.split_whitespace().enumerate() {
-        if place != left_out {
-            facts.push(fact_of(alloc, word)?)?;
-        }
+/// Adds what it answers of the facts of the words without the one at this place.
+fn push_without(all: &mut String, given: &Given, text: &str, place: usize) -> Result<(), Fail> {
+    let mut facts = facts_of(given.alloc, text)?;
+    if place < facts.len() {
+        drop(facts.remove(place));
     }
-    Ok(facts)
+    push_answer(all, given, &facts)
 }
 
-/// What the check answers of the words, but for the one at this place.
-fn answer(
-    alloc: Global,
-    metadata: &Metadata,
-    setting: &Setting,
-    text: &str,
-    left_out: usize,
-) -> Result<String, Fail> {
-    let facts = facts_but(alloc, text, left_out)?;
-    told(alloc, check_closed(alloc, metadata, setting, None, &facts))
-}
-
-/// What the check of a list of facts answers.
-struct Closed;
-
-impl Question for Closed {
-    fn told(alloc: Global, line: &str) -> Result<String, Fail> {
-        told_of(alloc, line, section(line, "facts").unwrap_or(""))
+/// Adds what it answers of the facts of the words without each of them in turn.
+fn push_without_each(all: &mut String, given: &Given, text: &str) -> Result<(), Fail> {
+    for (place, _) in text.split_whitespace().enumerate() {
+        push_without(all, given, text, place)?;
     }
+    Ok(())
 }
 
 /// What it answers of the whole list, and behind it what it answers without each of its facts.
@@ -57,14 +40,10 @@ struct EachNeeded;
 
 impl Question for EachNeeded {
     fn told(alloc: Global, line: &str) -> Result<String, Fail> {
-        let metadata = metadata(alloc, line)?;
-        let setting = setting_of(alloc, line)?;
-        let text = section(line, "facts").unwrap_or("");
-        let mut all = answer(alloc, &metadata, &setting, text, usize::MAX)?;
-        for (place, _) in text.split_whitespace().enumerate() {
-            let without = answer(alloc, &metadata, &setting, text, place)?;
-            write!(all, " {without}")?;
-        }
+        let given = given_in(alloc, line)?;
+        let text = list_in::<Facts>(line);
+        let mut all = Facts::by_setting(&given, None, text)?;
+        push_without_each(&mut all, &given, text)?;
         Ok(all)
     }
 }
@@ -184,24 +163,31 @@ pub(crate) const ADDED: &[Row] = &[
     ("a|b / facts +a a>b +b", "yes"),
 ];
 
-#[test]
-fn facts_that_are_added(rt: HostRuntime) -> Result<(), Fail> {
-    hold::<Closed>(rt.alloc(), ADDED)
+/// Adds what the check answers of the facts of the words and of one more.
+fn push_with(all: &mut String, given: &Given, text: &str, added: &str) -> Result<(), Fail> {
+    let mut facts = facts_of(given.alloc, text)?;
+    push_fact(&mut facts, given.alloc, added)?;
+    push_answer(all, given, &facts)
 }
 
-/// What it answers of the list with each of three facts that drag others, which aren't there: a feature of a crate, an edge to
-/// one, and a feature that is toggled.
+/// Adds what it answers with each of three facts that drag others, which aren't there: a feature of a crate, an edge to one, and a
+/// feature that is toggled.
+fn push_with_each(all: &mut String, given: &Given, text: &str) -> Result<(), Fail> {
+    for &added in ["z/f", "a>z", "a>a/z"].as_slice() {
+        push_with(all, given, text, added)?;
+    }
+    Ok(())
+}
+
+/// What it answers of the list, and behind it what it answers with each fact that drags others.
 struct Dragged;
 
 impl Question for Dragged {
     fn told(alloc: Global, line: &str) -> Result<String, Fail> {
-        let text = section(line, "facts").unwrap_or("");
-        let mut all = told_of(alloc, line, text)?;
-        for &added in ["z/f", "a>z", "a>a/z"].as_slice() {
-            let facts = format!(in alloc; "{text} {added}")?;
-            let answer = told_of(alloc, line, &facts)?;
-            write!(all, " {answer}")?;
-        }
+        let given = given_in(alloc, line)?;
+        let text = list_in::<Facts>(line);
+        let mut all = Facts::by_setting(&given, None, text)?;
+        push_with_each(&mut all, &given, text)?;
         Ok(all)
     }
 }
@@ -276,6 +262,7 @@ pub(crate) const LOST: &[Row] = &[
 ];
 
 #[test]
-fn what_is_lost(rt: HostRuntime) -> Result<(), Fail> {
-    hold::<Closed>(rt.alloc(), LOST)
+fn lists_of_facts(rt: HostRuntime) -> Result<(), Fail> {
+    hold::<Checked<Facts>>(rt.alloc(), ADDED)?;
+    hold::<Checked<Facts>>(rt.alloc(), LOST)
 }

@@ -1,28 +1,8 @@
 //! Lists of steps: each is accepted as it was written, and refused after one change.
 
-use crate::facts::{setting_of, steps_of, told};
-use krates_derive::check;
-use krates_samples::documents::{metadata, section};
-use krates_samples::table::{Question, Row, hold};
-use std::alloc::Global;
+use crate::lists::{Checked, Steps};
+use krates_samples::table::{Row, hold};
 use std::test::Fail;
-
-/// What the check answers of these steps, for the document and the setting of a line.
-pub(crate) fn told_of(alloc: Global, line: &str, steps: &str) -> Result<String, Fail> {
-    let metadata = metadata(alloc, line)?;
-    let setting = setting_of(alloc, line)?;
-    let derivation = steps_of(alloc, steps)?;
-    told(alloc, check(alloc, &metadata, &setting, None, &derivation))
-}
-
-/// What the check of a list of steps answers.
-struct Checked;
-
-impl Question for Checked {
-    fn told(alloc: Global, line: &str) -> Result<String, Fail> {
-        told_of(alloc, line, section(line, "steps").unwrap_or(""))
-    }
-}
 
 pub(crate) const ORDERED: &[Row] = &[
     // a crate that the only member needs for its tests
@@ -46,11 +26,6 @@ pub(crate) const ORDERED: &[Row] = &[
     ("a b&dev|b / steps 1 +b; 5 a>b:dev 0; 9 +b 1", "step 0"),
     ("a b&dev|b / steps 1 +a; 5 a>b:dev 0; 5 +b 0 1 1", "step 2"),
 ];
-
-#[test]
-fn steps_in_order(rt: HostRuntime) -> Result<(), Fail> {
-    hold::<Checked>(rt.alloc(), ORDERED)
-}
 
 const WEAK: &[Row] = &[
     // a weak reference over an edge that another feature keeps
@@ -102,11 +77,6 @@ const WEAK: &[Row] = &[
         "step 2",
     ),
 ];
-
-#[test]
-fn weak_references(rt: HostRuntime) -> Result<(), Fail> {
-    hold::<Checked>(rt.alloc(), WEAK)
-}
 
 pub(crate) const STRONG: &[Row] = &[
     // a strong reference beside a weak one
@@ -162,11 +132,6 @@ pub(crate) const STRONG: &[Row] = &[
     ("a b;x=b/nope|b / without b / steps 1 +a; 5 a>b 0", "step 1"),
 ];
 
-#[test]
-fn strong_references(rt: HostRuntime) -> Result<(), Fail> {
-    hold::<Checked>(rt.alloc(), STRONG)
-}
-
 pub(crate) const DECLARED: &[Row] = &[
     // the default feature by the list, and by use where it is listed
     (
@@ -219,6 +184,9 @@ pub(crate) const DECLARED: &[Row] = &[
 ];
 
 #[test]
-fn declared_dependencies(rt: HostRuntime) -> Result<(), Fail> {
-    hold::<Checked>(rt.alloc(), DECLARED)
+fn lists_of_steps(rt: HostRuntime) -> Result<(), Fail> {
+    hold::<Checked<Steps>>(rt.alloc(), ORDERED)?;
+    hold::<Checked<Steps>>(rt.alloc(), WEAK)?;
+    hold::<Checked<Steps>>(rt.alloc(), STRONG)?;
+    hold::<Checked<Steps>>(rt.alloc(), DECLARED)
 }

@@ -2,8 +2,8 @@
 
 use crate::builders::builder_of;
 use crate::real_documents::{GIT, WEAK};
-use krates::derive::{CheckError, Derivation, check, check_closed};
-use krates::{Krates, Metadata, NodeId, NoneFilter};
+use krates::derive::{CheckError, check, check_closed};
+use krates::{Builder, Krates, Metadata, NodeId, NoneFilter};
 use krates_cli::derivation_lines::lines_of;
 use krates_cm::parse;
 use krates_samples::documents::document;
@@ -11,81 +11,86 @@ use krates_samples::table::{Question, Row, hold};
 use std::alloc::Global;
 use std::test::Fail;
 
-/// A line with a document, and what is built of it.
+/// A document, with the builder of its line and what it builds.
 #[derive(Drop)]
-struct Example<'a> {
+struct Example {
     alloc: Global,
-    line: &'a str,
+    builder: Builder,
     metadata: Metadata,
     krates: Krates,
 }
 
 /// What is built of a document under what a line sets.
-fn example_of<'a>(alloc: Global, line: &'a str, json: &str) -> Result<Example<'a>, Fail> {
+fn krates_of(alloc: Global, line: &str, json: &str) -> Result<Krates, Fail> {
     let builder = builder_of(alloc, line)?;
-    let krates: Krates = builder.build_with_metadata(parse(alloc, json)?, &mut NoneFilter)?;
+    Ok(builder.build_with_metadata(parse(alloc, json)?, &mut NoneFilter)?)
+}
+
+/// The example of a document under what a line sets.
+fn example_of(alloc: Global, line: &str, json: &str) -> Result<Example, Fail> {
     Ok(Example {
         alloc,
-        line,
+        builder: builder_of(alloc, line)?,
         metadata: parse(alloc, json)?,
-        krates,
+        krates: krates_of(alloc, line, json)?,
     })
 }
 
-/// Whether there is a derivation, and it is accepted.
-fn is_accepted(example: &Example<'_>, derivation: Option<Derivation>) -> Result<bool, Fail> {
-    let builder = builder_of(example.alloc, example.line)?;
-    Ok(match derivation {
-        Some(derivation) => check(&example.metadata, &builder, None, &derivation).is_ok(),
+/// Whether there is a derivation of the node, and it is accepted.
+fn is_accepted(example: &Example, node: NodeId) -> Result<bool, Fail> {
+    let (metadata, builder) = (&example.metadata, &example.builder);
+    Ok(match example.krates.why(node)? {
+        Some(derivation) => check(metadata, builder, None, &derivation).is_ok(),
         None => false,
     })
 }
 
 /// Whether the derivation of each node is accepted.
-fn are_accepted(example: &Example<'_>) -> Result<bool, Fail> {
+fn are_accepted(example: &Example) -> Result<bool, Fail> {
     for number in 0..example.krates.graph().raw_nodes().len() {
-        let derivation = example.krates.why(NodeId::new(number as u32))?;
-        if !is_accepted(example, derivation)? {
+        if !is_accepted(example, NodeId::new(number as u32))? {
             return Ok(false);
         }
     }
     Ok(true)
 }
 
-/// Whether the list of all facts lacks one that follows, where the fact at this place is left out.
-fn is_open(example: &Example<'_>, place: usize) -> Result<bool, Fail> {
+/// What the check answers of all facts without the one at this place, where there is one.
+fn answer_without(example: &Example, place: usize) -> Result<Result<(), CheckError>, Fail> {
     let mut facts = example.krates.facts()?;
     if place < facts.len() {
         drop(facts.remove(place));
     }
-    let builder = builder_of(example.alloc, example.line)?;
-    Ok(
-        match check_closed(&example.metadata, &builder, None, &facts) {
-            Err(CheckError::Open) => true,
-            _ => false,
-        },
-    )
+    let (metadata, builder) = (&example.metadata, &example.builder);
+    Ok(check_closed(metadata, builder, None, &facts))
 }
 
-/// Whether the facts are a closed list, and aren't without any one of them.
-fn are_closed(example: &Example<'_>) -> Result<bool, Fail> {
-    let facts = example.krates.facts()?;
-    for place in 0..facts.len() {
-        if !is_open(example, place)? {
+/// Whether so many facts, which are all, are a closed list, and aren't without any one of them.
+fn are_closed(example: &Example, count: usize) -> Result<bool, Fail> {
+    for place in 0..count {
+        if answer_without(example, place)? != Err(CheckError::Open) {
             return Ok(false);
         }
     }
-    let builder = builder_of(example.alloc, example.line)?;
-    Ok(check_closed(&example.metadata, &builder, None, &facts).is_ok())
+    Ok(answer_without(example, count)?.is_ok())
 }
 
 /// How many nodes and facts there are, and whether they are explained.
-fn counted(example: &Example<'_>) -> Result<String, Fail> {
+fn counted(example: &Example) -> Result<String, Fail> {
     let nodes = example.krates.graph().raw_nodes().len();
     let facts = example.krates.facts()?.len();
     let accepted = are_accepted(example)?;
-    let closed = are_closed(example)?;
+    let closed = are_closed(example, facts)?;
     Ok(format!(in example.alloc; "{nodes} nodes {accepted}, {facts} facts {closed}")?)
+}
+
+/// The text of the document of a line, or of the real document of the member that it names.
+fn json_of(alloc: Global, line: &str) -> Result<String, Fail> {
+    match line {
+        "weakling" => Ok(String::from_str(alloc, WEAK)?),
+        "gitter" => Ok(String::from_str(alloc, GIT)?),
+        _ => document(alloc, line),
+    }
 }
 
 /// What is counted of a document.
@@ -93,7 +98,7 @@ struct Explained;
 
 impl Question for Explained {
     fn told(alloc: Global, line: &str) -> Result<String, Fail> {
-        let json = document(alloc, line)?;
+        let json = json_of(alloc, line)?;
         counted(&example_of(alloc, line, json.as_str())?)
     }
 }
@@ -127,42 +132,33 @@ const EXPLAINED: &[Row] = &[
     ("a b?;x=dep:b y=dep:b|b", "4 nodes true, 5 facts true"),
 ];
 
-#[test]
-fn builds_explain_what_they_keep(rt: HostRuntime) -> Result<(), Fail> {
-    hold::<Explained>(rt.alloc(), EXPLAINED)
-}
-
-/// What is counted of a document that cargo wrote; a line has the name of its member.
-struct Real;
-
-impl Question for Real {
-    fn told(alloc: Global, line: &str) -> Result<String, Fail> {
-        let json = if line == "weakling" { WEAK } else { GIT };
-        counted(&example_of(alloc, "", json)?)
-    }
-}
-
+// documents that cargo wrote
 const REAL: &[Row] = &[
     ("weakling", "25 nodes true, 39 facts true"),
     ("gitter", "21 nodes true, 32 facts true"),
 ];
 
 #[test]
-fn builds_of_real_documents_explain_what_they_keep(rt: HostRuntime) -> Result<(), Fail> {
-    hold::<Real>(rt.alloc(), REAL)
+fn builds_explain_what_they_keep(rt: HostRuntime) -> Result<(), Fail> {
+    hold::<Explained>(rt.alloc(), EXPLAINED)?;
+    hold::<Explained>(rt.alloc(), REAL)
 }
 
 /// The lines of the derivation of the second node.
+fn second_lines(alloc: Global, krates: &Krates) -> Result<String, Fail> {
+    match krates.why(NodeId::new(1))? {
+        Some(derivation) => Ok(lines_of(alloc, &derivation)?),
+        None => Ok(String::from_str(alloc, "none")?),
+    }
+}
+
+/// What is told of the second node of a document.
 struct Second;
 
 impl Question for Second {
     fn told(alloc: Global, line: &str) -> Result<String, Fail> {
         let json = document(alloc, line)?;
-        let example = example_of(alloc, line, json.as_str())?;
-        match example.krates.why(NodeId::new(1))? {
-            Some(derivation) => Ok(lines_of(alloc, &derivation)?),
-            None => Ok(String::from_str(alloc, "none")?),
-        }
+        second_lines(alloc, &krates_of(alloc, line, json.as_str())?)
     }
 }
 

@@ -11,34 +11,43 @@
 
 use krates_derive::{CheckError, Derivation, Fact, Step};
 use krates_document::Setting;
-use krates_ids::PkgSpec;
 use krates_rules::{DepKind, Scope};
 use krates_samples::documents::{kid_of, kind_named};
+use krates_samples::settings::package_specs;
 use std::alloc::Global;
+use std::str::SplitWhitespace;
 use std::test::Fail;
+
+/// The text that may be there.
+pub(crate) fn text_of(alloc: Global, text: Option<&str>) -> Result<Option<String>, Fail> {
+    match text {
+        Some(text) => Ok(Some(String::from_str(alloc, text)?)),
+        None => Ok(None),
+    }
+}
+
+/// The fact that an edge is kept: its child, kind and target stand behind its parent.
+fn kept(alloc: Global, parent: &str, rest: &str) -> Result<Fact, Fail> {
+    let mut parts = rest.split(':');
+    let child = parts.next().unwrap_or("");
+    let kind = DepKind::from(kind_named(parts.next().unwrap_or("")));
+    Ok(Fact::Kept {
+        parent: kid_of(alloc, parent)?,
+        child: kid_of(alloc, child)?,
+        kind,
+        cfg: text_of(alloc, parts.next())?,
+    })
+}
 
 /// The fact of an edge: what stands behind its parent.
 fn edge_fact(alloc: Global, parent: &str, rest: &str) -> Result<Fact, Fail> {
-    let parent = kid_of(alloc, parent)?;
-    if let Some((child, name)) = rest.split_once('/') {
-        return Ok(Fact::Toggled {
-            parent,
-            child: kid_of(alloc, child)?,
-            name: String::from_str(alloc, name)?,
-        });
-    }
-    let mut parts = rest.split(':');
-    let child = kid_of(alloc, parts.next().unwrap_or(""))?;
-    let kind = DepKind::from(kind_named(parts.next().unwrap_or("")));
-    let cfg = match parts.next() {
-        Some(target) => Some(String::from_str(alloc, target)?),
-        None => None,
+    let Some((child, name)) = rest.split_once('/') else {
+        return kept(alloc, parent, rest);
     };
-    Ok(Fact::Kept {
-        parent,
-        child,
-        kind,
-        cfg,
+    Ok(Fact::Toggled {
+        parent: kid_of(alloc, parent)?,
+        child: kid_of(alloc, child)?,
+        name: String::from_str(alloc, name)?,
     })
 }
 
@@ -57,32 +66,23 @@ pub(crate) fn fact_of(alloc: Global, word: &str) -> Result<Fact, Fail> {
     })
 }
 
-/// The number of a word.
-fn number(word: &str) -> Result<usize, Fail> {
-    match word.parse::<usize>() {
-        Ok(number) => Ok(number),
-        Err(_) => Err(Fail::from("no number")),
+/// Adds the numbers of the words.
+fn push_numbers(numbers: &mut Vec<usize>, words: SplitWhitespace<'_>) -> Result<(), Fail> {
+    for word in words {
+        numbers.push(word.parse()?)?;
     }
+    Ok(())
 }
 
-/// The rule of a word.
-pub(crate) fn rule_of(word: &str) -> Result<u8, Fail> {
-    match word.parse::<u8>() {
-        Ok(rule) => Ok(rule),
-        Err(_) => Err(Fail::from("no rule")),
-    }
-}
-
-/// The step of these words.
-fn step_of(alloc: Global, text: &str) -> Result<Step, Fail> {
+/// Adds the step of these words.
+fn push_step(steps: &mut Vec<Step>, alloc: Global, text: &str) -> Result<(), Fail> {
     let mut words = text.split_whitespace();
-    let rule = rule_of(words.next().unwrap_or(""))?;
+    let rule = words.next().unwrap_or("").parse()?;
     let fact = fact_of(alloc, words.next().unwrap_or(""))?;
     let mut uses = Vec::new(alloc);
-    for word in words {
-        uses.push(number(word)?)?;
-    }
-    Ok(Step { rule, fact, uses })
+    push_numbers(&mut uses, words)?;
+    steps.push(Step { rule, fact, uses })?;
+    Ok(())
 }
 
 /// The steps of a text.
@@ -90,49 +90,57 @@ pub(crate) fn steps_of(alloc: Global, text: &str) -> Result<Derivation, Fail> {
     let mut steps = Vec::new(alloc);
     for part in text.split(';') {
         if !part.trim().is_empty() {
-            steps.push(step_of(alloc, part)?)?;
+            push_step(&mut steps, alloc, part)?;
         }
     }
     Ok(Derivation { steps })
+}
+
+/// Adds the fact of a word.
+pub(crate) fn push_fact(facts: &mut Vec<Fact>, alloc: Global, word: &str) -> Result<(), Fail> {
+    facts.push(fact_of(alloc, word)?)?;
+    Ok(())
 }
 
 /// The facts of the words.
 pub(crate) fn facts_of(alloc: Global, text: &str) -> Result<Vec<Fact>, Fail> {
     let mut facts = Vec::new(alloc);
     for word in text.split_whitespace() {
-        facts.push(fact_of(alloc, word)?)?;
+        push_fact(&mut facts, alloc, word)?;
     }
     Ok(facts)
+}
+
+/// Sets what a section of a line asks.
+fn set(setting: &mut Setting, alloc: Global, section: &str) -> Result<(), Fail> {
+    let (setter, text) = section.split_once(' ').unwrap_or((section, ""));
+    match setter {
+        "ignore" => setting.ignore_kind(DepKind::from(kind_named(text)), Scope::All),
+        "names" => setting.all_named(text == "all"),
+        "without" => setting.exclude(package_specs(alloc, text)?)?,
+        _ => {}
+    }
+    Ok(())
 }
 
 /// Sets what the sections of a line ask.
 pub(crate) fn setting_of(alloc: Global, line: &str) -> Result<Setting, Fail> {
     let mut setting = Setting::new(alloc);
     for section in line.split(" / ") {
-        let (setter, text) = section.split_once(' ').unwrap_or((section, ""));
-        if setter == "ignore" {
-            setting.ignore_kind(DepKind::from(kind_named(text)), Scope::All);
-        }
-        if setter == "names" {
-            setting.all_named(text == "all");
-        }
-        if setter == "without" {
-            let mut specs = Vec::new(alloc);
-            specs.push(PkgSpec::from_str(alloc, text)?)?;
-            setting.exclude(specs)?;
-        }
+        set(&mut setting, alloc, section)?;
     }
     Ok(setting)
 }
 
 /// The word for an answer.
 pub(crate) fn told(alloc: Global, answer: Result<(), CheckError>) -> Result<String, Fail> {
-    Ok(match answer {
-        Ok(()) => String::from_str(alloc, "yes")?,
-        Err(CheckError::Document) => String::from_str(alloc, "document")?,
-        Err(CheckError::Empty) => String::from_str(alloc, "empty")?,
-        Err(CheckError::Step(number)) => format!(in alloc; "step {number}")?,
-        Err(CheckError::Memory) => String::from_str(alloc, "memory")?,
-        Err(CheckError::Open) => String::from_str(alloc, "open")?,
-    })
+    let word = match answer {
+        Ok(()) => "yes",
+        Err(CheckError::Document) => "document",
+        Err(CheckError::Empty) => "empty",
+        Err(CheckError::Step(number)) => return Ok(format!(in alloc; "step {number}")?),
+        Err(CheckError::Memory) => "memory",
+        Err(CheckError::Open) => "open",
+    };
+    Ok(String::from_str(alloc, word)?)
 }

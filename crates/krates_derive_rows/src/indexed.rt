@@ -1,24 +1,30 @@
 //! Both checks with an index: what it adds to the features of a package counts, and without it doesn't.
 
-use crate::facts::{facts_of, setting_of, steps_of, told};
-use krates_derive::{check, check_closed};
+use crate::lists::{Facts, Given, List, Steps, given_in, list_in};
 use krates_ids::{CachingIndex, IndexAnswer, IndexKrate, IndexKrateVersion};
-use krates_samples::documents::{metadata, section};
+use krates_samples::documents::section;
 use krates_samples::table::{Question, Row, hold};
 use semver::Version;
 use std::alloc::Global;
 use std::collections::BTreeMap;
 use std::test::Fail;
 
-/// One version of a crate, with one feature, as `VERSION NAME=REFERENCE` says.
-fn indexed(alloc: Global, text: &str) -> Result<IndexKrate, Fail> {
-    let (version, feature) = text.split_once(' ').unwrap_or((text, ""));
-    let (name, reference) = feature.split_once('=').unwrap_or((feature, ""));
+/// One feature with one reference, as `NAME=REFERENCE` says.
+fn features_of(alloc: Global, text: &str) -> Result<BTreeMap<String, Vec<String>>, Fail> {
+    let (name, reference) = text.split_once('=').unwrap_or((text, ""));
     let values = vec![in alloc; String::from_str(alloc, reference)?]?;
     let mut features = BTreeMap::new(alloc);
     drop(features.insert(String::from_str(alloc, name)?, values)?);
-    let version = Version::parse(alloc, version)?;
-    let known = IndexKrateVersion { version, features };
+    Ok(features)
+}
+
+/// One version of a crate, with one feature, as `VERSION NAME=REFERENCE` says.
+fn indexed(alloc: Global, text: &str) -> Result<IndexKrate, Fail> {
+    let (version, feature) = text.split_once(' ').unwrap_or((text, ""));
+    let known = IndexKrateVersion {
+        version: Version::parse(alloc, version)?,
+        features: features_of(alloc, feature)?,
+    };
     Ok(IndexKrate {
         versions: vec![in alloc; known]?,
     })
@@ -34,42 +40,23 @@ fn index_of(alloc: Global, text: &str) -> Result<CachingIndex, Fail> {
     })
 }
 
-/// What the check of a list of steps answers with the index of the line, and without it.
-struct Checked;
-
-impl Question for Checked {
-    fn told(alloc: Global, line: &str) -> Result<String, Fail> {
-        let metadata = metadata(alloc, line)?;
-        let setting = setting_of(alloc, line)?;
-        let index = index_of(alloc, section(line, "index ").unwrap_or(""))?;
-        let steps = steps_of(alloc, section(line, "steps").unwrap_or(""))?;
-        let with = told(
-            alloc,
-            check(alloc, &metadata, &setting, Some(&index), &steps),
-        )?;
-        let without = told(alloc, check(alloc, &metadata, &setting, None, &steps))?;
-        Ok(format!(in alloc; "{with}, without {without}")?)
-    }
+/// What the check of a list answers with an index, and without it.
+fn both<L: List>(given: &Given, index: &CachingIndex, text: &str) -> Result<String, Fail> {
+    let with = L::by_setting(given, Some(index), text)?;
+    let without = L::by_setting(given, None, text)?;
+    Ok(format!(in given.alloc; "{with}, without {without}")?)
 }
 
-/// What the check of a list of facts answers with the index of the line, and without it.
-struct Closed;
+/// What the check of the list of a line answers with the index of the line, and without it.
+struct ByIndex<L> {
+    list: L,
+}
 
-impl Question for Closed {
+impl<L: List> Question for ByIndex<L> {
     fn told(alloc: Global, line: &str) -> Result<String, Fail> {
-        let metadata = metadata(alloc, line)?;
-        let setting = setting_of(alloc, line)?;
+        let given = given_in(alloc, line)?;
         let index = index_of(alloc, section(line, "index ").unwrap_or(""))?;
-        let facts = facts_of(alloc, section(line, "facts").unwrap_or(""))?;
-        let with = told(
-            alloc,
-            check_closed(alloc, &metadata, &setting, Some(&index), &facts),
-        )?;
-        let without = told(
-            alloc,
-            check_closed(alloc, &metadata, &setting, None, &facts),
-        )?;
-        Ok(format!(in alloc; "{with}, without {without}")?)
+        both::<L>(&given, &index, list_in::<L>(line))
     }
 }
 
@@ -94,11 +81,6 @@ const STEPS: &[Row] = &[
     ),
 ];
 
-#[test]
-fn steps_by_an_index(rt: HostRuntime) -> Result<(), Fail> {
-    hold::<Checked>(rt.alloc(), STEPS)
-}
-
 // An index only adds features, so a list that is closed with it is closed without it.
 const FACTS: &[Row] = &[
     (
@@ -121,6 +103,7 @@ const FACTS: &[Row] = &[
 ];
 
 #[test]
-fn closed_lists_by_an_index(rt: HostRuntime) -> Result<(), Fail> {
-    hold::<Closed>(rt.alloc(), FACTS)
+fn lists_by_an_index(rt: HostRuntime) -> Result<(), Fail> {
+    hold::<ByIndex<Steps>>(rt.alloc(), STEPS)?;
+    hold::<ByIndex<Facts>>(rt.alloc(), FACTS)
 }

@@ -3,7 +3,7 @@
 //! A line is a word for a crate and the name of a feature, or two crates, a kind and a target text; behind it stands what is left
 //! out, as lines of facts have it.
 
-use crate::facts::setting_of;
+use crate::facts::{setting_of, text_of};
 use krates::resolve::{Document, Setting, admit};
 use krates_cm::{DepKindInfo, Dependency, Package};
 use krates_ids::Kid;
@@ -18,8 +18,16 @@ use std::test::Fail;
 const DOCUMENT: &str =
     "a b&dev b&build c&on=cfg(windows);f=b/g,x|b;g=|c|n / nodes a b&build&dev&normal c&on=cfg(windows);f e|b;g|c|q";
 
+/// Adds the names of the crates on which the node of a crate depends.
+fn push_children(told: &mut String, asked: &Document<'_>, krate: &Kid) -> Result<(), Fail> {
+    for child in asked.children(krate) {
+        write!(told, " {}", child.name())?;
+    }
+    Ok(())
+}
+
 /// What is told of a crate: whether it is a root and stands, what there is for it, its package and whether it has a node; whether the
-/// feature is listed, with its references; and how many features are listed.
+/// feature is listed, with its references; how many features are listed; and the crates on which its node depends.
 fn of_crate<'a>(
     alloc: Global,
     asked: &Document<'a>,
@@ -27,7 +35,7 @@ fn of_crate<'a>(
     krate: &'a Kid,
     name: &'a str,
 ) -> Result<String, Fail> {
-    Ok(format!(in alloc;
+    let mut told = format!(in alloc;
         "root {}, stands {}, {:?}, package {}, node {}, lists {} {:?} of {}:",
         asked.is_root(setting, krate),
         asked.stands(setting, krate),
@@ -39,15 +47,9 @@ fn of_crate<'a>(
         asked.lists(krate, name),
         asked.values(krate, name),
         asked.features(krate).len()
-    )?)
-}
-
-/// Adds the names of the crates on which the node of a crate depends.
-fn push_children(told: &mut String, asked: &Document<'_>, krate: &Kid) -> Result<(), Fail> {
-    for child in asked.children(krate) {
-        write!(told, " {}", child.name())?;
-    }
-    Ok(())
+    )?;
+    push_children(&mut told, asked, krate)?;
+    Ok(told)
 }
 
 /// A dependency of a crate on another that is asked for.
@@ -61,18 +63,15 @@ struct Edge {
 /// The dependency of these words.
 fn edge_of(alloc: Global, words: &str) -> Result<Edge, Fail> {
     let mut words = words.split_whitespace();
-    let parent = kid_of(alloc, words.next().unwrap_or(""))?;
-    let child = kid_of(alloc, words.next().unwrap_or(""))?;
+    let (parent, child) = (words.next().unwrap_or(""), words.next().unwrap_or(""));
     let kind = kind_named(words.next().unwrap_or(""));
-    let target = match words.next() {
-        Some(text) => Some(String::from_str(alloc, text)?),
-        None => None,
-    };
-    let info = DepKindInfo { kind, target };
     Ok(Edge {
-        parent,
-        child,
-        info,
+        parent: kid_of(alloc, parent)?,
+        child: kid_of(alloc, child)?,
+        info: DepKindInfo {
+            kind,
+            target: text_of(alloc, words.next())?,
+        },
     })
 }
 
@@ -114,9 +113,7 @@ impl Question for OfCrate {
         let metadata = metadata(alloc, DOCUMENT)?;
         let ids = admit(alloc, &metadata)?;
         let asked = Document::new(alloc, &metadata, &ids)?;
-        let mut told = of_crate(alloc, &asked, &setting, &krate, name)?;
-        push_children(&mut told, &asked, &krate)?;
-        Ok(told)
+        of_crate(alloc, &asked, &setting, &krate, name)
     }
 }
 

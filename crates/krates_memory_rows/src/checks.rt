@@ -6,7 +6,7 @@ use krates::derive::{CheckError, Derivation, Fact, Step, check, check_closed};
 use krates::index::CachingIndex;
 use krates::{Builder, Metadata};
 use krates_samples::documents::{kid_of, metadata};
-use std::alloc::Global;
+use std::alloc::{AllocError, Global};
 use std::test::Fail;
 
 /// A package to which the index gives a third feature.
@@ -29,31 +29,43 @@ fn feature(alloc: Global, name: &str) -> Result<Fact, Fail> {
     })
 }
 
+/// Adds a step: a fact by its rule from the step before it, where there is one.
+pub(crate) fn push_step(
+    alloc: Global,
+    derivation: &mut Derivation,
+    rule: u8,
+    fact: Fact,
+) -> Result<(), AllocError> {
+    let mut uses = Vec::new(alloc);
+    if let Some(last) = derivation.steps.len().checked_sub(1) {
+        uses.push(last)?;
+    }
+    derivation.steps.push(Step { rule, fact, uses })?;
+    Ok(())
+}
+
 /// Three facts of the package, each by its rule from the one before it.
 fn steps(alloc: Global) -> Result<Derivation, Fail> {
-    let root = Step {
-        rule: 1,
-        fact: feature(alloc, "default")?,
-        uses: Vec::new(alloc),
-    };
-    let named = Step {
-        rule: 3,
-        fact: feature(alloc, "foo")?,
-        uses: vec![in alloc; 0]?,
-    };
-    let krate = Step {
-        rule: 2,
-        fact: Fact::Crate(kid_of(alloc, PACKAGE)?),
-        uses: vec![in alloc; 1]?,
-    };
-    let steps = vec![in alloc; root, named, krate]?;
-    Ok(Derivation { steps })
+    let steps = Vec::new(alloc);
+    let mut derivation = Derivation { steps };
+    push_step(alloc, &mut derivation, 1, feature(alloc, "default")?)?;
+    push_step(alloc, &mut derivation, 3, feature(alloc, "foo")?)?;
+    push_step(
+        alloc,
+        &mut derivation,
+        2,
+        Fact::Crate(kid_of(alloc, PACKAGE)?),
+    )?;
+    Ok(derivation)
 }
 
 /// What is kept of the package.
 fn facts(alloc: Global) -> Result<Vec<Fact>, Fail> {
-    let krate = Fact::Crate(kid_of(alloc, PACKAGE)?);
-    Ok(vec![in alloc; krate, feature(alloc, "default")?, feature(alloc, "foo")?]?)
+    let mut facts = Vec::new(alloc);
+    facts.push(Fact::Crate(kid_of(alloc, PACKAGE)?))?;
+    facts.push(feature(alloc, "default")?)?;
+    facts.push(feature(alloc, "foo")?)?;
+    Ok(facts)
 }
 
 /// A checker: of lists of steps, or of closed lists of facts.

@@ -4,18 +4,27 @@ use crate::starving::{Call, Little, granted, other_refusal, refused, starved};
 use krates_cargo::{Cmd, Features, MetadataCommand};
 use krates_cm::Error;
 use std::alloc::{AllocError, Global};
+use std::process::Command;
 use std::test::Fail;
 
 /// Names for which a list that has one has to grow.
 const MORE: &str = "b,c,d,e,f,g,h,i,j";
 
-/// The texts between commas.
-fn parts(alloc: Global, text: &str) -> Result<Vec<String>, AllocError> {
+/// The texts between these characters.
+pub(crate) fn parts(alloc: Global, text: &str, between: char) -> Result<Vec<String>, AllocError> {
     let mut parts = Vec::new(alloc);
-    for part in text.split(',') {
+    for part in text.split(between) {
         parts.push(String::from_str(alloc, part)?)?;
     }
     Ok(parts)
+}
+
+/// Adds the variables that a command sets, each with its value and a bar behind it.
+fn push_variables(text: &mut String, command: &Command) -> Result<(), AllocError> {
+    for (name, value) in command.get_envs() {
+        write!(text, "{name}={}|", value.unwrap_or(""))?;
+    }
+    Ok(())
 }
 
 /// The words behind `metadata --format-version 1`, each with a bar behind it.
@@ -27,19 +36,26 @@ fn words_told(alloc: Global, words: &[String]) -> Result<String, AllocError> {
     Ok(text)
 }
 
-/// The variables that a command sets, each with its value, and the words behind `metadata --format-version 1`, all with bars behind them.
-fn told(alloc: Global, command: &MetadataCommand) -> Result<String, Fail> {
+/// Compares the variables that a command sets, and its words, with what is known.
+fn is_told(alloc: Global, command: &MetadataCommand, expected: &str) -> Result<bool, Fail> {
     let mut text = String::new(alloc);
-    for (name, value) in command.cargo_command(None)?.get_envs() {
-        write!(text, "{name}={}|", value.unwrap_or(""))?;
-    }
+    push_variables(&mut text, &command.cargo_command(None)?)?;
     text.push_str(words_told(alloc, &command.args()?)?.as_str())?;
-    Ok(text)
+    Ok(text.as_str() == expected)
 }
 
-/// Compares what is told of a command with what is known.
-fn is_told(alloc: Global, command: &MetadataCommand, expected: &str) -> Result<bool, Fail> {
-    Ok(told(alloc, command)?.as_str() == expected)
+/// Judges a call by what is told of the command afterwards: this with enough memory, and that without.
+fn judged(
+    alloc: Global,
+    command: &MetadataCommand,
+    is_enough: bool,
+    ample: &str,
+    unchanged: &str,
+) -> Result<bool, Fail> {
+    if is_enough {
+        return granted(is_told(alloc, command, ample)?);
+    }
+    refused(is_told(alloc, command, unchanged)?)
 }
 
 /// A call on a command that has a feature, a variable and other settings.
@@ -66,18 +82,24 @@ struct Named {
     names: Vec<String>,
 }
 
+/// Gives the command a feature, a variable and other settings.
+fn set_command(alloc: Global, command: &mut MetadataCommand) -> Result<(), Fail> {
+    command
+        .no_deps()
+        .manifest_path(String::from_str(alloc, "p")?)
+        .other_options(parts(alloc, "--z", ',')?);
+    command.features(Features::Selected(parts(alloc, "a", ',')?))?;
+    command.env("A", "1")?;
+    Ok(())
+}
+
 impl Call for OfCommand {
     type Given = Named;
 
     fn given(&self, alloc: Global) -> Result<Named, Fail> {
         let mut command = MetadataCommand::new(alloc);
-        command
-            .no_deps()
-            .manifest_path(String::from_str(alloc, "p")?)
-            .other_options(parts(alloc, "--z")?);
-        command.features(Features::Selected(parts(alloc, "a")?))?;
-        command.env("A", "1")?;
-        let names = parts(alloc, MORE)?;
+        set_command(alloc, &mut command)?;
+        let names = parts(alloc, MORE, ',')?;
         Ok(Named { command, names })
     }
 
@@ -95,15 +117,18 @@ fn has_features(alloc: Global, given: Named, little: Little) -> Result<bool, Fai
     let mut command = given.command;
     let error = command.features(Features::Selected(given.names)).err();
     drop(little);
-    match error {
-        None => granted(is_told(
-            alloc,
-            &command,
-            "A=1|--no-deps|--features|a,b,c,d,e,f,g,h,i,j|--manifest-path|p|--z|",
-        )?),
-        Some(Error::Memory) => refused(is_told(alloc, &command, COMMAND)?),
-        Some(_) => other_refusal(),
-    }
+    let is_chosen = match error {
+        None => true,
+        Some(Error::Memory) => false,
+        Some(_) => return other_refusal(),
+    };
+    judged(
+        alloc,
+        &command,
+        is_chosen,
+        "A=1|--no-deps|--features|a,b,c,d,e,f,g,h,i,j|--manifest-path|p|--z|",
+        COMMAND,
+    )
 }
 
 /// Sets a variable.
@@ -111,14 +136,13 @@ fn has_variable(alloc: Global, given: MetadataCommand, little: Little) -> Result
     let mut command = given;
     let is_set = command.env("B", "2").is_ok();
     drop(little);
-    if is_set {
-        return granted(is_told(
-            alloc,
-            &command,
-            "A=1|B=2|--no-deps|--features|a|--manifest-path|p|--z|",
-        )?);
-    }
-    refused(is_told(alloc, &command, COMMAND)?)
+    judged(
+        alloc,
+        &command,
+        is_set,
+        "A=1|B=2|--no-deps|--features|a|--manifest-path|p|--z|",
+        COMMAND,
+    )
 }
 
 /// Asks for the words.
@@ -161,16 +185,22 @@ struct Options {
     names: Vec<String>,
 }
 
+/// Gives the options one name of each list, and other settings.
+fn set_options(alloc: Global, cmd: &mut Cmd) -> Result<(), Fail> {
+    cmd.features(parts(alloc, "a", ',')?)?;
+    cmd.other_options(parts(alloc, "--a", ',')?)?;
+    cmd.all_features()
+        .manifest_path(String::from_str(alloc, "x/Cargo.toml")?);
+    Ok(())
+}
+
 impl Call for OfOptions {
     type Given = Options;
 
     fn given(&self, alloc: Global) -> Result<Options, Fail> {
         let mut cmd = Cmd::new(alloc);
-        cmd.features(parts(alloc, "a")?)?;
-        cmd.other_options(parts(alloc, "--a")?)?;
-        cmd.all_features()
-            .manifest_path(String::from_str(alloc, "x/Cargo.toml")?);
-        let names = parts(alloc, MORE)?;
+        set_options(alloc, &mut cmd)?;
+        let names = parts(alloc, MORE, ',')?;
         Ok(Options { cmd, names })
     }
 
@@ -189,14 +219,13 @@ fn adds_features(alloc: Global, given: Options, little: Little) -> Result<bool, 
     let is_added = cmd.features(given.names).is_ok();
     drop(little);
     let command = cmd.into_command()?;
-    if is_added {
-        return granted(is_told(
-            alloc,
-            &command,
-            "--manifest-path|Cargo.toml|--all-features|--features|a b c d e f g h i j|--a|",
-        )?);
-    }
-    refused(is_told(alloc, &command, OPTIONS)?)
+    judged(
+        alloc,
+        &command,
+        is_added,
+        "--manifest-path|Cargo.toml|--all-features|--features|a b c d e f g h i j|--a|",
+        OPTIONS,
+    )
 }
 
 /// Adds other options.
@@ -205,14 +234,13 @@ fn adds_options(alloc: Global, given: Options, little: Little) -> Result<bool, F
     let is_added = cmd.other_options(given.names).is_ok();
     drop(little);
     let command = cmd.into_command()?;
-    if is_added {
-        return granted(is_told(
-            alloc,
-            &command,
-            "--manifest-path|Cargo.toml|--all-features|--features|a|--a|b|c|d|e|f|g|h|i|j|",
-        )?);
-    }
-    refused(is_told(alloc, &command, OPTIONS)?)
+    judged(
+        alloc,
+        &command,
+        is_added,
+        "--manifest-path|Cargo.toml|--all-features|--features|a|--a|b|c|d|e|f|g|h|i|j|",
+        OPTIONS,
+    )
 }
 
 /// Makes the command that the options mean.

@@ -16,6 +16,13 @@ struct Parse;
 /// The document is read.
 const PARSED: &[Parse] = &[Parse];
 
+/// Whether a document is the one that is read of this text with ample memory.
+fn is_read_of(alloc: Global, read: &Metadata, text: &str) -> Result<bool, Fail> {
+    let ample = parse(alloc, text)?;
+    let ample = format!(in alloc; "{ample:?}")?;
+    Ok(format!(in alloc; "{read:?}")? == ample)
+}
+
 impl Call for Parse {
     type Given = String;
 
@@ -27,10 +34,7 @@ impl Call for Parse {
         let answer = parse(alloc, given.as_str());
         drop(little);
         match answer {
-            Ok(read) => {
-                let ample = format!(in alloc; "{:?}", parse(alloc, given.as_str())?)?;
-                granted(format!(in alloc; "{read:?}")? == ample)
-            }
+            Ok(read) => granted(is_read_of(alloc, &read, given.as_str())?),
             Err(Error::Memory) => refused(true),
             Err(_) => other_refusal(),
         }
@@ -44,7 +48,10 @@ fn reading_a_document(rt: HostRuntime) -> Result<(), Fail> {
 
 /// Whether the packages are `a` and `b`, in this order.
 pub(crate) fn are_a_and_b(packages: &[&Package]) -> bool {
-    packages.iter().map(|pkg| pkg.name.as_str()).eq(["a", "b"])
+    match packages {
+        [first, second] => first.name.as_str() == "a" && second.name.as_str() == "b",
+        _ => false,
+    }
 }
 
 /// What a document is asked that has default members.
@@ -75,10 +82,7 @@ impl Call for Asked {
 
     fn given(&self, alloc: Global) -> Result<Metadata, Fail> {
         let mut given = metadata(alloc, LINE)?;
-        let mut ids = Vec::new(alloc);
-        for id in given.workspace_members.as_slice() {
-            ids.push(id.clone()?)?;
-        }
+        let ids = given.workspace_members.clone()?;
         given.workspace_default_members = WorkspaceDefaultMembers(Some(ids));
         Ok(given)
     }

@@ -43,15 +43,21 @@ fn an_id_with_an_escape(rt: HostRuntime) -> Result<(), Fail> {
     starved(&rt, READ)
 }
 
-/// The answer of an index about the version 1.0.0 of `p`: one feature without a reference.
-pub(crate) fn answer(alloc: Global) -> Result<IndexAnswer, Fail> {
+/// What an index has of a package: its version 1.0.0, which has one feature without a reference.
+fn known(alloc: Global) -> Result<IndexKrate, Fail> {
     let mut features = BTreeMap::new(alloc);
     drop(features.insert(String::from_str(alloc, "std")?, Vec::new(alloc))?);
     let version = Version::parse(alloc, "1.0.0")?;
     let known = IndexKrateVersion { version, features };
     let versions = vec![in alloc; known]?;
+    Ok(IndexKrate { versions })
+}
+
+/// The answer of an index about the version 1.0.0 of `p`: one feature without a reference.
+pub(crate) fn answer(alloc: Global) -> Result<IndexAnswer, Fail> {
+    let known = known(alloc)?;
     let mut krates = BTreeMap::new(alloc);
-    drop(krates.insert(String::from_str(alloc, "p")?, Some(IndexKrate { versions }))?);
+    drop(krates.insert(String::from_str(alloc, "p")?, Some(known))?);
     Ok(IndexAnswer { krates })
 }
 

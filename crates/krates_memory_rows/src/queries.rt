@@ -32,24 +32,18 @@ fn is_dependency(krates: &Krates) -> Result<bool, AllocError> {
     if krates.graph().node_count() == 0 {
         return Ok(false);
     }
-    let found = krates.direct_dependencies(NodeId::new(0))?;
-    Ok(
-        found
-            .iter()
-            .map(|found| (found.node_id.index(), found.edge_id.index()))
-            .eq([(1, 0)]),
-    )
+    match krates.direct_dependencies(NodeId::new(0))?.as_slice() {
+        [found] => Ok(found.node_id.index() == 1 && found.edge_id.index() == 0),
+        _ => Ok(false),
+    }
 }
 
 /// Whether the first crate alone depends directly on the second, by the first edge.
 fn is_dependent(krates: &Krates) -> Result<bool, AllocError> {
-    let found = krates.direct_dependents(NodeId::new(1))?;
-    Ok(
-        found
-            .iter()
-            .map(|found| (found.node_id.index(), found.edge_id.index()))
-            .eq([(0, 0)]),
-    )
+    match krates.direct_dependents(NodeId::new(1))?.as_slice() {
+        [found] => Ok(found.node_id.index() == 0 && found.edge_id.index() == 0),
+        _ => Ok(false),
+    }
 }
 
 /// Whether three steps say why the second crate is there.

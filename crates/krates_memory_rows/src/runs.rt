@@ -1,5 +1,6 @@
 //! Runs of the program: from the bytes of a document to the bytes of its lines.
 
+use crate::commands::parts;
 use crate::starving::{Call, Little, granted, other_refusal, refused, starved};
 use krates_cli::{Counted, Options, RunError, options_of, run};
 use krates_samples::documents::document;
@@ -37,10 +38,7 @@ impl Call for Run {
     type Given = Listing;
 
     fn given(&self, alloc: Global) -> Result<Listing, Fail> {
-        let mut words = Vec::new(alloc);
-        for word in self.words.split_whitespace() {
-            words.push(String::from_str(alloc, word)?)?;
-        }
+        let words = parts(alloc, self.words, ' ')?;
         let Ok(options) = options_of(alloc, &words) else {
             return Err(Fail::new("no options"));
         };

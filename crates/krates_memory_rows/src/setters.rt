@@ -1,10 +1,12 @@
 //! The builder's setters that append, each called on a builder on which it was called before.
 
+use crate::checks::push_step;
 use crate::starving::{Call, Little, granted, refused, starved};
-use krates::derive::{Derivation, Fact, Step, check};
+use krates::derive::{Derivation, Fact, check};
 use krates::{Builder, DepKind, PkgSpec, Target};
 use krates_samples::documents::{kid_of, metadata};
-use std::alloc::{AllocError, Global};
+use krates_samples::settings::{package_specs, targets_of, words_of};
+use std::alloc::Global;
 use std::test::Fail;
 
 /// Two members, of which the first needs two crates, the second of these on Windows alone.
@@ -12,14 +14,11 @@ const LINE: &str = "a b c&on=cfg(windows)|b|c|d / members a d";
 
 /// Steps by which a root is kept.
 fn steps_to(alloc: Global, root: &str) -> Result<Derivation, Fail> {
-    let step = Step {
-        rule: 1,
-        fact: Fact::Crate(kid_of(alloc, root)?),
-        uses: Vec::new(alloc),
-    };
-    Ok(Derivation {
-        steps: vec![in alloc; step]?,
-    })
+    let krate = Fact::Crate(kid_of(alloc, root)?);
+    let steps = Vec::new(alloc);
+    let mut derivation = Derivation { steps };
+    push_step(alloc, &mut derivation, 1, krate)?;
+    Ok(derivation)
 }
 
 /// Whether the steps follow under what the builder has set.
@@ -28,66 +27,40 @@ fn follows(alloc: Global, builder: &Builder, steps: &Derivation) -> Result<bool,
     Ok(check(&metadata, builder, None, steps).is_ok())
 }
 
-/// Whether the edge to this crate, for this target, is kept.
-fn has_edge(
-    alloc: Global,
-    builder: &Builder,
-    child: &str,
-    cfg: Option<String>,
-) -> Result<bool, Fail> {
-    let mut derivation = steps_to(alloc, "a")?;
-    let fact = Fact::Kept {
-        parent: kid_of(alloc, "a")?,
-        child: kid_of(alloc, child)?,
-        kind: DepKind::Normal,
+/// The edge from the first crate to this one, where it has this target text.
+fn edge_to(alloc: Global, child: &str, cfg: Option<String>) -> Result<Fact, Fail> {
+    let parent = kid_of(alloc, "a")?;
+    let child = kid_of(alloc, child)?;
+    let kind = DepKind::Normal;
+    Ok(Fact::Kept {
+        parent,
+        child,
+        kind,
         cfg,
-    };
-    let uses = vec![in alloc; 0]?;
-    derivation.steps.push(Step {
-        rule: 5,
-        fact,
-        uses,
-    })?;
+    })
+}
+
+/// Whether an edge from the first crate is kept.
+fn has_edge(alloc: Global, builder: &Builder, edge: Fact) -> Result<bool, Fail> {
+    let mut derivation = steps_to(alloc, "a")?;
+    push_step(alloc, &mut derivation, 5, edge)?;
     follows(alloc, builder, &derivation)
 }
 
 /// What is kept under what the builder has set: `b` and `c` where the edge to that crate is, `d` where that is a root.
 fn kept(alloc: Global, builder: &Builder) -> Result<String, Fail> {
     let mut text = String::new(alloc);
-    if has_edge(alloc, builder, "b", None)? {
+    if has_edge(alloc, builder, edge_to(alloc, "b", None)?)? {
         text.push_str("b")?;
     }
     let windows = String::from_str(alloc, "cfg(windows)")?;
-    if has_edge(alloc, builder, "c", Some(windows))? {
+    if has_edge(alloc, builder, edge_to(alloc, "c", Some(windows))?)? {
         text.push_str("c")?;
     }
     if follows(alloc, builder, &steps_to(alloc, "d")?)? {
         text.push_str("d")?;
     }
     Ok(text)
-}
-
-/// The specifications between blanks.
-fn specs_of(alloc: Global, text: &str) -> Result<Vec<PkgSpec>, Fail> {
-    let mut specs = Vec::new(alloc);
-    for word in text.split_whitespace() {
-        specs.push(PkgSpec::from_str(alloc, word)?)?;
-    }
-    Ok(specs)
-}
-
-/// The targets between blanks.
-fn targets_of(alloc: Global, text: &str) -> Result<Vec<(Target, Vec<String>)>, Fail> {
-    let mut targets = Vec::new(alloc);
-    for word in text.split_whitespace() {
-        targets.push((Target::new(alloc, word)?, Vec::new(alloc)))?;
-    }
-    Ok(targets)
-}
-
-/// The words between blanks.
-fn words_of(alloc: Global, text: &'static str) -> Result<Vec<&'static str>, AllocError> {
-    text.split_whitespace().collect(alloc)
 }
 
 /// A setter.
@@ -110,7 +83,7 @@ impl More {
     /// What the setter appends that is called with this text.
     fn new(alloc: Global, setter: &Setter, text: &'static str) -> Result<More, Fail> {
         match setter {
-            Setter::Exclude => Ok(More::Specs(specs_of(alloc, text)?)),
+            Setter::Exclude => Ok(More::Specs(package_specs(alloc, text)?)),
             Setter::IncludeTargets => Ok(More::Targets(targets_of(alloc, text)?)),
             Setter::IncludeCrates => Ok(More::Paths(words_of(alloc, text)?)),
         }

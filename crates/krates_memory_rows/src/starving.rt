@@ -3,7 +3,7 @@
 
 use std::alloc::{AllocError, Global};
 use std::fmt::Debug;
-use std::process::Command;
+use std::process::{Command, Output};
 use std::test::Fail;
 
 /// A call of a table, by its name, and how its answer is judged.
@@ -61,12 +61,6 @@ pub(crate) struct Little {
 }
 
 impl Little {
-    /// Takes nothing.
-    fn nothing(alloc: Global) -> Little {
-        let blocks = Vec::new(alloc);
-        Little { blocks }
-    }
-
     /// Takes a block of this size, where there is one.
     fn take(&mut self, alloc: Global, size: usize) -> bool {
         if self.blocks.len() >= self.blocks.capacity() {
@@ -104,7 +98,8 @@ impl Little {
 /// Whether ample memory is enough for the call. This comes first, since the stack can't grow any more where all memory is taken.
 fn is_granted_all<C: Call>(alloc: Global, call: &C) -> Result<bool, Fail> {
     let given = call.given(alloc)?;
-    call.is_granted(alloc, given, Little::nothing(alloc))
+    let blocks = Vec::new(alloc);
+    call.is_granted(alloc, given, Little { blocks })
 }
 
 /// Whether this budget is enough for the call.
@@ -127,18 +122,27 @@ fn steps_to_enough<C: Call>(alloc: Global, call: &C) -> Result<usize, Fail> {
 const SCRIPT: &str =
     "ulimit -v 100000; exec env GLIBC_TUNABLES=glibc.malloc.tcache_count=0:glibc.malloc.mxfast=0:glibc.malloc.mmap_max=0:glibc.malloc.arena_max=1:glibc.malloc.trim_threshold=1000000000 \"$0\" \"$1\" now";
 
-/// Starts this program again with little memory, for the test of this name. A failure names the call, which is told last, and has what was
-/// told of it.
-fn start(rt: &HostRuntime, name: &str) -> Result<(), Fail> {
+/// What this program, started again with little memory for the test of this name, writes, and how it ends.
+fn output(rt: &HostRuntime, name: &str) -> Result<Output, Fail> {
     let this = std::env::current_exe(rt)?;
     let mut command = Command::new(rt.alloc(), "/bin/sh")?;
     command.args(&["-c", SCRIPT, this.as_str(), name])?;
-    let output = command.output(rt)?;
+    Ok(command.output(rt)?)
+}
+
+/// Fails, and names the call, which is told last, with what was told of it.
+fn fail(alloc: Global, told: &str, why: &[u8]) -> Result<(), Fail> {
+    let why = String::from_utf8_lossy(alloc, why)?;
+    let (_, call) = told.rsplit_once('\n').unwrap_or(("", told));
+    Err(Fail::new(format_args!("with little memory, {call}{why}")))
+}
+
+/// Starts this program again with little memory, for the test of this name, and tells what it told.
+fn start(rt: &HostRuntime, name: &str) -> Result<(), Fail> {
+    let output = output(rt, name)?;
     let told = String::from_utf8_lossy(rt.alloc(), output.stdout.as_slice())?;
     if !output.status.success() {
-        let why = String::from_utf8_lossy(rt.alloc(), output.stderr.as_slice())?;
-        let (_, call) = told.rsplit_once('\n').unwrap_or(("", told.as_str()));
-        return Err(Fail::new(format_args!("with little memory, {call}{why}")));
+        return fail(rt.alloc(), told.as_str(), output.stderr.as_slice());
     }
     println!(rt; "{told}")?;
     Ok(())

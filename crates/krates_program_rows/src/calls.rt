@@ -1,14 +1,29 @@
 //! The calls of which the program is made, each by itself.
 
 use crate::listing::words_of;
-use krates::cm::MetadataCommand;
 use krates::{Builder, Kid, Krates, NoneFilter};
-use krates_cli::{Counted, OptionsError, options_of, set_options};
-use krates_samples::documents::document;
+use krates_cli::{Counted, Options, OptionsError, options_of, set_options};
+use krates_samples::documents::metadata;
 use krates_samples::table::{Question, Row, hold};
 use std::alloc::Global;
 use std::str;
 use std::test::Fail;
+
+/// The options, as they are printed.
+fn shown(alloc: Global, options: &Options) -> Result<String, Fail> {
+    Ok(format!(in alloc;
+        "{} {:?} {:?} {} {:?} {}",
+        options.workspace,
+        options.ignored,
+        options.targets,
+        options.exclusions.len(),
+        options.cargo,
+        options
+            .why
+            .as_ref()
+            .map_or("none", |krate: &Kid| krate.repr())
+    )?)
+}
 
 /// What the words ask for.
 struct Read;
@@ -17,18 +32,7 @@ impl Question for Read {
     fn told(alloc: Global, line: &str) -> Result<String, Fail> {
         let words = words_of(alloc, line)?;
         match options_of(alloc, words.as_slice()) {
-            Ok(options) => Ok(format!(in alloc;
-                "{} {:?} {:?} {} {:?} {}",
-                options.workspace,
-                options.ignored,
-                options.targets,
-                options.exclusions.len(),
-                options.cargo,
-                options
-                    .why
-                    .as_ref()
-                    .map_or("none", |krate: &Kid| krate.repr())
-            )?),
+            Ok(options) => shown(alloc, &options),
             Err(OptionsError::Unknown) => Ok(String::from_str(alloc, "unknown")?),
             Err(OptionsError::Memory) => Ok(String::from_str(alloc, "memory")?),
         }
@@ -55,6 +59,15 @@ fn options_of_words(rt: HostRuntime) -> Result<(), Fail> {
     hold::<Read>(rt.alloc(), OPTIONS)
 }
 
+/// How many crates of the document of a line a builder keeps for which the options are set.
+fn count_kept(alloc: Global, options: &Options, line: &str) -> Result<usize, Fail> {
+    let metadata = metadata(alloc, line)?;
+    let mut builder = Builder::new(alloc);
+    set_options(alloc, options, &mut builder)?;
+    let krates: Krates = builder.build_with_metadata(metadata, &mut NoneFilter)?;
+    Ok(krates.len())
+}
+
 /// How many crates a builder keeps for which the words are set; a line has its words, and behind `<` the document.
 struct Kept;
 
@@ -65,12 +78,8 @@ impl Question for Kept {
         let Ok(options) = options_of(alloc, words.as_slice()) else {
             return Ok(String::from_str(alloc, "unknown")?);
         };
-        let mut builder = Builder::new(alloc);
-        set_options(alloc, &options, &mut builder)?;
-        let json = document(alloc, line)?;
-        let metadata = MetadataCommand::parse(alloc, json.as_str())?;
-        let krates: Krates = builder.build_with_metadata(metadata, &mut NoneFilter)?;
-        Ok(format!(in alloc; "{}", krates.len())?)
+        let count = count_kept(alloc, &options, line)?;
+        Ok(format!(in alloc; "{count}")?)
     }
 }
 

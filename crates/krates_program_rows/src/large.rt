@@ -24,10 +24,10 @@ fn long_name(alloc: Global) -> Result<String, Fail> {
     Ok("x".repeat(alloc, BYTES)?)
 }
 
-/// Adds the name of each of the many packages, behind a mark.
-fn push_names(line: &mut String, mark: char) -> Result<(), Fail> {
+/// Adds the name of each of the many packages, between these texts.
+fn push_names(text: &mut String, before: &str, after: &str) -> Result<(), Fail> {
     for number in PACKAGES {
-        write!(line, "{mark}b{number}")?;
+        write!(text, "{before}b{number}{after}")?;
     }
     Ok(())
 }
@@ -40,17 +40,23 @@ pub(crate) fn push_features(line: &mut String) -> Result<(), Fail> {
     Ok(())
 }
 
-/// The text of a document whose member `a` has the many features, and needs the many packages and one of a long name; nobody
-/// needs `z`.
+/// Adds the many features of the member `a`, the many packages and one of a long name, which it needs, and `z`, which nobody needs.
+fn push_packages(line: &mut String, long: &str) -> Result<(), Fail> {
+    line.push('a')?;
+    push_names(line, " ", "")?;
+    write!(line, " {long};")?;
+    push_features(line)?;
+    line.push_str("f6000=")?;
+    push_names(line, "|", "")?;
+    write!(line, "|{long}|z")?;
+    Ok(())
+}
+
+/// The text of a document of these packages.
 fn large_document(alloc: Global) -> Result<String, Fail> {
     let long = long_name(alloc)?;
-    let mut line = String::from_str(alloc, "a")?;
-    push_names(&mut line, ' ')?;
-    write!(line, " {long};")?;
-    push_features(&mut line)?;
-    line.push_str("f6000=")?;
-    push_names(&mut line, '|')?;
-    write!(line, "|{long}|z")?;
+    let mut line = String::new(alloc);
+    push_packages(&mut line, long.as_str())?;
     document(alloc, line.as_str())
 }
 
@@ -67,18 +73,15 @@ fn sizes(alloc: Global, krates: &Krates) -> Result<String, Fail> {
     if nodes == 0 {
         return Err(Fail::new("no node"));
     }
+    let needed = krates.direct_dependencies(NodeId::new(0))?.len();
+    let needing = krates.direct_dependents(NodeId::new(1))?.len();
+    let reached = krates.krates_filtered(DepKind::Dev)?.len();
+    let last = krates.krates().last();
     Ok(format!(in alloc;
-        "{} crates, {} nodes, {} edges, {} needed, {} needing, {} reached, {} bytes",
+        "{} crates, {nodes} nodes, {} edges, {needed} needed, {needing} needing, {reached} reached, {} bytes",
         krates.len(),
-        nodes,
         krates.graph().edge_count(),
-        krates.direct_dependencies(NodeId::new(0))?.len(),
-        krates.direct_dependents(NodeId::new(1))?.len(),
-        krates.krates_filtered(DepKind::Dev)?.len(),
-        krates
-            .krates()
-            .last()
-            .map_or(0, |pkg: &Package| pkg.name.len())
+        last.map_or(0, |pkg: &Package| pkg.name.len())
     )?)
 }
 
@@ -104,6 +107,26 @@ fn feature(alloc: Global, number: u32) -> Result<Fact, Fail> {
     })
 }
 
+/// Adds the step of a feature, by the step before it.
+fn push_step(steps: &mut Vec<Step>, alloc: Global, number: u32) -> Result<(), Fail> {
+    let uses = vec![in alloc; steps.len().saturating_sub(1)]?;
+    let fact = feature(alloc, number)?;
+    steps.push(Step {
+        rule: 3,
+        fact,
+        uses,
+    })?;
+    Ok(())
+}
+
+/// Adds a step for each feature behind the first.
+fn push_steps(steps: &mut Vec<Step>, alloc: Global) -> Result<(), Fail> {
+    for number in FEATURES {
+        push_step(steps, alloc, number.saturating_add(1))?;
+    }
+    Ok(())
+}
+
 /// A step for each feature, each by the one before it.
 fn steps(alloc: Global) -> Result<Derivation, Fail> {
     let first = Step {
@@ -112,15 +135,7 @@ fn steps(alloc: Global) -> Result<Derivation, Fail> {
         uses: Vec::new(alloc),
     };
     let mut steps = vec![in alloc; first]?;
-    for number in FEATURES {
-        let uses = vec![in alloc; steps.len().saturating_sub(1)]?;
-        let fact = feature(alloc, number.saturating_add(1))?;
-        steps.push(Step {
-            rule: 3,
-            fact,
-            uses,
-        })?;
-    }
+    push_steps(&mut steps, alloc)?;
     Ok(Derivation { steps })
 }
 
@@ -137,17 +152,36 @@ fn push_needed(facts: &mut Vec<Fact>, alloc: Global, name: &str) -> Result<(), F
     Ok(())
 }
 
-/// All facts of the document.
-fn facts(alloc: Global) -> Result<Vec<Fact>, Fail> {
-    let root = Fact::Crate(kid_of(alloc, "a")?);
-    let mut facts = vec![in alloc; root, feature(alloc, 6_000)?]?;
+/// Adds the same for one of the many packages.
+fn push_package(facts: &mut Vec<Fact>, alloc: Global, number: u32) -> Result<(), Fail> {
+    let name = format!(in alloc; "b{number}")?;
+    push_needed(facts, alloc, name.as_str())
+}
+
+/// Adds the same for each of them.
+fn push_each_package(facts: &mut Vec<Fact>, alloc: Global) -> Result<(), Fail> {
+    for number in PACKAGES {
+        push_package(facts, alloc, number)?;
+    }
+    Ok(())
+}
+
+/// Adds that each of the many features is enabled, but for the last that they name.
+fn push_each_feature(facts: &mut Vec<Fact>, alloc: Global) -> Result<(), Fail> {
     for number in FEATURES {
         facts.push(feature(alloc, number)?)?;
     }
-    push_needed(&mut facts, alloc, long_name(alloc)?.as_str())?;
-    for number in PACKAGES {
-        push_needed(&mut facts, alloc, format!(in alloc; "b{number}")?.as_str())?;
-    }
+    Ok(())
+}
+
+/// All facts of the document.
+fn facts(alloc: Global) -> Result<Vec<Fact>, Fail> {
+    let long = long_name(alloc)?;
+    let root = Fact::Crate(kid_of(alloc, "a")?);
+    let mut facts = vec![in alloc; root, feature(alloc, 6_000)?]?;
+    push_each_feature(&mut facts, alloc)?;
+    push_needed(&mut facts, alloc, long.as_str())?;
+    push_each_package(&mut facts, alloc)?;
     Ok(facts)
 }
 
@@ -163,11 +197,9 @@ fn large_lists(rt: HostRuntime) -> Result<(), Fail> {
 
 /// What a run writes of the document.
 fn lines(alloc: Global) -> Result<String, Fail> {
-    let mut lines = String::from_str(alloc, "+ path+file:///w/a#0.1.0\n")?;
-    for number in PACKAGES {
-        writeln!(lines, "+ path+file:///w/b{number}#0.1.0")?;
-    }
     let long = long_name(alloc)?;
+    let mut lines = String::from_str(alloc, "+ path+file:///w/a#0.1.0\n")?;
+    push_names(&mut lines, "+ path+file:///w/", "#0.1.0\n")?;
     writeln!(
         lines,
         "+ path+file:///w/{long}#0.1.0\n- path+file:///w/z#0.1.0"
@@ -175,14 +207,21 @@ fn lines(alloc: Global) -> Result<String, Fail> {
     Ok(lines)
 }
 
+/// Runs without options over this text.
+fn run_over(alloc: Global, json: &str, output: &mut Counted<Vec<u8>>) -> Result<(), Fail> {
+    let options = Options::new(alloc);
+    let mut input = Counted::new(json.as_bytes());
+    run(alloc, &options, &mut input, output)?;
+    Ok(())
+}
+
 #[test]
 fn a_large_run(rt: HostRuntime) -> Result<(), Fail> {
     let alloc = rt.alloc();
-    let json = large_document(alloc)?;
-    let mut input = Counted::new(json.as_bytes());
-    let mut output = Counted::new(Vec::new(alloc));
-    run(alloc, &Options::new(alloc), &mut input, &mut output)?;
     let lines = lines(alloc)?;
+    let json = large_document(alloc)?;
+    let mut output = Counted::new(Vec::new(alloc));
+    run_over(alloc, json.as_str(), &mut output)?;
     assert!(rt; output.get_ref().as_slice() == lines.as_bytes());
     Ok(())
 }

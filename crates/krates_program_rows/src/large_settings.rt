@@ -1,22 +1,30 @@
 //! Long lists that are set of builders and commands, and long texts, in the way of `large`.
 
+ghost use Rattle.std.specs.Prelude.{◌≡◌, OnOk};
+
 use crate::hostile::Count;
 use crate::large::{large_metadata, push_features};
 use krates::cm::{Features, MetadataCommand};
 use krates::index::{CachingIndex, IndexAnswer, IndexKrate, IndexKrateVersion};
 use krates::semver::Version;
-use krates::{Builder, Cmd, Kid, Krates, PackageId, PkgSpec, Target};
+use krates::{Builder, Cmd, Kid, Krates, Metadata, PackageId, PkgSpec, Target};
 use krates_samples::documents::metadata;
 use std::alloc::Global;
 use std::collections::BTreeMap;
 use std::test::Fail;
 
-/// The names of many packages, each behind this text.
-fn names(alloc: Global, before: &str) -> Result<Vec<String>, Fail> {
-    let mut names = Vec::new(alloc);
+/// Adds the names of many packages, each behind this text.
+fn push_names(names: &mut Vec<String>, alloc: Global, before: &str) -> Result<(), Fail> {
     for number in 1_000..3_000u32 {
         names.push(format!(in alloc; "{before}b{number}")?)?;
     }
+    Ok(())
+}
+
+/// The names of many packages, each behind this text.
+fn names(alloc: Global, before: &str) -> Result<Vec<String>, Fail> {
+    let mut names = Vec::new(alloc);
+    push_names(&mut names, alloc, before)?;
     Ok(names)
 }
 
@@ -47,48 +55,64 @@ fn lent(alloc: Global, texts: &[String]) -> Result<Vec<&str>, Fail> {
     Ok(lent)
 }
 
+/// Excludes the packages of these names, includes the targets of these names, and makes roots of the crates at these paths.
+fn set_lists(
+    builder: &mut Builder,
+    alloc: Global,
+    names: &[String],
+    paths: &[String],
+) -> Result<(), Fail>
+    ensures index { OnOk result (builder.new.index ≡ builder.old.index) }
+{
+    let paths = lent(alloc, paths)?;
+    builder
+        .exclude(specs(alloc, names)?)?
+        .include_targets(targets(alloc, names)?)?
+        .include_workspace_crates(paths.as_slice())?
+        .include_workspace_crates(&["/w/a"])?;
+    Ok(())
+}
+
 #[test]
 fn a_large_setting(rt: HostRuntime) -> Result<(), Fail> {
     let alloc = rt.alloc();
     let (names, paths) = (names(alloc, "")?, names(alloc, "/w/")?);
-    let mut builder = Builder::new(alloc);
-    builder
-        .exclude(specs(alloc, &names)?)?
-        .include_targets(targets(alloc, &names)?)?
-        .include_workspace_crates(&lent(alloc, &paths)?)?
-        .include_workspace_crates(&["/w/a"])?;
-    let mut count = Count { packages: 0 };
     let metadata = large_metadata(alloc)?;
+    let mut builder = Builder::new(alloc);
+    set_lists(&mut builder, alloc, names.as_slice(), paths.as_slice())?;
+    let mut count = Count { packages: 0 };
     let krates: Krates = builder.build_with_metadata(metadata, &mut count)?;
     assert_eq!(rt; (krates.len(), count.packages), (2, 2_001));
     Ok(())
 }
 
-/// How many words two commands have, and how long the longest of them is.
-fn words(alloc: Global) -> Result<String, Fail> {
-    let mut cmd = Cmd::new(alloc);
-    cmd.features(names(alloc, "")?)?
-        .other_options(names(alloc, "--")?)?;
-    let words = cmd.into_command()?.args()?;
-    let mut command = MetadataCommand::new(alloc);
-    command
-        .features(Features::Selected(names(alloc, "")?))?
-        .env("x".repeat(alloc, 70_000)?.as_str(), "y")?;
-    let others = command.args()?;
-    let longest = |words: &[String]| words.iter().map(|word| word.len()).max().unwrap_or(0);
-    Ok(format!(in alloc;
-        "{} of {}, {} of {}",
-        words.len(),
-        longest(&words),
-        others.len(),
-        longest(&others)
-    )?)
+/// How many words a command has, and how long the longest of them is.
+fn sizes(command: &MetadataCommand) -> Result<(usize, usize), Fail> {
+    let words = command.args()?;
+    let longest = words.iter().map(|word| word.len()).max();
+    Ok((words.len(), longest.unwrap_or(0)))
 }
 
 #[test]
-fn large_commands(rt: HostRuntime) -> Result<(), Fail> {
-    let told = words(rt.alloc())?;
-    assert_eq!(rt; told.as_str(), "2005 of 11999, 5 of 11999");
+fn large_options(rt: HostRuntime) -> Result<(), Fail> {
+    let alloc = rt.alloc();
+    let mut cmd = Cmd::new(alloc);
+    cmd.features(names(alloc, "")?)?
+        .other_options(names(alloc, "--")?)?;
+    let command = cmd.into_command()?;
+    assert_eq!(rt; sizes(&command)?, (2_005, 11_999));
+    Ok(())
+}
+
+#[test]
+fn a_large_command(rt: HostRuntime) -> Result<(), Fail> {
+    let alloc = rt.alloc();
+    let long = "x".repeat(alloc, 70_000)?;
+    let mut command = MetadataCommand::new(alloc);
+    command
+        .features(Features::Selected(names(alloc, "")?))?
+        .env(long.as_str(), "y")?;
+    assert_eq!(rt; sizes(&command)?, (5, 11_999));
     Ok(())
 }
 
@@ -105,19 +129,23 @@ fn index(alloc: Global) -> Result<CachingIndex, Fail> {
     })
 }
 
+/// The document of a package with the many features.
+fn featured(alloc: Global) -> Result<Metadata, Fail> {
+    let mut line = String::from_str(alloc, "p@1.0.0&crates.io;")?;
+    push_features(&mut line)?;
+    metadata(alloc, line.as_str())
+}
+
 #[test]
 fn a_large_package(rt: HostRuntime) -> Result<(), Fail> {
     let alloc = rt.alloc();
-    let mut line = String::from_str(alloc, "p@1.0.0&crates.io;")?;
-    push_features(&mut line)?;
-    let mut metadata = metadata(alloc, line.as_str())?;
     let index = index(alloc)?;
-    let mut count = 0;
-    for pkg in &mut metadata.packages {
-        index.correct(alloc, pkg)?;
-        count = pkg.features.len();
-    }
-    assert_eq!(rt; count, 5_002);
+    let mut metadata = featured(alloc)?;
+    let Some(pkg) = metadata.packages.first_mut() else {
+        return Err(Fail::new("no package"));
+    };
+    index.correct(alloc, pkg)?;
+    assert_eq!(rt; pkg.features.len(), 5_002);
     Ok(())
 }
 

@@ -3,7 +3,7 @@
 use crate::no_programs::NoPrograms;
 use krates_cli::{Counted, Options, RunError, program, refuse_words, run};
 use krates_samples::documents::{document, kid_of};
-use krates_samples::table::{Question, Row, hold};
+use krates_samples::table::{Question, Row, compare, hold};
 use std::alloc::Global;
 use std::io::{ErrorKind, Read, Write};
 use std::test::Fail;
@@ -56,25 +56,17 @@ impl Question for Listed {
     }
 }
 
-const KEPT: &[Row] = &[(
-    "< a b&dev|b",
-    "0 |+ path+file:///w/a#0.1.0\n+ path+file:///w/b#0.1.0\n",
-)];
-
-#[test]
-fn keeps_what_is_needed_for_tests(rt: HostRuntime) -> Result<(), Fail> {
-    hold::<Listed>(rt.alloc(), KEPT)
-}
-
-const REPORTED: &[Row] = &[(
-    "< a b&dev|b|c",
-    "0 |+ path+file:///w/a#0.1.0\n+ path+file:///w/b#0.1.0\n- path+file:///w/c#0.1.0\n",
-)];
-
-#[test]
-fn reports_what_no_crate_needs(rt: HostRuntime) -> Result<(), Fail> {
-    hold::<Listed>(rt.alloc(), REPORTED)
-}
+const LISTED: &[Row] = &[
+    // the first package needs the second for its tests, and no crate needs the third
+    (
+        "< a b&dev|b",
+        "0 |+ path+file:///w/a#0.1.0\n+ path+file:///w/b#0.1.0\n",
+    ),
+    (
+        "< a b&dev|b|c",
+        "0 |+ path+file:///w/a#0.1.0\n+ path+file:///w/b#0.1.0\n- path+file:///w/c#0.1.0\n",
+    ),
+];
 
 const REFUSED: &[Row] = &[
     (
@@ -92,7 +84,8 @@ const REFUSED: &[Row] = &[
 ];
 
 #[test]
-fn refuses_what_cannot_be_built(rt: HostRuntime) -> Result<(), Fail> {
+fn lists_what_is_kept_and_refuses_what_cannot_be_built(rt: HostRuntime) -> Result<(), Fail> {
+    hold::<Listed>(rt.alloc(), LISTED)?;
     hold::<Listed>(rt.alloc(), REFUSED)
 }
 
@@ -160,21 +153,27 @@ fn refuses_where_the_second_read_fails(rt: HostRuntime) -> Result<(), Fail> {
 }
 
 /// The status and what goes to standard error where each write fails, or takes nothing, and how many did.
-fn unwritten(alloc: Global, fails: bool) -> Result<String, Fail> {
-    let json = document(alloc, "a b&dev|b")?;
-    let mut input = Counted::new(json.as_bytes());
-    let mut output = Counted::new(TakesNothing { fails });
-    let told = told(alloc, &[], &mut input, &mut output)?;
-    Ok(format!(in alloc; "{told}{}", output.failures())?)
+struct Unwritten;
+
+impl Question for Unwritten {
+    fn told(alloc: Global, line: &str) -> Result<String, Fail> {
+        let fails = line == "fails";
+        let json = document(alloc, "a b&dev|b")?;
+        let mut input = Counted::new(json.as_bytes());
+        let mut output = Counted::new(TakesNothing { fails });
+        let told = told(alloc, &[], &mut input, &mut output)?;
+        Ok(format!(in alloc; "{told}{}", output.failures())?)
+    }
 }
+
+const UNWRITTEN: &[Row] = &[
+    ("fails", "1 refused: write failed\n1"),
+    ("takes nothing", "1 refused: write failed\n1"),
+];
 
 #[test]
 fn refuses_where_the_first_write_fails(rt: HostRuntime) -> Result<(), Fail> {
-    for fails in [true, false] {
-        let told = unwritten(rt.alloc(), fails)?;
-        assert_eq!(rt; told.as_str(), "1 refused: write failed\n1", "{fails}");
-    }
-    Ok(())
+    hold::<Unwritten>(rt.alloc(), UNWRITTEN)
 }
 
 /// What is told of words that are no options.
@@ -200,16 +199,21 @@ const UNREAD_WORDS: &[(ErrorKind, u8, &str)] = &[
     (ErrorKind::InvalidData, 2, USAGE),
 ];
 
+/// Compares the status, and what goes to standard error, with those that are known.
+fn hold_refusal(alloc: Global, kind: ErrorKind, status: u8, told: &str) -> Result<(), Fail> {
+    let mut errors = Counted::new(Vec::new(alloc));
+    let answer = refuse_words(&io::Error::from(kind), &mut errors);
+    if answer != status {
+        return Err(Fail::new(format_args!("{told}: {answer} in place of {status}")));
+    }
+    let text = str::from_utf8(errors.get_ref().as_slice())?;
+    compare("words that cannot be had", text, told)
+}
+
 #[test]
 fn refuses_words_that_cannot_be_had(rt: HostRuntime) -> Result<(), Fail> {
     for &(kind, status, told) in UNREAD_WORDS {
-        let mut errors = Counted::new(Vec::new(rt.alloc()));
-        assert_eq!(rt;
-            refuse_words(&io::Error::from(kind), &mut errors),
-            status,
-            "{told}"
-        );
-        assert_eq!(rt; errors.get_ref().as_slice(), told.as_bytes(), "{told}");
+        hold_refusal(rt.alloc(), kind, status, told)?;
     }
     Ok(())
 }

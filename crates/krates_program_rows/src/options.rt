@@ -25,11 +25,6 @@ const KINDS_AND_PACKAGES: &[Row] = &[
     ("--exclude b@0.2.0 < a b&dev|b", BOTH),
 ];
 
-#[test]
-fn leaves_out_kinds_and_packages(rt: HostRuntime) -> Result<(), Fail> {
-    hold::<Listed>(rt.alloc(), KINDS_AND_PACKAGES)
-}
-
 // The first package needs the second on systems like Unix.
 const TARGETS: &[Row] = &[
     ("< a b&on=cfg(unix)|b", BOTH),
@@ -49,22 +44,12 @@ const TARGETS: &[Row] = &[
     ("--target --workspace < a b&on=cfg(unix)|b", WITHOUT_B),
 ];
 
-#[test]
-fn leaves_out_other_targets(rt: HostRuntime) -> Result<(), Fail> {
-    hold::<Listed>(rt.alloc(), TARGETS)
-}
-
 // Two members, of which the first is the root; neither needs the other.
 const EVERY_MEMBER: &[Row] = &[
     ("< a|b / members a b / root a", WITHOUT_B),
     ("--workspace < a|b / members a b / root a", BOTH),
     ("--workspace --workspace < a|b / members a b / root a", BOTH),
 ];
-
-#[test]
-fn keeps_every_member_where_asked(rt: HostRuntime) -> Result<(), Fail> {
-    hold::<Listed>(rt.alloc(), EVERY_MEMBER)
-}
 
 const LEAST: &str =
     "0 |+ path+file:///w/a#0.1.0\n+ path+file:///w/d#d@0.10.0\n- path+file:///w/d#d@0.9.0\n";
@@ -85,22 +70,41 @@ const NAMED: &[Row] = &[
 ];
 
 #[test]
-fn keeps_all_that_is_named_where_asked(rt: HostRuntime) -> Result<(), Fail> {
+fn leaves_out_and_keeps_what_options_ask(rt: HostRuntime) -> Result<(), Fail> {
+    hold::<Listed>(rt.alloc(), KINDS_AND_PACKAGES)?;
+    hold::<Listed>(rt.alloc(), TARGETS)?;
+    hold::<Listed>(rt.alloc(), EVERY_MEMBER)?;
     hold::<Listed>(rt.alloc(), NAMED)
 }
 
-/// Whether a run with these words over two bytes tells the usage line, leaves both bytes unread, and writes nothing.
+/// What is told before the usage line, or before the cause for which a program isn't found, and a mark for the rest.
+fn beginning(told: &str) -> (&str, &str) {
+    if let Some(status) = told.strip_suffix(USAGE) {
+        return (status, "usage");
+    }
+    match told.split_once("`: ") {
+        Some((refusal, _cause)) => (refusal, "`"),
+        None => (told, ""),
+    }
+}
+
+/// How a run with these words over two bytes begins to tell, how many of the bytes it leaves unread, and what it writes.
+fn run_unread(alloc: Global, words: &[String]) -> Result<String, Fail> {
+    let mut input = Counted::new(b"{}".as_slice());
+    let mut output = Counted::new(Vec::new(alloc));
+    let told = told(alloc, words, &mut input, &mut output)?;
+    let written = str::from_utf8(output.get_ref().as_slice())?;
+    let ((told, mark), left) = (beginning(told.as_str()), input.get_ref().len());
+    Ok(format!(in alloc; "{told}{mark}, {left} left|{written}")?)
+}
+
+/// What such a run answers to the words of a line.
 struct Unread;
 
 impl Question for Unread {
     fn told(alloc: Global, line: &str) -> Result<String, Fail> {
         let words = words_of(alloc, line)?;
-        let mut input = Counted::new(b"{}".as_slice());
-        let mut output = Counted::new(Vec::new(alloc));
-        let told = told(alloc, words.as_slice(), &mut input, &mut output)?;
-        let written = str::from_utf8(output.get_ref().as_slice())?;
-        let told = told.as_str().strip_suffix(USAGE).unwrap_or("no usage");
-        Ok(format!(in alloc; "{told}usage, {} left|{written}", input.get_ref().len())?)
+        run_unread(alloc, words.as_slice())
     }
 }
 
@@ -129,27 +133,6 @@ const NO_OPTIONS: &[Row] = &[
     ("--cargo x --nope", "2 usage, 2 left|"),
 ];
 
-#[test]
-fn reads_nothing_where_words_are_no_options(rt: HostRuntime) -> Result<(), Fail> {
-    hold::<Unread>(rt.alloc(), NO_OPTIONS)
-}
-
-/// How a run with these words, none of whose programs is found, begins to tell of it, how many of two bytes it leaves unread, and
-/// what it writes.
-struct NotFound;
-
-impl Question for NotFound {
-    fn told(alloc: Global, line: &str) -> Result<String, Fail> {
-        let words = words_of(alloc, line)?;
-        let mut input = Counted::new(b"{}".as_slice());
-        let mut output = Counted::new(Vec::new(alloc));
-        let told = told(alloc, words.as_slice(), &mut input, &mut output)?;
-        let written = str::from_utf8(output.get_ref().as_slice())?;
-        let (told, _cause) = told.as_str().split_once("`: ").unwrap_or(("", ""));
-        Ok(format!(in alloc; "{told}`, {} left|{written}", input.get_ref().len())?)
-    }
-}
-
 const NO_PROGRAMS: &[Row] = &[
     (
         "--cargo x",
@@ -167,6 +150,7 @@ const NO_PROGRAMS: &[Row] = &[
 ];
 
 #[test]
-fn reads_nothing_where_a_program_is_asked_for(rt: HostRuntime) -> Result<(), Fail> {
-    hold::<NotFound>(rt.alloc(), NO_PROGRAMS)
+fn reads_nothing_where_words_are_no_options_or_name_a_program(rt: HostRuntime) -> Result<(), Fail> {
+    hold::<Unread>(rt.alloc(), NO_OPTIONS)?;
+    hold::<Unread>(rt.alloc(), NO_PROGRAMS)
 }

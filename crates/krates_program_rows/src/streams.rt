@@ -96,12 +96,9 @@ impl Write for Taking {
 /// A document of so many bytes: the first package needs the second for its tests, and blanks follow the first brace.
 fn document_of(alloc: Global, size: usize) -> Result<String, Fail> {
     let json = document(alloc, "a b&dev|b")?;
-    let mut text = String::from_str(alloc, "{")?;
-    for _ in json.len()..size {
-        text.push(' ')?;
-    }
-    text.push_str(json.as_str().strip_prefix("{").unwrap_or("no object"))?;
-    Ok(text)
+    let blanks = " ".repeat(alloc, size.saturating_sub(json.len()))?;
+    let rest = json.as_str().strip_prefix("{").unwrap_or("no object");
+    Ok(format!(in alloc; "{{{blanks}{rest}")?)
 }
 
 /// How much of the text was written.
@@ -139,18 +136,29 @@ impl Course for Reading {
     }
 }
 
+/// What a run with these words tells whose writer goes at the pace, how much of the text was written, and how many calls failed.
+fn written(
+    alloc: Global,
+    words: &[String],
+    json: &str,
+    pace: Pace,
+    text: &str,
+) -> Result<String, Fail> {
+    let taken = Vec::new(alloc);
+    let mut input = Counted::new(json.as_bytes());
+    let mut output = Counted::new(Taking { taken, pace });
+    let told = told(alloc, words, &mut input, &mut output)?;
+    let extent = extent(text, output.get_ref().taken.as_slice());
+    let (told, failed) = (told.as_str().trim_end(), output.failures());
+    Ok(format!(in alloc; "{told}, {extent} written, {failed} failed")?)
+}
+
 /// Runs whose writer goes at the pace.
 struct Writing;
 
 impl Course for Writing {
     fn run(alloc: Global, json: &str, pace: Pace) -> Result<String, Fail> {
-        let taken = Vec::new(alloc);
-        let mut input = Counted::new(json.as_bytes());
-        let mut output = Counted::new(Taking { taken, pace });
-        let told = told(alloc, &[], &mut input, &mut output)?;
-        let extent = extent(LINES, output.get_ref().taken.as_slice());
-        let (told, failed) = (told.as_str().trim_end(), output.failures());
-        Ok(format!(in alloc; "{told}, {extent} written, {failed} failed")?)
+        written(alloc, &[], json, pace, LINES)
     }
 }
 
@@ -159,14 +167,8 @@ struct Explaining;
 
 impl Course for Explaining {
     fn run(alloc: Global, json: &str, pace: Pace) -> Result<String, Fail> {
-        let taken = Vec::new(alloc);
         let words = words_of(alloc, "--why path+file:///w/b#0.1.0")?;
-        let mut input = Counted::new(json.as_bytes());
-        let mut output = Counted::new(Taking { taken, pace });
-        let told = told(alloc, words.as_slice(), &mut input, &mut output)?;
-        let extent = extent(STEPS, output.get_ref().taken.as_slice());
-        let (told, failed) = (told.as_str().trim_end(), output.failures());
-        Ok(format!(in alloc; "{told}, {extent} written, {failed} failed")?)
+        written(alloc, words.as_slice(), json, pace, STEPS)
     }
 }
 
@@ -205,8 +207,10 @@ impl<C: Course> Question for EachCall<C> {
     fn told(alloc: Global, line: &str) -> Result<String, Fail> {
         let (size, line) = line.split_once(' ').unwrap_or((line, ""));
         let (most, mishap) = line.split_once(' ').unwrap_or((line, ""));
-        let json = document_of(alloc, size.parse()?)?;
-        each_call::<C>(alloc, json.as_str(), most.parse()?, kind_of(mishap))
+        let (size, most, kind) = (size.parse()?, most.parse()?, kind_of(mishap));
+        let json = document_of(alloc, size)?;
+        let first = C::run(alloc, json.as_str(), Pace::new(most, kind, 0))?;
+        each_call::<C>(alloc, json.as_str(), most, kind, first.as_str())
     }
 }
 
@@ -219,24 +223,38 @@ fn kind_of(mishap: &str) -> Option<ErrorKind> {
     }
 }
 
-/// Lets each call go wrong in turn, up to the run in which none does any more.
+/// How many calls there are, with what the first run tells, where none goes wrong any more; what the run tells where that is
+/// something else than the first one; and nothing where it is the same.
+fn end_of<C: Course>(
+    alloc: Global,
+    json: &str,
+    pace: Pace,
+    first: &str,
+) -> Result<Option<String>, Fail> {
+    let told = C::run(alloc, json, pace)?;
+    if told.ends_with(", all written, 0 failed") {
+        return Ok(Some(format!(in alloc; "{} calls: {first}", pace.mishap.call)?));
+    }
+    if told.as_str() == first {
+        return Ok(None);
+    }
+    Ok(Some(told))
+}
+
+/// Lets each call but the first go wrong in turn, up to the run in which none does any more.
 fn each_call<C: Course>(
     alloc: Global,
     json: &str,
     most: usize,
     kind: Option<ErrorKind>,
+    first: &str,
 ) -> Result<String, Fail> {
-    let first = C::run(alloc, json, Pace::new(most, kind, 0))?;
     for call in 1..1000usize {
-        let told = C::run(alloc, json, Pace::new(most, kind, call))?;
-        if told.ends_with(", all written, 0 failed") {
-            return Ok(format!(in alloc; "{call} calls: {first}")?);
-        }
-        if told.as_str() != first.as_str() {
-            return Ok(told);
+        if let Some(end) = end_of::<C>(alloc, json, Pace::new(most, kind, call), first)? {
+            return Ok(end);
         }
     }
-    Ok(first)
+    Ok(String::from_str(alloc, first)?)
 }
 
 // The buffer of a run has 65,536 bytes; the last call of each reader finds the end. A document without blanks has 777 bytes.

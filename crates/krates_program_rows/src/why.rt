@@ -40,11 +40,6 @@ const KEPT: &[Row] = &[
     ),
 ];
 
-#[test]
-fn writes_why_a_crate_is_kept(rt: HostRuntime) -> Result<(), Fail> {
-    hold::<Listed>(rt.alloc(), KEPT)
-}
-
 const NOT_KEPT: &[Row] = &[
     // a package that no crate needs, one that isn't there, and its id as it is asked for
     (
@@ -69,11 +64,6 @@ const NOT_KEPT: &[Row] = &[
         "1 refused: no resolution graph was provided\n|",
     ),
 ];
-
-#[test]
-fn refuses_to_explain_what_is_not_kept(rt: HostRuntime) -> Result<(), Fail> {
-    hold::<Listed>(rt.alloc(), NOT_KEPT)
-}
 
 const UNDER_OPTIONS: &[Row] = &[
     (
@@ -112,11 +102,6 @@ const UNDER_OPTIONS: &[Row] = &[
     ),
 ];
 
-#[test]
-fn explains_under_each_option(rt: HostRuntime) -> Result<(), Fail> {
-    hold::<Listed>(rt.alloc(), UNDER_OPTIONS)
-}
-
 const LAST_COUNTS: &[Row] = &[
     (
         "--why path+file:///w/b#0.1.0 --why path+file:///w/a#0.1.0 < a b&dev|b",
@@ -133,7 +118,10 @@ const LAST_COUNTS: &[Row] = &[
 ];
 
 #[test]
-fn explains_the_last_of_several(rt: HostRuntime) -> Result<(), Fail> {
+fn writes_why_a_crate_is_kept_or_that_it_is_not(rt: HostRuntime) -> Result<(), Fail> {
+    hold::<Listed>(rt.alloc(), KEPT)?;
+    hold::<Listed>(rt.alloc(), NOT_KEPT)?;
+    hold::<Listed>(rt.alloc(), UNDER_OPTIONS)?;
     hold::<Listed>(rt.alloc(), LAST_COUNTS)
 }
 

@@ -42,6 +42,18 @@ fn push_reasons(
     Ok(())
 }
 
+/// Adds an affected crate, with the crates that depend on it directly, and why it is kept.
+fn push_affected(
+    lines: &mut String,
+    krates: &Krates,
+    found: &KrateMatch<'_, Package>,
+) -> Result<(), AllocError> {
+    let krate = found.krate;
+    writeln!(lines, "{} {} is affected", krate.name, krate.version)?;
+    push_dependents(lines, krates, found)?;
+    push_reasons(lines, krates, found)
+}
+
 /// The kept crates of a name whose version is affected, each with the crates that depend on it directly, and why it is kept.
 pub(crate) fn report(
     alloc: Global,
@@ -51,13 +63,7 @@ pub(crate) fn report(
 ) -> Result<String, AllocError> {
     let mut lines = String::new(alloc);
     for found in krates.search_matches(name, affected) {
-        writeln!(
-            lines,
-            "{} {} is affected",
-            found.krate.name, found.krate.version
-        )?;
-        push_dependents(&mut lines, krates, &found)?;
-        push_reasons(&mut lines, krates, &found)?;
+        push_affected(&mut lines, krates, &found)?;
     }
     Ok(lines)
 }

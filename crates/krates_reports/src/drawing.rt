@@ -1,6 +1,7 @@
 //! The lines of a graph: `node N crate ID`, `node N feature ID/NAME`, `map CRATE PLACE CRATE` for each place of a mapping that names
 //! a crate, and `edge N SOURCE TARGET` with what the edge is: `dep` or `depfeature`, its kind and its target or `-`, or `feature`.
 
+use crate::lines::{push_line, push_start};
 use krates::graph::{Graph, GraphEdge};
 use krates::{DepKind, Edge, Node, NodeId, Package};
 use std::alloc::AllocError;
@@ -13,6 +14,11 @@ fn id_at(nodes: &[Node<Package>], number: NodeId) -> &str {
     }
 }
 
+/// Adds a feature of the crate of an id.
+fn push_feature(lines: &mut String, id: &str, name: &str) -> Result<(), AllocError> {
+    writeln!(lines, "feature {id}/{name}")
+}
+
 /// Adds what a node is.
 pub(crate) fn push_node(
     lines: &mut String,
@@ -20,11 +26,25 @@ pub(crate) fn push_node(
     node: &Node<Package>,
 ) -> Result<(), AllocError> {
     match node {
-        Node::Krate { krate, .. } => writeln!(lines, "crate {}", krate.id.repr),
+        Node::Krate { krate, .. } => push_line(lines, "crate", &[], krate.id.repr.as_str()),
         Node::Feature { krate_index, name } => {
-            writeln!(lines, "feature {}/{name}", id_at(nodes, *krate_index))
+            push_feature(lines, id_at(nodes, *krate_index), name.as_str())
         }
     }
+}
+
+/// Adds the line of a place of a crate's mapping, where it names a crate.
+fn push_place(
+    lines: &mut String,
+    number: usize,
+    place: usize,
+    entry: &Option<NodeId>,
+) -> Result<(), AllocError> {
+    let Some(krate) = entry else {
+        return Ok(());
+    };
+    let krate = krate.index();
+    writeln!(lines, "map {number} {place} {krate}")
 }
 
 /// Adds a line for each crate that a mapping names.
@@ -34,9 +54,7 @@ fn push_mapping(
     mapping: &[Option<NodeId>],
 ) -> Result<(), AllocError> {
     for (place, entry) in mapping.iter().enumerate() {
-        if let Some(krate) = entry {
-            writeln!(lines, "map {number} {place} {}", krate.index())?;
-        }
+        push_place(lines, number, place, entry)?;
     }
     Ok(())
 }
@@ -50,54 +68,80 @@ pub(crate) fn kind_name(kind: DepKind) -> &'static str {
     }
 }
 
-/// Adds a dependency's kind and its target.
-fn push_tie(
-    lines: &mut String,
-    mark: &str,
-    kind: DepKind,
-    cfg: &Option<String>,
-) -> Result<(), AllocError> {
-    let cfg = match cfg {
+/// A dependency's target, or `-`.
+fn cfg_name(cfg: &Option<String>) -> &str {
+    match cfg {
         Some(cfg) => cfg.as_str(),
         None => "-",
-    };
-    writeln!(lines, "{mark} {} {cfg}", kind_name(kind))
+    }
+}
+
+/// Adds what a dependency's edge is, by the names of its kind and its target.
+fn push_tie(lines: &mut String, mark: &str, kind: &str, cfg: &str) -> Result<(), AllocError> {
+    writeln!(lines, "{mark} {kind} {cfg}")
 }
 
 /// Adds what an edge is.
 pub(crate) fn push_edge(lines: &mut String, edge: &Edge) -> Result<(), AllocError> {
     match edge {
-        Edge::Dep { kind, cfg } => push_tie(lines, "dep", *kind, cfg),
-        Edge::DepFeature { kind, cfg } => push_tie(lines, "depfeature", *kind, cfg),
+        Edge::Dep { kind, cfg } => push_tie(lines, "dep", kind_name(*kind), cfg_name(cfg)),
+        Edge::DepFeature { kind, cfg } => {
+            push_tie(lines, "depfeature", kind_name(*kind), cfg_name(cfg))
+        }
         Edge::Feature => lines.push_str("feature\n"),
     }
+}
+
+/// Adds the line of a node.
+fn push_node_line(
+    lines: &mut String,
+    nodes: &[Node<Package>],
+    number: usize,
+    node: &Node<Package>,
+) -> Result<(), AllocError> {
+    push_start(lines, "node", &[number])?;
+    push_node(lines, nodes, node)
 }
 
 /// Adds the nodes.
 fn push_nodes(lines: &mut String, nodes: &[Node<Package>]) -> Result<(), AllocError> {
     for (number, node) in nodes.iter().enumerate() {
-        write!(lines, "node {number} ")?;
-        push_node(lines, nodes, node)?;
+        push_node_line(lines, nodes, number, node)?;
     }
     Ok(())
+}
+
+/// The mapping of a node: a feature has none.
+fn mapping_of(node: &Node<Package>) -> &[Option<NodeId>] {
+    match node {
+        Node::Krate { dep_mapping, .. } => dep_mapping,
+        Node::Feature { .. } => &[],
+    }
 }
 
 /// Adds the mappings.
 fn push_mappings(lines: &mut String, nodes: &[Node<Package>]) -> Result<(), AllocError> {
     for (number, node) in nodes.iter().enumerate() {
-        if let Node::Krate { dep_mapping, .. } = node {
-            push_mapping(lines, number, dep_mapping)?;
-        }
+        push_mapping(lines, number, mapping_of(node))?;
     }
     Ok(())
+}
+
+/// Adds the line of an edge.
+fn push_edge_line(
+    lines: &mut String,
+    number: usize,
+    edge: &GraphEdge<Edge>,
+) -> Result<(), AllocError> {
+    let numbers = [number, edge.source.index(), edge.target.index()];
+    push_start(lines, "edge", &numbers)?;
+    push_edge(lines, &edge.weight)
 }
 
 /// Adds the edges.
 fn push_edges(lines: &mut String, edges: &[GraphEdge<Edge>]) -> Result<(), AllocError> {
     for (number, edge) in edges.iter().enumerate() {
-        let (source, target) = (edge.source.index(), edge.target.index());
-        write!(lines, "edge {number} {source} {target} ")?;
-        push_edge(lines, &edge.weight)?;
+        push_edge_line(lines, number, edge)?;
     }
     Ok(())
 }

@@ -15,6 +15,7 @@ mod answers;
 mod drawing;
 mod duplicates;
 mod licences;
+mod lines;
 mod lookups;
 mod materials;
 mod words;
@@ -23,8 +24,8 @@ use crate::answers::push_answers;
 use crate::drawing::push_graph;
 use crate::words::{Advisory, Asked, asked_by};
 use krates::cm::MetadataCommand;
-use krates::{Builder, Krates, NoneFilter, Package, PackageId};
-use krates_cli::{Counted, RunError, set_options};
+use krates::{Builder, Krates, Metadata, NoneFilter, Package, PackageId};
+use krates_cli::{Counted, Options, RunError, set_options};
 use std::alloc::{AllocError, Global};
 use std::process::ExitCode;
 use std::{env, io};
@@ -57,9 +58,9 @@ fn push_reports(
     krates: &Krates,
     asked: &Advisory,
 ) -> Result<(), AllocError> {
-    let affected = advisory::report(alloc, krates, asked.name.as_str(), &asked.affected)?;
+    let (name, affected) = (asked.name.as_str(), &asked.affected);
     lines.push_str(licences::report(alloc, krates)?.as_str())?;
-    lines.push_str(affected.as_str())?;
+    lines.push_str(advisory::report(alloc, krates, name, affected)?.as_str())?;
     writeln!(lines, "{}", materials::report(alloc, krates)?)?;
     lines.push_str(duplicates::report(alloc, krates)?.as_str())
 }
@@ -84,6 +85,13 @@ fn push_asked(
     }
 }
 
+/// The graph of a document under the options.
+fn graph_of(alloc: Global, options: &Options, metadata: Metadata) -> Result<Krates, RunError> {
+    let mut builder = Builder::new(alloc);
+    set_options(alloc, options, &mut builder)?;
+    Ok(builder.build_with_metadata(metadata, &mut NoneFilter)?)
+}
+
 /// Adds what is asked of a text's document.
 fn push_document(
     alloc: Global,
@@ -93,46 +101,77 @@ fn push_document(
 ) -> Result<(), RunError> {
     let metadata = MetadataCommand::parse(alloc, text)?;
     let ids = ids_of(alloc, &metadata.packages)?;
-    let mut builder = Builder::new(alloc);
-    set_options(alloc, &asked.options, &mut builder)?;
-    let krates: Krates = builder.build_with_metadata(metadata, &mut NoneFilter)?;
-    push_asked(alloc, lines, &krates, &ids, asked)?;
+    let krates = graph_of(alloc, &asked.options, metadata)?;
+    Ok(push_asked(alloc, lines, &krates, &ids, asked)?)
+}
+
+/// Adds what is asked of each of the documents, which an empty line divides.
+fn push_documents(
+    alloc: Global,
+    lines: &mut String,
+    asked: &Asked,
+    texts: &str,
+) -> Result<(), RunError> {
+    for text in texts.split("\n\n") {
+        push_document(alloc, lines, asked, text)?;
+    }
     Ok(())
 }
 
-/// What is asked of each of the documents, which an empty line divides.
+/// What is asked of the documents.
 fn lines_of(alloc: Global, asked: &Asked, texts: &str) -> Result<String, RunError> {
     let mut lines = String::new(alloc);
-    for text in texts.split("\n\n") {
-        push_document(alloc, &mut lines, asked, text)?;
-    }
+    push_documents(alloc, &mut lines, asked, texts)?;
     Ok(lines)
+}
+
+/// The documents.
+fn read(rt: &HostRuntime) -> Result<String, RunError> {
+    let bytes = Counted::new(rt.reader()).read_to_end(rt.alloc())?;
+    match String::from_utf8(bytes) {
+        Ok(texts) => Ok(texts),
+        Err(_) => Err(RunError::Utf8),
+    }
+}
+
+/// Prints the lines.
+fn write(rt: &HostRuntime, lines: &str) -> Result<(), RunError> {
+    Counted::new(rt.stdout()).write_all(lines.as_bytes())
 }
 
 /// Reads the documents and prints the lines.
 fn print(rt: &HostRuntime, asked: &Asked) -> Result<(), RunError> {
-    let bytes = Counted::new(rt.reader()).read_to_end(rt.alloc())?;
-    let Ok(texts) = String::from_utf8(bytes) else {
-        return Err(RunError::Utf8);
-    };
+    let texts = read(rt)?;
     let lines = lines_of(rt.alloc(), asked, texts.as_str())?;
-    Counted::new(rt.stdout()).write_all(lines.as_bytes())
+    write(rt, lines.as_str())
 }
 
-/// What the words ask for, of the standard streams: 0 where it is printed, 1 where it is refused, 2 where they ask for nothing known.
-fn main(rt: HostRuntime) -> ExitCode {
-    let Ok(words) = words_of(&rt) else {
-        return ExitCode::from(2);
-    };
-    let Ok(asked) = asked_by(rt.alloc(), &words) else {
-        let _ = eprintln!(rt; "{USAGE}");
-        return ExitCode::from(2);
-    };
-    match print(&rt, &asked) {
+/// Prints what is asked, and says whether it was refused.
+fn print_or_refuse(rt: &HostRuntime, asked: &Asked) -> ExitCode {
+    match print(rt, asked) {
         Ok(()) => ExitCode::SUCCESS,
         Err(error) => {
             let _ = eprintln!(rt; "refused: {error}");
             ExitCode::from(1)
         }
+    }
+}
+
+/// Prints what the words ask for, or how they are used.
+fn run(rt: &HostRuntime, words: &[String]) -> ExitCode {
+    match asked_by(rt.alloc(), words) {
+        Ok(asked) => print_or_refuse(rt, &asked),
+        Err(_) => {
+            let _ = eprintln!(rt; "{USAGE}");
+            ExitCode::from(2)
+        }
+    }
+}
+
+/// What the words ask for, of the standard streams: 0 where it is printed, 1 where it is refused, 2 where they ask for nothing known.
+fn main(rt: HostRuntime) -> ExitCode {
+    match words_of(&rt) {
+        Ok(words) => run(&rt, &words),
+        Err(_) => ExitCode::from(2),
     }
 }

@@ -1,21 +1,27 @@
 //! Which documents are refused before they are resolved, and why.
 
+use krates_cm::Metadata;
 use krates_resolve::admit;
 use krates_samples::documents::metadata;
 use krates_samples::table::{Question, Row, hold};
-use std::alloc::Global;
+use std::alloc::{AllocError, Global};
 use std::test::Fail;
 
 /// How many ids of packages are read, or the text of the refusal.
+fn outcome(alloc: Global, metadata: &Metadata) -> Result<String, AllocError> {
+    match admit(alloc, metadata) {
+        Ok(ids) => format!(in alloc; "{} packages", ids.packages.len()),
+        Err(error) => format!(in alloc; "{error}"),
+    }
+}
+
+/// What admission answers to the document of a line.
 struct Admitted;
 
 impl Question for Admitted {
     fn told(alloc: Global, line: &str) -> Result<String, Fail> {
         let metadata = metadata(alloc, line)?;
-        match admit(alloc, &metadata) {
-            Ok(ids) => Ok(format!(in alloc; "{} packages", ids.packages.len())?),
-            Err(error) => Ok(format!(in alloc; "{error}")?),
-        }
+        Ok(outcome(alloc, &metadata)?)
     }
 }
 

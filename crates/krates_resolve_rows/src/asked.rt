@@ -1,12 +1,12 @@
 //! What a document and a setting answer to the questions of the rules, asked one by one.
 
-use crate::setters::set_as;
-use krates_cm::DepKindInfo;
+use crate::setters::setting_of;
+use krates_cm::{DepKindInfo, Metadata, Package};
 use krates_ids::Kid;
 use krates_resolve::{Document, Setting, admit};
 use krates_samples::documents::{kid_of, kind_named, metadata};
 use krates_samples::table::{Question, Row, hold};
-use std::alloc::Global;
+use std::alloc::{AllocError, Global};
 use std::test::Fail;
 
 /// Two members. The second declares a crate three times, last for its build, and its node lists that for the build and for
@@ -64,20 +64,27 @@ fn referents(
 ) -> Result<String, Fail> {
     let (krate, name) = words.split_once(' ').unwrap_or((words, ""));
     let krate = kid_of(alloc, krate)?;
+    let referents = asked.referents(alloc, setting, &krate, name)?;
     let mut told = String::new(alloc);
-    for referent in asked.referents(alloc, setting, &krate, name)? {
+    for referent in &referents {
         told.push_str(referent.id.name())?;
+    }
+    Ok(told)
+}
+
+/// The names of crates.
+fn names_of(alloc: Global, krates: &[&Kid]) -> Result<String, AllocError> {
+    let mut told = String::new(alloc);
+    for krate in krates {
+        told.push_str(krate.name())?;
     }
     Ok(told)
 }
 
 /// The names of the roots.
 fn roots(alloc: Global, asked: &Document<'_>, setting: &Setting) -> Result<String, Fail> {
-    let mut told = String::new(alloc);
-    for kid in asked.roots(alloc, setting)? {
-        told.push_str(kid.name())?;
-    }
-    Ok(told)
+    let roots = asked.roots(alloc, setting)?;
+    Ok(names_of(alloc, &roots)?)
 }
 
 /// The place of the declared dependency of an edge.
@@ -99,26 +106,40 @@ fn is_open(
     Ok(format!(in alloc; "{is_open}")?)
 }
 
+/// What a document answers to a question under a setting.
+fn answer(
+    alloc: Global,
+    asked: &Document<'_>,
+    setting: &Setting,
+    question: &str,
+) -> Result<String, Fail> {
+    let (name, words) = question.split_once(' ').unwrap_or((question, ""));
+    match name {
+        "referent" => referent(alloc, asked, words),
+        "referents" => referents(alloc, asked, setting, words),
+        "declared" => declared(alloc, asked, words),
+        "open" => is_open(alloc, asked, setting, words),
+        _ => roots(alloc, asked, setting),
+    }
+}
+
+/// The document of the two members, with the sections of a line.
+fn document_of(alloc: Global, line: &str) -> Result<Metadata, Fail> {
+    let line = format!(in alloc; "{MEMBERS} / {line}")?;
+    metadata(alloc, line.as_str())
+}
+
 /// What the document of the two members answers to the question that a line begins with, under the setting of the line.
 struct Asked;
 
 impl Question for Asked {
     fn told(alloc: Global, line: &str) -> Result<String, Fail> {
         let (question, _) = line.split_once(" / ").unwrap_or((line, ""));
-        let whole = format!(in alloc; "{MEMBERS} / {line}")?;
-        let metadata = metadata(alloc, whole.as_str())?;
+        let metadata = document_of(alloc, line)?;
         let ids = admit(alloc, &metadata)?;
         let asked = Document::new(alloc, &metadata, &ids)?;
-        let mut setting = Setting::new(alloc);
-        set_as(alloc, &mut setting, line)?;
-        let (name, words) = question.split_once(' ').unwrap_or((question, ""));
-        match name {
-            "referent" => referent(alloc, &asked, words),
-            "referents" => referents(alloc, &asked, &setting, words),
-            "declared" => declared(alloc, &asked, words),
-            "open" => is_open(alloc, &asked, &setting, words),
-            _ => roots(alloc, &asked, &setting),
-        }
+        let setting = setting_of(alloc, line)?;
+        answer(alloc, &asked, &setting, question)
     }
 }
 
@@ -200,15 +221,25 @@ fn which_edges_are_open(rt: HostRuntime) -> Result<(), Fail> {
     hold::<Asked>(rt.alloc(), OPEN_EDGES)
 }
 
-/// Which packages of the two members' document are excluded, each behind a minus sign.
-fn excluded(alloc: Global, setting: &Setting) -> Result<String, Fail> {
-    let metadata = metadata(alloc, MEMBERS)?;
+/// Adds the name of a package, behind a minus sign where it is excluded.
+fn push_package(text: &mut String, setting: &Setting, pkg: &Package) -> Result<(), AllocError> {
+    text.push_str(if setting.excludes(pkg) { "-" } else { "+" })?;
+    text.push_str(pkg.name.as_str())
+}
+
+/// The names of packages, each behind a minus sign where it is excluded.
+fn signed(alloc: Global, setting: &Setting, packages: &[Package]) -> Result<String, AllocError> {
     let mut told = String::new(alloc);
-    for pkg in metadata.packages.as_slice() {
-        told.push_str(if setting.excludes(pkg) { "-" } else { "+" })?;
-        told.push_str(pkg.name.as_str())?;
+    for pkg in packages {
+        push_package(&mut told, setting, pkg)?;
     }
     Ok(told)
+}
+
+/// Which packages of the two members' document are excluded.
+fn excluded(alloc: Global, setting: &Setting) -> Result<String, Fail> {
+    let metadata = metadata(alloc, MEMBERS)?;
+    Ok(signed(alloc, setting, &metadata.packages)?)
 }
 
 /// Whether a dependency with a target text passes.
@@ -225,21 +256,25 @@ fn ignores(alloc: Global, setting: &Setting, words: &str) -> Result<String, Fail
     Ok(format!(in alloc; "{is_ignored}")?)
 }
 
+/// What a setting answers to a question.
+fn set_answer(alloc: Global, setting: &Setting, question: &str) -> Result<String, Fail> {
+    let (name, words) = question.split_once(' ').unwrap_or((question, ""));
+    match name {
+        "passes" => passes(alloc, setting, words),
+        "names" => Ok(format!(in alloc; "{}", setting.is_all_named())?),
+        "ignores" => ignores(alloc, setting, words),
+        _ => excluded(alloc, setting),
+    }
+}
+
 /// What the setting of a line answers to the question that the line begins with.
 struct Set;
 
 impl Question for Set {
     fn told(alloc: Global, line: &str) -> Result<String, Fail> {
         let (question, _) = line.split_once(" / ").unwrap_or((line, ""));
-        let mut setting = Setting::new(alloc);
-        set_as(alloc, &mut setting, line)?;
-        let (name, words) = question.split_once(' ').unwrap_or((question, ""));
-        match name {
-            "passes" => passes(alloc, &setting, words),
-            "names" => Ok(format!(in alloc; "{}", setting.is_all_named())?),
-            "ignores" => ignores(alloc, &setting, words),
-            _ => excluded(alloc, &setting),
-        }
+        let setting = setting_of(alloc, line)?;
+        set_answer(alloc, &setting, question)
     }
 }
 

@@ -1,11 +1,12 @@
 //! What is selected of a document: crates, edges with their places, and features, each in order.
 
-use crate::setters::set_as;
+use crate::setters::setting_of;
 use krates_cm::DependencyKind;
-use krates_resolve::{Selection, Setting, admit, select};
+use krates_ids::Error;
+use krates_resolve::{KeptEdge, Selection, admit, select};
 use krates_samples::documents::{metadata, word_of};
 use krates_samples::table::{Question, Row, hold};
-use std::alloc::Global;
+use std::alloc::{AllocError, Global};
 use std::test::Fail;
 
 /// The name of a kind.
@@ -18,7 +19,7 @@ fn name_of(kind: DependencyKind) -> &'static str {
 }
 
 /// Adds the kept crates, each behind a plus sign.
-fn push_krates(text: &mut String, selection: &Selection) -> Result<(), Fail> {
+fn push_krates(text: &mut String, selection: &Selection) -> Result<(), AllocError> {
     for krate in selection.krates.as_slice() {
         write!(text, "+{}", word_of(krate.repr()))?;
     }
@@ -33,28 +34,47 @@ fn word_at(selection: &Selection, number: usize) -> &str {
     }
 }
 
-/// Adds the kept edges, each with its first place and that of its declared dependency.
-fn push_edges(text: &mut String, selection: &Selection) -> Result<(), Fail> {
+/// Adds a kept edge, with its first place and that of its declared dependency.
+fn push_edge(text: &mut String, selection: &Selection, edge: &KeptEdge) -> Result<(), AllocError> {
+    let parent = word_at(selection, edge.parent);
+    let child = word_at(selection, edge.child);
+    let kind = name_of(edge.kind);
+    let (place, declared) = (edge.place, edge.declared);
+    write!(text, ", {parent}>{child} {kind} {place} as {declared}")
+}
+
+/// Adds the kept edges.
+fn push_edges(text: &mut String, selection: &Selection) -> Result<(), AllocError> {
     for edge in selection.edges.as_slice() {
-        let parent = word_at(selection, edge.parent);
-        let child = word_at(selection, edge.child);
-        let kind = name_of(edge.kind);
-        write!(
-            text,
-            ", {parent}>{child} {kind} {} as {}",
-            edge.place, edge.declared
-        )?;
+        push_edge(text, selection, edge)?;
     }
     Ok(())
 }
 
 /// Adds the enabled features, each behind its crate.
-fn push_features(text: &mut String, selection: &Selection) -> Result<(), Fail> {
+fn push_features(text: &mut String, selection: &Selection) -> Result<(), AllocError> {
     for feature in selection.features.as_slice() {
         let krate = word_at(selection, feature.krate);
         write!(text, ", {krate}/{}", feature.name)?;
     }
     Ok(())
+}
+
+/// The kept crates, the kept edges and the enabled features.
+fn text_of(alloc: Global, selection: &Selection) -> Result<String, AllocError> {
+    let mut text = String::new(alloc);
+    push_krates(&mut text, selection)?;
+    push_edges(&mut text, selection)?;
+    push_features(&mut text, selection)?;
+    Ok(text)
+}
+
+/// What was selected, or the text of the refusal.
+fn outcome(alloc: Global, selected: Result<Selection, Error>) -> Result<String, AllocError> {
+    match selected {
+        Ok(selection) => text_of(alloc, &selection),
+        Err(error) => format!(in alloc; "{error}"),
+    }
 }
 
 /// What is selected of a document under the setting of its line, or the text of the refusal.
@@ -64,17 +84,9 @@ impl Question for Selected {
     fn told(alloc: Global, line: &str) -> Result<String, Fail> {
         let metadata = metadata(alloc, line)?;
         let ids = admit(alloc, &metadata)?;
-        let mut setting = Setting::new(alloc);
-        set_as(alloc, &mut setting, line)?;
-        let selection = match select(alloc, &metadata, &ids, &setting) {
-            Ok(selection) => selection,
-            Err(error) => return Ok(format!(in alloc; "{error}")?),
-        };
-        let mut text = String::new(alloc);
-        push_krates(&mut text, &selection)?;
-        push_edges(&mut text, &selection)?;
-        push_features(&mut text, &selection)?;
-        Ok(text)
+        let setting = setting_of(alloc, line)?;
+        let selected = select(alloc, &metadata, &ids, &setting);
+        Ok(outcome(alloc, selected)?)
     }
 }
 

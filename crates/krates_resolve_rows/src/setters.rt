@@ -23,9 +23,16 @@ fn set_with(alloc: Global, setting: &mut Setting, section: &str) -> Result<(), F
 }
 
 /// Sets, in turn, what each section of the line asks.
-pub(crate) fn set_as(alloc: Global, setting: &mut Setting, line: &str) -> Result<(), Fail> {
+fn set_as(alloc: Global, setting: &mut Setting, line: &str) -> Result<(), Fail> {
     for section in line.split(" / ") {
         set_with(alloc, setting, section)?;
     }
     Ok(())
+}
+
+/// The setting in which each section of the line has set what it asks.
+pub(crate) fn setting_of(alloc: Global, line: &str) -> Result<Setting, Fail> {
+    let mut setting = Setting::new(alloc);
+    set_as(alloc, &mut setting, line)?;
+    Ok(setting)
 }

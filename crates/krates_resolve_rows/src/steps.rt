@@ -1,13 +1,13 @@
 //! The steps by which what is selected was found, in numbers of the document.
 
-use krates_resolve::{NumberedFact, NumberedStep, Setting, admit, select};
+use krates_resolve::{NumberedFact, NumberedStep, Selection, Setting, admit, select};
 use krates_samples::documents::metadata;
 use krates_samples::table::{Question, Row, hold};
-use std::alloc::Global;
+use std::alloc::{AllocError, Global};
 use std::test::Fail;
 
 /// Adds a fact by its numbers.
-fn push_fact(text: &mut String, fact: NumberedFact) -> Result<(), Fail> {
+fn push_fact(text: &mut String, fact: NumberedFact) -> Result<(), AllocError> {
     match fact {
         NumberedFact::Crate { place } => write!(text, "crate {place}")?,
         NumberedFact::Feature { number } => write!(text, "feature {number}")?,
@@ -18,7 +18,7 @@ fn push_fact(text: &mut String, fact: NumberedFact) -> Result<(), Fail> {
 }
 
 /// Adds a step that is used, where there is one.
-fn push_use(text: &mut String, used: Option<usize>) -> Result<(), Fail> {
+fn push_use(text: &mut String, used: Option<usize>) -> Result<(), AllocError> {
     if let Some(step) = used {
         write!(text, " <{step}")?;
     }
@@ -26,13 +26,22 @@ fn push_use(text: &mut String, used: Option<usize>) -> Result<(), Fail> {
 }
 
 /// Adds a step: the number of its rule, its fact and what it uses.
-fn push_step(text: &mut String, step: &NumberedStep) -> Result<(), Fail> {
+fn push_step(text: &mut String, step: &NumberedStep) -> Result<(), AllocError> {
     write!(text, "{} ", step.reason.rule)?;
     push_fact(text, step.fact)?;
     push_use(text, step.reason.uses.first)?;
     push_use(text, step.reason.uses.second)?;
-    write!(text, "; ")?;
+    text.push_str("; ")?;
     Ok(())
+}
+
+/// Each step of a selection, in order.
+fn steps_of(alloc: Global, selection: &Selection) -> Result<String, AllocError> {
+    let mut text = String::new(alloc);
+    for step in selection.steps.as_slice() {
+        push_step(&mut text, step)?;
+    }
+    Ok(text)
 }
 
 /// The steps of the selection of a document.
@@ -44,11 +53,7 @@ impl Question for Stepped {
         let ids = admit(alloc, &metadata)?;
         let setting = Setting::new(alloc);
         let selection = select(alloc, &metadata, &ids, &setting)?;
-        let mut text = String::new(alloc);
-        for step in selection.steps.as_slice() {
-            push_step(&mut text, step)?;
-        }
-        Ok(text)
+        Ok(steps_of(alloc, &selection)?)
     }
 }
 

@@ -2,7 +2,8 @@
 
 ghost use Rattle.std.specs.Prelude.{◌≡◌, None, ⊤};
 
-use crate::setters::{build_as, krates_of};
+use crate::of_graph::{OfGraph, Told, push_features, push_marked, push_number};
+use crate::setters::build_as;
 use krates::cm::Metadata;
 use krates::{Builder, Error, Krates, OnFilter, Package};
 use krates_samples::documents::{kid_of, metadata, word_of};
@@ -11,13 +12,11 @@ use std::alloc::{AllocError, Global};
 use std::test::Fail;
 
 /// Adds a package behind a mark: its name, and its word or id where that is another.
-fn push_package(text: &mut String, mark: &str, pkg: &Package) -> Result<(), AllocError> {
-    text.push_str(mark)?;
-    text.push_str(pkg.name.as_str())?;
+pub(crate) fn push_package(text: &mut String, mark: &str, pkg: &Package) -> Result<(), AllocError> {
+    push_marked(text, mark, pkg.name.as_str())?;
     let word = word_of(pkg.id.repr.as_str());
     if word != pkg.name.as_str() {
-        text.push_str("=")?;
-        text.push_str(word)?;
+        push_marked(text, "=", word)?;
     }
     Ok(())
 }
@@ -48,28 +47,37 @@ impl OnFilter for Reported {
 }
 
 /// Adds the kept crates in order, each behind a plus sign.
-fn push_krates(text: &mut String, krates: &Krates) -> Result<(), AllocError> {
+pub(crate) fn push_krates(text: &mut String, krates: &Krates) -> Result<(), AllocError> {
     for krate in krates.krates() {
         push_package(text, "+", krate)?;
     }
     Ok(())
 }
 
-/// What a build kept and then what it reported, each in order, or the text of the refusal.
-pub(crate) fn told_of(
-    alloc: Global,
-    built: Result<Krates, Error>,
+/// Adds what a build kept and then what it reported, each in order.
+fn push_kept_and_reported(
+    text: &mut String,
+    krates: &Krates,
     reported: &Reported,
-) -> Result<String, Fail> {
-    let krates = match built {
-        Ok(krates) => krates,
-        Err(error) => return Ok(format!(in alloc; "{error}")?),
-    };
-    let mut text = String::new(alloc);
-    push_krates(&mut text, &krates)?;
+) -> Result<(), AllocError> {
+    push_krates(text, krates)?;
     text.push_str(reported.text.as_str())?;
     if !reported.is_whole {
         text.push_str(" and more")?;
+    }
+    Ok(())
+}
+
+/// What a build kept and reported, or the text of the refusal.
+pub(crate) fn told_of(
+    alloc: Global,
+    built: &Result<Krates, Error>,
+    reported: &Reported,
+) -> Result<String, Fail> {
+    let mut text = String::new(alloc);
+    match built {
+        Ok(krates) => push_kept_and_reported(&mut text, krates, reported)?,
+        Err(error) => write!(text, "{error}")?,
     }
     Ok(text)
 }
@@ -80,7 +88,7 @@ pub(crate) fn outcome(alloc: Global, builder: Builder, metadata: Metadata) -> Re
 {
     let mut reported = Reported::new(alloc);
     let built: Result<Krates, Error> = builder.build_with_metadata(metadata, &mut reported);
-    told_of(alloc, built, &reported)
+    told_of(alloc, &built, &reported)
 }
 
 /// What is kept and reported of a document under the setting of its line.
@@ -111,11 +119,6 @@ const KEPT_AND_REPORTED: &[Row] = &[
     ("a|b / members a b / root b", "+b-a"),
 ];
 
-#[test]
-fn kept_and_reported(rt: HostRuntime) -> Result<(), Fail> {
-    hold::<Built>(rt.alloc(), KEPT_AND_REPORTED)
-}
-
 const REFUSED: &[Row] = &[
     ("a|b / nodes b", "lost node: path+file:///w/a#0.1.0"),
     ("b / nodes a|b", "lost package: path+file:///w/a#0.1.0"),
@@ -136,53 +139,43 @@ const REFUSED: &[Row] = &[
 ];
 
 #[test]
-fn refused(rt: HostRuntime) -> Result<(), Fail> {
+fn kept_and_reported_or_refused(rt: HostRuntime) -> Result<(), Fail> {
+    hold::<Built>(rt.alloc(), KEPT_AND_REPORTED)?;
     hold::<Built>(rt.alloc(), REFUSED)
 }
 
 /// Adds the number of a crate and its enabled features, or that there is none.
-fn push_answers(text: &mut String, alloc: Global, krates: &Krates, name: &str) -> Result<(), Fail> {
-    let kid = kid_of(alloc, name)?;
-    match krates.nid_for_kid(&kid) {
-        Some(id) => write!(text, ", {name} is {}", id.index())?,
-        None => write!(text, ", {name} is none")?,
-    }
-    let Some(features) = krates.get_enabled_features(&kid) else {
-        text.push_str(" without features")?;
-        return Ok(());
-    };
-    for feature in features {
-        text.push_str("+")?;
-        text.push_str(feature.as_str())?;
-    }
+fn push_answers(text: &mut String, krates: &Krates, name: &str) -> Result<(), Fail> {
+    let kid = kid_of(*text.allocator(), name)?;
+    write!(text, ", {name} is ")?;
+    push_number(text, krates.nid_for_kid(&kid))?;
+    push_features(
+        text,
+        krates.get_enabled_features(&kid),
+        "",
+        " without features",
+    )?;
     Ok(())
 }
 
 /// How many crates are kept in which workspace, and the number and the enabled features of `a`, `b` and `c`.
 struct Queried;
 
-impl Question for Queried {
-    fn told(alloc: Global, line: &str) -> Result<String, Fail> {
-        let krates = krates_of(alloc, line)?;
-        let mut text = format!(in alloc; "{} of {}", krates.len(), krates.workspace_root())?;
+impl Told for Queried {
+    fn push(text: &mut String, krates: &Krates, _line: &str) -> Result<(), Fail> {
+        write!(text, "{} of {}", krates.len(), krates.workspace_root())?;
         for name in ["a", "b", "c"] {
-            push_answers(&mut text, alloc, &krates, name)?;
+            push_answers(text, krates, name)?;
         }
-        Ok(text)
+        Ok(())
     }
 }
 
-const QUERIES: &[Row] = &[(
-    "c|b|a b / nodes a b|b|c",
-    "2 of /w, a is 0, b is 1, c is none without features",
-)];
-
-#[test]
-fn queries_of_kept_crates(rt: HostRuntime) -> Result<(), Fail> {
-    hold::<Queried>(rt.alloc(), QUERIES)
-}
-
-const ENABLED_FEATURES: &[Row] = &[
+const QUERIES: &[Row] = &[
+    (
+        "c|b|a b / nodes a b|b|c",
+        "2 of /w, a is 0, b is 1, c is none without features",
+    ),
     // `b` brings the optional dependency of that name, and `w` enables its feature `j`; `c` isn't needed
     (
         "a b?;w=b?/j b=dep:b|b;j= k=|c;x= / nodes a b;w b|b;j|c;x",
@@ -191,6 +184,6 @@ const ENABLED_FEATURES: &[Row] = &[
 ];
 
 #[test]
-fn enabled_features_of_kept_crates(rt: HostRuntime) -> Result<(), Fail> {
-    hold::<Queried>(rt.alloc(), ENABLED_FEATURES)
+fn queries_of_kept_crates(rt: HostRuntime) -> Result<(), Fail> {
+    hold::<OfGraph<Queried>>(rt.alloc(), QUERIES)
 }

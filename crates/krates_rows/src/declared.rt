@@ -46,11 +46,6 @@ const DECLARED_TWICE: &[Row] = &[
     ),
 ];
 
-#[test]
-fn declared_twice(rt: HostRuntime) -> Result<(), Fail> {
-    hold::<Built>(rt.alloc(), DECLARED_TWICE)
-}
-
 const GIT_SOURCES: &[Row] = &[
     // an opaque id has no commit in its source, and is compared with one that is cut
     (
@@ -69,6 +64,7 @@ const GIT_SOURCES: &[Row] = &[
 ];
 
 #[test]
-fn declared_twice_with_git_sources(rt: HostRuntime) -> Result<(), Fail> {
+fn declared_twice(rt: HostRuntime) -> Result<(), Fail> {
+    hold::<Built>(rt.alloc(), DECLARED_TWICE)?;
     hold::<Built>(rt.alloc(), GIT_SOURCES)
 }

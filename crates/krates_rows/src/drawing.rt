@@ -5,12 +5,11 @@
 //! as its two numbers: with `>` between them for a dependency, `=` for a dependency on a feature, and `:` for what a feature
 //! enables. Behind it stands the kind of dependency, where it is no normal one.
 
-use crate::setters::krates_of;
+use crate::of_graph::{OfGraph, Told};
 use krates::graph::GraphEdge;
-use krates::{DepKind, Edge, Node, NodeId, Package};
+use krates::{DepKind, Edge, Krates, Node, NodeId, Package};
 use krates_samples::documents::word_of;
-use krates_samples::table::{Question, Row, hold};
-use std::alloc::Global;
+use krates_samples::table::{Row, hold};
 use std::test::Fail;
 
 /// Adds what the declared dependencies of a crate mean.
@@ -67,21 +66,24 @@ fn push_edge(text: &mut String, edge: &GraphEdge<Edge>) -> Result<(), Fail> {
     Ok(())
 }
 
+/// Adds the edges in order.
+fn push_edges(text: &mut String, edges: &[GraphEdge<Edge>]) -> Result<(), Fail> {
+    for edge in edges {
+        push_edge(text, edge)?;
+    }
+    Ok(())
+}
+
 /// The whole graph of a document under the setting of its line.
 pub(crate) struct Graphed;
 
-impl Question for Graphed {
-    fn told(alloc: Global, line: &str) -> Result<String, Fail> {
-        let krates = krates_of(alloc, line)?;
-        let mut text = String::new(alloc);
+impl Told for Graphed {
+    fn push(text: &mut String, krates: &Krates, _line: &str) -> Result<(), Fail> {
         for node in krates.graph().raw_nodes() {
-            push_node(&mut text, node)?;
+            push_node(text, node)?;
         }
         text.push_str("|")?;
-        for edge in krates.graph().raw_edges() {
-            push_edge(&mut text, edge)?;
-        }
-        Ok(text)
+        push_edges(text, krates.graph().raw_edges())
     }
 }
 
@@ -174,5 +176,5 @@ const GRAPHS: &[Row] = &[
 
 #[test]
 fn graphs(rt: HostRuntime) -> Result<(), Fail> {
-    hold::<Graphed>(rt.alloc(), GRAPHS)
+    hold::<OfGraph<Graphed>>(rt.alloc(), GRAPHS)
 }

@@ -1,35 +1,46 @@
 //! What the graph of a build answers along its edges: direct dependencies and dependents, what a node leads to, and
 //! what members reach without a kind of edge.
 
-use crate::setters::krates_of;
+use crate::of_graph::{OfGraph, Told, push_marked};
 use krates::graph::Direction;
-use krates::{DepKind, Krates, NodeId};
-use krates_samples::table::{Question, Row, hold};
-use std::alloc::Global;
+use krates::{DepKind, EdgeId, Krates, Node, NodeId, Package};
+use krates_samples::table::{Row, hold};
+use std::alloc::AllocError;
 use std::test::Fail;
 
-/// Adds the direct dependencies of a node, each behind `>` with its edge, and the direct dependents, each behind `<`.
-fn push_direct(text: &mut String, krates: &Krates, node: NodeId) -> Result<(), Fail> {
+/// Adds a node, a mark, and what was found of it: the other node and the edge.
+fn push_found(
+    text: &mut String,
+    node: NodeId,
+    mark: &str,
+    other: NodeId,
+    edge: EdgeId,
+) -> Result<(), Fail> {
+    write!(
+        text,
+        " {}{mark}{} by {}",
+        node.index(),
+        other.index(),
+        edge.index()
+    )?;
+    Ok(())
+}
+
+/// Adds the direct dependents of a number, each behind `<` with its edge.
+fn push_dependents(text: &mut String, krates: &Krates, node: NodeId) -> Result<(), Fail> {
     for found in &krates.direct_dependents(node)? {
-        write!(
-            text,
-            " {}<{} by {}",
-            node.index(),
-            found.node_id.index(),
-            found.edge_id.index()
-        )?;
+        push_found(text, node, "<", found.node_id, found.edge_id)?;
     }
+    Ok(())
+}
+
+/// Adds the direct dependencies of a number, where it is that of a node, each behind `>` with its edge.
+fn push_dependencies(text: &mut String, krates: &Krates, node: NodeId) -> Result<(), Fail> {
     if node.index() >= krates.graph().node_count() {
         return Ok(());
     }
     for found in &krates.direct_dependencies(node)? {
-        write!(
-            text,
-            " {}>{} by {}",
-            node.index(),
-            found.node_id.index(),
-            found.edge_id.index()
-        )?;
+        push_found(text, node, ">", found.node_id, found.edge_id)?;
     }
     Ok(())
 }
@@ -37,14 +48,13 @@ fn push_direct(text: &mut String, krates: &Krates, node: NodeId) -> Result<(), F
 /// The direct dependents and dependencies of each of the first ten numbers.
 struct Direct;
 
-impl Question for Direct {
-    fn told(alloc: Global, line: &str) -> Result<String, Fail> {
-        let krates = krates_of(alloc, line)?;
-        let mut text = String::new(alloc);
+impl Told for Direct {
+    fn push(text: &mut String, krates: &Krates, _line: &str) -> Result<(), Fail> {
         for number in 0..10u32 {
-            push_direct(&mut text, &krates, NodeId::new(number))?;
+            push_dependents(text, krates, NodeId::new(number))?;
+            push_dependencies(text, krates, NodeId::new(number))?;
         }
-        Ok(text)
+        Ok(())
     }
 }
 
@@ -72,53 +82,63 @@ const DIRECT: &[Row] = &[
     ("a b b&dev|b / nodes a b&normal&dev|b", " 0>1 by 0 1<0 by 0"),
 ];
 
-#[test]
-fn direct_dependencies_and_dependents(rt: HostRuntime) -> Result<(), Fail> {
-    hold::<Direct>(rt.alloc(), DIRECT)
+/// Adds what stands at the end of an edge: the name of a crate, or a plus sign and the name of a feature.
+fn push_end(text: &mut String, end: &Node<Package>) -> Result<(), AllocError> {
+    match end {
+        Node::Krate { krate, .. } => push_marked(text, " ", krate.name.as_str()),
+        Node::Feature { name, .. } => push_marked(text, " +", name.as_str()),
+    }
 }
 
-/// What stands at the ends of a node's edges, and what its first two declared dependencies mean.
-fn push_ends(text: &mut String, krates: &Krates, node: NodeId) -> Result<(), Fail> {
-    for (end, _) in krates.get_deps(node) {
-        match end {
-            krates::Node::Krate { krate, .. } => write!(text, " {}", krate.name)?,
-            krates::Node::Feature { name, .. } => write!(text, " +{name}")?,
-        }
+/// Adds what the declared dependency at a place of a node means.
+fn push_resolved(
+    text: &mut String,
+    krates: &Krates,
+    node: NodeId,
+    place: usize,
+) -> Result<(), AllocError> {
+    match krates.resolved_dependency(node, place) {
+        Some(krate) => push_marked(text, " =", krate.name.as_str()),
+        None => text.push_str(" -"),
     }
-    for place in 0..2usize {
-        match krates.resolved_dependency(node, place) {
-            Some(krate) => write!(text, " ={}", krate.name)?,
-            None => text.push_str(" -")?,
-        }
+}
+
+/// Adds behind a bar what stands at the ends of a node's edges, and what its first two declared dependencies mean.
+fn push_ends(text: &mut String, krates: &Krates, node: NodeId) -> Result<(), AllocError> {
+    text.push_str("|")?;
+    for (end, _) in krates.get_deps(node) {
+        push_end(text, end)?;
+    }
+    push_resolved(text, krates, node, 0)?;
+    push_resolved(text, krates, node, 1)
+}
+
+/// Adds the numbers of edges.
+fn push_numbers(text: &mut String, edges: &[EdgeId]) -> Result<(), Fail> {
+    for edge in edges {
+        write!(text, " {}", edge.index())?;
     }
     Ok(())
 }
 
-/// The same of the nodes 0, 2, 3 and 9, each behind a bar, and the numbers of the edges of 0 and into 1.
+/// The ends of the edges of the nodes 0, 2, 3 and 9, and the numbers of the edges of 0 and into 1.
 struct Ends;
 
-impl Question for Ends {
-    fn told(alloc: Global, line: &str) -> Result<String, Fail> {
-        let krates = krates_of(alloc, line)?;
-        let mut text = String::new(alloc);
+impl Told for Ends {
+    fn push(text: &mut String, krates: &Krates, _line: &str) -> Result<(), Fail> {
         for number in [0u32, 2, 3, 9] {
-            text.push_str("|")?;
-            push_ends(&mut text, &krates, NodeId::new(number))?;
+            push_ends(text, krates, NodeId::new(number))?;
         }
-        for edge in krates
-            .graph()
-            .edge_numbers(NodeId::new(0), Direction::Outgoing)
-        {
-            write!(text, " {}", edge.index())?;
-        }
+        let graph = krates.graph();
+        push_numbers(
+            text,
+            graph.edge_numbers(NodeId::new(0), Direction::Outgoing),
+        )?;
         text.push_str(" into")?;
-        for edge in krates
-            .graph()
-            .edge_numbers(NodeId::new(1), Direction::Incoming)
-        {
-            write!(text, " {}", edge.index())?;
-        }
-        Ok(text)
+        push_numbers(
+            text,
+            graph.edge_numbers(NodeId::new(1), Direction::Incoming),
+        )
     }
 }
 
@@ -127,22 +147,15 @@ const ENDS: &[Row] = &[(
     "| b +j =b -| a b - -| a +j - -| - - 0 1 into 0 3 6",
 )];
 
-#[test]
-fn ends_of_edges(rt: HostRuntime) -> Result<(), Fail> {
-    hold::<Ends>(rt.alloc(), ENDS)
-}
-
 /// The crates that members reach without edges of dev dependencies.
 struct Filtered;
 
-impl Question for Filtered {
-    fn told(alloc: Global, line: &str) -> Result<String, Fail> {
-        let krates = krates_of(alloc, line)?;
-        let mut text = String::new(alloc);
+impl Told for Filtered {
+    fn push(text: &mut String, krates: &Krates, _line: &str) -> Result<(), Fail> {
         for krate in &krates.krates_filtered(DepKind::Dev)? {
             write!(text, "{} ", krate.name)?;
         }
-        Ok(text)
+        Ok(())
     }
 }
 
@@ -154,6 +167,8 @@ const FILTERED: &[Row] = &[
 ];
 
 #[test]
-fn crates_without_dev_dependencies(rt: HostRuntime) -> Result<(), Fail> {
-    hold::<Filtered>(rt.alloc(), FILTERED)
+fn answers_along_edges(rt: HostRuntime) -> Result<(), Fail> {
+    hold::<OfGraph<Direct>>(rt.alloc(), DIRECT)?;
+    hold::<OfGraph<Ends>>(rt.alloc(), ENDS)?;
+    hold::<OfGraph<Filtered>>(rt.alloc(), FILTERED)
 }

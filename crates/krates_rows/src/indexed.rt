@@ -14,32 +14,40 @@ use std::collections::BTreeMap;
 use std::rc::Rc;
 use std::test::Fail;
 
-/// What a build tells, and how often the index was asked: once for exactly the names `a` and `b` counts one, and once for any
-/// others ten.
+/// What it counts that an index is asked once: one for exactly the names `a` and `b`, and ten for any others.
+fn tally_of(names: &PackageNames) -> u8 {
+    let both = names.names.contains("a") && names.names.contains("b");
+    if both && names.names.len() == 2 {
+        1
+    } else {
+        10
+    }
+}
+
+/// What a build tells whose index counts how often it is asked.
+fn told_counting(alloc: Global, line: &str, calls: &Rc<Cell<u8>>) -> Result<String, Fail> {
+    let theirs = calls.clone()?;
+    let build: BuildIndexCache = Box::new(alloc, move |names: PackageNames| {
+        theirs.set(theirs.get().wrapping_add(tally_of(&names)));
+        IndexAnswer {
+            krates: BTreeMap::new(alloc),
+        }
+    })?;
+    let metadata = metadata(alloc, line)?;
+    let mut builder = Builder::new(alloc);
+    builder.with_crates_io_index(build);
+    let mut reported = Reported::new(alloc);
+    let built: Result<Krates, Error> = builder.build_with_metadata(metadata, &mut reported);
+    told_of(alloc, &built, &reported)
+}
+
+/// What a build tells, and how often the index was asked.
 struct AskedFor;
 
 impl Question for AskedFor {
     fn told(alloc: Global, line: &str) -> Result<String, Fail> {
-        let metadata = metadata(alloc, line)?;
         let calls = Rc::new(alloc, Cell::new(0u8))?;
-        let theirs = calls.clone()?;
-        let build: BuildIndexCache = Box::new(alloc, move |names: PackageNames| {
-            let both = names.names.contains("a") && names.names.contains("b");
-            let count = if both && names.names.len() == 2 {
-                1
-            } else {
-                10
-            };
-            theirs.set(theirs.get().wrapping_add(count));
-            IndexAnswer {
-                krates: BTreeMap::new(alloc),
-            }
-        })?;
-        let mut builder = Builder::new(alloc);
-        builder.with_crates_io_index(build);
-        let mut reported = Reported::new(alloc);
-        let built: Result<Krates, Error> = builder.build_with_metadata(metadata, &mut reported);
-        let told = told_of(alloc, built, &reported)?;
+        let told = told_counting(alloc, line, &calls)?;
         Ok(format!(in alloc; "{told}, asked {}", calls.get())?)
     }
 }
@@ -72,12 +80,8 @@ const NOT_ASKED: &[Row] = &[
 ];
 
 #[test]
-fn asked_once(rt: HostRuntime) -> Result<(), Fail> {
-    hold::<AskedFor>(rt.alloc(), ASKED_ONCE)
-}
-
-#[test]
-fn not_asked_before_a_refusal(rt: HostRuntime) -> Result<(), Fail> {
+fn asked_once_and_not_before_a_refusal(rt: HostRuntime) -> Result<(), Fail> {
+    hold::<AskedFor>(rt.alloc(), ASKED_ONCE)?;
     hold::<AskedFor>(rt.alloc(), NOT_ASKED)
 }
 
@@ -121,26 +125,37 @@ fn answer_of(alloc: Global, text: &str) -> Result<IndexAnswer, Fail> {
     Ok(IndexAnswer { krates })
 }
 
+/// How many crates a build kept, or the refusal, and how many features the reported packages have.
+fn told_counts(
+    alloc: Global,
+    built: &Result<Krates, Error>,
+    features: usize,
+) -> Result<String, Fail> {
+    let mut text = String::new(alloc);
+    match built {
+        Ok(krates) => write!(text, "{} kept", krates.len())?,
+        Err(error) => write!(text, "{error}")?,
+    }
+    write!(text, ", {features} reported")?;
+    Ok(text)
+}
+
 /// How many crates are kept, or the refusal, and how many features the reported packages have, with the index of the line.
 struct Corrected;
 
 impl Question for Corrected {
     fn told(alloc: Global, line: &str) -> Result<String, Fail> {
-        let metadata = metadata(alloc, line)?;
         let answer = answer_of(alloc, section(line, "index ").unwrap_or(""))?;
         let build: BuildIndexCache = Box::new(alloc, move |names: PackageNames| {
             drop(names);
             answer
         })?;
+        let metadata = metadata(alloc, line)?;
         let mut builder = Builder::new(alloc);
         builder.with_crates_io_index(build);
         let mut reported = Features { count: 0 };
         let built: Result<Krates, Error> = builder.build_with_metadata(metadata, &mut reported);
-        let answer = match built {
-            Ok(krates) => format!(in alloc; "{} kept", krates.len())?,
-            Err(error) => format!(in alloc; "{error}")?,
-        };
-        Ok(format!(in alloc; "{answer}, {} reported", reported.count)?)
+        told_counts(alloc, &built, reported.count)
     }
 }
 
@@ -156,11 +171,6 @@ const REPORTED: &[Row] = &[
     ),
 ];
 
-#[test]
-fn reported_as_corrected(rt: HostRuntime) -> Result<(), Fail> {
-    hold::<Corrected>(rt.alloc(), REPORTED)
-}
-
 const LOST: &[Row] = &[
     // the index lets the default features of the crate, or of one that the document lacks, name one that no node lists
     (
@@ -174,6 +184,7 @@ const LOST: &[Row] = &[
 ];
 
 #[test]
-fn features_of_the_index_are_lost(rt: HostRuntime) -> Result<(), Fail> {
+fn reported_or_lost_as_corrected(rt: HostRuntime) -> Result<(), Fail> {
+    hold::<Corrected>(rt.alloc(), REPORTED)?;
     hold::<Corrected>(rt.alloc(), LOST)
 }

@@ -17,6 +17,8 @@ mod indexed;
 #[cfg(test)]
 mod lookups;
 #[cfg(test)]
+mod of_graph;
+#[cfg(test)]
 mod own_types;
 #[cfg(test)]
 mod pairs;

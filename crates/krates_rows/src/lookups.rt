@@ -4,84 +4,60 @@
 //! perhaps with the name of a feature behind it, `members`, `name` and a name, `search`, a name and a requirement, or `krate`
 //! and a number. A crate is answered as its word, a feature as the number of its crate, a slash and its name.
 
-use crate::setters::krates_of;
+use crate::of_graph::{OfGraph, Told, push_features, push_number};
 use krates::semver::VersionReq;
 use krates::{KrateDetails, Krates, Matches, Node, NodeId, Package};
 use krates_samples::documents::{kid_of, section, word_of};
-use krates_samples::table::{Question, Row, hold};
-use std::alloc::Global;
+use krates_samples::table::{Row, hold};
 use std::test::Fail;
 
-/// Adds a node.
-fn push_node(text: &mut String, node: &Node<Package>) -> Result<(), Fail> {
+/// Adds a node, or that there is none.
+fn push_node(text: &mut String, node: Option<&Node<Package>>) -> Result<(), Fail> {
     match node {
-        Node::Krate { id, .. } => text.push_str(word_of(id.repr()))?,
-        Node::Feature { krate_index, name } => write!(text, "{}/{name}", krate_index.index())?,
+        Some(Node::Krate { id, .. }) => text.push_str(word_of(id.repr()))?,
+        Some(Node::Feature { krate_index, name }) => write!(
+            text,
+            "{}/{name}",
+            krate_index.index()
+        )?,
+        None => text.push_str("none")?,
     }
     Ok(())
 }
 
-/// The number of a crate.
-fn number(alloc: Global, krates: &Krates, word: &str) -> Result<String, Fail> {
-    match krates.nid_for_kid(&kid_of(alloc, word)?) {
-        Some(number) => Ok(format!(in alloc; "{}", number.index())?),
-        None => Ok(String::from_str(alloc, "none")?),
-    }
+/// Adds a node behind its number.
+fn push_numbered(text: &mut String, number: NodeId, node: &Node<Package>) -> Result<(), Fail> {
+    write!(text, "{}=", number.index())?;
+    push_node(text, Some(node))
 }
 
-/// The node of a crate.
-fn node(alloc: Global, krates: &Krates, word: &str) -> Result<String, Fail> {
-    let mut text = String::new(alloc);
-    match krates.node_for_kid(&kid_of(alloc, word)?) {
-        Some(node) => push_node(&mut text, node)?,
-        None => text.push_str("none")?,
-    }
-    Ok(text)
-}
-
-/// The names of the enabled features of a crate, each behind a plus sign.
-fn features(alloc: Global, krates: &Krates, word: &str) -> Result<String, Fail> {
-    let mut text = String::new(alloc);
-    match krates.get_enabled_features(&kid_of(alloc, word)?) {
-        Some(features) => {
-            text.push_str("set")?;
-            for name in features.iter() {
-                write!(text, "+{name}")?;
-            }
-        }
-        None => text.push_str("none")?,
-    }
-    Ok(text)
-}
-
-/// The node of a crate or of a feature, with its number.
-fn found(alloc: Global, krates: &Krates, words: &str) -> Result<String, Fail> {
+/// Adds the answer to a question about the crate of a word, or about its feature of the name behind the word.
+fn push_by_id(text: &mut String, krates: &Krates, question: &str, words: &str) -> Result<(), Fail> {
     let (word, name) = words.split_once(' ').unwrap_or((words, ""));
     let feature = if name.is_empty() { None } else { Some(name) };
-    let mut text = String::new(alloc);
-    match krates.get_node(&kid_of(alloc, word)?, feature) {
-        Some((number, node)) => {
-            write!(text, "{}=", number.index())?;
-            push_node(&mut text, node)?;
-        }
-        None => text.push_str("none")?,
+    let kid = kid_of(*text.allocator(), word)?;
+    match question {
+        "number" => push_number(text, krates.nid_for_kid(&kid)),
+        "node" => push_node(text, krates.node_for_kid(&kid)),
+        "found" => match krates.get_node(&kid, feature) {
+            Some((number, node)) => push_numbered(text, number, node),
+            None => push_node(text, None),
+        },
+        _ => Ok(push_features(text, krates.get_enabled_features(&kid), "set", "none")?),
     }
-    Ok(text)
 }
 
-/// The members.
-fn members(alloc: Global, krates: &Krates) -> Result<String, Fail> {
-    let mut text = String::new(alloc);
+/// Adds the members.
+fn push_members(text: &mut String, krates: &Krates) -> Result<(), Fail> {
     for node in krates.workspace_members() {
         text.push_str(" ")?;
-        push_node(&mut text, node)?;
+        push_node(text, Some(node))?;
     }
-    Ok(text)
+    Ok(())
 }
 
-/// Crates that were found, each with its number and version.
-fn told_of(alloc: Global, found: Matches<'_, Package>) -> Result<String, Fail> {
-    let mut text = String::new(alloc);
+/// Adds crates that were found, each with its number and version.
+fn push_matches(text: &mut String, found: Matches<'_, Package>) -> Result<(), Fail> {
     for one in found {
         let word = word_of(one.kid.repr());
         write!(
@@ -91,44 +67,41 @@ fn told_of(alloc: Global, found: Matches<'_, Package>) -> Result<String, Fail> {
             one.krate.version()
         )?;
     }
-    Ok(text)
+    Ok(())
 }
 
-/// The crates of a name whose version fits.
-fn search(alloc: Global, krates: &Krates, words: &str) -> Result<String, Fail> {
+/// Adds the crates of a name whose version fits.
+fn push_search(text: &mut String, krates: &Krates, words: &str) -> Result<(), Fail> {
     let (name, req) = words.split_once(' ').unwrap_or((words, "*"));
-    let req = VersionReq::parse(alloc, req)?;
-    told_of(alloc, krates.search_matches(name, &req))
+    let req = VersionReq::parse(*text.allocator(), req)?;
+    push_matches(text, krates.search_matches(name, &req))
 }
 
-/// The name of the crate of a number, asked for in both ways.
-fn krate(alloc: Global, krates: &Krates, number: &str) -> Result<String, Fail> {
+/// Adds the name of the crate of a number, asked for in both ways.
+fn push_krate(text: &mut String, krates: &Krates, number: &str) -> Result<(), Fail> {
     let number: usize = number.parse()?;
     if number >= krates.len() {
-        return Ok(String::from_str(alloc, "none")?);
+        return push_node(text, None);
     }
     let one = &krates[number];
     let same = &krates[NodeId::new(number as u32)];
-    Ok(format!(in alloc; "{} {}", one.name(), same.name())?)
+    write!(text, "{} {}", one.name(), same.name())?;
+    Ok(())
 }
 
 /// What a build of the line's document answers to the question of the line.
 struct LookedUp;
 
-impl Question for LookedUp {
-    fn told(alloc: Global, line: &str) -> Result<String, Fail> {
-        let krates = krates_of(alloc, line)?;
+impl Told for LookedUp {
+    fn push(text: &mut String, krates: &Krates, line: &str) -> Result<(), Fail> {
         let asked = section(line, "ask ").unwrap_or("");
         let (question, words) = asked.split_once(' ').unwrap_or((asked, ""));
         match question {
-            "number" => number(alloc, &krates, words),
-            "node" => node(alloc, &krates, words),
-            "features" => features(alloc, &krates, words),
-            "found" => found(alloc, &krates, words),
-            "name" => told_of(alloc, krates.krates_by_name(words)),
-            "search" => search(alloc, &krates, words),
-            "krate" => krate(alloc, &krates, words),
-            _ => members(alloc, &krates),
+            "number" | "node" | "features" | "found" => push_by_id(text, krates, question, words),
+            "name" => push_matches(text, krates.krates_by_name(words)),
+            "search" => push_search(text, krates, words),
+            "krate" => push_krate(text, krates, words),
+            _ => push_members(text, krates),
         }
     }
 }
@@ -143,22 +116,12 @@ const BY_ID: &[Row] = &[
     ("a b|b|c / ask node c", "none"),
 ];
 
-#[test]
-fn crates_by_id(rt: HostRuntime) -> Result<(), Fail> {
-    hold::<LookedUp>(rt.alloc(), BY_ID)
-}
-
 const FEATURES: &[Row] = &[
     ("a b|b;j= k= / ask features a", "set"),
     ("a b|b;j= k= / ask features b", "set"),
     ("a b&with=k,j|b;j= k= / ask features b", "set+j+k"),
     ("a b|b|c;j= / ask features c", "none"),
 ];
-
-#[test]
-fn enabled_features_of_a_crate(rt: HostRuntime) -> Result<(), Fail> {
-    hold::<LookedUp>(rt.alloc(), FEATURES)
-}
 
 const NODES: &[Row] = &[
     (
@@ -187,11 +150,6 @@ const NODES: &[Row] = &[
     ("a;j=|c;j= / ask found c", "none"),
 ];
 
-#[test]
-fn nodes_of_crates_and_features(rt: HostRuntime) -> Result<(), Fail> {
-    hold::<LookedUp>(rt.alloc(), NODES)
-}
-
 const MEMBERS: &[Row] = &[
     // in the order of the ids, and each once
     ("b a|c|a / members b a / ask members", " a b"),
@@ -202,11 +160,6 @@ const MEMBERS: &[Row] = &[
     // none is kept
     ("a|b / members a / root b / ask members", ""),
 ];
-
-#[test]
-fn kept_members(rt: HostRuntime) -> Result<(), Fail> {
-    hold::<LookedUp>(rt.alloc(), MEMBERS)
-}
 
 const BY_NAME: &[Row] = &[
     (
@@ -234,36 +187,30 @@ const BY_NAME: &[Row] = &[
     ("a|b / ask name b", ""),
 ];
 
-#[test]
-fn crates_by_name(rt: HostRuntime) -> Result<(), Fail> {
-    hold::<LookedUp>(rt.alloc(), BY_NAME)
-}
-
 const BY_NUMBER: &[Row] = &[
     ("a b|b;j= / ask krate 0", "a a"),
     ("a b|b;j= / ask krate 1", "b b"),
     ("a b&with=j|b;j= / ask krate 2", "none"),
 ];
 
-#[test]
-fn crates_by_number(rt: HostRuntime) -> Result<(), Fail> {
-    hold::<LookedUp>(rt.alloc(), BY_NUMBER)
+/// Adds a crate of which another version or source is kept too.
+fn push_duplicate(text: &mut String, krates: &Krates, krate: &Package) -> Result<(), Fail> {
+    let mut same = krates.krates_by_name(krate.name());
+    if same.next().is_some() && same.next().is_some() {
+        write!(text, " {} {}", krate.name(), krate.version())?;
+    }
+    Ok(())
 }
 
 /// The crates of which another version or source is kept too.
 struct Duplicates;
 
-impl Question for Duplicates {
-    fn told(alloc: Global, line: &str) -> Result<String, Fail> {
-        let krates = krates_of(alloc, line)?;
-        let mut text = String::new(alloc);
+impl Told for Duplicates {
+    fn push(text: &mut String, krates: &Krates, _line: &str) -> Result<(), Fail> {
         for krate in krates.krates() {
-            let mut same = krates.krates_by_name(krate.name());
-            if same.next().is_some() && same.next().is_some() {
-                write!(text, " {} {}", krate.name(), krate.version())?;
-            }
+            push_duplicate(text, krates, krate)?;
         }
-        Ok(text)
+        Ok(())
     }
 }
 
@@ -275,22 +222,15 @@ const DUPLICATES: &[Row] = &[
     ("a b|b", ""),
 ];
 
-#[test]
-fn duplicate_versions(rt: HostRuntime) -> Result<(), Fail> {
-    hold::<Duplicates>(rt.alloc(), DUPLICATES)
-}
-
 /// The versions of all crates of a name, divided by bars.
 struct Versions;
 
-impl Question for Versions {
-    fn told(alloc: Global, line: &str) -> Result<String, Fail> {
-        let krates = krates_of(alloc, line)?;
-        let mut text = String::new(alloc);
+impl Told for Versions {
+    fn push(text: &mut String, krates: &Krates, _line: &str) -> Result<(), Fail> {
         for found in krates.krates_by_name("d") {
             write!(text, "{}|", found.krate.version())?;
         }
-        Ok(text)
+        Ok(())
     }
 }
 
@@ -303,6 +243,14 @@ const VERSIONS: &[Row] = &[
 ];
 
 #[test]
-fn versions_of_a_crate(rt: HostRuntime) -> Result<(), Fail> {
-    hold::<Versions>(rt.alloc(), VERSIONS)
+fn crates_that_are_looked_up(rt: HostRuntime) -> Result<(), Fail> {
+    let alloc = rt.alloc();
+    hold::<OfGraph<LookedUp>>(alloc, BY_ID)?;
+    hold::<OfGraph<LookedUp>>(alloc, FEATURES)?;
+    hold::<OfGraph<LookedUp>>(alloc, NODES)?;
+    hold::<OfGraph<LookedUp>>(alloc, MEMBERS)?;
+    hold::<OfGraph<LookedUp>>(alloc, BY_NAME)?;
+    hold::<OfGraph<LookedUp>>(alloc, BY_NUMBER)?;
+    hold::<OfGraph<Duplicates>>(alloc, DUPLICATES)?;
+    hold::<OfGraph<Versions>>(alloc, VERSIONS)
 }

@@ -2,6 +2,7 @@
 
 ghost use Rattle.std.specs.Prelude.{⊤};
 
+use krates::cm::Metadata;
 use krates::{Builder, Edge, Error, FilterFn, FromEdge, FromPackage, Krates, Package};
 use krates_samples::documents::metadata;
 use krates_samples::table::{Question, Row, hold};
@@ -10,8 +11,8 @@ use std::test::Fail;
 
 /// The name of a package. There is no room for a package `z`.
 #[derive(Drop)]
-struct Named {
-    name: String,
+pub(crate) struct Named {
+    pub(crate) name: String,
 }
 
 impl FromPackage for Named {
@@ -41,6 +42,51 @@ impl FromEdge for IsDependency {
     }
 }
 
+/// Builds a document, and hands the names of the packages that aren't kept to a closure, which gathers them.
+fn built(
+    alloc: Global,
+    metadata: Metadata,
+    names: &mut String,
+) -> Result<Krates<Named, IsDependency>, Error> {
+    let mut filter = FilterFn(|pkg: Package| {
+        let _ = names.push_str(pkg.name.as_str());
+    });
+    Builder::new(alloc).build_with_metadata(metadata, &mut filter)
+}
+
+/// Adds the names of the kept crates.
+fn push_names(text: &mut String, krates: &Krates<Named, IsDependency>) -> Result<(), AllocError> {
+    for krate in krates.krates() {
+        text.push_str(krate.name.as_str())?;
+    }
+    Ok(())
+}
+
+/// Adds whether each edge is a dependency.
+fn push_edges(text: &mut String, krates: &Krates<Named, IsDependency>) -> Result<(), AllocError> {
+    for edge in krates.graph().raw_edges() {
+        text.push_str(if edge.weight.is { ">" } else { ":" })?;
+    }
+    Ok(())
+}
+
+/// Adds the kept crates and the edges, or the refusal; and then the names that the closure was handed.
+fn push_built(
+    text: &mut String,
+    built: &Result<Krates<Named, IsDependency>, Error>,
+    names: &str,
+) -> Result<(), Fail> {
+    match built {
+        Ok(krates) => {
+            push_names(text, krates)?;
+            push_edges(text, krates)?;
+        }
+        Err(error) => write!(text, "{error}")?,
+    }
+    write!(text, ", closure {names}")?;
+    Ok(())
+}
+
 /// The names of the kept crates, whether each edge is a dependency, or the refusal; and then the names that a closure was handed.
 struct Own;
 
@@ -48,26 +94,9 @@ impl Question for Own {
     fn told(alloc: Global, line: &str) -> Result<String, Fail> {
         let metadata = metadata(alloc, line)?;
         let mut names = String::new(alloc);
-        let mut filter = FilterFn(|pkg: Package| {
-            let _ = names.push_str(pkg.name.as_str());
-        });
-        let built: Result<Krates<Named, IsDependency>, Error> = Builder::new(
-            alloc,
-        ).build_with_metadata(metadata, &mut filter);
-        drop(filter);
+        let built = built(alloc, metadata, &mut names);
         let mut text = String::new(alloc);
-        match built {
-            Ok(krates) => {
-                for krate in krates.krates() {
-                    text.push_str(krate.name.as_str())?;
-                }
-                for edge in krates.graph().raw_edges() {
-                    text.push_str(if edge.weight.is { ">" } else { ":" })?;
-                }
-            }
-            Err(error) => write!(text, "{error}")?,
-        }
-        write!(text, ", closure {names}")?;
+        push_built(&mut text, &built, names.as_str())?;
         Ok(text)
     }
 }

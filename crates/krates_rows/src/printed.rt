@@ -1,35 +1,56 @@
 //! What is printed of nodes and of edges: an answer has each node and a comma, a bar, and each edge and a semicolon.
 
-ghost use Rattle.std.specs.Prelude.{Some, string_bytes, ⊤};
+ghost use Rattle.std.specs.Prelude.{Some, string_bytes};
 
+use crate::own_types::Named;
 use crate::setters::build_as;
-use krates::{Builder, Edge, FromPackage, Krates, NoneFilter, Package};
+use krates::graph::GraphEdge;
+use krates::{Builder, Edge, Krates, Node, NoneFilter};
 use krates_samples::documents::metadata;
 use krates_samples::table::{Question, Row, hold};
-use std::alloc::{AllocError, Global};
+use std::alloc::Global;
 use std::fmt;
 use std::test::Fail;
 
-/// A package that is printed by its name.
-#[derive(Drop)]
-struct Called {
-    name: String,
-}
-
-impl FromPackage for Called {
-    ghost made_from = { λ _ _. ⊤ };
-
-    fn from_package(_alloc: Global, pkg: Package) -> Result<Called, AllocError> {
-        Ok(Called { name: pkg.name })
-    }
-}
-
-impl fmt::Display for Called {
-    ghost output = { λ called. Some (string_bytes called.name) };
+/// A package is printed by its name.
+impl fmt::Display for Named {
+    ghost output = { λ named. Some (string_bytes named.name) };
 
     fn fmt<W: fmt::Write>(&self, f: &mut fmt::Formatter<W>) -> fmt::Result {
         f.write_str(self.name.as_str())
     }
+}
+
+/// What is built of the document of a line under its setting, with names in the place of packages.
+fn named(alloc: Global, line: &str) -> Result<Krates<Named, Edge>, Fail> {
+    let metadata = metadata(alloc, line)?;
+    let mut builder = Builder::new(alloc);
+    build_as(alloc, &mut builder, line)?;
+    Ok(builder.build_with_metadata(metadata, &mut NoneFilter)?)
+}
+
+/// Adds the nodes as they are printed.
+fn push_nodes(text: &mut String, nodes: &[Node<Named>]) -> Result<(), Fail> {
+    for node in nodes {
+        write!(text, "{node},")?;
+    }
+    Ok(())
+}
+
+/// Adds what is printed of a copy of an edge.
+fn push_copy(text: &mut String, edge: &Edge) -> Result<(), Fail> {
+    let copy = edge.clone()?;
+    write!(text, "{copy};")?;
+    Ok(())
+}
+
+/// Adds behind a bar the edges as their copies are printed.
+fn push_edges(text: &mut String, edges: &[GraphEdge<Edge>]) -> Result<(), Fail> {
+    text.push_str("|")?;
+    for edge in edges {
+        push_copy(text, &edge.weight)?;
+    }
+    Ok(())
 }
 
 /// The nodes of the graph, and copies of its edges.
@@ -37,19 +58,10 @@ struct Printed;
 
 impl Question for Printed {
     fn told(alloc: Global, line: &str) -> Result<String, Fail> {
-        let metadata = metadata(alloc, line)?;
-        let mut builder = Builder::new(alloc);
-        build_as(alloc, &mut builder, line)?;
-        let krates: Krates<Called, Edge> = builder.build_with_metadata(metadata, &mut NoneFilter)?;
+        let krates = named(alloc, line)?;
         let mut text = String::new(alloc);
-        for node in krates.graph().raw_nodes() {
-            write!(text, "{node},")?;
-        }
-        text.push_str("|")?;
-        for edge in krates.graph().raw_edges() {
-            let copy = edge.weight.clone()?;
-            write!(text, "{copy};")?;
-        }
+        push_nodes(&mut text, krates.graph().raw_nodes())?;
+        push_edges(&mut text, krates.graph().raw_edges())?;
         Ok(text)
     }
 }

@@ -120,6 +120,9 @@ impl Question for Named {
             "IdError" => fault_of(alloc, text)?,
             "cfg::CfgError" => expression_fault(alloc, text),
             "path::parent" => path::parent(text).unwrap_or("none"),
+            "cfg::builtin" => return triple_of(alloc, text),
+            "Target" => return Ok(format!(in alloc; "{}", Target::new(alloc, text)?)?),
+            "PkgSpec" => return Ok(PkgSpec::from_str(alloc, text)?.name),
             _ => "no such name",
         };
         Ok(String::from_str(alloc, told)?)
@@ -131,33 +134,24 @@ const TEXTS: &[Row] = &[
     ("IdError a/b", "stable"),
     ("cfg::CfgError cfg()", "syntax"),
     ("path::parent /w/a", "/w"),
+    (
+        "cfg::builtin x86_64-pc-windows-msvc",
+        "x86_64-pc-windows-msvc",
+    ),
+    ("Target x", "x"),
+    ("PkgSpec e@1.0.0", "e"),
 ];
 
 #[test]
-fn names_of_texts(rt: HostRuntime) -> Result<(), Fail> {
-    hold::<Named>(rt.alloc(), TEXTS)
-}
-
-#[test]
-fn names_of_values(rt: HostRuntime) -> Result<(), Fail> {
+fn names_of_values_and_texts(rt: HostRuntime) -> Result<(), Fail> {
     let alloc = rt.alloc();
     laws::narrowing();
     laws::reordering();
-    let numbers = NodeId::new(3)
-        .index()
-        .saturating_add(EdgeId::new(4).index());
-    let is_dev = DepKind::Dev.is(DependencyKind::Development);
-    let told = format!(in alloc;
-        "{} {} {} {} {} {} {} {}",
-        triple_of(alloc, "x86_64-pc-windows-msvc")?,
-        Target::new(alloc, "x")?,
-        PkgSpec::from_str(alloc, "e@1.0.0")?.name,
-        counted(alloc)?,
-        answered(alloc)?,
-        selected(alloc, "a b|b|c")?,
-        numbers,
-        is_dev
-    )?;
-    assert_eq!(rt; told.as_str(), "x86_64-pc-windows-msvc x e 2 1 2 7 true");
-    Ok(())
+    assert!(rt; DepKind::Dev.is(DependencyKind::Development));
+    assert_eq!(rt; NodeId::new(3).index(), 3);
+    assert_eq!(rt; EdgeId::new(4).index(), 4);
+    assert_eq!(rt; counted(alloc)?, 2);
+    assert_eq!(rt; answered(alloc)?, 1);
+    assert_eq!(rt; selected(alloc, "a b|b|c")?, 2);
+    hold::<Named>(alloc, TEXTS)
 }

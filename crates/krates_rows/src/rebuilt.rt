@@ -6,8 +6,9 @@
 ghost use Rattle.std.specs.Prelude.{IfOk, map};
 ghost use Rattle.krates_rows.specs.Rebuilt.{HoldsRebuilt};
 
+use crate::building::{push_krates, push_package};
 use krates::cm::Metadata;
-use krates::{Builder, DepKind, Error, Krates, NoneFilter, Package, Scope, laws};
+use krates::{Builder, DepKind, Error, Krates, NoneFilter, Scope, laws};
 use krates_drawing::laws as drawing;
 use krates_samples::documents::{kind_named, metadata, section};
 use krates_samples::table::{Question, Row, hold};
@@ -56,10 +57,12 @@ fn built_twice(
     Ok(Twice { krates, rebuilt })
 }
 
-/// Adds a crate.
-fn push_name(text: &mut String, pkg: &Package) -> Result<(), AllocError> {
-    text.push_str("+")?;
-    text.push_str(pkg.name.as_str())
+/// Adds the crates that members reach without a kind, and that others stand beside them.
+fn push_filtered(text: &mut String, kind: DepKind, both: &Twice) -> Result<(), AllocError> {
+    for pkg in &filtered_beside(kind, &both.krates, &both.rebuilt)? {
+        push_package(text, "+", pkg)?;
+    }
+    text.push_str(" beside ")
 }
 
 /// The crates that are reached without a kind, and those that are kept without it.
@@ -70,14 +73,8 @@ impl Question for Beside {
         let kind = DepKind::from(kind_named(section(line, "ask ").unwrap_or("")));
         let both = built_twice(alloc, kind, metadata(alloc, line)?, metadata(alloc, line)?)?;
         let mut text = String::new(alloc);
-        let found = filtered_beside(kind, &both.krates, &both.rebuilt)?;
-        for pkg in found.iter() {
-            push_name(&mut text, pkg)?;
-        }
-        text.push_str(" beside ")?;
-        for pkg in both.rebuilt.krates() {
-            push_name(&mut text, pkg)?;
-        }
+        push_filtered(&mut text, kind, &both)?;
+        push_krates(&mut text, &both.rebuilt)?;
         Ok(text)
     }
 }

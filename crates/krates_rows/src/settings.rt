@@ -18,11 +18,6 @@ const CRATES_ASKED_FOR: &[Row] = &[
     ),
 ];
 
-#[test]
-fn crates_that_are_asked_for(rt: HostRuntime) -> Result<(), Fail> {
-    hold::<Built>(rt.alloc(), CRATES_ASKED_FOR)
-}
-
 // A member that needs a crate for its build, which needs another for its own.
 const IGNORED_KINDS: &[Row] = &[
     (
@@ -38,11 +33,6 @@ const IGNORED_KINDS: &[Row] = &[
     ("a b&build|b c&build|c / ignore normal all", "+a+b+c"),
 ];
 
-#[test]
-fn ignored_kinds(rt: HostRuntime) -> Result<(), Fail> {
-    hold::<Built>(rt.alloc(), IGNORED_KINDS)
-}
-
 const WHOLE_WORKSPACE: &[Row] = &[
     ("a|c / members a c / root a", "+a-c"),
     ("a|c / members a c / root a / workspace on", "+a+c"),
@@ -51,11 +41,6 @@ const WHOLE_WORKSPACE: &[Row] = &[
         "+a-c",
     ),
 ];
-
-#[test]
-fn the_whole_workspace(rt: HostRuntime) -> Result<(), Fail> {
-    hold::<Built>(rt.alloc(), WHOLE_WORKSPACE)
-}
 
 const EXCLUDED: &[Row] = &[
     ("a b|b c|c / without b", "+a-b-c"),
@@ -102,25 +87,6 @@ const TARGETS: &[Row] = &[
     ),
 ];
 
-#[test]
-fn targets_of_dependencies(rt: HostRuntime) -> Result<(), Fail> {
-    hold::<Built>(rt.alloc(), TARGETS)
-}
-
-#[test]
-fn chained_setters(rt: HostRuntime) -> Result<(), Fail> {
-    let alloc = rt.alloc();
-    let specs = vec![in alloc; PkgSpec::from_str(alloc, "e")?]?;
-    let metadata = metadata(alloc, "a b&build|b|c|e / members a c e / root a")?;
-    let mut builder = Builder::new(alloc);
-    builder
-        .exclude(specs)?
-        .workspace(true)
-        .ignore_kind(DepKind::Build, Scope::All);
-    assert_eq!(rt; outcome(alloc, builder, metadata)?.as_str(), "+a+c-b-e");
-    Ok(())
-}
-
 const TWO_VERSIONS: &[Row] = &[
     // a crate whose node needs two versions of the one dependency that it declares; ids are ordered as texts
     (
@@ -130,6 +96,25 @@ const TWO_VERSIONS: &[Row] = &[
 ];
 
 #[test]
-fn two_versions_in_the_order_of_their_bytes(rt: HostRuntime) -> Result<(), Fail> {
-    hold::<Built>(rt.alloc(), TWO_VERSIONS)
+fn settings_and_the_order_of_versions(rt: HostRuntime) -> Result<(), Fail> {
+    let alloc = rt.alloc();
+    hold::<Built>(alloc, CRATES_ASKED_FOR)?;
+    hold::<Built>(alloc, IGNORED_KINDS)?;
+    hold::<Built>(alloc, WHOLE_WORKSPACE)?;
+    hold::<Built>(alloc, TARGETS)?;
+    hold::<Built>(alloc, TWO_VERSIONS)
+}
+
+#[test]
+fn chained_setters(rt: HostRuntime) -> Result<(), Fail> {
+    let alloc = rt.alloc();
+    let specs = vec![in alloc; PkgSpec::from_str(alloc, "e")?]?;
+    let mut builder = Builder::new(alloc);
+    builder
+        .exclude(specs)?
+        .workspace(true)
+        .ignore_kind(DepKind::Build, Scope::All);
+    let metadata = metadata(alloc, "a b&build|b|c|e / members a c e / root a")?;
+    assert_eq!(rt; outcome(alloc, builder, metadata)?.as_str(), "+a+c-b-e");
+    Ok(())
 }

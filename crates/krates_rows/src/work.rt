@@ -1,18 +1,22 @@
 //! How much work a build was: how many crates, features and references were looked at.
 
-use crate::setters::krates_of;
-use krates_samples::table::{Question, Row, hold};
-use std::alloc::Global;
+use crate::of_graph::{OfGraph, Told};
+use krates::Krates;
+use krates_samples::table::{Row, hold};
 use std::test::Fail;
 
 /// How many crates, features and references a build of the document counted.
 struct Worked;
 
-impl Question for Worked {
-    fn told(alloc: Global, line: &str) -> Result<String, Fail> {
-        let krates = krates_of(alloc, line)?;
+impl Told for Worked {
+    fn push(text: &mut String, krates: &Krates, _line: &str) -> Result<(), Fail> {
         let work = krates.work();
-        Ok(format!(in alloc; "{}, {}, {}", work.krates, work.features, work.references)?)
+        write!(
+            text,
+            "{}, {}, {}",
+            work.krates, work.features, work.references
+        )?;
+        Ok(())
     }
 }
 
@@ -40,5 +44,5 @@ const COUNTED: &[Row] = &[
 
 #[test]
 fn counted_work(rt: HostRuntime) -> Result<(), Fail> {
-    hold::<Worked>(rt.alloc(), COUNTED)
+    hold::<OfGraph<Worked>>(rt.alloc(), COUNTED)
 }

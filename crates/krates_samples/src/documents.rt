@@ -27,11 +27,19 @@
 
 use krates_cm::{DependencyKind, Metadata, PackageId, parse};
 use krates_ids::Kid;
-use std::alloc::Global;
+use std::alloc::{AllocError, Global};
 use std::test::Fail;
 
 /// The index of crates.io, as a source.
 const CRATES_IO: &str = "registry+https://github.com/rust-lang/crates.io-index";
+
+/// The options of a declared dependency that are texts, and the key of each.
+const OPTIONS: &[(&str, &str)] = &[
+    ("on=", "target"),
+    ("from=", "source"),
+    ("at=", "path"),
+    ("as=", "rename"),
+];
 
 /// The section of this name, without it.
 pub fn section<'a>(line: &'a str, name: &str) -> Option<&'a str> {
@@ -67,19 +75,25 @@ fn is_marked(word: &str, mark: char) -> bool {
     head.ends_with(mark)
 }
 
+/// Writes the id of a word.
+fn push_id(text: &mut String, word: &str) -> Result<(), AllocError> {
+    let (name, version) = named(word);
+    if let Some(id) = option_of(word, "id=") {
+        text.push_str(id)
+    } else if option_of(word, "crates.io").is_some() {
+        write!(text, "{CRATES_IO}#{name}@{version}")
+    } else if version == "0.1.0" {
+        write!(text, "path+file:///w/{name}#{version}")
+    } else {
+        write!(text, "path+file:///w/{name}#{name}@{version}")
+    }
+}
+
 /// The id of a word.
 pub fn id_of(alloc: Global, word: &str) -> Result<String, Fail> {
-    if let Some(id) = option_of(word, "id=") {
-        return Ok(String::from_str(alloc, id)?);
-    }
-    let (name, version) = named(word);
-    if option_of(word, "crates.io").is_some() {
-        return Ok(format!(in alloc; "{CRATES_IO}#{name}@{version}")?);
-    }
-    if version == "0.1.0" {
-        return Ok(format!(in alloc; "path+file:///w/{name}#{version}")?);
-    }
-    Ok(format!(in alloc; "path+file:///w/{name}#{name}@{version}")?)
+    let mut id = String::new(alloc);
+    push_id(&mut id, word)?;
+    Ok(id)
 }
 
 /// The word for an id of a crate at `/w`, or the id itself where it is another.
@@ -95,35 +109,45 @@ pub fn word_of(id: &str) -> &str {
     if own == name { version } else { id }
 }
 
-/// Divides an item of a JSON list or object from the one before it.
-fn divide(json: &mut String) -> Result<(), Fail> {
-    let text = json.as_str();
-    if !text.ends_with('[') && !text.ends_with('{') {
-        json.push(',')?;
+/// What divides the next item of a JSON list or object from the one before it, if there is one.
+fn comma(json: &str) -> &'static str {
+    if json.ends_with('[') || json.ends_with('{') {
+        ""
+    } else {
+        ","
     }
-    Ok(())
 }
 
-/// Writes the texts between these characters as a JSON list.
-fn push_texts(json: &mut String, texts: &str, between: char) -> Result<(), Fail> {
-    json.push('[')?;
-    for text in texts.split(between) {
+/// Writes a text as an item of a JSON list.
+fn push_text(json: &mut String, text: &str) -> Result<(), AllocError> {
+    let comma = comma(json.as_str());
+    write!(json, "{comma}{text:?}")
+}
+
+/// Writes the texts between commas as items of a JSON list.
+fn push_texts(json: &mut String, texts: &str) -> Result<(), AllocError> {
+    for text in texts.split(',') {
         if !text.is_empty() {
-            divide(json)?;
-            write!(json, "{text:?}")?;
+            push_text(json, text)?;
         }
     }
-    json.push(']')?;
     Ok(())
 }
 
 /// Writes a member of a JSON object, where there is a text for it.
-fn push_member(json: &mut String, key: &str, text: Option<&str>) -> Result<(), Fail> {
-    if let Some(text) = text {
-        divide(json)?;
-        write!(json, "{key:?}:{text:?}")?;
-    }
-    Ok(())
+fn push_member(json: &mut String, key: &str, text: Option<&str>) -> Result<(), AllocError> {
+    let Some(text) = text else {
+        return Ok(());
+    };
+    let comma = comma(json.as_str());
+    write!(json, "{comma}{key:?}:{text:?}")
+}
+
+/// Writes the id of a word as a JSON text.
+fn push_quoted_id(json: &mut String, word: &str) -> Result<(), AllocError> {
+    json.push('"')?;
+    push_id(json, word)?;
+    json.push('"')
 }
 
 /// The kind of dependency of this name: `dev`, `build`, and any other for a normal one.
@@ -161,85 +185,108 @@ fn first_kind(word: &str) -> &'static str {
     "null"
 }
 
-/// Writes a declared dependency.
-fn push_declaration(json: &mut String, word: &str) -> Result<(), Fail> {
+/// Writes what every declared dependency has, up to the list of its features.
+fn push_declared(json: &mut String, word: &str) -> Result<(), AllocError> {
+    let comma = comma(json.as_str());
     let (name, _) = named(word);
     let kind = first_kind(word);
     let (optional, defaults) = (is_marked(word, '?'), is_marked(word, '!'));
-    divide(json)?;
     write!(
         json,
-        "{{\"name\":{name:?},\"req\":\"*\",\"kind\":{kind},\"optional\":{optional},\"uses_default_features\":{defaults},\"features\":"
-    )?;
-    push_texts(json, option_of(word, "with=").unwrap_or(""), ',')?;
-    push_member(json, "target", option_of(word, "on="))?;
-    push_member(json, "source", option_of(word, "from="))?;
-    push_member(json, "path", option_of(word, "at="))?;
-    push_member(json, "rename", option_of(word, "as="))?;
-    json.push('}')?;
+        "{comma}{{\"name\":{name:?},\"req\":\"*\",\"kind\":{kind},\"optional\":{optional},\"uses_default_features\":{defaults},\"features\":"
+    )
+}
+
+/// Writes what a declared dependency has only where its word says so.
+fn push_options(json: &mut String, word: &str) -> Result<(), AllocError> {
+    for &(option, key) in OPTIONS {
+        push_member(json, key, option_of(word, option))?;
+    }
     Ok(())
+}
+
+/// Writes a declared dependency.
+fn push_declaration(json: &mut String, word: &str) -> Result<(), AllocError> {
+    push_declared(json, word)?;
+    json.push('[')?;
+    push_texts(json, option_of(word, "with=").unwrap_or(""))?;
+    json.push(']')?;
+    push_options(json, word)?;
+    json.push('}')
 }
 
 /// Writes one of the `dep_kinds` of a dependency of a node.
-fn push_kind(json: &mut String, word: &str, kind: DependencyKind) -> Result<(), Fail> {
-    divide(json)?;
-    json.push_str("{\"kind\":")?;
-    json.push_str(json_of(kind))?;
+fn push_kind(json: &mut String, word: &str, kind: DependencyKind) -> Result<(), AllocError> {
+    let comma = comma(json.as_str());
+    let kind = json_of(kind);
+    write!(json, "{comma}{{\"kind\":{kind}")?;
     push_member(json, "target", option_of(word, "on="))?;
-    json.push('}')?;
-    Ok(())
+    json.push('}')
 }
 
 /// Writes each kind that a word lists.
-fn push_kinds(json: &mut String, word: &str) -> Result<(), Fail> {
-    json.push('[')?;
+fn push_listed_kinds(json: &mut String, word: &str) -> Result<(), AllocError> {
     for option in word.split('&') {
         if is_kind(option) {
             push_kind(json, word, kind_named(option))?;
         }
     }
+    Ok(())
+}
+
+/// Writes the kinds of a dependency of a node: those that its word lists, or the normal one.
+fn push_kinds(json: &mut String, word: &str) -> Result<(), AllocError> {
+    push_listed_kinds(json, word)?;
     if json.as_str().ends_with('[') {
         push_kind(json, word, DependencyKind::Normal)?;
     }
-    json.push(']')?;
     Ok(())
 }
 
 /// Writes a dependency of a node.
-fn push_dependency(json: &mut String, alloc: Global, word: &str) -> Result<(), Fail> {
+fn push_dependency(json: &mut String, word: &str) -> Result<(), AllocError> {
+    let comma = comma(json.as_str());
     let (name, _) = named(word);
     let name = option_of(word, "as=").unwrap_or(name);
-    let id = id_of(alloc, word)?;
-    divide(json)?;
-    write!(json, "{{\"name\":{name:?},\"pkg\":\"{id}\",\"dep_kinds\":")?;
+    write!(json, "{comma}{{\"name\":{name:?},\"pkg\":")?;
+    push_quoted_id(json, word)?;
+    json.push_str(",\"dep_kinds\":[")?;
     push_kinds(json, word)?;
-    json.push('}')?;
-    Ok(())
+    json.push_str("]}")
+}
+
+/// The name of a feature of a manifest, and its references.
+fn feature_of(word: &str) -> (&str, &str) {
+    word.split_once('=').unwrap_or((word, ""))
+}
+
+/// Writes a feature of a manifest.
+fn push_manifest_feature(json: &mut String, word: &str) -> Result<(), AllocError> {
+    let comma = comma(json.as_str());
+    let (name, references) = feature_of(word);
+    write!(json, "{comma}{name:?}:[")?;
+    push_texts(json, references)?;
+    json.push(']')
 }
 
 /// Writes the features of a manifest.
-fn push_manifest_features(json: &mut String, features: &str) -> Result<(), Fail> {
+fn push_manifest_features(json: &mut String, features: &str) -> Result<(), AllocError> {
     for word in features.split_whitespace() {
-        let (name, references) = word.split_once('=').unwrap_or((word, ""));
-        divide(json)?;
-        write!(json, "{name:?}:")?;
-        push_texts(json, references, ',')?;
+        push_manifest_feature(json, word)?;
     }
     Ok(())
 }
 
 /// Writes the names of features, of a manifest or of a node.
-fn push_feature_names(json: &mut String, features: &str) -> Result<(), Fail> {
+fn push_feature_names(json: &mut String, features: &str) -> Result<(), AllocError> {
     for word in features.split_whitespace() {
-        let (name, _) = word.split_once('=').unwrap_or((word, ""));
-        divide(json)?;
-        write!(json, "{name:?}")?;
+        push_text(json, feature_of(word).0)?;
     }
     Ok(())
 }
 
 /// Writes the declared dependencies of these words.
-fn push_declarations(json: &mut String, words: &str) -> Result<(), Fail> {
+fn push_declarations(json: &mut String, words: &str) -> Result<(), AllocError> {
     for word in words.split_whitespace() {
         push_declaration(json, word)?;
     }
@@ -247,9 +294,9 @@ fn push_declarations(json: &mut String, words: &str) -> Result<(), Fail> {
 }
 
 /// Writes the dependencies of a node of these words.
-fn push_dependencies(json: &mut String, alloc: Global, words: &str) -> Result<(), Fail> {
+fn push_dependencies(json: &mut String, words: &str) -> Result<(), AllocError> {
     for word in words.split_whitespace() {
-        push_dependency(json, alloc, word)?;
+        push_dependency(json, word)?;
     }
     Ok(())
 }
@@ -262,121 +309,144 @@ fn parts_of(item: &str) -> (&str, &str, &str) {
     (word, needs, features)
 }
 
-/// Writes a package.
-fn push_package(json: &mut String, alloc: Global, item: &str) -> Result<(), Fail> {
-    let (word, needs, features) = parts_of(item);
+/// Writes what the word of a package itself says, up to its library.
+fn push_named(json: &mut String, word: &str) -> Result<(), AllocError> {
+    let comma = comma(json.as_str());
     let (name, version) = named(word);
-    let id = id_of(alloc, word)?;
-    divide(json)?;
     write!(
         json,
-        "{{\"name\":{name:?},\"version\":\"{version}\",\"id\":\"{id}\",\"manifest_path\":\"/w/{name}/Cargo.toml\",\"dependencies\":["
+        "{comma}{{\"name\":{name:?},\"version\":\"{version}\",\"id\":"
     )?;
+    push_quoted_id(json, word)?;
+    write!(json, ",\"manifest_path\":\"/w/{name}/Cargo.toml\"")
+}
+
+/// Writes the library of a package, where its word has one.
+fn push_library(json: &mut String, word: &str) -> Result<(), AllocError> {
+    let Some(library) = option_of(word, "lib=") else {
+        return Ok(());
+    };
+    write!(
+        json,
+        "{{\"name\":{library:?},\"kind\":[\"lib\"],\"src_path\":\"lib.rs\"}}"
+    )
+}
+
+/// The source of the package of a word.
+fn source_of(word: &str) -> Option<&'static str> {
+    option_of(word, "crates.io")?;
+    Some(CRATES_IO)
+}
+
+/// Writes a package.
+fn push_package(json: &mut String, item: &str) -> Result<(), AllocError> {
+    let (word, needs, features) = parts_of(item);
+    push_named(json, word)?;
+    json.push_str(",\"dependencies\":[")?;
     push_declarations(json, needs)?;
     json.push_str("],\"features\":{")?;
     push_manifest_features(json, features)?;
     json.push_str("},\"targets\":[")?;
-    if let Some(library) = option_of(word, "lib=") {
-        write!(
-            json,
-            "{{\"name\":{library:?},\"kind\":[\"lib\"],\"src_path\":\"lib.rs\"}}"
-        )?;
-    }
+    push_library(json, word)?;
     json.push(']')?;
-    let source = if option_of(word, "crates.io").is_some() {
-        Some(CRATES_IO)
-    } else {
-        None
-    };
-    push_member(json, "source", source)?;
-    json.push('}')?;
-    Ok(())
+    push_member(json, "source", source_of(word))?;
+    json.push('}')
 }
 
 /// Writes a node. Its `dependencies` have a text that isn't an id, since nothing looks at them.
-fn push_node(json: &mut String, alloc: Global, item: &str) -> Result<(), Fail> {
+fn push_node(json: &mut String, item: &str) -> Result<(), AllocError> {
+    let comma = comma(json.as_str());
     let (word, needs, features) = parts_of(item);
-    let id = id_of(alloc, word)?;
-    divide(json)?;
-    write!(
-        json,
-        "{{\"id\":\"{id}\",\"dependencies\":[\"x\"],\"features\":["
-    )?;
+    write!(json, "{comma}{{\"id\":")?;
+    push_quoted_id(json, word)?;
+    json.push_str(",\"dependencies\":[\"x\"],\"features\":[")?;
     push_feature_names(json, features)?;
     json.push_str("],\"deps\":[")?;
-    push_dependencies(json, alloc, needs)?;
-    json.push_str("]}")?;
-    Ok(())
+    push_dependencies(json, needs)?;
+    json.push_str("]}")
 }
 
 /// Writes the packages between bars.
-fn push_packages(json: &mut String, alloc: Global, packages: &str) -> Result<(), Fail> {
+fn push_packages(json: &mut String, packages: &str) -> Result<(), AllocError> {
     for item in packages.split('|') {
         if !item.trim().is_empty() {
-            push_package(json, alloc, item)?;
+            push_package(json, item)?;
         }
     }
     Ok(())
 }
 
 /// Writes the nodes between bars.
-fn push_nodes(json: &mut String, alloc: Global, nodes: &str) -> Result<(), Fail> {
+fn push_nodes(json: &mut String, nodes: &str) -> Result<(), AllocError> {
     for item in nodes.split('|') {
         if !item.trim().is_empty() {
-            push_node(json, alloc, item)?;
+            push_node(json, item)?;
         }
     }
     Ok(())
 }
 
-/// Writes the ids of words.
-fn push_ids(json: &mut String, alloc: Global, words: &str) -> Result<(), Fail> {
+/// Writes a member of the workspace.
+fn push_workspace_member(json: &mut String, word: &str) -> Result<(), AllocError> {
+    let comma = comma(json.as_str());
+    json.push_str(comma)?;
+    push_quoted_id(json, word)
+}
+
+/// Writes the members of the workspace.
+fn push_workspace_members(json: &mut String, words: &str) -> Result<(), AllocError> {
     for word in words.split_whitespace() {
-        divide(json)?;
-        let id = id_of(alloc, word)?;
-        write!(json, "\"{id}\"")?;
+        push_workspace_member(json, word)?;
     }
     Ok(())
 }
 
 /// Writes the id of the root, or null where there is none.
-fn push_root(json: &mut String, alloc: Global, line: &str) -> Result<(), Fail> {
-    let Some(word) = section(line, "root ") else {
-        json.push_str("null")?;
-        return Ok(());
-    };
-    let id = id_of(alloc, word)?;
-    write!(json, "\"{id}\"")?;
-    Ok(())
-}
-
-/// Writes the resolved graph.
-fn push_graph(json: &mut String, alloc: Global, line: &str, packages: &str) -> Result<(), Fail> {
-    if section(line, "null graph").is_some() {
-        json.push_str(",\"resolve\":null")?;
-    } else if section(line, "no graph").is_none() {
-        json.push_str(",\"resolve\":{\"nodes\":[")?;
-        push_nodes(json, alloc, section(line, "nodes").unwrap_or(packages))?;
-        json.push_str("],\"root\":")?;
-        push_root(json, alloc, line)?;
-        json.push('}')?;
+fn push_root(json: &mut String, line: &str) -> Result<(), AllocError> {
+    match section(line, "root ") {
+        Some(word) => push_quoted_id(json, word),
+        None => json.push_str("null"),
     }
-    Ok(())
 }
 
-/// The text of the document of a line. Its default members aren't ids, since nothing looks at them.
-pub fn document(alloc: Global, line: &str) -> Result<String, Fail> {
+/// Writes the resolved graph of these nodes.
+fn push_resolved(json: &mut String, line: &str, nodes: &str) -> Result<(), AllocError> {
+    json.push_str(",\"resolve\":{\"nodes\":[")?;
+    push_nodes(json, nodes)?;
+    json.push_str("],\"root\":")?;
+    push_root(json, line)?;
+    json.push('}')
+}
+
+/// Writes the resolved graph, or null in its place, or neither.
+fn push_graph(json: &mut String, line: &str, packages: &str) -> Result<(), AllocError> {
+    if section(line, "null graph").is_some() {
+        json.push_str(",\"resolve\":null")
+    } else if section(line, "no graph").is_some() {
+        Ok(())
+    } else {
+        push_resolved(json, line, section(line, "nodes").unwrap_or(packages))
+    }
+}
+
+/// Writes the document of a line. Its default members aren't ids, since nothing looks at them.
+fn push_document(json: &mut String, line: &str) -> Result<(), AllocError> {
     let (packages, _) = line.split_once(" / ").unwrap_or((line, ""));
-    let mut json = String::new(alloc);
     json.push_str(
         "{\"workspace_root\":\"/w\",\"target_directory\":\"/t\",\"workspace_default_members\":[\"x\"],\"packages\":[",
     )?;
-    push_packages(&mut json, alloc, packages)?;
+    push_packages(json, packages)?;
     json.push_str("],\"workspace_members\":[")?;
-    push_ids(&mut json, alloc, section(line, "members").unwrap_or("a"))?;
+    push_workspace_members(json, section(line, "members").unwrap_or("a"))?;
     json.push(']')?;
-    push_graph(&mut json, alloc, line, packages)?;
-    json.push('}')?;
+    push_graph(json, line, packages)?;
+    json.push('}')
+}
+
+/// The text of the document of a line.
+pub fn document(alloc: Global, line: &str) -> Result<String, Fail> {
+    let mut json = String::new(alloc);
+    push_document(&mut json, line)?;
     Ok(json.as_str().replace(alloc, '~', " ")?)
 }
 

@@ -15,10 +15,21 @@ pub trait Question {
 /// Compares the answer to each line with the one that is known; fails at the first row where they differ, and names it.
 pub fn hold<Q: Question>(alloc: Global, rows: &[Row]) -> Result<(), Fail> {
     for &(line, answer) in rows {
-        let told = Q::told(alloc, line)?;
-        if told.as_str() != answer {
-            return Err(Fail::new(format_args!("{line}: {told} in place of {answer}")));
-        }
+        hold_row::<Q>(alloc, line, answer)?;
+    }
+    Ok(())
+}
+
+/// Compares the answer to one line with the one that is known.
+fn hold_row<Q: Question>(alloc: Global, line: &str, answer: &str) -> Result<(), Fail> {
+    let told = Q::told(alloc, line)?;
+    compare(line, told.as_str(), answer)
+}
+
+/// Fails where what is told of a line isn't the answer that is known, and names the line.
+pub fn compare(line: &str, told: &str, answer: &str) -> Result<(), Fail> {
+    if told != answer {
+        return Err(Fail::new(format_args!("{line}: {told} in place of {answer}")));
     }
     Ok(())
 }

@@ -1,6 +1,7 @@
 //! The agenda: each number is taken once, in the order in which they were put.
 
 use krates_graph::agenda::{Agenda, Taken};
+use std::alloc::{AllocError, Global};
 use std::test::Fail;
 
 /// The number that was taken, if one was.
@@ -8,9 +9,9 @@ fn number(taken: Option<Taken>) -> Option<usize> {
     taken.map(|taken| taken.number())
 }
 
-#[test]
-fn numbers_are_taken_once_in_the_order_of_their_puts(rt: HostRuntime) -> Result<(), Fail> {
-    let mut agenda = Agenda::new(rt.alloc(), 4)?;
+/// What an agenda of four numbers tells of puts and takes.
+fn told(alloc: Global) -> Result<String, AllocError> {
+    let mut agenda = Agenda::new(alloc, 4)?;
     let first_puts = [agenda.put(3), agenda.put(1), agenda.put(3)];
     let taken_at_first = agenda.taken();
     let first = number(agenda.take());
@@ -20,7 +21,7 @@ fn numbers_are_taken_once_in_the_order_of_their_puts(rt: HostRuntime) -> Result<
         number(agenda.take()),
         number(agenda.take()),
     ];
-    let told = format!(in rt.alloc();
+    format!(in alloc;
         "{:?}",
         (
             first_puts,
@@ -31,9 +32,13 @@ fn numbers_are_taken_once_in_the_order_of_their_puts(rt: HostRuntime) -> Result<
             agenda.taken(),
             agenda.numbers()
         )
-    )?;
+    )
+}
+
+#[test]
+fn numbers_are_taken_once_in_the_order_of_their_puts(rt: HostRuntime) -> Result<(), Fail> {
     assert_eq!(rt;
-        told.as_str(),
+        told(rt.alloc())?.as_str(),
         "([true, true, false], 0, Some(3), [false, true], [Some(1), Some(0), None], 3, [3, 1, 0])"
     );
     Ok(())

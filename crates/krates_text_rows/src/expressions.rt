@@ -158,7 +158,8 @@ fn refuses_what_is_outside(rt: HostRuntime) -> Result<(), Fail> {
 
 /// The beginning of an expression in which this many forms are opened.
 pub(crate) fn opened(alloc: Global, times: usize) -> Result<String, AllocError> {
-    format!(in alloc; "cfg({}", "not(".repeat(alloc, times)?)
+    let forms = "not(".repeat(alloc, times)?;
+    format!(in alloc; "cfg({forms}")
 }
 
 /// An expression of this many nested forms, with a text in the innermost.

@@ -3,15 +3,18 @@
 use krates_graph::graph::{Direction, EdgeId, Graph, GraphError, NodeId};
 use krates_samples::table;
 use krates_samples::table::{Question, Row};
-use std::alloc::Global;
+use std::alloc::{AllocError, Global};
 use std::test::Fail;
 
 /// Two edges that join the same nodes, one back, one from a node to itself and one from a third node; of each the ends
 /// and the weight.
 const JOINED: &[(u32, u32, u8)] = &[(0, 1, 10), (1, 0, 11), (0, 1, 12), (1, 1, 13), (2, 1, 14)];
 
-/// Of a node and a direction the numbers of the edges, and each edge with its ends and its weight.
-const EDGES: &[(u32, Direction, &str)] = &[
+/// A node, a direction, and what is told of its edges there: their numbers, and each edge with its ends and its weight.
+type EdgesRow = (u32, Direction, &'static str);
+
+/// What is told of the joined nodes.
+const EDGES: &[EdgesRow] = &[
     (
         0,
         Direction::Outgoing,
@@ -31,7 +34,7 @@ const EDGES: &[(u32, Direction, &str)] = &[
 ];
 
 /// The same of the node that all but one edge enter.
-const ENTERING: &[(u32, Direction, &str)] = &[(
+const ENTERING: &[EdgesRow] = &[(
     1,
     Direction::Incoming,
     "[EdgeId(0), EdgeId(2), EdgeId(3), EdgeId(4)] (0, 0, 1, 10) (2, 0, 1, 12) (3, 1, 1, 13) (4, 2, 1, 14)",
@@ -49,7 +52,7 @@ const BETWEEN_FEATURES: &[(u32, u32, u8)] = &[
 ];
 
 /// What `EDGES` says, of the edges that leave the one crate and of those that enter the other.
-const EDGES_BETWEEN_FEATURES: &[(u32, Direction, &str)] = &[
+const EDGES_BETWEEN_FEATURES: &[EdgesRow] = &[
     (
         0,
         Direction::Outgoing,
@@ -62,16 +65,38 @@ const EDGES_BETWEEN_FEATURES: &[(u32, Direction, &str)] = &[
     ),
 ];
 
-/// A graph of these nodes, with room for this many edges.
-fn nodes_of(alloc: Global, nodes: &[char], edges: usize) -> Result<Graph<char, u8>, Fail> {
-    let nodes_at_most = u32::try_from(nodes.len())?;
-    let edges_at_most = u32::try_from(edges)?;
-    let mut graph = Graph::with_limits(alloc, nodes_at_most, edges_at_most);
-    graph.reserve(nodes.len(), edges)?;
+/// An empty graph with room for this many nodes and edges, and for no more.
+fn empty_graph(alloc: Global, nodes: usize, edges: usize) -> Result<Graph<char, u8>, Fail> {
+    let mut graph = Graph::with_limits(alloc, u32::try_from(nodes)?, u32::try_from(edges)?);
+    graph.reserve(nodes, edges)?;
+    Ok(graph)
+}
+
+/// Adds these nodes.
+fn add_nodes(graph: &mut Graph<char, u8>, nodes: &[char]) -> Result<(), GraphError<char>> {
     for &node in nodes {
         graph.add_node(node)?;
     }
-    Ok(graph)
+    Ok(())
+}
+
+/// Adds an edge, with its ends and its weight.
+fn add_edge(graph: &mut Graph<char, u8>, edge: (u32, u32, u8)) -> Result<(), Fail> {
+    let (source, target, weight) = edge;
+    let stands = graph.node_count();
+    if source as usize >= stands || target as usize >= stands {
+        return Err(Fail::from("no such node"));
+    }
+    graph.add_edge(NodeId::new(source), NodeId::new(target), weight)?;
+    Ok(())
+}
+
+/// Adds these edges.
+fn add_edges(graph: &mut Graph<char, u8>, edges: &[(u32, u32, u8)]) -> Result<(), Fail> {
+    for &edge in edges {
+        add_edge(graph, edge)?;
+    }
+    Ok(())
 }
 
 /// A graph of these nodes and edges, with room for no more.
@@ -80,15 +105,25 @@ fn graph_of(
     nodes: &[char],
     edges: &[(u32, u32, u8)],
 ) -> Result<Graph<char, u8>, Fail> {
-    let mut graph = nodes_of(alloc, nodes, edges.len())?;
-    for &(source, target, weight) in edges {
-        let stands = graph.node_count();
-        if source as usize >= stands || target as usize >= stands {
-            return Err(Fail::from("no such node"));
-        }
-        graph.add_edge(NodeId::new(source), NodeId::new(target), weight)?;
-    }
+    let mut graph = empty_graph(alloc, nodes.len(), edges.len())?;
+    add_nodes(&mut graph, nodes)?;
+    add_edges(&mut graph, edges)?;
     Ok(graph)
+}
+
+/// Writes each edge of a node in a direction, with its ends and its weight.
+fn push_edges(
+    text: &mut String,
+    graph: &Graph<char, u8>,
+    node: NodeId,
+    direction: Direction,
+) -> Result<(), AllocError> {
+    for edge in graph.edges_directed(node, direction) {
+        let (source, target) = (edge.source.index(), edge.target.index());
+        let shown = (edge.id.index(), source, target, *edge.weight);
+        write!(text, " {shown:?}")?;
+    }
+    Ok(())
 }
 
 /// Of a node and a direction the numbers of the edges, and each edge with its ends and its weight.
@@ -97,56 +132,58 @@ fn told(
     graph: &Graph<char, u8>,
     node: NodeId,
     direction: Direction,
-) -> Result<String, Fail> {
+) -> Result<String, AllocError> {
     let mut text = format!(in alloc; "{:?}", graph.edge_numbers(node, direction))?;
-    for edge in graph.edges_directed(node, direction) {
-        let (source, target) = (edge.source.index(), edge.target.index());
-        write!(
-            text,
-            " {:?}",
-            (edge.id.index(), source, target, *edge.weight)
-        )?;
-    }
+    push_edges(&mut text, graph, node, direction)?;
     Ok(text)
 }
 
-/// Compares the edges of each node and direction with what is expected.
-fn hold(
-    alloc: Global,
-    graph: &Graph<char, u8>,
-    rows: &[(u32, Direction, &str)],
-) -> Result<(), Fail> {
-    for &(node, direction, expected) in rows {
-        let told = told(alloc, graph, NodeId::new(node), direction)?;
-        if told.as_str() != expected {
-            return Err(Fail::new(format_args!(
-                "{node}, {direction:?}: {told} in place of {expected}"
-            )));
-        }
+/// Compares what is told of a node and a direction with what is expected.
+fn compare(row: EdgesRow, told: &str) -> Result<(), Fail> {
+    let (node, direction, expected) = row;
+    if told != expected {
+        return Err(Fail::new(format_args!("{node}, {direction:?}: {told} in place of {expected}")));
     }
     Ok(())
+}
+
+/// Compares the edges of one node and direction with what is expected.
+fn hold_row(alloc: Global, graph: &Graph<char, u8>, row: EdgesRow) -> Result<(), Fail> {
+    let (node, direction, _) = row;
+    let told = told(alloc, graph, NodeId::new(node), direction)?;
+    compare(row, told.as_str())
+}
+
+/// Compares the edges of each node and direction with what is expected.
+fn hold(alloc: Global, graph: &Graph<char, u8>, rows: &[EdgesRow]) -> Result<(), Fail> {
+    for &row in rows {
+        hold_row(alloc, graph, row)?;
+    }
+    Ok(())
+}
+
+/// What comes of two nodes and two edges in a graph of these limits.
+fn told_of_two(alloc: Global, graph: &mut Graph<char, char>) -> Result<String, Fail> {
+    let node = graph.add_node('x')?;
+    let no_node = graph.add_node('y');
+    let edge = graph.add_edge(node, node, 'e')?;
+    let no_edge = graph.add_edge(node, node, 'f');
+    let told = (
+        node.index(),
+        no_node,
+        edge.index(),
+        no_edge,
+        graph.node_count(),
+        graph.edge_count(),
+    );
+    Ok(format!(in alloc; "{told:?}")?)
 }
 
 #[test]
 fn limits_refuse_one_more(rt: HostRuntime) -> Result<(), Fail> {
     let mut graph = Graph::with_limits(rt.alloc(), 1, 1);
-    let node = graph.add_node('x')?;
-    let no_node = graph.add_node('y');
-    let edge = graph.add_edge(node, node, 'e')?;
-    let no_edge = graph.add_edge(node, node, 'f');
-    let told = format!(in rt.alloc();
-        "{:?}",
-        (
-            node.index(),
-            no_node,
-            edge.index(),
-            no_edge,
-            graph.node_count(),
-            graph.edge_count()
-        )
-    )?;
     assert_eq!(rt;
-        told.as_str(),
+        told_of_two(rt.alloc(), &mut graph)?.as_str(),
         "(0, Err(Full('y')), 0, Err(Full('f')), 1, 1)"
     );
     Ok(())
@@ -232,32 +269,39 @@ fn a_refused_growth_changes_nothing(rt: HostRuntime) {
     }
 }
 
+/// The nodes of a graph, the number of its edges, and the ends of two of them.
+fn lists_and_ends(alloc: Global, graph: &Graph<char, u8>) -> Result<String, AllocError> {
+    let ends = (
+        graph.raw_nodes(),
+        graph.raw_edges().len(),
+        graph.edge_endpoints(EdgeId::new(4)),
+        graph.edge_endpoints(EdgeId::new(5)),
+    );
+    format!(in alloc; "{ends:?}")
+}
+
 #[test]
 fn lists_and_ends_are_read(rt: HostRuntime) -> Result<(), Fail> {
     let mut graph = graph_of(rt.alloc(), &['a', 'b', 'c'], JOINED)?;
     graph.reserve(9, 9)?;
-    let told = format!(in rt.alloc();
-        "{:?}",
-        (
-            graph.raw_nodes(),
-            graph.raw_edges().len(),
-            graph.edge_endpoints(EdgeId::new(4)),
-            graph.edge_endpoints(EdgeId::new(5))
-        )
-    )?;
     assert_eq!(rt;
-        told.as_str(),
+        lists_and_ends(rt.alloc(), &graph)?.as_str(),
         "(['a', 'b', 'c'], 5, Some((NodeId(2), NodeId(1))), None)"
     );
     Ok(())
 }
 
+/// Adds two nodes, and reads the second by its number.
+fn second_of_two(graph: &mut Graph<char, u8>) -> Result<char, GraphError<char>> {
+    graph.add_node('a')?;
+    let second = graph.add_node('b')?;
+    Ok(graph[second])
+}
+
 #[test]
 fn a_node_is_indexed(rt: HostRuntime) -> Result<(), Fail> {
     let mut graph = Graph::<char, u8>::with_limits(rt.alloc(), 2, 0);
-    graph.add_node('a')?;
-    let second = graph.add_node('b')?;
-    assert_eq!(rt; graph[second], 'b');
+    assert_eq!(rt; second_of_two(&mut graph)?, 'b');
     Ok(())
 }
 

@@ -12,8 +12,11 @@ const WINDOWS_WITH_MUSL: &str = "cfg(all(windows, target_env = \"musl\"))";
 /// A target by its triple, and the features that are enabled there.
 type Place = (&'static str, &'static [&'static str]);
 
-/// Target texts, and whether each passes where there are no targets.
-const WITHOUT_TARGETS: &[(Option<&str>, bool)] = &[
+/// A target text, and whether it passes.
+type PassingRow<'a> = (Option<&'a str>, bool);
+
+/// What passes where there are no targets.
+const WITHOUT_TARGETS: &[PassingRow] = &[
     (Some("cfg(unix)"), true),
     (Some("x86_64-unknown-linux-gnu"), true),
     (None, true),
@@ -30,8 +33,8 @@ const TWO_TARGETS: &[Place] = &[
     ("x86_64-unknown-linux-musl", &[]),
 ];
 
-/// Target texts, and whether each passes at these two.
-const AT_TWO_TARGETS: &[(Option<&str>, bool)] = &[
+/// What passes at these two.
+const AT_TWO_TARGETS: &[PassingRow] = &[
     (Some(WINDOWS_WITH_MUSL), false),
     (Some("cfg(windows)"), true),
     (Some("cfg(unix"), false),
@@ -43,8 +46,8 @@ const AT_TWO_TARGETS: &[(Option<&str>, bool)] = &[
     (None, true),
 ];
 
-/// Target texts, and whether each passes at a target of which nothing is known.
-const AT_AN_UNKNOWN_TARGET: &[(Option<&str>, bool)] = &[
+/// What passes at a target of which nothing is known.
+const AT_AN_UNKNOWN_TARGET: &[PassingRow] = &[
     (Some("x"), true),
     (Some("y"), false),
     (Some("cfg(unix)"), false),
@@ -55,7 +58,7 @@ const AT_AN_UNKNOWN_TARGET: &[(Option<&str>, bool)] = &[
 ];
 
 /// The same with a feature.
-const WITH_A_FEATURE: &[(Option<&str>, bool)] = &[
+const WITH_A_FEATURE: &[PassingRow] = &[
     (Some("x"), true),
     (Some("cfg(target_feature = \"atomics\")"), true),
     (Some("cfg(target_feature = \"simd128\")"), false),
@@ -63,21 +66,28 @@ const WITH_A_FEATURE: &[(Option<&str>, bool)] = &[
 ];
 
 /// The same where its text begins like an expression and isn't one.
-const AT_A_BAD_EXPRESSION: &[(Option<&str>, bool)] = &[
+const AT_A_BAD_EXPRESSION: &[PassingRow] = &[
     (Some("cfg(unix"), true),
     (Some("cfg(unix)"), false),
     (Some("cfg(windows"), false),
 ];
 
+/// A target, with its features.
+fn target(alloc: Global, place: Place) -> Result<(Target, Vec<String>), Fail> {
+    let (triple, features) = place;
+    Ok((Target::new(alloc, triple)?, texts(alloc, features)?))
+}
+
 /// These targets, with their features.
 fn targets(alloc: Global, places: &[Place]) -> Result<Vec<(Target, Vec<String>)>, Fail> {
     let mut targets = Vec::new(alloc);
-    for &(triple, features) in places {
-        targets.push((Target::new(alloc, triple)?, texts(alloc, features)?))?;
+    for &place in places {
+        targets.push(target(alloc, place)?)?;
     }
     Ok(targets)
 }
 
+/// Copies of these texts.
 fn texts(alloc: Global, rows: &[&str]) -> Result<Vec<String>, AllocError> {
     let mut texts = Vec::new(alloc);
     for &row in rows {
@@ -86,15 +96,39 @@ fn texts(alloc: Global, rows: &[&str]) -> Result<Vec<String>, AllocError> {
     Ok(texts)
 }
 
-/// Compares whether each text passes at these targets with what is expected.
-fn hold(alloc: Global, places: &[Place], rows: &[(Option<&str>, bool)]) -> Result<(), Fail> {
-    let targets = targets(alloc, places)?;
-    for &(text, expected) in rows {
-        if passes(alloc, text, targets.as_slice())? != expected {
-            return Err(Fail::new(format_args!("{text:?} at {places:?}: not {expected}")));
-        }
+/// What the rows are asked at: places, and the targets there.
+#[derive(Clone, Copy)]
+struct At<'a> {
+    places: &'a [Place],
+    targets: &'a [(Target, Vec<String>)],
+}
+
+/// Compares whether a text passes at these targets with what is expected.
+fn hold_row(alloc: Global, at: At<'_>, row: PassingRow<'_>) -> Result<(), Fail> {
+    let (text, expected) = row;
+    if passes(alloc, text, at.targets)? != expected {
+        let places = at.places;
+        return Err(Fail::new(format_args!("{text:?} at {places:?}: not {expected}")));
     }
     Ok(())
+}
+
+/// Compares whether each text passes at these targets with what is expected.
+fn hold_rows(alloc: Global, at: At<'_>, rows: &[PassingRow<'_>]) -> Result<(), Fail> {
+    for &row in rows {
+        hold_row(alloc, at, row)?;
+    }
+    Ok(())
+}
+
+/// Compares whether each text passes at these places with what is expected.
+fn hold(alloc: Global, places: &[Place], rows: &[PassingRow<'_>]) -> Result<(), Fail> {
+    let targets = targets(alloc, places)?;
+    let at = At {
+        places,
+        targets: targets.as_slice(),
+    };
+    hold_rows(alloc, at, rows)
 }
 
 #[test]

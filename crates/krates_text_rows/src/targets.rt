@@ -1,8 +1,8 @@
 //! Targets: the table row by row, and how a target is printed.
 
 use krates_samples::table::{Question, Row, hold};
-use krates_text::target::{Target, builtin};
-use std::alloc::Global;
+use krates_text::target::{Target, TargetInfo, builtin};
+use std::alloc::{AllocError, Global};
 use std::test::Fail;
 
 /// A triple and the description of its target, with each of its fields.
@@ -45,13 +45,24 @@ const PRINTED: &[Row] = &[
     ("", ""),
 ];
 
+/// A description with each of its fields.
+fn shown(alloc: Global, info: &TargetInfo) -> Result<String, AllocError> {
+    format!(in alloc; "{info:?}")
+}
+
+/// A copy of a description with each of its fields.
+fn shown_copy(alloc: Global, info: &TargetInfo) -> Result<String, AllocError> {
+    let copy = info.clone()?;
+    shown(alloc, &copy)
+}
+
 /// The description of a target.
 struct Described;
 
 impl Question for Described {
     fn told(alloc: Global, triple: &str) -> Result<String, Fail> {
         match builtin(alloc, triple)? {
-            Some(info) => Ok(format!(in alloc; "{info:?}")?),
+            Some(info) => Ok(shown(alloc, &info)?),
             None => Ok(String::from_str(alloc, "no row")?),
         }
     }
@@ -63,7 +74,7 @@ struct Copied;
 impl Question for Copied {
     fn told(alloc: Global, triple: &str) -> Result<String, Fail> {
         match builtin(alloc, triple)? {
-            Some(info) => Ok(format!(in alloc; "{:?}", info.clone()?)?),
+            Some(info) => Ok(shown_copy(alloc, &info)?),
             None => Ok(String::from_str(alloc, "no row")?),
         }
     }
@@ -79,13 +90,19 @@ fn copies_each_row(rt: HostRuntime) -> Result<(), Fail> {
     hold::<Copied>(rt.alloc(), DESCRIBED)
 }
 
-/// What a copy of the target prints.
+/// What a copy of a target prints.
+fn printed_copy(alloc: Global, target: &Target) -> Result<String, AllocError> {
+    let copy = target.clone()?;
+    copy.to_string(alloc)
+}
+
+/// What a copy of the target of a text prints.
 struct Printed;
 
 impl Question for Printed {
     fn told(alloc: Global, text: &str) -> Result<String, Fail> {
         let target = Target::new(alloc, text)?;
-        Ok(target.clone()?.to_string(alloc)?)
+        Ok(printed_copy(alloc, &target)?)
     }
 }
 

@@ -2,7 +2,7 @@ use Rattle.krates_cm.specs.Document.{metadata_view}
 use Rattle.krates_document.specs.Ids.{ids_view}
 use Rattle.krates_drawing.proofs.DocumentSheets.{none_doubled_in, selected_in}
 use Rattle.krates_questions.specs.DocumentModel.{as_resolved}
-use Rattle.krates_drawn_rows.proofs.limits.sheet.Goals as goal
+use Rattle.krates_derive_rows.proofs.limits.sheet.Goals as goal
 
 pub sheet_of-requires : goal.sheet_of-requires
 sheet_of-requires c = record { distinct = none_doubled_in (metadata_view c.args.metadata.now) (ids_view c.in_ok-ids.ids) (as_resolved c.in_ok-document.document) c.in_ok-ids.ensures.admitted c.in_ok-document.ensures }

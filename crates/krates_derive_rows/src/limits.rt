@@ -37,20 +37,25 @@ fn sheet(alloc: Global, metadata: &Metadata) -> Result<Sheet, Fail>
     Ok(sheet_of(alloc, &document, &setting, selection)?)
 }
 
+/// How many nodes and edges are drawn of a document within these limits, or why nothing is.
+fn drawn_within(alloc: Global, metadata: &Metadata, limits: Limits) -> Result<String, Fail> {
+    let sheet = sheet(alloc, metadata)?;
+    match plan_within(alloc, &sheet, limits) {
+        Ok(plan) => {
+            let (nodes, edges) = (plan.spots.len(), plan.arrows.len());
+            Ok(format!(in alloc; "{nodes} nodes, {edges} edges")?)
+        }
+        Err(error) => Ok(format!(in alloc; "{error}")?),
+    }
+}
+
 /// How many nodes and edges are drawn of a document within the limits of its line.
 struct Drawn;
 
 impl Question for Drawn {
     fn told(alloc: Global, line: &str) -> Result<String, Fail> {
-        let metadata = metadata(alloc, line)?;
-        let sheet = sheet(alloc, &metadata)?;
-        match plan_within(alloc, &sheet, limits_of(line)?) {
-            Ok(plan) => {
-                let (nodes, edges) = (plan.spots.len(), plan.arrows.len());
-                Ok(format!(in alloc; "{nodes} nodes, {edges} edges")?)
-            }
-            Err(error) => Ok(format!(in alloc; "{error}")?),
-        }
+        let limits = limits_of(line)?;
+        drawn_within(alloc, &metadata(alloc, line)?, limits)
     }
 }
 

@@ -1,10 +1,18 @@
 //! Reports that people ask for, as a caller writes them.
 
-use krates::{Builder, DepKind, KrateDetails, Krates, NodeId, NoneFilter};
+use krates::{
+    Builder, DepKind, DirectDependent, KrateDetails, Krates, NodeId, NoneFilter, Package,
+};
 use krates_samples::documents::{metadata, section};
 use krates_samples::table::{Question, Row, hold};
 use std::alloc::Global;
 use std::test::Fail;
+
+/// What people ask of a graph.
+trait Report {
+    /// Adds what the graph tells of the line.
+    fn push(text: &mut String, krates: &Krates, line: &str) -> Result<(), Fail>;
+}
 
 /// The graph of what is kept of a document without any setting.
 fn krates_of(alloc: Global, line: &str) -> Result<Krates, Fail> {
@@ -12,12 +20,36 @@ fn krates_of(alloc: Global, line: &str) -> Result<Krates, Fail> {
     Ok(Builder::new(alloc).build_with_metadata(metadata, &mut NoneFilter)?)
 }
 
-/// Adds the crates that depend on a crate, each with the edge by which it does.
+/// What the graph of a line tells.
+struct Reported<R> {
+    report: R,
+}
+
+impl<R: Report> Question for Reported<R> {
+    fn told(alloc: Global, line: &str) -> Result<String, Fail> {
+        let krates = krates_of(alloc, line)?;
+        let mut text = String::new(alloc);
+        R::push(&mut text, &krates, line)?;
+        Ok(text)
+    }
+}
+
+/// Adds a crate that depends on another, with the edge by which it does.
+fn push_dependent(
+    text: &mut String,
+    krates: &Krates,
+    found: &DirectDependent<'_, Package>,
+) -> Result<(), Fail> {
+    if let Some(edge) = krates.graph().raw_edges().get(found.edge_id.index()) {
+        write!(text, "{}{}, ", found.krate.name(), edge.weight)?;
+    }
+    Ok(())
+}
+
+/// Adds the crates that depend on a crate.
 fn push_dependents(text: &mut String, krates: &Krates, node: NodeId) -> Result<(), Fail> {
     for found in &krates.direct_dependents(node)? {
-        if let Some(edge) = krates.graph().raw_edges().get(found.edge_id.index()) {
-            write!(text, "{}{}, ", found.krate.name(), edge.weight)?;
-        }
+        push_dependent(text, krates, found)?;
     }
     Ok(())
 }
@@ -25,14 +57,12 @@ fn push_dependents(text: &mut String, krates: &Krates, node: NodeId) -> Result<(
 /// Who depends on the crates of the name in the section `of`.
 struct Dependents;
 
-impl Question for Dependents {
-    fn told(alloc: Global, line: &str) -> Result<String, Fail> {
-        let krates = krates_of(alloc, line)?;
-        let mut text = String::new(alloc);
+impl Report for Dependents {
+    fn push(text: &mut String, krates: &Krates, line: &str) -> Result<(), Fail> {
         for asked in krates.krates_by_name(section(line, "of ").unwrap_or("")) {
-            push_dependents(&mut text, &krates, asked.node_id)?;
+            push_dependents(text, krates, asked.node_id)?;
         }
-        Ok(text)
+        Ok(())
     }
 }
 
@@ -58,23 +88,27 @@ const DEPENDENTS: &[Row] = &[
 
 #[test]
 fn dependents_by_edge(rt: HostRuntime) -> Result<(), Fail> {
-    hold::<Dependents>(rt.alloc(), DEPENDENTS)
+    hold::<Reported<Dependents>>(rt.alloc(), DEPENDENTS)
+}
+
+/// Adds a crate of which another version or source is kept too.
+fn push_duplicate(text: &mut String, krates: &Krates, krate: &Package) -> Result<(), Fail> {
+    let mut same = krates.krates_by_name(krate.name());
+    if same.next().is_some() && same.next().is_some() {
+        write!(text, "{} {}, ", krate.name(), krate.version())?;
+    }
+    Ok(())
 }
 
 /// The crates of which another version or source is kept too.
 struct Duplicates;
 
-impl Question for Duplicates {
-    fn told(alloc: Global, line: &str) -> Result<String, Fail> {
-        let krates = krates_of(alloc, line)?;
-        let mut text = String::new(alloc);
+impl Report for Duplicates {
+    fn push(text: &mut String, krates: &Krates, _: &str) -> Result<(), Fail> {
         for krate in krates.krates() {
-            let mut same = krates.krates_by_name(krate.name());
-            if same.next().is_some() && same.next().is_some() {
-                write!(text, "{} {}, ", krate.name(), krate.version())?;
-            }
+            push_duplicate(text, krates, krate)?;
         }
-        Ok(text)
+        Ok(())
     }
 }
 
@@ -95,25 +129,23 @@ const DUPLICATES: &[Row] = &[
 
 #[test]
 fn duplicate_versions(rt: HostRuntime) -> Result<(), Fail> {
-    hold::<Duplicates>(rt.alloc(), DUPLICATES)
+    hold::<Reported<Duplicates>>(rt.alloc(), DUPLICATES)
 }
 
 /// The crates that only dev dependencies bring.
 struct ForTests;
 
-impl Question for ForTests {
-    fn told(alloc: Global, line: &str) -> Result<String, Fail> {
-        let krates = krates_of(alloc, line)?;
-        let others = krates.krates_filtered(DepKind::Dev)?;
-        let mut left = others.as_slice();
-        let mut text = String::new(alloc);
+impl Report for ForTests {
+    fn push(text: &mut String, krates: &Krates, _: &str) -> Result<(), Fail> {
+        let needed = krates.krates_filtered(DepKind::Dev)?;
+        let mut left = needed.as_slice();
         for krate in krates.krates() {
             match left.split_first() {
                 Some((first, rest)) if first.id == krate.id => left = rest,
                 _ => write!(text, "{}, ", krate.name())?,
             }
         }
-        Ok(text)
+        Ok(())
     }
 }
 
@@ -132,5 +164,5 @@ const FOR_TESTS: &[Row] = &[
 
 #[test]
 fn only_for_tests(rt: HostRuntime) -> Result<(), Fail> {
-    hold::<ForTests>(rt.alloc(), FOR_TESTS)
+    hold::<Reported<ForTests>>(rt.alloc(), FOR_TESTS)
 }
