@@ -138,10 +138,10 @@ struct ForTests;
 impl Report for ForTests {
     fn push(text: &mut String, krates: &Krates, _: &str) -> Result<(), Fail> {
         let needed = krates.krates_filtered(DepKind::Dev)?;
-        let mut left = needed.as_slice();
+        let mut place = 0;
         for krate in krates.krates() {
-            match left.split_first() {
-                Some((first, rest)) if first.id == krate.id => left = rest,
+            match needed.get(place) {
+                Some(next) if next.id == krate.id => place += 1,
                 _ => write!(text, "{}, ", krate.name())?,
             }
         }
