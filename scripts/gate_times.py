@@ -1,11 +1,12 @@
 #!/usr/bin/env python3
 """Runs the gate and prints the processor time that it took, by crate and phase.
 
-    scripts/gate_times.py
+    scripts/gate_times.py [CRATE..]
 
 Run it at the top of a clean clone, with nothing beside it on the machine. First comes what the gate itself prints, then the
-table, and at the end once more the gate's last line, which says how many passed; the status is the gate's. The table is in
-processor seconds, user and system, and its rows are the crates:
+table, and at the end once more the gate's last line, which says how many passed; the status is the gate's. With names it is
+`rt ci` of these crates and those below them. What passes is kept, so the times of a whole gate can be taken in parts, those of
+a crate that doesn't change once. The table is in processor seconds, user and system, and its rows are the crates:
 
     proof   the crate is proved, and the statements are written that the crates above it use
     edits   its must-fail edits are tried
@@ -110,7 +111,7 @@ def main():
     began, seen, last = time.time(), {}, ""
     how = {"stdin": subprocess.DEVNULL, "stdout": subprocess.PIPE, "stderr": subprocess.STDOUT}
     lanes = {"RT_JOBS": str(len(os.sched_getaffinity(0)))}
-    gate = subprocess.Popen(["rt", "ci"], text=True, errors="replace", env={**lanes, **os.environ}, **how)
+    gate = subprocess.Popen(["rt", "ci", *sys.argv[1:]], text=True, errors="replace", env={**lanes, **os.environ}, **how)
     watcher = threading.Thread(target=watch, args=(gate, seen), daemon=True)
     watcher.start()
     for line in gate.stdout:

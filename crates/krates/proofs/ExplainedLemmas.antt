@@ -46,9 +46,9 @@ use Rattle.krates_queries.specs.Drawn.{IsSheetFor}
 use Rattle.krates_queries.specs.Explained.{AreExplained, AreStepsFor, HasStepOf, IsExplainedBy, node_says}
 use Rattle.krates_queries.specs.Kept.{AreNodes, IsEnabledIn}
 use Rattle.krates.specs.KeptGraph.{IsGraphOf, named_fact}
-use Rattle.krates.specs.Krate.{krate_ids}
+use Rattle.krates_packages.specs.Krate.{krate_ids}
 use Rattle.krates_queries.specs.Node.{crate_features, crate_ids}
-use Rattle.krates.specs.declared.division.Division.{Division}
+use Rattle.krates_packages.specs.declared.division.Division.{Division}
 use Rattle.krates_queries.specs.declared.node.Node.{Node}
 use Rattle.krates_queries.specs.declared.node.Node.TheVariants as nodes_are
 

@@ -22,7 +22,7 @@ use Rattle.krates_resolve.specs.SelectionOrder.{feature_cmp}
 use Rattle.krates_rules.specs.Facts.{Id, Fact}
 use Rattle.krates_rules.specs.Facts as facts
 use Rattle.krates_rules.specs.Resolved.{id_of, StandsAt}
-use Rattle.krates.specs.Division.{IsAmong, sheet_ids}
+use Rattle.krates_packages.specs.Division.{IsAmong, sheet_ids}
 use Rattle.krates.specs.Enabled.{numbered}
 use Rattle.krates_queries.specs.Drawn.{node_spot}
 use Rattle.krates_queries.specs.Kept.{AreFeatures, IsEnabledIn, feature_order}

@@ -16,7 +16,7 @@ use Rattle.krates_queries.specs.Kept.{AreCrateNumbers}
 use Rattle.krates.specs.Members.{AreNumbersOf, IsNumberOf}
 use Rattle.krates_queries.specs.Node.{crate_ids}
 use Rattle.krates_queries.specs.declared.node.Node.{Node}
-use Rattle.krates.proofs.DivisionLemmas.{ReadsOnce}
+use Rattle.krates_packages.proofs.DivisionLemmas.{ReadsOnce}
 use Rattle.krates_queries.proofs.OrderedIds.{stands_within}
 use lib.Dec.{eqb}
 

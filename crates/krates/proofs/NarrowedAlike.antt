@@ -15,11 +15,12 @@ use Rattle.krates_rules.specs.Narrowing.{IsNarrowing}
 use Rattle.krates_rules.specs.Reordering.{ReordersPackage, ReordersNode, ReordersResolve, Reorders, IsOrderFree}
 use Rattle.krates_rules.specs.Resolved.{ReadsAs, resolved}
 use Rattle.krates_rules.specs.Setting.{SettingModel}
-use Rattle.krates.specs.Build.{IsDerived, IsResolvable, KeepsCrate, AreThosePackages}
+use Rattle.krates.specs.Build.{IsDerived, IsResolvable, KeepsCrate}
+use Rattle.krates_packages.specs.Listed.{AreThosePackages}
 use Rattle.krates.specs.BuildLaws.{IsBuildNamedPart, IsBuildNarrowing, KeepsPackages, ListsSame}
 use Rattle.krates.proofs.BuildsAlike.{sheet_for_there, refused_there}
 use Rattle.krates.proofs.CorrectedAlike.{OneCorrection, seen_alike}
-use Rattle.krates.proofs.DivisionLemmas.{ReadsOnce}
+use Rattle.krates_packages.proofs.DivisionLemmas.{ReadsOnce}
 use Rattle.krates.proofs.ListedAlike.{same_there}
 use Rattle.krates.proofs.NarrowedBuilds.{part, packages_part, sheets_part, refusals}
 use Rattle.krates.proofs.SeenLemmas.{resolvable_seen}

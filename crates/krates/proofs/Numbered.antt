@@ -18,7 +18,7 @@ use Rattle.krates_queries.specs.Drawn.{IsDrawing, IsNumbered, IsSheetFor, node_s
 use Rattle.krates_queries.specs.Kept.{AreNodes}
 use Rattle.krates_queries.specs.Node.{crate_ids}
 use Rattle.krates.specs.KeptGraph.{IsGraphOf}
-use Rattle.krates.specs.declared.division.Division.{Division}
+use Rattle.krates_packages.specs.declared.division.Division.{Division}
 use Rattle.krates_cm.specs.Document.{metadata_view}
 use Rattle.krates_cm.specs.declared.metadata.Metadata.{Metadata}
 use Rattle.krates_cm.specs.declared.package.Package.{Package}

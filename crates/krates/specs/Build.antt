@@ -3,15 +3,15 @@
 -- Which crates are kept is said by derivations alone: by what the document and the setting answer the rules.
 use Rattle.std.specs.Prelude.{ℕ, ◌≡◌, ◌⊎◌, ◌↔◌, ◌≤◌, ◌<◌, ◌^◌, List, Option, map, Contains, length, ⊤}
 use Rattle.std.specs.List.{AllZip, FoldsTo}
-use Rattle.std.specs.List.Sorted.{IsStrictlyIncreasing, IsStrictlySortedBy}
-use Rattle.krates_cm.specs.Document.{MetadataModel, Text, id_view, metadata_view, text_view}
+use Rattle.std.specs.List.Sorted.{IsStrictlyIncreasing}
+use Rattle.krates_cm.specs.Document.{MetadataModel, Text, metadata_view, text_view}
 use Rattle.krates_cm.specs.declared.metadata.Metadata.{Metadata}
 use Rattle.krates_cm.specs.declared.package.Package.{Package}
 use Rattle.krates_drawing.specs.Agreement.{DependsOn, OneEach}
 use Rattle.krates_drawing.specs.Drawing.{lines, spots}
 use Rattle.krates_drawing.specs.Sheet.{Sheet}
 use Rattle.krates_drawing.specs.declared.edge.Edge.{Edge}
-use Rattle.krates_ids.specs.Identity.{Identity, Reads, id_cmp}
+use Rattle.krates_ids.specs.Identity.{Identity}
 use Rattle.krates_ids.specs.declared.error.Error.{Error}
 use Rattle.krates_ids.specs.declared.error.Error.TheVariants as errors
 use Rattle.krates_rules.specs.Admission.{IsAdmitted, IdsModel}
@@ -19,13 +19,14 @@ use Rattle.krates_rules.specs.AdmissionRefusals.{AdmissionRefusal}
 use Rattle.krates_rules.specs.Derivation.{Derivable}
 use Rattle.krates_rules.specs.Facts.{Id, Cause, Fact, Crate, Feature, Lost}
 use Rattle.krates_rules.specs.Questions.{questions}
-use Rattle.krates_rules.specs.Resolved.{HasGraphWith, IsMember, ReadsAs, Resolved, StandsAt, id_of, resolved}
+use Rattle.krates_rules.specs.Resolved.{HasGraphWith, IsMember, Resolved, StandsAt, id_of, resolved}
 use Rattle.krates_rules.specs.Rules.{Questions}
 use Rattle.krates_rules.specs.SelectionRefusals.{SelectionRefusal}
 use Rattle.krates_rules.specs.Setting.{SettingModel}
 use Rattle.krates_resolve.specs.Selection.{IsSelectionOf}
 use Rattle.krates_resolve.specs.declared.selection.Selection.{Selection}
-use Rattle.krates.specs.Indexed.{Answering, Sees}
+use Rattle.krates_packages.specs.Indexed.{Answering, Sees}
+use Rattle.krates_packages.specs.Listed.{AreThosePackages}
 use Rattle.krates_queries.specs.DirectDependents.{IsDependent}
 use Rattle.krates_queries.specs.Explained.{IsExplainedBy, steps_of}
 use Rattle.krates_queries.specs.Drawn.{HasSheet, IsDrawn, IsNumbered, node_spot}
@@ -59,19 +60,6 @@ abbrev pub IsLost : MetadataModel → SettingModel → Cause → Type 0
 IsLost m s c = IsDerived m s (Lost c)
 
 -- ---- the packages
-
--- The package's id is one of those.
-pub record HasIdAmong (P : Id → Type 0) (pkg : Package) : Type 0 where
-  pub id : Id
-  pub reads : ReadsAs (id_view pkg.id) id
-  pub holds : P id
-
--- Of all packages exactly those whose id is one of those are listed, each once, in the order of their ids; the ids are
--- these, place by place.
-pub record AreThosePackages (all : List Package) (P : Id → Type 0) (ids : List Identity) (listed : List Package) : Type 0 where
-  pub read : AllZip (λ pkg i. Reads (id_view pkg.id) i) listed ids
-  pub ascending : IsStrictlySortedBy id_cmp ids
-  pub exactly : (pkg : Package) → Contains listed pkg ↔ (Contains all pkg × HasIdAmong P pkg)
 
 -- The filter was called with each package of the document that isn't kept, once, in the order of their ids, and with no
 -- other: the states at entry and exit are the two ends of that run.

@@ -18,10 +18,11 @@ use Rattle.krates_rules.specs.Narrowing.{IsNarrower}
 use Rattle.krates_rules.specs.Reordering.{Reorders, ReordersPackage, ResolveAlike}
 use Rattle.krates_rules.specs.Resolved.{id_of}
 use Rattle.krates_rules.specs.Setting.{SettingModel}
-use Rattle.krates.specs.Build.{IsResolvable, IsDerived, KeepsCrate, DropsCrate, IsLost, AreThosePackages, IsRefusedSeeing}
+use Rattle.krates.specs.Build.{IsResolvable, IsDerived, KeepsCrate, DropsCrate, IsLost, IsRefusedSeeing}
+use Rattle.krates_packages.specs.Listed.{AreThosePackages}
 use Rattle.krates_document.specs.CorrectedDocument.{IsCorrectedDocument}
 use Rattle.krates_queries.specs.Drawn.{CanBeNumbered, IsSheetFor}
-use Rattle.krates.specs.Indexed.{HasNames}
+use Rattle.krates_packages.specs.Indexed.{HasNames}
 use Rattle.krates_queries.specs.Kept.{AreOrdered}
 
 -- the document that is resolved: with an answer of an index, the one whose packages it corrects; otherwise the given one

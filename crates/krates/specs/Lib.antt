@@ -3,11 +3,8 @@ pub mod BuildLaws
 pub mod Builder
 pub mod BuilderModel
 pub mod Cargo
-pub mod Division
 pub mod Enabled
-pub mod Indexed
 pub mod KeptGraph
-pub mod Krate
 pub mod MadeNodes
 pub mod Members
 pub mod Sketch

@@ -6,13 +6,13 @@ ghost use Rattle.krates_cargo.specs.Running.{IsSomeAnswer};
 ghost use Rattle.krates_cm.specs.declared.metadata.Metadata.{Metadata};
 ghost use Rattle.krates.specs.Build.{IsBuilt, IsResolvable};
 ghost use Rattle.krates.specs.Cargo.{CargoBuildRefusal, IsWritten};
-ghost use Rattle.krates.specs.Indexed.{IsAskable, Sees};
+ghost use Rattle.krates_packages.specs.Indexed.{IsAskable, Sees};
 
 use crate::builder::Builder;
-use crate::filter::OnFilter;
 use krates_cargo::MetadataCommand;
 use krates_drawing::store::FromEdge;
 use krates_ids::{BuildIndexCache, Error};
+use krates_packages::filter::OnFilter;
 use krates_queries::from_package::FromPackage;
 use krates_queries::kept::Krates;
 use std::process::Processes;

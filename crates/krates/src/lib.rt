@@ -14,20 +14,14 @@
 mod builder;
 mod cargo;
 pub mod derive;
-mod division;
 mod drawn;
 mod enabled;
 mod explained;
-mod filter;
-mod indexed;
-mod krate;
 pub mod laws;
 mod members;
 mod nodes;
 
 pub use builder::Builder;
-pub use filter::{FilterFn, NoneFilter, OnFilter};
-pub use indexed::IndexSource;
 pub use krates_cargo::{Cmd, LockOptions};
 pub use krates_cm::{Metadata, Package, PackageId};
 pub use krates_drawing::edge::Edge;
@@ -35,6 +29,7 @@ pub use krates_drawing::store::FromEdge;
 pub use krates_graph::graph::{EdgeId, NodeId};
 pub use krates_graph::{agenda, graph};
 pub use krates_ids::{Error, IdError, Kid, Lost, PkgSpec};
+pub use krates_packages::{FilterFn, IndexSource, NoneFilter, OnFilter};
 pub use krates_queries::from_package::{FromPackage, KrateDetails};
 pub use krates_queries::kept::{Krates, KratesIter};
 pub use krates_queries::node::{EnabledFeatures, Node};

@@ -7,11 +7,11 @@ ghost use Rattle.std.specs.Prelude.{◌≡◌, ◌++◌, [], IfErr, IfOk, OnOk, 
 ghost use Rattle.std.specs.List.{AllZip, zip};
 ghost use Rattle.krates.specs.MadeNodes.{CountRefusal, IsMade, crate_node, feature_in, feature_node, mapping_in, nodes_in};
 
-use crate::krate::Krate;
 use krates_cm::Package;
 use krates_drawing::nodes::Spot;
 use krates_graph::graph::{Graph, GraphError, NodeId};
 use krates_ids::Error;
+use krates_packages::krate::Krate;
 use krates_queries::from_package::FromPackage;
 use krates_queries::node::{EnabledFeatures, Node};
 use std::alloc::{AllocError, Global};

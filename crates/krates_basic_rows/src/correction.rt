@@ -1,11 +1,12 @@
 //! Features of packages, corrected by what an index answers.
 
-use crate::packages::package;
+use crate::packages::{package, read};
 use krates_cm::Package;
 use krates_ids::{
     BuildIndexCache, CachingIndex, IndexAnswer, IndexKrate, IndexKrateVersion, PackageNames,
 };
 use krates_samples::table::{Question, Row, hold};
+use semver::Version;
 use std::alloc::{AllocError, Global};
 use std::collections::{BTreeMap, BTreeSet};
 use std::test::Fail;
@@ -36,11 +37,9 @@ const CORRECTED: &[Row] = &[
 
 /// What an index knows of a crate of this one version.
 fn known(alloc: Global, version: &str) -> Result<IndexKrate, Fail> {
-    let published = package(alloc, version, "null", r#"{"default":["x"],"std":[]}"#)?;
-    let indexed = IndexKrateVersion {
-        version: published.version,
-        features: published.features,
-    };
+    let version = Version::parse(alloc, version)?;
+    let features = read(alloc, r#"{"default":["x"],"std":[]}"#)?;
+    let indexed = IndexKrateVersion { version, features };
     Ok(IndexKrate {
         versions: vec![in alloc; indexed]?,
     })
@@ -52,15 +51,20 @@ fn known_copy(alloc: Global, version: &str) -> Result<IndexKrate, Fail> {
     Ok(known.clone()?)
 }
 
-/// The index that has the package in this version, as a copy, or lacks it where there is none.
-fn index(alloc: Global, version: Option<&str>) -> Result<CachingIndex, Fail> {
+/// The answer that has the package in this version, as a copy, or lacks it where there is none.
+fn answer_of(alloc: Global, version: Option<&str>) -> Result<IndexAnswer, Fail> {
     let known = match version {
         Some(version) => Some(known_copy(alloc, version)?),
         None => None,
     };
     let mut krates = BTreeMap::new(alloc);
     drop(krates.insert(String::from_str(alloc, "cargo")?, known)?);
-    let answer = IndexAnswer { krates };
+    Ok(IndexAnswer { krates })
+}
+
+/// The index that gives this answer.
+fn index(alloc: Global, version: Option<&str>) -> Result<CachingIndex, Fail> {
+    let answer = answer_of(alloc, version)?;
     let build: BuildIndexCache = Box::new(alloc, move |names: PackageNames| {
         drop(names);
         answer
@@ -71,16 +75,31 @@ fn index(alloc: Global, version: Option<&str>) -> Result<CachingIndex, Fail> {
     Ok(CachingIndex::new(build, names))
 }
 
+/// The features of a package after a correction.
+fn features(
+    alloc: Global,
+    index: &CachingIndex,
+    package: &mut Package,
+) -> Result<String, AllocError> {
+    index.correct(alloc, package)?;
+    format!(in alloc; "{:?}", package.features)
+}
+
 /// The features of a package after one correction and after two.
 fn features_twice(
     alloc: Global,
     index: &CachingIndex,
     package: &mut Package,
 ) -> Result<String, AllocError> {
-    index.correct(alloc, package)?;
-    let once = format!(in alloc; "{:?}", package.features)?;
-    index.correct(alloc, package)?;
-    format!(in alloc; "{once}, then {:?}", package.features)
+    let once = features(alloc, index, package)?;
+    let twice = features(alloc, index, package)?;
+    format!(in alloc; "{once}, then {twice}")
+}
+
+/// The features of the package with this source as JSON, after one correction and after two.
+fn corrected_by(alloc: Global, index: &CachingIndex, source: &str) -> Result<String, Fail> {
+    let mut package = package(alloc, "1.0.0", source, r#"{"default":["std","foo"]}"#)?;
+    Ok(features_twice(alloc, index, &mut package)?)
 }
 
 /// The features of the package after one correction and after two.
@@ -93,8 +112,7 @@ impl Question for Corrected {
             None => (line, None),
         };
         let index = index(alloc, version)?;
-        let mut package = package(alloc, "1.0.0", source, r#"{"default":["std","foo"]}"#)?;
-        Ok(features_twice(alloc, &index, &mut package)?)
+        corrected_by(alloc, &index, source)
     }
 }
 

@@ -57,23 +57,28 @@ fn summary(alloc: Global, metadata: &Metadata) -> Result<String, AllocError> {
     )
 }
 
-/// What is read of a text, or why nothing is: the kind of the error, and what it prints. Of a text that is no JSON the
-/// library says why, in words of its own, so only the words before them are looked at.
+/// Why nothing is read: the kind of the error, and what it prints. Of a text that is no JSON the library says why, in words
+/// of its own, so only the words before them are looked at.
+fn refusal(alloc: Global, error: &Error) -> Result<String, AllocError> {
+    let printed = format!(in alloc; "{error}")?;
+    let is_begun = printed.starts_with("failed to interpret `cargo metadata`'s json: ");
+    match error {
+        Error::Json(_) if is_begun => String::from_str(alloc, "no JSON"),
+        Error::Value(_) => format!(in alloc; "no metadata: {printed}"),
+        _ => Ok(printed),
+    }
+}
+
+/// What is read of a text, or why nothing is.
 struct Parsed;
 
 impl Question for Parsed {
     fn told(alloc: Global, text: &str) -> Result<String, Fail> {
-        let error = match parse(alloc, text) {
-            Ok(metadata) => return Ok(summary(alloc, &metadata)?),
-            Err(error) => error,
+        let told = match parse(alloc, text) {
+            Ok(metadata) => summary(alloc, &metadata),
+            Err(error) => refusal(alloc, &error),
         };
-        let printed = format!(in alloc; "{error}")?;
-        let is_begun = printed.starts_with("failed to interpret `cargo metadata`'s json: ");
-        match error {
-            Error::Json(_) if is_begun => Ok(String::from_str(alloc, "no JSON")?),
-            Error::Value(_) => Ok(format!(in alloc; "no metadata: {printed}")?),
-            _ => Ok(printed),
-        }
+        Ok(told?)
     }
 }
 

@@ -282,6 +282,24 @@ fn hash_of(kid: &Kid) -> u64 {
     hasher.finish()
 }
 
+/// How two ids compare, and whether they hash alike where they are equal.
+fn relation(left: &Kid, right: &Kid) -> &'static str {
+    if left == right && hash_of(left) == hash_of(right) {
+        "equal with equal hashes"
+    } else if left < right {
+        "less"
+    } else {
+        "neither"
+    }
+}
+
+/// How two ids are ordered, and how they compare.
+fn compared_ids(alloc: Global, left: &Kid, right: &Kid) -> Result<String, AllocError> {
+    let (order, partial) = (left.cmp(right), left.partial_cmp(right));
+    let relation = relation(left, right);
+    format!(in alloc; "{order:?}, {partial:?}, {relation}")
+}
+
 /// How two ids compare, which a bar divides, and whether they hash alike where they are equal.
 struct Compared;
 
@@ -290,18 +308,7 @@ impl Question for Compared {
         let (left, right) = line.split_once(" | ").unwrap_or((line, ""));
         let left = kid(alloc, left)?;
         let right = kid(alloc, right)?;
-        let relation = if left == right && hash_of(&left) == hash_of(&right) {
-            "equal with equal hashes"
-        } else if left < right {
-            "less"
-        } else {
-            "neither"
-        };
-        Ok(format!(in alloc;
-            "{:?}, {:?}, {relation}",
-            left.cmp(&right),
-            left.partial_cmp(&right)
-        )?)
+        Ok(compared_ids(alloc, &left, &right)?)
     }
 }
 

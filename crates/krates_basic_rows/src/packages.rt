@@ -48,9 +48,9 @@ pub(crate) fn package(
     version: &str,
     source: &str,
     features: &str,
-) -> Result<Package, Fail> {
+) -> Result<Box<Package>, Fail> {
     let json = format!(in alloc;
         "{{\"name\":\"cargo\",\"version\":\"{version}\",\"id\":\"x\",\"source\":{source},\"dependencies\":[],\"targets\":[],\"features\":{features},\"manifest_path\":\"m\"}}"
     )?;
-    read(alloc, json.as_str())
+    Ok(Box::new(alloc, read(alloc, json.as_str())?)?)
 }

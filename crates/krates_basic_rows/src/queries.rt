@@ -9,6 +9,7 @@ use krates_cm::{
 use krates_samples::table::{Question, Row, compare};
 use std::alloc::{AllocError, Global};
 use std::fmt::Debug;
+use std::marker::PhantomData;
 use std::test::Fail;
 
 /// What stands before the rows and behind them: the packages `a` in `/w/a` and `b` in `/w/b`, and a member `a`.
@@ -97,20 +98,39 @@ fn names<'a>(alloc: Global, packages: &[&'a Package]) -> Result<Vec<&'a str>, Al
     Ok(names)
 }
 
+/// Writes the packages of the workspace.
+fn push_members(text: &mut String, alloc: Global, metadata: &Metadata) -> Result<(), AllocError> {
+    let members = metadata.workspace_packages(alloc)?;
+    let members = names(alloc, members.as_slice())?;
+    write!(text, ", members {members:?}")
+}
+
+/// Writes the default packages of the workspace.
+fn push_defaults(text: &mut String, alloc: Global, metadata: &Metadata) -> Result<(), AllocError> {
+    match metadata.workspace_default_packages(alloc)? {
+        Some(packages) => {
+            let defaults = names(alloc, packages.as_slice())?;
+            write!(text, ", default Some({defaults:?})")
+        }
+        None => text.push_str(", default None"),
+    }
+}
+
+/// Writes the package `B`.
+fn push_b(text: &mut String, alloc: Global, metadata: &Metadata) -> Result<(), AllocError> {
+    let id = package_id(alloc, "B")?;
+    let package = metadata.package(&id).map(|p| p.name.as_str());
+    write!(text, ", B is {package:?}")
+}
+
 /// What a document answers.
 fn document_answers(alloc: Global, metadata: &Metadata) -> Result<String, AllocError> {
     let root = metadata.root_package().map(|p| p.name.as_str());
-    let members = metadata.workspace_packages(alloc)?;
-    let members = names(alloc, members.as_slice())?;
-    let defaults = match metadata.workspace_default_packages(alloc)? {
-        Some(packages) => Some(names(alloc, packages.as_slice())?),
-        None => None,
-    };
-    let id = PackageId {
-        repr: String::from_str(alloc, "B")?,
-    };
-    let package = metadata.package(&id).map(|p| p.name.as_str());
-    format!(in alloc; "root {root:?}, members {members:?}, default {defaults:?}, B is {package:?}")
+    let mut text = format!(in alloc; "root {root:?}")?;
+    push_members(&mut text, alloc, metadata)?;
+    push_defaults(&mut text, alloc, metadata)?;
+    push_b(&mut text, alloc, metadata)?;
+    Ok(text)
 }
 
 /// Writes where the licence file of a package is.
@@ -153,38 +173,50 @@ fn tests(alloc: Global, target: &Target) -> Result<String, AllocError> {
     Ok(told)
 }
 
-/// What a document answers, of its JSON.
-struct OfDocument;
+/// A value that answers small questions.
+trait Answers: FromValue {
+    /// What it answers.
+    fn answers(&self, alloc: Global) -> Result<String, AllocError>;
+}
 
-impl Question for OfDocument {
-    fn told(alloc: Global, json: &str) -> Result<String, Fail> {
-        Ok(document_answers(alloc, &read(alloc, json)?)?)
+/// What a document answers.
+impl Answers for Metadata {
+    fn answers(&self, alloc: Global) -> Result<String, AllocError> {
+        document_answers(alloc, self)
     }
 }
 
-/// Where the files of a package are, of its JSON.
-struct FilesOf;
-
-impl Question for FilesOf {
-    fn told(alloc: Global, json: &str) -> Result<String, Fail> {
-        Ok(files(alloc, &read(alloc, json)?)?)
+/// Where the files of a package are.
+impl Answers for Package {
+    fn answers(&self, alloc: Global) -> Result<String, AllocError> {
+        files(alloc, self)
     }
 }
 
-/// The tests that say yes of a target, of its JSON.
-struct KindsOf;
+/// The tests that say yes of a target.
+impl Answers for Target {
+    fn answers(&self, alloc: Global) -> Result<String, AllocError> {
+        tests(alloc, self)
+    }
+}
 
-impl Question for KindsOf {
+/// What the value answers that JSON is.
+struct AnswersOf<T: Answers> {
+    of: PhantomData<T>,
+}
+
+impl<T: Answers> Question for AnswersOf<T> {
     fn told(alloc: Global, json: &str) -> Result<String, Fail> {
-        Ok(tests(alloc, &read(alloc, json)?)?)
+        let value: T = read(alloc, json)?;
+        Ok(value.answers(alloc)?)
     }
 }
 
 #[test]
 fn documents_packages_and_targets_answer(rt: HostRuntime) -> Result<(), Fail> {
-    hold_within::<OfDocument>(rt.alloc(), DOCUMENT, ANSWERS)?;
-    hold_within::<FilesOf>(rt.alloc(), PACKAGE, FILES)?;
-    hold_within::<KindsOf>(rt.alloc(), TARGET, KINDS)
+    hold_within::<AnswersOf<Metadata>>(rt.alloc(), DOCUMENT, ANSWERS)?;
+    hold_within::<AnswersOf<Package>>(rt.alloc(), PACKAGE, FILES)?;
+    hold_within::<AnswersOf<Target>>(rt.alloc(), TARGET, KINDS)
 }
 
 /// JSON of each type that is copied.

@@ -134,11 +134,18 @@ struct Read;
 
 impl Question for Read {
     fn told(alloc: Global, text: &str) -> Result<String, Fail> {
-        match PkgSpec::from_str(alloc, text) {
-            Ok(spec) => Ok(described(alloc, &spec)?),
-            Err(error) => Ok(error.to_string(alloc)?),
-        }
+        let told = match PkgSpec::from_str(alloc, text) {
+            Ok(spec) => described(alloc, &spec),
+            Err(error) => error.to_string(alloc),
+        };
+        Ok(told?)
     }
+}
+
+/// What a copy of a specification is.
+fn copy_of(alloc: Global, spec: &PkgSpec) -> Result<String, AllocError> {
+    let copy = spec.clone()?;
+    described(alloc, &copy)
 }
 
 /// The copy of the specification that a text is.
@@ -146,8 +153,8 @@ struct Copied;
 
 impl Question for Copied {
     fn told(alloc: Global, text: &str) -> Result<String, Fail> {
-        let copy = PkgSpec::from_str(alloc, text)?.clone()?;
-        Ok(described(alloc, &copy)?)
+        let spec = PkgSpec::from_str(alloc, text)?;
+        Ok(copy_of(alloc, &spec)?)
     }
 }
 

@@ -53,17 +53,36 @@ impl Question for InPlace {
     }
 }
 
-/// Compares what two values answer that are the same.
-fn same_parts<J: JsonRef, K: JsonRef>(alloc: Global, a: J, b: K, text: &str) -> Result<(), Fail> {
-    let plain = a.is_null() == b.is_null()
+/// Whether two values are of the same kind, and alike as plain values.
+fn is_alike<J: JsonRef, K: JsonRef>(a: J, b: K) -> bool {
+    a.is_null() == b.is_null()
         && a.is_object() == b.is_object()
         && a.as_bool() == b.as_bool()
         && a.as_str() == b.as_str()
-        && a.len() == b.len();
-    let parts = printed(alloc, a.item(1))? == printed(alloc, b.item(1))?
-        && printed(alloc, a.get("a"))? == printed(alloc, b.get("a"))?
-        && names(alloc, a)? == names(alloc, b)?;
-    if plain && parts {
+        && a.len() == b.len()
+}
+
+/// Whether two parts are printed alike.
+fn is_printed_alike<J: JsonRef, K: JsonRef>(
+    alloc: Global,
+    a: Option<J>,
+    b: Option<K>,
+) -> Result<bool, AllocError> {
+    Ok(printed(alloc, a)? == printed(alloc, b)?)
+}
+
+/// Whether two values have the same parts.
+fn has_same_parts<J: JsonRef, K: JsonRef>(alloc: Global, a: J, b: K) -> Result<bool, AllocError> {
+    Ok(
+        is_printed_alike(alloc, a.item(1), b.item(1))?
+            && is_printed_alike(alloc, a.get("a"), b.get("a"))?
+            && names(alloc, a)? == names(alloc, b)?,
+    )
+}
+
+/// Compares what two values answer that are the same.
+fn same_parts<J: JsonRef, K: JsonRef>(alloc: Global, a: J, b: K, text: &str) -> Result<(), Fail> {
+    if is_alike(a, b) && has_same_parts(alloc, a, b)? {
         return Ok(());
     }
     Err(Fail::new(format_args!("{text}: other parts in its text")))

@@ -10,11 +10,11 @@ use Rattle.krates_drawing.specs.Views.{sheet_view}
 use Rattle.krates_drawing.specs.declared.sheet.Krate.{Krate as SheetKrate}
 use Rattle.krates_explain.specs.declared.kept.KeptStep.{KeptStep}
 use Rattle.krates_ids.specs.Identity.{Identity, id_cmp}
-use Rattle.krates.specs.Division.{IsDivision, sheet_ids}
+use Rattle.krates_packages.specs.Division.{IsDivision, sheet_ids}
 use Rattle.krates_queries.specs.Kept.{AreNodes}
-use Rattle.krates.specs.Krate.{krate_ids}
+use Rattle.krates_packages.specs.Krate.{krate_ids}
 use Rattle.krates.specs.declared.builder.Rest.{Rest}
-use Rattle.krates.specs.declared.division.Division.{Division}
+use Rattle.krates_packages.specs.declared.division.Division.{Division}
 use Rattle.krates.specs.Members.{AreNumbersOf}
 use Rattle.krates_queries.specs.Node.{crate_ids}
 use Rattle.krates.proofs.BuildLemmas.{package_ids, ids_distinct, resolvable}

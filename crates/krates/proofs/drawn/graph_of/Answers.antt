@@ -8,7 +8,7 @@ use Rattle.krates_resolve.specs.CrateNumbers.{HasHome}
 use Rattle.krates_resolve.specs.Selection.{feature_fact}
 use Rattle.krates_resolve.specs.declared.selection.EnabledFeature.{EnabledFeature}
 use Rattle.krates_queries.specs.Drawn.{node_spot}
-use Rattle.krates.specs.Krate.{krate_ids}
+use Rattle.krates_packages.specs.Krate.{krate_ids}
 use Rattle.krates.specs.MadeNodes.{nodes_in}
 use Rattle.krates.proofs.DrawnLemmas.{as_many_crates, facts_in, if_graph, stand_there}
 use Rattle.krates.proofs.FeaturesDrawn.{viewed_ids}

@@ -5,7 +5,7 @@ use Rattle.std.specs.Ordering.{on}
 use Rattle.std.specs.declared.cmp.Ordering.{Ordering}
 use Rattle.krates_cm.specs.declared.package.Package.{Package}
 use Rattle.krates_ids.specs.Identity.{Identity, same_id, id_cmp}
-use Rattle.krates.specs.declared.krate.Krate.{Krate}
+use Rattle.krates_packages.specs.declared.krate.Krate.{Krate}
 
 -- whether the ids are the same
 abbrev pub same_krate : Krate → Krate → Bool

@@ -3,8 +3,8 @@ use Rattle.std.proofs.lemmas.Fn.{always_returns_same}
 use Rattle.krates_drawing.specs.declared.sheet.Krate.{Krate}
 use Rattle.krates_ids.specs.Identity.{id_cmp}
 use Rattle.krates_queries.proofs.OrderedIds.{Compares}
-use Rattle.krates.proofs.SearchedKrates.{has_found, has_none}
-use Rattle.krates.proofs.division.has.Goals as goal
+use Rattle.krates_packages.proofs.SearchedKrates.{has_found, has_none}
+use Rattle.krates_packages.proofs.division.has.Goals as goal
 
 pub returns-in-Ok : goal.returns-in-Ok
 returns-in-Ok c =

@@ -1,6 +1,6 @@
 use Rattle.std.proofs.Common.{◌≡◌, filter, not}
-use Rattle.krates.specs.Division.{is_selected, sheet_ids}
-use Rattle.krates.proofs.division.divided.Given as goal
+use Rattle.krates_packages.specs.Division.{is_selected, sheet_ids}
+use Rattle.krates_packages.proofs.division.divided.Given as goal
 
 abbrev pub invariant-loop-krate : goal.invariant-loop-krate
 invariant-loop-krate l =

@@ -1,9 +1,9 @@
 use Rattle.std.proofs.Common.{subst, List, IsPermutation}
-use Rattle.krates.specs.Division.{sheet_ids}
-use Rattle.krates.specs.Krate.{paired}
-use Rattle.krates.specs.declared.krate.Krate.{Krate}
-use Rattle.krates.proofs.DivisionLemmas.{if_divides}
-use Rattle.krates.proofs.division.divide.Goals as goal
+use Rattle.krates_packages.specs.Division.{sheet_ids}
+use Rattle.krates_packages.specs.Krate.{paired}
+use Rattle.krates_packages.specs.declared.krate.Krate.{Krate}
+use Rattle.krates_packages.proofs.DivisionLemmas.{if_divides}
+use Rattle.krates_packages.proofs.division.divide.Goals as goal
 
 pub returns : goal.returns
 returns c =

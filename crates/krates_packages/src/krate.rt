@@ -4,7 +4,7 @@ ghost use Rattle.std.proofs.Common.{rules};
 ghost use Rattle.std.specs.Cmp.{partial_order_from_own_ties};
 ghost use Rattle.std.specs.Cmp.Rules.{comparing};
 ghost use Rattle.std.specs.Ordering.{as_partial_cmp};
-ghost use Rattle.krates.specs.Krate.{same_krate, krate_cmp};
+ghost use Rattle.krates_packages.specs.Krate.{same_krate, krate_cmp};
 
 use krates_cm::Package;
 use krates_ids::Kid;
@@ -14,9 +14,9 @@ use std::cmp::Ordering;
 ///
 /// Crates are compared by their ids alone.
 #[derive(Debug, Drop)]
-pub(crate) struct Krate {
-    pub(crate) id: Kid,
-    pub(crate) pkg: Package,
+pub struct Krate {
+    pub id: Kid,
+    pub pkg: Package,
 }
 
 impl PartialEq for Krate {

@@ -9,7 +9,7 @@ use Rattle.std.specs.List.Sorted.{IsStrictlySortedBy, IsPartitionPoint, IsNonDec
 use Rattle.std.specs.Ordering.{is_eq, ordering_index}
 use Rattle.krates_ids.specs.Identity.{Identity, id_cmp}
 use Rattle.krates_rules.specs.Resolved.{id_of}
-use Rattle.krates.specs.Division.{has_same, IsAmong}
+use Rattle.krates_packages.specs.Division.{has_same, IsAmong}
 use Rattle.krates_drawing.proofs.Members.{Member, member_of, contains_of}
 use Rattle.krates_queries.proofs.OrderedIds.{Compares, equal_of, id_of_equal, sorted_weakly, weakly_by, none_equal}
 

@@ -6,8 +6,8 @@ ghost use Rattle.std.specs.List.Sorted.{IsStrictlySortedBy};
 ghost use Rattle.krates_cm.specs.Document.{id_view};
 ghost use Rattle.krates_ids.specs.Identity.{Reads, id_cmp};
 ghost use Rattle.krates_document.specs.AdmissionSteps.{AreDistinct};
-ghost use Rattle.krates.specs.Division.{IsDivision, has_same, is_selected, sheet_ids};
-ghost use Rattle.krates.specs.Krate.{paired};
+ghost use Rattle.krates_packages.specs.Division.{IsDivision, has_same, is_selected, sheet_ids};
+ghost use Rattle.krates_packages.specs.Krate.{paired};
 
 use crate::krate::Krate;
 use krates_cm::Package;
@@ -17,15 +17,15 @@ use std::alloc::{AllocError, Global};
 
 /// The packages of a document with their ids, each list in the order of the ids.
 #[derive(Debug, Drop)]
-pub(crate) struct Division {
+pub struct Division {
     /// Those that are selected.
-    pub(crate) kept: Vec<Krate>,
+    pub kept: Vec<Krate>,
     /// All others.
-    pub(crate) others: Vec<Krate>,
+    pub others: Vec<Krate>,
 }
 
 /// Divides the packages, whose ids these are, into those with a selected id and the others.
-pub(crate) fn divide(
+pub fn divide(
     alloc: Global,
     packages: Vec<Package>,
     ids: Vec<Kid>,

@@ -15,16 +15,16 @@ use Rattle.krates_ids.specs.Identity.{Identity, empty_identity, Reads, id_cmp}
 use Rattle.krates_document.specs.AdmissionSteps.{AreDistinct}
 use Rattle.krates_rules.specs.Facts.{Id}
 use Rattle.krates_rules.specs.Resolved.{id_of}
-use Rattle.krates.specs.Build.{AreThosePackages, HasIdAmong}
-use Rattle.krates.specs.Division.{has_same, is_selected, IsAmong, IsDivision}
-use Rattle.krates.specs.Krate.{krate_cmp, krate_ids, paired}
-use Rattle.krates.specs.Krate.{krate_packages}
-use Rattle.krates.specs.declared.division.Division.{Division}
-use Rattle.krates.specs.declared.krate.Krate.{Krate}
+use Rattle.krates_packages.specs.Listed.{AreThosePackages, HasIdAmong}
+use Rattle.krates_packages.specs.Division.{has_same, is_selected, IsAmong, IsDivision}
+use Rattle.krates_packages.specs.Krate.{krate_cmp, krate_ids, paired}
+use Rattle.krates_packages.specs.Krate.{krate_packages}
+use Rattle.krates_packages.specs.declared.division.Division.{Division}
+use Rattle.krates_packages.specs.declared.krate.Krate.{Krate}
 use Rattle.krates_drawing.proofs.Members.{Member, member_of, contains_of, mapped_of, member_map, kept_of, member_filter}
-use Rattle.krates.proofs.MappedLists.{map_filter, zip_maps}
+use Rattle.krates_packages.proofs.MappedLists.{map_filter, zip_maps}
 use Rattle.krates_queries.proofs.OrderedIds.{Compares, id_of_equal}
-use Rattle.krates.proofs.SearchedKrates.{is_among}
+use Rattle.krates_packages.proofs.SearchedKrates.{is_among}
 
 -- a text reads as at most one id
 abbrev pub ReadsOnce : Type 0

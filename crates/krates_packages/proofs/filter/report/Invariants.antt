@@ -1,6 +1,6 @@
 use Rattle.std.specs.List.{FoldsTo}
-use Rattle.krates.specs.Krate.{krate_packages}
-use Rattle.krates.proofs.filter.report.Given as goal
+use Rattle.krates_packages.specs.Krate.{krate_packages}
+use Rattle.krates_packages.proofs.filter.report.Given as goal
 
 abbrev pub invariant-loop-krate : goal.invariant-loop-krate
 invariant-loop-krate g l =

@@ -1,8 +1,8 @@
 use Rattle.std.proofs.Common.{[], ◌∷◌}
 use Rattle.std.proofs.lemmas.Fn.{FoldsTo-push}
 use Rattle.std.proofs.lemmas.List.{map-append}
-use Rattle.krates.specs.declared.krate.Krate.{Krate}
-use Rattle.krates.proofs.filter.report.Goals as goal
+use Rattle.krates_packages.specs.declared.krate.Krate.{Krate}
+use Rattle.krates_packages.proofs.filter.report.Goals as goal
 
 pub loop-krate-preserved : goal.loop-krate-preserved
 loop-krate-preserved g c =

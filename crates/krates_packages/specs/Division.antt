@@ -7,11 +7,11 @@ use Rattle.krates_drawing.specs.declared.sheet.Krate.{Krate as SheetKrate}
 use Rattle.krates_ids.specs.Identity.{Identity, id_cmp}
 use Rattle.krates_rules.specs.Facts.{Id}
 use Rattle.krates_rules.specs.Resolved.{id_of}
-use Rattle.krates.specs.Build.{AreThosePackages}
-use Rattle.krates.specs.Krate.{krate_ids}
-use Rattle.krates.specs.Krate.{krate_packages}
-use Rattle.krates.specs.declared.division.Division.{Division}
-use Rattle.krates.specs.declared.krate.Krate.{Krate}
+use Rattle.krates_packages.specs.Listed.{AreThosePackages}
+use Rattle.krates_packages.specs.Krate.{krate_ids}
+use Rattle.krates_packages.specs.Krate.{krate_packages}
+use Rattle.krates_packages.specs.declared.division.Division.{Division}
+use Rattle.krates_packages.specs.declared.krate.Krate.{Krate}
 
 -- the ids of the crates of a sheet
 abbrev pub sheet_ids : List SheetKrate → List Identity

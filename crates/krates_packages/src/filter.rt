@@ -3,7 +3,7 @@
 ghost use Rattle.std.specs.Prelude.{◌≡◌};
 ghost use Rattle.std.specs.List.{FoldsTo};
 ghost use Rattle.krates_cm.specs.declared.package.Package.{Package};
-ghost use Rattle.krates.specs.Krate.{krate_packages};
+ghost use Rattle.krates_packages.specs.Krate.{krate_packages};
 
 use crate::krate::Krate;
 use krates_cm::Package;
@@ -54,7 +54,7 @@ impl<F: FnMut(Package)> OnFilter for FilterFn<F> {
 }
 
 /// Hands each package to the filter, in their order.
-pub(crate) fn report<F: OnFilter>(krates: Vec<Krate>, filter: &mut F)
+pub fn report<F: OnFilter>(krates: Vec<Krate>, filter: &mut F)
     requires { F.can_filter filter.old }
     ensures run { FoldsTo F.filters filter.old (krate_packages krates.items) filter.new }
     ensures again { F.can_filter filter.new }

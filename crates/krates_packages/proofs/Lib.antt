@@ -1,0 +1,3 @@
+pub mod DivisionLemmas
+pub mod MappedLists
+pub mod SearchedKrates

@@ -1,0 +1,4 @@
+pub mod Division
+pub mod Indexed
+pub mod Krate
+pub mod Listed
