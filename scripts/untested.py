@@ -46,7 +46,7 @@ SHOWN_BY = {
     # a selection is made in look-ups of the document
     "select": "select_in numbers_of exclusions_of known_standing known_standing_of_child".split(),
     # the graph of a build: its sheet, nodes and edges, and how they are stored
-    "build_with_metadata": "count_of given_by meanings_by draw_nodes plan store_arrows in_order Krates::new divide report seen_through".split(),
+    "build_with_metadata": "count_of given_by meanings_by draw_nodes plan store_arrows in_order Krates::new divide report".split(),
     # the steps that a build keeps, and those of them that lead to a node
     "facts": ("kept_steps", "Document::lookup"),
     "why": ("derivation_of", "step_of"),

@@ -22,7 +22,7 @@ use Rattle.krates_rules.specs.Setting.{SettingModel}
 use Rattle.krates.specs.Build.{IsResolvable, IsDerived, KeepsCrate, DropsCrate, GraphRefusal, IsRefusedSeeing}
 use Rattle.krates.specs.BuildLaws.{BuildAlike, IsBuildOrderFree, IsSeenBy}
 use Rattle.krates_queries.specs.Drawn.{IsSheetFor}
-use Rattle.krates_packages.specs.Indexed.{HasNames}
+use Rattle.krates.specs.Indexed.{HasNames}
 use Rattle.krates.proofs.AdmittedAlike.{turned, resolvable_there}
 use Rattle.krates.proofs.CorrectedAlike.{OneCorrection, seen_alike}
 use Rattle.krates_packages.proofs.DivisionLemmas.{ReadsOnce}

@@ -8,7 +8,7 @@ use Rattle.krates_ids.specs.declared.error.Error.TheVariants as errors
 use Rattle.krates_rules.specs.Setting.{SettingModel}
 use Rattle.krates.specs.Build.{BuildRefusal, IsResolvable}
 use Rattle.krates.specs.Cargo.{CargoBuildRefusal, IsWritten}
-use Rattle.krates_packages.specs.Indexed.{Answering}
+use Rattle.krates.specs.Indexed.{Answering}
 
 pub built_written : {A E : Type 0} (P : Metadata → A → Type 0) (m : Metadata) (r : Result A E) → IsSomeAnswer (metadata_view m) → OnOk r (IsResolvable (metadata_view m)) → IfOk r (P m)
     → IfOk r (λ a. IsWritten (λ m. IsResolvable (metadata_view m) × P m a))

@@ -17,7 +17,7 @@ use Rattle.krates.specs.Build.{IsResolvable, IsBuilt, GraphRefusal, BuildRefusal
 use Rattle.krates.specs.BuildLaws.{IsSeenBy}
 use Rattle.krates_queries.specs.Kept.{KeptCrates}
 use Rattle.krates_document.specs.CorrectedDocument.{IsCorrectedPackage, IsCorrectedDocument}
-use Rattle.krates_packages.specs.Indexed.{Answering, IsSeen, Sees}
+use Rattle.krates.specs.Indexed.{Answering, IsSeen, Sees}
 
 -- the texts of the ids are unchanged
 same_texts : (answer : IndexAnswer) (xs ys : List Package) → AllZip (IsCorrectedPackage answer) xs ys

@@ -25,7 +25,7 @@ use Rattle.krates_rules.specs.SelectionRefusals.{SelectionRefusal}
 use Rattle.krates_rules.specs.Setting.{SettingModel}
 use Rattle.krates_resolve.specs.Selection.{IsSelectionOf}
 use Rattle.krates_resolve.specs.declared.selection.Selection.{Selection}
-use Rattle.krates_packages.specs.Indexed.{Answering, Sees}
+use Rattle.krates.specs.Indexed.{Answering, Sees}
 use Rattle.krates_packages.specs.Listed.{AreThosePackages}
 use Rattle.krates_queries.specs.DirectDependents.{IsDependent}
 use Rattle.krates_queries.specs.Explained.{IsExplainedBy, steps_of}

@@ -22,7 +22,7 @@ use Rattle.krates.specs.Build.{IsResolvable, IsDerived, KeepsCrate, DropsCrate, 
 use Rattle.krates_packages.specs.Listed.{AreThosePackages}
 use Rattle.krates_document.specs.CorrectedDocument.{IsCorrectedDocument}
 use Rattle.krates_queries.specs.Drawn.{CanBeNumbered, IsSheetFor}
-use Rattle.krates_packages.specs.Indexed.{HasNames}
+use Rattle.krates.specs.Indexed.{HasNames}
 use Rattle.krates_queries.specs.Kept.{AreOrdered}
 
 -- the document that is resolved: with an answer of an index, the one whose packages it corrects; otherwise the given one

@@ -8,7 +8,7 @@ use Rattle.krates_ids.specs.declared.error.Error.{Error}
 use Rattle.krates_ids.specs.declared.error.Error.TheVariants as errors
 use Rattle.krates_rules.specs.Setting.{SettingModel}
 use Rattle.krates.specs.Build.{BuildRefusal}
-use Rattle.krates_packages.specs.Indexed.{Answering}
+use Rattle.krates.specs.Indexed.{Answering}
 
 -- some output of a cargo that succeeded has this document, and this holds of it
 pub record IsWritten (P : Metadata → Type 0) : Type 0 where

@@ -4,6 +4,7 @@ pub mod Builder
 pub mod BuilderModel
 pub mod Cargo
 pub mod Enabled
+pub mod Indexed
 pub mod KeptGraph
 pub mod MadeNodes
 pub mod Members

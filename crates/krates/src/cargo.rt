@@ -6,7 +6,7 @@ ghost use Rattle.krates_cargo.specs.Running.{IsSomeAnswer};
 ghost use Rattle.krates_cm.specs.declared.metadata.Metadata.{Metadata};
 ghost use Rattle.krates.specs.Build.{IsBuilt, IsResolvable};
 ghost use Rattle.krates.specs.Cargo.{CargoBuildRefusal, IsWritten};
-ghost use Rattle.krates_packages.specs.Indexed.{IsAskable, Sees};
+ghost use Rattle.krates.specs.Indexed.{IsAskable, Sees};
 
 use crate::builder::Builder;
 use krates_cargo::MetadataCommand;

@@ -6,8 +6,8 @@ use crate::stand_in::command;
 use crate::table::{Question, Row, hold, hold_beginnings};
 use krates::{Builder, Error, Krates, OnFilter, Package};
 use krates_cargo::MetadataCommand;
-use krates_cli::{Counted, Options, program, run_by_cargo};
-use std::alloc::Global;
+use krates_cli::{Counted, Options, RunError, program, run_by_cargo};
+use std::alloc::{AllocError, Global};
 use std::str;
 use std::test::Fail;
 
@@ -47,17 +47,25 @@ const BUILDS: &[Row] = &[
     ),
 ];
 
+/// What a build reported, and how much it kept or why it is refused.
+fn outcome(
+    alloc: Global,
+    reported: u32,
+    built: &Result<Krates, Error>,
+) -> Result<String, AllocError> {
+    match built {
+        Ok(krates) => format!(in alloc; "{reported} reported, {} kept", krates.len()),
+        Err(error) => format!(in alloc; "{reported} reported, {error}"),
+    }
+}
+
 /// The answer of a build by this command.
 fn told(rt: &HostRuntime, command: MetadataCommand) -> Result<String, Fail> {
-    let alloc = rt.alloc();
     let mut count = Count { packages: 0 };
-    let built: Result<Krates, Error> = Builder::new(alloc).build(command, None, rt, &mut count);
-    match built {
-        Ok(krates) => {
-            Ok(format!(in alloc; "{} reported, {} kept", count.packages, krates.len())?)
-        }
-        Err(error) => Ok(format!(in alloc; "{} reported, {error}", count.packages)?),
-    }
+    let built: Result<Krates, Error> = Builder::new(rt.alloc()).build(
+        command, None, rt, &mut count,
+    );
+    Ok(outcome(rt.alloc(), count.packages, &built)?)
 }
 
 /// The answer of a build by a command with this last word.
@@ -134,17 +142,32 @@ fn push_words(words: &mut Vec<String>, rt: &HostRuntime, line: &str) -> Result<(
     Ok(())
 }
 
+/// A line that has begun, with what went to standard error, a bar, and what went to standard output.
+fn streams(begun: String, errors: &[u8], output: &[u8]) -> Result<String, Fail> {
+    let mut line = begun;
+    line.push_str(str::from_utf8(errors)?)?;
+    line.push_str("|")?;
+    line.push_str(str::from_utf8(output)?)?;
+    Ok(line)
+}
+
 /// The status and what goes to standard error, a bar, and what goes to standard output; before them, whether something was read.
 fn listed(rt: &HostRuntime, words: &[String]) -> Result<String, Fail> {
     let mut input = Counted::new(b"{}".as_slice());
     let mut output = Counted::new(Vec::new(rt.alloc()));
     let mut errors = Counted::new(Vec::new(rt.alloc()));
     let status = program(words, &mut input, &mut output, &mut errors, rt);
-    let unread = input.get_ref().len() == 2;
-    let read = if unread { "" } else { "something was read: " };
-    let told = str::from_utf8(errors.get_ref().as_slice())?;
-    let lines = str::from_utf8(output.get_ref().as_slice())?;
-    Ok(format!(in rt.alloc(); "{read}{status} {told}|{lines}")?)
+    let read = if input.get_ref().len() == 2 {
+        ""
+    } else {
+        "something was read: "
+    };
+    let begun = format!(in rt.alloc(); "{read}{status} ")?;
+    streams(
+        begun,
+        errors.get_ref().as_slice(),
+        output.get_ref().as_slice(),
+    )
 }
 
 /// What a run of the program with these words tells and lists.
@@ -163,15 +186,20 @@ fn listings(rt: HostRuntime) -> Result<(), Fail> {
     hold::<Listing>(&rt, LISTINGS)
 }
 
+/// The lines that a run wrote, or why it is refused.
+fn lines_of(alloc: Global, ran: Result<(), RunError>, output: &[u8]) -> Result<String, Fail> {
+    match ran {
+        Ok(()) => Ok(String::from_str(alloc, str::from_utf8(output)?)?),
+        Err(error) => Ok(format!(in alloc; "{error}")?),
+    }
+}
+
 /// What a run with this program in cargo's place writes, or why it is refused.
 fn written(rt: &HostRuntime, cargo: &str) -> Result<String, Fail> {
-    let alloc = rt.alloc();
-    let mut output = Counted::new(Vec::new(alloc));
-    if let Err(error) = run_by_cargo(alloc, &Options::new(alloc), cargo, rt, &mut output) {
-        return Ok(format!(in alloc; "{error}")?);
-    }
-    let lines = str::from_utf8(output.get_ref().as_slice())?;
-    Ok(String::from_str(alloc, lines)?)
+    let mut output = Counted::new(Vec::new(rt.alloc()));
+    let options = Options::new(rt.alloc());
+    let ran = run_by_cargo(rt.alloc(), &options, cargo, rt, &mut output);
+    lines_of(rt.alloc(), ran, output.get_ref().as_slice())
 }
 
 #[test]

@@ -208,12 +208,30 @@ fn try_set_all(
     Ok(())
 }
 
+/// The words of a copy of a command.
+fn barred_copy(alloc: Global, command: &MetadataCommand) -> Result<String, AllocError> {
+    let copy = command.clone()?;
+    barred(alloc, &copy)
+}
+
 /// The words of a command, which those of its copy equal.
 fn words(alloc: Global, command: &MetadataCommand) -> Result<String, Fail> {
-    let copy = command.clone()?;
-    let (words, copied) = (barred(alloc, command)?, barred(alloc, &copy)?);
+    let words = barred(alloc, command)?;
+    let copied = barred_copy(alloc, command)?;
     compare("the words of the copy", copied.as_str(), words.as_str())?;
     Ok(words)
+}
+
+/// Sets what each word says, and adds the refusals of setters and then the words of the command.
+fn push_words(
+    told: &mut String,
+    alloc: Global,
+    command: &mut MetadataCommand,
+    line: &str,
+) -> Result<(), Fail> {
+    try_set_all(told, alloc, command, line)?;
+    told.push_str(words(alloc, command)?.as_str())?;
+    Ok(())
 }
 
 /// Asks for the words of a command with these settings, after the refusals of its setters.
@@ -221,11 +239,9 @@ struct CommandWords;
 
 impl Question for CommandWords {
     fn told(rt: &HostRuntime, line: &str) -> Result<String, Fail> {
-        let alloc = rt.alloc();
-        let mut told = String::new(alloc);
-        let mut command = MetadataCommand::new(alloc);
-        try_set_all(&mut told, alloc, &mut command, line)?;
-        told.push_str(words(alloc, &command)?.as_str())?;
+        let mut told = String::new(rt.alloc());
+        let mut command = MetadataCommand::new(rt.alloc());
+        push_words(&mut told, rt.alloc(), &mut command, line)?;
         Ok(told)
     }
 }
@@ -287,18 +303,34 @@ fn push_variables(text: &mut String, process: &Command) -> Result<(), AllocError
     Ok(())
 }
 
-/// The variables, the program, the directory and the words.
-fn shown(alloc: Global, command: &MetadataCommand) -> Result<String, Error> {
-    let words = barred(alloc, command)?;
-    let process = command.cargo_command(None)?;
+/// Adds the variables of a process, its program and its directory.
+fn push_process(text: &mut String, process: &Command) -> Result<(), AllocError> {
+    push_variables(text, process)?;
     let dir = match process.get_current_dir() {
         Some(dir) => dir.as_str(),
         None => "none",
     };
+    write!(text, "{} in {dir}: ", process.get_program())
+}
+
+/// Adds the variables, the program and the directory of the process of a command.
+fn push_process_of(text: &mut String, command: &MetadataCommand) -> Result<(), Error> {
+    let process = command.cargo_command(None)?;
+    Ok(push_process(text, &process)?)
+}
+
+/// The variables, the program, the directory and the words.
+fn shown(alloc: Global, command: &MetadataCommand) -> Result<String, Error> {
     let mut text = String::new(alloc);
-    push_variables(&mut text, &process)?;
-    write!(text, "{} in {dir}: {words}", process.get_program())?;
+    push_process_of(&mut text, command)?;
+    text.push_str(barred(alloc, command)?.as_str())?;
     Ok(text)
+}
+
+/// What a copy of a command shows.
+fn shown_copy(alloc: Global, command: &MetadataCommand) -> Result<String, Error> {
+    let copy = command.clone()?;
+    shown(alloc, &copy)
 }
 
 /// Asks for the process of a command with these settings.
@@ -308,14 +340,19 @@ impl Question for CommandProcess {
     fn told(rt: &HostRuntime, line: &str) -> Result<String, Fail> {
         let mut command = MetadataCommand::new(rt.alloc());
         set_all(rt.alloc(), &mut command, line)?;
-        let copy = command.clone()?;
-        Ok(shown(rt.alloc(), &copy)?)
+        Ok(shown_copy(rt.alloc(), &command)?)
     }
 }
 
 #[test]
 fn process_of_a_command(rt: HostRuntime) -> Result<(), Fail> {
     hold::<CommandProcess>(&rt, PROCESSES)
+}
+
+/// What the command shows that a tool's options become.
+fn shown_command(alloc: Global, cmd: Cmd) -> Result<String, Error> {
+    let command = cmd.into_command()?;
+    shown(alloc, &command)
 }
 
 /// Asks for the command that the settings of a tool's options become.
@@ -325,8 +362,8 @@ impl Question for OptionsCommand {
     fn told(rt: &HostRuntime, line: &str) -> Result<String, Fail> {
         let mut cmd = Cmd::new(rt.alloc());
         ask_all(rt.alloc(), &mut cmd, line)?;
-        match cmd.into_command() {
-            Ok(command) => Ok(shown(rt.alloc(), &command)?),
+        match shown_command(rt.alloc(), cmd) {
+            Ok(shown) => Ok(shown),
             Err(error) => Ok(format!(in rt.alloc(); "{error}")?),
         }
     }

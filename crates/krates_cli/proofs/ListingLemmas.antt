@@ -17,7 +17,7 @@ use Rattle.krates_rules.specs.Resolved.{StandsAt, id_of, resolved}
 use Rattle.krates_rules.specs.Setting.{SettingModel}
 use Rattle.krates_ids.specs.declared.error.Error.TheVariants as causes
 use Rattle.krates.specs.Build.{BuildRefusal, KeepsCrate, IsBuilt, BuildRefusalAsGiven, GraphRefusal, IsResolvable}
-use Rattle.krates_packages.specs.Indexed.{Answering, Sees}
+use Rattle.krates.specs.Indexed.{Answering, Sees}
 use Rattle.krates_cli.specs.declared.run_error.RunError.{RunError}
 use Rattle.krates_cli.specs.declared.run_error.RunError.TheVariants as errors
 use Rattle.krates_queries.specs.Kept.{KeptCrates, ids_of, values_of}

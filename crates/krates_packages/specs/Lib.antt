@@ -1,4 +1,3 @@
 pub mod Division
-pub mod Indexed
 pub mod Krate
 pub mod Listed

@@ -24,7 +24,8 @@ pub struct Division {
     pub others: Vec<Krate>,
 }
 
-/// Divides the packages, whose ids these are, into those with a selected id and the others.
+/// Divides the packages, whose ids these are, into those with a selected id and the others, each list in the order of the ids.
+/// Returns `AllocError` if memory runs out. Time O(n log n) in the number of packages.
 pub fn divide(
     alloc: Global,
     packages: Vec<Package>,

@@ -53,7 +53,7 @@ impl<F: FnMut(Package)> OnFilter for FilterFn<F> {
     }
 }
 
-/// Hands each package to the filter, in their order.
+/// Hands each package to the filter, in their order. Time: a call of the filter for each.
 pub fn report<F: OnFilter>(krates: Vec<Krate>, filter: &mut F)
     requires { F.can_filter filter.old }
     ensures run { FoldsTo F.filters filter.old (krate_packages krates.items) filter.new }

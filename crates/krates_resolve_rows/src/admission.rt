@@ -1,9 +1,9 @@
 //! Which documents are refused before they are resolved, and why.
 
+use crate::of_document::{OfDocument, Told};
 use krates_cm::Metadata;
 use krates_resolve::admit;
-use krates_samples::documents::metadata;
-use krates_samples::table::{Question, Row, hold};
+use krates_samples::table::{Row, hold};
 use std::alloc::{AllocError, Global};
 use std::test::Fail;
 
@@ -18,10 +18,9 @@ fn outcome(alloc: Global, metadata: &Metadata) -> Result<String, AllocError> {
 /// What admission answers to the document of a line.
 struct Admitted;
 
-impl Question for Admitted {
-    fn told(alloc: Global, line: &str) -> Result<String, Fail> {
-        let metadata = metadata(alloc, line)?;
-        Ok(outcome(alloc, &metadata)?)
+impl Told for Admitted {
+    fn told_of(alloc: Global, metadata: &Metadata, _line: &str) -> Result<String, Fail> {
+        Ok(outcome(alloc, metadata)?)
     }
 }
 
@@ -34,7 +33,7 @@ const ADMITTED_DOCUMENTS: &[Row] = &[
 
 #[test]
 fn documents_that_are_admitted(rt: HostRuntime) -> Result<(), Fail> {
-    hold::<Admitted>(rt.alloc(), ADMITTED_DOCUMENTS)
+    hold::<OfDocument<Admitted>>(rt.alloc(), ADMITTED_DOCUMENTS)
 }
 
 const INVALID: &[Row] = &[
@@ -56,7 +55,7 @@ const INVALID: &[Row] = &[
 
 #[test]
 fn documents_without_graph_or_with_invalid_ids(rt: HostRuntime) -> Result<(), Fail> {
-    hold::<Admitted>(rt.alloc(), INVALID)
+    hold::<OfDocument<Admitted>>(rt.alloc(), INVALID)
 }
 
 const DOUBLED: &[Row] = &[
@@ -76,5 +75,5 @@ const DOUBLED: &[Row] = &[
 
 #[test]
 fn documents_with_doubled_ids(rt: HostRuntime) -> Result<(), Fail> {
-    hold::<Admitted>(rt.alloc(), DOUBLED)
+    hold::<OfDocument<Admitted>>(rt.alloc(), DOUBLED)
 }

@@ -123,10 +123,29 @@ fn answer(
     }
 }
 
+/// What a document answers to a question under a setting, once it is admitted.
+fn ask(
+    alloc: Global,
+    metadata: &Metadata,
+    setting: &Setting,
+    question: &str,
+) -> Result<String, Fail> {
+    let ids = admit(alloc, metadata)?;
+    let asked = Document::new(alloc, metadata, &ids)?;
+    answer(alloc, &asked, setting, question)
+}
+
 /// The document of the two members, with the sections of a line.
 fn document_of(alloc: Global, line: &str) -> Result<Metadata, Fail> {
     let line = format!(in alloc; "{MEMBERS} / {line}")?;
     metadata(alloc, line.as_str())
+}
+
+/// What a document answers to the question that a line begins with, under the setting of the line.
+fn answer_of(alloc: Global, metadata: &Metadata, line: &str) -> Result<String, Fail> {
+    let (question, _) = line.split_once(" / ").unwrap_or((line, ""));
+    let setting = setting_of(alloc, line)?;
+    ask(alloc, metadata, &setting, question)
 }
 
 /// What the document of the two members answers to the question that a line begins with, under the setting of the line.
@@ -134,12 +153,8 @@ struct Asked;
 
 impl Question for Asked {
     fn told(alloc: Global, line: &str) -> Result<String, Fail> {
-        let (question, _) = line.split_once(" / ").unwrap_or((line, ""));
         let metadata = document_of(alloc, line)?;
-        let ids = admit(alloc, &metadata)?;
-        let asked = Document::new(alloc, &metadata, &ids)?;
-        let setting = setting_of(alloc, line)?;
-        answer(alloc, &asked, &setting, question)
+        answer_of(alloc, &metadata, line)
     }
 }
 

@@ -8,6 +8,8 @@ mod asked;
 #[cfg(test)]
 mod enabled;
 #[cfg(test)]
+mod of_document;
+#[cfg(test)]
 mod referents;
 #[cfg(test)]
 mod selection;

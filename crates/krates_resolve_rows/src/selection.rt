@@ -1,11 +1,11 @@
 //! What is selected of a document: crates, edges with their places, and features, each in order.
 
-use crate::setters::setting_of;
+use crate::of_document::{OfDocument, OfSelection, ToldOfSelection};
 use krates_cm::DependencyKind;
 use krates_ids::Error;
-use krates_resolve::{KeptEdge, Selection, admit, select};
-use krates_samples::documents::{metadata, word_of};
-use krates_samples::table::{Question, Row, hold};
+use krates_resolve::{KeptEdge, Selection};
+use krates_samples::documents::word_of;
+use krates_samples::table::{Row, hold};
 use std::alloc::{AllocError, Global};
 use std::test::Fail;
 
@@ -69,26 +69,23 @@ fn text_of(alloc: Global, selection: &Selection) -> Result<String, AllocError> {
     Ok(text)
 }
 
-/// What was selected, or the text of the refusal.
-fn outcome(alloc: Global, selected: Result<Selection, Error>) -> Result<String, AllocError> {
-    match selected {
-        Ok(selection) => text_of(alloc, &selection),
-        Err(error) => format!(in alloc; "{error}"),
+/// What is selected, or the text of the refusal.
+pub(crate) struct Listed;
+
+impl ToldOfSelection for Listed {
+    fn told_of_selection(
+        alloc: Global,
+        selected: &Result<Selection, Error>,
+    ) -> Result<String, AllocError> {
+        match selected {
+            Ok(selection) => text_of(alloc, selection),
+            Err(error) => format!(in alloc; "{error}"),
+        }
     }
 }
 
 /// What is selected of a document under the setting of its line, or the text of the refusal.
-pub(crate) struct Selected;
-
-impl Question for Selected {
-    fn told(alloc: Global, line: &str) -> Result<String, Fail> {
-        let metadata = metadata(alloc, line)?;
-        let ids = admit(alloc, &metadata)?;
-        let setting = setting_of(alloc, line)?;
-        let selected = select(alloc, &metadata, &ids, &setting);
-        Ok(outcome(alloc, selected)?)
-    }
-}
+pub(crate) type Selected = OfDocument<OfSelection<Listed>>;
 
 const PLACES: &[Row] = &[
     // a crate that declares another three times, last for its build, and whose node lists that for the build, for tests and for

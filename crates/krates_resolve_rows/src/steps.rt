@@ -1,8 +1,9 @@
 //! The steps by which what is selected was found, in numbers of the document.
 
-use krates_resolve::{NumberedFact, NumberedStep, Selection, Setting, admit, select};
-use krates_samples::documents::metadata;
-use krates_samples::table::{Question, Row, hold};
+use crate::of_document::{OfDocument, OfSelection, ToldOfSelection};
+use krates_ids::Error;
+use krates_resolve::{NumberedFact, NumberedStep, Selection};
+use krates_samples::table::{Row, hold};
 use std::alloc::{AllocError, Global};
 use std::test::Fail;
 
@@ -44,16 +45,18 @@ fn steps_of(alloc: Global, selection: &Selection) -> Result<String, AllocError> 
     Ok(text)
 }
 
-/// The steps of the selection of a document.
+/// The steps of a selection, or the text of the refusal.
 struct Stepped;
 
-impl Question for Stepped {
-    fn told(alloc: Global, line: &str) -> Result<String, Fail> {
-        let metadata = metadata(alloc, line)?;
-        let ids = admit(alloc, &metadata)?;
-        let setting = Setting::new(alloc);
-        let selection = select(alloc, &metadata, &ids, &setting)?;
-        Ok(steps_of(alloc, &selection)?)
+impl ToldOfSelection for Stepped {
+    fn told_of_selection(
+        alloc: Global,
+        selected: &Result<Selection, Error>,
+    ) -> Result<String, AllocError> {
+        match selected {
+            Ok(selection) => steps_of(alloc, selection),
+            Err(error) => format!(in alloc; "{error}"),
+        }
     }
 }
 
@@ -94,5 +97,5 @@ const STEPS: &[Row] = &[
 
 #[test]
 fn steps_of_selections(rt: HostRuntime) -> Result<(), Fail> {
-    hold::<Stepped>(rt.alloc(), STEPS)
+    hold::<OfDocument<OfSelection<Stepped>>>(rt.alloc(), STEPS)
 }

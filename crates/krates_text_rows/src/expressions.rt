@@ -122,11 +122,22 @@ impl Question for Value {
     }
 }
 
+/// The value of an expression at a target.
+fn value_for(
+    alloc: Global,
+    text: &str,
+    target: &Target,
+    features: &[String],
+) -> Result<bool, CfgError> {
+    let expression = Expression::parse(alloc, text)?;
+    Ok(expression.eval(target, features))
+}
+
 /// The value of an expression at a target with one feature.
 fn value_at(alloc: Global, text: &str, triple: &str, feature: &str) -> Result<bool, Fail> {
     let target = Target::new(alloc, triple)?;
     let features = vec![in alloc; String::from_str(alloc, feature)?]?;
-    Ok(Expression::parse(alloc, text)?.eval(&target, features.as_slice()))
+    Ok(value_for(alloc, text, &target, features.as_slice())?)
 }
 
 #[test]
@@ -139,10 +150,11 @@ struct Counted;
 
 impl Question for Counted {
     fn told(alloc: Global, text: &str) -> Result<String, Fail> {
-        match Expression::parse(alloc, text) {
-            Ok(expression) => Ok(format!(in alloc; "{}", expression.predicates())?),
-            Err(error) => Ok(format!(in alloc; "{error}")?),
-        }
+        let told = match Expression::parse(alloc, text) {
+            Ok(expression) => format!(in alloc; "{}", expression.predicates()),
+            Err(error) => format!(in alloc; "{error}"),
+        };
+        Ok(told?)
     }
 }
 

@@ -45,15 +45,21 @@ const PRINTED: &[Row] = &[
     ("", ""),
 ];
 
-/// A description with each of its fields.
-fn shown(alloc: Global, info: &TargetInfo) -> Result<String, AllocError> {
-    format!(in alloc; "{info:?}")
+/// A description with each of its fields, or that there is none.
+fn shown(alloc: Global, info: Option<&TargetInfo>) -> Result<String, AllocError> {
+    match info {
+        Some(info) => format!(in alloc; "{info:?}"),
+        None => String::from_str(alloc, "no row"),
+    }
 }
 
-/// A copy of a description with each of its fields.
-fn shown_copy(alloc: Global, info: &TargetInfo) -> Result<String, AllocError> {
+/// A copy of a description with each of its fields, or that there is none.
+fn shown_copy(alloc: Global, info: Option<&TargetInfo>) -> Result<String, AllocError> {
+    let Some(info) = info else {
+        return shown(alloc, None);
+    };
     let copy = info.clone()?;
-    shown(alloc, &copy)
+    shown(alloc, Some(&copy))
 }
 
 /// The description of a target.
@@ -61,10 +67,8 @@ struct Described;
 
 impl Question for Described {
     fn told(alloc: Global, triple: &str) -> Result<String, Fail> {
-        match builtin(alloc, triple)? {
-            Some(info) => Ok(shown(alloc, &info)?),
-            None => Ok(String::from_str(alloc, "no row")?),
-        }
+        let info = builtin(alloc, triple)?;
+        Ok(shown(alloc, info.as_ref())?)
     }
 }
 
@@ -73,10 +77,8 @@ struct Copied;
 
 impl Question for Copied {
     fn told(alloc: Global, triple: &str) -> Result<String, Fail> {
-        match builtin(alloc, triple)? {
-            Some(info) => Ok(shown_copy(alloc, &info)?),
-            None => Ok(String::from_str(alloc, "no row")?),
-        }
+        let info = builtin(alloc, triple)?;
+        Ok(shown_copy(alloc, info.as_ref())?)
     }
 }
 

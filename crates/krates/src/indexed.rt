@@ -1,7 +1,7 @@
 //! Looking packages up in an index, and correcting them by what it answers.
 
 ghost use Rattle.std.specs.Prelude.{IfOk};
-ghost use Rattle.krates_packages.specs.Indexed.{HasNames, IsAskable, IsSeen};
+ghost use Rattle.krates.specs.Indexed.{HasNames, IsAskable, IsSeen};
 
 use krates_cm::{Metadata, Package};
 use krates_document::corrected_document::corrected;
@@ -17,8 +17,9 @@ pub struct IndexSource {
 }
 
 /// The document that a build looks at: with an index, which is asked once for the names of all packages, each package is
-/// corrected by its answer; without one, the document as it is.
-pub fn seen_through(
+/// corrected by its answer; without one, the document as it is. Returns `AllocError` if memory runs out. Time O(n log n) in the
+/// size of the packages, and that of the index.
+pub(crate) fn seen_through(
     alloc: Global,
     index: Option<IndexSource>,
     metadata: Metadata,

@@ -3,7 +3,7 @@ use Rattle.std.specs.BTreeSet.{contains_text}
 use Rattle.std.specs.Str.{bytes_eq}
 use Rattle.std.proofs.lemmas.List.Folds.{list_any_more}
 use Rattle.std.proofs.lemmas.Map.Text.{btree_set_updates_text}
-use Rattle.krates_packages.proofs.indexed.names_of.Goals as goal
+use Rattle.krates.proofs.indexed.names_of.Goals as goal
 
 -- an added name is found, and any other is as before
 added_or_before : (b x : Bool) → cond b true x ≡ (x || b)
