@@ -187,19 +187,30 @@ fn listings(rt: HostRuntime) -> Result<(), Fail> {
 }
 
 /// The lines that a run wrote, or why it is refused.
-fn lines_of(alloc: Global, ran: Result<(), RunError>, output: &[u8]) -> Result<String, Fail> {
-    match ran {
-        Ok(()) => Ok(String::from_str(alloc, str::from_utf8(output)?)?),
-        Err(error) => Ok(format!(in alloc; "{error}")?),
-    }
+fn lines_of(alloc: Global, ran: &Result<(), RunError>, output: &[u8]) -> Result<String, Fail> {
+    let output = str::from_utf8(output)?;
+    let told = match ran {
+        Ok(()) => String::from_str(alloc, output),
+        Err(error) => format!(in alloc; "{error}"),
+    };
+    Ok(told?)
+}
+
+/// Runs with this program in cargo's place, under no options.
+fn run_plainly(
+    rt: &HostRuntime,
+    cargo: &str,
+    output: &mut Counted<Vec<u8>>,
+) -> Result<(), RunError> {
+    let options = Options::new(rt.alloc());
+    run_by_cargo(rt.alloc(), &options, cargo, rt, output)
 }
 
 /// What a run with this program in cargo's place writes, or why it is refused.
 fn written(rt: &HostRuntime, cargo: &str) -> Result<String, Fail> {
     let mut output = Counted::new(Vec::new(rt.alloc()));
-    let options = Options::new(rt.alloc());
-    let ran = run_by_cargo(rt.alloc(), &options, cargo, rt, &mut output);
-    lines_of(rt.alloc(), ran, output.get_ref().as_slice())
+    let ran = run_plainly(rt, cargo, &mut output);
+    lines_of(rt.alloc(), &ran, output.get_ref().as_slice())
 }
 
 #[test]

@@ -138,6 +138,37 @@ fn barred(alloc: Global, command: &MetadataCommand) -> Result<String, AllocError
     words.as_slice().join(alloc, "|")
 }
 
+/// Sets the manifest's path, the program or the directory of a command.
+fn set_text(command: &mut MetadataCommand, setter: &str, text: String) {
+    match setter {
+        "manifest" => {
+            command.manifest_path(text);
+        }
+        "cargo" => {
+            command.cargo_path(text);
+        }
+        _ => {
+            command.current_dir(text);
+        }
+    }
+}
+
+/// Chooses all features, no default ones, or those of these names.
+fn choose(
+    alloc: Global,
+    command: &mut MetadataCommand,
+    choice: &str,
+    names: &str,
+) -> Result<(), Error> {
+    let features = match choice {
+        "all" => Features::All,
+        "no-default" => Features::NoDefault,
+        _ => Features::Selected(parts(alloc, names)?),
+    };
+    command.features(features)?;
+    Ok(())
+}
+
 /// Sets what a word says.
 fn set(alloc: Global, command: &mut MetadataCommand, word: &str) -> Result<(), Error> {
     let (setter, value) = word.split_once('=').unwrap_or((word, ""));
@@ -145,31 +176,15 @@ fn set(alloc: Global, command: &mut MetadataCommand, word: &str) -> Result<(), E
         "no-deps" => {
             command.no_deps();
         }
-        "all" => {
-            command.features(Features::All)?;
-        }
-        "no-default" => {
-            command.features(Features::NoDefault)?;
-        }
-        "selected" => {
-            command.features(Features::Selected(parts(alloc, value)?))?;
-        }
-        "manifest" => {
-            command.manifest_path(String::from_str(alloc, value)?);
-        }
-        "cargo" => {
-            command.cargo_path(String::from_str(alloc, value)?);
-        }
-        "dir" => {
-            command.current_dir(String::from_str(alloc, value)?);
-        }
+        "all" | "no-default" | "selected" => return choose(alloc, command, setter, value),
         "env" => {
             let (name, value) = value.split_once(',').unwrap_or((value, ""));
             command.env(name, value)?;
         }
-        _ => {
+        "other" => {
             command.other_options(parts(alloc, value)?);
         }
+        _ => set_text(command, setter, String::from_str(alloc, value)?),
     }
     Ok(())
 }
@@ -251,6 +266,21 @@ fn words_of_a_command(rt: HostRuntime) -> Result<(), Fail> {
     hold::<CommandWords>(&rt, WORDS)
 }
 
+/// Sets the program, the manifest's path or the directory of a tool's options.
+fn ask_text(cmd: &mut Cmd, setter: &str, text: String) {
+    match setter {
+        "cargo" => {
+            cmd.cargo_path(text);
+        }
+        "manifest" => {
+            cmd.manifest_path(text);
+        }
+        _ => {
+            cmd.current_dir(text);
+        }
+    }
+}
+
 /// Sets what a word says.
 fn ask(alloc: Global, cmd: &mut Cmd, word: &str) -> Result<(), AllocError> {
     let (setter, value) = word.split_once('=').unwrap_or((word, ""));
@@ -268,21 +298,13 @@ fn ask(alloc: Global, cmd: &mut Cmd, word: &str) -> Result<(), AllocError> {
                 offline: true,
             });
         }
-        "cargo" => {
-            cmd.cargo_path(String::from_str(alloc, value)?);
-        }
-        "manifest" => {
-            cmd.manifest_path(String::from_str(alloc, value)?);
-        }
-        "dir" => {
-            cmd.current_dir(String::from_str(alloc, value)?);
-        }
         "feature" => {
             cmd.features(parts(alloc, value)?)?;
         }
-        _ => {
+        "other" => {
             cmd.other_options(parts(alloc, value)?)?;
         }
+        _ => ask_text(cmd, setter, String::from_str(alloc, value)?),
     }
     Ok(())
 }
@@ -435,10 +457,16 @@ fn first_json_line() -> Result<(), Fail> {
     Ok(())
 }
 
+/// What a copy of a choice of features shows.
+fn shown_copy_of(alloc: Global, features: &Features) -> Result<String, AllocError> {
+    let copy = features.clone()?;
+    format!(in alloc; "{copy:?}")
+}
+
 #[test]
 fn a_copy_of_features_holds_the_same(rt: HostRuntime) -> Result<(), Fail> {
     let features = Features::Selected(parts(rt.alloc(), "x,y")?);
-    let copy = format!(in rt.alloc(); "{:?}", features.clone()?)?;
+    let copy = shown_copy_of(rt.alloc(), &features)?;
     assert_eq!(rt; copy.as_str(), "Selected([\"x\", \"y\"])");
     Ok(())
 }

@@ -55,28 +55,39 @@ pub(crate) fn run(rt: &HostRuntime) -> Result<u8, Fail> {
     stand_in(rt, words.as_slice())
 }
 
-/// A command that this program runs in cargo's place, with this last word.
-pub(crate) fn command(rt: &HostRuntime, last: &str) -> Result<MetadataCommand, Fail> {
-    let alloc = rt.alloc();
-    let program = std::env::current_exe(rt)?;
-    let mut options = Vec::new(alloc);
-    options.push(String::from_str(alloc, last)?)?;
-    let mut command = MetadataCommand::new(alloc);
+/// Sets a program and a last word, and twice a variable.
+fn set(command: &mut MetadataCommand, program: String, last: Vec<String>) -> Result<(), Error> {
     command
-        .cargo_path(String::from_str(alloc, program.as_str())?)
-        .other_options(options)
+        .cargo_path(program)
+        .other_options(last)
         .env("FAKE_CARGO", "another")?
         .env("FAKE_CARGO", "a value")?;
+    Ok(())
+}
+
+/// The path of this program, as a text of its own.
+fn this_program(rt: &HostRuntime) -> Result<String, Fail> {
+    let program = std::env::current_exe(rt)?;
+    Ok(String::from_str(rt.alloc(), program.as_str())?)
+}
+
+/// A command that this program runs in cargo's place, with this last word.
+pub(crate) fn command(rt: &HostRuntime, last: &str) -> Result<MetadataCommand, Fail> {
+    let program = this_program(rt)?;
+    let last = vec![in rt.alloc(); String::from_str(rt.alloc(), last)?]?;
+    let mut command = MetadataCommand::new(rt.alloc());
+    set(&mut command, program, last)?;
     Ok(command)
 }
 
 /// What is read of a run.
 fn told(rt: &HostRuntime, command: &MetadataCommand) -> Result<String, Fail> {
     let alloc = rt.alloc();
-    match command.exec(None, rt) {
-        Ok(metadata) => Ok(format!(in alloc; "{} packages", metadata.packages.len())?),
-        Err(error) => Ok(format!(in alloc; "{error}")?),
-    }
+    let told = match command.exec(None, rt) {
+        Ok(metadata) => format!(in alloc; "{} packages", metadata.packages.len()),
+        Err(error) => format!(in alloc; "{error}"),
+    };
+    Ok(told?)
 }
 
 /// What is read of a run with this last word.
