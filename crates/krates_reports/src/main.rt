@@ -24,7 +24,7 @@ use crate::answers::push_answers;
 use crate::drawing::push_graph;
 use crate::words::{Advisory, Asked, asked_by};
 use krates::cm::MetadataCommand;
-use krates::{Builder, Krates, Metadata, NoneFilter, Package, PackageId};
+use krates::{Builder, Error, Krates, Metadata, NoneFilter, Package, PackageId};
 use krates_cli::{Counted, Options, RunError, set_options};
 use std::alloc::{AllocError, Global};
 use std::process::ExitCode;
@@ -51,18 +51,26 @@ fn ids_of(alloc: Global, packages: &[Package]) -> Result<Vec<PackageId>, AllocEr
     Ok(ids)
 }
 
+/// Adds a report, if it could be made.
+fn push_report(lines: &mut String, report: Result<String, AllocError>) -> Result<(), AllocError> {
+    lines.push_str(report?.as_str())
+}
+
 /// Adds the four reports.
 fn push_reports(
     alloc: Global,
     lines: &mut String,
     krates: &Krates,
-    asked: &Advisory,
+    asked: &Advisory<'_>,
 ) -> Result<(), AllocError> {
-    let (name, affected) = (asked.name.as_str(), &asked.affected);
-    lines.push_str(licences::report(alloc, krates)?.as_str())?;
-    lines.push_str(advisory::report(alloc, krates, name, affected)?.as_str())?;
-    writeln!(lines, "{}", materials::report(alloc, krates)?)?;
-    lines.push_str(duplicates::report(alloc, krates)?.as_str())
+    push_report(lines, licences::report(alloc, krates))?;
+    push_report(
+        lines,
+        advisory::report(alloc, krates, asked.name, &asked.affected),
+    )?;
+    push_report(lines, materials::report(alloc, krates))?;
+    lines.push_str("\n")?;
+    push_report(lines, duplicates::report(alloc, krates))
 }
 
 /// Adds what is asked of a graph, where the packages of the document have these ids.
@@ -71,57 +79,46 @@ fn push_asked(
     lines: &mut String,
     krates: &Krates,
     ids: &[PackageId],
-    asked: &Asked,
-) -> Result<(), AllocError> {
+    asked: &Asked<'_>,
+) -> Result<(), RunError> {
     if asked.has_graph {
         push_graph(lines, krates.graph())?;
     }
     if asked.has_queries {
         push_answers(alloc, lines, krates, ids)?;
     }
-    match &asked.advisory {
-        Some(advisory) => push_reports(alloc, lines, krates, advisory),
-        None => Ok(()),
+    if let Some(advisory) = &asked.advisory {
+        push_reports(alloc, lines, krates, advisory)?;
     }
+    Ok(())
 }
 
 /// The graph of a document under the options.
-fn graph_of(alloc: Global, options: &Options, metadata: Metadata) -> Result<Krates, RunError> {
+fn graph_of(alloc: Global, options: &Options, metadata: Metadata) -> Result<Krates, Error> {
     let mut builder = Builder::new(alloc);
     set_options(alloc, options, &mut builder)?;
-    Ok(builder.build_with_metadata(metadata, &mut NoneFilter)?)
+    builder.build_with_metadata(metadata, &mut NoneFilter)
 }
 
 /// Adds what is asked of a text's document.
 fn push_document(
     alloc: Global,
     lines: &mut String,
-    asked: &Asked,
+    asked: &Asked<'_>,
     text: &str,
 ) -> Result<(), RunError> {
     let metadata = MetadataCommand::parse(alloc, text)?;
-    let ids = ids_of(alloc, &metadata.packages)?;
+    let ids = ids_of(alloc, &metadata.packages);
     let krates = graph_of(alloc, &asked.options, metadata)?;
-    Ok(push_asked(alloc, lines, &krates, &ids, asked)?)
+    push_asked(alloc, lines, &krates, &ids?, asked)
 }
 
-/// Adds what is asked of each of the documents, which an empty line divides.
-fn push_documents(
-    alloc: Global,
-    lines: &mut String,
-    asked: &Asked,
-    texts: &str,
-) -> Result<(), RunError> {
-    for text in texts.split("\n\n") {
-        push_document(alloc, lines, asked, text)?;
-    }
-    Ok(())
-}
-
-/// What is asked of the documents.
-fn lines_of(alloc: Global, asked: &Asked, texts: &str) -> Result<String, RunError> {
+/// What is asked of each of the documents, which an empty line divides.
+fn lines_of(alloc: Global, asked: &Asked<'_>, texts: &str) -> Result<String, RunError> {
     let mut lines = String::new(alloc);
-    push_documents(alloc, &mut lines, asked, texts)?;
+    for text in texts.split("\n\n") {
+        push_document(alloc, &mut lines, asked, text)?;
+    }
     Ok(lines)
 }
 
@@ -134,20 +131,15 @@ fn read(rt: &HostRuntime) -> Result<String, RunError> {
     }
 }
 
-/// Prints the lines.
-fn write(rt: &HostRuntime, lines: &str) -> Result<(), RunError> {
+/// Reads the documents and prints what is asked of them.
+fn print(rt: &HostRuntime, asked: &Asked<'_>) -> Result<(), RunError> {
+    let texts = read(rt)?;
+    let lines = lines_of(rt.alloc(), asked, texts.as_str())?;
     Counted::new(rt.stdout()).write_all(lines.as_bytes())
 }
 
-/// Reads the documents and prints the lines.
-fn print(rt: &HostRuntime, asked: &Asked) -> Result<(), RunError> {
-    let texts = read(rt)?;
-    let lines = lines_of(rt.alloc(), asked, texts.as_str())?;
-    write(rt, lines.as_str())
-}
-
 /// Prints what is asked, and says whether it was refused.
-fn print_or_refuse(rt: &HostRuntime, asked: &Asked) -> ExitCode {
+fn print_or_refuse(rt: &HostRuntime, asked: &Asked<'_>) -> ExitCode {
     match print(rt, asked) {
         Ok(()) => ExitCode::SUCCESS,
         Err(error) => {
