@@ -21,6 +21,4 @@ mod refusals;
 #[cfg(test)]
 mod specifications;
 #[cfg(test)]
-mod texts;
-#[cfg(test)]
 mod writing;

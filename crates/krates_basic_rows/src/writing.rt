@@ -137,13 +137,9 @@ impl Question for RustVersion {
 }
 
 #[test]
-fn texts_are_written(rt: HostRuntime) -> Result<(), Fail> {
+fn ids_dependencies_and_targets_are_written(rt: HostRuntime) -> Result<(), Fail> {
     hold::<Written<PackageId>>(rt.alloc(), IDS)?;
-    hold::<Written<Source>>(rt.alloc(), IDS)
-}
-
-#[test]
-fn dependencies_and_targets_are_written(rt: HostRuntime) -> Result<(), Fail> {
+    hold::<Written<Source>>(rt.alloc(), IDS)?;
     hold::<Written<Dependency>>(rt.alloc(), DECLARED)?;
     hold::<Written<Target>>(rt.alloc(), TARGETS)
 }

@@ -3,19 +3,18 @@
 ghost use Rattle.std.specs.Prelude.{⊤};
 
 use crate::ids::answer;
-use crate::starving::{Call, Little, granted, other_refusal, refused, starved};
+use crate::starving::{Call, granted, other_refusal, refused, starved};
 use krates::index::{BuildIndexCache, IndexAnswer, PackageNames};
 use krates::{Builder, Error, Krates, Metadata, OnFilter, Package};
 use krates_samples::documents::metadata;
 use std::alloc::Global;
+use std::collections::BTreeMap;
+use std::mem::replace;
 use std::test::Fail;
 
 /// The first crate needs the second where a feature of its own is enabled, and a reference that is no reason to need it enables a
 /// feature of that; nobody needs the third.
 pub(crate) const FEATURES: &str = "a b?;b=dep:b w=b?/j|b;j=|c / nodes a b;b w|b;j|c";
-
-/// Where the edges of the first graph lead, one after the other.
-const TARGETS: &[usize] = &[1, 4, 0, 1, 0, 4, 1];
 
 /// Counts the packages that aren't kept.
 #[derive(Drop)]
@@ -42,85 +41,99 @@ fn leads_to(krates: &Krates, targets: &[usize]) -> bool {
         .eq(targets.iter().copied())
 }
 
-/// Whether a build has an answer with ample memory: a graph whose edges lead to these nodes, and one package that is reported. A
-/// refusal reports none.
-fn judged(built: Result<Krates, Error>, count: &Count, targets: &[usize]) -> Result<bool, Fail> {
-    match built {
-        Ok(krates) => granted(count.packages == 1 && leads_to(&krates, targets)),
-        Err(Error::Memory) => refused(count.packages == 0),
-        Err(_) => other_refusal(),
-    }
+/// A document until it is built of, what the index answers of it, and how many packages aren't kept.
+#[derive(Drop)]
+struct Building {
+    metadata: Option<Metadata>,
+    answer: IndexAnswer,
+    count: Count,
 }
 
-/// Builds without an index.
+/// A build of the document of a line, with or without the index, and where the edges of its graph lead, one after the other.
 #[derive(Debug)]
-struct Build;
+struct Build {
+    line: &'static str,
+    is_indexed: bool,
+    targets: &'static [usize],
+}
 
-/// The build.
-const BUILT: &[Build] = &[Build];
+/// The build without an index.
+const BUILT: &[Build] = &[Build {
+    line: FEATURES,
+    is_indexed: false,
+    targets: &[1, 4, 0, 1, 0, 4, 1],
+}];
+
+/// The build with an index, which gives the package a feature.
+const BUILT_INDEXED: &[Build] = &[Build {
+    line: "p@1.0.0&crates.io;default=foo foo=std|c / nodes p@1.0.0&crates.io;default foo std|c / members p@1.0.0&crates.io",
+    is_indexed: true,
+    targets: &[0, 2, 0, 3, 0],
+}];
+
+/// Builds with an index that gives this answer.
+fn built_indexed(
+    alloc: Global,
+    metadata: Metadata,
+    answer: IndexAnswer,
+    count: &mut Count,
+) -> Result<Krates, Error> {
+    let Ok(boxed) = Box::new(alloc, move |names: PackageNames| {
+        drop(names);
+        answer
+    }) else {
+        return Err(Error::Memory);
+    };
+    let build: BuildIndexCache = boxed;
+    let mut builder = Builder::new(alloc);
+    builder.with_crates_io_index(build);
+    builder.build_with_metadata(metadata, count)
+}
 
 impl Call for Build {
-    type Given = Metadata;
+    type Given = Building;
 
-    fn given(&self, alloc: Global) -> Result<Metadata, Fail> {
-        metadata(alloc, FEATURES)
+    type Answer = Result<Krates, Error>;
+
+    fn given(&self, alloc: Global) -> Result<Building, Fail> {
+        let answer = answer(alloc)?;
+        let metadata = metadata(alloc, self.line)?;
+        Ok(Building {
+            metadata: Some(metadata),
+            answer,
+            count: Count { packages: 0 },
+        })
     }
 
-    fn is_granted(&self, alloc: Global, given: Metadata, little: Little) -> Result<bool, Fail> {
-        let mut count = Count { packages: 0 };
-        let built = Builder::new(alloc).build_with_metadata(given, &mut count);
-        drop(little);
-        judged(built, &count, TARGETS)
+    fn answer(&self, alloc: Global, given: &mut Building) -> Result<Krates, Error> {
+        let Some(metadata) = given.metadata.take() else {
+            return Err(Error::NoResolveGraph);
+        };
+        if !self.is_indexed {
+            return Builder::new(alloc).build_with_metadata(metadata, &mut given.count);
+        }
+        let krates = BTreeMap::new(alloc);
+        let answer = replace(&mut given.answer, IndexAnswer { krates });
+        built_indexed(alloc, metadata, answer, &mut given.count)
+    }
+
+    fn is_granted(
+        &self,
+        _alloc: Global,
+        given: &mut Building,
+        answer: &Result<Krates, Error>,
+    ) -> Result<bool, Fail> {
+        match answer {
+            Ok(krates) => granted(given.count.packages == 1 && leads_to(krates, self.targets)),
+            Err(Error::Memory) => refused(given.count.packages == 0),
+            Err(_) => other_refusal(),
+        }
     }
 }
 
 #[test]
 fn a_build(rt: HostRuntime) -> Result<(), Fail> {
     starved(&rt, BUILT)
-}
-
-/// A document, and what the index answers of it.
-#[derive(Drop)]
-struct Indexed {
-    metadata: Metadata,
-    answer: IndexAnswer,
-}
-
-/// Builds with an index, which gives the package a feature.
-#[derive(Debug)]
-struct BuildIndexed;
-
-/// The build with an index.
-const BUILT_INDEXED: &[BuildIndexed] = &[BuildIndexed];
-
-impl Call for BuildIndexed {
-    type Given = Indexed;
-
-    fn given(&self, alloc: Global) -> Result<Indexed, Fail> {
-        let metadata = metadata(
-            alloc,
-            "p@1.0.0&crates.io;default=foo foo=std|c / nodes p@1.0.0&crates.io;default foo std|c / members p@1.0.0&crates.io",
-        )?;
-        let answer = answer(alloc)?;
-        Ok(Indexed { metadata, answer })
-    }
-
-    fn is_granted(&self, alloc: Global, given: Indexed, little: Little) -> Result<bool, Fail> {
-        let Indexed { metadata, answer } = given;
-        let Ok(boxed) = Box::new(alloc, move |names: PackageNames| {
-            drop(names);
-            answer
-        }) else {
-            return refused(true);
-        };
-        let build: BuildIndexCache = boxed;
-        let mut builder = Builder::new(alloc);
-        builder.with_crates_io_index(build);
-        let mut count = Count { packages: 0 };
-        let built = builder.build_with_metadata(metadata, &mut count);
-        drop(little);
-        judged(built, &count, &[0, 2, 0, 3, 0])
-    }
 }
 
 #[test]

@@ -1,11 +1,12 @@
 //! The two checkers, with an index.
 
+use crate::documents::boxed;
 use crate::ids::answer;
-use crate::starving::{Call, Little, granted, other_refusal, refused, starved};
+use crate::starving::{Call, granted, other_refusal, refused, starved};
 use krates::derive::{CheckError, Derivation, Fact, Step, check, check_closed};
 use krates::index::CachingIndex;
 use krates::{Builder, Metadata};
-use krates_samples::documents::{kid_of, metadata};
+use krates_samples::documents::kid_of;
 use std::alloc::{AllocError, Global};
 use std::test::Fail;
 
@@ -15,18 +16,20 @@ const PACKAGE: &str = "p@1.0.0&crates.io";
 /// What is checked, and what it is checked by.
 #[derive(Drop)]
 struct Checked {
-    metadata: Metadata,
+    metadata: Box<Metadata>,
     index: CachingIndex,
     steps: Derivation,
     facts: Vec<Fact>,
 }
 
-/// A feature of the package is enabled.
-fn feature(alloc: Global, name: &str) -> Result<Fact, Fail> {
-    Ok(Fact::Feature {
-        krate: kid_of(alloc, PACKAGE)?,
-        name: String::from_str(alloc, name)?,
-    })
+/// The feature of this name of the package is enabled, or the package is kept, where there is no name.
+fn fact(alloc: Global, feature: Option<&str>) -> Result<Fact, Fail> {
+    let krate = kid_of(alloc, PACKAGE)?;
+    let Some(name) = feature else {
+        return Ok(Fact::Crate(krate));
+    };
+    let name = String::from_str(alloc, name)?;
+    Ok(Fact::Feature { krate, name })
 }
 
 /// Adds a step: a fact by its rule from the step before it, where there is one.
@@ -48,23 +51,18 @@ pub(crate) fn push_step(
 fn steps(alloc: Global) -> Result<Derivation, Fail> {
     let steps = Vec::new(alloc);
     let mut derivation = Derivation { steps };
-    push_step(alloc, &mut derivation, 1, feature(alloc, "default")?)?;
-    push_step(alloc, &mut derivation, 3, feature(alloc, "foo")?)?;
-    push_step(
-        alloc,
-        &mut derivation,
-        2,
-        Fact::Crate(kid_of(alloc, PACKAGE)?),
-    )?;
+    for (rule, feature) in [(1, Some("default")), (3, Some("foo")), (2, None)] {
+        push_step(alloc, &mut derivation, rule, fact(alloc, feature)?)?;
+    }
     Ok(derivation)
 }
 
 /// What is kept of the package.
 fn facts(alloc: Global) -> Result<Vec<Fact>, Fail> {
     let mut facts = Vec::new(alloc);
-    facts.push(Fact::Crate(kid_of(alloc, PACKAGE)?))?;
-    facts.push(feature(alloc, "default")?)?;
-    facts.push(feature(alloc, "foo")?)?;
+    for feature in [None, Some("default"), Some("foo")] {
+        facts.push(fact(alloc, feature)?)?;
+    }
     Ok(facts)
 }
 
@@ -78,9 +76,28 @@ enum Checker {
 /// Both checkers.
 const CHECKERS: &[Checker] = &[Checker::Steps, Checker::Facts];
 
-impl Checker {
-    /// What the checker says.
-    fn answer(&self, alloc: Global, given: &Checked) -> Result<(), CheckError> {
+impl Call for Checker {
+    type Given = Checked;
+
+    type Answer = Result<(), CheckError>;
+
+    fn given(&self, alloc: Global) -> Result<Checked, Fail> {
+        let metadata = boxed(
+            alloc,
+            "p@1.0.0&crates.io;default=foo / nodes p@1.0.0&crates.io;default foo / members p@1.0.0&crates.io",
+        )?;
+        let answer = answer(alloc)?;
+        let steps = steps(alloc)?;
+        let facts = facts(alloc)?;
+        Ok(Checked {
+            metadata,
+            index: CachingIndex { answer },
+            steps,
+            facts,
+        })
+    }
+
+    fn answer(&self, alloc: Global, given: &mut Checked) -> Result<(), CheckError> {
         let builder = Builder::new(alloc);
         match self {
             Checker::Steps => check(&given.metadata, &builder, Some(&given.index), &given.steps),
@@ -89,30 +106,13 @@ impl Checker {
             }
         }
     }
-}
 
-impl Call for Checker {
-    type Given = Checked;
-
-    fn given(&self, alloc: Global) -> Result<Checked, Fail> {
-        let metadata = metadata(
-            alloc,
-            "p@1.0.0&crates.io;default=foo / nodes p@1.0.0&crates.io;default foo / members p@1.0.0&crates.io",
-        )?;
-        let index = CachingIndex {
-            answer: answer(alloc)?,
-        };
-        Ok(Checked {
-            metadata,
-            index,
-            steps: steps(alloc)?,
-            facts: facts(alloc)?,
-        })
-    }
-
-    fn is_granted(&self, alloc: Global, given: Checked, little: Little) -> Result<bool, Fail> {
-        let answer = self.answer(alloc, &given);
-        drop(little);
+    fn is_granted(
+        &self,
+        _alloc: Global,
+        _given: &mut Checked,
+        answer: &Result<(), CheckError>,
+    ) -> Result<bool, Fail> {
         match answer {
             Ok(()) => granted(true),
             Err(CheckError::Memory) => refused(true),

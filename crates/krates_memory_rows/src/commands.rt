@@ -1,9 +1,10 @@
 //! Commands: what grows in them, their words, and the command that a tool's options mean.
 
-use crate::starving::{Call, Little, granted, other_refusal, refused, starved};
+use crate::starving::{Call, granted, other_refusal, refused, starved};
 use krates_cargo::{Cmd, Features, MetadataCommand};
 use krates_cm::Error;
 use std::alloc::{AllocError, Global};
+use std::mem::replace;
 use std::process::Command;
 use std::test::Fail;
 
@@ -27,35 +28,33 @@ fn push_variables(text: &mut String, command: &Command) -> Result<(), AllocError
     Ok(())
 }
 
-/// The words behind `metadata --format-version 1`, each with a bar behind it.
-fn words_told(alloc: Global, words: &[String]) -> Result<String, AllocError> {
-    let mut text = String::new(alloc);
+/// Adds the words behind `metadata --format-version 1`, each with a bar behind it.
+fn push_words(text: &mut String, words: &[String]) -> Result<(), AllocError> {
     for word in words.iter().skip(3) {
         write!(text, "{word}|")?;
     }
-    Ok(text)
+    Ok(())
+}
+
+/// Compares the words with what is known.
+fn are_told(alloc: Global, words: &[String], expected: &str) -> Result<bool, AllocError> {
+    let mut text = String::new(alloc);
+    push_words(&mut text, words)?;
+    Ok(text.as_str() == expected)
+}
+
+/// Adds the variables that cargo is started with.
+fn push_environment(text: &mut String, command: &MetadataCommand) -> Result<(), Fail> {
+    let cargo = command.cargo_command(None)?;
+    Ok(push_variables(text, &cargo)?)
 }
 
 /// Compares the variables that a command sets, and its words, with what is known.
 fn is_told(alloc: Global, command: &MetadataCommand, expected: &str) -> Result<bool, Fail> {
     let mut text = String::new(alloc);
-    push_variables(&mut text, &command.cargo_command(None)?)?;
-    text.push_str(words_told(alloc, &command.args()?)?.as_str())?;
+    push_environment(&mut text, command)?;
+    push_words(&mut text, &command.args()?)?;
     Ok(text.as_str() == expected)
-}
-
-/// Judges a call by what is told of the command afterwards: this with enough memory, and that without.
-fn judged(
-    alloc: Global,
-    command: &MetadataCommand,
-    is_enough: bool,
-    ample: &str,
-    unchanged: &str,
-) -> Result<bool, Fail> {
-    if is_enough {
-        return granted(is_told(alloc, command, ample)?);
-    }
-    refused(is_told(alloc, command, unchanged)?)
 }
 
 /// A call on a command that has a feature, a variable and other settings.
@@ -96,6 +95,8 @@ fn set_command(alloc: Global, command: &mut MetadataCommand) -> Result<(), Fail>
 impl Call for OfCommand {
     type Given = Named;
 
+    type Answer = Result<Option<Vec<String>>, Error>;
+
     fn given(&self, alloc: Global) -> Result<Named, Fail> {
         let mut command = MetadataCommand::new(alloc);
         set_command(alloc, &mut command)?;
@@ -103,55 +104,38 @@ impl Call for OfCommand {
         Ok(Named { command, names })
     }
 
-    fn is_granted(&self, alloc: Global, given: Named, little: Little) -> Result<bool, Fail> {
+    fn answer(&self, alloc: Global, given: &mut Named) -> Result<Option<Vec<String>>, Error> {
         match self {
-            OfCommand::Features => has_features(alloc, given, little),
-            OfCommand::Env => has_variable(alloc, given.command, little),
-            OfCommand::Args => has_words(alloc, &given.command, little),
+            OfCommand::Features => {
+                let names = replace(&mut given.names, Vec::new(alloc));
+                given.command.features(Features::Selected(names))?;
+            }
+            OfCommand::Env => {
+                given.command.env("B", "2")?;
+            }
+            OfCommand::Args => return Ok(Some(given.command.args()?)),
         }
+        Ok(None)
     }
-}
 
-/// Chooses features.
-fn has_features(alloc: Global, given: Named, little: Little) -> Result<bool, Fail> {
-    let mut command = given.command;
-    let error = command.features(Features::Selected(given.names)).err();
-    drop(little);
-    let is_chosen = match error {
-        None => true,
-        Some(Error::Memory) => false,
-        Some(_) => return other_refusal(),
-    };
-    judged(
-        alloc,
-        &command,
-        is_chosen,
-        "A=1|--no-deps|--features|a,b,c,d,e,f,g,h,i,j|--manifest-path|p|--z|",
-        COMMAND,
-    )
-}
-
-/// Sets a variable.
-fn has_variable(alloc: Global, given: MetadataCommand, little: Little) -> Result<bool, Fail> {
-    let mut command = given;
-    let is_set = command.env("B", "2").is_ok();
-    drop(little);
-    judged(
-        alloc,
-        &command,
-        is_set,
-        "A=1|B=2|--no-deps|--features|a|--manifest-path|p|--z|",
-        COMMAND,
-    )
-}
-
-/// Asks for the words.
-fn has_words(alloc: Global, command: &MetadataCommand, little: Little) -> Result<bool, Fail> {
-    let answer = command.args();
-    drop(little);
-    match answer {
-        Ok(words) => granted(words_told(alloc, &words)?.as_str() == WORDS),
-        Err(AllocError) => refused(true),
+    fn is_granted(
+        &self,
+        alloc: Global,
+        given: &mut Named,
+        answer: &Result<Option<Vec<String>>, Error>,
+    ) -> Result<bool, Fail> {
+        let ample = match self {
+            OfCommand::Features => {
+                "A=1|--no-deps|--features|a,b,c,d,e,f,g,h,i,j|--manifest-path|p|--z|"
+            }
+            _ => "A=1|B=2|--no-deps|--features|a|--manifest-path|p|--z|",
+        };
+        match answer {
+            Ok(None) => granted(is_told(alloc, &given.command, ample)?),
+            Ok(Some(words)) => granted(are_told(alloc, words, WORDS)?),
+            Err(Error::Memory) => refused(is_told(alloc, &given.command, COMMAND)?),
+            Err(_) => other_refusal(),
+        }
     }
 }
 
@@ -194,8 +178,17 @@ fn set_options(alloc: Global, cmd: &mut Cmd) -> Result<(), Fail> {
     Ok(())
 }
 
+/// Compares what is told of the command that the options mean with what is known.
+fn means(alloc: Global, given: &mut Options, expected: &str) -> Result<bool, Fail> {
+    let cmd = replace(&mut given.cmd, Cmd::new(alloc));
+    let command = cmd.into_command()?;
+    is_told(alloc, &command, expected)
+}
+
 impl Call for OfOptions {
     type Given = Options;
+
+    type Answer = Result<Option<MetadataCommand>, Error>;
 
     fn given(&self, alloc: Global) -> Result<Options, Fail> {
         let mut cmd = Cmd::new(alloc);
@@ -204,53 +197,43 @@ impl Call for OfOptions {
         Ok(Options { cmd, names })
     }
 
-    fn is_granted(&self, alloc: Global, given: Options, little: Little) -> Result<bool, Fail> {
+    fn answer(&self, alloc: Global, given: &mut Options) -> Result<Option<MetadataCommand>, Error> {
         match self {
-            OfOptions::Features => adds_features(alloc, given, little),
-            OfOptions::OtherOptions => adds_options(alloc, given, little),
-            OfOptions::IntoCommand => becomes(alloc, given.cmd, little),
+            OfOptions::Features => {
+                let names = replace(&mut given.names, Vec::new(alloc));
+                given.cmd.features(names)?;
+            }
+            OfOptions::OtherOptions => {
+                let names = replace(&mut given.names, Vec::new(alloc));
+                given.cmd.other_options(names)?;
+            }
+            OfOptions::IntoCommand => {
+                let cmd = replace(&mut given.cmd, Cmd::new(alloc));
+                return Ok(Some(cmd.into_command()?));
+            }
         }
+        Ok(None)
     }
-}
 
-/// Adds features.
-fn adds_features(alloc: Global, given: Options, little: Little) -> Result<bool, Fail> {
-    let mut cmd = given.cmd;
-    let is_added = cmd.features(given.names).is_ok();
-    drop(little);
-    let command = cmd.into_command()?;
-    judged(
-        alloc,
-        &command,
-        is_added,
-        "--manifest-path|Cargo.toml|--all-features|--features|a b c d e f g h i j|--a|",
-        OPTIONS,
-    )
-}
-
-/// Adds other options.
-fn adds_options(alloc: Global, given: Options, little: Little) -> Result<bool, Fail> {
-    let mut cmd = given.cmd;
-    let is_added = cmd.other_options(given.names).is_ok();
-    drop(little);
-    let command = cmd.into_command()?;
-    judged(
-        alloc,
-        &command,
-        is_added,
-        "--manifest-path|Cargo.toml|--all-features|--features|a|--a|b|c|d|e|f|g|h|i|j|",
-        OPTIONS,
-    )
-}
-
-/// Makes the command that the options mean.
-fn becomes(alloc: Global, given: Cmd, little: Little) -> Result<bool, Fail> {
-    let answer = given.into_command();
-    drop(little);
-    match answer {
-        Ok(command) => granted(is_told(alloc, &command, OPTIONS)?),
-        Err(Error::Memory) => refused(true),
-        Err(_) => other_refusal(),
+    fn is_granted(
+        &self,
+        alloc: Global,
+        given: &mut Options,
+        answer: &Result<Option<MetadataCommand>, Error>,
+    ) -> Result<bool, Fail> {
+        let ample = match self {
+            OfOptions::Features => {
+                "--manifest-path|Cargo.toml|--all-features|--features|a b c d e f g h i j|--a|"
+            }
+            _ => "--manifest-path|Cargo.toml|--all-features|--features|a|--a|b|c|d|e|f|g|h|i|j|",
+        };
+        match answer {
+            Ok(None) => granted(means(alloc, given, ample)?),
+            Ok(Some(command)) => granted(is_told(alloc, command, OPTIONS)?),
+            Err(Error::Memory) if matches!(self, OfOptions::IntoCommand) => refused(true),
+            Err(Error::Memory) => refused(means(alloc, given, OPTIONS)?),
+            Err(_) => other_refusal(),
+        }
     }
 }
 

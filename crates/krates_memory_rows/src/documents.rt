@@ -1,6 +1,6 @@
 //! The document: reading it, and its own small questions.
 
-use crate::starving::{Call, Little, answered, granted, other_refusal, refused, starved};
+use crate::starving::{Call, answered, granted, other_refusal, refused, starved};
 use krates_cm::{Error, Metadata, Package, PackageId, WorkspaceDefaultMembers, parse};
 use krates_samples::documents::{document, metadata};
 use std::alloc::{AllocError, Global};
@@ -16,25 +16,36 @@ struct Parse;
 /// The document is read.
 const PARSED: &[Parse] = &[Parse];
 
-/// Whether a document is the one that is read of this text with ample memory.
-fn is_read_of(alloc: Global, read: &Metadata, text: &str) -> Result<bool, Fail> {
-    let ample = parse(alloc, text)?;
-    let ample = format!(in alloc; "{ample:?}")?;
-    Ok(format!(in alloc; "{read:?}")? == ample)
+/// What is read of this text with ample memory, printed.
+fn read_of(alloc: Global, text: &str) -> Result<String, AllocError> {
+    let read = parse(alloc, text);
+    format!(in alloc; "{read:?}")
 }
 
 impl Call for Parse {
     type Given = String;
 
+    type Answer = Result<Metadata, Error>;
+
     fn given(&self, alloc: Global) -> Result<String, Fail> {
         document(alloc, LINE)
     }
 
-    fn is_granted(&self, alloc: Global, given: String, little: Little) -> Result<bool, Fail> {
-        let answer = parse(alloc, given.as_str());
-        drop(little);
+    fn answer(&self, alloc: Global, given: &mut String) -> Result<Metadata, Error> {
+        parse(alloc, given.as_str())
+    }
+
+    fn is_granted(
+        &self,
+        alloc: Global,
+        given: &mut String,
+        answer: &Result<Metadata, Error>,
+    ) -> Result<bool, Fail> {
         match answer {
-            Ok(read) => granted(is_read_of(alloc, &read, given.as_str())?),
+            Ok(_) => {
+                let ample = read_of(alloc, given.as_str())?;
+                granted(format!(in alloc; "{answer:?}")? == ample)
+            }
             Err(Error::Memory) => refused(true),
             Err(_) => other_refusal(),
         }
@@ -54,6 +65,11 @@ pub(crate) fn are_a_and_b(packages: &[&Package]) -> bool {
     }
 }
 
+/// The document of a line, in a box.
+pub(crate) fn boxed(alloc: Global, line: &str) -> Result<Box<Metadata>, Fail> {
+    Ok(Box::new(alloc, metadata(alloc, line)?)?)
+}
+
 /// What a document is asked that has default members.
 #[derive(Debug)]
 enum Asked {
@@ -64,32 +80,35 @@ enum Asked {
 /// All that it is asked.
 const ASKED: &[Asked] = &[Asked::Members, Asked::DefaultMembers];
 
-impl Asked {
-    /// Whether these are the packages of the members, or of the default members.
-    fn is_answered(&self, alloc: Global, given: &Metadata) -> Result<bool, AllocError> {
-        match self {
-            Asked::Members => Ok(are_a_and_b(&given.workspace_packages(alloc)?)),
-            Asked::DefaultMembers => match given.workspace_default_packages(alloc)? {
-                Some(packages) => Ok(are_a_and_b(&packages)),
-                None => Ok(false),
-            },
-        }
-    }
-}
-
 impl Call for Asked {
-    type Given = Metadata;
+    type Given = Box<Metadata>;
 
-    fn given(&self, alloc: Global) -> Result<Metadata, Fail> {
-        let mut given = metadata(alloc, LINE)?;
+    type Answer = Result<bool, AllocError>;
+
+    fn given(&self, alloc: Global) -> Result<Box<Metadata>, Fail> {
+        let mut given = boxed(alloc, LINE)?;
         let ids = given.workspace_members.clone()?;
         given.workspace_default_members = WorkspaceDefaultMembers(Some(ids));
         Ok(given)
     }
 
-    fn is_granted(&self, alloc: Global, given: Metadata, little: Little) -> Result<bool, Fail> {
-        let answer = self.is_answered(alloc, &given);
-        drop(little);
+    fn answer(&self, alloc: Global, given: &mut Box<Metadata>) -> Result<bool, AllocError> {
+        let packages = match self {
+            Asked::Members => Some(given.workspace_packages(alloc)?),
+            Asked::DefaultMembers => given.workspace_default_packages(alloc)?,
+        };
+        match &packages {
+            Some(packages) => Ok(are_a_and_b(packages)),
+            None => Ok(false),
+        }
+    }
+
+    fn is_granted(
+        &self,
+        _alloc: Global,
+        _given: &mut Box<Metadata>,
+        answer: &Result<bool, AllocError>,
+    ) -> Result<bool, Fail> {
         answered(answer)
     }
 }

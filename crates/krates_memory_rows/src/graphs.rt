@@ -1,8 +1,8 @@
 //! The stored graph.
 
-use crate::starving::{Call, Little, granted, other_refusal, refused, starved};
+use crate::starving::{Call, granted, other_refusal, refused, starved};
 use krates_graph::graph::{Graph, GraphError, NodeId};
-use std::alloc::Global;
+use std::alloc::{AllocError, Global};
 use std::test::Fail;
 
 /// What is added to a graph: a node where there is none, or an edge or room for more where there is one node.
@@ -19,6 +19,8 @@ const ADDED: &[Add] = &[Add::Node, Add::Edge, Add::Room];
 impl Call for Add {
     type Given = Graph<u32, u32>;
 
+    type Answer = Result<usize, GraphError<u32>>;
+
     fn given(&self, alloc: Global) -> Result<Graph<u32, u32>, Fail> {
         let mut graph = Graph::with_limits(alloc, 9, 9);
         if !matches!(self, Add::Node) {
@@ -27,56 +29,52 @@ impl Call for Add {
         Ok(graph)
     }
 
+    fn answer(
+        &self,
+        _alloc: Global,
+        given: &mut Graph<u32, u32>,
+    ) -> Result<usize, GraphError<u32>> {
+        match self {
+            Add::Node => Ok(given.add_node(7)?.index()),
+            Add::Edge if given.node_count() == 0 => Err(GraphError::Full(0)),
+            Add::Edge => Ok(given.add_edge(NodeId::new(0), NodeId::new(0), 5)?.index()),
+            Add::Room => match given.reserve(100, 100) {
+                Ok(()) => Ok(0),
+                Err(AllocError) => Err(GraphError::Memory(0)),
+            },
+        }
+    }
+
     fn is_granted(
         &self,
         _alloc: Global,
-        given: Graph<u32, u32>,
-        little: Little,
+        given: &mut Graph<u32, u32>,
+        answer: &Result<usize, GraphError<u32>>,
     ) -> Result<bool, Fail> {
-        match self {
-            Add::Node => has_node(given, little),
-            Add::Edge => has_edge(given, little),
-            Add::Room => has_room(given, little),
+        match answer {
+            Ok(index) => granted(*index == 0 && self.is_done(given)),
+            Err(GraphError::Memory(value)) => refused(self.is_unchanged(given, *value)),
+            Err(_) => other_refusal(),
         }
     }
 }
 
-/// Adds a node.
-fn has_node(given: Graph<u32, u32>, little: Little) -> Result<bool, Fail> {
-    let mut graph = given;
-    let answer = graph.add_node(7);
-    drop(little);
-    match answer {
-        Ok(node) => granted(node.index() == 0 && graph.raw_nodes() == [7].as_slice()),
-        Err(GraphError::Memory(value)) => refused(value == 7 && graph.node_count() == 0),
-        Err(_) => other_refusal(),
+impl Add {
+    /// Whether the node or the edge is there, or the graph is as it was that has room for more.
+    fn is_done(&self, graph: &Graph<u32, u32>) -> bool {
+        match self {
+            Add::Edge => graph.edge_count() == 1,
+            _ => graph.raw_nodes() == [7].as_slice() && graph.edge_count() == 0,
+        }
     }
-}
 
-/// Adds an edge from the one node to itself.
-fn has_edge(given: Graph<u32, u32>, little: Little) -> Result<bool, Fail> {
-    let mut graph = given;
-    if graph.node_count() == 0 {
-        return other_refusal();
-    }
-    let answer = graph.add_edge(NodeId::new(0), NodeId::new(0), 5);
-    drop(little);
-    match answer {
-        Ok(edge) => granted(edge.index() == 0 && graph.edge_count() == 1),
-        Err(GraphError::Memory(value)) => refused(value == 5 && graph.edge_count() == 0),
-        Err(_) => other_refusal(),
-    }
-}
-
-/// Makes room for more nodes and edges, with which and without which the graph is as it was.
-fn has_room(given: Graph<u32, u32>, little: Little) -> Result<bool, Fail> {
-    let mut graph = given;
-    let answer = graph.reserve(100, 100);
-    drop(little);
-    let is_unchanged = graph.raw_nodes() == [7].as_slice() && graph.edge_count() == 0;
-    match answer {
-        Ok(()) => granted(is_unchanged),
-        Err(_) => refused(is_unchanged),
+    /// Whether the graph is as it was, and the value is given back that would have been added.
+    fn is_unchanged(&self, graph: &Graph<u32, u32>, value: u32) -> bool {
+        match self {
+            Add::Node => value == 7 && graph.node_count() == 0,
+            Add::Edge => value == 5 && graph.edge_count() == 0,
+            Add::Room => self.is_done(graph),
+        }
     }
 }
 

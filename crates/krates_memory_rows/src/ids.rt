@@ -1,12 +1,13 @@
 //! Ids, and the correction of a package by an index.
 
-use crate::starving::{Call, Little, granted, other_refusal, refused, starved};
+use crate::documents::boxed;
+use crate::starving::{Call, granted, other_refusal, refused, starved};
 use krates_cm::{Metadata, PackageId};
 use krates_ids::{CachingIndex, IdError, IndexAnswer, IndexKrate, IndexKrateVersion, Kid};
-use krates_samples::documents::metadata;
 use semver::Version;
 use std::alloc::{AllocError, Global};
 use std::collections::BTreeMap;
+use std::mem::replace;
 use std::test::Fail;
 
 /// An id with an escape, which is read by decoding it.
@@ -22,14 +23,24 @@ const READ: &[ReadId] = &[ReadId];
 impl Call for ReadId {
     type Given = PackageId;
 
+    type Answer = Result<Kid, IdError>;
+
     fn given(&self, alloc: Global) -> Result<PackageId, Fail> {
         let repr = String::from_str(alloc, ESCAPED)?;
         Ok(PackageId { repr })
     }
 
-    fn is_granted(&self, _alloc: Global, given: PackageId, little: Little) -> Result<bool, Fail> {
-        let answer = Kid::try_from(given);
-        drop(little);
+    fn answer(&self, alloc: Global, given: &mut PackageId) -> Result<Kid, IdError> {
+        let repr = String::new(alloc);
+        Kid::try_from(replace(given, PackageId { repr }))
+    }
+
+    fn is_granted(
+        &self,
+        _alloc: Global,
+        _given: &mut PackageId,
+        answer: &Result<Kid, IdError>,
+    ) -> Result<bool, Fail> {
         match answer {
             Ok(kid) => granted(kid.source() == "git+https://github.com/a/b?branch=c/d"),
             Err(IdError::Memory(id)) => refused(id.repr.as_str() == ESCAPED),
@@ -65,24 +76,14 @@ pub(crate) fn answer(alloc: Global) -> Result<IndexAnswer, Fail> {
 #[derive(Drop)]
 struct Indexed {
     index: CachingIndex,
-    metadata: Metadata,
+    metadata: Box<Metadata>,
 }
 
-impl Indexed {
-    /// Corrects the package.
-    fn correct(&mut self, alloc: Global) -> Result<(), AllocError> {
-        match self.metadata.packages.first_mut() {
-            Some(pkg) => self.index.correct(alloc, pkg),
-            None => Ok(()),
-        }
-    }
-
-    /// The features of the package.
-    fn told(&self, alloc: Global) -> Result<String, AllocError> {
-        match self.metadata.packages.first() {
-            Some(pkg) => format!(in alloc; "{:?}", pkg.features),
-            None => format!(in alloc; "no package"),
-        }
+/// The features of the first package.
+fn features_told(alloc: Global, metadata: &Metadata) -> Result<String, AllocError> {
+    match metadata.packages.first() {
+        Some(pkg) => format!(in alloc; "{:?}", pkg.features),
+        None => format!(in alloc; "no package"),
     }
 }
 
@@ -96,19 +97,29 @@ const CORRECTED: &[Correct] = &[Correct];
 impl Call for Correct {
     type Given = Indexed;
 
+    type Answer = Result<(), AllocError>;
+
     fn given(&self, alloc: Global) -> Result<Indexed, Fail> {
-        let metadata = metadata(alloc, "p@1.0.0&crates.io;default=foo")?;
-        let index = CachingIndex {
-            answer: answer(alloc)?,
-        };
+        let metadata = boxed(alloc, "p@1.0.0&crates.io;default=foo")?;
+        let answer = answer(alloc)?;
+        let index = CachingIndex { answer };
         Ok(Indexed { index, metadata })
     }
 
-    fn is_granted(&self, alloc: Global, given: Indexed, little: Little) -> Result<bool, Fail> {
-        let mut given = given;
-        let answer = given.correct(alloc);
-        drop(little);
-        let told = given.told(alloc)?;
+    fn answer(&self, alloc: Global, given: &mut Indexed) -> Result<(), AllocError> {
+        match given.metadata.packages.first_mut() {
+            Some(pkg) => given.index.correct(alloc, pkg),
+            None => Ok(()),
+        }
+    }
+
+    fn is_granted(
+        &self,
+        alloc: Global,
+        given: &mut Indexed,
+        answer: &Result<(), AllocError>,
+    ) -> Result<bool, Fail> {
+        let told = features_told(alloc, &given.metadata)?;
         match answer {
             Ok(()) => granted(
                 told.as_str() == r#"{"default": ["foo"], "foo": ["dep:foo"], "std": []}"#,

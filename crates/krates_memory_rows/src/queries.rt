@@ -2,7 +2,7 @@
 
 use crate::builds::FEATURES;
 use crate::documents::are_a_and_b;
-use crate::starving::{Call, Little, answered, starved};
+use crate::starving::{Call, answered, starved};
 use krates::{Builder, DepKind, Krates, NodeId, NoneFilter};
 use krates_samples::documents::metadata;
 use std::alloc::{AllocError, Global};
@@ -54,31 +54,33 @@ fn has_reason(krates: &Krates) -> Result<bool, AllocError> {
     }
 }
 
-impl Asked {
-    /// Whether the answer is the one with ample memory.
-    fn is_answered(&self, krates: &Krates) -> Result<bool, AllocError> {
-        match self {
-            Asked::Dependencies => is_dependency(krates),
-            Asked::Dependents => is_dependent(krates),
-            // without dependencies for tests
-            Asked::Filtered => Ok(are_a_and_b(&krates.krates_filtered(DepKind::Dev)?)),
-            Asked::Why => has_reason(krates),
-            Asked::Facts => Ok(krates.facts()?.len() == 7),
-        }
-    }
-}
-
 impl Call for Asked {
     type Given = Krates;
+
+    type Answer = Result<bool, AllocError>;
 
     fn given(&self, alloc: Global) -> Result<Krates, Fail> {
         let metadata = metadata(alloc, FEATURES)?;
         Ok(Builder::new(alloc).build_with_metadata(metadata, &mut NoneFilter)?)
     }
 
-    fn is_granted(&self, _alloc: Global, given: Krates, little: Little) -> Result<bool, Fail> {
-        let answer = self.is_answered(&given);
-        drop(little);
+    fn answer(&self, _alloc: Global, given: &mut Krates) -> Result<bool, AllocError> {
+        match self {
+            Asked::Dependencies => is_dependency(given),
+            Asked::Dependents => is_dependent(given),
+            // without dependencies for tests
+            Asked::Filtered => Ok(are_a_and_b(&given.krates_filtered(DepKind::Dev)?)),
+            Asked::Why => has_reason(given),
+            Asked::Facts => Ok(given.facts()?.len() == 7),
+        }
+    }
+
+    fn is_granted(
+        &self,
+        _alloc: Global,
+        _given: &mut Krates,
+        answer: &Result<bool, AllocError>,
+    ) -> Result<bool, Fail> {
         answered(answer)
     }
 }

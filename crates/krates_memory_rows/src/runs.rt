@@ -1,7 +1,7 @@
 //! Runs of the program: from the bytes of a document to the bytes of its lines.
 
 use crate::commands::parts;
-use crate::starving::{Call, Little, granted, other_refusal, refused, starved};
+use crate::starving::{Call, granted, other_refusal, refused, starved};
 use krates_cli::{Counted, Options, RunError, options_of, run};
 use krates_samples::documents::document;
 use std::alloc::Global;
@@ -12,7 +12,7 @@ use std::test::Fail;
 struct Listing {
     options: Options,
     json: String,
-    room: Vec<u8>,
+    output: Counted<Vec<u8>>,
 }
 
 /// The words of a run over the document of a crate that needs another for its tests, and the lines that it writes.
@@ -37,31 +37,34 @@ const RUNS: &[Run] = &[
 impl Call for Run {
     type Given = Listing;
 
+    type Answer = Result<(), RunError>;
+
     fn given(&self, alloc: Global) -> Result<Listing, Fail> {
+        let json = document(alloc, "a b&dev|b")?;
+        let room = Vec::with_capacity(alloc, 1000)?;
         let words = parts(alloc, self.words, ' ')?;
         let Ok(options) = options_of(alloc, &words) else {
             return Err(Fail::new("no options"));
         };
-        let json = document(alloc, "a b&dev|b")?;
-        let room = Vec::with_capacity(alloc, 1000)?;
         Ok(Listing {
             options,
             json,
-            room,
+            output: Counted::new(room),
         })
     }
 
-    fn is_granted(&self, alloc: Global, given: Listing, little: Little) -> Result<bool, Fail> {
-        let Listing {
-            options,
-            json,
-            room,
-        } = given;
-        let mut input = Counted::new(json.as_bytes());
-        let mut output = Counted::new(room);
-        let answer = run(alloc, &options, &mut input, &mut output);
-        drop(little);
-        let written = output.get_ref().as_slice();
+    fn answer(&self, alloc: Global, given: &mut Listing) -> Result<(), RunError> {
+        let mut input = Counted::new(given.json.as_bytes());
+        run(alloc, &given.options, &mut input, &mut given.output)
+    }
+
+    fn is_granted(
+        &self,
+        _alloc: Global,
+        given: &mut Listing,
+        answer: &Result<(), RunError>,
+    ) -> Result<bool, Fail> {
+        let written = given.output.get_ref().as_slice();
         match answer {
             Ok(()) => granted(written == self.lines.as_bytes()),
             Err(RunError::Memory) => refused(written.is_empty()),

@@ -1,34 +1,25 @@
 //! The builder's setters that append, each called on a builder on which it was called before.
 
 use crate::checks::push_step;
-use crate::starving::{Call, Little, granted, refused, starved};
+use crate::documents::boxed;
+use crate::starving::{Call, granted, refused, starved};
 use krates::derive::{Derivation, Fact, check};
 use krates::{Builder, DepKind, PkgSpec, Target};
-use krates_samples::documents::{kid_of, metadata};
+use krates_samples::documents::kid_of;
 use krates_samples::settings::{package_specs, targets_of, words_of};
 use std::alloc::Global;
+use std::mem::replace;
 use std::test::Fail;
 
 /// Two members, of which the first needs two crates, the second of these on Windows alone.
 const LINE: &str = "a b c&on=cfg(windows)|b|c|d / members a d";
 
-/// Steps by which a root is kept.
-fn steps_to(alloc: Global, root: &str) -> Result<Derivation, Fail> {
-    let krate = Fact::Crate(kid_of(alloc, root)?);
-    let steps = Vec::new(alloc);
-    let mut derivation = Derivation { steps };
-    push_step(alloc, &mut derivation, 1, krate)?;
-    Ok(derivation)
-}
-
-/// Whether the steps follow under what the builder has set.
-fn follows(alloc: Global, builder: &Builder, steps: &Derivation) -> Result<bool, Fail> {
-    let metadata = metadata(alloc, LINE)?;
-    Ok(check(&metadata, builder, None, steps).is_ok())
-}
-
-/// The edge from the first crate to this one, where it has this target text.
-fn edge_to(alloc: Global, child: &str, cfg: Option<String>) -> Result<Fact, Fail> {
+/// The edge from the first crate to this one.
+fn edge_to(alloc: Global, child: &str) -> Result<Fact, Fail> {
+    let cfg = match child {
+        "c" => Some(String::from_str(alloc, "cfg(windows)")?),
+        _ => None,
+    };
     let parent = kid_of(alloc, "a")?;
     let child = kid_of(alloc, child)?;
     let kind = DepKind::Normal;
@@ -40,25 +31,33 @@ fn edge_to(alloc: Global, child: &str, cfg: Option<String>) -> Result<Fact, Fail
     })
 }
 
-/// Whether an edge from the first crate is kept.
-fn has_edge(alloc: Global, builder: &Builder, edge: Fact) -> Result<bool, Fail> {
-    let mut derivation = steps_to(alloc, "a")?;
-    push_step(alloc, &mut derivation, 5, edge)?;
-    follows(alloc, builder, &derivation)
+/// The steps by which the edge from the first crate to this one is kept, or this one as a root, where it is `d`.
+fn steps_to(alloc: Global, krate: &str) -> Result<Derivation, Fail> {
+    let steps = Vec::new(alloc);
+    let mut derivation = Derivation { steps };
+    if krate == "d" {
+        push_step(alloc, &mut derivation, 1, Fact::Crate(kid_of(alloc, "d")?))?;
+        return Ok(derivation);
+    }
+    push_step(alloc, &mut derivation, 1, Fact::Crate(kid_of(alloc, "a")?))?;
+    push_step(alloc, &mut derivation, 5, edge_to(alloc, krate)?)?;
+    Ok(derivation)
+}
+
+/// Whether the steps to a crate follow under what the builder has set.
+fn follows(alloc: Global, builder: &Builder, krate: &str) -> Result<bool, Fail> {
+    let steps = steps_to(alloc, krate)?;
+    let metadata = boxed(alloc, LINE)?;
+    Ok(check(&metadata, builder, None, &steps).is_ok())
 }
 
 /// What is kept under what the builder has set: `b` and `c` where the edge to that crate is, `d` where that is a root.
 fn kept(alloc: Global, builder: &Builder) -> Result<String, Fail> {
     let mut text = String::new(alloc);
-    if has_edge(alloc, builder, edge_to(alloc, "b", None)?)? {
-        text.push_str("b")?;
-    }
-    let windows = String::from_str(alloc, "cfg(windows)")?;
-    if has_edge(alloc, builder, edge_to(alloc, "c", Some(windows))?)? {
-        text.push_str("c")?;
-    }
-    if follows(alloc, builder, &steps_to(alloc, "d")?)? {
-        text.push_str("d")?;
+    for krate in ["b", "c", "d"] {
+        if follows(alloc, builder, krate)? {
+            text.push_str(krate)?;
+        }
     }
     Ok(text)
 }
@@ -144,22 +143,26 @@ struct Setting {
 impl Call for Set {
     type Given = Setting;
 
+    type Answer = bool;
+
     fn given(&self, alloc: Global) -> Result<Setting, Fail> {
-        let mut builder = Builder::new(alloc);
-        if !More::new(alloc, &self.setter, self.text)?.is_set(&mut builder) {
-            return Err(Fail::new("no builder"));
-        }
+        let set = More::new(alloc, &self.setter, self.text)?;
         let more = More::new(alloc, &self.setter, self.more)?;
-        Ok(Setting { builder, more })
+        let mut builder = Builder::new(alloc);
+        if set.is_set(&mut builder) {
+            return Ok(Setting { builder, more });
+        }
+        Err(Fail::new("no builder"))
     }
 
-    fn is_granted(&self, alloc: Global, given: Setting, little: Little) -> Result<bool, Fail> {
-        let Setting { builder, more } = given;
-        let mut builder = builder;
-        let is_set = more.is_set(&mut builder);
-        drop(little);
-        let kept = kept(alloc, &builder)?;
-        if is_set {
+    fn answer(&self, alloc: Global, given: &mut Setting) -> bool {
+        let nothing = More::Paths(Vec::new(alloc));
+        replace(&mut given.more, nothing).is_set(&mut given.builder)
+    }
+
+    fn is_granted(&self, alloc: Global, given: &mut Setting, answer: &bool) -> Result<bool, Fail> {
+        let kept = kept(alloc, &given.builder)?;
+        if *answer {
             return granted(kept.as_str() == self.kept_by_both);
         }
         refused(kept.as_str() == self.kept)

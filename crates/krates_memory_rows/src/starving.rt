@@ -11,12 +11,23 @@ pub(crate) trait Call: Debug {
     /// What the call is made on.
     type Given: Drop;
 
+    /// What the call answers.
+    type Answer: Drop;
+
     /// What the call is made on, made with ample memory.
     fn given(&self, alloc: Global) -> Result<Self::Given, Fail>;
 
-    /// Makes the call with little memory, gives the memory back, and tells whether there was enough. Fails at an answer that is
-    /// neither want of memory, where what has to be unchanged is, nor the one with ample memory.
-    fn is_granted(&self, alloc: Global, given: Self::Given, little: Little) -> Result<bool, Fail>;
+    /// Makes the call, with little memory.
+    fn answer(&self, alloc: Global, given: &mut Self::Given) -> Self::Answer;
+
+    /// Tells whether there was enough memory for this answer, after which what the call was made on is as given here. Fails at
+    /// an answer that is neither want of memory, where what has to be unchanged is, nor the one with ample memory.
+    fn is_granted(
+        &self,
+        alloc: Global,
+        given: &mut Self::Given,
+        answer: &Self::Answer,
+    ) -> Result<bool, Fail>;
 }
 
 /// There was enough: the answer is the one with ample memory, or the call fails its test.
@@ -41,9 +52,9 @@ pub(crate) fn other_refusal() -> Result<bool, Fail> {
 }
 
 /// A question, which changes nothing and is refused for want of memory alone: whether its answer is the one with ample memory.
-pub(crate) fn answered(answer: Result<bool, AllocError>) -> Result<bool, Fail> {
+pub(crate) fn answered(answer: &Result<bool, AllocError>) -> Result<bool, Fail> {
     match answer {
-        Ok(is_ample) => granted(is_ample),
+        Ok(is_ample) => granted(*is_ample),
         Err(AllocError) => refused(true),
     }
 }
@@ -56,7 +67,7 @@ const BLOCKS: usize = 20_000;
 
 /// All memory but a budget, which is given back where this is dropped.
 #[derive(Drop)]
-pub(crate) struct Little {
+struct Little {
     blocks: Vec<Vec<u8>>,
 }
 
@@ -81,8 +92,12 @@ impl Little {
         }
     }
 
-    /// Takes all memory but this budget.
-    fn but(alloc: Global, budget: usize) -> Result<Little, Fail> {
+    /// Takes all memory but this budget, or no memory, where there is no budget.
+    fn but(alloc: Global, budget: Option<usize>) -> Result<Little, Fail> {
+        let Some(budget) = budget else {
+            let blocks = Vec::new(alloc);
+            return Ok(Little { blocks });
+        };
         let blocks = Vec::with_capacity(alloc, BLOCKS)?;
         let mut little = Little { blocks };
         let reserve: Vec<u8> = Vec::with_capacity(alloc, RESERVE)?;
@@ -95,23 +110,20 @@ impl Little {
     }
 }
 
-/// Whether ample memory is enough for the call. This comes first, since the stack can't grow any more where all memory is taken.
-fn is_granted_all<C: Call>(alloc: Global, call: &C) -> Result<bool, Fail> {
-    let given = call.given(alloc)?;
-    let blocks = Vec::new(alloc);
-    call.is_granted(alloc, given, Little { blocks })
-}
-
-/// Whether this budget is enough for the call.
-fn is_enough<C: Call>(alloc: Global, call: &C, budget: usize) -> Result<bool, Fail> {
-    let given = call.given(alloc)?;
-    call.is_granted(alloc, given, Little::but(alloc, budget)?)
+/// Whether this budget is enough for the call, or all memory, where there is no budget. The answer is judged only once the memory is
+/// given back.
+fn is_enough<C: Call>(alloc: Global, call: &C, budget: Option<usize>) -> Result<bool, Fail> {
+    let mut given = call.given(alloc)?;
+    let little = Little::but(alloc, budget)?;
+    let answer = call.answer(alloc, &mut given);
+    drop(little);
+    call.is_granted(alloc, &mut given, &answer)
 }
 
 /// The least number of steps of 16 bytes that are enough for the call.
 fn steps_to_enough<C: Call>(alloc: Global, call: &C) -> Result<usize, Fail> {
     for step in 0..RESERVE / 16 {
-        if is_enough(alloc, call, step * 16)? {
+        if is_enough(alloc, call, Some(step * 16))? {
             return Ok(step);
         }
     }
@@ -122,12 +134,17 @@ fn steps_to_enough<C: Call>(alloc: Global, call: &C) -> Result<usize, Fail> {
 const SCRIPT: &str =
     "ulimit -v 100000; exec env GLIBC_TUNABLES=glibc.malloc.tcache_count=0:glibc.malloc.mxfast=0:glibc.malloc.mmap_max=0:glibc.malloc.arena_max=1:glibc.malloc.trim_threshold=1000000000 \"$0\" \"$1\" now";
 
+/// What a program, started with little memory for the test of this name, writes, and how it ends.
+fn output_of(rt: &HostRuntime, program: &str, name: &str) -> Result<Output, Fail> {
+    let mut command = Command::new(rt.alloc(), "/bin/sh")?;
+    command.args(&["-c", SCRIPT, program, name])?;
+    Ok(command.output(rt)?)
+}
+
 /// What this program, started again with little memory for the test of this name, writes, and how it ends.
 fn output(rt: &HostRuntime, name: &str) -> Result<Output, Fail> {
     let this = std::env::current_exe(rt)?;
-    let mut command = Command::new(rt.alloc(), "/bin/sh")?;
-    command.args(&["-c", SCRIPT, this.as_str(), name])?;
-    Ok(command.output(rt)?)
+    output_of(rt, this.as_str(), name)
 }
 
 /// Fails, and names the call, which is told last, with what was told of it.
@@ -148,10 +165,11 @@ fn start(rt: &HostRuntime, name: &str) -> Result<(), Fail> {
     Ok(())
 }
 
-/// Makes the call with ample memory, and then under each small budget until one is enough. At least one has to be too small.
+/// Makes the call with ample memory, and then under each small budget until one is enough. At least one has to be too small. Ample
+/// memory comes first, since the stack can't grow any more where all memory is taken.
 fn starve<C: Call>(rt: &HostRuntime, call: &C) -> Result<(), Fail> {
     print!(rt; "{call:?}: ")?;
-    if !is_granted_all(rt.alloc(), call)? {
+    if !is_enough(rt.alloc(), call, None)? {
         return Err(Fail::new("ample memory isn't enough"));
     }
     let refused = steps_to_enough(rt.alloc(), call)?;
@@ -164,11 +182,12 @@ fn starve<C: Call>(rt: &HostRuntime, call: &C) -> Result<(), Fail> {
 
 /// Makes each call of a table under each small budget until one is enough, in a process of its own.
 pub(crate) fn starved<C: Call>(rt: &HostRuntime, calls: &[C]) -> Result<(), Fail> {
-    let mut words = std::env::args(rt)?.skip(1);
-    let name = words.next();
-    if words.next().is_none() {
-        return start(rt, name.as_ref().map_or("", |name| name.as_str()));
+    let mut words = std::env::args(rt)?;
+    if words.len() < 3 {
+        let name = words.nth(1);
+        return start(rt, name.as_deref().unwrap_or(""));
     }
+    drop(words);
     for call in calls {
         starve(rt, call)?;
     }

@@ -1,17 +1,18 @@
 //! The calls of which the program is made, each by itself.
 
+use crate::large::built;
 use crate::listing::words_of;
-use krates::{Builder, Kid, Krates, NoneFilter};
+use krates::{Builder, Kid, NoneFilter};
 use krates_cli::{Counted, Options, OptionsError, options_of, set_options};
-use krates_samples::documents::metadata;
+use krates_samples::documents::document;
 use krates_samples::table::{Question, Row, hold};
-use std::alloc::Global;
+use std::alloc::{AllocError, Global};
 use std::str;
 use std::test::Fail;
 
 /// The options, as they are printed.
-fn shown(alloc: Global, options: &Options) -> Result<String, Fail> {
-    Ok(format!(in alloc;
+fn shown(alloc: Global, options: &Options) -> Result<String, AllocError> {
+    format!(in alloc;
         "{} {:?} {:?} {} {:?} {}",
         options.workspace,
         options.ignored,
@@ -22,7 +23,7 @@ fn shown(alloc: Global, options: &Options) -> Result<String, Fail> {
             .why
             .as_ref()
             .map_or("none", |krate: &Kid| krate.repr())
-    )?)
+    )
 }
 
 /// What the words ask for.
@@ -31,11 +32,12 @@ struct Read;
 impl Question for Read {
     fn told(alloc: Global, line: &str) -> Result<String, Fail> {
         let words = words_of(alloc, line)?;
-        match options_of(alloc, words.as_slice()) {
+        let told = match options_of(alloc, words.as_slice()) {
             Ok(options) => shown(alloc, &options),
-            Err(OptionsError::Unknown) => Ok(String::from_str(alloc, "unknown")?),
-            Err(OptionsError::Memory) => Ok(String::from_str(alloc, "memory")?),
-        }
+            Err(OptionsError::Unknown) => String::from_str(alloc, "unknown"),
+            Err(OptionsError::Memory) => String::from_str(alloc, "memory"),
+        };
+        Ok(told?)
     }
 }
 
@@ -54,18 +56,12 @@ const OPTIONS: &[Row] = &[
     ("--why x", "unknown"),
 ];
 
-#[test]
-fn options_of_words(rt: HostRuntime) -> Result<(), Fail> {
-    hold::<Read>(rt.alloc(), OPTIONS)
-}
-
-/// How many crates of the document of a line a builder keeps for which the options are set.
-fn count_kept(alloc: Global, options: &Options, line: &str) -> Result<usize, Fail> {
-    let metadata = metadata(alloc, line)?;
+/// How many crates of the document with this text a builder keeps for which the options are set.
+fn count_kept(alloc: Global, options: &Options, json: &str) -> Result<String, Fail> {
     let mut builder = Builder::new(alloc);
     set_options(alloc, options, &mut builder)?;
-    let krates: Krates = builder.build_with_metadata(metadata, &mut NoneFilter)?;
-    Ok(krates.len())
+    let krates = built(alloc, builder, json, &mut NoneFilter)?;
+    Ok(format!(in alloc; "{}", krates.len())?)
 }
 
 /// How many crates a builder keeps for which the words are set; a line has its words, and behind `<` the document.
@@ -74,12 +70,12 @@ struct Kept;
 impl Question for Kept {
     fn told(alloc: Global, line: &str) -> Result<String, Fail> {
         let (words, line) = line.split_once('<').unwrap_or((line, ""));
+        let json = document(alloc, line)?;
         let words = words_of(alloc, words)?;
-        let Ok(options) = options_of(alloc, words.as_slice()) else {
-            return Ok(String::from_str(alloc, "unknown")?);
-        };
-        let count = count_kept(alloc, &options, line)?;
-        Ok(format!(in alloc; "{count}")?)
+        match options_of(alloc, words.as_slice()) {
+            Ok(options) => count_kept(alloc, &options, json.as_str()),
+            Err(_) => Err(Fail::new("no options")),
+        }
     }
 }
 
@@ -92,7 +88,8 @@ const SET: &[Row] = &[
 ];
 
 #[test]
-fn options_of_a_builder(rt: HostRuntime) -> Result<(), Fail> {
+fn options_of_words_and_of_a_builder(rt: HostRuntime) -> Result<(), Fail> {
+    hold::<Read>(rt.alloc(), OPTIONS)?;
     hold::<Kept>(rt.alloc(), SET)
 }
 

@@ -1,9 +1,11 @@
 //! Documents and lists that are larger than any number in the sources: no answer hangs on a size.
 
+ghost use Rattle.std.specs.Prelude.{◌≡◌, None};
+
 use crate::hostile::Count;
 use krates::cm::MetadataCommand;
 use krates::derive::{Derivation, Fact, Step, check, check_closed};
-use krates::{Builder, DepKind, Krates, Metadata, NodeId, Package};
+use krates::{Builder, DepKind, Krates, Metadata, NodeId, OnFilter, Package};
 use krates_cli::{Counted, Options, run};
 use krates_samples::documents::{document, kid_of};
 use std::alloc::Global;
@@ -25,7 +27,7 @@ fn long_name(alloc: Global) -> Result<String, Fail> {
 }
 
 /// Adds the name of each of the many packages, between these texts.
-fn push_names(text: &mut String, before: &str, after: &str) -> Result<(), Fail> {
+pub(crate) fn push_names(text: &mut String, before: &str, after: &str) -> Result<(), Fail> {
     for number in PACKAGES {
         write!(text, "{before}b{number}{after}")?;
     }
@@ -53,17 +55,26 @@ fn push_packages(line: &mut String, long: &str) -> Result<(), Fail> {
 }
 
 /// The text of a document of these packages.
-fn large_document(alloc: Global) -> Result<String, Fail> {
+pub(crate) fn large_document(alloc: Global) -> Result<String, Fail> {
     let long = long_name(alloc)?;
     let mut line = String::new(alloc);
     push_packages(&mut line, long.as_str())?;
     document(alloc, line.as_str())
 }
 
-/// The document, read.
-pub(crate) fn large_metadata(alloc: Global) -> Result<Metadata, Fail> {
-    let json = large_document(alloc)?;
-    Ok(MetadataCommand::parse(alloc, json.as_str())?)
+/// The graph that a builder without an index makes of the document with this text.
+pub(crate) fn built<F: OnFilter>(
+    alloc: Global,
+    builder: Builder,
+    json: &str,
+    filter: &mut F,
+) -> Result<Box<Krates>, Fail>
+    requires plain { builder.index ≡ None }
+    requires callable { F.can_filter filter.old }
+{
+    let metadata = MetadataCommand::parse(alloc, json)?;
+    let krates = builder.build_with_metadata(metadata, filter)?;
+    Ok(Box::new(alloc, krates)?)
 }
 
 /// How many crates, nodes and edges a graph has, how many crates the first of them depends on, how many depend on the second, how
@@ -88,9 +99,9 @@ fn sizes(alloc: Global, krates: &Krates) -> Result<String, Fail> {
 #[test]
 fn a_large_build(rt: HostRuntime) -> Result<(), Fail> {
     let alloc = rt.alloc();
+    let json = large_document(alloc)?;
     let mut count = Count { packages: 0 };
-    let metadata = large_metadata(alloc)?;
-    let krates: Krates = Builder::new(alloc).build_with_metadata(metadata, &mut count)?;
+    let krates = built(alloc, Builder::new(alloc), json.as_str(), &mut count)?;
     let told = sizes(alloc, &krates)?;
     assert_eq!(rt;
         told.as_str(),
@@ -174,37 +185,43 @@ fn push_each_feature(facts: &mut Vec<Fact>, alloc: Global) -> Result<(), Fail> {
     Ok(())
 }
 
+/// Adds all facts of the document.
+fn push_facts(facts: &mut Vec<Fact>, alloc: Global) -> Result<(), Fail> {
+    facts.push(Fact::Crate(kid_of(alloc, "a")?))?;
+    facts.push(feature(alloc, 6_000)?)?;
+    push_each_feature(facts, alloc)?;
+    push_needed(facts, alloc, long_name(alloc)?.as_str())?;
+    push_each_package(facts, alloc)
+}
+
 /// All facts of the document.
 fn facts(alloc: Global) -> Result<Vec<Fact>, Fail> {
-    let long = long_name(alloc)?;
-    let root = Fact::Crate(kid_of(alloc, "a")?);
-    let mut facts = vec![in alloc; root, feature(alloc, 6_000)?]?;
-    push_each_feature(&mut facts, alloc)?;
-    push_needed(&mut facts, alloc, long.as_str())?;
-    push_each_package(&mut facts, alloc)?;
+    let mut facts = Vec::new(alloc);
+    push_facts(&mut facts, alloc)?;
     Ok(facts)
+}
+
+/// Checks the steps and the facts.
+fn hold_lists(alloc: Global, metadata: &Metadata, builder: &Builder) -> Result<(), Fail> {
+    check(metadata, builder, None, &steps(alloc)?)?;
+    check_closed(metadata, builder, None, &facts(alloc)?)?;
+    Ok(())
 }
 
 #[test]
 fn large_lists(rt: HostRuntime) -> Result<(), Fail> {
     let alloc = rt.alloc();
-    let metadata = large_metadata(alloc)?;
-    let builder = Builder::new(alloc);
-    check(&metadata, &builder, None, &steps(alloc)?)?;
-    check_closed(&metadata, &builder, None, &facts(alloc)?)?;
-    Ok(())
+    let json = large_document(alloc)?;
+    let metadata = MetadataCommand::parse(alloc, json.as_str())?;
+    hold_lists(alloc, &metadata, &Builder::new(alloc))
 }
 
 /// What a run writes of the document.
 fn lines(alloc: Global) -> Result<String, Fail> {
     let long = long_name(alloc)?;
-    let mut lines = String::from_str(alloc, "+ path+file:///w/a#0.1.0\n")?;
-    push_names(&mut lines, "+ path+file:///w/", "#0.1.0\n")?;
-    writeln!(
-        lines,
-        "+ path+file:///w/{long}#0.1.0\n- path+file:///w/z#0.1.0"
-    )?;
-    Ok(lines)
+    let mut kept = String::from_str(alloc, "+ path+file:///w/a#0.1.0\n")?;
+    push_names(&mut kept, "+ path+file:///w/", "#0.1.0\n")?;
+    Ok(format!(in alloc; "{kept}+ path+file:///w/{long}#0.1.0\n- path+file:///w/z#0.1.0\n")?)
 }
 
 /// Runs without options over this text.

@@ -3,85 +3,63 @@
 ghost use Rattle.std.specs.Prelude.{◌≡◌, OnOk};
 
 use crate::hostile::Count;
-use crate::large::{large_metadata, push_features};
+use crate::large::{built, large_document, push_features, push_names};
+use crate::listing::words_of;
 use krates::cm::{Features, MetadataCommand};
 use krates::index::{CachingIndex, IndexAnswer, IndexKrate, IndexKrateVersion};
 use krates::semver::Version;
-use krates::{Builder, Cmd, Kid, Krates, Metadata, PackageId, PkgSpec, Target};
+use krates::{Builder, Cmd, Kid, Metadata, Package, PackageId};
 use krates_samples::documents::metadata;
+use krates_samples::settings;
+use krates_samples::settings::{package_specs, targets_of};
 use std::alloc::Global;
 use std::collections::BTreeMap;
 use std::test::Fail;
 
-/// Adds the names of many packages, each behind this text.
-fn push_names(names: &mut Vec<String>, alloc: Global, before: &str) -> Result<(), Fail> {
-    for number in 1_000..3_000u32 {
-        names.push(format!(in alloc; "{before}b{number}")?)?;
-    }
-    Ok(())
-}
-
-/// The names of many packages, each behind this text.
-fn names(alloc: Global, before: &str) -> Result<Vec<String>, Fail> {
-    let mut names = Vec::new(alloc);
-    push_names(&mut names, alloc, before)?;
+/// The names of many packages, each behind this text, with blanks between them.
+fn named(alloc: Global, before: &str) -> Result<String, Fail> {
+    let mut names = String::new(alloc);
+    push_names(&mut names, before, " ")?;
     Ok(names)
 }
 
-/// The specifications that are these names.
-fn specs(alloc: Global, names: &[String]) -> Result<Vec<PkgSpec>, Fail> {
-    let mut specs = Vec::new(alloc);
-    for name in names {
-        specs.push(PkgSpec::from_str(alloc, name)?)?;
-    }
-    Ok(specs)
+/// The same names, each by itself.
+fn names(alloc: Global, before: &str) -> Result<Vec<String>, Fail> {
+    let names = named(alloc, before)?;
+    words_of(alloc, names.as_str())
 }
 
-/// The targets of these names.
-fn targets(alloc: Global, names: &[String]) -> Result<Vec<(Target, Vec<String>)>, Fail> {
-    let mut targets = Vec::new(alloc);
-    for name in names {
-        targets.push((Target::new(alloc, name)?, Vec::new(alloc)))?;
-    }
-    Ok(targets)
-}
-
-/// The texts, as they are lent.
-fn lent(alloc: Global, texts: &[String]) -> Result<Vec<&str>, Fail> {
-    let mut lent = Vec::new(alloc);
-    for text in texts {
-        lent.push(text.as_str())?;
-    }
-    Ok(lent)
-}
-
-/// Excludes the packages of these names, includes the targets of these names, and makes roots of the crates at these paths.
-fn set_lists(
-    builder: &mut Builder,
-    alloc: Global,
-    names: &[String],
-    paths: &[String],
-) -> Result<(), Fail>
+/// Makes roots of the crates at many paths, of which none is there, and of the member's.
+fn set_paths(builder: &mut Builder, alloc: Global) -> Result<(), Fail>
     ensures index { OnOk result (builder.new.index ≡ builder.old.index) }
 {
-    let paths = lent(alloc, paths)?;
+    let names = named(alloc, "/w/")?;
+    let paths = settings::words_of(alloc, names.as_str())?;
     builder
-        .exclude(specs(alloc, names)?)?
-        .include_targets(targets(alloc, names)?)?
         .include_workspace_crates(paths.as_slice())?
         .include_workspace_crates(&["/w/a"])?;
     Ok(())
 }
 
+/// Excludes the packages of many names, includes the targets of these names, and makes roots of crates.
+fn set_lists(builder: &mut Builder, alloc: Global) -> Result<(), Fail>
+    ensures index { OnOk result (builder.new.index ≡ builder.old.index) }
+{
+    let names = named(alloc, "")?;
+    builder
+        .exclude(package_specs(alloc, names.as_str())?)?
+        .include_targets(targets_of(alloc, names.as_str())?)?;
+    set_paths(builder, alloc)
+}
+
 #[test]
 fn a_large_setting(rt: HostRuntime) -> Result<(), Fail> {
     let alloc = rt.alloc();
-    let (names, paths) = (names(alloc, "")?, names(alloc, "/w/")?);
-    let metadata = large_metadata(alloc)?;
+    let json = large_document(alloc)?;
     let mut builder = Builder::new(alloc);
-    set_lists(&mut builder, alloc, names.as_slice(), paths.as_slice())?;
+    set_lists(&mut builder, alloc)?;
     let mut count = Count { packages: 0 };
-    let krates: Krates = builder.build_with_metadata(metadata, &mut count)?;
+    let krates = built(alloc, builder, json.as_str(), &mut count)?;
     assert_eq!(rt; (krates.len(), count.packages), (2, 2_001));
     Ok(())
 }
@@ -93,37 +71,55 @@ fn sizes(command: &MetadataCommand) -> Result<(usize, usize), Fail> {
     Ok((words.len(), longest.unwrap_or(0)))
 }
 
+/// Asks for features of many names, and for other options of these names.
+fn set_words(cmd: &mut Cmd, alloc: Global) -> Result<(), Fail> {
+    cmd.features(names(alloc, "")?)?
+        .other_options(names(alloc, "--")?)?;
+    Ok(())
+}
+
 #[test]
 fn large_options(rt: HostRuntime) -> Result<(), Fail> {
     let alloc = rt.alloc();
     let mut cmd = Cmd::new(alloc);
-    cmd.features(names(alloc, "")?)?
-        .other_options(names(alloc, "--")?)?;
+    set_words(&mut cmd, alloc)?;
     let command = cmd.into_command()?;
     assert_eq!(rt; sizes(&command)?, (2_005, 11_999));
+    Ok(())
+}
+
+/// Asks for features of many names, and sets a variable of a long name.
+fn set_command(command: &mut MetadataCommand, alloc: Global) -> Result<(), Fail> {
+    let long = "x".repeat(alloc, 70_000)?;
+    command
+        .features(Features::Selected(names(alloc, "")?))?
+        .env(long.as_str(), "y")?;
     Ok(())
 }
 
 #[test]
 fn a_large_command(rt: HostRuntime) -> Result<(), Fail> {
     let alloc = rt.alloc();
-    let long = "x".repeat(alloc, 70_000)?;
     let mut command = MetadataCommand::new(alloc);
-    command
-        .features(Features::Selected(names(alloc, "")?))?
-        .env(long.as_str(), "y")?;
+    set_command(&mut command, alloc)?;
     assert_eq!(rt; sizes(&command)?, (5, 11_999));
     Ok(())
 }
 
-/// An index that knows the version 1.0.0 of `p`, with a feature without references.
-fn index(alloc: Global) -> Result<CachingIndex, Fail> {
+/// What an index knows of a crate of the version 1.0.0, with a feature without references.
+fn known(alloc: Global) -> Result<IndexKrate, Fail> {
+    let version = Version::parse(alloc, "1.0.0")?;
     let mut features = BTreeMap::new(alloc);
     drop(features.insert(String::from_str(alloc, "std")?, Vec::new(alloc))?);
-    let version = Version::parse(alloc, "1.0.0")?;
     let versions = vec![in alloc; IndexKrateVersion { version, features }]?;
+    Ok(IndexKrate { versions })
+}
+
+/// An index that knows this of `p`.
+fn index(alloc: Global) -> Result<CachingIndex, Fail> {
+    let known = known(alloc)?;
     let mut krates = BTreeMap::new(alloc);
-    drop(krates.insert(String::from_str(alloc, "p")?, Some(IndexKrate { versions }))?);
+    drop(krates.insert(String::from_str(alloc, "p")?, Some(known))?);
     Ok(CachingIndex {
         answer: IndexAnswer { krates },
     })
@@ -136,16 +132,26 @@ fn featured(alloc: Global) -> Result<Metadata, Fail> {
     metadata(alloc, line.as_str())
 }
 
+/// Corrects the first of the packages; how many features it then has.
+fn correct_all(
+    alloc: Global,
+    index: &CachingIndex,
+    packages: &mut [Package],
+) -> Result<usize, Fail> {
+    let Some(pkg) = packages.first_mut() else {
+        return Err(Fail::new("no package"));
+    };
+    index.correct(alloc, pkg)?;
+    Ok(pkg.features.len())
+}
+
 #[test]
 fn a_large_package(rt: HostRuntime) -> Result<(), Fail> {
     let alloc = rt.alloc();
     let index = index(alloc)?;
     let mut metadata = featured(alloc)?;
-    let Some(pkg) = metadata.packages.first_mut() else {
-        return Err(Fail::new("no package"));
-    };
-    index.correct(alloc, pkg)?;
-    assert_eq!(rt; pkg.features.len(), 5_002);
+    let count = correct_all(alloc, &index, metadata.packages.as_mut_slice())?;
+    assert_eq!(rt; count, 5_002);
     Ok(())
 }
 

@@ -75,10 +75,11 @@ pub(crate) fn told_of(
     reported: &Reported,
 ) -> Result<String, Fail> {
     let mut text = String::new(alloc);
-    match built {
-        Ok(krates) => push_kept_and_reported(&mut text, krates, reported)?,
-        Err(error) => write!(text, "{error}")?,
-    }
+    let pushed = match built {
+        Ok(krates) => push_kept_and_reported(&mut text, krates, reported),
+        Err(error) => write!(text, "{error}"),
+    };
+    pushed?;
     Ok(text)
 }
 
@@ -96,14 +97,14 @@ pub(crate) struct Built;
 
 impl Question for Built {
     fn told(alloc: Global, line: &str) -> Result<String, Fail> {
-        let metadata = metadata(alloc, line)?;
         let mut builder = Builder::new(alloc);
         build_as(alloc, &mut builder, line)?;
+        let metadata = metadata(alloc, line)?;
         outcome(alloc, builder, metadata)
     }
 }
 
-const KEPT_AND_REPORTED: &[Row] = &[
+const BUILT: &[Row] = &[
     // what is needed is kept, and what isn't is reported
     ("a b|b", "+a+b"),
     ("a b|b|c", "+a+b-c"),
@@ -117,9 +118,7 @@ const KEPT_AND_REPORTED: &[Row] = &[
     ("a b?|b", "+a-b"),
     // the root, where there is one, and not the members
     ("a|b / members a b / root b", "+b-a"),
-];
-
-const REFUSED: &[Row] = &[
+    // what is refused
     ("a|b / nodes b", "lost node: path+file:///w/a#0.1.0"),
     ("b / nodes a|b", "lost package: path+file:///w/a#0.1.0"),
     ("a b|b / nodes a b", "lost node: path+file:///w/b#0.1.0"),
@@ -138,30 +137,23 @@ const REFUSED: &[Row] = &[
     ("b|b / nodes b", "doubled id: path+file:///w/b#0.1.0"),
 ];
 
-#[test]
-fn kept_and_reported_or_refused(rt: HostRuntime) -> Result<(), Fail> {
-    hold::<Built>(rt.alloc(), KEPT_AND_REPORTED)?;
-    hold::<Built>(rt.alloc(), REFUSED)
-}
-
 /// Adds the number of a crate and its enabled features, or that there is none.
 fn push_answers(text: &mut String, krates: &Krates, name: &str) -> Result<(), Fail> {
-    let kid = kid_of(*text.allocator(), name)?;
     write!(text, ", {name} is ")?;
+    let kid = kid_of(*text.allocator(), name)?;
     push_number(text, krates.nid_for_kid(&kid))?;
-    push_features(
+    Ok(push_features(
         text,
         krates.get_enabled_features(&kid),
         "",
         " without features",
-    )?;
-    Ok(())
+    )?)
 }
 
 /// How many crates are kept in which workspace, and the number and the enabled features of `a`, `b` and `c`.
 struct Queried;
 
-impl Told for Queried {
+impl Told<Package> for Queried {
     fn push(text: &mut String, krates: &Krates, _line: &str) -> Result<(), Fail> {
         write!(text, "{} of {}", krates.len(), krates.workspace_root())?;
         for name in ["a", "b", "c"] {
@@ -184,6 +176,7 @@ const QUERIES: &[Row] = &[
 ];
 
 #[test]
-fn queries_of_kept_crates(rt: HostRuntime) -> Result<(), Fail> {
+fn kept_and_reported_or_refused_and_queried(rt: HostRuntime) -> Result<(), Fail> {
+    hold::<Built>(rt.alloc(), BUILT)?;
     hold::<OfGraph<Queried>>(rt.alloc(), QUERIES)
 }

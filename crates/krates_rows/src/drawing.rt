@@ -10,10 +10,11 @@ use krates::graph::GraphEdge;
 use krates::{DepKind, Edge, Krates, Node, NodeId, Package};
 use krates_samples::documents::word_of;
 use krates_samples::table::{Row, hold};
+use std::alloc::AllocError;
 use std::test::Fail;
 
 /// Adds what the declared dependencies of a crate mean.
-fn push_mapping(text: &mut String, mapping: &[Option<NodeId>]) -> Result<(), Fail> {
+fn push_mapping(text: &mut String, mapping: &[Option<NodeId>]) -> Result<(), AllocError> {
     for number in mapping {
         match number {
             Some(number) => write!(text, "[{}]", number.index())?,
@@ -24,7 +25,7 @@ fn push_mapping(text: &mut String, mapping: &[Option<NodeId>]) -> Result<(), Fai
 }
 
 /// Adds a node.
-fn push_node(text: &mut String, node: &Node<Package>) -> Result<(), Fail> {
+fn push_node(text: &mut String, node: &Node<Package>) -> Result<(), AllocError> {
     match node {
         Node::Krate {
             id,
@@ -38,8 +39,7 @@ fn push_node(text: &mut String, node: &Node<Package>) -> Result<(), Fail> {
             write!(text, "{}/{name}", krate_index.index())?;
         }
     }
-    text.push_str(" ")?;
-    Ok(())
+    text.push_str(" ")
 }
 
 /// The mark of an edge, and the kind of dependency that it says, where it says one.
@@ -52,7 +52,7 @@ fn mark_of(edge: &Edge) -> (&'static str, DepKind) {
 }
 
 /// Adds an edge.
-fn push_edge(text: &mut String, edge: &GraphEdge<Edge>) -> Result<(), Fail> {
+fn push_edge(text: &mut String, edge: &GraphEdge<Edge>) -> Result<(), AllocError> {
     let (mark, kind) = mark_of(&edge.weight);
     write!(
         text,
@@ -61,13 +61,13 @@ fn push_edge(text: &mut String, edge: &GraphEdge<Edge>) -> Result<(), Fail> {
         edge.target.index()
     )?;
     if kind != DepKind::Normal {
-        write!(text, "({kind})")?;
+        return write!(text, "({kind})");
     }
     Ok(())
 }
 
 /// Adds the edges in order.
-fn push_edges(text: &mut String, edges: &[GraphEdge<Edge>]) -> Result<(), Fail> {
+fn push_edges(text: &mut String, edges: &[GraphEdge<Edge>]) -> Result<(), AllocError> {
     for edge in edges {
         push_edge(text, edge)?;
     }
@@ -77,13 +77,13 @@ fn push_edges(text: &mut String, edges: &[GraphEdge<Edge>]) -> Result<(), Fail> 
 /// The whole graph of a document under the setting of its line.
 pub(crate) struct Graphed;
 
-impl Told for Graphed {
+impl Told<Package> for Graphed {
     fn push(text: &mut String, krates: &Krates, _line: &str) -> Result<(), Fail> {
         for node in krates.graph().raw_nodes() {
             push_node(text, node)?;
         }
         text.push_str("|")?;
-        push_edges(text, krates.graph().raw_edges())
+        Ok(push_edges(text, krates.graph().raw_edges())?)
     }
 }
 

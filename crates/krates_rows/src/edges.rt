@@ -15,19 +15,18 @@ fn push_found(
     mark: &str,
     other: NodeId,
     edge: EdgeId,
-) -> Result<(), Fail> {
+) -> Result<(), AllocError> {
     write!(
         text,
         " {}{mark}{} by {}",
         node.index(),
         other.index(),
         edge.index()
-    )?;
-    Ok(())
+    )
 }
 
 /// Adds the direct dependents of a number, each behind `<` with its edge.
-fn push_dependents(text: &mut String, krates: &Krates, node: NodeId) -> Result<(), Fail> {
+fn push_dependents(text: &mut String, krates: &Krates, node: NodeId) -> Result<(), AllocError> {
     for found in &krates.direct_dependents(node)? {
         push_found(text, node, "<", found.node_id, found.edge_id)?;
     }
@@ -35,7 +34,7 @@ fn push_dependents(text: &mut String, krates: &Krates, node: NodeId) -> Result<(
 }
 
 /// Adds the direct dependencies of a number, where it is that of a node, each behind `>` with its edge.
-fn push_dependencies(text: &mut String, krates: &Krates, node: NodeId) -> Result<(), Fail> {
+fn push_dependencies(text: &mut String, krates: &Krates, node: NodeId) -> Result<(), AllocError> {
     if node.index() >= krates.graph().node_count() {
         return Ok(());
     }
@@ -48,7 +47,7 @@ fn push_dependencies(text: &mut String, krates: &Krates, node: NodeId) -> Result
 /// The direct dependents and dependencies of each of the first ten numbers.
 struct Direct;
 
-impl Told for Direct {
+impl Told<Package> for Direct {
     fn push(text: &mut String, krates: &Krates, _line: &str) -> Result<(), Fail> {
         for number in 0..10u32 {
             push_dependents(text, krates, NodeId::new(number))?;
@@ -114,7 +113,7 @@ fn push_ends(text: &mut String, krates: &Krates, node: NodeId) -> Result<(), All
 }
 
 /// Adds the numbers of edges.
-fn push_numbers(text: &mut String, edges: &[EdgeId]) -> Result<(), Fail> {
+fn push_numbers(text: &mut String, edges: &[EdgeId]) -> Result<(), AllocError> {
     for edge in edges {
         write!(text, " {}", edge.index())?;
     }
@@ -124,7 +123,7 @@ fn push_numbers(text: &mut String, edges: &[EdgeId]) -> Result<(), Fail> {
 /// The ends of the edges of the nodes 0, 2, 3 and 9, and the numbers of the edges of 0 and into 1.
 struct Ends;
 
-impl Told for Ends {
+impl Told<Package> for Ends {
     fn push(text: &mut String, krates: &Krates, _line: &str) -> Result<(), Fail> {
         for number in [0u32, 2, 3, 9] {
             push_ends(text, krates, NodeId::new(number))?;
@@ -135,10 +134,10 @@ impl Told for Ends {
             graph.edge_numbers(NodeId::new(0), Direction::Outgoing),
         )?;
         text.push_str(" into")?;
-        push_numbers(
+        Ok(push_numbers(
             text,
             graph.edge_numbers(NodeId::new(1), Direction::Incoming),
-        )
+        )?)
     }
 }
 
@@ -150,7 +149,7 @@ const ENDS: &[Row] = &[(
 /// The crates that members reach without edges of dev dependencies.
 struct Filtered;
 
-impl Told for Filtered {
+impl Told<Package> for Filtered {
     fn push(text: &mut String, krates: &Krates, _line: &str) -> Result<(), Fail> {
         for krate in &krates.krates_filtered(DepKind::Dev)? {
             write!(text, "{} ", krate.name)?;

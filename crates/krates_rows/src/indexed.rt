@@ -3,7 +3,9 @@
 ghost use Rattle.std.specs.Prelude.{⊤};
 
 use crate::building::{Reported, told_of};
-use krates::index::{BuildIndexCache, IndexAnswer, IndexKrate, IndexKrateVersion, PackageNames};
+use krates::index::{
+    BuildIndexCache, FeaturesMap, IndexAnswer, IndexKrate, IndexKrateVersion, PackageNames,
+};
 use krates::{Builder, Error, Krates, OnFilter, Package};
 use krates_samples::documents::{metadata, section};
 use krates_samples::table::{Question, Row, hold};
@@ -25,10 +27,9 @@ fn tally_of(names: &PackageNames) -> u8 {
 }
 
 /// What a build tells whose index counts how often it is asked.
-fn told_counting(alloc: Global, line: &str, calls: &Rc<Cell<u8>>) -> Result<String, Fail> {
-    let theirs = calls.clone()?;
+fn told_counting(alloc: Global, line: &str, calls: Rc<Cell<u8>>) -> Result<String, Fail> {
     let build: BuildIndexCache = Box::new(alloc, move |names: PackageNames| {
-        theirs.set(theirs.get().wrapping_add(tally_of(&names)));
+        calls.set(calls.get().wrapping_add(tally_of(&names)));
         IndexAnswer {
             krates: BTreeMap::new(alloc),
         }
@@ -47,12 +48,13 @@ struct AskedFor;
 impl Question for AskedFor {
     fn told(alloc: Global, line: &str) -> Result<String, Fail> {
         let calls = Rc::new(alloc, Cell::new(0u8))?;
-        let told = told_counting(alloc, line, &calls)?;
+        let told = told_counting(alloc, line, calls.clone()?)?;
         Ok(format!(in alloc; "{told}, asked {}", calls.get())?)
     }
 }
 
-const ASKED_ONCE: &[Row] = &[
+const ASKED_FOR: &[Row] = &[
+    // it is asked once
     ("a b|b", "+a+b, asked 1"),
     // also where a package is lost, or no crate is kept
     (
@@ -60,10 +62,7 @@ const ASKED_ONCE: &[Row] = &[
         "lost node: path+file:///w/b#0.1.0, asked 1",
     ),
     ("a|b / members", "no root crates available, asked 1"),
-];
-
-const NOT_ASKED: &[Row] = &[
-    // where the document is refused as it was given
+    // it isn't asked where the document is refused as it was given
     (
         "a b|b / no graph",
         "no resolution graph was provided, asked 0",
@@ -79,12 +78,6 @@ const NOT_ASKED: &[Row] = &[
     ),
 ];
 
-#[test]
-fn asked_once_and_not_before_a_refusal(rt: HostRuntime) -> Result<(), Fail> {
-    hold::<AskedFor>(rt.alloc(), ASKED_ONCE)?;
-    hold::<AskedFor>(rt.alloc(), NOT_ASKED)
-}
-
 /// How many features the packages have that aren't kept.
 #[derive(Drop)]
 struct Features {
@@ -99,30 +92,46 @@ impl OnFilter for Features {
     }
 }
 
-/// One version of a crate, with one feature, as `VERSION NAME=REFERENCE` says.
-fn indexed(alloc: Global, text: &str) -> Result<IndexKrate, Fail> {
-    let (version, feature) = text.split_once(' ').unwrap_or((text, ""));
+/// The one feature that `NAME=REFERENCE` says.
+fn features_of(alloc: Global, feature: &str) -> Result<FeaturesMap, Fail> {
     let (name, reference) = feature.split_once('=').unwrap_or((feature, ""));
-    let mut values = Vec::new(alloc);
+    let mut references = Vec::new(alloc);
     if !reference.is_empty() {
-        values.push(String::from_str(alloc, reference)?)?;
+        references.push(String::from_str(alloc, reference)?)?;
     }
     let mut features = BTreeMap::new(alloc);
-    drop(features.insert(String::from_str(alloc, name)?, values)?);
-    let version = Version::parse(alloc, version)?;
-    let known = IndexKrateVersion { version, features };
-    Ok(IndexKrate {
+    drop(features.insert(String::from_str(alloc, name)?, references)?);
+    Ok(features)
+}
+
+/// The answer of an index that knows one version of one crate.
+pub(crate) fn answer_with(
+    alloc: Global,
+    name: &str,
+    known: IndexKrateVersion,
+) -> Result<IndexAnswer, Fail> {
+    let krate = IndexKrate {
         versions: vec![in alloc; known]?,
-    })
+    };
+    let mut krates = BTreeMap::new(alloc);
+    drop(krates.insert(String::from_str(alloc, name)?, Some(krate))?);
+    Ok(IndexAnswer { krates })
+}
+
+/// What an index knows of a version, as `VERSION NAME=REFERENCE` says.
+fn known_version(alloc: Global, text: &str) -> Result<IndexKrateVersion, Fail> {
+    let (version, feature) = text.split_once(' ').unwrap_or((text, ""));
+    let version = Version::parse(alloc, version)?;
+    let features = features_of(alloc, feature)?;
+    Ok(IndexKrateVersion { version, features })
 }
 
 /// The answer of an index that has one crate, as `NAME@VERSION NAME=REFERENCE` says, and none of a second name.
 fn answer_of(alloc: Global, text: &str) -> Result<IndexAnswer, Fail> {
     let (name, rest) = text.split_once('@').unwrap_or((text, ""));
-    let mut krates = BTreeMap::new(alloc);
-    drop(krates.insert(String::from_str(alloc, name)?, Some(indexed(alloc, rest)?))?);
-    drop(krates.insert(String::from_str(alloc, "q")?, None)?);
-    Ok(IndexAnswer { krates })
+    let mut answer = answer_with(alloc, name, known_version(alloc, rest)?)?;
+    drop(answer.krates.insert(String::from_str(alloc, "q")?, None)?);
+    Ok(answer)
 }
 
 /// How many crates a build kept, or the refusal, and how many features the reported packages have.
@@ -132,10 +141,11 @@ fn told_counts(
     features: usize,
 ) -> Result<String, Fail> {
     let mut text = String::new(alloc);
-    match built {
-        Ok(krates) => write!(text, "{} kept", krates.len())?,
-        Err(error) => write!(text, "{error}")?,
-    }
+    let pushed = match built {
+        Ok(krates) => write!(text, "{} kept", krates.len()),
+        Err(error) => write!(text, "{error}"),
+    };
+    pushed?;
     write!(text, ", {features} reported")?;
     Ok(text)
 }
@@ -159,7 +169,7 @@ impl Question for Corrected {
     }
 }
 
-const REPORTED: &[Row] = &[
+const CORRECTED: &[Row] = &[
     // a package of crates.io that isn't kept, whose manifest has one feature
     (
         "a|p@1.0.0&crates.io;default=std / nodes a / index p@1.0.0 std",
@@ -169,9 +179,6 @@ const REPORTED: &[Row] = &[
         "a|p@1.0.0&crates.io;default=std / nodes a / index p@1.0.1 std",
         "1 kept, 1 reported",
     ),
-];
-
-const LOST: &[Row] = &[
     // the index lets the default features of the crate, or of one that the document lacks, name one that no node lists
     (
         "a b!|b@1.0.0&crates.io|p;x= / nodes a b@1.0.0&crates.io|b@1.0.0&crates.io;default / index b@1.0.0 default=std",
@@ -184,7 +191,7 @@ const LOST: &[Row] = &[
 ];
 
 #[test]
-fn reported_or_lost_as_corrected(rt: HostRuntime) -> Result<(), Fail> {
-    hold::<Corrected>(rt.alloc(), REPORTED)?;
-    hold::<Corrected>(rt.alloc(), LOST)
+fn asked_once_and_reported_or_lost_as_corrected(rt: HostRuntime) -> Result<(), Fail> {
+    hold::<AskedFor>(rt.alloc(), ASKED_FOR)?;
+    hold::<Corrected>(rt.alloc(), CORRECTED)
 }

@@ -9,24 +9,24 @@ use krates::semver::VersionReq;
 use krates::{KrateDetails, Krates, Matches, Node, NodeId, Package};
 use krates_samples::documents::{kid_of, section, word_of};
 use krates_samples::table::{Row, hold};
+use std::alloc::AllocError;
 use std::test::Fail;
 
 /// Adds a node, or that there is none.
-fn push_node(text: &mut String, node: Option<&Node<Package>>) -> Result<(), Fail> {
+fn push_node(text: &mut String, node: Option<&Node<Package>>) -> Result<(), AllocError> {
     match node {
-        Some(Node::Krate { id, .. }) => text.push_str(word_of(id.repr()))?,
-        Some(Node::Feature { krate_index, name }) => write!(
-            text,
-            "{}/{name}",
-            krate_index.index()
-        )?,
-        None => text.push_str("none")?,
+        Some(Node::Krate { id, .. }) => text.push_str(word_of(id.repr())),
+        Some(Node::Feature { krate_index, name }) => write!(text, "{}/{name}", krate_index.index()),
+        None => text.push_str("none"),
     }
-    Ok(())
 }
 
 /// Adds a node behind its number.
-fn push_numbered(text: &mut String, number: NodeId, node: &Node<Package>) -> Result<(), Fail> {
+fn push_numbered(
+    text: &mut String,
+    number: NodeId,
+    node: &Node<Package>,
+) -> Result<(), AllocError> {
     write!(text, "{}=", number.index())?;
     push_node(text, Some(node))
 }
@@ -36,19 +36,20 @@ fn push_by_id(text: &mut String, krates: &Krates, question: &str, words: &str) -
     let (word, name) = words.split_once(' ').unwrap_or((words, ""));
     let feature = if name.is_empty() { None } else { Some(name) };
     let kid = kid_of(*text.allocator(), word)?;
-    match question {
+    let pushed = match question {
         "number" => push_number(text, krates.nid_for_kid(&kid)),
         "node" => push_node(text, krates.node_for_kid(&kid)),
         "found" => match krates.get_node(&kid, feature) {
             Some((number, node)) => push_numbered(text, number, node),
             None => push_node(text, None),
         },
-        _ => Ok(push_features(text, krates.get_enabled_features(&kid), "set", "none")?),
-    }
+        _ => push_features(text, krates.get_enabled_features(&kid), "set", "none"),
+    };
+    Ok(pushed?)
 }
 
 /// Adds the members.
-fn push_members(text: &mut String, krates: &Krates) -> Result<(), Fail> {
+fn push_members(text: &mut String, krates: &Krates) -> Result<(), AllocError> {
     for node in krates.workspace_members() {
         text.push_str(" ")?;
         push_node(text, Some(node))?;
@@ -57,7 +58,7 @@ fn push_members(text: &mut String, krates: &Krates) -> Result<(), Fail> {
 }
 
 /// Adds crates that were found, each with its number and version.
-fn push_matches(text: &mut String, found: Matches<'_, Package>) -> Result<(), Fail> {
+fn push_matches(text: &mut String, found: Matches<'_, Package>) -> Result<(), AllocError> {
     for one in found {
         let word = word_of(one.kid.repr());
         write!(
@@ -74,39 +75,39 @@ fn push_matches(text: &mut String, found: Matches<'_, Package>) -> Result<(), Fa
 fn push_search(text: &mut String, krates: &Krates, words: &str) -> Result<(), Fail> {
     let (name, req) = words.split_once(' ').unwrap_or((words, "*"));
     let req = VersionReq::parse(*text.allocator(), req)?;
-    push_matches(text, krates.search_matches(name, &req))
+    Ok(push_matches(text, krates.search_matches(name, &req))?)
 }
 
 /// Adds the name of the crate of a number, asked for in both ways.
 fn push_krate(text: &mut String, krates: &Krates, number: &str) -> Result<(), Fail> {
     let number: usize = number.parse()?;
     if number >= krates.len() {
-        return push_node(text, None);
+        return Ok(push_node(text, None)?);
     }
     let one = &krates[number];
     let same = &krates[NodeId::new(number as u32)];
-    write!(text, "{} {}", one.name(), same.name())?;
-    Ok(())
+    Ok(write!(text, "{} {}", one.name(), same.name())?)
 }
 
 /// What a build of the line's document answers to the question of the line.
 struct LookedUp;
 
-impl Told for LookedUp {
+impl Told<Package> for LookedUp {
     fn push(text: &mut String, krates: &Krates, line: &str) -> Result<(), Fail> {
         let asked = section(line, "ask ").unwrap_or("");
         let (question, words) = asked.split_once(' ').unwrap_or((asked, ""));
         match question {
             "number" | "node" | "features" | "found" => push_by_id(text, krates, question, words),
-            "name" => push_matches(text, krates.krates_by_name(words)),
+            "name" => Ok(push_matches(text, krates.krates_by_name(words))?),
             "search" => push_search(text, krates, words),
             "krate" => push_krate(text, krates, words),
-            _ => push_members(text, krates),
+            _ => Ok(push_members(text, krates)?),
         }
     }
 }
 
-const BY_ID: &[Row] = &[
+const LOOKED_UP: &[Row] = &[
+    // numbers and nodes of ids
     ("a b|b|c / ask number a", "0"),
     ("a b|b|c / ask number b", "1"),
     // a package that isn't kept, and an id that the document lacks
@@ -114,16 +115,12 @@ const BY_ID: &[Row] = &[
     ("a b|b|c / ask number d", "none"),
     ("a b|b|c / ask node b", "b"),
     ("a b|b|c / ask node c", "none"),
-];
-
-const FEATURES: &[Row] = &[
+    // enabled features
     ("a b|b;j= k= / ask features a", "set"),
     ("a b|b;j= k= / ask features b", "set"),
     ("a b&with=k,j|b;j= k= / ask features b", "set+j+k"),
     ("a b|b|c;j= / ask features c", "none"),
-];
-
-const NODES: &[Row] = &[
+    // a node, of a crate or of its feature
     (
         "a b?;b=dep:b w=b?/j|b;j= / nodes a b;b w|b;j / ask found b j",
         "4=1/j",
@@ -148,10 +145,7 @@ const NODES: &[Row] = &[
     ("a b|b;j= / ask found b j", "none"),
     ("a;j=|c;j= / ask found c j", "none"),
     ("a;j=|c;j= / ask found c", "none"),
-];
-
-const MEMBERS: &[Row] = &[
-    // in the order of the ids, and each once
+    // the members: in the order of the ids, and each once
     ("b a|c|a / members b a / ask members", " a b"),
     ("a|b / members a a / ask members", " a"),
     // one that isn't kept: it is no root, or is excluded
@@ -159,9 +153,7 @@ const MEMBERS: &[Row] = &[
     ("a|b / members a b / without a / ask members", " b"),
     // none is kept
     ("a|b / members a / root b / ask members", ""),
-];
-
-const BY_NAME: &[Row] = &[
+    // crates of a name
     (
         "a d|d@0.10.0|d@0.9.0 / nodes a d@0.10.0 d@0.9.0|d@0.10.0|d@0.9.0 / ask name d",
         " 1=d@0.10.0(0.10.0) 2=d@0.9.0(0.9.0)",
@@ -185,19 +177,17 @@ const BY_NAME: &[Row] = &[
     ("b dd&with=j d|d|dd;j= / members b / ask name e", ""),
     // a package of the name that isn't kept
     ("a|b / ask name b", ""),
-];
-
-const BY_NUMBER: &[Row] = &[
+    // crates of a number
     ("a b|b;j= / ask krate 0", "a a"),
     ("a b|b;j= / ask krate 1", "b b"),
     ("a b&with=j|b;j= / ask krate 2", "none"),
 ];
 
 /// Adds a crate of which another version or source is kept too.
-fn push_duplicate(text: &mut String, krates: &Krates, krate: &Package) -> Result<(), Fail> {
+fn push_duplicate(text: &mut String, krates: &Krates, krate: &Package) -> Result<(), AllocError> {
     let mut same = krates.krates_by_name(krate.name());
     if same.next().is_some() && same.next().is_some() {
-        write!(text, " {} {}", krate.name(), krate.version())?;
+        return write!(text, " {} {}", krate.name(), krate.version());
     }
     Ok(())
 }
@@ -205,7 +195,7 @@ fn push_duplicate(text: &mut String, krates: &Krates, krate: &Package) -> Result
 /// The crates of which another version or source is kept too.
 struct Duplicates;
 
-impl Told for Duplicates {
+impl Told<Package> for Duplicates {
     fn push(text: &mut String, krates: &Krates, _line: &str) -> Result<(), Fail> {
         for krate in krates.krates() {
             push_duplicate(text, krates, krate)?;
@@ -225,7 +215,7 @@ const DUPLICATES: &[Row] = &[
 /// The versions of all crates of a name, divided by bars.
 struct Versions;
 
-impl Told for Versions {
+impl Told<Package> for Versions {
     fn push(text: &mut String, krates: &Krates, _line: &str) -> Result<(), Fail> {
         for found in krates.krates_by_name("d") {
             write!(text, "{}|", found.krate.version())?;
@@ -245,12 +235,7 @@ const VERSIONS: &[Row] = &[
 #[test]
 fn crates_that_are_looked_up(rt: HostRuntime) -> Result<(), Fail> {
     let alloc = rt.alloc();
-    hold::<OfGraph<LookedUp>>(alloc, BY_ID)?;
-    hold::<OfGraph<LookedUp>>(alloc, FEATURES)?;
-    hold::<OfGraph<LookedUp>>(alloc, NODES)?;
-    hold::<OfGraph<LookedUp>>(alloc, MEMBERS)?;
-    hold::<OfGraph<LookedUp>>(alloc, BY_NAME)?;
-    hold::<OfGraph<LookedUp>>(alloc, BY_NUMBER)?;
+    hold::<OfGraph<LookedUp>>(alloc, LOOKED_UP)?;
     hold::<OfGraph<Duplicates>>(alloc, DUPLICATES)?;
     hold::<OfGraph<Versions>>(alloc, VERSIONS)
 }

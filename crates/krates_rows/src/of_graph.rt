@@ -1,24 +1,24 @@
 //! Questions to the graph that is built of a line, and what several of them add to their answers.
 
 use crate::setters::krates_of;
-use krates::{EnabledFeatures, Krates, NodeId};
+use krates::{EnabledFeatures, FromPackage, Krates, NodeId, Package};
 use krates_samples::table::Question;
 use std::alloc::{AllocError, Global};
 use std::marker::PhantomData;
 use std::test::Fail;
 
-/// What is told of a graph.
-pub(crate) trait Told {
+/// What is told of a graph, whose crates are held as these values.
+pub(crate) trait Told<N> {
     /// Adds what is told of the graph that is built of a line.
-    fn push(text: &mut String, krates: &Krates, line: &str) -> Result<(), Fail>;
+    fn push(text: &mut String, krates: &Krates<N>, line: &str) -> Result<(), Fail>;
 }
 
 /// What is told of the graph that is built of each line of a table.
-pub(crate) struct OfGraph<T: Told> {
-    of: PhantomData<T>,
+pub(crate) struct OfGraph<T: Told<N>, N = Package> {
+    of: PhantomData<(T, N)>,
 }
 
-impl<T: Told> Question for OfGraph<T> {
+impl<T: Told<N>, N: FromPackage + Drop> Question for OfGraph<T, N> {
     fn told(alloc: Global, line: &str) -> Result<String, Fail> {
         let krates = krates_of(alloc, line)?;
         let mut text = String::new(alloc);
@@ -34,12 +34,11 @@ pub(crate) fn push_marked(text: &mut String, mark: &str, word: &str) -> Result<(
 }
 
 /// Adds the number of a crate, or that there is none.
-pub(crate) fn push_number(text: &mut String, number: Option<NodeId>) -> Result<(), Fail> {
+pub(crate) fn push_number(text: &mut String, number: Option<NodeId>) -> Result<(), AllocError> {
     match number {
-        Some(number) => write!(text, "{}", number.index())?,
-        None => text.push_str("none")?,
+        Some(number) => write!(text, "{}", number.index()),
+        None => text.push_str("none"),
     }
-    Ok(())
 }
 
 /// Adds the names of enabled features, each behind a plus sign, and all behind `set`; or what says that there is no set.

@@ -7,6 +7,7 @@ use krates::{Builder, Edge, Error, FilterFn, FromEdge, FromPackage, Krates, Pack
 use krates_samples::documents::metadata;
 use krates_samples::table::{Question, Row, hold};
 use std::alloc::{AllocError, Global};
+use std::mem;
 use std::test::Fail;
 
 /// The name of a package. There is no room for a package `z`.
@@ -18,11 +19,12 @@ pub(crate) struct Named {
 impl FromPackage for Named {
     ghost made_from = { λ _ _. ⊤ };
 
-    fn from_package(_alloc: Global, pkg: Package) -> Result<Named, AllocError> {
+    fn from_package(alloc: Global, mut pkg: Package) -> Result<Named, AllocError> {
         if pkg.name.as_str() == "z" {
             return Err(AllocError);
         }
-        Ok(Named { name: pkg.name })
+        let name = mem::replace(&mut pkg.name, String::new(alloc));
+        Ok(Named { name })
     }
 }
 
@@ -62,29 +64,29 @@ fn push_names(text: &mut String, krates: &Krates<Named, IsDependency>) -> Result
     Ok(())
 }
 
-/// Adds whether each edge is a dependency.
-fn push_edges(text: &mut String, krates: &Krates<Named, IsDependency>) -> Result<(), AllocError> {
+/// Adds the names of the kept crates, and then whether each edge is a dependency.
+fn push_krates(text: &mut String, krates: &Krates<Named, IsDependency>) -> Result<(), AllocError> {
+    push_names(text, krates)?;
     for edge in krates.graph().raw_edges() {
         text.push_str(if edge.weight.is { ">" } else { ":" })?;
     }
     Ok(())
 }
 
-/// Adds the kept crates and the edges, or the refusal; and then the names that the closure was handed.
-fn push_built(
-    text: &mut String,
+/// The kept crates and the edges, or the refusal; and then the names that the closure was handed.
+fn told_of(
+    alloc: Global,
     built: &Result<Krates<Named, IsDependency>, Error>,
     names: &str,
-) -> Result<(), Fail> {
-    match built {
-        Ok(krates) => {
-            push_names(text, krates)?;
-            push_edges(text, krates)?;
-        }
-        Err(error) => write!(text, "{error}")?,
-    }
+) -> Result<String, Fail> {
+    let mut text = String::new(alloc);
+    let pushed = match built {
+        Ok(krates) => push_krates(&mut text, krates),
+        Err(error) => write!(text, "{error}"),
+    };
+    pushed?;
     write!(text, ", closure {names}")?;
-    Ok(())
+    Ok(text)
 }
 
 /// The names of the kept crates, whether each edge is a dependency, or the refusal; and then the names that a closure was handed.
@@ -95,9 +97,7 @@ impl Question for Own {
         let metadata = metadata(alloc, line)?;
         let mut names = String::new(alloc);
         let built = built(alloc, metadata, &mut names);
-        let mut text = String::new(alloc);
-        push_built(&mut text, &built, names.as_str())?;
-        Ok(text)
+        told_of(alloc, &built, names.as_str())
     }
 }
 

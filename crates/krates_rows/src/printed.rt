@@ -2,13 +2,12 @@
 
 ghost use Rattle.std.specs.Prelude.{Some, string_bytes};
 
+use crate::of_graph::{OfGraph, Told};
 use crate::own_types::Named;
-use crate::setters::build_as;
 use krates::graph::GraphEdge;
-use krates::{Builder, Edge, Krates, Node, NoneFilter};
-use krates_samples::documents::metadata;
-use krates_samples::table::{Question, Row, hold};
-use std::alloc::Global;
+use krates::{Edge, Krates, Node};
+use krates_samples::table::{Row, hold};
+use std::alloc::AllocError;
 use std::fmt;
 use std::test::Fail;
 
@@ -21,16 +20,8 @@ impl fmt::Display for Named {
     }
 }
 
-/// What is built of the document of a line under its setting, with names in the place of packages.
-fn named(alloc: Global, line: &str) -> Result<Krates<Named, Edge>, Fail> {
-    let metadata = metadata(alloc, line)?;
-    let mut builder = Builder::new(alloc);
-    build_as(alloc, &mut builder, line)?;
-    Ok(builder.build_with_metadata(metadata, &mut NoneFilter)?)
-}
-
 /// Adds the nodes as they are printed.
-fn push_nodes(text: &mut String, nodes: &[Node<Named>]) -> Result<(), Fail> {
+fn push_nodes(text: &mut String, nodes: &[Node<Named>]) -> Result<(), AllocError> {
     for node in nodes {
         write!(text, "{node},")?;
     }
@@ -38,14 +29,13 @@ fn push_nodes(text: &mut String, nodes: &[Node<Named>]) -> Result<(), Fail> {
 }
 
 /// Adds what is printed of a copy of an edge.
-fn push_copy(text: &mut String, edge: &Edge) -> Result<(), Fail> {
+fn push_copy(text: &mut String, edge: &Edge) -> Result<(), AllocError> {
     let copy = edge.clone()?;
-    write!(text, "{copy};")?;
-    Ok(())
+    write!(text, "{copy};")
 }
 
 /// Adds behind a bar the edges as their copies are printed.
-fn push_edges(text: &mut String, edges: &[GraphEdge<Edge>]) -> Result<(), Fail> {
+fn push_edges(text: &mut String, edges: &[GraphEdge<Edge>]) -> Result<(), AllocError> {
     text.push_str("|")?;
     for edge in edges {
         push_copy(text, &edge.weight)?;
@@ -53,16 +43,13 @@ fn push_edges(text: &mut String, edges: &[GraphEdge<Edge>]) -> Result<(), Fail> 
     Ok(())
 }
 
-/// The nodes of the graph, and copies of its edges.
+/// The nodes of the graph, with names in the place of packages, and copies of its edges.
 struct Printed;
 
-impl Question for Printed {
-    fn told(alloc: Global, line: &str) -> Result<String, Fail> {
-        let krates = named(alloc, line)?;
-        let mut text = String::new(alloc);
-        push_nodes(&mut text, krates.graph().raw_nodes())?;
-        push_edges(&mut text, krates.graph().raw_edges())?;
-        Ok(text)
+impl Told<Named> for Printed {
+    fn push(text: &mut String, krates: &Krates<Named>, _line: &str) -> Result<(), Fail> {
+        push_nodes(text, krates.graph().raw_nodes())?;
+        Ok(push_edges(text, krates.graph().raw_edges())?)
     }
 }
 
@@ -93,5 +80,5 @@ const PRINTED: &[Row] = &[
 
 #[test]
 fn printed_texts(rt: HostRuntime) -> Result<(), Fail> {
-    hold::<Printed>(rt.alloc(), PRINTED)
+    hold::<OfGraph<Printed, Named>>(rt.alloc(), PRINTED)
 }

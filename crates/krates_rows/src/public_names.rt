@@ -1,12 +1,12 @@
 //! The names under which the library gives its items: each public path is called once.
 
+use crate::indexed::answer_with;
 use krates::agenda::Agenda;
 use krates::cfg::{CfgError, Expression, TargetInfo, builtin};
-use krates::cm::DependencyKind;
+use krates::cm::{DependencyKind, Metadata};
 use krates::graph::Graph;
 use krates::index::{
-    BuildIndexCache, CachingIndex, FeaturesMap, IndexAnswer, IndexKrate, IndexKrateVersion,
-    PackageNames,
+    BuildIndexCache, CachingIndex, FeaturesMap, IndexAnswer, IndexKrateVersion, PackageNames,
 };
 use krates::resolve::{Setting, admit, select};
 use krates::semver::Version;
@@ -54,10 +54,23 @@ fn expression_fault(alloc: Global, text: &str) -> &'static str {
 /// The triple of a known target.
 fn triple_of(alloc: Global, text: &str) -> Result<String, Fail> {
     let info: Option<TargetInfo> = builtin(alloc, text)?;
-    match info {
-        Some(info) => Ok(info.triple),
-        None => Ok(String::from_str(alloc, "none")?),
-    }
+    let triple = match &info {
+        Some(info) => info.triple.as_str(),
+        None => "none",
+    };
+    Ok(String::from_str(alloc, triple)?)
+}
+
+/// What is printed of a target.
+fn target_of(alloc: Global, text: &str) -> Result<String, Fail> {
+    let target = Target::new(alloc, text)?;
+    Ok(format!(in alloc; "{target}")?)
+}
+
+/// The name of a specification.
+fn name_of(alloc: Global, text: &str) -> Result<String, Fail> {
+    let spec = PkgSpec::from_str(alloc, text)?;
+    Ok(String::from_str(alloc, spec.name.as_str())?)
 }
 
 /// How many numbers a graph of two nodes and an agenda give.
@@ -71,22 +84,11 @@ fn counted(alloc: Global) -> Result<usize, Fail> {
     Ok(graph.node_count().saturating_add(taken))
 }
 
-/// An index that knows one version without features.
-fn known(alloc: Global) -> Result<IndexAnswer, Fail> {
+/// How many crates an index answers that knows one version without features.
+fn answered(alloc: Global) -> Result<usize, Fail> {
     let features: FeaturesMap = BTreeMap::new(alloc);
     let version = Version::parse(alloc, "1.2.3")?;
-    let indexed = IndexKrateVersion { version, features };
-    let krate = IndexKrate {
-        versions: vec![in alloc; indexed]?,
-    };
-    let mut krates = BTreeMap::new(alloc);
-    drop(krates.insert(String::from_str(alloc, "p")?, Some(krate))?);
-    Ok(IndexAnswer { krates })
-}
-
-/// How many crates an index answers.
-fn answered(alloc: Global) -> Result<usize, Fail> {
-    let answer = known(alloc)?;
+    let answer: IndexAnswer = answer_with(alloc, "p", IndexKrateVersion { version, features })?;
     let build: BuildIndexCache = Box::new(alloc, move |names: PackageNames| {
         drop(names);
         answer
@@ -99,14 +101,19 @@ fn answered(alloc: Global) -> Result<usize, Fail> {
 }
 
 /// How many crates are selected of a document.
-fn selected(alloc: Global, line: &str) -> Result<usize, Fail> {
-    let metadata = metadata(alloc, line)?;
-    let ids = admit(alloc, &metadata)?;
-    match select(alloc, &metadata, &ids, &Setting::new(alloc)) {
+fn selected_count(alloc: Global, metadata: &Metadata) -> Result<usize, Error> {
+    let ids = admit(alloc, metadata)?;
+    match select(alloc, metadata, &ids, &Setting::new(alloc)) {
         Ok(selection) => Ok(selection.krates.len()),
         Err(Error::NoRootKrates) => Ok(0),
-        Err(error) => Ok(Err(error)?),
+        Err(error) => Err(error),
     }
+}
+
+/// How many crates are selected of the document of a line.
+fn selected(alloc: Global, line: &str) -> Result<usize, Fail> {
+    let metadata = metadata(alloc, line)?;
+    Ok(selected_count(alloc, &metadata)?)
 }
 
 /// What a call answers that the first word of the line names.
@@ -121,8 +128,8 @@ impl Question for Named {
             "cfg::CfgError" => expression_fault(alloc, text),
             "path::parent" => path::parent(text).unwrap_or("none"),
             "cfg::builtin" => return triple_of(alloc, text),
-            "Target" => return Ok(format!(in alloc; "{}", Target::new(alloc, text)?)?),
-            "PkgSpec" => return Ok(PkgSpec::from_str(alloc, text)?.name),
+            "Target" => return target_of(alloc, text),
+            "PkgSpec" => return name_of(alloc, text),
             _ => "no such name",
         };
         Ok(String::from_str(alloc, told)?)

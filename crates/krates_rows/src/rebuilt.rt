@@ -7,11 +7,12 @@ ghost use Rattle.std.specs.Prelude.{IfOk, map};
 ghost use Rattle.krates_rows.specs.Rebuilt.{HoldsRebuilt};
 
 use crate::building::{push_krates, push_package};
-use krates::cm::Metadata;
-use krates::{Builder, DepKind, Error, Krates, NoneFilter, Scope, laws};
+use crate::of_graph::{OfGraph, Told};
+use crate::setters::krates_of;
+use krates::{DepKind, Krates, Package, laws};
 use krates_drawing::laws as drawing;
-use krates_samples::documents::{kind_named, metadata, section};
-use krates_samples::table::{Question, Row, hold};
+use krates_samples::documents::{kind_named, section};
+use krates_samples::table::{Row, hold};
 use std::alloc::{AllocError, Global};
 use std::test::Fail;
 
@@ -35,47 +36,36 @@ fn filtered_beside<'a, N, M>(
     krates.krates_filtered(kind)
 }
 
-/// The graph of a document, and the one without a kind of dependency.
-#[derive(Drop)]
-struct Twice {
-    krates: Krates,
-    rebuilt: Krates,
+/// Builds the document of a line again, without the kind of dependency of this name. The document is read anew, since a build
+/// takes it, and is the same; so the graphs are those of a build and its rebuild.
+fn rebuilt(alloc: Global, line: &str, name: &str) -> Result<Krates, Fail> {
+    let again = format!(in alloc; "{line} / ignore {name} all")?;
+    krates_of(alloc, again.as_str())
 }
 
-/// Builds a document, and again without a kind of dependency. The second build is handed a document of its own, since a build
-/// takes it; where that is the same, the graphs are those of a build and its rebuild.
-fn built_twice(
-    alloc: Global,
+/// Adds the crates that members reach without a kind, and those that are kept without it beside them.
+fn push_both(
+    text: &mut String,
     kind: DepKind,
-    document: Metadata,
-    again: Metadata,
-) -> Result<Twice, Error> {
-    let krates: Krates = Builder::new(alloc).build_with_metadata(document, &mut NoneFilter)?;
-    let mut without = Builder::new(alloc);
-    without.ignore_kind(kind, Scope::All);
-    let rebuilt: Krates = without.build_with_metadata(again, &mut NoneFilter)?;
-    Ok(Twice { krates, rebuilt })
-}
-
-/// Adds the crates that members reach without a kind, and that others stand beside them.
-fn push_filtered(text: &mut String, kind: DepKind, both: &Twice) -> Result<(), AllocError> {
-    for pkg in &filtered_beside(kind, &both.krates, &both.rebuilt)? {
+    krates: &Krates,
+    rebuilt: &Krates,
+) -> Result<(), AllocError> {
+    for pkg in &filtered_beside(kind, krates, rebuilt)? {
         push_package(text, "+", pkg)?;
     }
-    text.push_str(" beside ")
+    text.push_str(" beside ")?;
+    push_krates(text, rebuilt)
 }
 
 /// The crates that are reached without a kind, and those that are kept without it.
 struct Beside;
 
-impl Question for Beside {
-    fn told(alloc: Global, line: &str) -> Result<String, Fail> {
-        let kind = DepKind::from(kind_named(section(line, "ask ").unwrap_or("")));
-        let both = built_twice(alloc, kind, metadata(alloc, line)?, metadata(alloc, line)?)?;
-        let mut text = String::new(alloc);
-        push_filtered(&mut text, kind, &both)?;
-        push_krates(&mut text, &both.rebuilt)?;
-        Ok(text)
+impl Told<Package> for Beside {
+    fn push(text: &mut String, krates: &Krates, line: &str) -> Result<(), Fail> {
+        let name = section(line, "ask ").unwrap_or("");
+        let rebuilt = rebuilt(*text.allocator(), line, name)?;
+        let kind = DepKind::from(kind_named(name));
+        Ok(push_both(text, kind, krates, &rebuilt)?)
     }
 }
 
@@ -101,5 +91,5 @@ const BESIDE: &[Row] = &[
 
 #[test]
 fn filtered_beside_a_rebuild(rt: HostRuntime) -> Result<(), Fail> {
-    hold::<Beside>(rt.alloc(), BESIDE)
+    hold::<OfGraph<Beside>>(rt.alloc(), BESIDE)
 }

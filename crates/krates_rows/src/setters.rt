@@ -2,7 +2,7 @@
 
 ghost use Rattle.std.specs.Prelude.{◌≡◌, OnOk};
 
-use krates::{Builder, DepKind, Krates, NoneFilter};
+use krates::{Builder, DepKind, FromPackage, Krates, NoneFilter};
 use krates_samples::documents::{kind_named, metadata};
 use krates_samples::settings::{package_specs, scope_of, targets_of, words_of};
 use std::alloc::Global;
@@ -49,9 +49,12 @@ pub(crate) fn build_as(alloc: Global, builder: &mut Builder, line: &str) -> Resu
 }
 
 /// What is built of the document of a line under its setting.
-pub(crate) fn krates_of(alloc: Global, line: &str) -> Result<Krates, Fail> {
-    let metadata = metadata(alloc, line)?;
+pub(crate) fn krates_of<N: FromPackage + Drop>(
+    alloc: Global,
+    line: &str,
+) -> Result<Krates<N>, Fail> {
     let mut builder = Builder::new(alloc);
     build_as(alloc, &mut builder, line)?;
+    let metadata = metadata(alloc, line)?;
     Ok(builder.build_with_metadata(metadata, &mut NoneFilter)?)
 }

@@ -1,22 +1,21 @@
 //! How much work a build was: how many crates, features and references were looked at.
 
 use crate::of_graph::{OfGraph, Told};
-use krates::Krates;
+use krates::{Krates, Package};
 use krates_samples::table::{Row, hold};
 use std::test::Fail;
 
 /// How many crates, features and references a build of the document counted.
 struct Worked;
 
-impl Told for Worked {
+impl Told<Package> for Worked {
     fn push(text: &mut String, krates: &Krates, _line: &str) -> Result<(), Fail> {
         let work = krates.work();
-        write!(
+        Ok(write!(
             text,
             "{}, {}, {}",
             work.krates, work.features, work.references
-        )?;
-        Ok(())
+        )?)
     }
 }
 

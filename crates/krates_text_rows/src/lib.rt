@@ -1,4 +1,4 @@
-//! Worked examples of texts and the graph: what the lowest crates answer where the answer is known.
+//! Worked examples of texts, JSON among them, and the graph: what the lowest crates answer where the answer is known.
 //!
 //! They stand apart from the crates that they test, since a crate with tests is proved twice.
 #![tactic(auto)]
@@ -9,6 +9,8 @@ mod agenda;
 mod expressions;
 #[cfg(test)]
 mod graph;
+#[cfg(test)]
+mod json_texts;
 #[cfg(test)]
 mod passing;
 #[cfg(test)]
