@@ -1,10 +1,9 @@
 //! Lists of steps that are changed step by step: each change leaves a step that doesn't follow, and it is the first.
 
 use crate::facts::steps_of;
-use crate::lists::{Ask, Given, List, OfLine, Steps, list_in};
+use crate::lists::{Given, List, Steps, given_in, list_in};
 use krates_derive::{CheckError, Derivation, check};
-use krates_document::Setting;
-use krates_samples::table::{Row, hold};
+use krates_samples::table::{Question, Row, hold};
 use std::alloc::Global;
 use std::test::Fail;
 
@@ -118,19 +117,17 @@ fn with_change(
 }
 
 /// Whether this change of the step with this number is refused for that step.
-fn is_refused(
-    given: &Given<'_, Setting>,
-    steps: &str,
-    number: usize,
-    change: Change,
-) -> Result<bool, Fail> {
-    let derivation = with_change(given.alloc, steps, number, change)?;
-    let answer = check(given.alloc, given.metadata, given.set, None, &derivation);
-    Ok(answer == Err(CheckError::Step(number)))
+fn is_refused(given: &Given, steps: &str, number: usize, change: Change) -> Result<bool, Fail> {
+    let (alloc, metadata, setting) = (given.alloc, &given.metadata, &given.setting);
+    let derivation = with_change(alloc, steps, number, change)?;
+    Ok(match check(alloc, metadata, setting, None, &derivation) {
+        Err(CheckError::Step(refused)) => refused == number,
+        _ => false,
+    })
 }
 
 /// How many changes of the step with this number are refused for that step.
-fn refused(given: &Given<'_, Setting>, steps: &str, number: usize) -> Result<usize, Fail> {
+fn refused(given: &Given, steps: &str, number: usize) -> Result<usize, Fail> {
     let mut count = 0usize;
     for &change in CHANGES {
         if is_refused(given, steps, number, change)? {
@@ -141,7 +138,7 @@ fn refused(given: &Given<'_, Setting>, steps: &str, number: usize) -> Result<usi
 }
 
 /// Adds how many changes of each step are refused for it.
-fn push_refused(told: &mut String, given: &Given<'_, Setting>, steps: &str) -> Result<(), Fail> {
+fn push_refused(told: &mut String, given: &Given, steps: &str) -> Result<(), Fail> {
     for (number, _) in steps.split(';').enumerate() {
         write!(told, " {}", refused(given, steps, number)?)?;
     }
@@ -151,13 +148,12 @@ fn push_refused(told: &mut String, given: &Given<'_, Setting>, steps: &str) -> R
 /// What the check answers of the list, and of each step how many of its changes are refused for it.
 struct EachChanged;
 
-impl Ask for EachChanged {
-    type Set = Setting;
-
-    fn told(given: &Given<'_, Setting>, line: &str) -> Result<String, Fail> {
+impl Question for EachChanged {
+    fn told(alloc: Global, line: &str) -> Result<String, Fail> {
+        let given = given_in(alloc, line)?;
         let steps = list_in::<Steps>(line);
-        let mut told = Steps::by_setting(given, None, steps)?;
-        push_refused(&mut told, given, steps)?;
+        let mut told = Steps::by_setting(&given, None, steps)?;
+        push_refused(&mut told, &given, steps)?;
         Ok(told)
     }
 }
@@ -234,5 +230,5 @@ const CHANGED: &[Row] = &[
 
 #[test]
 fn each_change_is_refused(rt: HostRuntime) -> Result<(), Fail> {
-    hold::<OfLine<EachChanged>>(rt.alloc(), CHANGED)
+    hold::<EachChanged>(rt.alloc(), CHANGED)
 }

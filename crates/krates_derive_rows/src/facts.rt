@@ -9,30 +9,21 @@
 //! steps. A line begins with a document, has the sections `ignore KIND`, `without SPECS` and `names all` where something is set, and
 //! ends with the section `steps` or the section `facts`.
 
-use crate::lists::Sections;
 use krates_derive::{CheckError, Derivation, Fact, Step};
 use krates_document::Setting;
-use krates_ids::Kid;
 use krates_rules::{DepKind, Scope};
 use krates_samples::documents::{kid_of, kind_named};
 use krates_samples::settings::package_specs;
-use std::alloc::{AllocError, Global};
+use std::alloc::Global;
 use std::str::SplitWhitespace;
 use std::test::Fail;
 
 /// The text that may be there.
-pub(crate) fn text_of(alloc: Global, text: Option<&str>) -> Result<Option<String>, AllocError> {
+pub(crate) fn text_of(alloc: Global, text: Option<&str>) -> Result<Option<String>, Fail> {
     match text {
         Some(text) => Ok(Some(String::from_str(alloc, text)?)),
         None => Ok(None),
     }
-}
-
-/// The ids of the two crates of an edge.
-pub(crate) fn ends_of(alloc: Global, parent: &str, child: &str) -> Result<(Kid, Kid), Fail> {
-    let parent = kid_of(alloc, parent)?;
-    let child = kid_of(alloc, child)?;
-    Ok((parent, child))
 }
 
 /// The fact that an edge is kept: its child, kind and target stand behind its parent.
@@ -40,13 +31,11 @@ fn kept(alloc: Global, parent: &str, rest: &str) -> Result<Fact, Fail> {
     let mut parts = rest.split(':');
     let child = parts.next().unwrap_or("");
     let kind = DepKind::from(kind_named(parts.next().unwrap_or("")));
-    let cfg = text_of(alloc, parts.next())?;
-    let (parent, child) = ends_of(alloc, parent, child)?;
     Ok(Fact::Kept {
-        parent,
-        child,
+        parent: kid_of(alloc, parent)?,
+        child: kid_of(alloc, child)?,
         kind,
-        cfg,
+        cfg: text_of(alloc, parts.next())?,
     })
 }
 
@@ -55,21 +44,11 @@ fn edge_fact(alloc: Global, parent: &str, rest: &str) -> Result<Fact, Fail> {
     let Some((child, name)) = rest.split_once('/') else {
         return kept(alloc, parent, rest);
     };
-    let name = String::from_str(alloc, name)?;
-    let (parent, child) = ends_of(alloc, parent, child)?;
     Ok(Fact::Toggled {
-        parent,
-        child,
-        name,
+        parent: kid_of(alloc, parent)?,
+        child: kid_of(alloc, child)?,
+        name: String::from_str(alloc, name)?,
     })
-}
-
-/// The fact that a feature is enabled: its crate stands before its name.
-fn enabled(alloc: Global, word: &str) -> Result<Fact, Fail> {
-    let (krate, name) = word.split_once('/').unwrap_or((word, ""));
-    let name = String::from_str(alloc, name)?;
-    let krate = kid_of(alloc, krate)?;
-    Ok(Fact::Feature { krate, name })
 }
 
 /// The fact of a word.
@@ -77,10 +56,14 @@ pub(crate) fn fact_of(alloc: Global, word: &str) -> Result<Fact, Fail> {
     if let Some(krate) = word.strip_prefix("+") {
         return Ok(Fact::Crate(kid_of(alloc, krate)?));
     }
-    match word.split_once('>') {
-        Some((parent, rest)) => edge_fact(alloc, parent, rest),
-        None => enabled(alloc, word),
+    if let Some((parent, rest)) = word.split_once('>') {
+        return edge_fact(alloc, parent, rest);
     }
+    let (krate, name) = word.split_once('/').unwrap_or((word, ""));
+    Ok(Fact::Feature {
+        krate: kid_of(alloc, krate)?,
+        name: String::from_str(alloc, name)?,
+    })
 }
 
 /// Adds the numbers of the words.
@@ -140,14 +123,13 @@ fn set(setting: &mut Setting, alloc: Global, section: &str) -> Result<(), Fail> 
     Ok(())
 }
 
-impl Sections for Setting {
-    fn of_line(alloc: Global, line: &str) -> Result<Setting, Fail> {
-        let mut setting = Setting::new(alloc);
-        for section in line.split(" / ") {
-            set(&mut setting, alloc, section)?;
-        }
-        Ok(setting)
+/// Sets what the sections of a line ask.
+pub(crate) fn setting_of(alloc: Global, line: &str) -> Result<Setting, Fail> {
+    let mut setting = Setting::new(alloc);
+    for section in line.split(" / ") {
+        set(&mut setting, alloc, section)?;
     }
+    Ok(setting)
 }
 
 /// The word for an answer.

@@ -1,16 +1,23 @@
 //! Reports that people ask for, as a caller writes them.
 
-use crate::builders::krates_of;
-use krates::{DepKind, DirectDependent, KrateDetails, Krates, NodeId, Package};
-use krates_samples::documents::section;
+use krates::{
+    Builder, DepKind, DirectDependent, KrateDetails, Krates, NodeId, NoneFilter, Package,
+};
+use krates_samples::documents::{metadata, section};
 use krates_samples::table::{Question, Row, hold};
-use std::alloc::{AllocError, Global};
+use std::alloc::Global;
 use std::test::Fail;
 
 /// What people ask of a graph.
 trait Report {
     /// Adds what the graph tells of the line.
-    fn push(text: &mut String, krates: &Krates, line: &str) -> Result<(), AllocError>;
+    fn push(text: &mut String, krates: &Krates, line: &str) -> Result<(), Fail>;
+}
+
+/// The graph of what is kept of a document without any setting.
+fn krates_of(alloc: Global, line: &str) -> Result<Krates, Fail> {
+    let metadata = metadata(alloc, line)?;
+    Ok(Builder::new(alloc).build_with_metadata(metadata, &mut NoneFilter)?)
 }
 
 /// What the graph of a line tells.
@@ -32,7 +39,7 @@ fn push_dependent(
     text: &mut String,
     krates: &Krates,
     found: &DirectDependent<'_, Package>,
-) -> Result<(), AllocError> {
+) -> Result<(), Fail> {
     if let Some(edge) = krates.graph().raw_edges().get(found.edge_id.index()) {
         write!(text, "{}{}, ", found.krate.name(), edge.weight)?;
     }
@@ -40,7 +47,7 @@ fn push_dependent(
 }
 
 /// Adds the crates that depend on a crate.
-fn push_dependents(text: &mut String, krates: &Krates, node: NodeId) -> Result<(), AllocError> {
+fn push_dependents(text: &mut String, krates: &Krates, node: NodeId) -> Result<(), Fail> {
     for found in &krates.direct_dependents(node)? {
         push_dependent(text, krates, found)?;
     }
@@ -51,7 +58,7 @@ fn push_dependents(text: &mut String, krates: &Krates, node: NodeId) -> Result<(
 struct Dependents;
 
 impl Report for Dependents {
-    fn push(text: &mut String, krates: &Krates, line: &str) -> Result<(), AllocError> {
+    fn push(text: &mut String, krates: &Krates, line: &str) -> Result<(), Fail> {
         for asked in krates.krates_by_name(section(line, "of ").unwrap_or("")) {
             push_dependents(text, krates, asked.node_id)?;
         }
@@ -79,8 +86,13 @@ const DEPENDENTS: &[Row] = &[
     ("a b|b / of c", ""),
 ];
 
+#[test]
+fn dependents_by_edge(rt: HostRuntime) -> Result<(), Fail> {
+    hold::<Reported<Dependents>>(rt.alloc(), DEPENDENTS)
+}
+
 /// Adds a crate of which another version or source is kept too.
-fn push_duplicate(text: &mut String, krates: &Krates, krate: &Package) -> Result<(), AllocError> {
+fn push_duplicate(text: &mut String, krates: &Krates, krate: &Package) -> Result<(), Fail> {
     let mut same = krates.krates_by_name(krate.name());
     if same.next().is_some() && same.next().is_some() {
         write!(text, "{} {}, ", krate.name(), krate.version())?;
@@ -92,7 +104,7 @@ fn push_duplicate(text: &mut String, krates: &Krates, krate: &Package) -> Result
 struct Duplicates;
 
 impl Report for Duplicates {
-    fn push(text: &mut String, krates: &Krates, _: &str) -> Result<(), AllocError> {
+    fn push(text: &mut String, krates: &Krates, _: &str) -> Result<(), Fail> {
         for krate in krates.krates() {
             push_duplicate(text, krates, krate)?;
         }
@@ -115,31 +127,22 @@ const DUPLICATES: &[Row] = &[
     ("a b bb|b|bb", ""),
 ];
 
-/// Adds a crate that isn't the next one that is needed; answers whether it is.
-fn push_other(
-    text: &mut String,
-    krate: &Package,
-    next: Option<&&Package>,
-) -> Result<bool, AllocError> {
-    match next {
-        Some(next) if next.id == krate.id => Ok(true),
-        _ => {
-            write!(text, "{}, ", krate.name())?;
-            Ok(false)
-        }
-    }
+#[test]
+fn duplicate_versions(rt: HostRuntime) -> Result<(), Fail> {
+    hold::<Reported<Duplicates>>(rt.alloc(), DUPLICATES)
 }
 
 /// The crates that only dev dependencies bring.
 struct ForTests;
 
 impl Report for ForTests {
-    fn push(text: &mut String, krates: &Krates, _: &str) -> Result<(), AllocError> {
+    fn push(text: &mut String, krates: &Krates, _: &str) -> Result<(), Fail> {
         let needed = krates.krates_filtered(DepKind::Dev)?;
-        let mut place = 0usize;
+        let mut place = 0;
         for krate in krates.krates() {
-            if push_other(text, krate, needed.get(place))? {
-                place = place.saturating_add(1);
+            match needed.get(place) {
+                Some(next) if next.id == krate.id => place += 1,
+                _ => write!(text, "{}, ", krate.name())?,
             }
         }
         Ok(())
@@ -160,8 +163,6 @@ const FOR_TESTS: &[Row] = &[
 ];
 
 #[test]
-fn reports(rt: HostRuntime) -> Result<(), Fail> {
-    hold::<Reported<Dependents>>(rt.alloc(), DEPENDENTS)?;
-    hold::<Reported<Duplicates>>(rt.alloc(), DUPLICATES)?;
+fn only_for_tests(rt: HostRuntime) -> Result<(), Fail> {
     hold::<Reported<ForTests>>(rt.alloc(), FOR_TESTS)
 }

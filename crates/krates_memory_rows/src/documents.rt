@@ -93,9 +93,10 @@ impl Call for Asked {
     }
 
     fn answer(&self, alloc: Global, given: &mut Box<Metadata>) -> Result<bool, AllocError> {
+        let metadata: &Metadata = given;
         let packages = match self {
-            Asked::Members => Some(given.workspace_packages(alloc)?),
-            Asked::DefaultMembers => given.workspace_default_packages(alloc)?,
+            Asked::Members => Some(metadata.workspace_packages(alloc)?),
+            Asked::DefaultMembers => metadata.workspace_default_packages(alloc)?,
         };
         match &packages {
             Some(packages) => Ok(are_a_and_b(packages)),
