@@ -1,12 +1,12 @@
 #!/usr/bin/env python3
 """Runs the gate and prints the processor time that it took, by crate and phase.
 
-    scripts/gate_times.py [CRATE..]
+    scripts/gate_times.py [--anew] [CRATE..]
 
 Run it at the top of a clean clone, with nothing beside it on the machine. First comes what the gate itself prints, then the
 table, and at the end once more the gate's last line, which says how many passed; the status is the gate's. With names it is
-`rt ci` of these crates and those below them. What passes is kept, so the times of a whole gate can be taken in parts, those of
-a crate that doesn't change once. The table is in processor seconds, user and system, and its rows are the crates:
+`rt ci` of these crates and those below them. What passes is kept on the machine, and isn't proved again by a later run: `--anew`
+proves all. The table is in processor seconds, user and system, and its rows are the crates:
 
     proof   the crate is proved, and the statements are written that the crates above it use
     edits   its must-fail edits are tried
