@@ -4,10 +4,12 @@ ghost use Rattle.std.specs.Prelude.{◌≡◌, IfOk, None, OnOk};
 
 use crate::closed_lists::{ADDED, LOST};
 use crate::derivations::{DECLARED, ORDERED, STRONG};
-use crate::lists::{Facts, List, Steps, list_in};
-use krates::{Builder, DepKind, PkgSpec, Scope};
-use krates_samples::documents::{kind_named, metadata};
-use krates_samples::table::{Question, hold};
+use crate::lists::{Ask, Facts, Given, List, OfLine, Sections, Steps, list_in};
+use crate::real_documents::metadata_of;
+use krates::{Builder, DepKind, Krates, NoneFilter, Scope};
+use krates_samples::documents::kind_named;
+use krates_samples::settings::package_specs;
+use krates_samples::table::hold;
 use std::alloc::Global;
 use std::test::Fail;
 
@@ -23,8 +25,7 @@ fn set(alloc: Global, builder: &mut Builder, section: &str) -> Result<(), Fail>
         builder.all_named(text == "all");
     }
     if setter == "without" {
-        let specs = vec![in alloc; PkgSpec::from_str(alloc, text)?]?;
-        builder.exclude(specs)?;
+        builder.exclude(package_specs(alloc, text)?)?;
     }
     Ok(())
 }
@@ -40,24 +41,38 @@ pub(crate) fn builder_of(alloc: Global, line: &str) -> Result<Builder, Fail>
     Ok(builder)
 }
 
+impl Sections for Builder {
+    fn of_line(alloc: Global, line: &str) -> Result<Builder, Fail> {
+        builder_of(alloc, line)
+    }
+}
+
+/// What is built of the document of a line under what its sections set.
+pub(crate) fn krates_of(alloc: Global, line: &str) -> Result<Box<Krates>, Fail> {
+    let metadata = metadata_of(alloc, line)?;
+    let builder = builder_of(alloc, line)?;
+    let krates: Krates = builder.build_with_metadata(Box::into_inner(metadata), &mut NoneFilter)?;
+    Ok(Box::new(alloc, krates)?)
+}
+
 /// What the check of the list of a line answers by a builder.
 struct ByBuilder<L> {
     list: L,
 }
 
-impl<L: List> Question for ByBuilder<L> {
-    fn told(alloc: Global, line: &str) -> Result<String, Fail> {
-        let metadata = metadata(alloc, line)?;
-        let builder = builder_of(alloc, line)?;
-        L::by_builder(alloc, &metadata, &builder, list_in::<L>(line))
+impl<L: List> Ask for ByBuilder<L> {
+    type Set = Builder;
+
+    fn told(given: &Given<'_, Builder>, line: &str) -> Result<String, Fail> {
+        L::by_builder(given, list_in::<L>(line))
     }
 }
 
 #[test]
 fn lists_by_a_builder(rt: HostRuntime) -> Result<(), Fail> {
-    hold::<ByBuilder<Steps>>(rt.alloc(), ORDERED)?;
-    hold::<ByBuilder<Steps>>(rt.alloc(), STRONG)?;
-    hold::<ByBuilder<Steps>>(rt.alloc(), DECLARED)?;
-    hold::<ByBuilder<Facts>>(rt.alloc(), ADDED)?;
-    hold::<ByBuilder<Facts>>(rt.alloc(), LOST)
+    hold::<OfLine<ByBuilder<Steps>>>(rt.alloc(), ORDERED)?;
+    hold::<OfLine<ByBuilder<Steps>>>(rt.alloc(), STRONG)?;
+    hold::<OfLine<ByBuilder<Steps>>>(rt.alloc(), DECLARED)?;
+    hold::<OfLine<ByBuilder<Facts>>>(rt.alloc(), ADDED)?;
+    hold::<OfLine<ByBuilder<Facts>>>(rt.alloc(), LOST)
 }

@@ -1,9 +1,10 @@
 //! Lists of steps that are changed step by step: each change leaves a step that doesn't follow, and it is the first.
 
 use crate::facts::steps_of;
-use crate::lists::{Given, List, Steps, given_in, list_in};
+use crate::lists::{Ask, Given, List, OfLine, Steps, list_in};
 use krates_derive::{CheckError, Derivation, check};
-use krates_samples::table::{Question, Row, hold};
+use krates_document::Setting;
+use krates_samples::table::{Row, hold};
 use std::alloc::Global;
 use std::test::Fail;
 
@@ -117,17 +118,19 @@ fn with_change(
 }
 
 /// Whether this change of the step with this number is refused for that step.
-fn is_refused(given: &Given, steps: &str, number: usize, change: Change) -> Result<bool, Fail> {
-    let (alloc, metadata, setting) = (given.alloc, &given.metadata, &given.setting);
-    let derivation = with_change(alloc, steps, number, change)?;
-    Ok(match check(alloc, metadata, setting, None, &derivation) {
-        Err(CheckError::Step(refused)) => refused == number,
-        _ => false,
-    })
+fn is_refused(
+    given: &Given<'_, Setting>,
+    steps: &str,
+    number: usize,
+    change: Change,
+) -> Result<bool, Fail> {
+    let derivation = with_change(given.alloc, steps, number, change)?;
+    let answer = check(given.alloc, given.metadata, given.set, None, &derivation);
+    Ok(answer == Err(CheckError::Step(number)))
 }
 
 /// How many changes of the step with this number are refused for that step.
-fn refused(given: &Given, steps: &str, number: usize) -> Result<usize, Fail> {
+fn refused(given: &Given<'_, Setting>, steps: &str, number: usize) -> Result<usize, Fail> {
     let mut count = 0usize;
     for &change in CHANGES {
         if is_refused(given, steps, number, change)? {
@@ -138,7 +141,7 @@ fn refused(given: &Given, steps: &str, number: usize) -> Result<usize, Fail> {
 }
 
 /// Adds how many changes of each step are refused for it.
-fn push_refused(told: &mut String, given: &Given, steps: &str) -> Result<(), Fail> {
+fn push_refused(told: &mut String, given: &Given<'_, Setting>, steps: &str) -> Result<(), Fail> {
     for (number, _) in steps.split(';').enumerate() {
         write!(told, " {}", refused(given, steps, number)?)?;
     }
@@ -148,12 +151,13 @@ fn push_refused(told: &mut String, given: &Given, steps: &str) -> Result<(), Fai
 /// What the check answers of the list, and of each step how many of its changes are refused for it.
 struct EachChanged;
 
-impl Question for EachChanged {
-    fn told(alloc: Global, line: &str) -> Result<String, Fail> {
-        let given = given_in(alloc, line)?;
+impl Ask for EachChanged {
+    type Set = Setting;
+
+    fn told(given: &Given<'_, Setting>, line: &str) -> Result<String, Fail> {
         let steps = list_in::<Steps>(line);
-        let mut told = Steps::by_setting(&given, None, steps)?;
-        push_refused(&mut told, &given, steps)?;
+        let mut told = Steps::by_setting(given, None, steps)?;
+        push_refused(&mut told, given, steps)?;
         Ok(told)
     }
 }
@@ -230,5 +234,5 @@ const CHANGED: &[Row] = &[
 
 #[test]
 fn each_change_is_refused(rt: HostRuntime) -> Result<(), Fail> {
-    hold::<EachChanged>(rt.alloc(), CHANGED)
+    hold::<OfLine<EachChanged>>(rt.alloc(), CHANGED)
 }

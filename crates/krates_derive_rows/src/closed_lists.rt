@@ -1,25 +1,31 @@
 //! Lists of facts: each is closed as it was written, and open without any one of its facts.
 
 use crate::facts::{facts_of, push_fact, told};
-use crate::lists::{Checked, Facts, Given, List, given_in, list_in};
+use crate::lists::{Ask, Checked, Facts, Given, List, OfLine, list_in};
 use krates_derive::{Fact, check_closed};
-use krates_samples::table::{Question, Row, hold};
+use krates_document::Setting;
+use krates_samples::table::{Row, hold};
 use std::alloc::Global;
 use std::test::Fail;
 
 /// Adds what the check answers of these facts.
-fn push_answer(all: &mut String, given: &Given, facts: &[Fact]) -> Result<(), Fail> {
+fn push_answer(all: &mut String, given: &Given<'_, Setting>, facts: &[Fact]) -> Result<(), Fail> {
     let alloc = given.alloc;
     let answer = told(
         alloc,
-        check_closed(alloc, &given.metadata, &given.setting, None, facts),
+        check_closed(alloc, given.metadata, given.set, None, facts),
     )?;
     write!(all, " {answer}")?;
     Ok(())
 }
 
 /// Adds what it answers of the facts of the words without the one at this place.
-fn push_without(all: &mut String, given: &Given, text: &str, place: usize) -> Result<(), Fail> {
+fn push_without(
+    all: &mut String,
+    given: &Given<'_, Setting>,
+    text: &str,
+    place: usize,
+) -> Result<(), Fail> {
     let mut facts = facts_of(given.alloc, text)?;
     if place < facts.len() {
         drop(facts.remove(place));
@@ -28,7 +34,7 @@ fn push_without(all: &mut String, given: &Given, text: &str, place: usize) -> Re
 }
 
 /// Adds what it answers of the facts of the words without each of them in turn.
-fn push_without_each(all: &mut String, given: &Given, text: &str) -> Result<(), Fail> {
+fn push_without_each(all: &mut String, given: &Given<'_, Setting>, text: &str) -> Result<(), Fail> {
     for (place, _) in text.split_whitespace().enumerate() {
         push_without(all, given, text, place)?;
     }
@@ -38,12 +44,13 @@ fn push_without_each(all: &mut String, given: &Given, text: &str) -> Result<(), 
 /// What it answers of the whole list, and behind it what it answers without each of its facts.
 struct EachNeeded;
 
-impl Question for EachNeeded {
-    fn told(alloc: Global, line: &str) -> Result<String, Fail> {
-        let given = given_in(alloc, line)?;
+impl Ask for EachNeeded {
+    type Set = Setting;
+
+    fn told(given: &Given<'_, Setting>, line: &str) -> Result<String, Fail> {
         let text = list_in::<Facts>(line);
-        let mut all = Facts::by_setting(&given, None, text)?;
-        push_without_each(&mut all, &given, text)?;
+        let mut all = Facts::by_setting(given, None, text)?;
+        push_without_each(&mut all, given, text)?;
         Ok(all)
     }
 }
@@ -109,11 +116,6 @@ const NEEDED: &[Row] = &[
     ("a b|b a / facts +a a>b +b b>a", "yes open open open open"),
 ];
 
-#[test]
-fn each_fact_is_needed(rt: HostRuntime) -> Result<(), Fail> {
-    hold::<EachNeeded>(rt.alloc(), NEEDED)
-}
-
 pub(crate) const ADDED: &[Row] = &[
     // a fact that drags others, which aren't there, or are
     (
@@ -164,7 +166,12 @@ pub(crate) const ADDED: &[Row] = &[
 ];
 
 /// Adds what the check answers of the facts of the words and of one more.
-fn push_with(all: &mut String, given: &Given, text: &str, added: &str) -> Result<(), Fail> {
+fn push_with(
+    all: &mut String,
+    given: &Given<'_, Setting>,
+    text: &str,
+    added: &str,
+) -> Result<(), Fail> {
     let mut facts = facts_of(given.alloc, text)?;
     push_fact(&mut facts, given.alloc, added)?;
     push_answer(all, given, &facts)
@@ -172,7 +179,7 @@ fn push_with(all: &mut String, given: &Given, text: &str, added: &str) -> Result
 
 /// Adds what it answers with each of three facts that drag others, which aren't there: a feature of a crate, an edge to one, and a
 /// feature that is toggled.
-fn push_with_each(all: &mut String, given: &Given, text: &str) -> Result<(), Fail> {
+fn push_with_each(all: &mut String, given: &Given<'_, Setting>, text: &str) -> Result<(), Fail> {
     for &added in ["z/f", "a>z", "a>a/z"].as_slice() {
         push_with(all, given, text, added)?;
     }
@@ -182,12 +189,13 @@ fn push_with_each(all: &mut String, given: &Given, text: &str) -> Result<(), Fai
 /// What it answers of the list, and behind it what it answers with each fact that drags others.
 struct Dragged;
 
-impl Question for Dragged {
-    fn told(alloc: Global, line: &str) -> Result<String, Fail> {
-        let given = given_in(alloc, line)?;
+impl Ask for Dragged {
+    type Set = Setting;
+
+    fn told(given: &Given<'_, Setting>, line: &str) -> Result<String, Fail> {
         let text = list_in::<Facts>(line);
-        let mut all = Facts::by_setting(&given, None, text)?;
-        push_with_each(&mut all, &given, text)?;
+        let mut all = Facts::by_setting(given, None, text)?;
+        push_with_each(&mut all, given, text)?;
         Ok(all)
     }
 }
@@ -239,11 +247,6 @@ const DRAGGED: &[Row] = &[
     ),
 ];
 
-#[test]
-fn facts_that_drag_others(rt: HostRuntime) -> Result<(), Fail> {
-    hold::<Dragged>(rt.alloc(), DRAGGED)
-}
-
 pub(crate) const LOST: &[Row] = &[
     // what is lost keeps each list open: a feature, a package, a node, a dependency that isn't declared
     ("a b;x=b/nope|b / facts +a a/x a>b +b", "open"),
@@ -263,6 +266,8 @@ pub(crate) const LOST: &[Row] = &[
 
 #[test]
 fn lists_of_facts(rt: HostRuntime) -> Result<(), Fail> {
-    hold::<Checked<Facts>>(rt.alloc(), ADDED)?;
-    hold::<Checked<Facts>>(rt.alloc(), LOST)
+    hold::<OfLine<EachNeeded>>(rt.alloc(), NEEDED)?;
+    hold::<OfLine<Dragged>>(rt.alloc(), DRAGGED)?;
+    hold::<OfLine<Checked<Facts>>>(rt.alloc(), ADDED)?;
+    hold::<OfLine<Checked<Facts>>>(rt.alloc(), LOST)
 }

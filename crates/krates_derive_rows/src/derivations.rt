@@ -1,6 +1,6 @@
 //! Lists of steps: each is accepted as it was written, and refused after one change.
 
-use crate::lists::{Checked, Steps};
+use crate::lists::{Checked, OfLine, Steps};
 use krates_samples::table::{Row, hold};
 use std::test::Fail;
 
@@ -185,8 +185,8 @@ pub(crate) const DECLARED: &[Row] = &[
 
 #[test]
 fn lists_of_steps(rt: HostRuntime) -> Result<(), Fail> {
-    hold::<Checked<Steps>>(rt.alloc(), ORDERED)?;
-    hold::<Checked<Steps>>(rt.alloc(), WEAK)?;
-    hold::<Checked<Steps>>(rt.alloc(), STRONG)?;
-    hold::<Checked<Steps>>(rt.alloc(), DECLARED)
+    hold::<OfLine<Checked<Steps>>>(rt.alloc(), ORDERED)?;
+    hold::<OfLine<Checked<Steps>>>(rt.alloc(), WEAK)?;
+    hold::<OfLine<Checked<Steps>>>(rt.alloc(), STRONG)?;
+    hold::<OfLine<Checked<Steps>>>(rt.alloc(), DECLARED)
 }

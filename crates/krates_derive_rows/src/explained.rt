@@ -1,54 +1,30 @@
 //! What a build hands out to explain what it keeps: each derivation is accepted, and all facts together are a closed list.
 
-use crate::builders::builder_of;
-use crate::real_documents::{GIT, WEAK};
+use crate::builders::krates_of;
+use crate::lists::{Ask, Given, OfLine};
 use krates::derive::{CheckError, check, check_closed};
-use krates::{Builder, Krates, Metadata, NodeId, NoneFilter};
+use krates::{Builder, Krates, NodeId};
 use krates_cli::derivation_lines::lines_of;
-use krates_cm::parse;
-use krates_samples::documents::document;
 use krates_samples::table::{Question, Row, hold};
-use std::alloc::Global;
+use std::alloc::{AllocError, Global};
 use std::test::Fail;
 
-/// A document, with the builder of its line and what it builds.
-#[derive(Drop)]
-struct Example {
-    alloc: Global,
-    builder: Builder,
-    metadata: Metadata,
-    krates: Krates,
-}
-
-/// What is built of a document under what a line sets.
-fn krates_of(alloc: Global, line: &str, json: &str) -> Result<Krates, Fail> {
-    let builder = builder_of(alloc, line)?;
-    Ok(builder.build_with_metadata(parse(alloc, json)?, &mut NoneFilter)?)
-}
-
-/// The example of a document under what a line sets.
-fn example_of(alloc: Global, line: &str, json: &str) -> Result<Example, Fail> {
-    Ok(Example {
-        alloc,
-        builder: builder_of(alloc, line)?,
-        metadata: parse(alloc, json)?,
-        krates: krates_of(alloc, line, json)?,
-    })
-}
-
 /// Whether there is a derivation of the node, and it is accepted.
-fn is_accepted(example: &Example, node: NodeId) -> Result<bool, Fail> {
-    let (metadata, builder) = (&example.metadata, &example.builder);
-    Ok(match example.krates.why(node)? {
-        Some(derivation) => check(metadata, builder, None, &derivation).is_ok(),
+fn is_accepted(
+    given: &Given<'_, Builder>,
+    krates: &Krates,
+    node: NodeId,
+) -> Result<bool, AllocError> {
+    Ok(match krates.why(node)? {
+        Some(derivation) => check(given.metadata, given.set, None, &derivation).is_ok(),
         None => false,
     })
 }
 
 /// Whether the derivation of each node is accepted.
-fn are_accepted(example: &Example) -> Result<bool, Fail> {
-    for number in 0..example.krates.graph().raw_nodes().len() {
-        if !is_accepted(example, NodeId::new(number as u32))? {
+fn are_accepted(given: &Given<'_, Builder>, krates: &Krates) -> Result<bool, AllocError> {
+    for number in 0..krates.graph().raw_nodes().len() {
+        if !is_accepted(given, krates, NodeId::new(number as u32))? {
             return Ok(false);
         }
     }
@@ -56,50 +32,50 @@ fn are_accepted(example: &Example) -> Result<bool, Fail> {
 }
 
 /// What the check answers of all facts without the one at this place, where there is one.
-fn answer_without(example: &Example, place: usize) -> Result<Result<(), CheckError>, Fail> {
-    let mut facts = example.krates.facts()?;
+fn answer_without(
+    given: &Given<'_, Builder>,
+    krates: &Krates,
+    place: usize,
+) -> Result<Result<(), CheckError>, AllocError> {
+    let mut facts = krates.facts()?;
     if place < facts.len() {
         drop(facts.remove(place));
     }
-    let (metadata, builder) = (&example.metadata, &example.builder);
-    Ok(check_closed(metadata, builder, None, &facts))
+    Ok(check_closed(given.metadata, given.set, None, &facts))
 }
 
 /// Whether so many facts, which are all, are a closed list, and aren't without any one of them.
-fn are_closed(example: &Example, count: usize) -> Result<bool, Fail> {
+fn are_closed(
+    given: &Given<'_, Builder>,
+    krates: &Krates,
+    count: usize,
+) -> Result<bool, AllocError> {
     for place in 0..count {
-        if answer_without(example, place)? != Err(CheckError::Open) {
+        if answer_without(given, krates, place)? != Err(CheckError::Open) {
             return Ok(false);
         }
     }
-    Ok(answer_without(example, count)?.is_ok())
+    Ok(answer_without(given, krates, count)?.is_ok())
 }
 
 /// How many nodes and facts there are, and whether they are explained.
-fn counted(example: &Example) -> Result<String, Fail> {
-    let nodes = example.krates.graph().raw_nodes().len();
-    let facts = example.krates.facts()?.len();
-    let accepted = are_accepted(example)?;
-    let closed = are_closed(example, facts)?;
-    Ok(format!(in example.alloc; "{nodes} nodes {accepted}, {facts} facts {closed}")?)
-}
-
-/// The text of the document of a line, or of the real document of the member that it names.
-fn json_of(alloc: Global, line: &str) -> Result<String, Fail> {
-    match line {
-        "weakling" => Ok(String::from_str(alloc, WEAK)?),
-        "gitter" => Ok(String::from_str(alloc, GIT)?),
-        _ => document(alloc, line),
-    }
+fn counted(given: &Given<'_, Builder>, krates: &Krates) -> Result<String, AllocError> {
+    let nodes = krates.graph().raw_nodes().len();
+    let facts = krates.facts()?.len();
+    let accepted = are_accepted(given, krates)?;
+    let closed = are_closed(given, krates, facts)?;
+    format!(in given.alloc; "{nodes} nodes {accepted}, {facts} facts {closed}")
 }
 
 /// What is counted of a document.
 struct Explained;
 
-impl Question for Explained {
-    fn told(alloc: Global, line: &str) -> Result<String, Fail> {
-        let json = json_of(alloc, line)?;
-        counted(&example_of(alloc, line, json.as_str())?)
+impl Ask for Explained {
+    type Set = Builder;
+
+    fn told(given: &Given<'_, Builder>, line: &str) -> Result<String, Fail> {
+        let krates = krates_of(given.alloc, line)?;
+        Ok(counted(given, &krates)?)
     }
 }
 
@@ -138,17 +114,11 @@ const REAL: &[Row] = &[
     ("gitter", "21 nodes true, 32 facts true"),
 ];
 
-#[test]
-fn builds_explain_what_they_keep(rt: HostRuntime) -> Result<(), Fail> {
-    hold::<Explained>(rt.alloc(), EXPLAINED)?;
-    hold::<Explained>(rt.alloc(), REAL)
-}
-
 /// The lines of the derivation of the second node.
-fn second_lines(alloc: Global, krates: &Krates) -> Result<String, Fail> {
+fn second_lines(alloc: Global, krates: &Krates) -> Result<String, AllocError> {
     match krates.why(NodeId::new(1))? {
-        Some(derivation) => Ok(lines_of(alloc, &derivation)?),
-        None => Ok(String::from_str(alloc, "none")?),
+        Some(derivation) => lines_of(alloc, &derivation),
+        None => String::from_str(alloc, "none"),
     }
 }
 
@@ -157,8 +127,8 @@ struct Second;
 
 impl Question for Second {
     fn told(alloc: Global, line: &str) -> Result<String, Fail> {
-        let json = document(alloc, line)?;
-        second_lines(alloc, &krates_of(alloc, line, json.as_str())?)
+        let krates = krates_of(alloc, line)?;
+        Ok(second_lines(alloc, &krates)?)
     }
 }
 
@@ -174,6 +144,8 @@ const SECOND: &[Row] = &[
 ];
 
 #[test]
-fn derivations_of_a_node(rt: HostRuntime) -> Result<(), Fail> {
+fn builds_explain_what_they_keep(rt: HostRuntime) -> Result<(), Fail> {
+    hold::<OfLine<Explained>>(rt.alloc(), EXPLAINED)?;
+    hold::<OfLine<Explained>>(rt.alloc(), REAL)?;
     hold::<Second>(rt.alloc(), SECOND)
 }

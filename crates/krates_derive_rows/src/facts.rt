@@ -9,21 +9,30 @@
 //! steps. A line begins with a document, has the sections `ignore KIND`, `without SPECS` and `names all` where something is set, and
 //! ends with the section `steps` or the section `facts`.
 
+use crate::lists::Sections;
 use krates_derive::{CheckError, Derivation, Fact, Step};
 use krates_document::Setting;
+use krates_ids::Kid;
 use krates_rules::{DepKind, Scope};
 use krates_samples::documents::{kid_of, kind_named};
 use krates_samples::settings::package_specs;
-use std::alloc::Global;
+use std::alloc::{AllocError, Global};
 use std::str::SplitWhitespace;
 use std::test::Fail;
 
 /// The text that may be there.
-pub(crate) fn text_of(alloc: Global, text: Option<&str>) -> Result<Option<String>, Fail> {
+pub(crate) fn text_of(alloc: Global, text: Option<&str>) -> Result<Option<String>, AllocError> {
     match text {
         Some(text) => Ok(Some(String::from_str(alloc, text)?)),
         None => Ok(None),
     }
+}
+
+/// The ids of the two crates of an edge.
+pub(crate) fn ends_of(alloc: Global, parent: &str, child: &str) -> Result<(Kid, Kid), Fail> {
+    let parent = kid_of(alloc, parent)?;
+    let child = kid_of(alloc, child)?;
+    Ok((parent, child))
 }
 
 /// The fact that an edge is kept: its child, kind and target stand behind its parent.
@@ -31,11 +40,13 @@ fn kept(alloc: Global, parent: &str, rest: &str) -> Result<Fact, Fail> {
     let mut parts = rest.split(':');
     let child = parts.next().unwrap_or("");
     let kind = DepKind::from(kind_named(parts.next().unwrap_or("")));
+    let cfg = text_of(alloc, parts.next())?;
+    let (parent, child) = ends_of(alloc, parent, child)?;
     Ok(Fact::Kept {
-        parent: kid_of(alloc, parent)?,
-        child: kid_of(alloc, child)?,
+        parent,
+        child,
         kind,
-        cfg: text_of(alloc, parts.next())?,
+        cfg,
     })
 }
 
@@ -44,11 +55,21 @@ fn edge_fact(alloc: Global, parent: &str, rest: &str) -> Result<Fact, Fail> {
     let Some((child, name)) = rest.split_once('/') else {
         return kept(alloc, parent, rest);
     };
+    let name = String::from_str(alloc, name)?;
+    let (parent, child) = ends_of(alloc, parent, child)?;
     Ok(Fact::Toggled {
-        parent: kid_of(alloc, parent)?,
-        child: kid_of(alloc, child)?,
-        name: String::from_str(alloc, name)?,
+        parent,
+        child,
+        name,
     })
+}
+
+/// The fact that a feature is enabled: its crate stands before its name.
+fn enabled(alloc: Global, word: &str) -> Result<Fact, Fail> {
+    let (krate, name) = word.split_once('/').unwrap_or((word, ""));
+    let name = String::from_str(alloc, name)?;
+    let krate = kid_of(alloc, krate)?;
+    Ok(Fact::Feature { krate, name })
 }
 
 /// The fact of a word.
@@ -56,31 +77,28 @@ pub(crate) fn fact_of(alloc: Global, word: &str) -> Result<Fact, Fail> {
     if let Some(krate) = word.strip_prefix("+") {
         return Ok(Fact::Crate(kid_of(alloc, krate)?));
     }
-    if let Some((parent, rest)) = word.split_once('>') {
-        return edge_fact(alloc, parent, rest);
+    match word.split_once('>') {
+        Some((parent, rest)) => edge_fact(alloc, parent, rest),
+        None => enabled(alloc, word),
     }
-    let (krate, name) = word.split_once('/').unwrap_or((word, ""));
-    Ok(Fact::Feature {
-        krate: kid_of(alloc, krate)?,
-        name: String::from_str(alloc, name)?,
-    })
 }
 
-/// Adds the numbers of the words.
-fn push_numbers(numbers: &mut Vec<usize>, words: SplitWhitespace<'_>) -> Result<(), Fail> {
+/// The numbers of the words.
+fn used_numbers(alloc: Global, words: SplitWhitespace<'_>) -> Result<Vec<usize>, Fail> {
+    let mut numbers = Vec::new(alloc);
     for word in words {
         numbers.push(word.parse()?)?;
     }
-    Ok(())
+    Ok(numbers)
 }
 
 /// Adds the step of these words.
 fn push_step(steps: &mut Vec<Step>, alloc: Global, text: &str) -> Result<(), Fail> {
     let mut words = text.split_whitespace();
     let rule = words.next().unwrap_or("").parse()?;
-    let fact = fact_of(alloc, words.next().unwrap_or(""))?;
-    let mut uses = Vec::new(alloc);
-    push_numbers(&mut uses, words)?;
+    let word = words.next().unwrap_or("");
+    let uses = used_numbers(alloc, words)?;
+    let fact = fact_of(alloc, word)?;
     steps.push(Step { rule, fact, uses })?;
     Ok(())
 }
@@ -123,13 +141,14 @@ fn set(setting: &mut Setting, alloc: Global, section: &str) -> Result<(), Fail> 
     Ok(())
 }
 
-/// Sets what the sections of a line ask.
-pub(crate) fn setting_of(alloc: Global, line: &str) -> Result<Setting, Fail> {
-    let mut setting = Setting::new(alloc);
-    for section in line.split(" / ") {
-        set(&mut setting, alloc, section)?;
+impl Sections for Setting {
+    fn of_line(alloc: Global, line: &str) -> Result<Setting, Fail> {
+        let mut setting = Setting::new(alloc);
+        for section in line.split(" / ") {
+            set(&mut setting, alloc, section)?;
+        }
+        Ok(setting)
     }
-    Ok(setting)
 }
 
 /// The word for an answer.

@@ -1,9 +1,10 @@
 //! Both checks with an index: what it adds to the features of a package counts, and without it doesn't.
 
-use crate::lists::{Facts, Given, List, Steps, given_in, list_in};
+use crate::lists::{Ask, Facts, Given, List, OfLine, Steps, list_in};
+use krates_document::Setting;
 use krates_ids::{CachingIndex, IndexAnswer, IndexKrate, IndexKrateVersion};
 use krates_samples::documents::section;
-use krates_samples::table::{Question, Row, hold};
+use krates_samples::table::{Row, hold};
 use semver::Version;
 use std::alloc::Global;
 use std::collections::BTreeMap;
@@ -13,18 +14,18 @@ use std::test::Fail;
 fn features_of(alloc: Global, text: &str) -> Result<BTreeMap<String, Vec<String>>, Fail> {
     let (name, reference) = text.split_once('=').unwrap_or((text, ""));
     let values = vec![in alloc; String::from_str(alloc, reference)?]?;
+    let name = String::from_str(alloc, name)?;
     let mut features = BTreeMap::new(alloc);
-    drop(features.insert(String::from_str(alloc, name)?, values)?);
+    drop(features.insert(name, values)?);
     Ok(features)
 }
 
 /// One version of a crate, with one feature, as `VERSION NAME=REFERENCE` says.
 fn indexed(alloc: Global, text: &str) -> Result<IndexKrate, Fail> {
     let (version, feature) = text.split_once(' ').unwrap_or((text, ""));
-    let known = IndexKrateVersion {
-        version: Version::parse(alloc, version)?,
-        features: features_of(alloc, feature)?,
-    };
+    let version = Version::parse(alloc, version)?;
+    let features = features_of(alloc, feature)?;
+    let known = IndexKrateVersion { version, features };
     Ok(IndexKrate {
         versions: vec![in alloc; known]?,
     })
@@ -33,15 +34,21 @@ fn indexed(alloc: Global, text: &str) -> Result<IndexKrate, Fail> {
 /// The index that has one crate, as `NAME@VERSION NAME=REFERENCE` says.
 fn index_of(alloc: Global, text: &str) -> Result<CachingIndex, Fail> {
     let (name, rest) = text.split_once('@').unwrap_or((text, ""));
+    let known = indexed(alloc, rest)?;
+    let name = String::from_str(alloc, name)?;
     let mut krates = BTreeMap::new(alloc);
-    drop(krates.insert(String::from_str(alloc, name)?, Some(indexed(alloc, rest)?))?);
+    drop(krates.insert(name, Some(known))?);
     Ok(CachingIndex {
         answer: IndexAnswer { krates },
     })
 }
 
 /// What the check of a list answers with an index, and without it.
-fn both<L: List>(given: &Given, index: &CachingIndex, text: &str) -> Result<String, Fail> {
+fn both<L: List>(
+    given: &Given<'_, Setting>,
+    index: &CachingIndex,
+    text: &str,
+) -> Result<String, Fail> {
     let with = L::by_setting(given, Some(index), text)?;
     let without = L::by_setting(given, None, text)?;
     Ok(format!(in given.alloc; "{with}, without {without}")?)
@@ -52,11 +59,12 @@ struct ByIndex<L> {
     list: L,
 }
 
-impl<L: List> Question for ByIndex<L> {
-    fn told(alloc: Global, line: &str) -> Result<String, Fail> {
-        let given = given_in(alloc, line)?;
-        let index = index_of(alloc, section(line, "index ").unwrap_or(""))?;
-        both::<L>(&given, &index, list_in::<L>(line))
+impl<L: List> Ask for ByIndex<L> {
+    type Set = Setting;
+
+    fn told(given: &Given<'_, Setting>, line: &str) -> Result<String, Fail> {
+        let index = index_of(given.alloc, section(line, "index ").unwrap_or(""))?;
+        both::<L>(given, &index, list_in::<L>(line))
     }
 }
 
@@ -104,6 +112,6 @@ const FACTS: &[Row] = &[
 
 #[test]
 fn lists_by_an_index(rt: HostRuntime) -> Result<(), Fail> {
-    hold::<ByIndex<Steps>>(rt.alloc(), STEPS)?;
-    hold::<ByIndex<Facts>>(rt.alloc(), FACTS)
+    hold::<OfLine<ByIndex<Steps>>>(rt.alloc(), STEPS)?;
+    hold::<OfLine<ByIndex<Facts>>>(rt.alloc(), FACTS)
 }

@@ -6,12 +6,13 @@
 ghost use Rattle.std.specs.Prelude.{IfOk};
 ghost use Rattle.krates_drawing.specs.SheetOrder.{IsOrdered};
 
+use crate::real_documents::metadata_of;
 use krates_cm::Metadata;
 use krates_drawing::gather::sheet_of;
 use krates_drawing::limits::{Limits, plan_within};
 use krates_drawing::sheet::Sheet;
 use krates_resolve::{Document, Setting, admit, select};
-use krates_samples::documents::{metadata, section};
+use krates_samples::documents::section;
 use krates_samples::table::{Question, Row, hold};
 use std::alloc::Global;
 use std::test::Fail;
@@ -40,13 +41,14 @@ fn sheet(alloc: Global, metadata: &Metadata) -> Result<Sheet, Fail>
 /// How many nodes and edges are drawn of a document within these limits, or why nothing is.
 fn drawn_within(alloc: Global, metadata: &Metadata, limits: Limits) -> Result<String, Fail> {
     let sheet = sheet(alloc, metadata)?;
-    match plan_within(alloc, &sheet, limits) {
+    let told = match plan_within(alloc, &sheet, limits) {
         Ok(plan) => {
             let (nodes, edges) = (plan.spots.len(), plan.arrows.len());
-            Ok(format!(in alloc; "{nodes} nodes, {edges} edges")?)
+            format!(in alloc; "{nodes} nodes, {edges} edges")
         }
-        Err(error) => Ok(format!(in alloc; "{error}")?),
-    }
+        Err(error) => error.to_string(alloc),
+    };
+    Ok(told?)
 }
 
 /// How many nodes and edges are drawn of a document within the limits of its line.
@@ -55,7 +57,8 @@ struct Drawn;
 impl Question for Drawn {
     fn told(alloc: Global, line: &str) -> Result<String, Fail> {
         let limits = limits_of(line)?;
-        drawn_within(alloc, &metadata(alloc, line)?, limits)
+        let metadata = metadata_of(alloc, line)?;
+        drawn_within(alloc, &metadata, limits)
     }
 }
 

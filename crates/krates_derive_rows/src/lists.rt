@@ -1,30 +1,55 @@
 //! The two kinds of lists that the checkers are asked about, and what is given with them.
 
-use crate::facts::{facts_of, setting_of, steps_of, told};
+use crate::facts::{facts_of, steps_of, told};
+use crate::real_documents::metadata_of;
 use krates::Builder;
 use krates_cm::Metadata;
 use krates_document::Setting;
 use krates_ids::CachingIndex;
-use krates_samples::documents::{metadata, section};
+use krates_samples::documents::section;
 use krates_samples::table::Question;
 use std::alloc::Global;
 use std::test::Fail;
 
-/// The document of a line, and what its sections set.
-#[derive(Drop)]
-pub(crate) struct Given {
-    pub(crate) alloc: Global,
-    pub(crate) metadata: Metadata,
-    pub(crate) setting: Setting,
+/// What the sections of a line set.
+pub(crate) trait Sections: Sized + Drop {
+    /// What those of this line set.
+    fn of_line(alloc: Global, line: &str) -> Result<Self, Fail>;
 }
 
-/// What a line gives.
-pub(crate) fn given_in(alloc: Global, line: &str) -> Result<Given, Fail> {
-    Ok(Given {
-        alloc,
-        metadata: metadata(alloc, line)?,
-        setting: setting_of(alloc, line)?,
-    })
+/// A document, and what is set.
+#[derive(Drop)]
+pub(crate) struct Given<'a, S: Drop> {
+    pub(crate) alloc: Global,
+    pub(crate) metadata: &'a Metadata,
+    pub(crate) set: &'a S,
+}
+
+/// What is asked of a document under what is set.
+pub(crate) trait Ask {
+    /// What is set.
+    type Set: Sections;
+
+    /// The answer to a line.
+    fn told(given: &Given<'_, Self::Set>, line: &str) -> Result<String, Fail>;
+}
+
+/// What is asked of the document of a line under what its sections set.
+pub(crate) struct OfLine<A> {
+    asked: A,
+}
+
+impl<A: Ask> Question for OfLine<A> {
+    fn told(alloc: Global, line: &str) -> Result<String, Fail> {
+        let metadata = metadata_of(alloc, line)?;
+        let set: A::Set = Sections::of_line(alloc, line)?;
+        let given = Given {
+            alloc,
+            metadata: &metadata,
+            set: &set,
+        };
+        A::told(&given, line)
+    }
 }
 
 /// A kind of list, which has a checker.
@@ -33,15 +58,14 @@ pub(crate) trait List {
     const SECTION: &'static str;
 
     /// What the check answers of the list of a text under a setting, with an index or without one.
-    fn by_setting(given: &Given, index: Option<&CachingIndex>, text: &str) -> Result<String, Fail>;
-
-    /// What the check answers of the list of a text by a builder, without an index.
-    fn by_builder(
-        alloc: Global,
-        metadata: &Metadata,
-        builder: &Builder,
+    fn by_setting(
+        given: &Given<'_, Setting>,
+        index: Option<&CachingIndex>,
         text: &str,
     ) -> Result<String, Fail>;
+
+    /// What the check answers of the list of a text by a builder, without an index.
+    fn by_builder(given: &Given<'_, Builder>, text: &str) -> Result<String, Fail>;
 }
 
 /// The list of a line, as the text of its section.
@@ -55,25 +79,23 @@ pub(crate) struct Steps;
 impl List for Steps {
     const SECTION: &'static str = "steps";
 
-    fn by_setting(given: &Given, index: Option<&CachingIndex>, text: &str) -> Result<String, Fail> {
-        let (alloc, metadata, setting) = (given.alloc, &given.metadata, &given.setting);
-        let steps = steps_of(alloc, text)?;
+    fn by_setting(
+        given: &Given<'_, Setting>,
+        index: Option<&CachingIndex>,
+        text: &str,
+    ) -> Result<String, Fail> {
+        let steps = steps_of(given.alloc, text)?;
         told(
-            alloc,
-            krates_derive::check(alloc, metadata, setting, index, &steps),
+            given.alloc,
+            krates_derive::check(given.alloc, given.metadata, given.set, index, &steps),
         )
     }
 
-    fn by_builder(
-        alloc: Global,
-        metadata: &Metadata,
-        builder: &Builder,
-        text: &str,
-    ) -> Result<String, Fail> {
-        let steps = steps_of(alloc, text)?;
+    fn by_builder(given: &Given<'_, Builder>, text: &str) -> Result<String, Fail> {
+        let steps = steps_of(given.alloc, text)?;
         told(
-            alloc,
-            krates::derive::check(metadata, builder, None, &steps),
+            given.alloc,
+            krates::derive::check(given.metadata, given.set, None, &steps),
         )
     }
 }
@@ -84,25 +106,23 @@ pub(crate) struct Facts;
 impl List for Facts {
     const SECTION: &'static str = "facts";
 
-    fn by_setting(given: &Given, index: Option<&CachingIndex>, text: &str) -> Result<String, Fail> {
-        let (alloc, metadata, setting) = (given.alloc, &given.metadata, &given.setting);
-        let facts = facts_of(alloc, text)?;
+    fn by_setting(
+        given: &Given<'_, Setting>,
+        index: Option<&CachingIndex>,
+        text: &str,
+    ) -> Result<String, Fail> {
+        let facts = facts_of(given.alloc, text)?;
         told(
-            alloc,
-            krates_derive::check_closed(alloc, metadata, setting, index, &facts),
+            given.alloc,
+            krates_derive::check_closed(given.alloc, given.metadata, given.set, index, &facts),
         )
     }
 
-    fn by_builder(
-        alloc: Global,
-        metadata: &Metadata,
-        builder: &Builder,
-        text: &str,
-    ) -> Result<String, Fail> {
-        let facts = facts_of(alloc, text)?;
+    fn by_builder(given: &Given<'_, Builder>, text: &str) -> Result<String, Fail> {
+        let facts = facts_of(given.alloc, text)?;
         told(
-            alloc,
-            krates::derive::check_closed(metadata, builder, None, &facts),
+            given.alloc,
+            krates::derive::check_closed(given.metadata, given.set, None, &facts),
         )
     }
 }
@@ -112,8 +132,10 @@ pub(crate) struct Checked<L> {
     list: L,
 }
 
-impl<L: List> Question for Checked<L> {
-    fn told(alloc: Global, line: &str) -> Result<String, Fail> {
-        L::by_setting(&given_in(alloc, line)?, None, list_in::<L>(line))
+impl<L: List> Ask for Checked<L> {
+    type Set = Setting;
+
+    fn told(given: &Given<'_, Setting>, line: &str) -> Result<String, Fail> {
+        L::by_setting(given, None, list_in::<L>(line))
     }
 }

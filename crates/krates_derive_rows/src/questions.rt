@@ -3,14 +3,16 @@
 //! A line is a word for a crate and the name of a feature, or two crates, a kind and a target text; behind it stands what is left
 //! out, as lines of facts have it.
 
-use crate::facts::{setting_of, text_of};
+use crate::facts::{ends_of, text_of};
+use crate::lists::Sections;
+use crate::real_documents::metadata_of;
 use krates::resolve::{Document, Setting, admit};
-use krates_cm::{DepKindInfo, Dependency, Package};
-use krates_ids::Kid;
+use krates_cm::{DepKindInfo, Dependency, Metadata};
+use krates_ids::{Error, Kid};
 use krates_questions::Need;
-use krates_samples::documents::{kid_of, kind_named, metadata};
-use krates_samples::table::{Question, Row, hold};
-use std::alloc::Global;
+use krates_samples::documents::{kid_of, kind_named};
+use krates_samples::table::{Question, Row, compare, hold};
+use std::alloc::{AllocError, Global};
 use std::test::Fail;
 
 /// A member that declares a crate for tests and for its build, and another for Windows, and whose node lists one kind and one feature
@@ -18,61 +20,119 @@ use std::test::Fail;
 const DOCUMENT: &str =
     "a b&dev b&build c&on=cfg(windows);f=b/g,x|b;g=|c|n / nodes a b&build&dev&normal c&on=cfg(windows);f e|b;g|c|q";
 
-/// Adds the names of the crates on which the node of a crate depends.
-fn push_children(told: &mut String, asked: &Document<'_>, krate: &Kid) -> Result<(), Fail> {
+/// What a document is asked about.
+trait Asked: Sized + Drop {
+    /// That of these words.
+    fn of_words(alloc: Global, words: &str) -> Result<Self, Fail>;
+
+    /// What is told of it.
+    fn told<'a>(
+        &'a self,
+        alloc: Global,
+        asked: &Document<'a>,
+        setting: &Setting,
+    ) -> Result<String, AllocError>;
+}
+
+/// What a document answers about something under a setting, once it is admitted.
+fn answered<A: Asked>(
+    alloc: Global,
+    metadata: &Metadata,
+    setting: &Setting,
+    about: &A,
+) -> Result<String, Error> {
+    let ids = admit(alloc, metadata)?;
+    let asked = Document::new(alloc, metadata, &ids)?;
+    Ok(about.told(alloc, &asked, setting)?)
+}
+
+/// What the document answers about what the words of a line say.
+struct AnswersAbout<A> {
+    about: A,
+}
+
+impl<A: Asked> Question for AnswersAbout<A> {
+    fn told(alloc: Global, line: &str) -> Result<String, Fail> {
+        let (words, _) = line.split_once(" / ").unwrap_or((line, ""));
+        let about = A::of_words(alloc, words)?;
+        let setting = Sections::of_line(alloc, line)?;
+        let metadata = metadata_of(alloc, DOCUMENT)?;
+        Ok(answered(alloc, &metadata, &setting, &about)?)
+    }
+}
+
+/// A crate, and the name of a feature.
+#[derive(Drop)]
+struct Feature {
+    krate: Kid,
+    name: String,
+}
+
+/// Adds whether a crate is a root and stands, what there is for it, its package and whether it has a node.
+fn push_standing<'a>(
+    told: &mut String,
+    asked: &Document<'a>,
+    setting: &Setting,
+    krate: &'a Kid,
+) -> Result<(), AllocError> {
+    let (is_root, stands) = (asked.is_root(setting, krate), asked.stands(setting, krate));
+    let presence = asked.presence(setting, krate);
+    let package = match asked.package_of(krate) {
+        Some(package) => package.name.as_str(),
+        None => "none",
+    };
+    let has_node = asked.node_of(krate).is_some();
+    write!(
+        told,
+        "root {is_root}, stands {stands}, {presence:?}, package {package}, node {has_node}"
+    )
+}
+
+/// Adds whether the feature is listed, with its references, how many features are listed, and the crates on which the node depends.
+fn push_listed<'a>(
+    told: &mut String,
+    asked: &Document<'a>,
+    krate: &Kid,
+    name: &'a str,
+) -> Result<(), AllocError> {
+    let (is_listed, values) = (asked.lists(krate, name), asked.values(krate, name));
+    let count = asked.features(krate).len();
+    write!(told, ", lists {is_listed} {values:?} of {count}:")?;
     for child in asked.children(krate) {
         write!(told, " {}", child.name())?;
     }
     Ok(())
 }
 
-/// What is told of a crate: whether it is a root and stands, what there is for it, its package and whether it has a node; whether the
-/// feature is listed, with its references; how many features are listed; and the crates on which its node depends.
-fn of_crate<'a>(
-    alloc: Global,
-    asked: &Document<'a>,
-    setting: &Setting,
-    krate: &'a Kid,
-    name: &'a str,
-) -> Result<String, Fail> {
-    let mut told = format!(in alloc;
-        "root {}, stands {}, {:?}, package {}, node {}, lists {} {:?} of {}:",
-        asked.is_root(setting, krate),
-        asked.stands(setting, krate),
-        asked.presence(setting, krate),
-        asked
-            .package_of(krate)
-            .map_or("none", |pkg: &Package| pkg.name.as_str()),
-        asked.node_of(krate).is_some(),
-        asked.lists(krate, name),
-        asked.values(krate, name),
-        asked.features(krate).len()
-    )?;
-    push_children(&mut told, asked, krate)?;
-    Ok(told)
+impl Asked for Feature {
+    fn of_words(alloc: Global, words: &str) -> Result<Feature, Fail> {
+        let (krate, name) = words.split_once(' ').unwrap_or((words, ""));
+        let name = String::from_str(alloc, name)?;
+        let krate = kid_of(alloc, krate)?;
+        Ok(Feature { krate, name })
+    }
+
+    /// Whether the crate is a root and stands, what there is for it, its package and whether it has a node; whether the feature is
+    /// listed, with its references; how many features are listed; and the crates on which its node depends.
+    fn told<'a>(
+        &'a self,
+        alloc: Global,
+        asked: &Document<'a>,
+        setting: &Setting,
+    ) -> Result<String, AllocError> {
+        let mut told = String::new(alloc);
+        push_standing(&mut told, asked, setting, &self.krate)?;
+        push_listed(&mut told, asked, &self.krate, self.name.as_str())?;
+        Ok(told)
+    }
 }
 
-/// A dependency of a crate on another that is asked for.
+/// A dependency of a crate on another.
 #[derive(Drop)]
 struct Edge {
     parent: Kid,
     child: Kid,
     info: DepKindInfo,
-}
-
-/// The dependency of these words.
-fn edge_of(alloc: Global, words: &str) -> Result<Edge, Fail> {
-    let mut words = words.split_whitespace();
-    let (parent, child) = (words.next().unwrap_or(""), words.next().unwrap_or(""));
-    let kind = kind_named(words.next().unwrap_or(""));
-    Ok(Edge {
-        parent: kid_of(alloc, parent)?,
-        child: kid_of(alloc, child)?,
-        info: DepKindInfo {
-            kind,
-            target: text_of(alloc, words.next())?,
-        },
-    })
 }
 
 /// The word for what there is for a dependency.
@@ -84,36 +144,32 @@ fn need_word(need: Need<'_>) -> &'static str {
     }
 }
 
-/// What is told of a dependency: what there is for it, how many kinds are listed, and as which kind it is declared.
-fn of_edge(
-    alloc: Global,
-    asked: &Document<'_>,
-    setting: &Setting,
-    edge: &Edge,
-) -> Result<String, Fail> {
-    let need = asked.need(alloc, setting, &edge.parent, &edge.child, &edge.info)?;
-    let declaration = asked.declaration(&edge.parent, &edge.child, &edge.info);
-    Ok(format!(in alloc;
-        "{} of {}, {:?}",
-        need_word(need),
-        asked.kinds(&edge.parent, &edge.child).len(),
-        declaration.map(|dep: &Dependency| dep.kind)
-    )?)
-}
+impl Asked for Edge {
+    fn of_words(alloc: Global, words: &str) -> Result<Edge, Fail> {
+        let mut words = words.split_whitespace();
+        let (parent, child) = (words.next().unwrap_or(""), words.next().unwrap_or(""));
+        let kind = kind_named(words.next().unwrap_or(""));
+        let target = text_of(alloc, words.next())?;
+        let (parent, child) = ends_of(alloc, parent, child)?;
+        Ok(Edge {
+            parent,
+            child,
+            info: DepKindInfo { kind, target },
+        })
+    }
 
-/// What the document answers of a crate.
-struct OfCrate;
-
-impl Question for OfCrate {
-    fn told(alloc: Global, line: &str) -> Result<String, Fail> {
-        let (words, _) = line.split_once(" / ").unwrap_or((line, ""));
-        let (krate, name) = words.split_once(' ').unwrap_or((words, ""));
-        let krate = kid_of(alloc, krate)?;
-        let setting = setting_of(alloc, line)?;
-        let metadata = metadata(alloc, DOCUMENT)?;
-        let ids = admit(alloc, &metadata)?;
-        let asked = Document::new(alloc, &metadata, &ids)?;
-        of_crate(alloc, &asked, &setting, &krate, name)
+    /// What there is for the dependency, how many kinds are listed, and as which kind it is declared.
+    fn told<'a>(
+        &'a self,
+        alloc: Global,
+        asked: &Document<'a>,
+        setting: &Setting,
+    ) -> Result<String, AllocError> {
+        let need = need_word(asked.need(alloc, setting, &self.parent, &self.child, &self.info)?);
+        let kinds = asked.kinds(&self.parent, &self.child).len();
+        let declaration = asked.declaration(&self.parent, &self.child, &self.info);
+        let declared = declaration.map(|dep: &Dependency| dep.kind);
+        format!(in alloc; "{need} of {kinds}, {declared:?}")
     }
 }
 
@@ -141,26 +197,6 @@ const CRATES: &[Row] = &[
     ),
 ];
 
-#[test]
-fn what_there_is_for_a_crate(rt: HostRuntime) -> Result<(), Fail> {
-    hold::<OfCrate>(rt.alloc(), CRATES)
-}
-
-/// What the document answers of a dependency.
-struct OfEdge;
-
-impl Question for OfEdge {
-    fn told(alloc: Global, line: &str) -> Result<String, Fail> {
-        let (words, _) = line.split_once(" / ").unwrap_or((line, ""));
-        let edge = edge_of(alloc, words)?;
-        let setting = setting_of(alloc, line)?;
-        let metadata = metadata(alloc, DOCUMENT)?;
-        let ids = admit(alloc, &metadata)?;
-        let asked = Document::new(alloc, &metadata, &ids)?;
-        of_edge(alloc, &asked, &setting, &edge)
-    }
-}
-
 const EDGES: &[Row] = &[
     ("a b dev", "wanted of 3, Some(Development)"),
     ("a b build / ignore dev", "wanted of 3, Some(Build)"),
@@ -175,8 +211,9 @@ const EDGES: &[Row] = &[
 ];
 
 #[test]
-fn what_there_is_for_a_dependency(rt: HostRuntime) -> Result<(), Fail> {
-    hold::<OfEdge>(rt.alloc(), EDGES)
+fn what_there_is_for_crates_and_dependencies(rt: HostRuntime) -> Result<(), Fail> {
+    hold::<AnswersAbout<Feature>>(rt.alloc(), CRATES)?;
+    hold::<AnswersAbout<Edge>>(rt.alloc(), EDGES)
 }
 
 #[test]
@@ -185,9 +222,9 @@ fn what_a_setting_asks_for(rt: HostRuntime) -> Result<(), Fail> {
     setting.workspace(true);
     setting.include_workspace_crates(rt.alloc(), &["/w/a", "/w/b/Cargo.toml"])?;
     let told = format!(in rt.alloc(); "{:?} {}", setting.manifests(), setting.is_workspace())?;
-    assert_eq!(rt;
+    compare(
+        "/w/a and /w/b/Cargo.toml",
         told.as_str(),
-        r#"["/w/a/Cargo.toml", "/w/b/Cargo.toml"] true"#
-    );
-    Ok(())
+        r#"["/w/a/Cargo.toml", "/w/b/Cargo.toml"] true"#,
+    )
 }

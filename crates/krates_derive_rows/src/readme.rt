@@ -1,11 +1,11 @@
 //! The example of the README.
 
-use crate::builders::builder_of;
+use crate::lists::{Ask, Given, OfLine};
 use krates::Builder;
 use krates::derive::{Derivation, Fact, Step, check, check_closed};
 use krates_cm::Metadata;
-use krates_samples::documents::{kid_of, metadata};
-use krates_samples::table::{Question, Row, hold};
+use krates_samples::documents::kid_of;
+use krates_samples::table::{Row, hold};
 use std::alloc::Global;
 use std::test::Fail;
 
@@ -39,13 +39,13 @@ fn bounded(alloc: Global, metadata: &Metadata, builder: &Builder) -> Result<&'st
 /// What the example tells of the document and the builder of a line.
 struct Example;
 
-impl Question for Example {
-    fn told(alloc: Global, line: &str) -> Result<String, Fail> {
-        let metadata = metadata(alloc, line)?;
-        let builder = builder_of(alloc, line)?;
-        let shown = shown(alloc, &metadata, &builder)?;
-        let bounded = bounded(alloc, &metadata, &builder)?;
-        Ok(format!(in alloc; "{shown}; {bounded}")?)
+impl Ask for Example {
+    type Set = Builder;
+
+    fn told(given: &Given<'_, Builder>, _: &str) -> Result<String, Fail> {
+        let shown = shown(given.alloc, given.metadata, given.set)?;
+        let bounded = bounded(given.alloc, given.metadata, given.set)?;
+        Ok(format!(in given.alloc; "{shown}; {bounded}")?)
     }
 }
 
@@ -66,5 +66,5 @@ const TOLD: &[Row] = &[
 
 #[test]
 fn the_example_of_the_readme(rt: HostRuntime) -> Result<(), Fail> {
-    hold::<Example>(rt.alloc(), TOLD)
+    hold::<OfLine<Example>>(rt.alloc(), TOLD)
 }

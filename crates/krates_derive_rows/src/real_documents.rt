@@ -1,7 +1,31 @@
 //! Two documents that cargo wrote of small workspaces, broken into lines between values, with other paths.
 
+use krates_cm::{Metadata, parse};
+use krates_samples::documents::document;
+use std::alloc::Global;
+use std::test::Fail;
+
+/// The real documents, by the name of the member of each.
+const REAL: &[(&str, &str)] = &[("weakling", WEAK), ("gitter", GIT)];
+
+/// The text of the document of a line, or of the real document of the member that it names.
+fn json_of(alloc: Global, line: &str) -> Result<String, Fail> {
+    for &(member, json) in REAL {
+        if member == line {
+            return Ok(String::from_str(alloc, json)?);
+        }
+    }
+    document(alloc, line)
+}
+
+/// The document of a line, or the real document of the member that it names, read.
+pub(crate) fn metadata_of(alloc: Global, line: &str) -> Result<Box<Metadata>, Fail> {
+    let json = json_of(alloc, line)?;
+    Ok(Box::new(alloc, parse(alloc, json.as_str())?)?)
+}
+
 /// A member with weak references to optional dependencies, with all its features.
-pub(crate) const WEAK: &str =
+const WEAK: &str =
     r#"{"packages":[{"name":"weakling","version":"0.1.0","id":"path+file:///w/ws-weak#weakling@0.1.0","license":null,"license_file":null,"description":null,
 "source":null,"dependencies":[{"name":"wk-leaf","source":"registry+https://github.com/rust-lang/crates.io-index","req":"^1","kind":null,"rename":"l",
 "optional":true,"uses_default_features":false,"features":[],"target":null,"registry":null},{"name":"wk-leaf",
@@ -56,7 +80,7 @@ pub(crate) const WEAK: &str =
 "workspace_root":"/w/ws-weak","metadata":null}"#;
 
 /// A member whose dependencies come from git repositories, with all its features.
-pub(crate) const GIT: &str =
+const GIT: &str =
     r#"{"packages":[{"name":"gitter","version":"0.1.0","id":"path+file:///w/ws-git#gitter@0.1.0","license":null,"license_file":null,"description":null,
 "source":null,"dependencies":[{"name":"many","source":"git+file:///w/gitrepo/many?branch=feat/some+thing@2","req":"*","kind":null,"rename":null,
 "optional":false,"uses_default_features":true,"features":[],"target":null,"registry":null},{"name":"many",

@@ -1,23 +1,16 @@
 //! Reports that people ask for, as a caller writes them.
 
-use krates::{
-    Builder, DepKind, DirectDependent, KrateDetails, Krates, NodeId, NoneFilter, Package,
-};
-use krates_samples::documents::{metadata, section};
+use crate::builders::krates_of;
+use krates::{DepKind, DirectDependent, KrateDetails, Krates, NodeId, Package};
+use krates_samples::documents::section;
 use krates_samples::table::{Question, Row, hold};
-use std::alloc::Global;
+use std::alloc::{AllocError, Global};
 use std::test::Fail;
 
 /// What people ask of a graph.
 trait Report {
     /// Adds what the graph tells of the line.
-    fn push(text: &mut String, krates: &Krates, line: &str) -> Result<(), Fail>;
-}
-
-/// The graph of what is kept of a document without any setting.
-fn krates_of(alloc: Global, line: &str) -> Result<Krates, Fail> {
-    let metadata = metadata(alloc, line)?;
-    Ok(Builder::new(alloc).build_with_metadata(metadata, &mut NoneFilter)?)
+    fn push(text: &mut String, krates: &Krates, line: &str) -> Result<(), AllocError>;
 }
 
 /// What the graph of a line tells.
@@ -39,7 +32,7 @@ fn push_dependent(
     text: &mut String,
     krates: &Krates,
     found: &DirectDependent<'_, Package>,
-) -> Result<(), Fail> {
+) -> Result<(), AllocError> {
     if let Some(edge) = krates.graph().raw_edges().get(found.edge_id.index()) {
         write!(text, "{}{}, ", found.krate.name(), edge.weight)?;
     }
@@ -47,7 +40,7 @@ fn push_dependent(
 }
 
 /// Adds the crates that depend on a crate.
-fn push_dependents(text: &mut String, krates: &Krates, node: NodeId) -> Result<(), Fail> {
+fn push_dependents(text: &mut String, krates: &Krates, node: NodeId) -> Result<(), AllocError> {
     for found in &krates.direct_dependents(node)? {
         push_dependent(text, krates, found)?;
     }
@@ -58,7 +51,7 @@ fn push_dependents(text: &mut String, krates: &Krates, node: NodeId) -> Result<(
 struct Dependents;
 
 impl Report for Dependents {
-    fn push(text: &mut String, krates: &Krates, line: &str) -> Result<(), Fail> {
+    fn push(text: &mut String, krates: &Krates, line: &str) -> Result<(), AllocError> {
         for asked in krates.krates_by_name(section(line, "of ").unwrap_or("")) {
             push_dependents(text, krates, asked.node_id)?;
         }
@@ -86,13 +79,8 @@ const DEPENDENTS: &[Row] = &[
     ("a b|b / of c", ""),
 ];
 
-#[test]
-fn dependents_by_edge(rt: HostRuntime) -> Result<(), Fail> {
-    hold::<Reported<Dependents>>(rt.alloc(), DEPENDENTS)
-}
-
 /// Adds a crate of which another version or source is kept too.
-fn push_duplicate(text: &mut String, krates: &Krates, krate: &Package) -> Result<(), Fail> {
+fn push_duplicate(text: &mut String, krates: &Krates, krate: &Package) -> Result<(), AllocError> {
     let mut same = krates.krates_by_name(krate.name());
     if same.next().is_some() && same.next().is_some() {
         write!(text, "{} {}, ", krate.name(), krate.version())?;
@@ -104,7 +92,7 @@ fn push_duplicate(text: &mut String, krates: &Krates, krate: &Package) -> Result
 struct Duplicates;
 
 impl Report for Duplicates {
-    fn push(text: &mut String, krates: &Krates, _: &str) -> Result<(), Fail> {
+    fn push(text: &mut String, krates: &Krates, _: &str) -> Result<(), AllocError> {
         for krate in krates.krates() {
             push_duplicate(text, krates, krate)?;
         }
@@ -127,22 +115,31 @@ const DUPLICATES: &[Row] = &[
     ("a b bb|b|bb", ""),
 ];
 
-#[test]
-fn duplicate_versions(rt: HostRuntime) -> Result<(), Fail> {
-    hold::<Reported<Duplicates>>(rt.alloc(), DUPLICATES)
+/// Adds a crate that isn't the next one that is needed; answers whether it is.
+fn push_other(
+    text: &mut String,
+    krate: &Package,
+    next: Option<&&Package>,
+) -> Result<bool, AllocError> {
+    match next {
+        Some(next) if next.id == krate.id => Ok(true),
+        _ => {
+            write!(text, "{}, ", krate.name())?;
+            Ok(false)
+        }
+    }
 }
 
 /// The crates that only dev dependencies bring.
 struct ForTests;
 
 impl Report for ForTests {
-    fn push(text: &mut String, krates: &Krates, _: &str) -> Result<(), Fail> {
+    fn push(text: &mut String, krates: &Krates, _: &str) -> Result<(), AllocError> {
         let needed = krates.krates_filtered(DepKind::Dev)?;
-        let mut place = 0;
+        let mut place = 0usize;
         for krate in krates.krates() {
-            match needed.get(place) {
-                Some(next) if next.id == krate.id => place += 1,
-                _ => write!(text, "{}, ", krate.name())?,
+            if push_other(text, krate, needed.get(place))? {
+                place = place.saturating_add(1);
             }
         }
         Ok(())
@@ -163,6 +160,8 @@ const FOR_TESTS: &[Row] = &[
 ];
 
 #[test]
-fn only_for_tests(rt: HostRuntime) -> Result<(), Fail> {
+fn reports(rt: HostRuntime) -> Result<(), Fail> {
+    hold::<Reported<Dependents>>(rt.alloc(), DEPENDENTS)?;
+    hold::<Reported<Duplicates>>(rt.alloc(), DUPLICATES)?;
     hold::<Reported<ForTests>>(rt.alloc(), FOR_TESTS)
 }
