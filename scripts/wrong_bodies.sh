@@ -7,7 +7,7 @@
 # crates/CRATE/wrong-bodies/, which have the same form. All of it happens in a copy of the working tree, where libraries that
 # are built here needn't be built again; crates are tried side by side.
 #
-# Prints each edit that isn't refused and then, for each crate, how many were refused, how many were proved, each of which shows
+# Prints, as each crate ends, each edit that isn't refused and then how many were refused, how many were proved, each of which shows
 # a contract to strengthen, and how many couldn't be applied. The status is 0 where every edit was refused, and there was one.
 
 set -euo pipefail
@@ -73,17 +73,23 @@ work() {
     done | sort -rn | cut -d ' ' -f 2
 }
 
-work | xargs -P "$(nproc)" -I CRATE sh -c 'rt must-fail CRATE > CRATE.log 2>&1 || true'
+# Prints what a crate's edits came to. The status is 0 where every one was refused.
+told() {
+    grep -h "NOT REFUSED\|BAD EDIT" "$1.log" || true
+    refused=$(grep -c ": refused, as it must be" "$1.log" || true)
+    proved=$(grep -c ": NOT REFUSED" "$1.log" || true)
+    bad=$(grep -c ": BAD EDIT" "$1.log" || true)
+    edits=("crates/$1"/must-fail/*.edit)
+    echo "$1: $refused refused, $proved proved, $bad not applied, of ${#edits[@]}"
+    [ "$refused" -eq ${#edits[@]} ]
+}
 
-status=0
-[ ${#tried[@]} -gt 0 ] || status=1
-for crate in "${tried[@]}"; do
-    grep -h "NOT REFUSED\|BAD EDIT" "$crate.log" || true
-    refused=$(grep -c ": refused, as it must be" "$crate.log" || true)
-    proved=$(grep -c ": NOT REFUSED" "$crate.log" || true)
-    bad=$(grep -c ": BAD EDIT" "$crate.log" || true)
-    edits=("crates/$crate"/must-fail/*.edit)
-    echo "$crate: $refused refused, $proved proved, $bad not applied, of ${#edits[@]}"
-    [ "$refused" -eq ${#edits[@]} ] || status=1
-done
-exit $status
+# Tries the edits of a crate, and prints at once what they came to, so that a run that is ended early has said something.
+try() {
+    rt must-fail "$1" > "$1.log" 2>&1 || true
+    told "$1"
+}
+export -f told try
+
+[ ${#tried[@]} -gt 0 ] || exit 1
+work | xargs -P "$(nproc)" -I CRATE bash -c 'try CRATE'
