@@ -7,8 +7,9 @@
 # crates/CRATE/wrong-bodies/, which have the same form. All of it happens in a copy of the working tree, where libraries that
 # are built here needn't be built again; crates are tried side by side.
 #
-# Prints, as each crate ends, each edit that isn't refused and then how many were refused, how many were proved, each of which shows
-# a contract to strengthen, and how many couldn't be applied. The status is 0 where every edit was refused, and there was one.
+# Prints, as each crate ends, each edit that isn't refused, or only because a proof names what the edit took away, which says little of
+# the contract; and then how many were refused, how many of them only by a name, how many were proved, each of which shows a contract
+# to strengthen, and how many couldn't be applied. The status is 0 where every edit was refused, and there was one.
 
 set -euo pipefail
 cd "$(dirname "$0")/.."
@@ -48,6 +49,11 @@ for crate in "${crates[@]}"; do
     fi
 done
 
+# An edit is what is read of it: a text on two lines is read up to the first end of a line, and the rest is nothing.
+if grep -nvE '^(file: |old: |new:)' crates/*/must-fail/*.edit; then
+    exit 1
+fi
+
 # The crates that a crate uses, and those that they use.
 used_by() {
     local used
@@ -75,12 +81,13 @@ work() {
 
 # Prints what a crate's edits came to. The status is 0 where every one was refused.
 told() {
-    grep -h "NOT REFUSED\|BAD EDIT" "$1.log" || true
+    grep -h "NOT REFUSED\|BAD EDIT\|says little" "$1.log" || true
     refused=$(grep -c ": refused, as it must be" "$1.log" || true)
+    named=$(grep -c "says little" "$1.log" || true)
     proved=$(grep -c ": NOT REFUSED" "$1.log" || true)
     bad=$(grep -c ": BAD EDIT" "$1.log" || true)
     edits=("crates/$1"/must-fail/*.edit)
-    echo "$1: $refused refused, $proved proved, $bad not applied, of ${#edits[@]}"
+    echo "$1: $refused refused, $named of them only by a name, $proved proved, $bad not applied, of ${#edits[@]}"
     [ "$refused" -eq ${#edits[@]} ]
 }
 
