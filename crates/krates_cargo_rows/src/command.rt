@@ -419,6 +419,18 @@ fn texts_are_parsed(rt: HostRuntime) -> Result<(), Fail> {
     hold_beginnings::<Text>(&rt, PARSED)
 }
 
+/// An output of cargo: whether it succeeded, and what it wrote to standard output and to standard error.
+fn output_of(
+    alloc: Global,
+    success: bool,
+    stdout: &[u8],
+    stderr: &[u8],
+) -> Result<String, AllocError> {
+    let stdout = String::from_utf8_lossy(alloc, stdout)?;
+    let stderr = String::from_utf8_lossy(alloc, stderr)?;
+    format!(in alloc; "{success}, {stdout:?}, {stderr:?}")
+}
+
 /// Holds what is read from cargo's output to how it is known to begin.
 fn hold_output(
     alloc: Global,
@@ -429,7 +441,8 @@ fn hold_output(
 ) -> Result<(), Fail> {
     let parsed = MetadataCommand::interpret(alloc, success, stdout, stderr);
     let told = read(alloc, parsed)?;
-    compare_beginning("an output", told.as_str(), begins)
+    let output = output_of(alloc, success, stdout, stderr)?;
+    compare_beginning(output.as_str(), told.as_str(), begins)
 }
 
 #[test]
