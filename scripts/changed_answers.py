@@ -1,0 +1,172 @@
+#!/usr/bin/env python3
+"""Changes an answer of each table of worked examples, and tells what its test says to that.
+
+    scripts/changed_answers.py [--compiled] CRATE..
+
+A table is a list of rows in a constant of a crate whose name ends in `_rows`, and the last part of a row is its answer. In a copy of
+the working tree each table gets a copy whose first row has another answer, and the test that walks it a copy that walks that one, with
+the functions between them. `rt try --test` runs them without a proof; with --compiled `rt test` does, which takes ten minutes, and
+which tests need that start their own program. Libraries that are built here needn't be built again.
+
+Prints each table with what its test says, which has to name the row, and each table that isn't tried, since its rows have no answer or
+no test walks it. The status is 0 where every test failed that walks a changed table, and there was one.
+"""
+import pathlib
+import re
+import shutil
+import subprocess
+import sys
+import tempfile
+
+ROOT = pathlib.Path(__file__).resolve().parent.parent
+
+TABLE = re.compile(r"^(?:pub(?:\(\w+\))? )?const (\w+): (&\[[^=]*\]) =\s*(?=&\[)", re.MULTILINE)
+FUNCTION = re.compile(r"^(?:pub(?:\(\w+\))? )?fn (\w+)", re.MULTILINE)
+TEST = re.compile(r"^#\[test\]\nfn (\w+)", re.MULTILINE)
+RAW = re.compile(r'b?r(#*)"')
+CHARACTER = re.compile(r"'(?:\\[^']*|[^'\\])'")
+SAID = re.compile(r"^test (\S+) \.\.\. (\w+)\n((?:    .*\n)*)", re.MULTILINE)
+
+
+def behind(text, at):
+    """Returns the place behind the comment or literal that begins here, or this place."""
+    if text.startswith("//", at):
+        return (text + "\n").index("\n", at)
+    if (raw := RAW.match(text, at)) and not re.match(r"\w", text[at - 1 : at]):
+        return text.index('"' + raw[1], raw.end()) + 1 + len(raw[1])
+    if text[at] == '"':
+        return re.compile(r'"(?:\\.|[^"\\])*"', re.DOTALL).match(text, at).end()
+    character = CHARACTER.match(text, at)
+    return character.end() if character else at
+
+
+def closed(text, at):
+    """Returns the place behind the bracket that closes the first one from here on."""
+    depth = 0
+    while True:
+        if (end := behind(text, at)) > at:
+            at = end
+            continue
+        depth += (text[at] in "([{") - (text[at] in ")]}")
+        at += 1
+        if depth == 0 and text[at - 1] in ")]}":
+            return at
+
+
+def parts(text):
+    """Returns what stands between the commas that no bracket holds, each part with its end, which is before its comma."""
+    found, first, at = [], 0, 0
+    while at < len(text):
+        end = behind(text, at)
+        if end == at and text[at] in "([{":
+            end = closed(text, at)
+        if text[at] == ",":
+            found.append((text[first:at], at))
+            first = at + 1
+        at = max(end, at + 1)
+    return found + [(text[first:], len(text))] * bool(text[first:].strip())
+
+
+def without_comments(text):
+    return re.sub(r"^\s*//.*\n", "", text.lstrip("\n"), flags=re.MULTILINE).strip()
+
+
+def changed(answer):
+    """Returns an answer that isn't this one, or nothing where none is known."""
+    if text := re.match(r'b?(r#*)?"', answer):
+        return f"{text[0]}x{answer[text.end():]}"
+    if answer in ("true", "false"):
+        return "false" if answer == "true" else "true"
+    if answer.isdigit():
+        return str(int(answer) + 1)
+    if re.fullmatch(r"[A-Z_]+", answer):
+        return '"x"'
+    if held := re.fullmatch(r"((?:Some)?\()(.*)\)", answer, re.DOTALL):
+        last = parts(held[2])[-1][0].strip()
+        another = changed(last)
+        at = held[2].rindex(last)
+        return another and f"{held[1]}{held[2][:at]}{another}{held[2][at + len(last):]})"
+    return None
+
+
+def functions(text):
+    """Returns each function outside of an impl, by its name."""
+    return {it[1]: text[it.start() : closed(text, text.index("{", it.end()))] for it in FUNCTION.finditer(text)}
+
+
+def way(bodies, tests, table):
+    """Returns the functions from one that names the table to a test, or nothing."""
+    ways = [[name] for name, body in bodies.items() if re.search(rf"\b{table}\b", body)]
+    for found in ways:
+        if found[-1] in tests:
+            return found
+        calls = re.compile(rf"\b{found[-1]}\b")
+        ways += [[*found, name] for name, body in bodies.items() if name not in found and calls.search(body)]
+    return []
+
+
+def copies(text):
+    """Returns the copies of a file's tables and tests, the tests by their tables, and the tables that aren't tried."""
+    bodies, tests, added, found, left = functions(text), TEST.findall(text), "", {}, []
+    for table in TABLE.finditer(text):
+        name, rows = table[1], text[table.end() + 2 : closed(text, table.end() + 1) - 1]
+        row, end = parts(rows)[0]
+        another, steps = changed(without_comments(row)), way(bodies, tests, table[1])
+        if not another or not steps:
+            left.append(name)
+            continue
+        added += f"\nconst {name}_CHANGED: {table[2]} = &[{another},{rows[end + 1:]}];\n"
+        for step in steps:
+            body = re.sub(rf"\b{name}\b", f"{name}_CHANGED", bodies[step])
+            for other in steps:
+                body = re.sub(rf"\b{other}\b", f"{other}_of_{name.lower()}", body)
+            added += "\n" + "#[test]\n" * (step in tests) + body + "\n"
+        found[f"{steps[-1]}_of_{name.lower()}"] = name
+    return added, found, left
+
+
+def copy_tree(room):
+    """Copies what git knows or would add, and the libraries that are built."""
+    words = ["git", "ls-files", "-z", "--cached", "--others", "--exclude-standard"]
+    for name in subprocess.run(words, cwd=ROOT, check=True, capture_output=True, text=True).stdout.split("\0"):
+        if name and (ROOT / name).is_file():
+            (room / name).parent.mkdir(parents=True, exist_ok=True)
+            shutil.copy2(ROOT / name, room / name)
+    for library in ROOT.glob("crates/*/out/rlib"):
+        shutil.copytree(library, room / library.relative_to(ROOT))
+
+
+def tried(crate, room, is_compiled):
+    """Changes the tables of a crate, runs its tests, and tells what they say. Returns whether each changed one failed, and there was one."""
+    found, left = {}, []
+    for file in sorted((room / "crates" / crate / "src").glob("*.rt")):
+        added, here, untried = copies(file.read_text())
+        file.write_text(file.read_text() + added)
+        found.update({f"{file.stem}::{test}": f"{file.stem} {table}" for test, table in here.items()})
+        left += [f"{file.stem} {table}" for table in untried]
+    how = {"cwd": room / "crates" / crate, "capture_output": True, "text": True, "errors": "replace"}
+    if is_compiled:
+        subprocess.run(["rt", "fmt"], **how, check=True)
+    ran = subprocess.run(["rt", "test"] if is_compiled else ["rt", "try", "--test"], **how)
+    said = {test: (kind, " ".join(more.split())) for test, kind, more in SAID.findall(ran.stdout + ran.stderr)}
+    for test, table in found.items():
+        kind, more = said.get(test, ("not run", ""))
+        print(f"{crate} {table}: {kind}: {more.partition(' the test failed')[0][:200]}")
+    for table in left:
+        print(f"{crate} {table}: not tried")
+    failed = sum(said.get(test, ("", ""))[0] == "FAILED" for test in found)
+    print(f"{crate}: {failed} of {len(found)} failed, {len(left)} not tried")
+    return failed == len(found) > 0
+
+
+def main(words):
+    crates = [it for it in words if it != "--compiled"]
+    with tempfile.TemporaryDirectory() as folder:
+        room = pathlib.Path(folder)
+        copy_tree(room)
+        results = [tried(it, room, "--compiled" in words) for it in crates]
+    return 0 if results and all(results) else 1
+
+
+if __name__ == "__main__":
+    sys.exit(main(sys.argv[1:]))
