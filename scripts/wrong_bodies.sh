@@ -10,6 +10,7 @@
 # Prints, as each crate ends, each edit that isn't refused, or only because a proof names what the edit took away, which says little of
 # the contract; and then how many were refused, how many of them only by a name, how many were proved, each of which shows a contract
 # to strengthen, and how many couldn't be applied. The status is 0 where every edit was refused, and there was one.
+# An edit of a function that only tests have is called proved, since no test is checked: try it by rt check --test.
 
 set -euo pipefail
 cd "$(dirname "$0")/.."
