@@ -3,7 +3,7 @@ use Rattle.std.proofs.Common.{◌≡◌, ℕ, suc, ◌-◌, ◌<◌, ◌≤◌, 
 use Rattle.std.specs.List.{AllZip}
 use Rattle.krates_cm.specs.Document.{MetadataModel}
 use Rattle.krates_drawing.specs.Drawing.{lines, spots}
-use Rattle.krates_drawing.specs.Limits.{DrawingRefusal, IsBeyond, IsWithin}
+use Rattle.krates_drawing.specs.Limits.{DrawingRefusal, HasLimits, IsBeyond, IsWithin}
 use Rattle.krates_drawing.specs.Sheet.{Sheet}
 use Rattle.krates_drawing.specs.Stored.{IsStoredAs}
 use Rattle.krates_drawing.specs.declared.edge.Edge.{Edge}
@@ -85,10 +85,12 @@ zipped R (x ∷ xs) (y ∷ ys) z = ap suc (zipped R xs ys z.1)
 below : (n m : ℕ) → n ≡ m → m ≤ 2 ^ 32 - 1 → n < 2 ^ 32
 below n m e le = omega (arith, e, le)
 
-pub numbered : {N E : Type 0} (made : Edge → E → Type 0) (t : Sheet) (g : StoredGraph (Node N) E) → IsDrawing made t g → IsWithin numbers t → IsNumbered g
-numbered made t g d w = record {
+pub numbered : {N E : Type 0} (made : Edge → E → Type 0) (t : Sheet) (g : StoredGraph (Node N) E) → IsDrawing made t g → IsWithin numbers t → HasLimits numbers g → IsNumbered g
+numbered made t g d w limits = record {
   nodes = below (length g.nodes) (length (spots t)) (count_of node_spot g.nodes (spots t) d.nodes) w.nodes;
   edges = below (length g.edges) (length (lines t)) (zipped (IsStoredAs made) (lines t) g.edges d.edges) w.edges;
+  node_limit = limits.nodes;
+  edge_limit = limits.edges;
 }
 
 -- for a call that may be refused

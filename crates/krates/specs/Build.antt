@@ -118,7 +118,7 @@ pub record IsBuilt {F N E : Type 0} (filters : F → Package → F → Type 0) (
   pub agree : (i : Id) → HasOneEach (metadata_view m) s i → (p d : ℕ) → StandsAt (ids_of k) i p → d < length (ids_of k) → AgreeDirectly k p d
   -- the kept members of the workspace
   pub members : AreKeptMembers (metadata_view m) (ids_of k) k.members
-  -- each node and each edge has a number
+  -- each node and each edge has a number, and the graph's limits are the numbers that there are
   pub numbered : IsNumbered k.graph
   pub root : k.workspace_root ≡ text_view m.workspace_root
   -- the work is that of the document's selection, in which each crate, each feature and each reference is counted once

@@ -6,7 +6,7 @@ ghost use Rattle.krates_cm.specs.Document.{metadata_view};
 ghost use Rattle.krates_document.specs.Ids.{ids_view};
 ghost use Rattle.krates_drawing.specs.Drawing.{lines, spots};
 ghost use Rattle.krates_drawing.specs.Ends.{HasEnds};
-ghost use Rattle.krates_drawing.specs.Limits.{DrawingRefusal, IsWithin};
+ghost use Rattle.krates_drawing.specs.Limits.{DrawingRefusal, HasLimits, IsWithin};
 ghost use Rattle.krates_drawing.specs.SheetOrder.{IsOrdered};
 ghost use Rattle.krates_drawing.specs.Stored.{IsStoredAs};
 ghost use Rattle.krates_drawing.specs.Views.{arrow_view, sheet_view};
@@ -113,6 +113,7 @@ fn stored<N: FromPackage + Drop, E: FromEdge + Drop>(
     ensures nodes { IfOk result (λ graph. AllZip (IsMade N.made_from) (nodes_in nodes) graph.nodes) }
     ensures edges { IfOk result
         (λ graph. AllZip (IsStoredAs E.made_from_edge) (map arrow_view arrows.now) graph.edges) }
+    ensures limits { IfOk result (HasLimits limits) }
     ensures refused { IfErr result (λ e. e ≡ Memory) }
 {
     let mut graph = Graph::with_limits(alloc, limits.nodes, limits.edges);
@@ -138,6 +139,7 @@ pub(crate) fn graph_of<N: FromPackage + Drop, E: FromEdge + Drop>(
     requires stand { All (HasEnds (length (spots (sheet_view sheet)))) (lines (sheet_view sheet)) }
     ensures graph { IfOk result (IsGraphOf N.made_from E.made_from_edge (sheet_view sheet) krates.items) }
     ensures within { IfOk result (λ _. IsWithin limits (sheet_view sheet)) }
+    ensures limits { IfOk result (HasLimits limits) }
     ensures refused { IfErr result (DrawingRefusal limits (sheet_view sheet)) }
 {
     let plan = plan_within(alloc, &sheet, limits)?;

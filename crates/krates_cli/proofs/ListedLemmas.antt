@@ -42,7 +42,7 @@ one_document text a b (d, reads, is) (e, also, was) =
 
 -- a document is refused as none for nothing but memory
 document_refused : (text : Text) (m : MetadataModel) (cause : cm.Error) → IsDocument text m → IsRefusal text cause → cause ≡ cm_errors.Memory
-document_refused text m (cm_errors.Json e) (d, reads, is) none = absurd (none-some d (sym none ∙ reads))
+document_refused text m (cm_errors.Json e) (d, reads, is) none = absurd (none-some d (sym none.0 ∙ reads))
 document_refused text m (cm_errors.Value e) (d, reads, is) (other, also, none, fault) =
     absurd (none-some m (sym none ∙ ap (λ x. (metadata [] x).value) (same_Some other d (sym also ∙ reads)) ∙ is))
 document_refused text m cm_errors.Memory document refused = refl

@@ -1,3 +1,4 @@
+pub mod Comparisons
 pub mod Document
 pub mod Faults
 pub mod Names

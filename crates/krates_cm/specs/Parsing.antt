@@ -20,9 +20,10 @@ IsDocument text m = (d : Data) × (read text ≡ Some d) × ((metadata [] d).val
 abbrev pub IsNoDocument : Text → Type 0
 IsNoDocument text = (m : MetadataModel) → IsDocument text m → ⊥
 
--- The text isn't JSON, or its data isn't metadata, by a fault that is true of it. Memory may always run out.
+-- The text isn't JSON, or its data isn't metadata, by a fault that is true of it. Memory may always run out, and is then the
+-- refusal itself: no JSON error is about memory, and no fault of a value is.
 abbrev pub IsRefusal : Text → Error → Type 0
-IsRefusal text (errors.Json e) = read text ≡ None
+IsRefusal text (errors.Json e) = (read text ≡ None) × (IsMemory e → ⊥)
 IsRefusal text (errors.Value e) = (d : Data) × (read text ≡ Some d) × ((metadata [] d).value ≡ None) × (metadata [] d).IsFault (fault_of e)
 IsRefusal text errors.Memory = ⊤
 IsRefusal text _ = ⊥

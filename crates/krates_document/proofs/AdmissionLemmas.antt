@@ -15,11 +15,12 @@ use Rattle.krates_cm.specs.declared.package_id.PackageId.{PackageId}
 use Rattle.krates_ids.specs.Identity.{Identity, Reads, Fault, IsFault}
 use Rattle.krates_ids.specs.declared.error.Error.{Error}
 use Rattle.krates_ids.specs.declared.error.Error.TheVariants as errors
-use Rattle.krates_rules.specs.Admission.{package_texts, node_texts, dep_texts, HasVersion, HasThisVersion, StandsForId, of_dep, IsInvalidId, unread, bad_version, AreDepIds, AreIdsOf, IsDoubledIn, IsDoubled, doubled_package, doubled_node, doubled_dep, NoneDoubled, IdsModel}
+use Rattle.krates_rules.specs.Admission.{package_texts, node_texts, dep_texts, HasVersion, HasThisVersion, StandsForId, of_package, of_node, of_dep, IsInvalidId, unread, bad_version, AreDepIds, AreIdsOf, IsDoubledIn, IsDoubled, doubled_package, doubled_node, doubled_dep, NoneDoubled, IdsModel}
 use Rattle.krates_rules.specs.AdmissionRefusals.{AdmissionRefusal}
-use Rattle.krates_document.specs.AdmissionSteps.{IsInvalidBy, InvalidIdRefusal, IsNoId, UnreadRefusal, IsBadText, InvalidDepRefusal, InvalidNodeRefusal, IsDoubledAmong, AreDistinct, AreAllDistinct, IsDoubledBy, DoubledRefusal, DoubledInRefusal, IsDoubledWithin, among_packages, among_nodes, among_deps, DoubledWithinRefusal}
+use Rattle.krates_document.specs.AdmissionSteps.{IsInvalidBy, InvalidIdRefusal, IsNoId, UnreadRefusal, IsBadText, InvalidDepRefusal, InvalidNodeRefusal, IsDoubledAmong, AreDistinct, AreAllDistinct, HasDoubled, IsDoubledBy, DoubledRefusal, DoubledInRefusal, IsDoubledWithin, among_packages, among_nodes, among_deps, DoubledWithinRefusal}
 use Rattle.krates_rules.specs.Facts.{Id}
-use Rattle.krates_rules.specs.Resolved.{id_of}
+use Rattle.krates_rules.specs.NamedIds.{IsReadOf, NamesReadIds}
+use Rattle.krates_rules.specs.Resolved.{id_of, resolved}
 use Rattle.krates_rules.proofs.Readings.{left_of, right_of, ReadsOnce}
 
 -- a text with a fault isn't read as an id
@@ -66,7 +67,7 @@ invalid_so P R so memory (errors.Lost x) h = absurd h
 invalid_so P R so memory errors.TooMany h = absurd h
 
 -- and from each doubled id
-doubled_so : (P : Id → Type 0) (R : Error → Type 0) → ((kid : Identity) → P (id_of kid) → R (errors.Doubled kid)) → R errors.Memory → (e : Error) → IsDoubledBy P e → R e
+doubled_so : (P : Identity → Type 0) (R : Error → Type 0) → ((kid : Identity) → P kid → R (errors.Doubled kid)) → R errors.Memory → (e : Error) → IsDoubledBy P e → R e
 doubled_so P R so memory (errors.Doubled kid) h = so kid h
 doubled_so P R so memory errors.Memory h = memory
 doubled_so P R so memory errors.NoResolveGraph h = absurd h
@@ -109,13 +110,13 @@ bad_refused m g is = invalid_so (IsInvalidId m g) (AdmissionRefusal m) (λ t h. 
 -- ---- what stands twice
 
 pub twice_packages : (ids : IdsModel) (e : Error) → DoubledRefusal ids.packages e → DoubledWithinRefusal ids e
-twice_packages ids = doubled_so (IsDoubledAmong ids.packages) (DoubledWithinRefusal ids) (λ kid h. among_packages h) tt
+twice_packages ids = doubled_so (HasDoubled ids.packages) (DoubledWithinRefusal ids) (λ kid h. among_packages h) tt
 
 pub twice_nodes : (ids : IdsModel) (e : Error) → DoubledRefusal ids.nodes e → DoubledWithinRefusal ids e
-twice_nodes ids = doubled_so (IsDoubledAmong ids.nodes) (DoubledWithinRefusal ids) (λ kid h. among_nodes h) tt
+twice_nodes ids = doubled_so (HasDoubled ids.nodes) (DoubledWithinRefusal ids) (λ kid h. among_nodes h) tt
 
 pub twice_deps : (ids : IdsModel) (e : Error) → DoubledInRefusal ids.deps e → DoubledWithinRefusal ids e
-twice_deps ids = doubled_so (λ id. (list : List Identity) × Contains ids.deps list × IsDoubledAmong list id) (DoubledWithinRefusal ids) (λ kid h. among_deps h.0 h.1 h.2) tt
+twice_deps ids = doubled_so (λ kid. (list : List Identity) × Contains ids.deps list × HasDoubled list kid) (DoubledWithinRefusal ids) (λ kid h. among_deps h.0 h.1 h.2) tt
 
 -- an id that is doubled among the ids is doubled in their texts
 pub twice_texts : (texts : List Text) (ids : List Identity) (id : Id) → AllZip Reads texts ids → IsDoubledAmong ids id → IsDoubledIn texts id
@@ -180,13 +181,41 @@ none_doubled once m g ids are distinct id (doubled_dep n among t) =
     let w = dep_list g.nodes ids.deps n among.0 are.deps among.1 among.2 in
     each_at AreDistinct ids.deps w.0 w.1.0 distinct.deps w.1.1 w.1.2 id (texts_twice once _ _ id w.2.read t)
 
-doubled_of : (m : MetadataModel) (g : ResolveModel) (ids : IdsModel) (id : Id) → AreIdsOf m g ids → IsDoubledWithin ids id → IsDoubled m g id
-doubled_of m g ids id are (among_packages t) = doubled_package (twice_texts _ _ id are.packages t)
-doubled_of m g ids id are (among_nodes t) = doubled_node (twice_texts _ _ id are.nodes t)
-doubled_of m g ids id are (among_deps list among t) =
+doubled_of : (m : MetadataModel) (g : ResolveModel) (ids : IdsModel) (kid : Identity) → AreIdsOf m g ids → IsDoubledWithin ids kid → IsDoubled m g (id_of kid)
+doubled_of m g ids kid are (among_packages t) = doubled_package (twice_texts _ _ (id_of kid) are.packages t.1)
+doubled_of m g ids kid are (among_nodes t) = doubled_node (twice_texts _ _ (id_of kid) are.nodes t.1)
+doubled_of m g ids kid are (among_deps list among t) =
     let w = list_deps g.nodes ids.deps list among.0 are.deps among.1 among.2 in
-    doubled_dep w.0 w.1 (twice_texts _ _ id w.2.read t)
+    doubled_dep w.0 w.1 (twice_texts _ _ (id_of kid) w.2.read t.1)
 
 -- a document in which an id stands twice is refused
 pub twice_refused : (m : MetadataModel) (g : ResolveModel) (ids : IdsModel) → m.resolve ≡ Some g → AreIdsOf m g ids → (e : Error) → DoubledWithinRefusal ids e → AdmissionRefusal m e
-twice_refused m g ids is are = doubled_so (IsDoubledWithin ids) (AdmissionRefusal m) (λ kid h. record { graph = g; has_graph = is; holds = doubled_of m g ids (id_of kid) are h }) tt
+twice_refused m g ids is are = doubled_so (IsDoubledWithin ids) (AdmissionRefusal m) (λ kid h. record { graph = g; has_graph = is; holds = doubled_of m g ids kid are h }) tt
+
+-- ---- the ids that are named
+
+-- the text that is read as an id of the list
+text_of : (texts : List Text) (ids : List Identity) (kid : Identity) → AllZip Reads texts ids → Contains ids kid → (t : Text) × Contains texts t × Reads t kid
+text_of [] [] kid z among = absurd (omega (arith, among.1))
+text_of [] (i ∷ ids) kid z among = absurd z
+text_of (t ∷ texts) [] kid z among = absurd z
+text_of (t ∷ texts) (i ∷ ids) kid z (zero, lt, is) = (t, (0, omega arith, refl), subst (Reads t) is z.0)
+text_of (t ∷ texts) (i ∷ ids) kid z (suc k, lt, is) =
+    let w = text_of texts ids kid z.1 (k, omega (arith, lt), is) in
+    (w.0, (suc w.1.0, omega (arith, w.1.1), w.1.2), w.2)
+
+-- an id that stands twice is read of the document
+read_of : (m : MetadataModel) (g : ResolveModel) (ids : IdsModel) (kid : Identity) → AreIdsOf m g ids → IsDoubledWithin ids kid → IsReadOf (resolved m g) kid
+read_of m g ids kid are (among_packages t) = let w = text_of (package_texts m) ids.packages kid are.packages t.0 in (w.0, of_package w.1, w.2)
+read_of m g ids kid are (among_nodes t) = let w = text_of (node_texts g) ids.nodes kid are.nodes t.0 in (w.0, of_node w.1, w.2)
+read_of m g ids kid are (among_deps list among t) =
+    let n = list_deps g.nodes ids.deps list among.0 are.deps among.1 among.2 in
+    let w = text_of (dep_texts n.0) list kid n.2.read t.0 in
+    (w.0, of_dep n.0 n.1 w.1, w.2)
+
+pub twice_named : (m : MetadataModel) (g : ResolveModel) (ids : IdsModel) → m.resolve ≡ Some g → AreIdsOf m g ids → (e : Error) → DoubledWithinRefusal ids e → NamesReadIds m e
+twice_named m g ids is are = doubled_so (IsDoubledWithin ids) (NamesReadIds m) (λ kid h. (record { graph = g; has_graph = is; holds = read_of m g ids kid are h }, tt)) tt
+
+-- a refusal of a text that isn't an id names none
+pub bad_names_none : (m : MetadataModel) (g : ResolveModel) (e : Error) → InvalidIdRefusal m g e → NamesReadIds m e
+bad_names_none m g = invalid_so (IsInvalidId m g) (NamesReadIds m) (λ t h. tt) tt

@@ -48,28 +48,32 @@ abbrev pub AreDistinct : List Identity → Type 0
 AreDistinct ids = (id : Id) → IsDoubledAmong ids id → ⊥
 
 -- an id is doubled, and `P` holds of it; memory may always run out
-abbrev pub IsDoubledBy : (Id → Type 0) → Error → Type 0
-IsDoubledBy P (errors.Doubled kid) = P (id_of kid)
+abbrev pub IsDoubledBy : (Identity → Type 0) → Error → Type 0
+IsDoubledBy P (errors.Doubled kid) = P kid
 IsDoubledBy P errors.Memory = ⊤
 IsDoubledBy P _ = ⊥
 
-abbrev pub DoubledRefusal : List Identity → Error → Type 0
-DoubledRefusal ids = IsDoubledBy (IsDoubledAmong ids)
+-- this id of the list stands at two places of it
+abbrev pub HasDoubled : List Identity → Identity → Type 0
+HasDoubled ids kid = Contains ids kid × IsDoubledAmong ids (id_of kid)
 
--- the id stands twice in one of the lists
+abbrev pub DoubledRefusal : List Identity → Error → Type 0
+DoubledRefusal ids = IsDoubledBy (HasDoubled ids)
+
+-- this id stands twice in one of the lists
 abbrev pub DoubledInRefusal : List (List Identity) → Error → Type 0
-DoubledInRefusal lists = IsDoubledBy (λ id. (ids : List Identity) × Contains lists ids × IsDoubledAmong ids id)
+DoubledInRefusal lists = IsDoubledBy (λ kid. (ids : List Identity) × Contains lists ids × HasDoubled ids kid)
 
 pub record AreAllDistinct (ids : IdsModel) : Type 0 where
   pub packages : AreDistinct ids.packages
   pub nodes : AreDistinct ids.nodes
   pub deps : AllByRecursion AreDistinct ids.deps
 
--- the id stands twice among the packages, the nodes, or the dependencies of a node
-pub data IsDoubledWithin (ids : IdsModel) (id : Id) : Type 0 where
-  among_packages : IsDoubledAmong ids.packages id → IsDoubledWithin ids id
-  among_nodes : IsDoubledAmong ids.nodes id → IsDoubledWithin ids id
-  among_deps : (list : List Identity) → Contains ids.deps list → IsDoubledAmong list id → IsDoubledWithin ids id
+-- this id stands twice among the packages, the nodes, or the dependencies of a node
+pub data IsDoubledWithin (ids : IdsModel) (kid : Identity) : Type 0 where
+  among_packages : HasDoubled ids.packages kid → IsDoubledWithin ids kid
+  among_nodes : HasDoubled ids.nodes kid → IsDoubledWithin ids kid
+  among_deps : (list : List Identity) → Contains ids.deps list → HasDoubled list kid → IsDoubledWithin ids kid
 
 abbrev pub DoubledWithinRefusal : IdsModel → Error → Type 0
 DoubledWithinRefusal ids = IsDoubledBy (IsDoubledWithin ids)

@@ -7,6 +7,7 @@ ghost use Rattle.krates_cm.specs.Document.{Text, id_view, node_view, resolve_vie
 ghost use Rattle.krates_ids.specs.Identity.{Reads};
 ghost use Rattle.krates_rules.specs.Admission.{HasThisVersion, AreDepIds, IsRootId, AreIdsOf, IsAdmitted};
 ghost use Rattle.krates_rules.specs.AdmissionRefusals.{AdmissionRefusal};
+ghost use Rattle.krates_rules.specs.NamedIds.{NamesReadIds};
 ghost use Rattle.krates_document.specs.AdmissionSteps.{InvalidIdRefusal, UnreadRefusal, InvalidDepRefusal, InvalidNodeRefusal, AreDistinct, DoubledRefusal, DoubledInRefusal, AreAllDistinct, DoubledWithinRefusal};
 ghost use Rattle.krates_document.specs.Ids.{ids_view, kids_in, versions_in};
 
@@ -24,11 +25,12 @@ use std::collections::BTreeSet;
 /// `NoResolveGraph` where the document has no resolved graph; as `InvalidId` where the text of a package, a member,
 /// the root, a node or a node's dependency isn't an id, or the version of such a dependency isn't semantic; or as
 /// `Doubled` where two packages, two nodes or two dependencies of one node have the same id. Which of several true
-/// refusals of the last two is named is left open. It may instead return `Memory`. Time O(n log n) for n
-/// packages, nodes and dependencies of nodes.
+/// refusals of the last two is named is left open; a doubled id is one of the document's, its text included. It may
+/// instead return `Memory`. Time O(n log n) for n packages, nodes and dependencies of nodes.
 pub fn admit(alloc: Global, metadata: &Metadata) -> Result<Ids, Error>
     ensures admitted { IfOk result (λ ids. IsAdmitted (metadata_view metadata.now) (ids_view ids)) }
     ensures refused { IfErr result (AdmissionRefusal (metadata_view metadata.now)) }
+    ensures named { IfErr result (NamesReadIds (metadata_view metadata.now)) }
 {
     laws::one_reading();
     let Some(resolve) = &metadata.resolve else {

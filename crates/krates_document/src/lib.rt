@@ -2,6 +2,7 @@
 #![tactic(auto)]
 
 pub mod admission;
+pub mod comparisons;
 pub mod corrected_document;
 pub mod declared_dependency;
 pub mod declared_source;

@@ -65,8 +65,7 @@ fn store_arrow<N, E: FromEdge + Drop>(
     requires few { length graph.old.nodes < 2 ^ 32 }
     ensures drawn { OnOk result (Appends E.made_from_edge graph.old.edges graph.new.edges
         (arrow_view arrow.now)) }
-    ensures nodes { graph.new.nodes ≡ graph.old.nodes }
-    ensures limit { graph.new.edge_limit ≡ graph.old.edge_limit }
+    ensures rest { graph.new ≡ record graph.old { edges = graph.new.edges } }
     ensures refused { IfErr result (λ e. e ≡ TooMany → graph.old.edge_limit ≤ length graph.old.edges) }
 {
     match weight_of(alloc, &arrow.edge) {
@@ -91,7 +90,7 @@ pub fn store_arrows<N, E: FromEdge + Drop>(
     requires empty { graph.old.edges ≡ [] }
     ensures drawn { OnOk result (AllZip (IsStoredAs E.made_from_edge)
         (map arrow_view arrows.now) graph.new.edges) }
-    ensures nodes { graph.new.nodes ≡ graph.old.nodes }
+    ensures rest { graph.new ≡ record graph.old { edges = graph.new.edges } }
     ensures refused { IfErr result (λ e. e ≡ TooMany → graph.old.edge_limit < length arrows.now) }
 {
     for x in arrows {

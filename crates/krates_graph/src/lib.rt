@@ -4,3 +4,4 @@
 
 pub mod agenda;
 pub mod graph;
+pub mod laws;

@@ -1,5 +1,5 @@
 -- The stored graph beside what is drawn of a document.
-use Rattle.std.specs.Prelude.{◌≡◌, ◌<◌, ◌^◌, length, map}
+use Rattle.std.specs.Prelude.{◌≡◌, ◌<◌, ◌-◌, ◌^◌, length, map}
 use Rattle.std.specs.List.{AllZip}
 use Rattle.krates_cm.specs.Document.{MetadataModel, text_view}
 use Rattle.krates_drawing.specs.Drawing.{Spot, CrateSpot, FeatureSpot, lines, spots}
@@ -40,10 +40,12 @@ pub record IsDrawn {N E : Type 0} (made : Edge → E → Type 0) (m : MetadataMo
   pub is_sheet : IsSheetFor m s sheet
   pub drawing : IsDrawing made sheet g
 
--- there are no more nodes and no more edges than can be numbered
+-- there are no more nodes and no more edges than can be numbered, and the graph takes no more
 pub record IsNumbered {N E : Type 0} (g : StoredGraph (Node N) E) : Type 0 where
   pub nodes : length g.nodes < 2 ^ 32
   pub edges : length g.edges < 2 ^ 32
+  pub node_limit : g.node_limit ≡ 2 ^ 32 - 1
+  pub edge_limit : g.edge_limit ≡ 2 ^ 32 - 1
 
 -- the same for what is drawn
 pub record CanBeNumbered (t : Sheet) : Type 0 where

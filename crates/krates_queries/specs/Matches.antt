@@ -31,9 +31,9 @@ numbered_crates n (Feature krate_index name ∷ nodes) = numbered_crates (suc n)
 abbrev pub crates_of : {N E : Type 0} → KeptCrates N E → List (Match N)
 crates_of k = numbered_crates 0 k.graph.nodes
 
--- whether the crate's id has this name
-abbrev pub is_named : {N : Type 0} → Text → Match N → Bool
-is_named name m = bytes_eq m.id.name name
+-- whether the crate has this name, by what tells the name of the value that stands for its package
+abbrev pub is_named : {N : Type 0} → (N → Text) → Text → Match N → Bool
+is_named name_of name m = bytes_eq (name_of m.krate) name
 
 -- whether the crate's version fits what is wanted, if anything is
 abbrev pub has_fitting : {N : Type 0} → (N → Version) → Option VersionReq → N → Bool

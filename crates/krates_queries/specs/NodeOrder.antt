@@ -1,4 +1,4 @@
--- How nodes compare with an id, with a name, and with a feature.
+-- How nodes compare with an id and with a feature.
 use Rattle.std.specs.Prelude.{ℕ}
 use Rattle.std.specs.Cmp.Lexicographic.{slice_cmp}
 use Rattle.std.specs.Ordering.{nat_cmp, ordering_then}
@@ -13,11 +13,6 @@ use Rattle.krates_queries.specs.declared.node.Node.TheVariants.{Krate, Feature}
 abbrev pub node_cmp : {N : Type 0} → Node N → Identity → Ordering
 node_cmp (Krate id krate features mapping) kid = id_cmp id kid
 node_cmp (Feature krate_index name) kid = Greater
-
--- a crate by the name of its id, and a feature after every crate
-abbrev pub name_cmp : {N : Type 0} → Node N → Text → Ordering
-name_cmp (Krate id krate features mapping) name = slice_cmp nat_cmp id.name name
-name_cmp (Feature krate_index text) name = Greater
 
 -- a feature by the number of its crate and then by its name, and a crate before every feature
 abbrev pub feature_cmp : {N : Type 0} → Node N → ℕ → Text → Ordering

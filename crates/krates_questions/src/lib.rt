@@ -2,6 +2,7 @@
 #![tactic(auto)]
 
 pub mod basis;
+pub mod comparisons;
 pub mod crate_questions;
 pub mod dependency_questions;
 pub mod questions;

@@ -3,6 +3,7 @@
 //! The questions of the rules, which a search asks too, are re-exported from the crate below.
 #![tactic(auto)]
 
+pub mod comparisons;
 mod enabling;
 mod expansion;
 mod found;

@@ -1,5 +1,5 @@
 -- Kinds of dependencies, and which of them are ignored (Cargo Book, "Specifying Dependencies").
-use Rattle.std.specs.Prelude.{◌≡◌, ◌↔◌, ◌⊎◌, Bool, true, false, codes, ⊤}
+use Rattle.std.specs.Prelude.{◌≡◌, ◌↔◌, ◌⊎◌, Bool, true, false, codes, ⊤, ℕ}
 use Rattle.krates_cm.specs.declared.dependency.DependencyKind.{DependencyKind}
 use Rattle.krates_cm.specs.declared.dependency.DependencyKind.TheVariants as written
 use Rattle.krates_cm.specs.Document.{Text}
@@ -27,6 +27,12 @@ abbrev pub kind_text : DepKind → Text
 kind_text kinds.Normal = codes ""
 kind_text kinds.Build = codes "build"
 kind_text kinds.Dev = codes "dev"
+
+-- the place of a kind in the order of kinds
+abbrev pub kind_place : DepKind → ℕ
+kind_place kinds.Normal = 0
+kind_place kinds.Build = 1
+kind_place kinds.Dev = 2
 
 -- whether the kind is in the set
 abbrev pub has_kind : KindSet → DepKind → Bool

@@ -8,6 +8,7 @@ pub mod Derivation
 pub mod Facts
 pub mod Features
 pub mod Kind
+pub mod NamedIds
 pub mod Naming
 pub mod Narrowing
 pub mod PlainSetting

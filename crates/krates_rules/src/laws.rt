@@ -1,8 +1,13 @@
 //! Laws of resolution, for all documents and settings. Each is the contract of a function that does nothing.
+ghost use Rattle.std.specs.Prelude.{◌≡◌, ◌↔◌, Some, true};
+ghost use Rattle.std.specs.Ordering.{nat_cmp};
 ghost use Rattle.krates_rules.specs.Checks.{AreComplete, AreSound, GivenIsDerivable, GivenIsPut, GivenStays, LastIsDerivable, PartsFollow};
+ghost use Rattle.krates_rules.specs.Kind.{kind_place};
 ghost use Rattle.krates_rules.specs.Naming.{IsNamedPart};
 ghost use Rattle.krates_rules.specs.Narrowing.{IsNarrowing};
 ghost use Rattle.krates_rules.specs.Reordering.{IsOrderFree};
+
+use crate::kind::DepKind;
 
 /// What is resolved doesn't depend on the order in which a document lists its packages, its members, the nodes of its graph,
 /// or the dependencies and features of a node. Of two documents that differ only in this, the same facts have derivations
@@ -45,4 +50,12 @@ pub fn lists_grow()
 /// If the steps of a list follow, so do those of a part that has what its steps use, renumbered.
 pub fn parts_follow()
     ensures { PartsFollow }
+{}
+
+/// Each kind is equal to itself alone; kinds come in the order normal, build, development.
+pub fn kinds_compared()
+    ensures equal { (a b : DepKind) → (⟦<DepKind as PartialEq>⟧.eq a b ≡ true) ↔ (a ≡ b) }
+    ensures partial_order { (a b : DepKind)
+        → ⟦<DepKind as PartialOrd>⟧.partial_cmp a b ≡ Some (nat_cmp (kind_place a) (kind_place b)) }
+    ensures order { (a b : DepKind) → ⟦<DepKind as Ord>⟧.cmp a b ≡ nat_cmp (kind_place a) (kind_place b) }
 {}

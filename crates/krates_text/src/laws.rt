@@ -1,7 +1,10 @@
-//! Laws of the definitions in `specs/`, each the contract of a function that does nothing.
-ghost use Rattle.std.specs.Prelude.{◌≡◌, ℕ, List};
-ghost use Rattle.krates_text.specs.FeatureReference.{HasOneReading};
+//! Laws of the definitions in `specs/` and of comparisons, each the contract of a function that does nothing.
+ghost use Rattle.std.specs.Prelude.{◌≡◌, ◌↔◌, ℕ, List, true};
+ghost use Rattle.krates_text.specs.FeatureReference.{HasOneReading, reference_of};
 ghost use Rattle.krates_text.specs.CfgGrammar.{Tree, IsExpression, IsTooDeep};
+
+use crate::cfg::CfgError;
+use crate::features::Feature;
 
 /// Each text is exactly one feature reference.
 pub fn one_reference()
@@ -12,4 +15,14 @@ pub fn one_reference()
 pub fn one_expression()
     ensures once { (text : List ℕ) (p q : Tree) → IsExpression text p → IsExpression text q → p ≡ q }
     ensures apart { (text : List ℕ) (p : Tree) → IsExpression text p → IsTooDeep text → ⊥ }
+{}
+
+/// Feature references are equal where they are of one form and the texts of their parts are equal.
+pub fn references_compared()
+    ensures { (a b : Feature) → (⟦<Feature<'static> as PartialEq>⟧.eq a b ≡ true) ↔ (reference_of a ≡ reference_of b) }
+{}
+
+/// Each cause is equal to itself alone.
+pub fn causes_compared()
+    ensures { (a b : CfgError) → (⟦<CfgError as PartialEq>⟧.eq a b ≡ true) ↔ (a ≡ b) }
 {}

@@ -74,7 +74,7 @@ members_of-requires g c =
     let sheet_is = c.in_ok-sketch.ensures.sketched.sheet in
     let divided = divided_of c.args.metadata c.args.ids c.rest_of-rest.result c.in_ok-sketch.sketch.sheet.krates.items c.deref.result.now division c.rest_of-rest.ensures c.deref.ensures.value c.in_ok-division.ensures in
     let b = builds_sheet c.one_reading.ensures.once c.args.metadata c.args.setting.now c.in_ok-sketch.sketch.sheet division sheet_is divided in
-    let n = numbered g.E.FromEdge.made_from_edge (sheet_view c.in_ok-sketch.sketch.sheet) c.in_ok-graph.graph graph.drawing c.in_ok-graph.ensures.within in
+    let n = numbered g.E.FromEdge.made_from_edge (sheet_view c.in_ok-sketch.sketch.sheet) c.in_ok-graph.graph graph.drawing c.in_ok-graph.ensures.within c.in_ok-graph.ensures.limits in
     let nodes = numbered_graph o g.N.FromPackage.made_from g.E.FromEdge.made_from_edge c.args.metadata c.args.setting.now c.in_ok-sketch.sketch.sheet division c.in_ok-graph.graph sheet_is
     c.in_ok-sketch.ensures.sketched.ordered b graph n in
     subst (λ ns. AreNodes ns) (sym c.raw_nodes.ensures.nodes) nodes
@@ -87,7 +87,7 @@ new-requires-clause-nodes g c =
     let sheet_is = c.in_ok-sketch.ensures.sketched.sheet in
     let divided = divided_of c.args.metadata c.args.ids c.rest_of-rest.result c.in_ok-sketch.sketch.sheet.krates.items c.deref.result.now division c.rest_of-rest.ensures c.deref.ensures.value c.in_ok-division.ensures in
     let b = builds_sheet c.one_reading.ensures.once c.args.metadata c.args.setting.now c.in_ok-sketch.sketch.sheet division sheet_is divided in
-    let n = numbered g.E.FromEdge.made_from_edge (sheet_view c.in_ok-sketch.sketch.sheet) c.in_ok-graph.graph graph.drawing c.in_ok-graph.ensures.within in
+    let n = numbered g.E.FromEdge.made_from_edge (sheet_view c.in_ok-sketch.sketch.sheet) c.in_ok-graph.graph graph.drawing c.in_ok-graph.ensures.within c.in_ok-graph.ensures.limits in
     numbered_graph o g.N.FromPackage.made_from g.E.FromEdge.made_from_edge c.args.metadata c.args.setting.now c.in_ok-sketch.sketch.sheet division c.in_ok-graph.graph sheet_is
     c.in_ok-sketch.ensures.sketched.ordered b graph n
 
@@ -101,7 +101,7 @@ pub new-requires-clause-connected : goal.new-requires-clause-connected
 new-requires-clause-connected g c =
     connects g.E.FromEdge.made_from_edge (metadata_view c.args.metadata) c.args.setting.now (sheet_view c.in_ok-sketch.sketch.sheet) c.in_ok-graph.graph c.connected.ensures
     c.in_ok-sketch.ensures.sketched.sheet c.in_ok-graph.ensures.graph.drawing
-    (numbered g.E.FromEdge.made_from_edge (sheet_view c.in_ok-sketch.sketch.sheet) c.in_ok-graph.graph c.in_ok-graph.ensures.graph.drawing c.in_ok-graph.ensures.within).nodes
+    (numbered g.E.FromEdge.made_from_edge (sheet_view c.in_ok-sketch.sketch.sheet) c.in_ok-graph.graph c.in_ok-graph.ensures.graph.drawing c.in_ok-graph.ensures.within c.in_ok-graph.ensures.limits).nodes
 
 pub new-requires-clause-explained : goal.new-requires-clause-explained
 new-requires-clause-explained g c =
@@ -111,7 +111,7 @@ new-requires-clause-explained g c =
     let sheet_is = c.in_ok-sketch.ensures.sketched.sheet in
     let divided = divided_of c.args.metadata c.args.ids c.rest_of-rest.result c.in_ok-sketch.sketch.sheet.krates.items c.deref.result.now division c.rest_of-rest.ensures c.deref.ensures.value c.in_ok-division.ensures in
     let b = builds_sheet c.one_reading.ensures.once c.args.metadata c.args.setting.now c.in_ok-sketch.sketch.sheet division sheet_is divided in
-    let n = numbered g.E.FromEdge.made_from_edge (sheet_view c.in_ok-sketch.sketch.sheet) c.in_ok-graph.graph graph.drawing c.in_ok-graph.ensures.within in
+    let n = numbered g.E.FromEdge.made_from_edge (sheet_view c.in_ok-sketch.sketch.sheet) c.in_ok-graph.graph graph.drawing c.in_ok-graph.ensures.within c.in_ok-graph.ensures.limits in
     let nodes = numbered_graph o g.N.FromPackage.made_from g.E.FromEdge.made_from_edge c.args.metadata c.args.setting.now c.in_ok-sketch.sketch.sheet division c.in_ok-graph.graph sheet_is
     c.in_ok-sketch.ensures.sketched.ordered b graph n in
     let kids = c.in_ok-explanation.ensures.ids ∙ ap krate_ids c.deref-2.ensures.value in
@@ -135,4 +135,4 @@ returns-clause-built g c =
     (ap (λ (v : Vec KeptStep). v.items) c.in_ok-explanation.ensures.steps) c.in_ok-sketch.ensures.sketched.steps in
     rw (c.new.ensures, c.in_ok-sketch.ensures.sketched.work, c.rest_of-rest.ensures) (is_built g.F.OnFilter.filters g.N.FromPackage.made_from g.E.FromEdge.made_from_edge c.args.metadata c.args.setting.now c.in_ok-sketch.sketch.sheet division c.in_ok-graph.graph numbers c.args.filter.now c.report.new.filter c.in_ok-sketch.ensures.sketched.selection
     c.in_ok-sketch.ensures.sketched.sheet b c.in_ok-graph.ensures.graph c.report.ensures.run c.in_ok-sketch.ensures.sketched.selected
-    (resolvable (metadata_view c.args.metadata) (ids_view c.args.ids) c.requires.admitted) (numbered g.E.FromEdge.made_from_edge (sheet_view c.in_ok-sketch.sketch.sheet) c.in_ok-graph.graph c.in_ok-graph.ensures.graph.drawing c.in_ok-graph.ensures.within) members agree c.in_ok-explanation.explanation explained)
+    (resolvable (metadata_view c.args.metadata) (ids_view c.args.ids) c.requires.admitted) (numbered g.E.FromEdge.made_from_edge (sheet_view c.in_ok-sketch.sketch.sheet) c.in_ok-graph.graph c.in_ok-graph.ensures.graph.drawing c.in_ok-graph.ensures.within c.in_ok-graph.ensures.limits) members agree c.in_ok-explanation.explanation explained)

@@ -1,7 +1,6 @@
 use Rattle.std.proofs.Common.{◌≡◌, ◌∙◌, sym, refl, subst, true, false, arith, length, ◌<◌}
 use Rattle.krates_ids.specs.Identity.{Identity}
-use Rattle.krates_document.specs.AdmissionSteps.{IsDoubledAmong}
-use Rattle.krates_rules.specs.Resolved.{id_of}
+use Rattle.krates_document.specs.AdmissionSteps.{HasDoubled}
 use Rattle.krates_document.proofs.DistinctIds.{has_seen, seen_more, distinct_more, distinct_all, seen_twice, not_false, not_true}
 use Rattle.krates_document.proofs.admission.expect_distinct.Goals as goal
 
@@ -18,7 +17,7 @@ returns-then-not-branch-clause-refused c =
     let lt : l.kid-index < length c.args.kids.now = omega arith in
     let seen : has_seen l.seen.keys x ≡ true = not_false _ (sym c.if-not-branch.true ∙ c.in_ok-insert.ensures.added) in
     let twice = seen_twice c.comparison.ensures.order c.args.kids.now l.kid-index x lt c.kid-item.is (sym (l.invariant.same x) ∙ seen) in
-    subst (λ (k : Identity). IsDoubledAmong c.args.kids.now (id_of k)) (sym c.in_ok-clone.ensures.cases) twice
+    subst (HasDoubled c.args.kids.now) (sym c.in_ok-clone.ensures.cases) ((l.kid-index, lt, sym c.kid-item.is), twice)
 
 pub loop-kid-preserved : goal.loop-kid-preserved
 loop-kid-preserved c =

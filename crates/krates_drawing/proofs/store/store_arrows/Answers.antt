@@ -13,11 +13,10 @@ loop-x-preserved g c =
     record {
       drawn = zip_more arrow_view (IsStoredAs g.E.FromEdge.made_from_edge) c.args.arrows.now c.loop-x.x-index c.x-item.result c.loop-x.graph.edges c.store_arrow.new.graph.edges a.stored c.loop-x-test.true c.x-item.is i.drawn a.is a.appended;
       count = ap length a.appended ∙ length_push c.loop-x.graph.edges a.stored ∙ ap (λ n. n + 1) i.count;
-      nodes = c.in_ok-store_arrow.ensures.nodes ∙ i.nodes;
-      limit = c.in_ok-store_arrow.ensures.limit ∙ i.limit;
+      rest = c.store_arrow.ensures.rest ∙ ap (λ g. record g { edges = c.store_arrow.new.graph.edges }) i.rest;
     }
 
 pub store_arrow-requires-clause-stands : goal.store_arrow-requires-clause-stands
 store_arrow-requires-clause-stands g c =
     let here = seen_at (HasEnds (length c.args.graph.now.nodes)) arrow_view c.args.arrows.now c.loop-x.x-index c.x-item.result c.requires.stand c.loop-x-test.true c.x-item.is in
-    subst (λ ns. HasEnds (length ns) (arrow_view c.x-item.result)) (sym c.loop-x.invariant.nodes) here
+    subst (λ ns. HasEnds (length ns) (arrow_view c.x-item.result)) (sym (ap (λ g. g.nodes) c.loop-x.invariant.rest)) here

@@ -8,6 +8,5 @@ abbrev pub invariant-loop-x : goal.invariant-loop-x
 invariant-loop-x g l = record {
   drawn : AllZip (IsStoredAs g.E.FromEdge.made_from_edge) (map arrow_view (take l.x-index l.arrows)) l.graph.edges;
   count : length l.graph.edges ≡ l.x-index;
-  nodes : l.graph.nodes ≡ l.fn.graph.nodes;
-  limit : l.graph.edge_limit ≡ l.fn.graph.edge_limit;
+  rest : l.graph ≡ record l.fn.graph { edges = l.graph.edges };
 }

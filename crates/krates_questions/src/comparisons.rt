@@ -1,0 +1,22 @@
+//! Laws of the comparisons of what the questions answer, each the contract of a function that does nothing.
+ghost use Rattle.std.specs.Prelude.{◌≡◌, ◌↔◌, Some, true};
+ghost use Rattle.std.specs.Ordering.{nat_cmp, ordering_then};
+ghost use Rattle.krates_ids.specs.Identity.{IsSameId, id_cmp};
+
+use crate::crate_questions::Presence;
+use crate::referent::Referent;
+
+/// Each presence is equal to itself alone.
+pub fn presences_compared()
+    ensures { (a b : Presence) → (⟦<Presence as PartialEq>⟧.eq a b ≡ true) ↔ (a ≡ b) }
+{}
+
+/// Referents are compared by id and place, in this order.
+pub fn referents_compared()
+    ensures equal { (a b : Referent) → (⟦<Referent<'static> as PartialEq>⟧.eq a b ≡ true)
+        ↔ (IsSameId a.id.now b.id.now) × (a.place ≡ b.place) }
+    ensures partial_order { (a b : Referent) → ⟦<Referent<'static> as PartialOrd>⟧.partial_cmp a b
+        ≡ Some (ordering_then (id_cmp a.id.now b.id.now) (nat_cmp a.place b.place)) }
+    ensures order { (a b : Referent) → ⟦<Referent<'static> as Ord>⟧.cmp a b
+        ≡ ordering_then (id_cmp a.id.now b.id.now) (nat_cmp a.place b.place) }
+{}
