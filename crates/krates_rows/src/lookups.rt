@@ -120,6 +120,11 @@ const LOOKED_UP: &[Row] = &[
     ("a b|b;j= k= / ask features b", "set"),
     ("a b&with=k,j|b;j= k= / ask features b", "set+j+k"),
     ("a b|b|c;j= / ask features c", "none"),
+    (
+        "a b?;b=dep:b w=b?/j s=b/k|b;j= / nodes a b;b w s|b;j k / ask features b",
+        "set+j+k",
+    ),
+    ("a b!|b / ask features b", "set"),
     // a node, of a crate or of its feature
     (
         "a b?;b=dep:b w=b?/j|b;j= / nodes a b;b w|b;j / ask found b j",

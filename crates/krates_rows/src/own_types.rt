@@ -4,7 +4,7 @@ ghost use Rattle.std.specs.Prelude.{⊤};
 
 use krates::cm::Metadata;
 use krates::{Builder, Edge, Error, FilterFn, FromEdge, FromPackage, Krates, Package};
-use krates_samples::documents::metadata;
+use krates_samples::documents::{metadata, section};
 use krates_samples::table::{Question, Row, hold};
 use std::alloc::{AllocError, Global};
 use std::mem;
@@ -44,16 +44,20 @@ impl FromEdge for IsDependency {
     }
 }
 
-/// Builds a document, and hands the names of the packages that aren't kept to a closure, which gathers them.
+/// Builds a document, and hands the names of the packages that aren't kept to a closure, which gathers them. The section `names` of
+/// the line says whether a name means all dependencies that answer to it.
 fn built(
     alloc: Global,
+    line: &str,
     metadata: Metadata,
     names: &mut String,
 ) -> Result<Krates<Named, IsDependency>, Error> {
     let mut filter = FilterFn(|pkg: Package| {
         let _ = names.push_str(pkg.name.as_str());
     });
-    Builder::new(alloc).build_with_metadata(metadata, &mut filter)
+    let mut builder = Builder::new(alloc);
+    builder.all_named(section(line, "names all").is_some());
+    builder.build_with_metadata(metadata, &mut filter)
 }
 
 /// Adds the names of the kept crates.
@@ -96,7 +100,7 @@ impl Question for Own {
     fn told(alloc: Global, line: &str) -> Result<String, Fail> {
         let metadata = metadata(alloc, line)?;
         let mut names = String::new(alloc);
-        let built = built(alloc, metadata, &mut names);
+        let built = built(alloc, line, metadata, &mut names);
         told_of(alloc, &built, names.as_str())
     }
 }
@@ -124,6 +128,40 @@ const OWN: &[Row] = &[
         "lost package: path+file:///w/b#0.1.0, closure ",
     ),
     ("a|c / members", "no root crates available, closure "),
+    (
+        "a|c / nodes a|a",
+        "doubled id: path+file:///w/a#0.1.0, closure ",
+    ),
+    (
+        "a b|b|c / nodes a b b|b",
+        "doubled id: path+file:///w/b#0.1.0, closure ",
+    ),
+    (
+        "a|c / nodes a b@1",
+        "invalid package id: path+file:///w/b#b@1, closure ",
+    ),
+    // a feature that is asked for and isn't listed, with a package that nobody needs and without
+    (
+        "a b;x=b/nope|b",
+        "lost feature: nope of path+file:///w/b#0.1.0, closure ",
+    ),
+    (
+        "a b;x=b/nope|b|c",
+        "lost feature: nope of path+file:///w/b#0.1.0, closure ",
+    ),
+    // two versions, of which the least lists it: the other is reported, and where the name means both, nothing is
+    (
+        "a d?;x=d/j|d@0.10.0;j=|d@0.9.0 / nodes a d@0.10.0 d@0.9.0;x|d@0.10.0;j|d@0.9.0",
+        "ad>::::, closure d",
+    ),
+    (
+        "a d?;x=d/j|d@0.10.0;j=|d@0.9.0 / nodes a d@0.10.0 d@0.9.0;x|d@0.10.0;j|d@0.9.0 / names all",
+        "lost feature: j of path+file:///w/d#d@0.9.0, closure ",
+    ),
+    (
+        "a d?;x=d/j|c|d@0.10.0;j=|d@0.9.0 / nodes a d@0.10.0 d@0.9.0;x|d@0.10.0;j|d@0.9.0 / names all",
+        "lost feature: j of path+file:///w/d#d@0.9.0, closure ",
+    ),
 ];
 
 #[test]
