@@ -63,19 +63,19 @@ pub struct Derivation {
 #[derive(Clone, Copy, Debug, PartialEq, Eq, Error)]
 pub enum CheckError {
     /// The document isn't admitted: it has no resolved graph, an id that isn't read, or a doubled one.
-    #[error("the document isn't admitted")]
+    #[error("bad document")]
     Document,
     /// There is no step.
-    #[error("no step")]
+    #[error("empty derivation")]
     Empty,
     /// The first step that doesn't follow.
-    #[error("step {0} doesn't follow")]
+    #[error("step {0} does not follow")]
     Step(usize),
     /// Memory ran out.
     #[error("out of memory")]
     Memory,
     /// A fact that follows from the list isn't in it.
-    #[error("a fact that follows isn't in the list")]
+    #[error("open list")]
     Open,
 }
 
