@@ -188,59 +188,7 @@ const LOOKED_UP: &[Row] = &[
     ("a b&with=j|b;j= / ask krate 2", "none"),
 ];
 
-/// Adds a crate of which another version or source is kept too.
-fn push_duplicate(text: &mut String, krates: &Krates, krate: &Package) -> Result<(), AllocError> {
-    let mut same = krates.krates_by_name(krate.name());
-    if same.next().is_some() && same.next().is_some() {
-        return write!(text, " {} {}", krate.name(), krate.version());
-    }
-    Ok(())
-}
-
-/// The crates of which another version or source is kept too.
-struct Duplicates;
-
-impl Told<Package> for Duplicates {
-    fn push(text: &mut String, krates: &Krates, _line: &str) -> Result<(), Fail> {
-        for krate in krates.krates() {
-            push_duplicate(text, krates, krate)?;
-        }
-        Ok(())
-    }
-}
-
-const DUPLICATES: &[Row] = &[
-    (
-        "a d e|d@0.10.0|d@0.9.0|e / nodes a d@0.10.0 d@0.9.0 e|d@0.10.0|d@0.9.0|e",
-        " d 0.10.0 d 0.9.0",
-    ),
-    ("a b|b", ""),
-];
-
-/// The versions of all crates of a name, divided by bars.
-struct Versions;
-
-impl Told<Package> for Versions {
-    fn push(text: &mut String, krates: &Krates, _line: &str) -> Result<(), Fail> {
-        for found in krates.krates_by_name("d") {
-            write!(text, "{}|", found.krate.version())?;
-        }
-        Ok(())
-    }
-}
-
-const VERSIONS: &[Row] = &[
-    (
-        "a d|d@0.10.0|d@0.9.0 / nodes a d@0.10.0 d@0.9.0|d@0.10.0|d@0.9.0",
-        "0.10.0|0.9.0|",
-    ),
-    ("a b|b", ""),
-];
-
 #[test]
 fn crates_that_are_looked_up(rt: HostRuntime) -> Result<(), Fail> {
-    let alloc = rt.alloc();
-    hold::<OfGraph<LookedUp>>(alloc, LOOKED_UP)?;
-    hold::<OfGraph<Duplicates>>(alloc, DUPLICATES)?;
-    hold::<OfGraph<Versions>>(alloc, VERSIONS)
+    hold::<OfGraph<LookedUp>>(rt.alloc(), LOOKED_UP)
 }
