@@ -1,6 +1,6 @@
 //! Builds, and runs of the program, over the document that a stand-in for cargo writes.
 
-ghost use Rattle.std.specs.Prelude.{⊤};
+ghost use Rattle.std.specs.Prelude.{◌≡◌, ⊤};
 
 use crate::stand_in::command;
 use crate::table::{Question, Row, hold, hold_beginnings};
@@ -61,13 +61,20 @@ fn outcome(
     }
 }
 
+/// Sets of the builder what a setting asks.
+fn set(builder: &mut Builder, setting: &str)
+    ensures index { builder.new.index ≡ builder.old.index }
+{
+    if setting == "ignore dev" {
+        builder.ignore_kind(DepKind::Dev, Scope::All);
+    }
+}
+
 /// The answer of a build by this command under this setting.
 fn told(rt: &HostRuntime, command: MetadataCommand, setting: &str) -> Result<String, Fail> {
     let mut count = Count { packages: 0 };
     let mut builder = Builder::new(rt.alloc());
-    if setting == "ignore dev" {
-        builder.ignore_kind(DepKind::Dev, Scope::All);
-    }
+    set(&mut builder, setting);
     let built: Result<Krates, Error> = builder.build(command, None, rt, &mut count);
     Ok(outcome(rt.alloc(), count.packages, &built)?)
 }
