@@ -182,6 +182,23 @@ const LOOKED_UP: &[Row] = &[
     ("b dd&with=j d|d|dd;j= / members b / ask name e", ""),
     // a package of the name that isn't kept
     ("a|b / ask name b", ""),
+    // a package whose directory has another name, which is the one that its id has
+    (
+        "a real&id=path+file:///w/dir#0.1.0|real&id=path+file:///w/dir#0.1.0 / ask name real",
+        " 1=dir(0.1.0)",
+    ),
+    (
+        "a real&id=path+file:///w/dir#0.1.0|real&id=path+file:///w/dir#0.1.0 / ask name dir",
+        "",
+    ),
+    (
+        "a real&id=path+file:///w/dir#0.1.0|real&id=path+file:///w/dir#0.1.0 / ask search real =0.1.0",
+        " 1=dir(0.1.0)",
+    ),
+    (
+        "a real&id=path+file:///w/dir#0.1.0|real&id=path+file:///w/dir#0.1.0 / ask search dir =0.1.0",
+        "",
+    ),
     // crates of a number
     ("a b|b;j= / ask krate 0", "a a"),
     ("a b|b;j= / ask krate 1", "b b"),
