@@ -28,7 +28,8 @@ What has to be read, to know what is proved, are the contract and the {count} de
 - {fields} lines are beyond it, and say nothing new: they list the fields of a document, of what an index answers, of a setting and of
   a document's ids, as clauses see them. Every other definition names such fields, so they stand here too.
 
-Each definition is explained before it is used, with the sentence that stands above it in its file.
+The files stand in the order in which they are first needed, and the definitions of a file behind those of it that they use, each with
+the sentence that stands above it there.{bare}
 
 ```
 {contract}
@@ -207,7 +208,10 @@ def page():
     fields = lines_of(definition for definition in order if lists_fields(definition))
     drawn = lines_of(definition for definition in order if is_drawn(definition) and not lists_fields(definition))
     meaning = lines - drawn - fields
-    head = {"source": SOURCE, "count": len(order), "lines": lines, "meaning": meaning, "drawn": drawn, "fields": fields, "files": len(files)}
+    bare = [f"`{definition.name}`" for definition in order if not definition.remark]
+    told = f" {len(bare)} have none, and are to be read as they stand: {', '.join(bare)}." if bare else ""
+    head = {"bare": told, "source": SOURCE, "count": len(order), "lines": lines, "files": len(files)}
+    head |= {"meaning": meaning, "drawn": drawn, "fields": fields}
     out = [HEAD.format(contract="\n".join(clauses), **head), LAWS]
     for file in files:
         place = file.path.relative_to(ROOT)

@@ -4,7 +4,8 @@
 #     scripts/must_not_compile.sh [CRATE..]
 #
 # Without a name, those of all crates. Such an edit has the lines of a wrong body, `file:`, `old:` and `new:`, and a line `error:`
-# with the name of the error that the compiler has to give. Nothing is proved; all of it happens in a copy of the working tree.
+# with the name of the error that the compiler has to give. Nothing is proved or built, in half a minute; all of it happens in a copy of
+# the working tree.
 #
 # Prints each edit that isn't refused so, and then how many were. The status is 0 where every edit was refused, and there was one.
 
@@ -19,13 +20,8 @@ if [ ${#crates[@]} -eq 0 ]; then
     mapfile -t crates < <(sed -n 's/^\([a-z0-9_]*\)[^:]*:.*/\1/p' crates.txt)
 fi
 
-# What git knows or would add, and the libraries that are built.
+# What git knows or would add.
 git ls-files -z --cached --others --exclude-standard | xargs -0 ls -d 2> "$room/gone" | tar -cf - -T - | tar -xf - -C "$room"
-for library in crates/*/out/rlib; do
-    [ -d "$library" ] || continue
-    mkdir -p "$room/$(dirname "$library")"
-    cp -r "$library" "$room/$library"
-done
 
 # The rest of the edit's line that begins so.
 line_of() {
@@ -57,8 +53,7 @@ for crate in "${crates[@]}"; do
         file=$(line_of "$edit" file)
         cp "$file" "$room/kept"
         apply "$edit"
-        # the code is compiled, and no function has this name, so that nothing is left to be proved
-        said=$(rt check --test --only no_function 2>&1 || true)
+        said=$("$room/scripts/front_end.py" "$room" "$crate" --test || true)
         cp "$room/kept" "$file"
         if grep -q "^$file:.*error\[$(line_of "$edit" error)\]" <<< "$said"; then
             refused=$((refused + 1))

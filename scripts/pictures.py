@@ -2,10 +2,12 @@
 """Draws the pictures of docs/pictures, by Graphviz's `dot`.
 
     scripts/pictures.py           writes them
-    scripts/pictures.py --check   says whether the picture of the crates is of the crates.txt that stands
+    scripts/pictures.py --check   says whether each picture is of what stands: of crates.txt, and of the lists in this script
 
-A reader needs neither this script nor Graphviz: the pictures are committed.
+A reader needs neither this script nor Graphviz, and neither does --check: the pictures are committed, and each ends with the checksum of the
+text that it was drawn from.
 """
+import hashlib
 import pathlib
 import subprocess
 import sys
@@ -141,7 +143,7 @@ LAYERS = [
         ("corpus", "real documents, lists and graphs\\nscripts/compare_*.sh"),
     ]),
     ("trusted", "trusted", [
-        ("kit", "the toolchain and its logic, the C library,\\nthe statements of serde_json, semver, percent_encoding"),
+        ("kit", "the toolchain and its logic, the C library,\\nthe statements of serde_json, json, fast_float,\\nsemver and percent_encoding"),
     ]),
 ]
 
@@ -174,10 +176,28 @@ def proof_picture():
 PICTURES = {"crates": crates_picture, "example": example_picture, "proof": proof_picture}
 
 
+def mark(text):
+    """The last line of a picture that is drawn from the text."""
+    return f"<!-- drawn from a text with the SHA-256 {hashlib.sha256(text.encode()).hexdigest()} -->\n"
+
+
+def is_stale(name, text):
+    """Whether a picture, or the text that is committed beside it, is of something else."""
+    return (FOLDER / f"{name}.dot").read_text() != text or not (FOLDER / f"{name}.svg").read_text().endswith(mark(text))
+
+
+def draw(name, text):
+    source, picture = FOLDER / f"{name}.dot", FOLDER / f"{name}.svg"
+    source.write_text(text)
+    subprocess.run(["dot", "-Tsvg", "-o", str(picture), str(source)], check=True)
+    with open(picture, "a", encoding="utf-8") as file:
+        file.write(mark(text))
+
+
 def main(words):
     FOLDER.mkdir(exist_ok=True)
     if words == ["--check"]:
-        stale = [name for name, text in PICTURES.items() if (FOLDER / f"{name}.dot").read_text() != text() + "\n"]
+        stale = [name for name, text in PICTURES.items() if is_stale(name, text() + "\n")]
         for name in stale:
             print(f"docs/pictures/{name}.svg isn't of what stands: run scripts/pictures.py", file=sys.stderr)
         return 1 if stale else 0
@@ -185,9 +205,7 @@ def main(words):
         print(__doc__, file=sys.stderr)
         return 2
     for name, text in PICTURES.items():
-        source = FOLDER / f"{name}.dot"
-        source.write_text(text() + "\n")
-        subprocess.run(["dot", "-Tsvg", "-o", str(FOLDER / f"{name}.svg"), str(source)], check=True)
+        draw(name, text() + "\n")
     return 0
 
 

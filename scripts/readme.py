@@ -1,19 +1,43 @@
 #!/usr/bin/env python3
-"""Says whether the examples of the README and of the guide are code that the gate runs.
+"""Says whether the examples of the README and of the guide are code that the gate runs, and whether they compile as they stand.
 
-    scripts/readme.py
+    scripts/readme.py             compares them with the sources
+    scripts/readme.py --compile   compiles each block alone
 
 Each block of Rattle's code in README.md and in docs/GUIDE.md has to stand, line by line, in a file readme.rt of a crate of worked
-examples or in a file of krates_reports: in one piece, but for lines that begin with `use `, which may stand anywhere in the file,
-and for lines of comment. The status is 0 where each does, and each page has one.
+examples or in a file of krates_reports: in one piece, but for what it imports, which the file has to import too, and for lines of comment.
+
+With --compile, each block is a module of its own, word by word, of a crate of tests in a copy of the working tree, which `rt try`
+compiles; nothing is proved. It takes a minute.
+
+The status is 0 where each block is so, and each page has one.
 """
 import pathlib
 import re
+import subprocess
 import sys
+import tempfile
 
 ROOT = pathlib.Path(__file__).resolve().parent.parent
 PAGES = ("README.md", "docs/GUIDE.md")
 FILES = ("crates/*_rows/src/readme.rt", "crates/krates_reports/src/*.rt")
+
+# The crate whose modules are the blocks, what its line in crates.txt names, and its root file.
+NAME = "page_blocks"
+USES = "krates serde_json"
+HEAD = """//! The blocks of the pages, each a module of its own.
+#![tactic(auto)]
+
+#[cfg(test)]
+mod nothing {
+    use std::test::Fail;
+
+    #[test]
+    fn nothing() -> Result<(), Fail> {
+        Ok(())
+    }
+}
+"""
 
 
 def blocks(text):
@@ -21,33 +45,92 @@ def blocks(text):
     return re.findall(r"^```rust\n(.*?)^```$", text, re.M | re.S)
 
 
+def paths(tree, above=""):
+    """The names that the tree of a `use` brings in, each with its whole path."""
+    head, opened, inner = tree.strip().partition("{")
+    if not opened:
+        return {above + head}
+    parts, depth, start = [], 0, 0
+    inner = inner.rstrip().removesuffix("}")
+    for at, sign in enumerate(inner + ","):
+        depth += {"{": 1, "}": -1}.get(sign, 0)
+        if sign == "," and depth == 0:
+            parts.append(inner[start:at])
+            start = at + 1
+    return {path for part in parts if part.strip() for path in paths(part, above + head)}
+
+
+def imports(text):
+    """The names that a text imports, each with its whole path."""
+    return {path for tree in re.findall(r"^use ([^;]*);", text, re.M) for path in paths(tree)}
+
+
 def lines(text):
-    """The lines of code: without those that are blank or comments."""
-    return [line for line in text.splitlines() if line.strip() and not line.strip().startswith("//")]
+    """The lines of code: without imports, and without those that are blank or comments."""
+    code = re.sub(r"^use [^;]*;\n", "", text, flags=re.M)
+    return [line for line in code.splitlines() if line.strip() and not line.strip().startswith("//")]
 
 
 def stands_in(block, file):
-    """Whether the lines of the block stand in the file, in one piece but for lines that bring names in."""
-    wanted = lines(block)
-    there = lines(file)
-    imports = [line for line in wanted if line.startswith("use ")]
-    code = [line for line in wanted if not line.startswith("use ")]
-    pieces = (there[at : at + len(code)] for at in range(len(there)))
-    return all(line in there for line in imports) and code in pieces
+    """Whether the lines of the block stand in the file, in one piece, and the file imports what the block does."""
+    wanted, there = lines(block), lines(file)
+    pieces = (there[at : at + len(wanted)] for at in range(len(there)))
+    return imports(block) <= imports(file) and wanted in pieces
 
 
-def main():
-    paths = [path for pattern in FILES for path in sorted(ROOT.glob(pattern))]
-    files = [path.read_text(encoding="utf-8") for path in paths]
-    has_failed = False
-    for page in PAGES:
-        examples = blocks((ROOT / page).read_text(encoding="utf-8"))
-        missing = [block for block in examples if not any(stands_in(block, file) for file in files)]
-        for block in missing:
-            print(f"{page}: nothing that the gate runs has the example that begins so:\n" + "\n".join(lines(block)[:3]))
-        print(f"{page}: {len(examples) - len(missing)} of {len(examples)} examples stand in code that the gate runs")
-        has_failed = has_failed or not examples or bool(missing)
-    return 1 if has_failed else 0
+def compare(examples, page):
+    """Whether each block of the page stands in a source; prints those that don't."""
+    sources = [path for pattern in FILES for path in sorted(ROOT.glob(pattern))]
+    files = [path.read_text(encoding="utf-8") for path in sources]
+    missing = [block for block in examples if not any(stands_in(block, file) for file in files)]
+    for block in missing:
+        print(f"{page}: nothing that the gate runs has the example that begins so:\n" + "\n".join(lines(block)[:3]))
+    print(f"{page}: {len(examples) - len(missing)} of {len(examples)} examples stand in code that the gate runs")
+    return bool(examples) and not missing
 
 
-sys.exit(main())
+def copy_tree(folder):
+    """Copies what git knows or would add into a folder."""
+    listed = ["git", "ls-files", "-z", "--cached", "--others", "--exclude-standard"]
+    known = subprocess.run(listed, cwd=ROOT, check=True, stdout=subprocess.PIPE).stdout.decode().split("\0")
+    for name in filter(None, known):
+        if (ROOT / name).is_file():
+            (folder / name).parent.mkdir(parents=True, exist_ok=True)
+            (folder / name).write_bytes((ROOT / name).read_bytes())
+
+
+def compile_all(pages):
+    """Whether the blocks of the pages compile, each as a module; prints what the compiler says of them, where they don't."""
+    with tempfile.TemporaryDirectory(prefix="pages-") as name:
+        folder = pathlib.Path(name)
+        copy_tree(folder)
+        source = folder / "crates" / NAME / "src"
+        source.mkdir(parents=True)
+        modules = []
+        for page, examples in pages.items():
+            for number, block in enumerate(examples, 1):
+                modules.append(f"{pathlib.Path(page).stem.lower()}_{number}")
+                (source / f"{modules[-1]}.rt").write_text(block, encoding="utf-8")
+        (source / "lib.rt").write_text(HEAD + "".join(f"mod {module};\n" for module in modules), encoding="utf-8")
+        with open(folder / "crates.txt", "a", encoding="utf-8") as file:
+            file.write(f"{NAME}: {USES}\n")
+        how = {"cwd": source.parent, "stdin": subprocess.DEVNULL, "stdout": subprocess.PIPE, "stderr": subprocess.STDOUT}
+        ran = subprocess.run(["rt", "try", "--test"], encoding="utf-8", errors="replace", **how)
+    if ran.returncode:
+        print(ran.stdout, end="")
+    else:
+        print(f"{len(modules)} blocks compile as they stand")
+    return ran.returncode == 0
+
+
+def main(words):
+    if words not in ([], ["--compile"]):
+        print(__doc__, file=sys.stderr)
+        return 2
+    pages = {page: blocks((ROOT / page).read_text(encoding="utf-8")) for page in PAGES}
+    if words:
+        return 0 if compile_all(pages) else 1
+    return 0 if all([compare(examples, page) for page, examples in pages.items()]) else 1
+
+
+sys.exit(main(sys.argv[1:]))

@@ -20,6 +20,9 @@ ROOT = pathlib.Path(__file__).resolve().parent.parent
 # What only tests use, and parts of lists of steps, of which no public answer is made yet.
 LEFT_OUT = ("krates_samples", "krates_stand_in", "krates_steps")
 
+# The files whose public functions are laws.
+LAWS = ("laws.rt", "comparisons.rt")
+
 # The calls that the crates above make for their own answers, by the call whose worked examples show them. A body that always gave up
 # would be seen there.
 SHOWN_BY = {
@@ -111,7 +114,7 @@ def untested(tests):
     for source in libraries():
         names = nameable(source)
         for path in sorted(source.rglob("*.rt")):
-            if path.name == "laws.rt":
+            if path.name in LAWS:
                 continue
             is_public = is_in_public_module(source, path)
             for owner, name, is_method, line in calls(path):

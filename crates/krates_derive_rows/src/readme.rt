@@ -1,39 +1,49 @@
-//! The example of the README.
+//! The examples of the README and the guide, which the gate compares with this file, and what they answer.
 
 use crate::lists::{Ask, Given, OfLine};
-use krates::Builder;
-use krates::derive::{Derivation, Fact, Step, check, check_closed};
-use krates_cm::Metadata;
+use krates::derive::{CheckError, Derivation, Fact, Step, check, check_closed};
+use krates::{Builder, Kid, Metadata};
 use krates_samples::documents::kid_of;
 use krates_samples::table::{Row, hold};
-use std::alloc::Global;
+use std::alloc::{AllocError, Global};
 use std::test::Fail;
 
-/// Whether one step shows that `a` is kept.
-fn shown(alloc: Global, metadata: &Metadata, builder: &Builder) -> Result<&'static str, Fail> {
-    let a = Fact::Crate(kid_of(alloc, "a")?);
+/// Whether one step shows that a crate is kept: that it is a root.
+fn shown(
+    alloc: Global,
+    metadata: &Metadata,
+    builder: &Builder,
+    krate: Kid,
+) -> Result<&'static str, AllocError> {
+    let fact = Fact::Crate(krate);
+    let uses = Vec::new(alloc);
     let steps = vec![in alloc;
         Step {
             rule: 1,
-            fact: a,
-            uses: Vec::new(alloc)
+            fact,
+            uses
         },
     ]?;
-    Ok(
-        match check(metadata, builder, None, &Derivation { steps }) {
-            Ok(()) => "a is kept, since it is a root",
-            Err(_) => "that a is a root doesn't follow",
-        },
-    )
+    match check(metadata, builder, None, &Derivation { steps }) {
+        Ok(()) => Ok("it is kept, since it is a root"),
+        Err(CheckError::Memory) => Err(AllocError),
+        Err(_) => Ok("that it is a root doesn't follow"),
+    }
 }
 
-/// Whether nothing but `a` can be reached.
-fn bounded(alloc: Global, metadata: &Metadata, builder: &Builder) -> Result<&'static str, Fail> {
-    let facts = vec![in alloc; Fact::Crate(kid_of(alloc, "a")?)]?;
-    Ok(match check_closed(metadata, builder, None, &facts) {
-        Ok(()) => "nothing else can be reached",
-        Err(_) => "something else follows",
-    })
+/// Whether nothing but this crate can be reached, in a document that can be resolved.
+fn bounded(
+    alloc: Global,
+    metadata: &Metadata,
+    builder: &Builder,
+    only: Kid,
+) -> Result<&'static str, AllocError> {
+    let facts = vec![in alloc; Fact::Crate(only)]?;
+    match check_closed(metadata, builder, None, &facts) {
+        Ok(()) => Ok("nothing else can be reached"),
+        Err(CheckError::Memory) => Err(AllocError),
+        Err(_) => Ok("something else follows"),
+    }
 }
 
 /// What the example tells of the document and the builder of a line.
@@ -43,24 +53,25 @@ impl Ask for Example {
     type Set = Builder;
 
     fn told(given: &Given<'_, Builder>, _: &str) -> Result<String, Fail> {
-        let shown = shown(given.alloc, given.metadata, given.set)?;
-        let bounded = bounded(given.alloc, given.metadata, given.set)?;
-        Ok(format!(in given.alloc; "{shown}; {bounded}")?)
+        let alloc = given.alloc;
+        let shown = shown(alloc, given.metadata, given.set, kid_of(alloc, "a")?)?;
+        let bounded = bounded(alloc, given.metadata, given.set, kid_of(alloc, "a")?)?;
+        Ok(format!(in alloc; "{shown}; {bounded}")?)
     }
 }
 
 const TOLD: &[Row] = &[
     (
         "a b&dev|b",
-        "a is kept, since it is a root; something else follows",
+        "it is kept, since it is a root; something else follows",
     ),
     (
         "a b&dev|b / ignore dev",
-        "a is kept, since it is a root; nothing else can be reached",
+        "it is kept, since it is a root; nothing else can be reached",
     ),
     (
         "a b&dev|b / members b",
-        "that a is a root doesn't follow; something else follows",
+        "that it is a root doesn't follow; something else follows",
     ),
 ];
 

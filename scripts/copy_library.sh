@@ -1,0 +1,52 @@
+#!/usr/bin/env bash
+# Copies the library into a repository of your own: the crate `krates` and all crates on which it stands.
+#
+#     scripts/copy_library.sh FOLDER
+#
+# FOLDER is the top of that repository; it is made where it isn't there. Each crate's src/, specs/ and proofs/ go to FOLDER/crates, in place
+# of what stands there under its name; so do their lines in FOLDER/crates.txt. HANDLES is copied where there is none,
+# and the licences go beside the crates, as crates/krates/LICENSE-MIT and LICENSE-APACHE. Names each crate that it copies.
+
+set -euo pipefail
+
+if [ $# -ne 1 ]; then
+    sed -n '2,/^$/s/^# \{0,1\}//p' "$0" >&2
+    exit 2
+fi
+mkdir -p "$1"
+target=$(cd "$1" && pwd)
+cd "$(dirname "$0")/.."
+
+# The crates of this repository that the line of a crate names.
+named_by() {
+    sed -n "s/^$1://p" crates.txt | tr ' ' '\n' | while read -r name; do
+        if [ -n "$name" ] && [ -d "crates/$name" ]; then echo "$name"; fi
+    done
+}
+
+# The crate, and all on which it stands, each once.
+declare -A seen=()
+found=()
+visit() {
+    [ -z "${seen[$1]:-}" ] || return 0
+    seen[$1]=1
+    local name
+    for name in $(named_by "$1"); do visit "$name"; done
+    found+=("$1")
+}
+visit krates
+
+touch "$target/crates.txt"
+for name in "${found[@]}"; do
+    rm -rf "$target/crates/$name"
+    for part in src specs proofs; do
+        [ -d "crates/$name/$part" ] || continue
+        mkdir -p "$target/crates/$name"
+        cp -r "crates/$name/$part" "$target/crates/$name/$part"
+    done
+    sed -i "/^$name:/d" "$target/crates.txt"
+    grep "^$name:" crates.txt >> "$target/crates.txt"
+    echo "$name"
+done
+[ -f "$target/HANDLES" ] || cp HANDLES "$target/HANDLES"
+cp LICENSE-MIT LICENSE-APACHE "$target/crates/krates/"

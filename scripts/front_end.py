@@ -1,0 +1,87 @@
+#!/usr/bin/env python3
+"""Compiles a crate of a repository without proving or building anything: the libraries below it are read as sources.
+
+    scripts/front_end.py FOLDER CRATE [--test]
+
+FOLDER is the top of the repository, with its crates.txt; with --test the crate's tests are compiled too. Prints what the compiler
+says. The status is 0 where the crate compiles. `rt check --only` says the same, but builds the libraries below first.
+"""
+import pathlib
+import re
+import shutil
+import subprocess
+import sys
+
+# What a line of crates.txt doesn't name and the compiler wants for each crate.
+ALWAYS = ["std"]
+
+
+def kit():
+    """The folder of the toolchain whose `rt` is on the path."""
+    found = shutil.which("rt")
+    if not found:
+        sys.exit("rt isn't on the path")
+    return pathlib.Path(found).resolve().parent.parent
+
+
+def crates(root):
+    """The crates of the repository, each with the libraries that its line names."""
+    lines = [line.split("#")[0] for line in (root / "crates.txt").read_text(encoding="utf-8").splitlines()]
+    pairs = [line.split(":") for line in lines if ":" in line]
+    return {name.split()[0]: rest.split() for name, rest in pairs}
+
+
+def below(known, name):
+    """The libraries of the repository below a crate, each after those that it uses."""
+    found = []
+    for one in known[name]:
+        if one in known:
+            found += [it for it in below(known, one) + [one] if it not in found]
+    return found
+
+
+def words(root, name, tests):
+    """The compiler's words for the crate: the libraries of the toolchain as built, those of the repository as sources."""
+    at, known = kit(), crates(root)
+    libraries = below(known, name)
+    of_kit = dict.fromkeys(ALWAYS + [it for one in libraries + [name] for it in known[one] if it not in known])
+    source = "src/main.rt" if (root / "crates" / name / "src/main.rt").exists() else "src/lib.rt"
+    given = [at / "bin/rattle", "check", "--crate-name", name, source]
+    for one in ["core", *of_kit]:
+        given += ["--extern", f"{one}={at}/rlibs/{one}.rlib"]
+    given += ["-L", f"dependency={at}/rlibs"]
+    for one in libraries:
+        used = ",".join(dict.fromkeys(["core", *ALWAYS, *known[one]]))
+        given += ["--lib", f"{one}:{used}={root}/crates/{one}/src/lib.rt"]
+    given += ["--antt-project", f"{at}/rattle/logic/antt-project.json", "--logic-built", f"{at}/logic_built"]
+    # the part to prove is empty, so that nothing is proved
+    return [*given, "--links", f"{name}=", "--jobs", "1", "--only", "", *["--test"] * tests]
+
+
+def compiled(root, name, tests=False):
+    """Whether the crate compiles, and what the compiler says."""
+    ran = subprocess.run(
+        [str(it) for it in words(root, name, tests)],
+        cwd=root / "crates" / name,
+        stdin=subprocess.DEVNULL,
+        stdout=subprocess.PIPE,
+        stderr=subprocess.STDOUT,
+        encoding="utf-8",
+        errors="replace",
+    )
+    return bool(re.search(r"^only=", ran.stdout, re.M)), ran.stdout
+
+
+def main(given):
+    tests = "--test" in given
+    given = [word for word in given if word != "--test"]
+    if len(given) != 2:
+        print(__doc__, file=sys.stderr)
+        return 2
+    compiles, said = compiled(pathlib.Path(given[0]).resolve(), given[1], tests)
+    print(said, end="")
+    return 0 if compiles else 1
+
+
+if __name__ == "__main__":
+    sys.exit(main(sys.argv[1:]))
