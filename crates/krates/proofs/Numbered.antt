@@ -12,6 +12,7 @@ use Rattle.krates_graph.specs.Graph.{StoredGraph}
 use Rattle.krates_ids.specs.declared.error.Error.{Error}
 use Rattle.krates_ids.specs.declared.error.Error.TheVariants as errors
 use Rattle.krates_rules.specs.Facts.{Lost}
+use Rattle.krates_rules.specs.NamedIds.{NamesReadIds}
 use Rattle.krates_rules.specs.Setting.{SettingModel}
 use Rattle.krates.specs.Build.{GraphRefusal}
 use Rattle.krates_queries.specs.Drawn.{IsDrawing, IsNumbered, IsSheetFor, node_spot}
@@ -73,6 +74,18 @@ undrawn m s t h (errors.Doubled kid) d = absurd d
 undrawn m s t h (errors.Lost what) d = absurd d
 undrawn m s t h errors.TooMany d = too_many m s t h d
 undrawn m s t h errors.Memory d = tt
+
+-- it names no id
+pub undrawn_names : (m : MetadataModel) (t : Sheet) (e : Error) → DrawingRefusal numbers t e → NamesReadIds m e
+undrawn_names m t errors.NoResolveGraph d = absurd d
+undrawn_names m t (errors.Metadata inner) d = absurd d
+undrawn_names m t (errors.InvalidPkgSpec text) d = absurd d
+undrawn_names m t errors.NoRootKrates d = absurd d
+undrawn_names m t (errors.InvalidId text) d = absurd d
+undrawn_names m t (errors.Doubled kid) d = absurd d
+undrawn_names m t (errors.Lost what) d = absurd d
+undrawn_names m t errors.TooMany d = tt
+undrawn_names m t errors.Memory d = tt
 
 -- ---- within them
 

@@ -1,14 +1,16 @@
 -- A correction changes no id, so a document whose packages are corrected is admitted with the same ids.
-use Rattle.std.proofs.Common.{◌≡◌, List, [], ◌∷◌, Option, Some, None, map, refl, sym, ap, ◌∙◌, subst}
-use Rattle.std.specs.List.{AllZip}
-use Rattle.krates_cm.specs.Document.{MetadataModel, ResolveModel, PackageModel, id_view, package_view, metadata_view}
+use Rattle.std.proofs.Common.{◌≡◌, List, [], ◌∷◌, Option, Some, None, Contains, map, refl, sym, ap, ◌∙◌, subst}
+use Rattle.std.specs.List.{AllByRecursion, AllZip}
+use Rattle.krates_cm.specs.Document.{MetadataModel, ResolveModel, PackageModel, Text, id_view, package_view, metadata_view}
 use Rattle.krates_cm.specs.declared.metadata.Metadata.{Metadata}
 use Rattle.krates_cm.specs.declared.package.Package.{Package}
 use Rattle.krates_drawing.specs.declared.edge.Edge.{Edge}
-use Rattle.krates_ids.specs.Identity.{Reads}
+use Rattle.krates_ids.specs.Identity.{Identity, Reads}
 use Rattle.krates_ids.specs.declared.index.IndexAnswer.{IndexAnswer}
-use Rattle.krates_rules.specs.Admission.{IsAdmitted, IsDoubled, IsDoubledIn, package_texts, doubled_package, doubled_node, doubled_dep, IdsModel}
+use Rattle.krates_rules.specs.Admission.{IsAdmitted, IsDoubled, IsDoubledIn, StandsForId, package_texts, doubled_package, doubled_node, doubled_dep, of_package, of_member, of_root, of_node, of_dep, IdsModel}
 use Rattle.krates_rules.specs.Facts.{Id}
+use Rattle.krates_rules.specs.NamedIds.{IsReadOf, NamesReadIds, named_ids}
+use Rattle.krates_rules.specs.Resolved.{HasGraphWith, resolved}
 use Rattle.std.specs.Prelude.{Result, Ok, Err, IfOk, IfErr}
 use Rattle.krates_ids.specs.declared.error.Error.{Error}
 use Rattle.krates_ids.specs.declared.error.Error.TheVariants as errors
@@ -85,6 +87,39 @@ refused_as may_answer index given seen s r is_seen (errors.Doubled kid) h = absu
 refused_as may_answer index given seen s r is_seen (errors.Lost what) h = (r, record { seen = seen; is_seen = is_seen; holds = h })
 refused_as may_answer index given seen s r is_seen errors.TooMany h = (r, record { seen = seen; is_seen = is_seen; holds = h })
 refused_as may_answer index given seen s r is_seen errors.Memory h = tt
+
+-- the texts that have to be ids are the same, so the ids that are read of the corrected document are read of the given one
+same_stands : (m n : MetadataModel) (g : ResolveModel) (t : Text) → n.workspace_members ≡ m.workspace_members → package_texts n ≡ package_texts m → StandsForId n g t → StandsForId m g t
+same_stands m n g t members texts (of_package among) = of_package (subst (λ ts. Contains ts t) texts among)
+same_stands m n g t members texts (of_member among) = of_member (subst (λ ts. Contains ts t) members among)
+same_stands m n g t members texts (of_root is) = of_root is
+same_stands m n g t members texts (of_node among) = of_node among
+same_stands m n g t members texts (of_dep node among has) = of_dep node among has
+
+each_read : (m n : MetadataModel) (ids : List Identity) → n.resolve ≡ m.resolve → n.workspace_members ≡ m.workspace_members → package_texts n ≡ package_texts m
+    → AllByRecursion (λ id. HasGraphWith n (λ g. IsReadOf (resolved n g) id)) ids → AllByRecursion (λ id. HasGraphWith m (λ g. IsReadOf (resolved m g) id)) ids
+each_read m n [] graph members texts all = tt
+each_read m n (id ∷ ids) graph members texts all =
+    let h = all.0 in
+    let read = h.holds in
+    (record { graph = h.graph; has_graph = sym graph ∙ h.has_graph; holds = (read.0, same_stands m n h.graph read.0 members texts read.1, read.2) }, each_read m n ids graph members texts all.1)
+
+named_corrected : (answer : IndexAnswer) (given seen : Metadata) (e : Error) → IsCorrectedDocument answer given seen → NamesReadIds (metadata_view seen) e → NamesReadIds (metadata_view given) e
+named_corrected answer given seen e c h =
+    each_read (metadata_view given) (metadata_view seen) (named_ids e)
+    (ap (λ (m : Metadata). (metadata_view m).resolve) c.nothing_else)
+    (ap (λ (m : Metadata). (metadata_view m).workspace_members) c.nothing_else)
+    (same_texts answer given.packages.items seen.packages.items c.packages) h
+
+named_seen : {S : Type 0} (may_answer : Answering S) (index : Option S) (given seen : Metadata) (e : Error) → IsSeen may_answer index given seen
+    → NamesReadIds (metadata_view seen) e → NamesReadIds (metadata_view given) e
+named_seen may_answer None given seen e is_seen h = subst (λ (m : Metadata). NamesReadIds (metadata_view m) e) is_seen h
+named_seen may_answer (Some source) given seen e is_seen h = named_corrected is_seen.answer given seen e is_seen.corrected h
+
+pub sees_named : {S K : Type 0} (may_answer : Answering S) (index : Option S) (given seen : Metadata) (result : Result K Error) → IsSeen may_answer index given seen
+    → IfErr result (NamesReadIds (metadata_view seen)) → IfErr result (NamesReadIds (metadata_view given))
+sees_named may_answer index given seen (Ok k) is_seen h = tt
+sees_named may_answer index given seen (Err e) is_seen h = named_seen may_answer index given seen e is_seen h
 
 pub sees_refused : {S : Type 0} (may_answer : Answering S) (index : Option S) (given seen : Metadata) (s : SettingModel) (ids : IdsModel) {K : Type 0} (result : Result K Error)
     → IsAdmitted (metadata_view given) ids → IsSeen may_answer index given seen → IfErr result (GraphRefusal (metadata_view seen) s) → IfErr result (BuildRefusal may_answer index given s)

@@ -5,6 +5,7 @@ ghost use Rattle.std.specs.Bool.{MatchBool};
 ghost use Rattle.std.specs.Borrow.{sem};
 ghost use Rattle.krates_cm.specs.Document.{metadata_view};
 ghost use Rattle.krates_rules.specs.Admission.{IsAdmitted};
+ghost use Rattle.krates_rules.specs.NamedIds.{NamesReadIds};
 ghost use Rattle.krates_document.specs.Ids.{ids_view};
 ghost use Rattle.krates_rules.specs.Kind.{IgnoresMore};
 ghost use Rattle.krates_rules.specs.PlainSetting.{plain_setting};
@@ -254,7 +255,8 @@ impl Builder {
     /// It is refused, in this order of classes: as `NoResolveGraph`, `InvalidId` or `Doubled` where the document
     /// can't be resolved, as `Lost` where it lacks what some derivation asks for, as `NoRootKrates` where no crate
     /// would be kept, and as `TooMany` where none of these is so and the graph has more than 4,294,967,295 nodes or
-    /// edges. It may instead return `Memory`. After each refusal the filter is as it was.
+    /// edges. It may instead return `Memory`. Each id that a refusal names is one as which a text of the document is
+    /// read, its text included. After each refusal the filter is as it was.
     ///
     /// Each crate and each feature that is found is followed once, and so is each reference (`Krates::work` counts
     /// them); what they name is looked up in time O(log n).
@@ -279,6 +281,7 @@ impl Builder {
         ensures callable { F.can_filter filter.new }
         ensures refused { IfErr result
             (BuildRefusal (λ source. BuildIndexCache.post source.build) self.index metadata self.setting) }
+        ensures named { IfErr result (NamesReadIds (metadata_view metadata)) }
         ensures unchanged { OnErr result (filter.new ≡ filter.old) }
     {
         let Builder {
@@ -306,6 +309,7 @@ fn build_admitted<N: FromPackage + Drop, E: FromEdge + Drop, F: OnFilter>(
         filter.old filter.new) }
     ensures callable { F.can_filter filter.new }
     ensures refused { IfErr result (GraphRefusal (metadata_view metadata) setting.now) }
+    ensures named { IfErr result (NamesReadIds (metadata_view metadata)) }
     ensures unchanged { OnErr result (filter.new ≡ filter.old) }
 {
     laws::one_reading();

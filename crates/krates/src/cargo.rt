@@ -5,7 +5,7 @@ ghost use Rattle.krates_cm.specs.Document.{metadata_view};
 ghost use Rattle.krates_cargo.specs.Running.{IsSomeAnswer};
 ghost use Rattle.krates_cm.specs.declared.metadata.Metadata.{Metadata};
 ghost use Rattle.krates.specs.Build.{IsBuilt, IsResolvable};
-ghost use Rattle.krates.specs.Cargo.{CargoBuildRefusal, IsWritten};
+ghost use Rattle.krates.specs.Cargo.{CargoBuildRefusal, IsWritten, NamesWrittenIds};
 ghost use Rattle.krates.specs.Indexed.{IsAskable, Sees};
 
 use crate::builder::Builder;
@@ -23,8 +23,9 @@ impl Builder {
     /// `cargo`.
     ///
     /// It is refused as `Metadata` where there is no document, for the reason that `MetadataCommand::exec` has; else
-    /// as the build of the document is. It may instead return `Memory`. After each refusal the filter is as it was.
-    /// Time: that of the run, and of the build.
+    /// as the build of the document is. It may instead return `Memory`. Each id that a refusal names is one as which a
+    /// text of the document is read, its text included. After each refusal the filter is as it was. Time: that of the
+    /// run, and of the build.
     ///
     /// An index has to be callable on the names of each document that cargo may write.
     ///
@@ -48,6 +49,7 @@ impl Builder {
         ensures callable { F.can_filter filter.new }
         ensures refused { IfErr result
             (CargoBuildRefusal (λ source. BuildIndexCache.post source.build) self.index self.setting) }
+        ensures named { IfErr result NamesWrittenIds }
         ensures unchanged { OnErr result (filter.new ≡ filter.old) }
     {
         let metadata = command.exec(cargo, processes)?;

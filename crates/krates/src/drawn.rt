@@ -12,6 +12,7 @@ ghost use Rattle.krates_drawing.specs.Stored.{IsStoredAs};
 ghost use Rattle.krates_drawing.specs.Views.{arrow_view, sheet_view};
 ghost use Rattle.krates_ids.specs.declared.error.Error.TheVariants.{Memory};
 ghost use Rattle.krates_rules.specs.Admission.{IsAdmitted};
+ghost use Rattle.krates_rules.specs.NamedIds.{NamesReadIds};
 ghost use Rattle.krates_explain.specs.Tables.{AreStepsOf};
 ghost use Rattle.krates_questions.specs.DocumentModel.{as_resolved};
 ghost use Rattle.krates_resolve.specs.Explained.{IsExplained};
@@ -60,6 +61,7 @@ pub(crate) fn sketch_of(
     requires admitted { IsAdmitted (metadata_view metadata.now) (ids_view ids.now) }
     ensures sketched { IfOk result (IsSketchOf (metadata_view metadata.now) setting.now) }
     ensures refused { IfErr result (RefusesSelection (metadata_view metadata.now) setting.now) }
+    ensures named { IfErr result (NamesReadIds (metadata_view metadata.now)) }
 {
     let document = Document::new(alloc, metadata, ids)?;
     let selection = select_in(alloc, document.lookup(), setting)?;

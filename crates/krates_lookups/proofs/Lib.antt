@@ -8,6 +8,7 @@ pub mod Lookups
 pub mod NodeNumbers
 pub mod NodeParts
 pub mod NumberedPlaces
+pub mod ReadIds
 pub mod RenamedPlaces
 pub mod Searches
 pub mod SeenInOrder

@@ -12,9 +12,10 @@ use Rattle.krates_cm.specs.declared.dependency.Dependency.{Dependency}
 use Rattle.krates_cm.specs.declared.resolve.Node.{Node}
 use Rattle.krates_cm.specs.declared.resolve.NodeDep.{NodeDep}
 use Rattle.krates_ids.specs.Identity.{Identity, Reads}
-use Rattle.krates_rules.specs.Admission.{AreDepIds, HasThisVersion, node_texts, dep_texts}
+use Rattle.krates_rules.specs.Admission.{AreDepIds, HasThisVersion, node_texts, dep_texts, of_dep, of_node}
 use Rattle.krates_document.specs.Ids.{kids_in, versions_in}
 use Rattle.krates_rules.specs.Facts.{Id}
+use Rattle.krates_rules.specs.NamedIds.{IsReadOf}
 use Rattle.krates_rules.specs.Resolved.{DepAt, NodeAt, Resolved, id_of, ReadsAs, HasNode, HasDep}
 use Rattle.krates_lookups.specs.Lookup.{IsLookup, TellsMember, resolved_view}
 use Rattle.krates_lookups.specs.NodeEntry.{AreDeclaredBy, AreParts, HasItsVersion, IsEntry, IsEntryOf}
@@ -23,6 +24,7 @@ use Rattle.krates_lookups.specs.declared.node_entry.NodeEntry.{NodeEntry}
 use Rattle.krates_lookups.specs.declared.node_entry.NodeParts.{NodeParts}
 use Rattle.krates_rules.proofs.Readings.{left_of}
 use Rattle.krates_lookups.proofs.Lookups.{at_place}
+use Rattle.krates_lookups.proofs.ReadIds.{read_at}
 use Rattle.krates_rules.proofs.Standings.{contains_at}
 
 -- related lists are equally long
@@ -108,7 +110,8 @@ parts_here d place x n ids h lt is_id is_node is_ids deps children versions decl
     let long = nodes_long d h in
     let nodes = d.ids.now.nodes.items in
     let here = node_seen d place n lt is_node in
-    let at = node_here r nodes place x.parent.now h.ids.nodes (slice_get_read nodes (length nodes) place x.parent.now refl (subst (λ (m : ℕ). place < m) long.0 lt) is_id) in
+    let there = slice_get_read nodes (length nodes) place x.parent.now refl (subst (λ (m : ℕ). place < m) long.0 lt) is_id in
+    let at = node_here r nodes place x.parent.now h.ids.nodes there in
     let same : at.node ≡ node_view n = same_Some at.node (node_view n) (sym at.at ∙ here) in
     let whole = dep_ids_here r.graph (kids_in d.ids.now.deps) place (node_view n) ids.items h.ids.deps here (ids_there d place ids h lt is_ids) in
     record {
@@ -120,6 +123,7 @@ parts_here d place x n ids h lt is_id is_node is_ids deps children versions decl
       declares = declares;
       tells = tells;
       place_is = place_is;
+      read = read_at r (node_texts r.graph) nodes place x.parent.now (λ t among. of_node among) h.ids.nodes there;
     }
 
 -- a child has the dependency at its place
@@ -186,7 +190,17 @@ entry_here r place x k y p e =
     let of_member = subst (λ (b : Bool). HasEntry r (id_of y.parent.now) y.child.now (node_dep_view y.dep.now) (map dependency_view y.declared.now) b x.place k) (sym e.is_member) of_declared in
     let of_place = subst (λ (n : ℕ). HasEntry r (id_of y.parent.now) y.child.now (node_dep_view y.dep.now) (map dependency_view y.declared.now) y.is_member n k) (sym e.place) of_member in
     let whole = subst (λ (n : ℕ). HasEntry r (id_of y.parent.now) y.child.now (node_dep_view y.dep.now) (map dependency_view y.declared.now) y.is_member y.place n) (sym e.index) of_place in
-    record { node = whole.node; has_node = whole.has_node; has_dep = whole.has_dep; version = version_here r place x k y p e; declares = whole.declares; tells = whole.tells; at = whole.at }
+    record {
+      node = whole.node;
+      has_node = whole.has_node;
+      has_dep = whole.has_dep;
+      version = version_here r place x k y p e;
+      declares = whole.declares;
+      tells = whole.tells;
+      at = whole.at;
+      parent_read = subst (IsReadOf r) (sym e.parent) p.read;
+      child_read = read_at r (dep_texts p.at.node) x.children.now k y.child.now (λ t among. of_dep p.at.node p.has_node.among among) p.children.read e.child;
+    }
 
 -- within a vector's items is within the vector
 pub within_vec : {A : Type 0} (v : Vec A) (k : ℕ) → k < length v.items → k < vec_len v

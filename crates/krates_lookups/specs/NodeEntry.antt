@@ -8,6 +8,7 @@ use Rattle.krates_document.specs.DeclaredPlaces.{AreDeclaredPlaces}
 use Rattle.krates_document.specs.declared.named_places.NamedPlace.{NamedPlace}
 use Rattle.krates_rules.specs.Admission.{AreDepIds, HasThisVersion}
 use Rattle.krates_rules.specs.Facts.{Id, Edge}
+use Rattle.krates_rules.specs.NamedIds.{IsReadOf}
 use Rattle.krates_rules.specs.Resolved.{DepAt, NodeAt, Resolved, id_of, HasPackage, HasNode, HasDep}
 use Rattle.krates_lookups.specs.Lookup.{TellsMember}
 use Rattle.krates_rules.specs.DeclaredDependency.{DependencyEntry, FirstAt, dependency_entry}
@@ -21,7 +22,7 @@ pub record AreDeclaredBy (r : Resolved) (i : Id) (ds : List DependencyModel) : T
   pub each : (p : PackageModel) → HasPackage r i p → p.dependencies ≡ ds
   pub from : (place : ℕ) (d : DependencyModel) → slice_get ds place ≡ Some d → (p : PackageModel) × HasPackage r i p
 
--- these are the parts of the node at the place
+-- these are the parts of the node at the place, whose id is read of the document
 pub record AreParts (r : Resolved) (place : ℕ) (x : NodeParts) : Type 0 where
   pub at : NodeAt r (id_of x.parent.now) place
   pub has_node : HasNode r (id_of x.parent.now) at.node
@@ -31,6 +32,7 @@ pub record AreParts (r : Resolved) (place : ℕ) (x : NodeParts) : Type 0 where
   pub declares : AreDeclaredBy r (id_of x.parent.now) (map dependency_view x.declared.now)
   pub tells : TellsMember r (id_of x.parent.now) x.is_member
   pub place_is : x.place ≡ place
+  pub read : IsReadOf r x.parent.now
 
 -- the crate of a node's parts
 abbrev pub krate_of : NodeParts → Id
@@ -52,7 +54,7 @@ entry_of x = dependency_entry (child_of x) (node_dep_view x.dep.now)
 abbrev pub HasItsVersion : NodeEntry → Type 0
 HasItsVersion x = HasThisVersion x.child.now (parts_of x.version.now)
 
--- the parts of an entry are consistent
+-- the parts of an entry are consistent, and its ids are read of the document
 pub record IsEntry (r : Resolved) (x : NodeEntry) : Type 0 where
   pub node : NodeModel
   pub has_node : HasNode r (parent_of x) node
@@ -61,6 +63,8 @@ pub record IsEntry (r : Resolved) (x : NodeEntry) : Type 0 where
   pub declares : AreDeclaredBy r (parent_of x) (declared_in x)
   pub tells : TellsMember r (parent_of x) x.is_member
   pub at : DepAt r (parent_of x) (child_of x) x.place x.index
+  pub parent_read : IsReadOf r x.parent.now
+  pub child_read : IsReadOf r x.child.now
 
 -- the entry is that at this place of the node
 pub record IsEntryOf (parts : NodeParts) (at : ℕ) (x : NodeEntry) : Type 0 where

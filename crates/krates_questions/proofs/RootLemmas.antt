@@ -7,8 +7,9 @@ use Rattle.krates_cm.specs.Document.{Text, PackageModel, NodeModel, node_view, t
 use Rattle.krates_cm.specs.declared.resolve.Node.{Node}
 use Rattle.krates_ids.specs.Identity.{Identity, Reads}
 use Rattle.krates_text.specs.Path.{components}
-use Rattle.krates_rules.specs.Admission.{IsRootId, NoneDoubled}
+use Rattle.krates_rules.specs.Admission.{IsRootId, NoneDoubled, of_member, of_root}
 use Rattle.krates_rules.specs.Facts.{Id}
+use Rattle.krates_rules.specs.NamedIds.{IsReadOf}
 use Rattle.krates_rules.specs.Features.{ListsFeature}
 use Rattle.krates_rules.specs.Resolved.{NodeAt, Resolved, id_of, IsMember, HasPackage, HasNode}
 use Rattle.krates_lookups.specs.Lookup.{IsLookup, resolved_view}
@@ -19,15 +20,16 @@ use Rattle.krates_lookups.specs.declared.lookup.Lookup.{Lookup}
 use Rattle.krates_rules.proofs.Readings.{ReadsOnce, left_of}
 use Rattle.krates_rules.proofs.OnlyOne.{one_package, one_node}
 use Rattle.krates_rules.proofs.Standings.{contains_at}
+use Rattle.krates_lookups.proofs.ReadIds.{read_at}
 
 -- ---- which crates are roots
 
 -- nothing is asked for, so only the graph's root is a root
 pub graph_root : ReadsOnce → (r : Resolved) (s : SettingModel) (root : Identity) → s.manifests ≡ [] → s.workspace ≡ false → IsRootId r.graph.root (Some root)
-    → IsRoot r s (id_of root) × ((i : Id) → IsRoot r s i → i ≡ id_of root)
+    → IsRoot r s (id_of root) × ((i : Id) → IsRoot r s i → i ≡ id_of root) × IsReadOf r root
 graph_root once r s root none off is =
     let text = root_text r.graph.root is in
-    (of_graph none off text.1 (record { read = root; reads = text.2; same = refl }), alone text.0 text.1 text.2)
+    (of_graph none off text.1 (record { read = root; reads = text.2; same = refl }), alone text.0 text.1 text.2, (text.0, of_root text.1, text.2))
   where
     root_text : (o : Option Text) → IsRootId o (Some root) → (t : Text) × (o ≡ Some t) × Reads t root
     root_text None h = absurd cc
@@ -84,6 +86,13 @@ are_members r members z k d lt =
     let y = get_or members k d in
     let t = left_of Reads r.metadata.workspace_members members k y z (slice_get-get_or members k d lt) in
     record { text = t.0; among = contains_at r.metadata.workspace_members k t.0 t.1; id = record { read = y; reads = t.2; same = refl } }
+
+-- and their ids are read of the document
+pub are_read_members : (r : Resolved) (members : List Identity) → AllZip Reads r.metadata.workspace_members members → All (λ m. IsMember r (id_of m) × IsReadOf r m) members
+are_read_members r members z k d lt =
+    let y = get_or members k d in
+    let texts = r.metadata.workspace_members in
+    (are_members r members z k d lt, read_at r texts members k y (λ t among. of_member among) z (slice_get-get_or members k d lt))
 
 -- ---- derivations
 

@@ -13,6 +13,7 @@ use Rattle.krates_rules.specs.DeclaredDependency.{IsDeclared}
 use Rattle.krates_rules.specs.Derivation.{Derivable}
 use Rattle.krates_rules.specs.Facts.{Edge, Fact, Id}
 use Rattle.krates_rules.specs.Features.{ListsFeature}
+use Rattle.krates_rules.specs.NamedIds.{NamesIdsOf}
 use Rattle.krates_rules.specs.Questions.{IsWanted, questions}
 use Rattle.krates_rules.specs.Resolved.{DepAt, IsMember, NodeAt, Resolved}
 use Rattle.krates_rules.specs.Roots.{IsRoot}
@@ -30,9 +31,9 @@ rules_of b = questions (document_of b) b.setting.now
 abbrev pub Derives : Basis → Fact → Type 0
 Derives b = Derivable (rules_of b)
 
--- why nothing is selected
+-- why nothing is selected; the ids that are named are read of the document
 abbrev pub Refuses : Basis → Error → Type 0
-Refuses b = SelectionRefusal (rules_of b)
+Refuses b e = SelectionRefusal (rules_of b) e × NamesIdsOf (document_of b) e
 
 -- the crate's node stands at the place
 abbrev pub IsNodeAt : Basis → Id → ℕ → Type 0

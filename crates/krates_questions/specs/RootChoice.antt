@@ -3,6 +3,7 @@ use Rattle.std.specs.Prelude.{◌≡◌, List, [], Bool, Contains, MatchBool}
 use Rattle.krates_cm.specs.Document.{Text}
 use Rattle.krates_text.specs.Path.{components}
 use Rattle.krates_rules.specs.Facts.{Id}
+use Rattle.krates_rules.specs.NamedIds.{IsReadOf}
 use Rattle.krates_rules.specs.Resolved.{Resolved, id_of}
 use Rattle.krates_rules.specs.Roots.{AsksForWorkspace, AsksForMembers, IsRoot}
 use Rattle.krates_rules.specs.Setting.{SettingModel}
@@ -24,8 +25,8 @@ pub record AsksForManifests (r : Resolved) (s : SettingModel) : Type 0 where
 abbrev pub AsksFor : Resolved → SettingModel → Bool → Type 0
 AsksFor r s all = MatchBool all (AsksForMembers r s) (AsksForManifests r s)
 
--- the choice is that of the setting; a root that is chosen is the only one
+-- the choice is that of the setting; a root that is chosen is the only one, and its id is read of the document
 abbrev pub IsChoice : Resolved → SettingModel → RootChoice → Type 0
-IsChoice r s (choice.Root root) = IsRoot r s (id_of root.now) × ((i : Id) → IsRoot r s i → i ≡ id_of root.now)
+IsChoice r s (choice.Root root) = IsRoot r s (id_of root.now) × ((i : Id) → IsRoot r s i → i ≡ id_of root.now) × IsReadOf r root.now
 IsChoice r s choice.Members = AsksForMembers r s
 IsChoice r s choice.Manifests = AsksForManifests r s

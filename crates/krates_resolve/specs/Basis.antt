@@ -1,5 +1,5 @@
 -- What a search is made against, a document and a setting, and what its functions say about it.
-use Rattle.krates_questions.specs.Basis.{document_of, Derives, IsNodeAt, IsDepAt, IsFeatureAt, Lists, HasRoot, Wants}
+use Rattle.krates_questions.specs.Basis.{document_of, Derives, IsNodeAt, IsDepAt, IsFeatureAt, Lists, HasMember, HasRoot, Wants}
 use Rattle.krates_cm.specs.Document.{DependencyModel, DepKindInfoModel, NodeDepModel, Text, dependency_view, node_dep_view}
 use Rattle.krates_cm.specs.declared.dependency.Dependency.{Dependency}
 use Rattle.krates_resolve.specs.Counting.{AreCounted, NumberHasReferences}
@@ -20,12 +20,14 @@ use Rattle.krates_resolve.specs.declared.trace.NumberedStep.{NumberedStep}
 use Rattle.krates_resolve.specs.declared.trace.Reason.{Reason}
 use Rattle.krates_resolve.specs.declared.work.Work.{Work}
 use Rattle.krates_rules.specs.Facts.{Crate, Edge, Fact, Feature, Id, Kept, Toggled}
+use Rattle.krates_rules.specs.NamedIds.{IsReadOf}
 use Rattle.krates_rules.specs.Questions.{Stands, edge_between}
 use Rattle.krates_rules.specs.Resolved.{id_of}
 use Rattle.krates_rules.specs.Rules.{default_name}
 use Rattle.krates_text.specs.FeatureReference.{IsReference, Reference}
 use Rattle.krates_lookups.specs.Numbering.{IsOwn}
 use Rattle.krates_graph.specs.Agenda.{PutNumbers}
+use Rattle.krates_ids.specs.Identity.{Identity}
 use Rattle.std.specs.Prelude.{◌≡◌, Bool, Contains, ℕ, length, true}
 
 -- the crate of a node
@@ -213,9 +215,21 @@ pub record HasRootedEach (b : Basis) (x : Found) (places : PutNumbers) : Type 0 
   pub size : places.size ≡ length (document_of b).graph.nodes
   pub each : (place : ℕ) (krate : Id) → Contains places.put place → IsNodeAt b krate place → HasRooted b x krate
 
--- the node of a kept crate stands at its place
-abbrev pub IsNodeOf : Basis → KeptNode → Type 0
-IsNodeOf b node = IsNodeAt b (crate_of node) node.place
+-- the id is read of the document
+abbrev pub IsRead : Basis → Identity → Type 0
+IsRead b = IsReadOf (document_of b)
+
+-- it is that of a member, or of a root
+abbrev pub IsMemberOf : Basis → Identity → Type 0
+IsMemberOf b id = HasMember b (id_of id) × IsRead b id
+
+abbrev pub IsRootOf : Basis → Identity → Type 0
+IsRootOf b id = HasRoot b (id_of id) × IsRead b id
+
+-- the node of a kept crate stands at its place, and its id is read of the document
+pub record IsNodeOf (b : Basis) (node : KeptNode) : Type 0 where
+  pub at : IsNodeAt b (crate_of node) node.place
+  pub read : IsRead b node.id.now
 
 -- the feature of the node's crate is toggled by that one
 abbrev pub HasToggledBy : Basis → Found → KeptNode → KeptNode → Text → Type 0

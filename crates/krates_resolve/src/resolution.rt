@@ -12,6 +12,7 @@ ghost use Rattle.krates_resolve.specs.Counting.{HasCountedAll};
 ghost use Rattle.krates_resolve.specs.Found.{IsSound};
 ghost use Rattle.krates_resolve.specs.Saturation.{HasExactly};
 ghost use Rattle.krates_resolve.specs.Selection.{IsSelection, IsSelectionOf, RefusesSelection};
+ghost use Rattle.krates_rules.specs.NamedIds.{NamesIdsOf, NamesReadIds};
 ghost use Rattle.krates_rules.specs.Questions.{questions};
 ghost use Rattle.krates_rules.specs.SelectionRefusals.{SelectionRefusal};
 
@@ -37,7 +38,8 @@ use std::alloc::{AllocError, Global};
 /// What is kept of a document that was admitted with these ids: exactly what has a derivation from the roots by the rules.
 ///
 /// It is refused as `Lost` exactly where the document lacks what some derivation asks for, naming something that it truly lacks; and as
-/// `NoRootKrates` exactly where nothing is lacking and no crate is kept. It may instead return `Memory`.
+/// `NoRootKrates` exactly where nothing is lacking and no crate is kept. It may instead return `Memory`. Each id that a refusal names is
+/// one as which a text of the document is read, its text included.
 ///
 /// Time: O(n log n) for n crates, dependencies with their kinds, features, and references as they are counted; and for each
 /// dependency the exclusions of the setting.
@@ -51,6 +53,7 @@ pub fn select(
     ensures selected { IfOk result (IsSelectionOf (metadata_view metadata.now) setting.now) }
     ensures explained { IfOk result (IsExplainedOf (metadata_view metadata.now) setting.now) }
     ensures refused { IfErr result (RefusesSelection (metadata_view metadata.now) setting.now) }
+    ensures named { IfErr result (NamesReadIds (metadata_view metadata.now)) }
 {
     let Some(resolve) = &metadata.resolve else {
         unreachable!()
@@ -71,6 +74,7 @@ pub fn select_in<'a>(
     ensures selected { IfOk result (IsSelection (resolved_view lookup.now) setting.now) }
     ensures explained { IfOk result (IsExplained (resolved_view lookup.now) setting.now) }
     ensures refused { IfErr result (SelectionRefusal (questions (resolved_view lookup.now) setting.now)) }
+    ensures named { IfErr result (NamesIdsOf (resolved_view lookup.now)) }
 {
     let mut work = Work::new();
     let found = saturate(alloc, lookup, setting, &mut work)?;

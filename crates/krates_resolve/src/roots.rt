@@ -1,7 +1,7 @@
 //! The roots: the crates that are kept for themselves.
 
-ghost use Rattle.krates_questions.specs.Basis.{AsksForRoots, HasMember, HasRoot, Refuses};
-ghost use Rattle.krates_resolve.specs.Basis.{Has, HasEachRoot, HasListed, HasRooted, HasRootedEach, HasRootedRoot, IsNodeOf, IsRight, IsStandingRoot, MayEnableListed, Moves, crate_of};
+ghost use Rattle.krates_questions.specs.Basis.{AsksForRoots, Refuses};
+ghost use Rattle.krates_resolve.specs.Basis.{Has, HasEachRoot, HasListed, HasRooted, HasRootedEach, HasRootedRoot, IsMemberOf, IsNodeOf, IsRight, IsRootOf, IsStandingRoot, MayEnableListed, Moves, crate_of};
 ghost use Rattle.std.specs.Prelude.{All, IfErr, OnOk};
 ghost use Rattle.krates_cm.specs.Document.{Text};
 ghost use Rattle.krates_rules.specs.Facts.{Crate};
@@ -53,7 +53,7 @@ fn put_members<'a>(
     requires sound { IsRight basis.now found.old }
     requires each { HasRootedEach basis.now found.old places.old }
     requires asks { AsksForRoots basis.now all }
-    requires members { All (λ member. HasMember basis.now (id_of member)) members.now }
+    requires members { All (IsMemberOf basis.now) members.now }
     ensures advanced { OnOk result (Moves basis.now found.old found.new) }
     ensures rooted { OnOk result (All (λ m. HasRootedRoot basis.now found.new (id_of m)) members.now) }
     ensures refused { IfErr result (Refuses basis.now) }
@@ -76,7 +76,7 @@ fn put_member<'a>(
     requires sound { IsRight basis.now found.old }
     requires each { HasRootedEach basis.now found.old places.old }
     requires asks { AsksForRoots basis.now all }
-    requires member { HasMember basis.now (id_of member.now) }
+    requires member { IsMemberOf basis.now member.now }
     ensures advanced { OnOk result (Moves basis.now found.old found.new) }
     ensures rooted { OnOk result (HasRootedRoot basis.now found.new (id_of member.now)) }
     ensures each { OnOk result (HasRootedEach basis.now found.new places.new) }
@@ -98,7 +98,7 @@ fn put_root<'a>(
     requires lookup { IsLookup basis.now.lookup.now }
     requires sound { IsRight basis.now found.old }
     requires each { HasRootedEach basis.now found.old places.old }
-    requires root { HasRoot basis.now (id_of root.now) }
+    requires root { IsRootOf basis.now root.now }
     ensures advanced { OnOk result (Moves basis.now found.old found.new) }
     ensures rooted { OnOk result (HasRooted basis.now found.new (id_of root.now)) }
     ensures each { OnOk result (HasRootedEach basis.now found.new places.new) }

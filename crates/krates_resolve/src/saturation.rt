@@ -7,6 +7,7 @@ ghost use Rattle.krates_resolve.specs.Counting.{HasCountedAll, IsFresh};
 ghost use Rattle.krates_resolve.specs.Found.{IsSound};
 ghost use Rattle.krates_resolve.specs.Saturation.{HasExactly};
 ghost use Rattle.krates_lookups.specs.Lookup.{IsLookup, resolved_view};
+ghost use Rattle.krates_rules.specs.NamedIds.{NamesIdsOf};
 ghost use Rattle.krates_rules.specs.Questions.{questions};
 ghost use Rattle.krates_rules.specs.SelectionRefusals.{SelectionRefusal};
 
@@ -42,6 +43,7 @@ pub(crate) fn saturate<'a>(
     ensures counted { IfOk result
         (λ found. HasCountedAll (resolved_view lookup.now) setting.now found work.new) }
     ensures refused { IfErr result (SelectionRefusal (questions (resolved_view lookup.now) setting.now)) }
+    ensures named { IfErr result (NamesIdsOf (resolved_view lookup.now)) }
 {
     let mut found = nothing_found(alloc, lookup, setting)?;
     let basis = Basis {

@@ -21,7 +21,7 @@ use Rattle.krates.proofs.BuildLemmas.{package_ids, ids_distinct, resolvable}
 use Rattle.krates.proofs.ConnectedLemmas.{agrees, connects}
 use Rattle.krates.proofs.DrawnLemmas.{builds_sheet, is_built, kept_ids, sheet_stands}
 use Rattle.krates.proofs.ExplainedLemmas.{explained_by, explains}
-use Rattle.krates.proofs.Numbered.{numbered, numbered_graph, undrawn}
+use Rattle.krates.proofs.Numbered.{numbered, numbered_graph, undrawn, undrawn_names}
 use Rattle.krates.proofs.MemberLemmas.{crate_numbers, kept_members}
 use Rattle.krates_queries.proofs.OrderedIds.{Compares}
 use Rattle.krates.proofs.builder.build_admitted.Goals as goal
@@ -51,6 +51,13 @@ returns-in_err-graph-clause-refused g c =
     let refused = undrawn (metadata_view c.args.metadata) c.args.setting.now (sheet_view c.in_ok-sketch.sketch.sheet) c.in_ok-sketch.ensures.sketched.sheet error c.in_err-graph.ensures.refused in
     let p = err_from_is_err_and c.from_residual-in_err-graph.result c.from_residual-in_err-graph.ensures.1 in
     rw (p.1, p.2) refused
+
+pub returns-in_err-graph-clause-named : goal.returns-in_err-graph-clause-named
+returns-in_err-graph-clause-named g c =
+    let error = c.in_err-graph.field-0.0 in
+    let named = undrawn_names (metadata_view c.args.metadata) (sheet_view c.in_ok-sketch.sketch.sheet) error c.in_err-graph.ensures.refused in
+    let p = err_from_is_err_and c.from_residual-in_err-graph.result c.from_residual-in_err-graph.ensures.1 in
+    rw (p.1, p.2) named
 
 pub graph_of-requires-clause-ids : goal.graph_of-requires-clause-ids
 graph_of-requires-clause-ids g c =

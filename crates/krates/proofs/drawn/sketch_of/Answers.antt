@@ -8,6 +8,8 @@ use Rattle.krates_drawing.proofs.DocumentSheets.{none_doubled_in}
 use Rattle.krates_lookups.specs.Lookup.{resolved_view}
 use Rattle.krates_resolve.specs.Explained.{IsExplained, IsExplainedOf}
 use Rattle.krates_resolve.specs.Selection.{IsSelection, IsSelectionOf, RefusesSelection}
+use Rattle.krates_lookups.proofs.ReadIds.{each_read}
+use Rattle.krates_rules.specs.NamedIds.{NamesIdsOf, named_ids}
 use Rattle.krates_rules.specs.Questions.{questions}
 use Rattle.krates_rules.specs.Resolved.{Resolved, resolved}
 use Rattle.krates_rules.specs.SelectionRefusals.{SelectionRefusal}
@@ -25,6 +27,16 @@ returns-in_err-selection-clause-refused c =
     let refused : RefusesSelection m s error = record { graph = d.graph; has_graph = d.has_graph; holds = subst (λ (r : Resolved). SelectionRefusal (questions r s) error) same c.in_err-selection.ensures.refused } in
     let p = err_from_is_err_and c.from_residual-in_err-selection.result c.from_residual-in_err-selection.ensures.1 in
     rw (p.1, p.2) refused
+
+pub returns-in_err-selection-clause-named : goal.returns-in_err-selection-clause-named
+returns-in_err-selection-clause-named c =
+    let m = metadata_view c.args.metadata.now in
+    let d = c.in_ok-document.ensures in
+    let error = c.in_err-selection.field-0.0 in
+    let same : resolved_view c.lookup.result.now ≡ resolved m d.graph = c.lookup.ensures.document ∙ d.holds in
+    let named = each_read m d.graph (named_ids error) d.has_graph (subst (λ (r : Resolved). NamesIdsOf r error) same c.in_err-selection.ensures.named) in
+    let p = err_from_is_err_and c.from_residual-in_err-selection.result c.from_residual-in_err-selection.ensures.1 in
+    rw (p.1, p.2) named
 
 pub steps_of-requires-clause-selected : goal.steps_of-requires-clause-selected
 steps_of-requires-clause-selected c = subst (λ (r : Resolved). IsSelection r c.args.setting.now c.in_ok-selection.selection) c.lookup.ensures.document c.in_ok-selection.ensures.selected

@@ -46,6 +46,9 @@ declared_at-dependency-requires c =
     let d = c.requires.wanted in
     declared_within x.declared.now c.args.keeping.declared d.0 (declared_stands (declared_in x) (entry_of x) k c.args.keeping.declared d.0 d.1)
 
+pub enable_declared-requires-clause-node : goal.enable_declared-requires-clause-node
+enable_declared-requires-clause-node c = record { at = c.requires.node; read = c.requires.entry.child_read }
+
 pub enable_declared-requires-clause-sound : goal.enable_declared-requires-clause-sound
 enable_declared-requires-clause-sound c = c.in_ok-put_krate.ensures.advanced.sound
 
@@ -75,6 +78,9 @@ enable_declared-requires-clause-step c =
     let has = c.in_ok-number.ensures.put (Kept e) (entry_edge r x k c.args.keeping.kind c.requires.lookup.distinct c.requires.entry c.requires.first) in
     let is = declared_seen x.declared.now c.args.keeping.declared d.0 c.declared_at-dependency.result.now (declared_stands (declared_in x) (entry_of x) k c.args.keeping.declared d.0 d.1) c.declared_at-dependency.ensures in
     subst (λ (m : DependencyModel). FindsUsed b z c.by_one-2.result m (child_of x)) (sym is) (finds_used b z c.by_one-2.result n e d.0 c.by_one-2.ensures (c.in_ok-put_krate.ensures.advanced.grows.steps n (Kept e) has) d.2)
+
+pub wake-requires-clause-node : goal.wake-requires-clause-node
+wake-requires-clause-node c = record { at = c.requires.node; read = c.requires.entry.child_read }
 
 pub wake-requires-clause-kept : goal.wake-requires-clause-kept
 wake-requires-clause-kept c = c.in_ok-enable_declared.ensures.advanced.grows.found (Crate (child_of c.args.edge.now.entry.now)) (record { place = c.args.keeping.node; among = c.in_ok-put_krate.ensures.put; node = c.requires.node })

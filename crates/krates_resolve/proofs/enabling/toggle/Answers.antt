@@ -25,7 +25,7 @@ put_step-requires-clause-may c =
     let at = c.in_ok-number.ensures.number.0 in
     record {
       fact = Toggled p i g;
-      names = record { by = p; krate = i; name = g; node = c.requires.by; at = at; is = refl };
+      names = record { by = p; krate = i; name = g; node = c.requires.by.at; at = at; is = refl };
       finds = c.requires.step (listed_at (resolved_view c.args.basis.now.lookup.now) i g c.in_ok-number.number at);
     }
 
@@ -38,7 +38,7 @@ put_feature-requires-clause-may c =
     let g = c.args.feature.name.now in
     let at = c.in_ok-number.ensures.number in
     let y = c.put_step.new.found in
-    let has = c.in_ok-toggled.ensures.put (Toggled p i g) (record { by = p; krate = i; name = g; node = c.requires.by; at = at.0; is = refl }) in
+    let has = c.in_ok-toggled.ensures.put (Toggled p i g) (record { by = p; krate = i; name = g; node = c.requires.by.at; at = at.0; is = refl }) in
     record {
       krate = i;
       name = g;
@@ -60,14 +60,14 @@ returns-clause-advanced c =
     let z = c.put_feature.new.found in
     let noted = c.in_ok-toggled.ensures in
     let step = c.in_ok-put_feature.ensures in
-    let has = noted.put (Toggled p i g) (record { by = p; krate = i; name = g; node = c.requires.by; at = at; is = refl }) in
+    let has = noted.put (Toggled p i g) (record { by = p; krate = i; name = g; node = c.requires.by.at; at = at; is = refl }) in
     let some : HasSomeStep r z.trace.items (Toggled p i g) = (c.in_ok-toggled.toggled, step.advanced.grows.steps c.in_ok-toggled.toggled (Toggled p i g) has) in
     let enabled : HasFound r z (Feature i g) = record { number = number; among = step.put; at = at } in
     let t : FoundToggle = record { by = c.args.by.id; krate = c.args.node.id; name = c.args.feature.name; by_node = c.args.by.place; krate_node = c.args.node.place } in
     let is : found_toggled t ≡ Toggled p i g = refl in
     let lists = listed_at r i g number at in
     advances_trans r s c.args.found.now z _ (advances_trans r s c.args.found.now y z noted.advanced step.advanced)
-    (toggled_advances r s z c.push.new.self t p i g step.advanced.sound c.in_ok-push.ensures.items is (record { by = c.requires.by; krate = c.requires.node }) enabled (c.requires.may.toggled lists) some).0
+    (toggled_advances r s z c.push.new.self t p i g step.advanced.sound c.in_ok-push.ensures.items is (record { by = c.requires.by.at; krate = c.requires.node.at }) enabled (c.requires.may.toggled lists) some).0
 
 pub returns-clause-toggled : goal.returns-clause-toggled
 returns-clause-toggled c =
@@ -81,14 +81,14 @@ returns-clause-toggled c =
     let z = c.put_feature.new.found in
     let noted = c.in_ok-toggled.ensures in
     let step = c.in_ok-put_feature.ensures in
-    let has = noted.put (Toggled p i g) (record { by = p; krate = i; name = g; node = c.requires.by; at = at; is = refl }) in
+    let has = noted.put (Toggled p i g) (record { by = p; krate = i; name = g; node = c.requires.by.at; at = at; is = refl }) in
     let some : HasSomeStep r z.trace.items (Toggled p i g) = (c.in_ok-toggled.toggled, step.advanced.grows.steps c.in_ok-toggled.toggled (Toggled p i g) has) in
     let enabled : HasFound r z (Feature i g) = record { number = number; among = step.put; at = at } in
     let t : FoundToggle = record { by = c.args.by.id; krate = c.args.node.id; name = c.args.feature.name; by_node = c.args.by.place; krate_node = c.args.node.place } in
     let is : found_toggled t ≡ Toggled p i g = refl in
     let lists = listed_at r i g number at in
     toggled_here r _ p i g c.requires.lookup.distinct lists
-    (toggled_advances r s z c.push.new.self t p i g step.advanced.sound c.in_ok-push.ensures.items is (record { by = c.requires.by; krate = c.requires.node }) enabled (c.requires.may.toggled lists) some).1
+    (toggled_advances r s z c.push.new.self t p i g step.advanced.sound c.in_ok-push.ensures.items is (record { by = c.requires.by.at; krate = c.requires.node.at }) enabled (c.requires.may.toggled lists) some).1
 
 pub returns-clause-same_links : goal.returns-clause-same_links
 returns-clause-same_links c = c.in_ok-put_feature.ensures.same_links ∙ c.in_ok-toggled.ensures.same_links

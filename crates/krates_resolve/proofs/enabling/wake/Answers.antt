@@ -46,7 +46,7 @@ loop-waiter-init c =
     (links, marked, advances_refl r s (with_links x links) sound, λ k d lt. absurd (omega (arith, lt)), refl)
 
 pub toggle-requires-clause-by : goal.toggle-requires-clause-by
-toggle-requires-clause-by c = c.requires.entry.at.node
+toggle-requires-clause-by c = record { at = c.requires.entry.at.node; read = c.requires.entry.parent_read }
 
 pub toggle-requires-clause-sound : goal.toggle-requires-clause-sound
 toggle-requires-clause-sound c = c.loop-waiter.invariant.2.sound

@@ -29,7 +29,8 @@ returns-in_default-clause-refused c =
     let r = resolved_view c.args.basis.now.lookup.now in
     let k = dep_kind_info_view c.args.edge.now.info.now in
     let h = heeds r c.args.basis.now.setting.now c.args.edge.now.entry.now k c.requires.entry c.requires.listed c.ignores.result c.ignores.ensures c.if-ignores.false in
-    rw (c.in_ok-clone.ensures.cases, c.in_ok-clone-2.ensures.cases) (c.requires.may.declared (loose r c.args.basis.now.setting.now c.args.edge.now.entry.now k h c.in_default.ensures.first))
+    let read = c.requires.entry in
+    rw (c.in_ok-clone.ensures.cases, c.in_ok-clone-2.ensures.cases) (c.requires.may.declared (loose r c.args.basis.now.setting.now c.args.edge.now.entry.now k h c.in_default.ensures.first), (read.parent_read, (read.child_read, tt)))
 
 pub returns-then-entry-declared-clause-tried : goal.returns-then-entry-declared-clause-tried
 returns-then-entry-declared-clause-tried c =
@@ -111,7 +112,7 @@ returns-in_ok-clone-in-NoPackage-clause-refused c =
     ]) in
     let h = heeds r s c.args.edge.now.entry.now k c.requires.entry c.requires.listed c.ignores.result c.ignores.ensures c.if-ignores.false in
     let w = wanted r s c.args.edge.now.entry.now k c.in-Some.declared d.0 h d.1 (c.in_ok-passes.ensures.0 c.if-not-passes.false) in
-    rw c.in_ok-clone-in-NoPackage.ensures.cases (c.requires.may.has_package d.0 w taken (subst (HasStanding c.args.basis.now c.args.edge.now.entry.now) c.in-NoPackage.is c.requires.standing))
+    rw c.in_ok-clone-in-NoPackage.ensures.cases (c.requires.may.has_package d.0 w taken (subst (HasStanding c.args.basis.now c.args.edge.now.entry.now) c.in-NoPackage.is c.requires.standing), (c.requires.entry.child_read, tt))
 
 pub returns-in_ok-clone-in-NoNode-clause-refused : goal.returns-in_ok-clone-in-NoNode-clause-refused
 returns-in_ok-clone-in-NoNode-clause-refused c =
@@ -125,7 +126,7 @@ returns-in_ok-clone-in-NoNode-clause-refused c =
     ]) in
     let h = heeds r s c.args.edge.now.entry.now k c.requires.entry c.requires.listed c.ignores.result c.ignores.ensures c.if-ignores.false in
     let w = wanted r s c.args.edge.now.entry.now k c.in-Some.declared d.0 h d.1 (c.in_ok-passes.ensures.0 c.if-not-passes.false) in
-    rw c.in_ok-clone-in-NoNode.ensures.cases (c.requires.may.has_node d.0 w taken (subst (HasStanding c.args.basis.now c.args.edge.now.entry.now) c.in-NoNode.is c.requires.standing))
+    rw c.in_ok-clone-in-NoNode.ensures.cases (c.requires.may.has_node d.0 w taken (subst (HasStanding c.args.basis.now c.args.edge.now.entry.now) c.in-NoNode.is c.requires.standing), (c.requires.entry.child_read, tt))
 
 pub returns-in_ok-keep-in-Stands-clause-tried : goal.returns-in_ok-keep-in-Stands-clause-tried
 returns-in_ok-keep-in-Stands-clause-tried c =

@@ -9,6 +9,9 @@ use Rattle.krates_resolve.proofs.Finding.{finds_named, for_reason}
 use Rattle.krates_resolve.proofs.Heedings.{value_may, may_name, followed_by, on_ok_both, referring_step}
 use Rattle.krates_resolve.proofs.heeding.follow.Goals as goal
 
+pub enable-requires-clause-node : goal.enable-requires-clause-node
+enable-requires-clause-node c = record { at = c.requires.parts.at; read = c.requires.parts.read }
+
 pub enable-requires-clause-may : goal.enable-requires-clause-may
 enable-requires-clause-may c =
     let r = resolved_view c.args.basis.now.lookup.now in

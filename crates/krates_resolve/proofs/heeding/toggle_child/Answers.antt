@@ -52,7 +52,12 @@ toggle-requires-clause-by c =
     let parts = c.args.parts.now in
     let entry = c.entry_at-entry.result in
     let is = entry_here r parts.place parts c.args.index entry c.requires.parts c.entry_at-entry.ensures in
-    (dep_of_entry r parts entry c.args.index c.entry_at-entry.ensures is).node
+    record { at = (dep_of_entry r parts entry c.args.index c.entry_at-entry.ensures is).node; read = c.requires.parts.read }
+
+pub toggle-requires-clause-node : goal.toggle-requires-clause-node
+toggle-requires-clause-node c =
+    let is = entry_here (resolved_view c.args.basis.now.lookup.now) c.args.parts.now.place c.args.parts.now c.args.index c.entry_at-entry.result c.requires.parts c.entry_at-entry.ensures in
+    record { at = c.in-Some.ensures; read = is.child_read }
 
 pub toggle-requires-clause-step : goal.toggle-requires-clause-step
 toggle-requires-clause-step c lists =

@@ -6,11 +6,13 @@ use Rattle.krates_cm.specs.declared.metadata.Metadata.{Metadata}
 use Rattle.krates_cm.specs.declared.resolve.Resolve.{Resolve}
 use Rattle.krates_ids.specs.declared.error.Error.{Error}
 use Rattle.krates_rules.specs.Admission.{NoneDoubled}
+use Rattle.krates_rules.specs.NamedIds.{NamesIdsOf, NamesReadIds, named_ids}
 use Rattle.krates_rules.specs.Questions.{questions}
 use Rattle.krates_rules.specs.Resolved.{Resolved, resolved}
 use Rattle.krates_rules.specs.SelectionRefusals.{SelectionRefusal}
 use Rattle.krates_lookups.specs.Lookup.{IsOf, resolved_view}
 use Rattle.krates_lookups.specs.declared.lookup.Lookup.{Lookup}
+use Rattle.krates_lookups.proofs.ReadIds.{each_read}
 use Rattle.krates_resolve.specs.Explained.{IsExplained, IsExplainedOf}
 use Rattle.krates_resolve.specs.Selection.{IsSelection, IsSelectionOf, RefusesSelection}
 use Rattle.krates_resolve.specs.declared.selection.Selection.{Selection}
@@ -54,3 +56,12 @@ returns-clause-refused c =
     let same = same_document c.args.metadata.now c.in-Some.resolve c.args.ids.now look c.in_ok-lookup.ensures.of_these in
     IfErr-weaker c.select_in.result (SelectionRefusal (questions (resolved_view look) s)) (RefusesSelection m s)
     (λ (e : Error) h. record { graph = resolve_view c.in-Some.resolve; has_graph = ap (option_map resolve_view) c.in-Some.is; holds = subst (λ (r : Resolved). SelectionRefusal (questions r s) e) same h }) c.select_in.ensures.refused
+
+pub returns-clause-named : goal.returns-clause-named
+returns-clause-named c =
+    let m = metadata_view c.args.metadata.now in
+    let g = resolve_view c.in-Some.resolve in
+    let look = c.in_ok-lookup.lookup in
+    let same = same_document c.args.metadata.now c.in-Some.resolve c.args.ids.now look c.in_ok-lookup.ensures.of_these in
+    IfErr-weaker c.select_in.result (NamesIdsOf (resolved_view look)) (NamesReadIds m)
+    (λ (e : Error) h. each_read m g (named_ids e) (ap (option_map resolve_view) c.in-Some.is) (subst (λ (r : Resolved). NamesIdsOf r e) same h)) c.select_in.ensures.named

@@ -28,7 +28,7 @@ enable-requires-clause-may c =
     let i = id_of c.args.node.id.now in
     let f = string_bytes c.name-item.result in
     let texts = c.deref-name-items.result.now in
-    let names = listed_names c.args.basis.now.lookup.now i c.args.node.place c.index.result.now c.requires.lookup c.requires.node c.index.ensures f in
+    let names = listed_names c.args.basis.now.lookup.now i c.args.node.place c.index.result.now c.requires.lookup c.requires.node.at c.index.ensures f in
     let among = subst (λ ts. Contains (map text_view ts) f) c.deref-name-items.ensures.value (value_at texts c.loop-name.name-index c.name-item.result c.loop-name-test.true c.name-item.is) in
     subst (λ (t : Text). MayName r s i t) (sym c.as_str.ensures.value) (listed_may r s i f c.requires.lookup.distinct (names.1 among) (c.requires.may f))
 
@@ -52,7 +52,7 @@ loop-name-preserved c =
     let inv = c.loop-name.invariant in
     let step = c.in_ok-enable.ensures in
     let texts = c.deref-name-items.result.now in
-    let names = listed_names c.args.basis.now.lookup.now i c.args.node.place c.index.result.now c.requires.lookup c.requires.node c.index.ensures f in
+    let names = listed_names c.args.basis.now.lookup.now i c.args.node.place c.index.result.now c.requires.lookup c.requires.node.at c.index.ensures f in
     let among = subst (λ ts. Contains (map text_view ts) f) c.deref-name-items.ensures.value (value_at texts c.loop-name.name-index c.name-item.result c.loop-name-test.true c.name-item.is) in
     let named = subst (λ (t : Text). IsEnabledBySome r y i t) c.as_str.ensures.value step.named in (
       advances_trans r s c.args.found.now x y inv.0 step.advanced,
@@ -68,5 +68,5 @@ returns-clause-enabled c f lists =
     let r = resolved_view c.args.basis.now.lookup.now in
     let i = id_of c.args.node.id.now in
     let texts = c.deref-name-items.result.now in
-    let names = listed_names c.args.basis.now.lookup.now i c.args.node.place c.index.result.now c.requires.lookup c.requires.node c.index.ensures f in
+    let names = listed_names c.args.basis.now.lookup.now i c.args.node.place c.index.result.now c.requires.lookup c.requires.node.at c.index.ensures f in
     each_seen text_view (λ (t : Text). HasFound r c.loop-name.found (Feature i t)) texts c.index.result.now.features.items c.loop-name.name-index c.deref-name-items.ensures.value (omega arith) c.loop-name.invariant.1 f (names.0 lists)

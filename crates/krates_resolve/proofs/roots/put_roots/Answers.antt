@@ -5,9 +5,10 @@ use Rattle.krates_cm.specs.Document.{node_view}
 use Rattle.krates_ids.specs.Identity.{Identity}
 use Rattle.krates_resolve.specs.Found.{IsRooted}
 use Rattle.krates_lookups.specs.Lookup.{resolved_view}
+use Rattle.krates_rules.specs.NamedIds.{IsReadOf}
 use Rattle.krates_rules.specs.Resolved.{id_of, IsMember}
 use Rattle.krates_rules.specs.Roots.{IsRoot}
-use Rattle.krates_questions.proofs.RootLemmas.{are_members}
+use Rattle.krates_questions.proofs.RootLemmas.{are_read_members}
 use Rattle.krates_resolve.proofs.Rooted.{members_rooted, none_rooted}
 use Rattle.krates_resolve.proofs.roots.put_roots.Goals as goal
 
@@ -15,6 +16,9 @@ pub put_root-requires-clause-each : goal.put_root-requires-clause-each
 put_root-requires-clause-each c =
     let nodes = c.args.basis.now.lookup.now.resolve.now.nodes in
     none_rooted c.args.basis.now c.args.found.now c.in_ok-places.places c.len.result c.in_ok-places.ensures (c.len.ensures ∙ nodes.ok.0 ∙ sym (length-map nodes.items node_view))
+
+pub put_root-requires-clause-root : goal.put_root-requires-clause-root
+put_root-requires-clause-root c = (c.in-Root.ensures.0, c.in-Root.ensures.2)
 
 pub put_members-requires-clause-each : goal.put_members-requires-clause-each
 put_members-requires-clause-each c =
@@ -29,12 +33,12 @@ put_members-requires-in-Manifests-clause-each c =
 pub put_members-requires-clause-members : goal.put_members-requires-clause-members
 put_members-requires-clause-members c =
     let r = resolved_view c.args.basis.now.lookup.now in
-    subst (λ (ms : List Identity). All (λ m. IsMember r (id_of m)) ms) (sym c.deref.ensures.value) (are_members r c.args.basis.now.lookup.now.ids.now.members.items c.requires.lookup.ids.members)
+    subst (λ (ms : List Identity). All (λ m. IsMember r (id_of m) × IsReadOf r m) ms) (sym c.deref.ensures.value) (are_read_members r c.args.basis.now.lookup.now.ids.now.members.items c.requires.lookup.ids.members)
 
 pub put_members-requires-in-Manifests-clause-members : goal.put_members-requires-in-Manifests-clause-members
 put_members-requires-in-Manifests-clause-members c =
     let r = resolved_view c.args.basis.now.lookup.now in
-    subst (λ (ms : List Identity). All (λ m. IsMember r (id_of m)) ms) (sym c.deref-in-Manifests.ensures.value) (are_members r c.args.basis.now.lookup.now.ids.now.members.items c.requires.lookup.ids.members)
+    subst (λ (ms : List Identity). All (λ m. IsMember r (id_of m) × IsReadOf r m) ms) (sym c.deref-in-Manifests.ensures.value) (are_read_members r c.args.basis.now.lookup.now.ids.now.members.items c.requires.lookup.ids.members)
 
 pub returns-in-Root-clause-roots : goal.returns-in-Root-clause-roots
 returns-in-Root-clause-roots c =

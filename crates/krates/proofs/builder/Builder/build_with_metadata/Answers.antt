@@ -1,5 +1,5 @@
 use Rattle.krates_document.specs.Ids.{ids_view}
-use Rattle.krates.proofs.SeenLemmas.{admitted_seen, sees_built, sees_refused}
+use Rattle.krates.proofs.SeenLemmas.{admitted_seen, sees_built, sees_named, sees_refused}
 use Rattle.krates.proofs.builder.Builder.build_with_metadata.Goals as goal
 
 pub build_admitted-requires-clause-admitted : goal.build_admitted-requires-clause-admitted
@@ -10,3 +10,6 @@ returns-clause-built g c = rw (← c.self.view_is) (sees_built _ _ c.args.metada
 
 pub returns-clause-refused : goal.returns-clause-refused
 returns-clause-refused g c = rw (← c.self.view_is) (sees_refused _ _ c.args.metadata c.in_ok-metadata.metadata _ (ids_view c.in_ok-ids.ids) _ c.in_ok-ids.ensures.admitted c.in_ok-metadata.ensures.seen c.build_admitted.ensures.refused)
+
+pub returns-clause-named : goal.returns-clause-named
+returns-clause-named g c = sees_named _ _ c.args.metadata c.in_ok-metadata.metadata _ c.in_ok-metadata.ensures.seen c.build_admitted.ensures.named
