@@ -71,6 +71,7 @@ pub mod index {
 
 /// Which documents can be resolved, what is kept of them, and what they answer to the questions of the rules.
 pub mod resolve {
+    pub use krates_lookups::lookup::Lookup;
     pub use krates_resolve::{
         Document, EnabledFeature, Ids, KeptEdge, Need, NumberedFact, NumberedStep, Presence,
         Reason, Selection, Setting, ToggledFeature, Work, admit, select,

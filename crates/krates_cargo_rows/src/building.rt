@@ -1,10 +1,10 @@
 //! Builds, and runs of the program, over the document that a stand-in for cargo writes.
 
-ghost use Rattle.std.specs.Prelude.{⊤};
+ghost use Rattle.std.specs.Prelude.{◌≡◌, ⊤};
 
 use crate::stand_in::command;
 use crate::table::{Question, Row, hold, hold_beginnings};
-use krates::{Builder, Error, Krates, OnFilter, Package};
+use krates::{Builder, DepKind, Error, Krates, OnFilter, Package, Scope};
 use krates_cargo::MetadataCommand;
 use krates_cli::{Counted, Options, RunError, program, run_by_cargo};
 use std::alloc::{AllocError, Global};
@@ -26,23 +26,25 @@ impl OnFilter for Count {
     }
 }
 
-/// The last word of a run of cargo, and how the answer of its build begins, with how many packages the filter was called.
+/// The last word of a run of cargo, with `/ ignore dev` behind it where the build ignores what is needed for tests, and how the answer
+/// of that build begins, with how many packages the filter was called. Where it is ignored, a build that isn't refused reports one.
 const BUILDS: &[Row] = &[
     ("x", "0 reported, 2 kept"),
+    ("x / ignore dev", "1 reported, 1 kept"),
     (
-        "--fake=fail",
+        "--fake=fail / ignore dev",
         "0 reported, `cargo metadata` exited with an error: no manifest\n",
     ),
     (
-        "--fake=badout",
+        "--fake=badout / ignore dev",
         "0 reported, cannot convert the stdout of `cargo metadata`: ",
     ),
     (
-        "--fake=baderr",
+        "--fake=baderr / ignore dev",
         "0 reported, cannot convert the stderr of `cargo metadata`: ",
     ),
     (
-        "--fake=nojson",
+        "--fake=nojson / ignore dev",
         "0 reported, could not find any json in the output of `cargo metadata`",
     ),
 ];
@@ -59,22 +61,32 @@ fn outcome(
     }
 }
 
-/// The answer of a build by this command.
-fn told(rt: &HostRuntime, command: MetadataCommand) -> Result<String, Fail> {
+/// Sets of the builder what a setting asks.
+fn set(builder: &mut Builder, setting: &str)
+    ensures index { builder.new.index ≡ builder.old.index }
+{
+    if setting == "ignore dev" {
+        builder.ignore_kind(DepKind::Dev, Scope::All);
+    }
+}
+
+/// The answer of a build by this command under this setting.
+fn told(rt: &HostRuntime, command: MetadataCommand, setting: &str) -> Result<String, Fail> {
     let mut count = Count { packages: 0 };
-    let built: Result<Krates, Error> = Builder::new(rt.alloc()).build(
-        command, None, rt, &mut count,
-    );
+    let mut builder = Builder::new(rt.alloc());
+    set(&mut builder, setting);
+    let built: Result<Krates, Error> = builder.build(command, None, rt, &mut count);
     Ok(outcome(rt.alloc(), count.packages, &built)?)
 }
 
-/// The answer of a build by a command with this last word.
+/// The answer of a build by a command with this last word, under the setting behind it.
 struct Built;
 
 impl Question for Built {
     fn told(rt: &HostRuntime, line: &str) -> Result<String, Fail> {
-        let command = command(rt, line)?;
-        told(rt, command)
+        let (last, setting) = line.split_once(" / ").unwrap_or((line, ""));
+        let command = command(rt, last)?;
+        told(rt, command, setting)
     }
 }
 
@@ -87,7 +99,7 @@ fn builds(rt: HostRuntime) -> Result<(), Fail> {
 fn no_build_without_a_program(rt: HostRuntime) -> Result<(), Fail> {
     let mut command = MetadataCommand::new(rt.alloc());
     command.cargo_path(String::from_str(rt.alloc(), "/no/such/program")?);
-    let told = told(&rt, command)?;
+    let told = told(&rt, command, "ignore dev")?;
     assert!(rt;
         told.starts_with("0 reported, failed to start `cargo metadata`: "),
         "{told}"

@@ -1,14 +1,14 @@
 -- A reader or a writer, with the number of its failed calls.
 use Rattle.std.specs.Prelude.{◌≡◌, ◌++◌, ℕ, ◌<◌, ◌-◌, ◌^◌, ◌⊎◌, List, Option, ⊤}
 use Rattle.std.specs.Io.KnownBytes.{Appends}
-use Rattle.krates_cli.specs.FailedCall.{number_of}
+use Rattle.krates_cli.specs.FailedCall.{end_of, number_of}
 use Rattle.krates_cli.specs.declared.counted.Counted.{Counted}
 use Rattle.krates_cli.specs.declared.run_error.RunError.{RunError}
 use Rattle.krates_cli.specs.declared.run_error.RunError.TheVariants as errors
 
 -- the reader or writer itself
 abbrev pub inner_of : {T : Type 0} → Counted T → T
-inner_of c = c.inner
+inner_of c = end_of c.inner
 
 -- how many of its calls have failed
 abbrev pub failures_of : {T : Type 0} → Counted T → ℕ

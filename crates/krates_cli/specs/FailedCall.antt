@@ -4,8 +4,13 @@ use Rattle.std.specs.IoError.{error_kind}
 use Rattle.std.specs.declared.io.Error.{Error}
 use Rattle.std.specs.declared.io.ErrorKind.TheVariants.{Interrupted}
 use Rattle.krates_cli.specs.declared.failed_call.CountedCall.{CountedCall}
+use Rattle.krates_cli.specs.declared.failed_call.Endpoint.{Endpoint}
 use Rattle.krates_cli.specs.declared.failed_call.FailedCall.{FailedCall}
 use Rattle.krates_cli.specs.declared.failed_call.Failures.{Failures}
+
+-- the reader or writer itself
+abbrev pub end_of : {T : Type 0} → Endpoint T → T
+end_of e = e.inner
 
 -- the call failed with this error
 abbrev pub FailedWith : Error → FailedCall → Type 0

@@ -5,7 +5,7 @@ ghost use Rattle.std.specs.Io.KnownBytes.{Appends, IsAtEnd, ReadConsumes, WriteA
 ghost use Rattle.krates_cli.specs.Counted.{AppendsFront, HasFailed, IsReadFailure, IsWriteFailure, failures_of, inner_of};
 ghost use Rattle.krates_cli.specs.FailedCall.{was_interrupted};
 
-use crate::failed_call::{CountedCall, Failures, read_once, write_once};
+use crate::failed_call::{CountedCall, Endpoint, Failures};
 use crate::run_error::RunError;
 use std::alloc::Global;
 use std::io::{Read, Write};
@@ -13,7 +13,7 @@ use std::io::{Read, Write};
 /// A reader or a writer, and the number of its failed calls, which stays at its greatest value.
 #[derive(Drop)]
 pub struct Counted<T> {
-    inner: T,
+    inner: Endpoint<T>,
     failures: Failures,
 }
 
@@ -24,7 +24,7 @@ impl<T> Counted<T> {
         ensures none { failures_of result ≡ 0 }
     {
         Counted {
-            inner,
+            inner: Endpoint::new(inner),
             failures: Failures::new(),
         }
     }
@@ -40,7 +40,7 @@ impl<T> Counted<T> {
     pub fn get_ref(&self) -> &T
         ensures { result.now ≡ inner_of self.now }
     {
-        &self.inner
+        self.inner.get_ref()
     }
 }
 
@@ -57,7 +57,7 @@ impl<R: Read> Counted<R> {
     {
         let mut turns = 0u64;
         loop {
-            let call = match read_once(&mut self.inner, buffer) {
+            let call = match self.inner.read_once(buffer) {
                 Ok(count) => return Ok(count),
                 Err(call) => self.failures.count(call),
             };
@@ -107,7 +107,7 @@ impl<W: Write> Counted<W> {
     {
         let mut turns = 0u64;
         loop {
-            let call = match write_once(&mut self.inner, bytes) {
+            let call = match self.inner.write_once(bytes) {
                 Ok(count) => return Ok(count),
                 Err(call) => self.failures.count(call),
             };

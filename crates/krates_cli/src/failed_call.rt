@@ -2,14 +2,14 @@
 
 ghost use Rattle.std.specs.Prelude.{◌≡◌, ◌+◌, ◌-◌, ◌<◌, ◌≤◌, ◌^◌, IfOk, length, min};
 ghost use Rattle.std.specs.Io.KnownBytes.{ReadConsumes, WriteAppends};
-ghost use Rattle.krates_cli.specs.FailedCall.{FailedWith, IsThatCall, number_of, was_interrupted};
+ghost use Rattle.krates_cli.specs.FailedCall.{FailedWith, IsThatCall, end_of, number_of, was_interrupted};
 ghost use Rattle.krates_cli.specs.declared.run_error.RunError.TheVariants as errors;
 
 use crate::run_error::RunError;
 use std::io;
 use std::io::{ErrorKind, Read, Write};
 
-/// A call that failed and isn't counted yet. Only `read_once` and `write_once` make it. It is neither copied nor dropped, so
+/// A call that failed and isn't counted yet. Only an `Endpoint` makes it. It is neither copied nor dropped, so
 /// whoever has it has to count it, and can do so only once.
 pub(crate) struct FailedCall {
     is_interrupted: bool,
@@ -36,27 +36,56 @@ fn failed(error: io::Error) -> FailedCall
     }
 }
 
-/// One call of the reader, into the front of the buffer: how many bytes came.
-pub(crate) fn read_once<R: Read>(inner: &mut R, buffer: &mut [u8]) -> Result<usize, FailedCall>
-    ensures bound { IfOk result (λ n. n ≤ length buffer.new) }
-    ensures bytes { ReadConsumes (R.remaining inner.old) (R.remaining inner.new) result buffer.new }
-{
-    inner.read(buffer).map_err(failed)
+/// A reader or a writer whose calls are made here alone, one at a time. Nobody else reaches it to change it, so no failed call
+/// can be made again without having been handed on.
+#[derive(Drop)]
+pub(crate) struct Endpoint<T> {
+    inner: T,
 }
 
-/// One call of the writer, with the front of the bytes: how many were taken. A call that takes none has failed, so there have to
-/// be some.
-pub(crate) fn write_once<W: Write>(inner: &mut W, bytes: &[u8]) -> Result<usize, FailedCall>
-    requires { 0 < length bytes.now }
-    ensures bound { IfOk result (λ n. (0 < n) × (n ≤ length bytes.now)) }
-    ensures bytes { WriteAppends (W.contents inner.old) (W.contents inner.new) result bytes.now }
-{
-    match inner.write(bytes) {
-        Ok(0) => Err(FailedCall {
-            is_interrupted: false,
-        }),
-        Ok(count) => Ok(count),
-        Err(error) => Err(failed(error)),
+impl<T> Endpoint<T> {
+    /// The reader or writer, from now on called here alone.
+    pub(crate) fn new(inner: T) -> Endpoint<T>
+        ensures { end_of result ≡ inner }
+    {
+        Endpoint { inner }
+    }
+
+    /// The reader or writer itself.
+    pub(crate) fn get_ref(&self) -> &T
+        ensures { result.now ≡ end_of self.now }
+    {
+        &self.inner
+    }
+}
+
+impl<R: Read> Endpoint<R> {
+    /// One call of the reader, into the front of the buffer: how many bytes came.
+    pub(crate) fn read_once(&mut self, buffer: &mut [u8]) -> Result<usize, FailedCall>
+        ensures bound { IfOk result (λ n. n ≤ length buffer.new) }
+        ensures bytes { ReadConsumes (R.remaining (end_of self.old)) (R.remaining (end_of self.new))
+            result buffer.new }
+    {
+        self.inner.read(buffer).map_err(failed)
+    }
+}
+
+impl<W: Write> Endpoint<W> {
+    /// One call of the writer, with the front of the bytes: how many were taken. A call that takes none has failed, so there have to
+    /// be some.
+    pub(crate) fn write_once(&mut self, bytes: &[u8]) -> Result<usize, FailedCall>
+        requires { 0 < length bytes.now }
+        ensures bound { IfOk result (λ n. (0 < n) × (n ≤ length bytes.now)) }
+        ensures bytes { WriteAppends (W.contents (end_of self.old)) (W.contents (end_of self.new))
+            result bytes.now }
+    {
+        match self.inner.write(bytes) {
+            Ok(0) => Err(FailedCall {
+                is_interrupted: false,
+            }),
+            Ok(count) => Ok(count),
+            Err(error) => Err(failed(error)),
+        }
     }
 }
 

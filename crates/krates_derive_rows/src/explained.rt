@@ -1,11 +1,13 @@
 //! What a build hands out to explain what it keeps: each derivation is accepted, and all facts together are a closed list.
 
 use crate::builders::krates_of;
+use crate::facts::told;
 use crate::lists::{Ask, Given, OfLine};
 use krates::derive::{CheckError, check, check_closed};
 use krates::{Builder, Krates, NodeId};
 use krates_cli::derivation_lines::lines_of;
-use krates_samples::table::{Question, Row, hold};
+use krates_samples::documents::section;
+use krates_samples::table::{Row, hold};
 use std::alloc::{AllocError, Global};
 use std::test::Fail;
 
@@ -114,38 +116,75 @@ const REAL: &[Row] = &[
     ("gitter", "21 nodes true, 32 facts true"),
 ];
 
-/// The lines of the derivation of the second node.
-fn second_lines(alloc: Global, krates: &Krates) -> Result<String, AllocError> {
-    match krates.why(NodeId::new(1))? {
-        Some(derivation) => lines_of(alloc, &derivation),
-        None => String::from_str(alloc, "none"),
+/// What is built of the document of a line, where its section `built` sets something more or something else.
+fn built(alloc: Global, line: &str) -> Result<Box<Krates>, Fail> {
+    let set = section(line, "built ").unwrap_or("");
+    let line = format!(in alloc; "{line} / {set}")?;
+    krates_of(alloc, line.as_str())
+}
+
+/// The lines of the derivation of a node, where there is one, and what the check answers of it.
+fn reason(given: &Given<'_, Builder>, krates: &Krates, node: NodeId) -> Result<String, Fail> {
+    let Some(derivation) = krates.why(node)? else {
+        return Ok(String::from_str(given.alloc, "none")?);
+    };
+    let answer = told(
+        given.alloc,
+        check(given.metadata, given.set, None, &derivation),
+    )?;
+    let mut text = lines_of(given.alloc, &derivation)?;
+    text.push_str(answer.as_str())?;
+    Ok(text)
+}
+
+/// What a build explains, checked by what the line sets, which may be something else than what the build has set: the derivation of the
+/// node in the section `why`, and all facts.
+struct Rechecked;
+
+impl Ask for Rechecked {
+    type Set = Builder;
+
+    fn told(given: &Given<'_, Builder>, line: &str) -> Result<String, Fail> {
+        let krates = built(given.alloc, line)?;
+        let node = section(line, "why ").unwrap_or("").parse()?;
+        let reason = reason(given, &krates, NodeId::new(node))?;
+        let facts = told(given.alloc, answer_without(given, &krates, usize::MAX)?)?;
+        Ok(format!(in given.alloc; "{reason}, facts {facts}")?)
     }
 }
 
-/// What is told of the second node of a document.
-struct Second;
-
-impl Question for Second {
-    fn told(alloc: Global, line: &str) -> Result<String, Fail> {
-        let krates = krates_of(alloc, line)?;
-        Ok(second_lines(alloc, &krates)?)
-    }
-}
-
-const SECOND: &[Row] = &[
+const RECHECKED: &[Row] = &[
     // a crate that is needed for tests
     (
-        "a b&dev|b",
-        "0 rule 1: crate path+file:///w/a#0.1.0\n1 rule 5: kept path+file:///w/a#0.1.0 -> path+file:///w/b#0.1.0 (dev) from 0\n2 rule 5: crate path+file:///w/b#0.1.0 from 1\n",
+        "a b&dev|b / why 1",
+        "0 rule 1: crate path+file:///w/a#0.1.0\n1 rule 5: kept path+file:///w/a#0.1.0 -> path+file:///w/b#0.1.0 (dev) from 0\n2 rule 5: crate path+file:///w/b#0.1.0 from 1\nyes, facts yes",
     ),
     // an enabled feature, and no second node
-    ("a;x=", "0 rule 1: feature x of path+file:///w/a#0.1.0\n"),
-    ("a", "none"),
+    (
+        "a;x= / why 1",
+        "0 rule 1: feature x of path+file:///w/a#0.1.0\nyes, facts yes",
+    ),
+    ("a / why 1", "none, facts yes"),
+    // two versions, of which a name means both: the second is there for no other reason
+    (
+        "a d?;x=dep:d|d@0.10.0|d@0.9.0 / nodes a d@0.10.0 d@0.9.0;x|d@0.10.0|d@0.9.0 / names all / why 2",
+        "0 rule 1: feature x of path+file:///w/a#0.1.0\n1 rule 4: kept path+file:///w/a#0.1.0 -> path+file:///w/d#d@0.9.0 from 0\n2 rule 5: crate path+file:///w/d#d@0.9.0 from 1\nyes, facts yes",
+    ),
+    // the same build, checked where the name means the least: what it kept needn't be reached, and lacks nothing that is
+    (
+        "a d?;x=dep:d|d@0.10.0|d@0.9.0 / nodes a d@0.10.0 d@0.9.0;x|d@0.10.0|d@0.9.0 / why 2 / built names all",
+        "0 rule 1: feature x of path+file:///w/a#0.1.0\n1 rule 4: kept path+file:///w/a#0.1.0 -> path+file:///w/d#d@0.9.0 from 0\n2 rule 5: crate path+file:///w/d#d@0.9.0 from 1\nstep 1, facts yes",
+    ),
+    // the other way round: what is kept where it means the least is reached where it means both, and isn't all
+    (
+        "a d?;x=dep:d|d@0.10.0|d@0.9.0 / nodes a d@0.10.0 d@0.9.0;x|d@0.10.0|d@0.9.0 / names all / why 1 / built names least",
+        "0 rule 1: feature x of path+file:///w/a#0.1.0\n1 rule 4: kept path+file:///w/a#0.1.0 -> path+file:///w/d#d@0.10.0 from 0\n2 rule 5: crate path+file:///w/d#d@0.10.0 from 1\nyes, facts open",
+    ),
 ];
 
 #[test]
 fn builds_explain_what_they_keep(rt: HostRuntime) -> Result<(), Fail> {
     hold::<OfLine<Explained>>(rt.alloc(), EXPLAINED)?;
     hold::<OfLine<Explained>>(rt.alloc(), REAL)?;
-    hold::<Second>(rt.alloc(), SECOND)
+    hold::<OfLine<Rechecked>>(rt.alloc(), RECHECKED)
 }

@@ -1,7 +1,8 @@
-//! Lists of steps, printed: a step a line.
+//! What is printed: lists of steps, a step a line, and the refusals of the checkers.
 
 use crate::facts::steps_of;
 use krates_cli::derivation_lines::lines_of;
+use krates_derive::CheckError;
 use krates_samples::table::{Question, Row, hold};
 use std::alloc::Global;
 use std::test::Fail;
@@ -39,7 +40,33 @@ const PRINTED: &[Row] = &[
     ),
 ];
 
+/// What a refusal of a checker prints. It is named by its word, and that of a step by the number of the step.
+struct Refused;
+
+impl Question for Refused {
+    fn told(alloc: Global, line: &str) -> Result<String, Fail> {
+        let refusal = match line {
+            "document" => CheckError::Document,
+            "empty" => CheckError::Empty,
+            "memory" => CheckError::Memory,
+            "open" => CheckError::Open,
+            _ => CheckError::Step(line.parse()?),
+        };
+        Ok(refusal.to_string(alloc)?)
+    }
+}
+
+const REFUSED: &[Row] = &[
+    ("document", "bad document"),
+    ("empty", "empty derivation"),
+    ("0", "step 0 does not follow"),
+    ("12", "step 12 does not follow"),
+    ("memory", "out of memory"),
+    ("open", "open list"),
+];
+
 #[test]
-fn steps_are_printed(rt: HostRuntime) -> Result<(), Fail> {
-    hold::<Printed>(rt.alloc(), PRINTED)
+fn steps_and_refusals_are_printed(rt: HostRuntime) -> Result<(), Fail> {
+    hold::<Printed>(rt.alloc(), PRINTED)?;
+    hold::<Refused>(rt.alloc(), REFUSED)
 }

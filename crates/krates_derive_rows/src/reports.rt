@@ -79,42 +79,6 @@ const DEPENDENTS: &[Row] = &[
     ("a b|b / of c", ""),
 ];
 
-/// Adds a crate of which another version or source is kept too.
-fn push_duplicate(text: &mut String, krates: &Krates, krate: &Package) -> Result<(), AllocError> {
-    let mut same = krates.krates_by_name(krate.name());
-    if same.next().is_some() && same.next().is_some() {
-        write!(text, "{} {}, ", krate.name(), krate.version())?;
-    }
-    Ok(())
-}
-
-/// The crates of which another version or source is kept too.
-struct Duplicates;
-
-impl Report for Duplicates {
-    fn push(text: &mut String, krates: &Krates, _: &str) -> Result<(), AllocError> {
-        for krate in krates.krates() {
-            push_duplicate(text, krates, krate)?;
-        }
-        Ok(())
-    }
-}
-
-const DUPLICATES: &[Row] = &[
-    ("a b|b", ""),
-    (
-        "a d|d@0.10.0|d@0.9.0 / nodes a d@0.10.0 d@0.9.0|d@0.10.0|d@0.9.0",
-        "d 0.10.0, d 0.9.0, ",
-    ),
-    // a version that isn't kept doesn't count
-    (
-        "a d|d@0.10.0|d@0.9.0 / nodes a d@0.9.0|d@0.10.0|d@0.9.0",
-        "",
-    ),
-    // a name that begins as another does is another
-    ("a b bb|b|bb", ""),
-];
-
 /// Adds a crate that isn't the next one that is needed; answers whether it is.
 fn push_other(
     text: &mut String,
@@ -162,6 +126,5 @@ const FOR_TESTS: &[Row] = &[
 #[test]
 fn reports(rt: HostRuntime) -> Result<(), Fail> {
     hold::<Reported<Dependents>>(rt.alloc(), DEPENDENTS)?;
-    hold::<Reported<Duplicates>>(rt.alloc(), DUPLICATES)?;
     hold::<Reported<ForTests>>(rt.alloc(), FOR_TESTS)
 }

@@ -31,6 +31,7 @@ pub mod SaidAlike
 pub mod SheetThere
 pub mod Sources
 pub mod Standing
+pub mod StoredEdges
 pub mod Storing
 pub mod Tests
 pub mod Zips

@@ -2,14 +2,15 @@
 
 use crate::starving::{Call, answered, granted, other_refusal, refused, starved};
 use krates_cm::{Error, Metadata, Package, PackageId, WorkspaceDefaultMembers, parse};
-use krates_samples::documents::{document, metadata};
+use krates_samples::documents::metadata;
+use krates_stand_in::DOCUMENT;
 use std::alloc::{AllocError, Global};
 use std::test::Fail;
 
 /// Two members, of which the first has a feature and needs the second.
 const LINE: &str = "a b&dev;f=g|b|c / members b a";
 
-/// Reads the document.
+/// Reads a document of two packages and a graph.
 #[derive(Debug)]
 struct Parse;
 
@@ -28,7 +29,7 @@ impl Call for Parse {
     type Answer = Result<Metadata, Error>;
 
     fn given(&self, alloc: Global) -> Result<String, Fail> {
-        document(alloc, LINE)
+        Ok(String::from_str(alloc, DOCUMENT)?)
     }
 
     fn answer(&self, alloc: Global, given: &mut String) -> Result<Metadata, Error> {

@@ -1,9 +1,12 @@
 //! Ids, and the correction of a package by an index.
 
+use crate::commands::parts;
 use crate::documents::boxed;
 use crate::starving::{Call, granted, other_refusal, refused, starved};
 use krates_cm::{Metadata, PackageId};
-use krates_ids::{CachingIndex, IdError, IndexAnswer, IndexKrate, IndexKrateVersion, Kid};
+use krates_ids::{
+    CachingIndex, FeaturesMap, IdError, IndexAnswer, IndexKrate, IndexKrateVersion, Kid,
+};
 use semver::Version;
 use std::alloc::{AllocError, Global};
 use std::collections::BTreeMap;
@@ -54,21 +57,22 @@ fn an_id_with_an_escape(rt: HostRuntime) -> Result<(), Fail> {
     starved(&rt, READ)
 }
 
-/// What an index has of a package: its version 1.0.0, which has one feature without a reference.
-fn known(alloc: Global) -> Result<IndexKrate, Fail> {
+/// The features that an index has of a package: a default one with a reference, and one without.
+fn known(alloc: Global) -> Result<FeaturesMap, Fail> {
+    let references = parts(alloc, "x", ',')?;
     let mut features = BTreeMap::new(alloc);
+    drop(features.insert(String::from_str(alloc, "default")?, references)?);
     drop(features.insert(String::from_str(alloc, "std")?, Vec::new(alloc))?);
-    let version = Version::parse(alloc, "1.0.0")?;
-    let known = IndexKrateVersion { version, features };
-    let versions = vec![in alloc; known]?;
-    Ok(IndexKrate { versions })
+    Ok(features)
 }
 
-/// The answer of an index about the version 1.0.0 of `p`: one feature without a reference.
+/// The answer of an index about the version 1.0.0 of `p`, which has these features.
 pub(crate) fn answer(alloc: Global) -> Result<IndexAnswer, Fail> {
-    let known = known(alloc)?;
+    let features = known(alloc)?;
+    let version = Version::parse(alloc, "1.0.0")?;
+    let versions = vec![in alloc; IndexKrateVersion { version, features }]?;
     let mut krates = BTreeMap::new(alloc);
-    drop(krates.insert(String::from_str(alloc, "p")?, Some(known))?);
+    drop(krates.insert(String::from_str(alloc, "p")?, Some(IndexKrate { versions }))?);
     Ok(IndexAnswer { krates })
 }
 
@@ -100,7 +104,7 @@ impl Call for Correct {
     type Answer = Result<(), AllocError>;
 
     fn given(&self, alloc: Global) -> Result<Indexed, Fail> {
-        let metadata = boxed(alloc, "p@1.0.0&crates.io;default=foo")?;
+        let metadata = boxed(alloc, "p@1.0.0&crates.io;default=std,foo")?;
         let answer = answer(alloc)?;
         let index = CachingIndex { answer };
         Ok(Indexed { index, metadata })
@@ -122,9 +126,9 @@ impl Call for Correct {
         let told = features_told(alloc, &given.metadata)?;
         match answer {
             Ok(()) => granted(
-                told.as_str() == r#"{"default": ["foo"], "foo": ["dep:foo"], "std": []}"#,
+                told.as_str() == r#"{"default": ["std", "foo"], "foo": ["dep:foo"], "std": []}"#,
             ),
-            Err(AllocError) => refused(told.as_str() == r#"{"default": ["foo"]}"#),
+            Err(AllocError) => refused(told.as_str() == r#"{"default": ["std", "foo"]}"#),
         }
     }
 }

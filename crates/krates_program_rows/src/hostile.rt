@@ -8,6 +8,7 @@ use krates::cm::{Error as MetadataError, MetadataCommand};
 use krates::{Builder, Error, Krates, OnFilter, Package};
 use krates_cli::{Counted, Options, RunError, run};
 use krates_samples::documents::document;
+use krates_stand_in::DOCUMENT;
 use std::alloc::Global;
 use std::test::Fail;
 
@@ -41,8 +42,7 @@ fn first_read(alloc: Global, text: &[u8]) -> Result<Option<usize>, Fail> {
 
 #[test]
 fn refuses_a_document_that_ends_too_early(rt: HostRuntime) -> Result<(), Fail> {
-    let json = document(rt.alloc(), "a b&dev|b")?;
-    assert_eq!(rt; first_read(rt.alloc(), json.as_bytes())?, None);
+    assert_eq!(rt; first_read(rt.alloc(), DOCUMENT.as_bytes())?, None);
     Ok(())
 }
 

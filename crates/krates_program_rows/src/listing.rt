@@ -44,14 +44,18 @@ pub(crate) fn outcome<R: Read + Drop>(
     Ok(format!(in alloc; "{told}|{lines}")?)
 }
 
-/// What a run tells and writes; a line has its words, and behind `<` the document that it reads.
+/// What a run tells and writes; a line has its words, and behind `<` the document that it reads, or the text itself, which begins
+/// with `{`.
 pub(crate) struct Listed;
 
 impl Question for Listed {
     fn told(alloc: Global, line: &str) -> Result<String, Fail> {
         let (words, line) = line.split_once('<').unwrap_or((line, ""));
-        let json = document(alloc, line)?;
         let words = words_of(alloc, words)?;
+        if line.starts_with('{') {
+            return outcome(alloc, words.as_slice(), line.as_bytes());
+        }
+        let json = document(alloc, line)?;
         outcome(alloc, words.as_slice(), json.as_bytes())
     }
 }
@@ -70,15 +74,19 @@ const LISTED: &[Row] = &[
 
 const REFUSED: &[Row] = &[
     (
-        "< a b&dev|b / nodes",
+        "< a b&dev|b|c / nodes",
         "1 refused: lost node: path+file:///w/a#0.1.0\n|",
     ),
     (
-        "< a|b / nodes a b&dev|b",
+        "< a|b|c / nodes a b&dev|b|c",
         "1 refused: undeclared dependency: path+file:///w/b#0.1.0 of path+file:///w/a#0.1.0\n|",
     ),
     (
         "< / members / no graph",
+        "1 refused: no resolution graph was provided\n|",
+    ),
+    (
+        r#"<{"packages":[],"workspace_members":[],"workspace_root":"/w","target_directory":"/t"}"#,
         "1 refused: no resolution graph was provided\n|",
     ),
 ];

@@ -114,8 +114,9 @@ const BUILT: &[Row] = &[
     ("a b|b a", "+a+b"),
     ("a b|b / members a a", "+a+b"),
     ("a b|b / nodes a b|b|c", "+a+b"),
-    // an optional edge isn't kept
+    // an optional edge isn't kept, also where a weak reference alone leads over it
     ("a b?|b", "+a-b"),
+    ("a b?;b=dep:b w=b?/j|b;j= / nodes a b;w|b;j", "+a-b"),
     // the root, where there is one, and not the members
     ("a|b / members a b / root b", "+b-a"),
     // what is refused

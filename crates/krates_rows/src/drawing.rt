@@ -111,6 +111,8 @@ const GRAPHS: &[Row] = &[
         "a b!&with=default|b;default= / nodes a b|b;default",
         "a[1] b 1/default | 0=2 0=2 2:1",
     ),
+    // the default feature by use, which the crate doesn't list: one edge to the crate
+    ("a b!|b", "a[1] b | 0>1"),
     // a reference over an edge that is pruned draws nothing
     (
         "a b;x=b/nope|b / nodes a b;x|b / without b",

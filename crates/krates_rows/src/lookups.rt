@@ -120,6 +120,11 @@ const LOOKED_UP: &[Row] = &[
     ("a b|b;j= k= / ask features b", "set"),
     ("a b&with=k,j|b;j= k= / ask features b", "set+j+k"),
     ("a b|b|c;j= / ask features c", "none"),
+    (
+        "a b?;b=dep:b w=b?/j s=b/k|b;j= / nodes a b;b w s|b;j k / ask features b",
+        "set+j+k",
+    ),
+    ("a b!|b / ask features b", "set"),
     // a node, of a crate or of its feature
     (
         "a b?;b=dep:b w=b?/j|b;j= / nodes a b;b w|b;j / ask found b j",
@@ -177,65 +182,30 @@ const LOOKED_UP: &[Row] = &[
     ("b dd&with=j d|d|dd;j= / members b / ask name e", ""),
     // a package of the name that isn't kept
     ("a|b / ask name b", ""),
+    // a package whose directory has another name, which is the one that its id has
+    (
+        "a real&id=path+file:///w/dir#0.1.0|real&id=path+file:///w/dir#0.1.0 / ask name real",
+        " 1=dir(0.1.0)",
+    ),
+    (
+        "a real&id=path+file:///w/dir#0.1.0|real&id=path+file:///w/dir#0.1.0 / ask name dir",
+        "",
+    ),
+    (
+        "a real&id=path+file:///w/dir#0.1.0|real&id=path+file:///w/dir#0.1.0 / ask search real =0.1.0",
+        " 1=dir(0.1.0)",
+    ),
+    (
+        "a real&id=path+file:///w/dir#0.1.0|real&id=path+file:///w/dir#0.1.0 / ask search dir =0.1.0",
+        "",
+    ),
     // crates of a number
     ("a b|b;j= / ask krate 0", "a a"),
     ("a b|b;j= / ask krate 1", "b b"),
     ("a b&with=j|b;j= / ask krate 2", "none"),
 ];
 
-/// Adds a crate of which another version or source is kept too.
-fn push_duplicate(text: &mut String, krates: &Krates, krate: &Package) -> Result<(), AllocError> {
-    let mut same = krates.krates_by_name(krate.name());
-    if same.next().is_some() && same.next().is_some() {
-        return write!(text, " {} {}", krate.name(), krate.version());
-    }
-    Ok(())
-}
-
-/// The crates of which another version or source is kept too.
-struct Duplicates;
-
-impl Told<Package> for Duplicates {
-    fn push(text: &mut String, krates: &Krates, _line: &str) -> Result<(), Fail> {
-        for krate in krates.krates() {
-            push_duplicate(text, krates, krate)?;
-        }
-        Ok(())
-    }
-}
-
-const DUPLICATES: &[Row] = &[
-    (
-        "a d e|d@0.10.0|d@0.9.0|e / nodes a d@0.10.0 d@0.9.0 e|d@0.10.0|d@0.9.0|e",
-        " d 0.10.0 d 0.9.0",
-    ),
-    ("a b|b", ""),
-];
-
-/// The versions of all crates of a name, divided by bars.
-struct Versions;
-
-impl Told<Package> for Versions {
-    fn push(text: &mut String, krates: &Krates, _line: &str) -> Result<(), Fail> {
-        for found in krates.krates_by_name("d") {
-            write!(text, "{}|", found.krate.version())?;
-        }
-        Ok(())
-    }
-}
-
-const VERSIONS: &[Row] = &[
-    (
-        "a d|d@0.10.0|d@0.9.0 / nodes a d@0.10.0 d@0.9.0|d@0.10.0|d@0.9.0",
-        "0.10.0|0.9.0|",
-    ),
-    ("a b|b", ""),
-];
-
 #[test]
 fn crates_that_are_looked_up(rt: HostRuntime) -> Result<(), Fail> {
-    let alloc = rt.alloc();
-    hold::<OfGraph<LookedUp>>(alloc, LOOKED_UP)?;
-    hold::<OfGraph<Duplicates>>(alloc, DUPLICATES)?;
-    hold::<OfGraph<Versions>>(alloc, VERSIONS)
+    hold::<OfGraph<LookedUp>>(rt.alloc(), LOOKED_UP)
 }

@@ -1,19 +1,26 @@
 //! Builds with types of a caller's own in the place of packages and edges, and with a closure as the filter.
 
 ghost use Rattle.std.specs.Prelude.{⊤};
+ghost use Rattle.krates_cm.specs.Document.{text_view};
 
+use crate::of_graph::{OfGraph, Told};
 use krates::cm::Metadata;
-use krates::{Builder, Edge, Error, FilterFn, FromEdge, FromPackage, Krates, Package};
-use krates_samples::documents::metadata;
+use krates::semver::Version;
+use krates::{
+    Builder, Edge, Error, FilterFn, FromEdge, FromPackage, KrateDetails, Krates, Package,
+};
+use krates_samples::documents::{metadata, section, word_of};
 use krates_samples::table::{Question, Row, hold};
 use std::alloc::{AllocError, Global};
 use std::mem;
 use std::test::Fail;
 
-/// The name of a package. There is no room for a package `z`.
+/// The name of a package, and the path of its manifest, which is what its owner calls it. There is no room for a package `z`.
 #[derive(Drop)]
 pub(crate) struct Named {
     pub(crate) name: String,
+    manifest: String,
+    version: Version,
 }
 
 impl FromPackage for Named {
@@ -23,8 +30,28 @@ impl FromPackage for Named {
         if pkg.name.as_str() == "z" {
             return Err(AllocError);
         }
+        let version = pkg.version.clone()?;
         let name = mem::replace(&mut pkg.name, String::new(alloc));
-        Ok(Named { name })
+        let manifest = mem::replace(&mut pkg.manifest_path, String::new(alloc));
+        Ok(Named {
+            name,
+            manifest,
+            version,
+        })
+    }
+}
+
+impl KrateDetails for Named {
+    ghost name_of = { λ named. text_view named.manifest };
+
+    ghost version_of = { λ named. named.version };
+
+    fn name(&self) -> &str {
+        self.manifest.as_str()
+    }
+
+    fn version(&self) -> &Version {
+        &self.version
     }
 }
 
@@ -44,16 +71,20 @@ impl FromEdge for IsDependency {
     }
 }
 
-/// Builds a document, and hands the names of the packages that aren't kept to a closure, which gathers them.
+/// Builds a document, and hands the names of the packages that aren't kept to a closure, which gathers them. The section `names` of
+/// the line says whether a name means all dependencies that answer to it.
 fn built(
     alloc: Global,
+    line: &str,
     metadata: Metadata,
     names: &mut String,
 ) -> Result<Krates<Named, IsDependency>, Error> {
     let mut filter = FilterFn(|pkg: Package| {
         let _ = names.push_str(pkg.name.as_str());
     });
-    Builder::new(alloc).build_with_metadata(metadata, &mut filter)
+    let mut builder = Builder::new(alloc);
+    builder.all_named(section(line, "names all").is_some());
+    builder.build_with_metadata(metadata, &mut filter)
 }
 
 /// Adds the names of the kept crates.
@@ -96,7 +127,7 @@ impl Question for Own {
     fn told(alloc: Global, line: &str) -> Result<String, Fail> {
         let metadata = metadata(alloc, line)?;
         let mut names = String::new(alloc);
-        let built = built(alloc, metadata, &mut names);
+        let built = built(alloc, line, metadata, &mut names);
         told_of(alloc, &built, names.as_str())
     }
 }
@@ -124,9 +155,68 @@ const OWN: &[Row] = &[
         "lost package: path+file:///w/b#0.1.0, closure ",
     ),
     ("a|c / members", "no root crates available, closure "),
+    (
+        "a|c / nodes a|a",
+        "doubled id: path+file:///w/a#0.1.0, closure ",
+    ),
+    (
+        "a b|b|c / nodes a b b|b",
+        "doubled id: path+file:///w/b#0.1.0, closure ",
+    ),
+    (
+        "a|c / nodes a b@1",
+        "invalid package id: path+file:///w/b#b@1, closure ",
+    ),
+    // a feature that is asked for and isn't listed, with a package that nobody needs and without
+    (
+        "a b;x=b/nope|b",
+        "lost feature: nope of path+file:///w/b#0.1.0, closure ",
+    ),
+    (
+        "a b;x=b/nope|b|c",
+        "lost feature: nope of path+file:///w/b#0.1.0, closure ",
+    ),
+    // two versions, of which the least lists it: the other is reported, and where the name means both, nothing is
+    (
+        "a d?;x=d/j|d@0.10.0;j=|d@0.9.0 / nodes a d@0.10.0 d@0.9.0;x|d@0.10.0;j|d@0.9.0",
+        "ad>::::, closure d",
+    ),
+    (
+        "a d?;x=d/j|d@0.10.0;j=|d@0.9.0 / nodes a d@0.10.0 d@0.9.0;x|d@0.10.0;j|d@0.9.0 / names all",
+        "lost feature: j of path+file:///w/d#d@0.9.0, closure ",
+    ),
+    (
+        "a d?;x=d/j|c|d@0.10.0;j=|d@0.9.0 / nodes a d@0.10.0 d@0.9.0;x|d@0.10.0;j|d@0.9.0 / names all",
+        "lost feature: j of path+file:///w/d#d@0.9.0, closure ",
+    ),
+];
+
+/// The crates that are found by the name in the section `ask`.
+struct Called;
+
+impl Told<Named> for Called {
+    fn push(text: &mut String, krates: &Krates<Named>, line: &str) -> Result<(), Fail> {
+        for found in krates.krates_by_name(section(line, "ask ").unwrap_or("")) {
+            let word = word_of(found.kid.repr());
+            write!(text, " {}={word}", found.node_id.index())?;
+        }
+        Ok(())
+    }
+}
+
+const CALLED: &[Row] = &[
+    // a crate is found by what its owner calls it, and not by the name of its package or of its id
+    ("a b|b / ask /w/b/Cargo.toml", " 1=b"),
+    ("a b|b / ask b", ""),
+    // two versions, which are called alike
+    (
+        "a d|d@0.10.0|d@0.9.0 / nodes a d@0.10.0 d@0.9.0|d@0.10.0|d@0.9.0 / ask /w/d/Cargo.toml",
+        " 1=d@0.10.0 2=d@0.9.0",
+    ),
 ];
 
 #[test]
 fn own_types(rt: HostRuntime) -> Result<(), Fail> {
-    hold::<Own>(rt.alloc(), OWN)
+    hold::<Own>(rt.alloc(), OWN)?;
+    hold::<OfGraph<Called, Named>>(rt.alloc(), CALLED)
 }

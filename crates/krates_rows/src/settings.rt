@@ -45,6 +45,8 @@ const SETTINGS: &[Row] = &[
     ("a b|b c|c / without b@0.2.0", "+a+b+c"),
     // the node of a package that is left out may be missing
     ("a b|b / nodes a b / without b", "+a-b"),
+    // and so may the feature of it that a reference names
+    ("a b;x=b/nope|b / nodes a b;x|b / without b", "+a-b"),
     // targets
     ("a b&on=cfg(any())|b", "+a-b"),
     // an edge that isn't declared is lost, whether its target passes or not

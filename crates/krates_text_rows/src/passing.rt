@@ -24,6 +24,8 @@ const WITHOUT_TARGETS: &[PassingRow] = &[
     (Some("cfg(not(any()))"), true),
     (Some("cfg(foo)"), true),
     (Some("cfg(unix"), true),
+    // a blank before the bracket makes it a triple
+    (Some("cfg (unix)"), true),
     (Some(WINDOWS_WITH_MUSL), true),
 ];
 
@@ -46,12 +48,20 @@ const AT_TWO_TARGETS: &[PassingRow] = &[
     (None, true),
 ];
 
+/// What passes at a target for which a table has a description.
+const AT_LINUX: &[PassingRow] = &[
+    (Some("cfg(unix"), false),
+    (Some("x86_64-unknown-linux-gnu"), true),
+    (Some("cfg(target_has_atomic)"), false),
+];
+
 /// What passes at a target of which nothing is known.
 const AT_AN_UNKNOWN_TARGET: &[PassingRow] = &[
     (Some("x"), true),
     (Some("y"), false),
     (Some("cfg(unix)"), false),
     (Some("cfg(not(unix))"), true),
+    (Some("cfg(not(target_os = \"linux\"))"), true),
     (Some("cfg(target_feature = \"atomics\")"), false),
     (Some("cfg(target_has_atomic = \"8\")"), false),
     (None, true),
@@ -134,7 +144,8 @@ fn hold(alloc: Global, places: &[Place], rows: &[PassingRow<'_>]) -> Result<(), 
 #[test]
 fn passes_by_one_single_target(rt: HostRuntime) -> Result<(), Fail> {
     hold(rt.alloc(), &[], WITHOUT_TARGETS)?;
-    hold(rt.alloc(), TWO_TARGETS, AT_TWO_TARGETS)
+    hold(rt.alloc(), TWO_TARGETS, AT_TWO_TARGETS)?;
+    hold(rt.alloc(), &[("x86_64-unknown-linux-gnu", &[])], AT_LINUX)
 }
 
 #[test]

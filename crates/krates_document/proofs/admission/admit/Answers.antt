@@ -12,7 +12,7 @@ returns-in_err-expect_none_doubled-clause-refused c =
 
 pub returns-in_err-ids-clause-named : goal.returns-in_err-ids-clause-named
 returns-in_err-ids-clause-named c =
-    let p = err_from_is_err_and c.from_residual-in_err-ids.result c.from_residual-in_err-ids.ensures.1 in
+    let p = err_from_is_err_and c.from_residual.result c.from_residual.ensures.1 in
     rw (p.1, p.2) (bad_names_none (metadata_view c.args.metadata.now) (resolve_view c.in-Some.resolve) c.in_err-ids.field-0.0 c.in_err-ids.ensures.refused)
 
 pub returns-in_err-expect_none_doubled-clause-named : goal.returns-in_err-expect_none_doubled-clause-named

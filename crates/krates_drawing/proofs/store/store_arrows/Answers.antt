@@ -3,6 +3,7 @@ use Rattle.std.proofs.lemmas.List.{length_push}
 use Rattle.krates_drawing.specs.Ends.{HasEnds}
 use Rattle.krates_drawing.specs.Stored.{IsStoredAs, Appends}
 use Rattle.krates_drawing.specs.Views.{arrow_view}
+use Rattle.krates_drawing.proofs.StoredEdges.{edges_alone}
 use Rattle.krates_drawing.proofs.Zips.{zip_more, seen_at}
 use Rattle.krates_drawing.proofs.store.store_arrows.Goals as goal
 
@@ -13,7 +14,7 @@ loop-x-preserved g c =
     record {
       drawn = zip_more arrow_view (IsStoredAs g.E.FromEdge.made_from_edge) c.args.arrows.now c.loop-x.x-index c.x-item.result c.loop-x.graph.edges c.store_arrow.new.graph.edges a.stored c.loop-x-test.true c.x-item.is i.drawn a.is a.appended;
       count = ap length a.appended ∙ length_push c.loop-x.graph.edges a.stored ∙ ap (λ n. n + 1) i.count;
-      rest = c.store_arrow.ensures.rest ∙ ap (λ g. record g { edges = c.store_arrow.new.graph.edges }) i.rest;
+      rest = edges_alone c.args.graph.now c.loop-x.graph c.store_arrow.new.graph i.rest c.store_arrow.ensures.rest;
     }
 
 pub store_arrow-requires-clause-stands : goal.store_arrow-requires-clause-stands
