@@ -31,6 +31,13 @@ enable-requires-clause-step c lists =
     let is = subst (λ (t : Text). IsReference t (simple name)) c.from.ensures c.in-Simple.ensures in
     for_reason r s trace _ _ (Feature p name) c.by_one-reason.ensures (finds_named r s trace c.args.step p name (referring_step r trace c.args.step p c.args.text.now (simple name) c.requires.step is) lists)
 
+pub ask-requires-clause-may : goal.ask-requires-clause-may
+ask-requires-clause-may c =
+    let r = resolved_view c.args.basis.now.lookup.now in
+    let reference = krate c.in-Krate.krate.now in
+    let is = subst (λ (t : Text). IsReference t reference) c.from.ensures c.in-Krate.ensures in
+    record { reference = reference; has = value_may r c.args.basis.now.setting.now (id_of c.args.parts.now.parent.now) c.args.text.now reference c.requires.value is; asks = refl }
+
 pub ask-requires-clause-step : goal.ask-requires-clause-step
 ask-requires-clause-step c =
     let r = resolved_view c.args.basis.now.lookup.now in
@@ -38,12 +45,26 @@ ask-requires-clause-step c =
     let is = subst (λ (t : Text). IsReference t reference) c.from.ensures c.in-Krate.ensures in
     record { reference = reference; has = referring_step r c.args.found.now.trace.items c.args.step (id_of c.args.parts.now.parent.now) c.args.text.now reference c.requires.step is; asks = refl }
 
+pub toggle_strongly-requires-clause-may : goal.toggle_strongly-requires-clause-may
+toggle_strongly-requires-clause-may c =
+    let r = resolved_view c.args.basis.now.lookup.now in
+    let reference = strong c.in-Strong.krate.now c.in-Strong.feature.now in
+    let is = subst (λ (t : Text). IsReference t reference) c.from.ensures c.in-Strong.ensures in
+    value_may r c.args.basis.now.setting.now (id_of c.args.parts.now.parent.now) c.args.text.now reference c.requires.value is
+
 pub toggle_strongly-requires-clause-step : goal.toggle_strongly-requires-clause-step
 toggle_strongly-requires-clause-step c =
     let r = resolved_view c.args.basis.now.lookup.now in
     let reference = strong c.in-Strong.krate.now c.in-Strong.feature.now in
     let is = subst (λ (t : Text). IsReference t reference) c.from.ensures c.in-Strong.ensures in
     referring_step r c.args.found.now.trace.items c.args.step (id_of c.args.parts.now.parent.now) c.args.text.now reference c.requires.step is
+
+pub wait-requires-clause-may : goal.wait-requires-clause-may
+wait-requires-clause-may c =
+    let r = resolved_view c.args.basis.now.lookup.now in
+    let reference = weak c.in-Weak.krate.now c.in-Weak.feature.now in
+    let is = subst (λ (t : Text). IsReference t reference) c.from.ensures c.in-Weak.ensures in
+    value_may r c.args.basis.now.setting.now (id_of c.args.parts.now.parent.now) c.args.text.now reference c.requires.value is
 
 pub wait-requires-clause-step : goal.wait-requires-clause-step
 wait-requires-clause-step c =

@@ -1,9 +1,12 @@
-use Rattle.std.proofs.Common.{Contains, String, Global, map, sym, subst, arith, string_bytes}
-use Rattle.krates_cm.specs.Document.{Text, text_view}
+use Rattle.std.proofs.Common.{ℕ, ◌<◌, Contains, String, Global, map, sym, subst, arith, string_bytes}
+use Rattle.std.proofs.lemmas.List.{length-map}
+use Rattle.std.proofs.lemmas.Option.{slice_get_within}
+use Rattle.krates_cm.specs.Document.{Text, node_view, text_view}
 use Rattle.krates_rules.specs.Facts.{Crate, Feature}
 use Rattle.krates_resolve.specs.Found.{HasFound, IsEnabledBySome, MayName}
 use Rattle.krates_lookups.specs.Lookup.{resolved_view}
 use Rattle.krates_rules.specs.Resolved.{id_of}
+use Rattle.krates_lookups.proofs.NodeParts.{within_vec}
 use Rattle.krates_resolve.proofs.Finding.{finds_root_feature, for_reason}
 use Rattle.krates_resolve.proofs.Growing.{advances_refl, advances_trans}
 use Rattle.krates_resolve.proofs.Heedings.{value_at}
@@ -11,6 +14,13 @@ use Rattle.krates_questions.proofs.RootLemmas.{listed_names}
 use Rattle.krates_resolve.proofs.Rooted.{listed_may}
 use Rattle.krates_document.proofs.Seen.{seen_more, each_seen}
 use Rattle.krates_resolve.proofs.roots.enable_listed.Goals as goal
+
+pub index-requires : goal.index-requires
+index-requires c =
+    let nodes = c.args.basis.now.lookup.now.resolve.now.nodes in
+    let place = c.args.node.place in
+    let at = c.requires.node.at in
+    within_vec nodes place (subst (λ (n : ℕ). place < n) (length-map nodes.items node_view) (slice_get_within (resolved_view c.args.basis.now.lookup.now).graph.nodes place at.node at.at))
 
 pub loop-name-init : goal.loop-name-init
 loop-name-init c = (advances_refl (resolved_view c.args.basis.now.lookup.now) c.args.basis.now.setting.now c.args.found.now c.requires.sound, λ k d lt. absurd (omega (arith, lt)))
