@@ -1,13 +1,23 @@
+use Rattle.std.proofs.Common.{sym, ◌∙◌}
 use Rattle.krates_cm.specs.Document.{dep_kind_info_view}
 use Rattle.krates_lookups.specs.Lookup.{resolved_view}
-use Rattle.krates_questions.proofs.Entries.{heeds}
-use Rattle.krates_questions.proofs.Needs.{unlisted_need, undeclared_need, barred_need, wanted_need, wanted_here, declared_below}
+use Rattle.krates_lookups.specs.NodeEntry.{edge_for}
+use Rattle.krates_questions.proofs.Entries.{heeds, is_ignored}
+use Rattle.krates_questions.proofs.Needs.{ignored_need, unlisted_need, undeclared_need, barred_need, wanted_need, wanted_here, declared_below}
 use Rattle.krates_questions.proofs.dependency_questions.entry_need.Goals as goal
 
 pub returns-then-not-lists : goal.returns-then-not-lists
 returns-then-not-lists c =
     unlisted_need (resolved_view c.args.lookup.now) c.args.setting.now c.args.entry.now (dep_kind_info_view c.args.info.now) c.requires.lookup.distinct c.requires.entry
     (λ h. absurd (cc (c.lists.ensures.1 h, c.if-not-lists.true)))
+
+pub returns-then-ignores : goal.returns-then-ignores
+returns-then-ignores c =
+    let r = resolved_view c.args.lookup.now in
+    let s = c.args.setting.now in
+    let x = c.args.entry.now in
+    let e = edge_for x (dep_kind_info_view c.args.info.now) in
+    ignored_need r s e (is_ignored r s e x.is_member c.requires.entry.tells (sym c.ignores.ensures ∙ c.if-ignores.true))
 
 pub returns-in_default : goal.returns-in_default
 returns-in_default c =
