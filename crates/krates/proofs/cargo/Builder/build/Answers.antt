@@ -12,7 +12,7 @@ returns-clause-refused g c =
 
 pub returns-in_err-metadata-clause-named : goal.returns-in_err-metadata-clause-named
 returns-in_err-metadata-clause-named g c =
-    let p = err_from_is_err_and c.from_residual-in_err-metadata.result c.from_residual-in_err-metadata.ensures.1 in
+    let p = err_from_is_err_and c.from_residual.result c.from_residual.ensures.1 in
     rw p.1 (none_named c.in_err-metadata.field-0.0 p.0 p.2)
 
 pub returns-clause-named : goal.returns-clause-named
