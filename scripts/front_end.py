@@ -1,10 +1,11 @@
 #!/usr/bin/env python3
-"""Compiles a crate of a repository without proving or building anything: the libraries below it are read as sources.
+"""Compiles a crate of a repository without building anything: the libraries below it are read as sources.
 
-    scripts/front_end.py FOLDER CRATE [--test]
+    scripts/front_end.py FOLDER CRATE [--test] [--only FUNCTION]..
 
-FOLDER is the top of the repository, with its crates.txt; with --test the crate's tests are compiled too. Prints what the compiler
-says. The status is 0 where the crate compiles. `rt check --only` says the same, but builds the libraries below first.
+FOLDER is the top of the repository, with its crates.txt; with --test the crate's tests are compiled too. Nothing is proved but the
+functions that --only names, and what they call, in the crates below too: in minutes where they call little. Prints what the compiler says.
+The status is 0 where the crate compiles and those functions are proved. `rt check --only` says the same, but builds the libraries below first.
 """
 import pathlib
 import re
@@ -40,7 +41,7 @@ def below(known, name):
     return found
 
 
-def words(root, name, tests):
+def words(root, name, tests, only):
     """The compiler's words for the crate: the libraries of the toolchain as built, those of the repository as sources."""
     at, known = kit(), crates(root)
     libraries = below(known, name)
@@ -54,14 +55,15 @@ def words(root, name, tests):
         used = ",".join(dict.fromkeys(["core", *ALWAYS, *known[one]]))
         given += ["--lib", f"{one}:{used}={root}/crates/{one}/src/lib.rt"]
     given += ["--antt-project", f"{at}/rattle/logic/antt-project.json", "--logic-built", f"{at}/logic_built"]
-    # the part to prove is empty, so that nothing is proved
-    return [*given, "--links", f"{name}=", "--jobs", "1", "--only", "", *["--test"] * tests]
+    # where the part to prove is empty, nothing is proved
+    parts = [word for function in only or [""] for word in ("--only", function)]
+    return [*given, "--links", f"{name}=", "--jobs", "1", *parts, *["--test"] * tests]
 
 
-def compiled(root, name, tests=False):
-    """Whether the crate compiles, and what the compiler says."""
+def compiled(root, name, tests=False, only=()):
+    """Whether the crate compiles and these functions are proved, and what the compiler says."""
     ran = subprocess.run(
-        [str(it) for it in words(root, name, tests)],
+        [str(it) for it in words(root, name, tests, only)],
         cwd=root / "crates" / name,
         stdin=subprocess.DEVNULL,
         stdout=subprocess.PIPE,
@@ -69,16 +71,19 @@ def compiled(root, name, tests=False):
         encoding="utf-8",
         errors="replace",
     )
-    return bool(re.search(r"^only=", ran.stdout, re.M)), ran.stdout
+    counts = re.search(r"^only=(\d+) proved=(\d+)", ran.stdout, re.M) if only else None
+    proved = not only or bool(counts and counts[1] == counts[2] != "0")
+    return bool(re.search(r"^only=", ran.stdout, re.M)) and proved, ran.stdout
 
 
 def main(given):
     tests = "--test" in given
     given = [word for word in given if word != "--test"]
-    if len(given) != 2:
+    only = [function for word, function in zip(given, given[1:]) if word == "--only"]
+    if len(given) != 2 + 2 * len(only) or "--only" in given[:2]:
         print(__doc__, file=sys.stderr)
         return 2
-    compiles, said = compiled(pathlib.Path(given[0]).resolve(), given[1], tests)
+    compiles, said = compiled(pathlib.Path(given[0]).resolve(), given[1], tests, only)
     print(said, end="")
     return 0 if compiles else 1
 
