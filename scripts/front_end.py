@@ -83,7 +83,12 @@ def main(given):
     if len(given) != 2 + 2 * len(only) or "--only" in given[:2]:
         print(__doc__, file=sys.stderr)
         return 2
-    compiles, said = compiled(pathlib.Path(given[0]).resolve(), given[1], tests, only)
+    root, name = pathlib.Path(given[0]).resolve(), given[1]
+    if not (root / "crates.txt").is_file():
+        sys.exit(f"{given[0]}: there is no crates.txt in this folder")
+    if name not in crates(root):
+        sys.exit(f"{name}: crates.txt lists no such crate")
+    compiles, said = compiled(root, name, tests, only)
     print(said, end="")
     return 0 if compiles else 1
 

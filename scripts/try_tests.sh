@@ -21,6 +21,13 @@ if [ ${#crates[@]} -eq 0 ]; then
     mapfile -t crates < <(grep -rlE '^ *#\[test\]|^fn main\(' crates/*/src --include=*.rt | cut -d/ -f2 | sort | uniq -c | sort -rn | awk '{print $2}')
 fi
 
+for crate in "${crates[@]}"; do
+    if ! grep -rqsE '^ *#\[test\]|^fn main\(' "crates/$crate/src" --include=*.rt; then
+        echo "$crate: there is no such crate, or it has no tests and is no program" >&2
+        exit 2
+    fi
+done
+
 # Runs the tests of a crate, or the program that it is.
 try_one() {
     local crate=$1 said=$2/$1
