@@ -26,7 +26,7 @@ ROOMS = {
     "texts and the document": ("#e8f1fb", ["krates_text", "krates_json", "krates_cm", "krates_cm_write", "krates_ids"]),
     "the command": ("#f3eefb", ["krates_cargo"]),
     "what is believed": ("#fdf3d8", ["krates_rules"]),
-    "questions and search": ("#e9f7ec", ["krates_document", "krates_lookups", "krates_questions", "krates_resolve", "krates_steps"]),
+    "questions and search": ("#e9f7ec", ["krates_document", "krates_lookups", "krates_questions", "krates_selection", "krates_search", "krates_resolve"]),
     "the graph": ("#e6f6f6", ["krates_graph", "krates_drawing", "krates_queries"]),
     "why": ("#f1f0e4", ["krates_steps", "krates_explain"]),
     "checkers without a search": ("#fdeaea", ["krates_derive"]),

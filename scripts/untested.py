@@ -47,7 +47,11 @@ SHOWN_BY = {
     "Document::roots": ("choice_of",),
     "Document::presence": ("standing_of",),
     # a selection is made in look-ups of the document
-    "select": "select_in numbers_of exclusions_of known_standing known_standing_of_child".split(),
+    "select": (
+        "select_in numbers_of exclusions_of known_standing known_standing_of_child Work::new Work::count_krate Work::count_feature"
+        " Reason::by_nothing Reason::by_one Reason::by_two put_krate enable toggle expand expand_entry links_of Links::kept Links::is_asked"
+        " Links::let_wait kept_edges kept_features kept_toggled"
+    ).split(),
     # the graph of a build: its sheet, nodes and edges, and how they are stored
     "build_with_metadata": "count_of given_by meanings_by draw_nodes plan store_arrows in_order Krates::new divide report".split(),
     # the steps that a build keeps, and those of them that lead to a node

@@ -11,8 +11,8 @@ use Rattle.krates_document.specs.AdmissionSteps.{AreDistinct}
 use Rattle.krates_rules.specs.Facts.{Id, Cause, Fact, Feature}
 use Rattle.krates_rules.specs.Questions.{Stands, questions}
 use Rattle.krates_rules.specs.Resolved.{ReadsAs, resolved, id_of}
-use Rattle.krates_resolve.specs.Selection.{feature_fact}
-use Rattle.krates_resolve.specs.declared.selection.Selection.{Selection}
+use Rattle.krates_selection.specs.Selection.{feature_fact}
+use Rattle.krates_selection.specs.declared.selection.Selection.{Selection}
 use Rattle.krates_rules.specs.Setting.{SettingModel}
 use Rattle.krates.specs.Build.{IsResolvable, IsDerived, KeepsCrate, DropsCrate, IsLost}
 use Rattle.krates_packages.specs.Listed.{AreThosePackages}

@@ -24,10 +24,10 @@ use Rattle.krates_drawing.specs.declared.sheet.Named.{Named}
 use Rattle.krates_drawing.specs.declared.sheet.Sheet.{Sheet}
 use Rattle.krates_graph.specs.Graph.{StoredGraph}
 use Rattle.krates_ids.specs.Identity.{Identity, id_cmp}
-use Rattle.krates_resolve.specs.CrateNumbers.{id_at, no_id}
-use Rattle.krates_resolve.specs.Selection.{IsSelection, feature_fact}
-use Rattle.krates_resolve.specs.declared.selection.EnabledFeature.{EnabledFeature}
-use Rattle.krates_resolve.specs.declared.selection.Selection.{Selection}
+use Rattle.krates_selection.specs.CrateNumbers.{id_at, no_id}
+use Rattle.krates_selection.specs.Selection.{IsSelection, feature_fact}
+use Rattle.krates_selection.specs.declared.selection.EnabledFeature.{EnabledFeature}
+use Rattle.krates_selection.specs.declared.selection.Selection.{Selection}
 use Rattle.krates_rules.specs.Facts.{Id, Feature}
 use Rattle.krates_rules.specs.Resolved.{HasGraphWith, Resolved, StandsAt, id_of, resolved}
 use Rattle.krates_rules.specs.Setting.{SettingModel}

@@ -12,7 +12,7 @@ use Rattle.krates_cm.specs.Document.{Text, text_view}
 use Rattle.krates_ids.specs.Identity.{Identity}
 use Rattle.krates_rules.specs.Facts.{Id}
 use Rattle.krates_rules.specs.Resolved.{id_of, StandsAt}
-use Rattle.krates_resolve.specs.declared.selection.EnabledFeature.{EnabledFeature}
+use Rattle.krates_selection.specs.declared.selection.EnabledFeature.{EnabledFeature}
 use Rattle.krates.specs.Enabled.{AreEnabledSets, IsPut, numbered}
 use Rattle.krates_queries.specs.Kept.{IsNameAt, names_in_each}
 use Rattle.krates_queries.specs.Node.{names_in}

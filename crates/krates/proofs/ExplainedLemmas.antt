@@ -14,16 +14,16 @@ use Rattle.krates_drawing.specs.declared.sheet.Sheet.{Sheet}
 use Rattle.krates_explain.proofs.KeptCrates.{same_in}
 use Rattle.krates_explain.proofs.PickedSteps.{seen_back}
 use Rattle.krates_explain.specs.Explanation.{AreBelow, explained_steps}
-use Rattle.krates_resolve.specs.CrateNumbers.{id_at, no_id}
+use Rattle.krates_selection.specs.CrateNumbers.{id_at, no_id}
 use Rattle.krates_explain.specs.KeptFacts.{Enables, IsBelow, KeepsCrate, KeepsEdge, KeptModel, Toggles, fact_in, facts_in, kept_view, step_in, steps_in}
 use Rattle.krates_explain.specs.Tables.{AreStepsOf, IsKeptIn}
 use Rattle.krates_explain.specs.declared.kept.Explanation.{Explanation}
 use Rattle.krates_explain.specs.declared.kept.KeptStep.{KeptStep}
 use Rattle.krates_graph.specs.Graph.{StoredGraph}
 use Rattle.krates_ids.specs.Identity.{Identity, empty_identity, id_cmp}
-use Rattle.krates_resolve.specs.Explained.{IsExplained, IsExplainedOf}
-use Rattle.krates_resolve.specs.Selection.{IsSelection}
-use Rattle.krates_resolve.specs.declared.selection.Selection.{Selection}
+use Rattle.krates_selection.specs.Explained.{IsExplained, IsExplainedOf}
+use Rattle.krates_selection.specs.Selection.{IsSelection}
+use Rattle.krates_selection.specs.declared.selection.Selection.{Selection}
 use Rattle.krates_rules.proofs.ListsOfSteps.{contained_derived}
 use Rattle.krates_rules.proofs.OnlyOne.{place_in}
 use Rattle.krates_rules.proofs.Standings.{contains_at}

@@ -16,9 +16,9 @@ use Rattle.krates_drawing.specs.declared.sheet.Named.{Named}
 use Rattle.krates_drawing.specs.declared.sheet.Sheet.{Sheet}
 use Rattle.krates_ids.specs.Identity.{Identity, empty_identity, id_cmp}
 use Rattle.krates_lookups.proofs.SeenInOrder.{sorted_same}
-use Rattle.krates_resolve.proofs.CrateNumbers.{seen_id}
-use Rattle.krates_resolve.specs.CrateNumbers.{HasHome, id_at, no_id}
-use Rattle.krates_resolve.specs.SelectionOrder.{feature_cmp}
+use Rattle.krates_selection.proofs.CrateNumbers.{seen_id}
+use Rattle.krates_selection.specs.CrateNumbers.{HasHome, id_at, no_id}
+use Rattle.krates_selection.specs.SelectionOrder.{feature_cmp}
 use Rattle.krates_rules.specs.Facts.{Id, Fact}
 use Rattle.krates_rules.specs.Facts as facts
 use Rattle.krates_rules.specs.Resolved.{id_of, StandsAt}

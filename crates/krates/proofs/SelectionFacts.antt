@@ -7,11 +7,11 @@ use Rattle.krates_rules.specs.Facts.{Id, Cause, Fact, Crate, Feature, Lost}
 use Rattle.krates_rules.specs.Questions.{questions}
 use Rattle.krates_rules.specs.Resolved.{HasGraphWith, resolved, id_of}
 use Rattle.krates_rules.specs.Rules.{feature_crate}
-use Rattle.krates_resolve.specs.Selection.{IsSelection, crate_fact, edge_fact, feature_fact, toggled_fact, facts_of}
-use Rattle.krates_resolve.specs.declared.selection.EnabledFeature.{EnabledFeature}
-use Rattle.krates_resolve.specs.declared.selection.KeptEdge.{KeptEdge}
-use Rattle.krates_resolve.specs.declared.selection.Selection.{Selection}
-use Rattle.krates_resolve.specs.declared.selection.ToggledFeature.{ToggledFeature}
+use Rattle.krates_selection.specs.Selection.{IsSelection, crate_fact, edge_fact, feature_fact, toggled_fact, facts_of}
+use Rattle.krates_selection.specs.declared.selection.EnabledFeature.{EnabledFeature}
+use Rattle.krates_selection.specs.declared.selection.KeptEdge.{KeptEdge}
+use Rattle.krates_selection.specs.declared.selection.Selection.{Selection}
+use Rattle.krates_selection.specs.declared.selection.ToggledFeature.{ToggledFeature}
 use Rattle.krates_rules.specs.Setting.{SettingModel}
 use Rattle.krates.specs.Build.{IsDerived, KeepsCrate, IsLost}
 use Rattle.krates_packages.specs.Division.{IsAmong}

@@ -23,8 +23,8 @@ use Rattle.krates_rules.specs.Resolved.{HasGraphWith, IsMember, Resolved, Stands
 use Rattle.krates_rules.specs.Rules.{Questions}
 use Rattle.krates_rules.specs.SelectionRefusals.{SelectionRefusal}
 use Rattle.krates_rules.specs.Setting.{SettingModel}
-use Rattle.krates_resolve.specs.Selection.{IsSelectionOf}
-use Rattle.krates_resolve.specs.declared.selection.Selection.{Selection}
+use Rattle.krates_selection.specs.Selection.{IsSelectionOf}
+use Rattle.krates_selection.specs.declared.selection.Selection.{Selection}
 use Rattle.krates.specs.Indexed.{Answering, Sees}
 use Rattle.krates_packages.specs.Listed.{AreThosePackages}
 use Rattle.krates_queries.specs.DirectDependents.{IsDependent}

@@ -5,8 +5,8 @@ use Rattle.krates_drawing.specs.SheetOrder.{IsOrdered}
 use Rattle.krates_drawing.specs.Views.{sheet_view}
 use Rattle.krates_queries.specs.Drawn.{IsSheetFor}
 use Rattle.krates_queries.specs.Explained.{AreStepsFor}
-use Rattle.krates_resolve.specs.Selection.{IsSelectionOf}
-use Rattle.krates_resolve.specs.declared.selection.Selection.{Selection}
+use Rattle.krates_selection.specs.Selection.{IsSelectionOf}
+use Rattle.krates_selection.specs.declared.selection.Selection.{Selection}
 use Rattle.krates_rules.specs.Setting.{SettingModel}
 use Rattle.krates.specs.declared.drawn.Sketch.{Sketch}
 

@@ -11,14 +11,14 @@ use Rattle.std.specs.Ordering.{nat_cmp, on, ordering_then, then_cmp}
 use Rattle.krates_cm.specs.Document.{Text, text_view}
 use Rattle.krates_ids.specs.Identity.{Identity, empty_identity, id_cmp}
 use Rattle.krates_lookups.proofs.SeenInOrder.{sorted_seen}
-use Rattle.krates_resolve.proofs.ByNumber.{compared_by_place}
-use Rattle.krates_resolve.proofs.CrateNumbers.{seen_id}
-use Rattle.krates_resolve.specs.CrateNumbers.{HasCrates, HasEnds, HasHome, id_at}
-use Rattle.krates_resolve.specs.Selection.{edge_view}
-use Rattle.krates_resolve.specs.SelectionOrder.{place_cmp, feature_cmp, toggled_cmp}
-use Rattle.krates_resolve.specs.declared.selection.EnabledFeature.{EnabledFeature}
-use Rattle.krates_resolve.specs.declared.selection.KeptEdge.{KeptEdge}
-use Rattle.krates_resolve.specs.declared.selection.ToggledFeature.{ToggledFeature}
+use Rattle.krates_selection.proofs.ByNumber.{compared_by_place}
+use Rattle.krates_selection.proofs.CrateNumbers.{seen_id}
+use Rattle.krates_selection.specs.CrateNumbers.{HasCrates, HasEnds, HasHome, id_at}
+use Rattle.krates_selection.specs.Selection.{edge_view}
+use Rattle.krates_selection.specs.SelectionOrder.{place_cmp, feature_cmp, toggled_cmp}
+use Rattle.krates_selection.specs.declared.selection.EnabledFeature.{EnabledFeature}
+use Rattle.krates_selection.specs.declared.selection.KeptEdge.{KeptEdge}
+use Rattle.krates_selection.specs.declared.selection.ToggledFeature.{ToggledFeature}
 use Rattle.krates_rules.specs.Facts.{Id, Edge}
 use Rattle.krates_rules.specs.Referent.{id_order}
 use Rattle.krates_rules.specs.Resolved.{id_of}

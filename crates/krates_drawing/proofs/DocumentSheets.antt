@@ -1,8 +1,8 @@
 -- A document has only one graph, so what is promised of it, or of a selection of it, holds of the document that is asked.
 use Rattle.std.proofs.Common.{◌≡◌, subst}
 use Rattle.krates_cm.specs.Document.{MetadataModel}
-use Rattle.krates_resolve.specs.Selection.{IsSelection, IsSelectionOf}
-use Rattle.krates_resolve.specs.declared.selection.Selection.{Selection}
+use Rattle.krates_selection.specs.Selection.{IsSelection, IsSelectionOf}
+use Rattle.krates_selection.specs.declared.selection.Selection.{Selection}
 use Rattle.krates_rules.specs.Admission.{IsAdmitted, IdsModel, NoneDoubled}
 use Rattle.krates_rules.specs.Resolved.{HasGraphWith, Resolved, resolved}
 use Rattle.krates_rules.specs.Setting.{SettingModel}

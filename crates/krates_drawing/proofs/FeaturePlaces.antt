@@ -7,8 +7,8 @@ use Rattle.std.specs.List.Sorted.{IsBinarySearchResult, IsSearchInRange, IsStric
 use Rattle.std.specs.Ordering.{is_eq}
 use Rattle.std.specs.Str.{bytes_eq}
 use Rattle.krates_cm.specs.Document.{Text, text_view}
-use Rattle.krates_resolve.specs.CrateNumbers.{HasHome, id_at}
-use Rattle.krates_resolve.specs.SelectionOrder.{feature_cmp}
+use Rattle.krates_selection.specs.CrateNumbers.{HasHome, id_at}
+use Rattle.krates_selection.specs.SelectionOrder.{feature_cmp}
 use Rattle.krates_drawing.specs.Drawing.{is_feature, place_of}
 use Rattle.krates_drawing.specs.Views.{kids_of, named_view}
 use Rattle.krates_drawing.specs.declared.sheet.Krate.{Krate}

@@ -17,13 +17,13 @@ use Rattle.krates_rules.specs.Derivation.{Derivable}
 use Rattle.krates_rules.specs.Facts.{Id, Crate}
 use Rattle.krates_rules.specs.Questions.{kind_info_of, questions}
 use Rattle.krates_rules.specs.Resolved.{Resolved, id_of, HasNode, HasPackage, NoPackage, NoNode}
-use Rattle.krates_resolve.specs.CrateNumbers.{HasCrates, HasEnds, HasHome, id_at}
-use Rattle.krates_resolve.specs.Selection.{edge_view, IsPlaced, IsSelection, crate_fact, edge_fact, feature_fact}
+use Rattle.krates_selection.specs.CrateNumbers.{HasCrates, HasEnds, HasHome, id_at}
+use Rattle.krates_selection.specs.Selection.{edge_view, IsPlaced, IsSelection, crate_fact, edge_fact, feature_fact}
 use Rattle.krates_rules.specs.Setting.{SettingModel}
-use Rattle.krates_resolve.specs.SelectionOrder.{place_cmp, feature_cmp, toggled_cmp}
-use Rattle.krates_resolve.specs.declared.selection.EnabledFeature.{EnabledFeature}
-use Rattle.krates_resolve.specs.declared.selection.KeptEdge.{KeptEdge}
-use Rattle.krates_resolve.specs.declared.selection.Selection.{Selection}
+use Rattle.krates_selection.specs.SelectionOrder.{place_cmp, feature_cmp, toggled_cmp}
+use Rattle.krates_selection.specs.declared.selection.EnabledFeature.{EnabledFeature}
+use Rattle.krates_selection.specs.declared.selection.KeptEdge.{KeptEdge}
+use Rattle.krates_selection.specs.declared.selection.Selection.{Selection}
 use Rattle.krates_drawing.specs.Gathered.{MeaningsTold, AreMeant, count_in, declared_in, dependency_in, given_in, listed_of, values_in}
 use Rattle.krates_drawing.specs.Sheet.{IsKrate, IsLink, IsMeaning, IsNamed, IsSheet, toggle_of}
 use Rattle.krates_drawing.specs.SheetOrder.{IsOrdered}

@@ -6,13 +6,13 @@ use Rattle.krates_rules.specs.Derivation.{Derivable}
 use Rattle.krates_rules.specs.Facts.{Id, Edge, Cause, Fact, Crate, Feature, Kept, Toggled, Lost}
 use Rattle.krates_rules.specs.Questions.{questions}
 use Rattle.krates_rules.specs.Resolved.{Resolved, id_of, HasPackage}
-use Rattle.krates_resolve.specs.CrateNumbers.{id_at}
-use Rattle.krates_resolve.specs.Selection.{edge_view, crate_fact, edge_fact, feature_fact, toggled_fact, facts_of, IsSelection}
+use Rattle.krates_selection.specs.CrateNumbers.{id_at}
+use Rattle.krates_selection.specs.Selection.{edge_view, crate_fact, edge_fact, feature_fact, toggled_fact, facts_of, IsSelection}
 use Rattle.krates_rules.specs.Setting.{SettingModel}
-use Rattle.krates_resolve.specs.declared.selection.EnabledFeature.{EnabledFeature}
-use Rattle.krates_resolve.specs.declared.selection.KeptEdge.{KeptEdge}
-use Rattle.krates_resolve.specs.declared.selection.Selection.{Selection}
-use Rattle.krates_resolve.specs.declared.selection.ToggledFeature.{ToggledFeature}
+use Rattle.krates_selection.specs.declared.selection.EnabledFeature.{EnabledFeature}
+use Rattle.krates_selection.specs.declared.selection.KeptEdge.{KeptEdge}
+use Rattle.krates_selection.specs.declared.selection.Selection.{Selection}
+use Rattle.krates_selection.specs.declared.selection.ToggledFeature.{ToggledFeature}
 use Rattle.krates_drawing.specs.Sheet.{Krate, IsKrate, Link, IsLink, Named, IsNamed, Toggle, toggle_of, Sheet, IsSheet}
 use Rattle.krates_drawing.proofs.Members.{Member, member_of, contains_of, member_append, member_left, member_right, mapped_of, member_map, Partner, partner_of, swapped}
 use Rattle.krates_drawing.proofs.NodeNumbers.{HasCrate, HasFeature}

@@ -12,9 +12,9 @@ use Rattle.krates_rules.specs.Reordering.{SayAlike, ReordersPackage}
 use Rattle.krates_rules.specs.Resolved.{Resolved}
 use Rattle.krates_rules.specs.Setting.{SettingModel, IsIgnored}
 use Rattle.krates_rules.proofs.OnlyOne.{one_package, one_node, one_dep}
-use Rattle.krates_resolve.specs.Selection.{edge_fact, edge_view, IsPlaced, IsSelection}
-use Rattle.krates_resolve.specs.declared.selection.KeptEdge.{KeptEdge}
-use Rattle.krates_resolve.specs.declared.selection.Selection.{Selection}
+use Rattle.krates_selection.specs.Selection.{edge_fact, edge_view, IsPlaced, IsSelection}
+use Rattle.krates_selection.specs.declared.selection.KeptEdge.{KeptEdge}
+use Rattle.krates_selection.specs.declared.selection.Selection.{Selection}
 use Rattle.krates_drawing.specs.Narrower.{IsPart, NarrowerDrawsNoMore}
 use Rattle.krates_drawing.specs.Sheet.{Link, IsKrate, IsLink, IsNamed, Sheet, IsSheet, Toggle, toggle_of}
 use Rattle.krates_drawing.proofs.ById.{edge_by_id, edge_order, edges_sorted, edges_total, feature_by_id, feature_order, features_sorted, features_total, list_part, part_by, toggle_order, toggles_sorted, toggles_total}

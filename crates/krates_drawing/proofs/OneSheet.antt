@@ -15,12 +15,12 @@ use Rattle.krates_rules.specs.Referent.{AreReferents, id_order}
 use Rattle.krates_rules.specs.Reordering.{IsOrderFree}
 use Rattle.krates_rules.specs.Resolved.{Resolved, id_of, HasPackage, HasNode}
 use Rattle.krates_rules.specs.Rules.{Questions}
-use Rattle.krates_resolve.specs.Selection.{edge_fact, edge_view, feature_fact, toggled_fact, IsPlaced, IsPlacedAs, IsSelection}
-use Rattle.krates_resolve.specs.CrateNumbers.{id_at}
+use Rattle.krates_selection.specs.Selection.{edge_fact, edge_view, feature_fact, toggled_fact, IsPlaced, IsPlacedAs, IsSelection}
+use Rattle.krates_selection.specs.CrateNumbers.{id_at}
 use Rattle.krates_rules.specs.Setting.{SettingModel}
-use Rattle.krates_resolve.specs.declared.selection.EnabledFeature.{EnabledFeature}
-use Rattle.krates_resolve.specs.declared.selection.KeptEdge.{KeptEdge}
-use Rattle.krates_resolve.specs.declared.selection.Selection.{Selection}
+use Rattle.krates_selection.specs.declared.selection.EnabledFeature.{EnabledFeature}
+use Rattle.krates_selection.specs.declared.selection.KeptEdge.{KeptEdge}
+use Rattle.krates_selection.specs.declared.selection.Selection.{Selection}
 use Rattle.krates_drawing.specs.Alike.{IsDrawnAlike}
 use Rattle.krates_drawing.specs.Drawing.{lines, spots}
 use Rattle.krates_lookups.specs.FeatureValues.{values_of}

@@ -8,9 +8,9 @@ use Rattle.std.specs.List.Sorted.{IsStrictlySortedBy}
 use Rattle.std.specs.Ordering.{is_eq, ordering_reverse, ordering_then}
 use Rattle.krates_cm.specs.Document.{Text, text_view}
 use Rattle.krates_ids.specs.Identity.{Identity, id_cmp}
-use Rattle.krates_resolve.specs.Selection.{IsSelection}
-use Rattle.krates_resolve.specs.declared.selection.EnabledFeature.{EnabledFeature}
-use Rattle.krates_resolve.specs.declared.selection.Selection.{Selection}
+use Rattle.krates_selection.specs.Selection.{IsSelection}
+use Rattle.krates_selection.specs.declared.selection.EnabledFeature.{EnabledFeature}
+use Rattle.krates_selection.specs.declared.selection.Selection.{Selection}
 use Rattle.krates_rules.specs.Facts.{Id}
 use Rattle.krates_rules.specs.Referent.{id_order}
 use Rattle.krates_rules.specs.Resolved.{Resolved, id_of}

@@ -11,7 +11,7 @@ use Rattle.krates_rules.specs.Referent.{IsReferent}
 use Rattle.krates_rules.specs.Reordering.{ReordersPackage, HasDerivation, SayAlike, ResolveAlike}
 use Rattle.krates_rules.specs.Resolved.{Resolved, HasPackage, HasNode, resolved}
 use Rattle.krates_rules.specs.Setting.{SettingModel}
-use Rattle.krates_resolve.specs.Selection.{IsPlacedAs}
+use Rattle.krates_selection.specs.Selection.{IsPlacedAs}
 use Rattle.krates_document.proofs.DeclaredOnce.{one_first, declared_once}
 
 -- both say the same about each fact, package, node, edge and name

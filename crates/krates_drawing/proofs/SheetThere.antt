@@ -14,12 +14,12 @@ use Rattle.krates_rules.specs.Referent.{AreReferents}
 use Rattle.krates_rules.specs.Reordering.{IsOrderFree, SayAlike}
 use Rattle.krates_rules.specs.Resolved.{Resolved, HasPackage, id_of}
 use Rattle.krates_rules.specs.Setting.{SettingModel}
-use Rattle.krates_resolve.specs.CrateNumbers.{id_at}
-use Rattle.krates_resolve.specs.Selection.{edge_view, crate_fact, edge_fact, feature_fact, IsPlaced, IsSelection}
-use Rattle.krates_resolve.specs.Work.{CountsEach, CountsName, CountsReference, CountsText, HasReferences}
-use Rattle.krates_resolve.specs.declared.selection.EnabledFeature.{EnabledFeature}
-use Rattle.krates_resolve.specs.declared.selection.KeptEdge.{KeptEdge}
-use Rattle.krates_resolve.specs.declared.selection.Selection.{Selection}
+use Rattle.krates_selection.specs.CrateNumbers.{id_at}
+use Rattle.krates_selection.specs.Selection.{edge_view, crate_fact, edge_fact, feature_fact, IsPlaced, IsSelection}
+use Rattle.krates_selection.specs.Work.{CountsEach, CountsName, CountsReference, CountsText, HasReferences}
+use Rattle.krates_selection.specs.declared.selection.EnabledFeature.{EnabledFeature}
+use Rattle.krates_selection.specs.declared.selection.KeptEdge.{KeptEdge}
+use Rattle.krates_selection.specs.declared.selection.Selection.{Selection}
 use Rattle.krates_drawing.specs.Alike.{IsSheetThere}
 use Rattle.krates_drawing.specs.Sheet.{Krate, IsKrate, Link, IsLink, asked_by, has_text, Meaning, OwnFeature, Crates, FeatureOf, Named, IsNamed, IsMeaning, Names, Sheet, IsSheet}
 use Rattle.krates_lookups.specs.FeatureValues.{values_of}

@@ -6,9 +6,9 @@ use Rattle.krates_rules.specs.Derivation.{Derivable}
 use Rattle.krates_rules.specs.Facts.{Id, Edge, Kept}
 use Rattle.krates_rules.specs.Questions.{IsDeclaredAt, questions}
 use Rattle.krates_rules.specs.Resolved.{Resolved}
-use Rattle.krates_resolve.specs.Selection.{IsSelection}
+use Rattle.krates_selection.specs.Selection.{IsSelection}
 use Rattle.krates_rules.specs.Setting.{SettingModel}
-use Rattle.krates_resolve.specs.declared.selection.Selection.{Selection}
+use Rattle.krates_selection.specs.declared.selection.Selection.{Selection}
 use Rattle.krates_drawing.specs.Drawing.{Line, Spot, CrateSpot, FeatureSpot, crate_number, lines, spots}
 use Rattle.krates_drawing.specs.Paths.{IsDrawn}
 use Rattle.krates_drawing.specs.Sheet.{Sheet, IsSheet}

@@ -4,9 +4,9 @@ use Rattle.krates_cm.specs.Document.{ResolveModel, MetadataModel}
 use Rattle.krates_rules.specs.Admission.{NoneDoubled}
 use Rattle.krates_rules.specs.Reordering.{Reorders}
 use Rattle.krates_rules.specs.Resolved.{resolved}
-use Rattle.krates_resolve.specs.Selection.{IsSelection}
+use Rattle.krates_selection.specs.Selection.{IsSelection}
 use Rattle.krates_rules.specs.Setting.{SettingModel}
-use Rattle.krates_resolve.specs.declared.selection.Selection.{Selection}
+use Rattle.krates_selection.specs.declared.selection.Selection.{Selection}
 use Rattle.krates_drawing.specs.Drawing.{lines, spots}
 use Rattle.krates_drawing.specs.Sheet.{Sheet, IsSheet}
 

@@ -1,9 +1,9 @@
 -- The ends of the drawn edges.
 use Rattle.std.specs.Prelude.{ℕ, ◌<◌, All, length}
 use Rattle.krates_rules.specs.Resolved.{Resolved}
-use Rattle.krates_resolve.specs.Selection.{IsSelection}
+use Rattle.krates_selection.specs.Selection.{IsSelection}
 use Rattle.krates_rules.specs.Setting.{SettingModel}
-use Rattle.krates_resolve.specs.declared.selection.Selection.{Selection}
+use Rattle.krates_selection.specs.declared.selection.Selection.{Selection}
 use Rattle.krates_drawing.specs.Drawing.{Line, lines, spots}
 use Rattle.krates_drawing.specs.Sheet.{Sheet, IsSheet}
 

@@ -12,13 +12,13 @@ use Rattle.krates_rules.specs.Referent.{AreReferents}
 use Rattle.krates_rules.specs.Resolved.{Resolved, id_of, HasPackage, HasNode}
 use Rattle.krates_rules.specs.Rules.{default_name}
 use Rattle.krates_lookups.specs.FeatureValues.{values_of}
-use Rattle.krates_resolve.specs.CrateNumbers.{id_at}
-use Rattle.krates_resolve.specs.Selection.{edge_view}
+use Rattle.krates_selection.specs.CrateNumbers.{id_at}
+use Rattle.krates_selection.specs.Selection.{edge_view}
 use Rattle.krates_rules.specs.Setting.{SettingModel}
-use Rattle.krates_resolve.specs.declared.selection.EnabledFeature.{EnabledFeature}
-use Rattle.krates_resolve.specs.declared.selection.KeptEdge.{KeptEdge}
-use Rattle.krates_resolve.specs.declared.selection.Selection.{Selection}
-use Rattle.krates_resolve.specs.declared.selection.ToggledFeature.{ToggledFeature}
+use Rattle.krates_selection.specs.declared.selection.EnabledFeature.{EnabledFeature}
+use Rattle.krates_selection.specs.declared.selection.KeptEdge.{KeptEdge}
+use Rattle.krates_selection.specs.declared.selection.Selection.{Selection}
+use Rattle.krates_selection.specs.declared.selection.ToggledFeature.{ToggledFeature}
 
 -- ---- what is drawn from
 

@@ -5,8 +5,8 @@ use Rattle.std.specs.Global.{Vec}
 use Rattle.krates_cm.specs.Document.{text_view}
 use Rattle.krates_rules.specs.Resolved.{id_of}
 use Rattle.krates_ids.specs.Identity.{Identity}
-use Rattle.krates_resolve.specs.CrateNumbers.{id_at, no_id}
-use Rattle.krates_resolve.specs.Selection.{edge_view}
+use Rattle.krates_selection.specs.CrateNumbers.{id_at, no_id}
+use Rattle.krates_selection.specs.Selection.{edge_view}
 use Rattle.krates_drawing.specs.Drawing.{Tie, Dep, Feature, DepFeature, Line, Spot, CrateSpot, FeatureSpot}
 use Rattle.krates_drawing.specs.Sheet as model
 use Rattle.krates_drawing.specs.Sheet.{OwnFeature, Crates, FeatureOf, toggle_of}

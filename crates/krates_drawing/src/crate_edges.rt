@@ -1,6 +1,6 @@
 //! The edges from crates.
 ghost use Rattle.std.specs.Prelude.{All, ◌≡◌, ◌+◌, ◌<◌, List, map, length, take, flat_map, OnOk};
-ghost use Rattle.krates_resolve.specs.CrateNumbers.{HasEnds, id_at};
+ghost use Rattle.krates_selection.specs.CrateNumbers.{HasEnds, id_at};
 ghost use Rattle.krates_drawing.specs.Drawing.{AtFeature, Line, crate_lines, crate_number as number_of_crate, pair_lines, uses};
 ghost use Rattle.krates_drawing.specs.Home.{IsDrawnTo, IsHome, AreToggledBy};
 ghost use Rattle.krates_drawing.specs.Origin.{line_from};
@@ -14,7 +14,8 @@ use crate::origin::{Home, home_at};
 use crate::sheet::{Link, Sheet};
 use crate::stretches::{links_to, toggled_by, toggled_in};
 use krates_graph::graph::NodeId;
-use krates_resolve::{DepKind, ToggledFeature};
+use krates_rules::DepKind;
+use krates_selection::ToggledFeature;
 use std::alloc::AllocError;
 
 /// Draws what the kept edge gives, from the node of its parent.

@@ -4,7 +4,7 @@ ghost use Rattle.std.specs.List.{AllZip};
 ghost use Rattle.krates_cm.specs.Document.{dependency_view, package_view, text_view, texts_view};
 ghost use Rattle.krates_rules.specs.Admission.{NoneDoubled};
 ghost use Rattle.krates_questions.specs.DocumentModel.{as_resolved};
-ghost use Rattle.krates_resolve.specs.Selection.{IsSelection};
+ghost use Rattle.krates_selection.specs.Selection.{IsSelection};
 ghost use Rattle.krates_drawing.specs.Sheet.{IsSheet};
 ghost use Rattle.krates_drawing.specs.Gathered.{MeaningsTold, count_in, dependency_in, given_in, values_in};
 ghost use Rattle.krates_drawing.specs.SheetOrder.{IsOrdered};
@@ -17,7 +17,8 @@ use crate::told::{Told, node_at, package_at, told_of};
 use krates_cm::{Dependency, Package};
 use krates_document::Setting;
 use krates_ids::Kid;
-use krates_resolve::{Document, EnabledFeature, KeptEdge, Selection};
+use krates_questions::Document;
+use krates_selection::{EnabledFeature, KeptEdge, Selection};
 use std::alloc::{AllocError, Global};
 
 /// How many dependencies the package of a crate declares; none where it has no package.

@@ -6,7 +6,7 @@ ghost use Rattle.krates_drawing.specs.Ends.{EndsStand};
 ghost use Rattle.krates_drawing.specs.Narrower.{NarrowerDrawsNoMore};
 ghost use Rattle.krates_drawing.specs.Rebuilding.{FilteredHoldsRebuild};
 
-use krates_resolve::laws;
+use krates_rules::laws;
 use krates_text::laws as texts;
 
 /// Every crate that is kept by a build which ignores one more kind is reached from kept members without edges of that kind,

@@ -15,8 +15,8 @@ use crate::text_set::TextSet;
 use krates_cm::{Dependency, Node};
 use krates_document::Setting;
 use krates_ids::Kid;
+use krates_questions::Document;
 use krates_questions::referent::Referent;
-use krates_resolve::Document;
 use krates_text::features::{Feature, ParsedFeature};
 use std::alloc::{AllocError, Global};
 

@@ -1,7 +1,7 @@
 //! The nodes, with the mappings of the crates.
 ghost use Rattle.std.specs.Prelude.{◌≡◌, ◌<◌, ◌++◌, length, map, IfOk, OnOk};
 ghost use Rattle.std.specs.List.{range_with_len};
-ghost use Rattle.krates_resolve.specs.CrateNumbers.{HasEnds};
+ghost use Rattle.krates_selection.specs.CrateNumbers.{HasEnds};
 ghost use Rattle.krates_drawing.specs.Drawing.{crate_spot, feature_spot, mapped, mapping as mapping_of, spots};
 ghost use Rattle.krates_drawing.specs.SheetOrder.{AreByChild, HaveEnds, IsClaimed, IsOrdered};
 ghost use Rattle.krates_drawing.specs.Views.{IsFew, kids_in, krate_at, link_view, spot_view, sheet_view};

@@ -5,7 +5,7 @@ ghost use Rattle.krates_drawing.specs.Home.{AreLinksFrom, AreToggledBy};
 ghost use Rattle.krates_drawing.specs.SheetOrder.{AreByChild, AreByKrate, IsOrdered, has_child, has_krate};
 
 use crate::sheet::{Link, Sheet};
-use krates_resolve::ToggledFeature;
+use krates_selection::ToggledFeature;
 
 /// The kept edges from a crate, by child.
 pub(crate) fn links_from(sheet: &Sheet, parent: usize) -> &[Link]

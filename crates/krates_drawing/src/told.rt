@@ -7,7 +7,7 @@ ghost use Rattle.krates_drawing.specs.Told.{IsToldOf, node_at as node_told, pack
 
 use krates_cm::{Node, Package};
 use krates_ids::Kid;
-use krates_resolve::Document;
+use krates_questions::Document;
 use std::alloc::{AllocError, Global};
 
 /// A kept crate, with what the document has for it.

@@ -17,10 +17,10 @@ use Rattle.krates_explain.proofs.KeptCrates.{kept_crates, same_in}
 use Rattle.krates_explain.proofs.PickedSteps.{seen_back}
 use Rattle.krates_explain.proofs.ToldParts.{use_these}
 use Rattle.krates_ids.specs.Identity.{id_cmp}
-use Rattle.krates_resolve.proofs.Steps.{names_once}
-use Rattle.krates_resolve.specs.Trace.{HasSomeStep, IsShown, IsTrace}
-use Rattle.krates_resolve.specs.declared.trace.NumberedFact.{NumberedFact}
-use Rattle.krates_resolve.specs.declared.trace.NumberedStep.{NumberedStep}
+use Rattle.krates_selection.proofs.Steps.{names_once}
+use Rattle.krates_selection.specs.Trace.{HasSomeStep, IsShown, IsTrace}
+use Rattle.krates_selection.specs.declared.trace.NumberedFact.{NumberedFact}
+use Rattle.krates_selection.specs.declared.trace.NumberedStep.{NumberedStep}
 use Rattle.krates_rules.proofs.ListsOfSteps.{contained_derived}
 use Rattle.krates_rules.proofs.OnlyOne.{place_in}
 use Rattle.krates_rules.proofs.Readings.{ReadsOnce, left_of, right_of}

@@ -4,14 +4,14 @@ use Rattle.std.specs.List.Sorted.{IsStrictlySortedBy}
 use Rattle.krates_cm.specs.Document.{NodeModel}
 use Rattle.krates_document.proofs.DistinctIds.{OrderTellsSame}
 use Rattle.krates_explain.specs.KeptFacts.{KeptModel, KeepsCrate, KeepsEdge, Enables, Toggles, IsBelow, edge_in, fact_in}
-use Rattle.krates_resolve.specs.CrateNumbers.{id_at}
-use Rattle.krates_resolve.proofs.CrateNumbers.{one_number}
-use Rattle.krates_resolve.proofs.KeptEnds.{child_kept, crate_of_feature, parent_kept, toggled_kept}
+use Rattle.krates_selection.specs.CrateNumbers.{id_at}
+use Rattle.krates_selection.proofs.CrateNumbers.{one_number}
+use Rattle.krates_selection.proofs.KeptEnds.{child_kept, crate_of_feature, parent_kept, toggled_kept}
 use Rattle.krates_explain.specs.Tables.{HasKeptCrates, IsKeptIn}
 use Rattle.krates_ids.specs.Identity.{Identity, id_cmp}
-use Rattle.krates_resolve.specs.Trace.{Names}
-use Rattle.krates_resolve.specs.declared.trace.NumberedFact.{NumberedFact}
-use Rattle.krates_resolve.specs.declared.trace.NumberedFact.TheVariants as numbered
+use Rattle.krates_selection.specs.Trace.{Names}
+use Rattle.krates_selection.specs.declared.trace.NumberedFact.{NumberedFact}
+use Rattle.krates_selection.specs.declared.trace.NumberedFact.TheVariants as numbered
 use Rattle.krates_rules.specs.Derivation.{Derivable}
 use Rattle.krates_rules.specs.Facts.{Id, Edge, Fact, Crate}
 use Rattle.krates_rules.specs.Resolved.{HasNode, Resolved}

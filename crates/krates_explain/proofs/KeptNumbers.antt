@@ -4,7 +4,7 @@ use Rattle.std.proofs.lemmas.List.{length-map}
 use Rattle.std.proofs.lemmas.Option.{slice_get-map, slice_get_read, slice_get_within, get_or_from_slice_get, same_Some}
 use Rattle.std.specs.List.{slice_get}
 use Rattle.krates_cm.specs.Document.{NodeModel, NodeDepModel, Text}
-use Rattle.krates_resolve.specs.CrateNumbers.{id_at, no_id}
+use Rattle.krates_selection.specs.CrateNumbers.{id_at, no_id}
 use Rattle.krates_explain.specs.Tables.{IsChildAt, IsKeptChild, IsKeptIn, IsKeptNode, IsKeptWithNode, IsNumberAt, IsTables, document_in, kids_in}
 use Rattle.krates_explain.specs.declared.keys.Tables.{Tables}
 use Rattle.krates_explain.proofs.FactPlaces.{zip_long}

@@ -5,7 +5,7 @@ use Rattle.std.specs.List.{slice_get}
 use Rattle.krates_cm.specs.Document.{Text}
 use Rattle.krates_cm.specs.declared.dependency.DependencyKind.{DependencyKind}
 use Rattle.krates_explain.specs.KeptFacts.{edge_in}
-use Rattle.krates_resolve.specs.CrateNumbers.{id_at}
+use Rattle.krates_selection.specs.CrateNumbers.{id_at}
 use Rattle.krates_explain.specs.Tables.{IsEdgeIn, IsFeatureIn, IsKeyOf, IsNumberAt, document_in, kids_in}
 use Rattle.krates_explain.specs.declared.key.EdgeKey.{EdgeKey}
 use Rattle.krates_explain.specs.declared.key.FactKey.TheVariants as keys
@@ -14,7 +14,7 @@ use Rattle.krates_explain.specs.declared.keys.Tables.{Tables}
 use Rattle.krates_ids.specs.Identity.{Identity}
 use Rattle.krates_lookups.specs.ListedFeatures.{listed_features}
 use Rattle.krates_lookups.specs.Numbering.{FeatureAt}
-use Rattle.krates_resolve.specs.declared.trace.NumberedFact.TheVariants as numbered
+use Rattle.krates_selection.specs.declared.trace.NumberedFact.TheVariants as numbered
 use Rattle.krates_rules.specs.Facts.{Id, Edge, Crate, Feature, Kept, Toggled}
 use Rattle.krates_rules.specs.Resolved.{NodeAt}
 

@@ -12,7 +12,7 @@ use Rattle.krates_explain.specs.Keys.{key_view}
 use Rattle.krates_explain.specs.declared.kept.Explanation.{Explanation}
 use Rattle.krates_explain.specs.declared.kept.KeptStep.{KeptStep}
 use Rattle.krates_explain.specs.declared.key.FactKey.{FactKey}
-use Rattle.krates_resolve.specs.declared.trace.NumberedStep.{NumberedStep}
+use Rattle.krates_selection.specs.declared.trace.NumberedStep.{NumberedStep}
 use Rattle.krates_rules.specs.Uses.{numbers_used}
 use Rattle.krates_rules.specs.declared.uses.Uses.{Uses}
 use Rattle.krates_steps.specs.Picked.{ArePicked, IsPicked}

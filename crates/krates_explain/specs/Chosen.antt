@@ -4,7 +4,7 @@ use Rattle.krates_explain.specs.KeptFacts.{kept_view}
 use Rattle.krates_explain.specs.Keys.{key_view}
 use Rattle.krates_explain.specs.declared.kept.KeptStep.{KeptStep}
 use Rattle.krates_explain.specs.declared.key.FactKey.{FactKey}
-use Rattle.krates_resolve.specs.declared.trace.NumberedStep.{NumberedStep}
+use Rattle.krates_selection.specs.declared.trace.NumberedStep.{NumberedStep}
 use Rattle.krates_rules.specs.declared.uses.Uses.{Uses}
 
 -- the step has the fact of the key and the rule at this place, and uses these steps

@@ -9,7 +9,7 @@ use Rattle.krates_explain.specs.declared.kept.KeptStep.{KeptStep}
 use Rattle.krates_explain.specs.declared.kept.Subject.{Subject}
 use Rattle.krates_explain.specs.declared.kept.Subject.TheVariants as subjects
 use Rattle.krates_ids.specs.Identity.{Identity}
-use Rattle.krates_resolve.specs.CrateNumbers.{id_at}
+use Rattle.krates_selection.specs.CrateNumbers.{id_at}
 use Rattle.krates_rules.specs.Facts.{Edge, Fact, Crate, Feature, Kept, Toggled}
 use Rattle.krates_rules.specs.Steps.{StepModel}
 use Rattle.krates_rules.specs.Uses.{numbers_used}

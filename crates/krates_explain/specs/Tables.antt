@@ -13,10 +13,10 @@ use Rattle.krates_ids.specs.Identity.{Identity}
 use Rattle.krates_lookups.specs.CrateTable.{AreNumbered, AreNumbersOf}
 use Rattle.krates_lookups.specs.Lookup.{IsLookup, resolved_view}
 use Rattle.krates_lookups.specs.Numbering.{FeatureAt}
-use Rattle.krates_resolve.specs.CrateNumbers.{id_at}
-use Rattle.krates_resolve.specs.Trace.{EdgeAt, HasSomeStep, Names}
-use Rattle.krates_resolve.specs.declared.trace.NumberedFact.{NumberedFact}
-use Rattle.krates_resolve.specs.declared.trace.NumberedStep.{NumberedStep}
+use Rattle.krates_selection.specs.CrateNumbers.{id_at}
+use Rattle.krates_selection.specs.Trace.{EdgeAt, HasSomeStep, Names}
+use Rattle.krates_selection.specs.declared.trace.NumberedFact.{NumberedFact}
+use Rattle.krates_selection.specs.declared.trace.NumberedStep.{NumberedStep}
 use Rattle.krates_rules.specs.Facts.{Id, Edge, Fact, Crate, Feature, Kept, Toggled, Lost}
 use Rattle.krates_rules.specs.Questions.{questions}
 use Rattle.krates_rules.specs.Resolved.{DepAt, HasNode, NodeAt, Resolved, StandsAt, id_of}

@@ -7,7 +7,7 @@ ghost use Rattle.krates_explain.specs.Tables.{AreStepsOf, IsKeptIn};
 ghost use Rattle.krates_ids.specs.Identity.{id_cmp};
 ghost use Rattle.krates_lookups.specs.Lookup.{IsLookup};
 ghost use Rattle.krates_questions.specs.Basis.{Derives, document_of};
-ghost use Rattle.krates_resolve.specs.Trace.{IsTrace};
+ghost use Rattle.krates_selection.specs.Trace.{IsTrace};
 ghost use Rattle.krates_rules.specs.Facts.{Crate, Id};
 
 use crate::kept::KeptStep;
@@ -17,8 +17,8 @@ use crate::numbering::numbers_of;
 use krates_ids::{Kid, laws};
 use krates_lookups::crate_table::numbers_of as crate_numbers_of;
 use krates_questions::basis::Basis;
-use krates_resolve::NumberedStep;
 use krates_rules::Uses;
+use krates_selection::NumberedStep;
 use krates_steps::{Part, first_steps, laws as step_laws};
 use std::alloc::{AllocError, Global};
 

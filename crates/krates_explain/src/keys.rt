@@ -5,7 +5,7 @@ ghost use Rattle.std.specs.List.{AllZip};
 ghost use Rattle.krates_cm.specs.Document.{dep_kind_info_view};
 ghost use Rattle.krates_explain.specs.Tables.{AreKeptFacts, IsChildAt, IsEdgeIn, IsFeatureIn, IsKeptChild, IsKeptEdge, IsKeptFact, IsKeptFeature, IsKeptNode, IsKeyOf, IsNumberAt, IsTables, numbered_facts};
 ghost use Rattle.krates_lookups.specs.Lookup.{IsLookup, resolved_view};
-ghost use Rattle.krates_resolve.specs.Trace.{EdgeAt};
+ghost use Rattle.krates_selection.specs.Trace.{EdgeAt};
 ghost use Rattle.krates_rules.specs.Facts.{Edge};
 ghost use Rattle.krates_rules.specs.Questions.{kind_info_of};
 
@@ -13,8 +13,8 @@ use crate::key::{EdgeKey, FactKey, FeatureKey, ToggleKey};
 use krates_cm::DepKindInfo;
 use krates_ids::{Kid, laws};
 use krates_lookups::lookup::{Lookup, at_number};
-use krates_resolve::{NumberedFact, NumberedStep};
 use krates_rules::DepKind;
+use krates_selection::{NumberedFact, NumberedStep};
 use std::alloc::{AllocError, Global};
 
 /// A document, and the kept crates of it in the order of their ids.

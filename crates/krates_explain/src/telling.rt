@@ -4,7 +4,7 @@ ghost use Rattle.std.specs.Prelude.{◌≡◌, ◌<◌, Contains, IfOk, length};
 ghost use Rattle.krates_derive.specs.Told.{fact_view};
 ghost use Rattle.krates_explain.specs.Explanation.{HasTheseIds};
 ghost use Rattle.krates_explain.specs.KeptFacts.{IsBelow, fact_in, kept_view};
-ghost use Rattle.krates_resolve.specs.CrateNumbers.{id_at};
+ghost use Rattle.krates_selection.specs.CrateNumbers.{id_at};
 ghost use Rattle.krates_rules.specs.Resolved.{id_of};
 ghost use Rattle.krates_rules.specs.Uses.{numbers_used};
 

@@ -2,7 +2,7 @@
 use Rattle.std.proofs.Common.{◌≡◌, ℕ, zero, suc, ◌<◌, List, [], ◌∷◌, length, map, Option, Some, option_map, ap, ◌∙◌, arith}
 use Rattle.std.proofs.lemmas.Option.{get_or_from_slice_get, slice_get-map}
 use Rattle.std.specs.List.{slice_get}
-use Rattle.krates_resolve.specs.CrateNumbers.{id_at, no_id}
+use Rattle.krates_selection.specs.CrateNumbers.{id_at, no_id}
 use Rattle.krates_ids.specs.Identity.{Identity}
 use Rattle.krates_rules.specs.Resolved.{id_of}
 use Rattle.krates_queries.specs.Node.{crate_ids}

@@ -7,8 +7,8 @@ use Rattle.krates_drawing.specs.Sheet.{Sheet, IsSheet}
 use Rattle.krates_drawing.specs.Stored.{IsStoredAs}
 use Rattle.krates_drawing.specs.declared.edge.Edge.{Edge}
 use Rattle.krates_graph.specs.Graph.{StoredGraph}
-use Rattle.krates_resolve.specs.Selection.{IsSelection}
-use Rattle.krates_resolve.specs.declared.selection.Selection.{Selection}
+use Rattle.krates_selection.specs.Selection.{IsSelection}
+use Rattle.krates_selection.specs.declared.selection.Selection.{Selection}
 use Rattle.krates_rules.specs.Resolved.{HasGraphWith, Resolved, id_of, resolved}
 use Rattle.krates_rules.specs.Setting.{SettingModel}
 use Rattle.krates_queries.specs.declared.node.Node.{Node}

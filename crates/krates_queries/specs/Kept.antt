@@ -12,7 +12,7 @@ use Rattle.krates_graph.specs.Graph.{StoredGraph}
 use Rattle.krates_ids.specs.Identity.{Identity, id_cmp}
 use Rattle.krates_rules.specs.Facts.{Id}
 use Rattle.krates_rules.specs.Resolved.{StandsAt}
-use Rattle.krates_resolve.specs.declared.work.Work.{Work}
+use Rattle.krates_selection.specs.declared.work.Work.{Work}
 use Rattle.krates_queries.specs.Node.{crate_ids, crate_values, crate_features, CratesFirst, feature_names, names_in}
 use Rattle.krates_queries.specs.declared.node.Node.{Node}
 

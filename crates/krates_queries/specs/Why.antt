@@ -5,7 +5,7 @@ use Rattle.krates_derive.specs.Told.{steps_view}
 use Rattle.krates_derive.specs.declared.derivation.Derivation.{Derivation}
 use Rattle.krates_derive.specs.declared.derivation.Step.{Step}
 use Rattle.krates_explain.specs.Explanation.{HasTheseIds}
-use Rattle.krates_resolve.specs.CrateNumbers.{id_at}
+use Rattle.krates_selection.specs.CrateNumbers.{id_at}
 use Rattle.krates_ids.specs.Identity.{Identity}
 use Rattle.krates_rules.specs.Facts.{Crate as CrateFact, Fact, Feature as FeatureFact}
 use Rattle.krates_rules.specs.Questions.{questions}

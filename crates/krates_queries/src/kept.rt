@@ -12,7 +12,7 @@ use krates_cm::Package;
 use krates_drawing::edge::Edge;
 use krates_explain::Explanation;
 use krates_graph::graph::{Graph, NodeId};
-use krates_resolve::Work;
+use krates_selection::Work;
 use std::alloc::Global;
 use std::marker::Model;
 

@@ -8,11 +8,12 @@ use Rattle.std.proofs.Math.Nat.{min-eq_left, min-eq_right}
 use Rattle.std.specs.List.{slice_get}
 use Rattle.krates_rules.specs.Resolved.{Resolved}
 use Rattle.krates_rules.specs.Setting.{SettingModel}
-use Rattle.krates_resolve.specs.Counting.{AreCounted, HasCountedAll, HaveTakenReferences, IsFresh, NumberHasReferences}
-use Rattle.krates_resolve.specs.Found.{Grows}
-use Rattle.krates_resolve.specs.Work.{counted}
-use Rattle.krates_resolve.specs.declared.found.Found.{Found}
-use Rattle.krates_resolve.specs.declared.work.Work.{Work}
+use Rattle.krates_resolve.specs.Counting.{AreCounted, HasCountedAll, HaveTakenReferences, NumberHasReferences}
+use Rattle.krates_selection.specs.Work.{IsFresh}
+use Rattle.krates_search.specs.Found.{Grows}
+use Rattle.krates_selection.specs.Work.{counted}
+use Rattle.krates_search.specs.declared.found.Found.{Found}
+use Rattle.krates_selection.specs.declared.work.Work.{Work}
 use Rattle.krates_resolve.proofs.Taken.{taken_to}
 
 -- ---- counts that stay at their greatest value

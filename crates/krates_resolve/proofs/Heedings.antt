@@ -1,7 +1,6 @@
 -- What an enabled feature gives by its references, and what it may give.
-use Rattle.std.proofs.Common.{◌≡◌, ℕ, ◌+◌, ◌<◌, List, [], ◌∷◌, ◌++◌, length, get_or, take, map, option_map, Some, Contains, Result, Ok, Err, OnOk, String, Global, string_bytes, inl, inr, refl, sym, ap, ◌∙◌, subst, arith}
-use Rattle.std.proofs.lemmas.List.{length-map}
-use Rattle.std.proofs.lemmas.Option.{slice_get-map, slice_get-get_or, slice_get_read, same_Some}
+use Rattle.std.proofs.Common.{◌≡◌, ℕ, ◌+◌, ◌<◌, List, [], ◌∷◌, ◌++◌, length, get_or, take, map, Some, Contains, Result, Ok, Err, OnOk, String, Global, inl, inr, refl, sym, ap, ◌∙◌, subst, arith}
+use Rattle.std.proofs.lemmas.Option.{slice_get-get_or, same_Some}
 use Rattle.std.proofs.lemmas.List.Sums.{sum_by_push}
 use Rattle.std.specs.List.{AllZip, slice_get, sum}
 use Rattle.krates_cm.specs.Document.{Text, node_dep_view, text_view}
@@ -10,12 +9,11 @@ use Rattle.krates_ids.specs.Identity.{Identity}
 use Rattle.krates_rules.specs.Admission.{NoneDoubled}
 use Rattle.krates_rules.specs.Derivation.{Derivable, follows, Among}
 use Rattle.krates_rules.specs.Facts.{Id, Edge, Fact, Crate, Feature, Kept}
-use Rattle.krates_lookups.specs.FeatureTable.{listed_view}
 use Rattle.krates_lookups.specs.FeatureValues.{AreNamed, AreValuesOf}
-use Rattle.krates_resolve.specs.Found.{HasFound, IsAskedWeakly, IsAskingStep, IsFollowed, IsHeeded, IsValueOfEnabled, IsSound, Advances, AreTried, IsTried, IsAny, MayTry, MayName, MayToggle}
-use Rattle.krates_resolve.specs.Heeding.{IsAskedAt, IsToggledStronglyAt, IsReferringStep, IsValueStep, MayAsk, MayAskAt, HasEnabledReference}
-use Rattle.krates_rules.specs.Resolved.{DepAt, NodeAt, Resolved, NoNode, HasNode, HasDep, id_of}
-use Rattle.krates_resolve.specs.Links.{IsMarked, HasWaiter}
+use Rattle.krates_search.specs.Found.{HasFound, IsAskedWeakly, IsAskingStep, IsFollowed, IsHeeded, IsValueOfEnabled, IsSound, Advances, AreTried, IsTried, IsAny, MayTry, MayName, MayToggle}
+use Rattle.krates_search.specs.Heeding.{IsAskedAt, IsToggledStronglyAt, IsReferringStep, IsValueStep, MayAsk, MayAskAt, HasEnabledReference}
+use Rattle.krates_rules.specs.Resolved.{DepAt, NodeAt, Resolved, NoNode, id_of}
+use Rattle.krates_search.specs.Links.{IsMarked, HasWaiter}
 use Rattle.krates_lookups.specs.ListedFeatures.{listed_features}
 use Rattle.krates_lookups.specs.Lookup.{IsLookup, resolved_view}
 use Rattle.krates_lookups.specs.NodeEntry.{AreParts, IsEntry, IsEntryOf, parent_of, child_of}
@@ -24,28 +22,29 @@ use Rattle.krates_rules.specs.Questions.{Stands, edge_between, questions}
 use Rattle.krates_rules.specs.Referent.{IsReferent}
 use Rattle.krates_rules.specs.Rules.{Questions, IsAskedFor, feature_crate, named, lost_named, asked, toggled_strongly, lost_asked_package, lost_asked_node, lost_toggled_strongly, toggled_weakly, lost_toggled_weakly}
 use Rattle.krates_rules.specs.Setting.{SettingModel}
-use Rattle.krates_resolve.specs.Work.{CountsText, HasReferences, counted}
+use Rattle.krates_selection.specs.Work.{CountsText, HasReferences, counted}
 use Rattle.krates_lookups.specs.declared.feature_table.ListedFeature.{ListedFeature}
 use Rattle.krates_questions.proofs.StandingLaws.{derivable_stands}
-use Rattle.krates_resolve.specs.declared.found.Found.{Found}
-use Rattle.krates_resolve.specs.declared.links.Links.{Links}
+use Rattle.krates_search.specs.declared.found.Found.{Found}
+use Rattle.krates_search.specs.declared.links.Links.{Links}
 use Rattle.krates_lookups.specs.declared.lookup.Lookup.{Lookup}
 use Rattle.krates_lookups.specs.declared.node_entry.NodeEntry.{NodeEntry}
 use Rattle.krates_lookups.specs.declared.node_entry.NodeParts.{NodeParts}
 use Rattle.krates_rules.proofs.Readings.{ReadsOnce}
 use Rattle.krates_document.proofs.Zips.{zip_next}
 use Rattle.krates_resolve.proofs.Counted.{counted_more}
-use Rattle.krates_resolve.proofs.Entries.{one, undeclared_lost}
-use Rattle.krates_resolve.proofs.Growth.{waiter_advances, with_links}
-use Rattle.krates_resolve.proofs.Steps.{StepsStay}
-use Rattle.krates_resolve.specs.Trace.{HasStep}
-use Rattle.krates_resolve.specs.declared.links.Waiting.{Waiting}
-use Rattle.krates_resolve.specs.declared.trace.NumberedStep.{NumberedStep}
+use Rattle.krates_search.proofs.EntriesTried.{entry_tried}
+use Rattle.krates_selection.proofs.ListedFeatures.{listed_at}
+use Rattle.krates_search.proofs.Entries.{one, undeclared_lost}
+use Rattle.krates_search.proofs.Growth.{waiter_advances, with_links}
+use Rattle.krates_selection.proofs.Steps.{StepsStay}
+use Rattle.krates_selection.specs.Trace.{HasStep}
+use Rattle.krates_search.specs.declared.links.Waiting.{Waiting}
+use Rattle.krates_selection.specs.declared.trace.NumberedStep.{NumberedStep}
 use Rattle.krates_lookups.proofs.Lookups.{one_id}
-use Rattle.krates_resolve.proofs.TriedParts.{between_tried}
 use Rattle.krates_lookups.proofs.NodeParts.{dep_of_child, entry_here}
 use Rattle.krates_rules.proofs.Standings.{contains_at}
-use Rattle.krates_resolve.proofs.Waking.{one_way}
+use Rattle.krates_selection.proofs.Steps.{one_way}
 
 -- ---- derivations
 
@@ -113,16 +112,6 @@ found_node r x i found none = none found.node.node (record { among = contains_at
 
 -- ---- a dependency that is asked for
 
--- each edge of the entry's dependency has been tried
-pub entry_tried : (r : Resolved) (s : SettingModel) (x : Found) (y : NodeEntry) (e : Edge) → NoneDoubled r.metadata r.graph → IsEntry r y → parent_of y ≡ e.parent → child_of y ≡ e.child
-    → AreTried r s x (parent_of y) (child_of y) (node_dep_view y.dep.now) IsAny → IsTried r s x e IsAny
-entry_tried r s x y e none at parent child tried =
-    let dep = node_dep_view y.dep.now in
-    let has_node = subst (λ (i : Id). HasNode r i at.node) parent at.has_node in
-    let has_dep = subst (λ (i : Id). HasDep at.node i dep) child at.has_dep in
-    let each = subst (λ (i : Id). AreTried r s x e.parent i dep IsAny) child (subst (λ (i : Id). AreTried r s x i (child_of y) dep IsAny) parent tried) in
-    between_tried r s x e at.node dep IsAny none has_node has_dep each
-
 -- an entry's own dependency
 pub dep_of_entry : (r : Resolved) (parts : NodeParts) (y : NodeEntry) (index : ℕ) → IsEntryOf parts index y → IsEntry r y → DepAt r (id_of parts.parent.now) (child_of y) parts.place index
 dep_of_entry r parts y index e is =
@@ -135,13 +124,6 @@ tried_at once r s x parts y index e none p of tried there =
     let is = entry_here r parts.place parts index y p of in
     let same = one_way once r (id_of parts.parent.now) (child_of y) e.parent e.child parts.place index (dep_of_entry r parts y index of is) there in
     entry_tried r s x y e none is (ap id_of of.parent ∙ same.0) same.1 tried
-
--- so each edge at the entry's places has been
-pub noted_tried : ReadsOnce → (r : Resolved) (s : SettingModel) (x : Found) (y : NodeEntry) → NoneDoubled r.metadata r.graph → IsEntry r y → AreTried r s x (parent_of y) (child_of y) (node_dep_view y.dep.now) IsAny
-    → (e : Edge) → DepAt r e.parent e.child y.place y.index → IsTried r s x e IsAny
-noted_tried once r s x y none is tried e there =
-    let same = one_way once r (parent_of y) (child_of y) e.parent e.child y.place y.index is.at there in
-    entry_tried r s x y e none is same.0 same.1 tried
 
 pub may_ask_there : ReadsOnce → (r : Resolved) (s : SettingModel) (p child : Id) (name : Text) (place index : ℕ) → MayAsk r s p name → IsReferent r s.all_named p name child → DepAt r p child place index → MayAskAt r s p place index
 may_ask_there once r s p child name place index may is dep other k at =
@@ -204,23 +186,11 @@ pub heeded_here : (r : Resolved) (s : SettingModel) (x : Found) (p : Id) (f : Te
     → ((text : Text) → Contains values text → (reference : Reference) → IsReference text reference → IsFollowed r s x p reference) → IsHeeded r s x p f
 heeded_here r s x p f values are each reference has = let v = (are reference).0 has in each v.text v.among reference v.is
 
--- the value at a place is one of the values
-pub value_at : (texts : List (String Global)) (k : ℕ) (text : String Global) → k < length texts → text ≡ get_or texts k text → Contains (map text_view texts) (string_bytes text)
-value_at texts k text lt is = contains_at (map text_view texts) k (string_bytes text) (slice_get-map text_view texts k ∙ ap (option_map text_view) (slice_get_read texts (length texts) k text refl lt is))
-
 -- and so a value of an enabled feature
 pub value_of_enabled : (r : Resolved) (s : SettingModel) (p : Id) (f : Text) (values : List Text) (text : Text) → Derivable (questions r s) (Feature p f) → AreValuesOf r p f values → Contains values text → IsValueOfEnabled r s p text
 value_of_enabled r s p f values text enabled are among = record { feature = f; enabled = enabled; refers = λ reference is. (are reference).1 (record { text = text; among = among; is = is }) }
 
 -- ---- listed features
-
--- the listed feature of a number, as the code finds it
-pub listed_at : (d : Lookup) (number : ℕ) (x : ListedFeature) → IsLookup d → number < length (listed_features (resolved_view d)) → x ≡ get_or d.features.listed.items number x
-    → slice_get (listed_features (resolved_view d)) number ≡ Some (x.place, x.name.now)
-listed_at d number x h lt is =
-    let ls = d.features.listed.items in
-    let long = ap length (sym h.features) ∙ length-map ls listed_view in
-    sym (ap (λ (all : List (ℕ × Text)). slice_get all number) h.features) ∙ slice_get-map listed_view ls number ∙ ap (option_map listed_view) (slice_get_read ls (length ls) number x refl (subst (λ (n : ℕ). number < n) long lt) is)
 
 -- the feature of a number that was taken
 pub listed_here : (d : Lookup) (s : SettingModel) (x : Found) (taken number : ℕ) (feature : ListedFeature) → IsLookup d → IsSound (resolved_view d) s x → taken < x.features.size → number ≡ taken

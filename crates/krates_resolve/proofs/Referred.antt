@@ -16,10 +16,10 @@ use Rattle.krates_lookups.specs.declared.node_entry.NodeParts.{NodeParts}
 use Rattle.krates_questions.specs.ReferentPlace.{AreReferentsIn, referent_id}
 use Rattle.krates_questions.specs.declared.referent.Referent.{Referent}
 use Rattle.krates_questions.proofs.DepPlaces.{one_dep_place}
-use Rattle.krates_resolve.specs.Found.{IsAsked, IsToggledStrongly, IsWaiting, WaitsOrIsToggled}
-use Rattle.krates_resolve.specs.Heeding.{IsAskedAt, IsToggledStronglyAt, IsWaitingAt}
-use Rattle.krates_resolve.specs.Work.{CountsName}
-use Rattle.krates_resolve.specs.declared.found.Found.{Found}
+use Rattle.krates_search.specs.Found.{IsAsked, IsToggledStrongly, IsWaiting, WaitsOrIsToggled}
+use Rattle.krates_search.specs.Heeding.{IsAskedAt, IsToggledStronglyAt, IsWaitingAt}
+use Rattle.krates_selection.specs.Work.{CountsName}
+use Rattle.krates_search.specs.declared.found.Found.{Found}
 
 -- a crate that is meant is in the list
 meant_among : (xs : List Referent) (c : Id) → Contains (map referent_id xs) c → (x : Referent) × Contains xs x × (referent_id x ≡ c)

@@ -10,8 +10,8 @@ use Rattle.krates_rules.specs.Admission.{NoneDoubled}
 use Rattle.krates_rules.specs.Derivation.{Derivable, follows, Among}
 use Rattle.krates_rules.specs.Facts.{Id, Fact, LostPackage, LostNode, Crate, Feature, Lost}
 use Rattle.krates_rules.specs.Features.{ListsFeature}
-use Rattle.krates_resolve.specs.Basis.{HasRooted, HasRootedEach}
-use Rattle.krates_resolve.specs.Found.{Grows, HasFound, IsRooted, HasRoots, MayName}
+use Rattle.krates_resolve.specs.Progress.{HasRooted, HasRootedEach}
+use Rattle.krates_search.specs.Found.{Grows, HasFound, IsRooted, HasRoots, MayName}
 use Rattle.krates_rules.specs.Resolved.{NodeAt, Resolved, id_of, NoPackage}
 use Rattle.krates_rules.specs.Questions.{Stands, LacksNode, questions, IsLeftOut}
 use Rattle.krates_questions.specs.Basis.{document_of}
@@ -20,13 +20,13 @@ use Rattle.krates_questions.specs.declared.basis.Basis.{Basis}
 use Rattle.krates_rules.specs.Roots.{IsRoot}
 use Rattle.krates_rules.specs.Rules.{Questions, root_crate, root_feature, lost_root_package, lost_root_node}
 use Rattle.krates_rules.specs.Setting.{SettingModel}
-use Rattle.krates_resolve.specs.declared.found.Found.{Found}
+use Rattle.krates_search.specs.declared.found.Found.{Found}
 use Rattle.krates_rules.proofs.Readings.{ReadsOnce, right_of}
 use Rattle.krates_rules.proofs.OnlyOne.{place_in}
 use Rattle.krates_rules.proofs.Standings.{not_included}
 use Rattle.krates_lookups.proofs.Lookups.{one_id}
 use Rattle.krates_questions.proofs.RootLemmas.{root_member}
-use Rattle.krates_resolve.proofs.Growing.{rooted_grows}
+use Rattle.krates_search.proofs.Growing.{rooted_grows}
 
 pub members_rooted : ReadsOnce → (r : Resolved) (s : SettingModel) (x : Found) (all : Bool) (members : List Identity) → AsksFor r s all → AllZip Reads r.metadata.workspace_members members
     → All (λ m. IsRoot r s (id_of m) → IsRooted r s x (id_of m)) members → HasRoots r s x

@@ -9,9 +9,9 @@ use Rattle.krates_rules.specs.Admission.{NoneDoubled}
 use Rattle.krates_rules.specs.Derivation.{Among, Derivable, follows}
 use Rattle.krates_rules.specs.Facts.{Id, Edge, Fact, Crate, Feature, Kept, Toggled, Lost}
 use Rattle.krates_rules.specs.Features.{HasReference}
-use Rattle.krates_resolve.specs.Found.{HasFound, IsSound, Advances, HasRoots, IsExpanded, IsHeeded, IsFollowed, IsAsked, IsTried, IsAny, IsFeatureStep, IsKrateStep, IsToggledIn}
+use Rattle.krates_search.specs.Found.{HasFound, IsSound, Advances, HasRoots, IsExpanded, IsHeeded, IsFollowed, IsAsked, IsTried, IsAny, IsFeatureStep, IsKrateStep, IsToggledIn}
 use Rattle.krates_rules.specs.Resolved.{DepAt, Resolved}
-use Rattle.krates_resolve.specs.Links.{AreNew, HasLinks}
+use Rattle.krates_search.specs.Links.{AreNew, HasLinks}
 use Rattle.krates_lookups.specs.ListedFeatures.{listed_features}
 use Rattle.krates_questions.specs.Standing.{AreExclusions}
 use Rattle.krates_rules.specs.Questions.{IsDeclaredAs, Stands, IsWanted, questions}
@@ -19,18 +19,18 @@ use Rattle.krates_rules.specs.References.{Demands}
 use Rattle.krates_rules.specs.Referent.{IsReferent}
 use Rattle.krates_rules.specs.Rules.{Rule, IsAskedFor, root_crate, root_feature, lost_root_package, lost_root_node, feature_crate, named, lost_named, asked, toggled_strongly, lost_asked_package, lost_asked_node, lost_toggled_strongly, required, target, lost_undeclared, lost_required_package, lost_required_node, declared, by_default, lost_declared, toggled_weakly, toggled_feature, lost_toggled_weakly}
 use Rattle.krates_resolve.specs.Saturation.{AreDone}
-use Rattle.krates_resolve.specs.FoundEdge.{found_view, IsFoundEdge}
-use Rattle.krates_resolve.specs.FoundToggle.{IsFoundToggle}
-use Rattle.krates_resolve.specs.FoundToggle.{found_toggled}
+use Rattle.krates_search.specs.FoundEdge.{found_view, IsFoundEdge}
+use Rattle.krates_search.specs.FoundToggle.{IsFoundToggle}
+use Rattle.krates_search.specs.FoundToggle.{found_toggled}
 use Rattle.krates_rules.specs.Setting.{SettingModel}
 use Rattle.krates_rules.specs.Steps.{StepModel}
-use Rattle.krates_resolve.specs.Trace.{IsTrace}
-use Rattle.krates_resolve.specs.declared.found.Found.{Found}
-use Rattle.krates_resolve.specs.declared.found_edge.FoundEdge.{FoundEdge}
-use Rattle.krates_resolve.specs.declared.found_toggle.FoundToggle.{FoundToggle}
+use Rattle.krates_selection.specs.Trace.{IsTrace}
+use Rattle.krates_search.specs.declared.found.Found.{Found}
+use Rattle.krates_search.specs.declared.found_edge.FoundEdge.{FoundEdge}
+use Rattle.krates_search.specs.declared.found_toggle.FoundToggle.{FoundToggle}
 use Rattle.krates_rules.proofs.DerivationLaws.{closed_under}
 use Rattle.krates_rules.proofs.OnlyOne.{place_in}
-use Rattle.krates_resolve.proofs.Waking.{as_declared, declared_as_once}
+use Rattle.krates_search.proofs.Waking.{as_declared, declared_as_once}
 
 -- ---- a kept edge is open
 

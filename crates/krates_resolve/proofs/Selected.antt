@@ -13,20 +13,20 @@ use Rattle.krates_rules.specs.Facts.{Id, Edge, Fact, Crate, Feature, Kept, Toggl
 use Rattle.krates_rules.specs.Questions.{questions}
 use Rattle.krates_rules.specs.Resolved.{Resolved, id_of}
 use Rattle.krates_rules.specs.Setting.{SettingModel}
-use Rattle.krates_resolve.specs.CrateNumbers.{id_at}
-use Rattle.krates_resolve.specs.Found.{HasFound}
-use Rattle.krates_resolve.specs.FoundEdge.{IsFoundEdge, found_view}
-use Rattle.krates_resolve.specs.FoundToggle.{IsFoundToggle, found_toggled}
-use Rattle.krates_resolve.specs.KeptEdges.{AreInOrder, HasKeptNodes}
-use Rattle.krates_resolve.specs.KeptFeatures.{AreSorted, HasKeptHome}
-use Rattle.krates_resolve.specs.KeptNumbers.{IsKept}
-use Rattle.krates_resolve.specs.KeptToggled.{AreToggled, HasKeptCrates}
-use Rattle.krates_resolve.specs.Selection.{edge_view, crate_fact, edge_fact, feature_fact, toggled_fact, facts_of, IsSelection}
-use Rattle.krates_resolve.specs.Work.{CountsEach}
-use Rattle.krates_resolve.specs.declared.found.Found.{Found}
-use Rattle.krates_resolve.specs.declared.found_edge.FoundEdge.{FoundEdge}
-use Rattle.krates_resolve.specs.declared.found_toggle.FoundToggle.{FoundToggle}
-use Rattle.krates_resolve.specs.declared.selection.Selection.{Selection}
+use Rattle.krates_selection.specs.CrateNumbers.{id_at}
+use Rattle.krates_search.specs.Found.{HasFound}
+use Rattle.krates_search.specs.FoundEdge.{IsFoundEdge, found_view}
+use Rattle.krates_search.specs.FoundToggle.{IsFoundToggle, found_toggled}
+use Rattle.krates_search.specs.KeptEdges.{AreInOrder, HasKeptNodes}
+use Rattle.krates_search.specs.KeptFeatures.{AreSorted, HasKeptHome}
+use Rattle.krates_search.specs.KeptNumbers.{IsKept}
+use Rattle.krates_search.specs.KeptToggled.{AreToggled, HasKeptCrates}
+use Rattle.krates_selection.specs.Selection.{edge_view, crate_fact, edge_fact, feature_fact, toggled_fact, facts_of, IsSelection}
+use Rattle.krates_selection.specs.Work.{CountsEach}
+use Rattle.krates_search.specs.declared.found.Found.{Found}
+use Rattle.krates_search.specs.declared.found_edge.FoundEdge.{FoundEdge}
+use Rattle.krates_search.specs.declared.found_toggle.FoundToggle.{FoundToggle}
+use Rattle.krates_selection.specs.declared.selection.Selection.{Selection}
 use Rattle.krates_rules.proofs.Readings.{ReadsOnce}
 use Rattle.krates_document.proofs.DistinctIds.{id_of_same}
 use Rattle.krates_document.proofs.FirstPlaces.{seen_at}
@@ -37,9 +37,9 @@ use Rattle.krates_lookups.specs.ListedFeatures.{listed_features}
 use Rattle.krates_lookups.specs.Lookup.{IsLookup, resolved_view}
 use Rattle.krates_lookups.specs.declared.lookup.Lookup.{Lookup}
 use Rattle.krates_lookups.specs.Numbering.{FeatureAt}
-use Rattle.krates_resolve.proofs.Elements.{contains_image, contains_or, contains_source}
-use Rattle.krates_resolve.proofs.LinkLemmas.{there_is}
-use Rattle.krates_resolve.proofs.KeptEnds.{child_kept, crate_of_feature, parent_kept, toggled_kept}
+use Rattle.krates_search.proofs.Elements.{contains_image, contains_or, contains_source}
+use Rattle.krates_search.proofs.LinkLemmas.{there_is}
+use Rattle.krates_selection.proofs.KeptEnds.{child_kept, crate_of_feature, parent_kept, toggled_kept}
 use Rattle.krates_rules.proofs.OnlyOne.{place_in}
 
 -- ---- the ids at places

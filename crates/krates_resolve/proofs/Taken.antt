@@ -8,13 +8,13 @@ use Rattle.krates_graph.specs.Agenda.{PutNumbers, IsOrderly}
 use Rattle.krates_cm.specs.Document.{Text, DependencyModel}
 use Rattle.krates_text.specs.FeatureReference.{Reference, krate, weak, strong, simple}
 use Rattle.krates_rules.specs.Facts.{Id, Edge}
-use Rattle.krates_resolve.specs.Found.{IsEnabledBySome, IsToggledIn, HasUsed, IsAny, IsTried, IsFollowed, IsHeeded, IsExpanded, HasRoots, IsSound, Advances}
+use Rattle.krates_search.specs.Found.{IsEnabledBySome, IsToggledIn, HasUsed, IsAny, IsTried, IsFollowed, IsHeeded, IsExpanded, HasRoots, IsSound, Advances}
 use Rattle.krates_rules.specs.Resolved.{NodeAt, Resolved}
 use Rattle.krates_lookups.specs.Numbering.{FeatureAt}
 use Rattle.krates_resolve.specs.Saturation.{AreDone, left_in}
 use Rattle.krates_rules.specs.Setting.{SettingModel}
-use Rattle.krates_resolve.specs.declared.found.Found.{Found}
-use Rattle.krates_resolve.proofs.Growing.{expanded_grows, heeded_grows, roots_grow}
+use Rattle.krates_search.specs.declared.found.Found.{Found}
+use Rattle.krates_search.proofs.Growing.{expanded_grows, heeded_grows, roots_grow}
 use Rattle.krates_rules.proofs.Standings.{contains_at}
 
 -- ---- what was found doesn't depend on how many were taken

@@ -6,9 +6,9 @@ use Rattle.krates_rules.specs.Facts.{Id}
 use Rattle.krates_rules.specs.Resolved.{Resolved}
 use Rattle.krates_rules.specs.Setting.{SettingModel}
 use Rattle.krates_lookups.specs.Numbering.{FeatureAt}
-use Rattle.krates_resolve.specs.Work.{HasReferences, counted}
-use Rattle.krates_resolve.specs.declared.found.Found.{Found}
-use Rattle.krates_resolve.specs.declared.work.Work.{Work}
+use Rattle.krates_selection.specs.Work.{HasReferences, counted}
+use Rattle.krates_search.specs.declared.found.Found.{Found}
+use Rattle.krates_selection.specs.declared.work.Work.{Work}
 
 -- the feature of the number has this many references
 abbrev pub NumberHasReferences : Resolved → SettingModel → ℕ → ℕ → Type 0
@@ -26,10 +26,6 @@ pub record AreCounted (r : Resolved) (s : SettingModel) (x : Found) (work : Work
   pub krates : work.krates ≡ counted x.krates.taken
   pub features : work.features ≡ counted x.features.taken
   pub references : (n : ℕ) × HaveTakenReferences r s x n × (work.references ≡ counted n)
-
--- nothing is counted yet
-abbrev pub IsFresh : Work → Type 0
-IsFresh work = work ≡ record { krates = 0; features = 0; references = 0 }
 
 -- each crate and each feature that was put is counted, and so are the references of these features
 pub record HasCountedAll (r : Resolved) (s : SettingModel) (x : Found) (work : Work) : Type 0 where

@@ -1,12 +1,12 @@
 -- How all that is kept is looked for, step by step.
 use Rattle.std.specs.Prelude.{ℕ, ◌↔◌, ◌+◌, ◌-◌, ◌<◌, ◌≤◌, Bool, MatchBool, length}
-use Rattle.krates_resolve.specs.Found.{HasFound, IsSound, HasRoots, AreExpanded, AreHeeded}
+use Rattle.krates_search.specs.Found.{HasFound, IsSound, HasRoots, AreExpanded, AreHeeded}
 use Rattle.krates_rules.specs.Derivation.{Derivable}
 use Rattle.krates_rules.specs.Facts.{Fact}
 use Rattle.krates_rules.specs.Questions.{questions}
 use Rattle.krates_rules.specs.Resolved.{Resolved}
 use Rattle.krates_rules.specs.Setting.{SettingModel}
-use Rattle.krates_resolve.specs.declared.found.Found.{Found}
+use Rattle.krates_search.specs.declared.found.Found.{Found}
 
 -- what was found is right and has the roots, and what was taken has been expanded, and its references followed
 pub record AreDone (r : Resolved) (s : SettingModel) (x : Found) : Type 0 where

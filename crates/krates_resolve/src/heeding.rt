@@ -1,25 +1,26 @@
 //! What the references of an enabled feature give.
 
 ghost use Rattle.krates_lookups.specs.NodeEntry.{krate_of};
-ghost use Rattle.krates_resolve.specs.Basis.{CountsNameOf, CountsTextOf, FindsAskedDep, FindsToggledAt, Has, HasAsked, HasAskedDep, HasAskingStep, HasFeatureStep, HasFollowedText, HasHeededTaken, HasReferenceStep, HasToggledAt, HasToggledKept, HasToggledKeptAt, HasValueStep, IsReferredTo, IsRight, LetsWait, LetsWaitAt, MayAskFor, MayAskForDep, MayFollow, MayFollowText, MayToggleAt, Moves, TakenHasReferences};
+ghost use Rattle.krates_search.specs.Basis.{Has, IsRight, Moves};
+ghost use Rattle.krates_resolve.specs.Progress.{CountsNameOf, CountsTextOf, FindsAskedDep, FindsToggledAt, HasAsked, HasAskedDep, HasAskingStep, HasFeatureStep, HasFollowedText, HasHeededTaken, HasReferenceStep, HasToggledAt, HasToggledKept, HasToggledKeptAt, HasValueStep, IsReferredTo, LetsWait, LetsWaitAt, MayAskFor, MayAskForDep, MayFollow, MayFollowText, MayToggleAt, TakenHasReferences};
 ghost use Rattle.krates_questions.specs.Basis.{HasParts, Refuses};
 ghost use Rattle.std.specs.Prelude.{◌≡◌, ◌<◌, Contains, IfErr, IfOk, OnOk, length, max};
 ghost use Rattle.krates_text.specs.FeatureReference.{krate, strong, weak};
 ghost use Rattle.krates_rules.specs.Facts.{Crate, Feature};
-ghost use Rattle.krates_resolve.specs.Links.{IsMarked};
+ghost use Rattle.krates_search.specs.Links.{IsMarked};
 ghost use Rattle.krates_lookups.specs.Lookup.{IsLookup};
 
-use crate::enabling::{KeptNode, NamedFeature, enable, toggle};
-use crate::expansion::expand_entry;
-use crate::found::Found;
-use crate::links::Waiting;
-use crate::trace::Reason;
 use krates_graph::agenda::Taken;
 use krates_ids::{Error, laws};
 use krates_lookups::features::feature_values;
 use krates_lookups::node_entry::{NodeParts, child_place, entry_at, parts_of};
 use krates_questions::basis::Basis;
 use krates_questions::referent::referents_of;
+use krates_search::enabling::{KeptNode, NamedFeature, enable, toggle};
+use krates_search::expansion::expand_entry;
+use krates_search::found::Found;
+use krates_search::links::Waiting;
+use krates_selection::trace::Reason;
 use krates_text::features::{Feature, ParsedFeature};
 
 /// Follows each reference of an enabled feature.

@@ -1,22 +1,23 @@
 //! The roots: the crates that are kept for themselves.
 
 ghost use Rattle.krates_questions.specs.Basis.{AsksForRoots, Refuses};
-ghost use Rattle.krates_resolve.specs.Basis.{Has, HasEachRoot, HasListed, HasRooted, HasRootedEach, HasRootedRoot, IsMemberOf, IsNodeOf, IsRight, IsRootOf, IsStandingRoot, MayEnableListed, Moves, crate_of};
+ghost use Rattle.krates_search.specs.Basis.{Has, HasListed, IsNodeOf, IsRight, MayEnableListed, Moves, crate_of};
+ghost use Rattle.krates_resolve.specs.Progress.{HasEachRoot, HasRooted, HasRootedEach, HasRootedRoot, IsMemberOf, IsRootOf, IsStandingRoot};
 ghost use Rattle.std.specs.Prelude.{All, IfErr, OnOk};
 ghost use Rattle.krates_cm.specs.Document.{Text};
 ghost use Rattle.krates_rules.specs.Facts.{Crate};
 ghost use Rattle.krates_lookups.specs.Lookup.{IsLookup};
 ghost use Rattle.krates_rules.specs.Resolved.{id_of};
 
-use crate::enabling::{KeptNode, NamedFeature, enable};
-use crate::found::Found;
-use crate::trace::Reason;
-use crate::tracing::put_krate;
 use krates_graph::agenda::Agenda;
 use krates_ids::{Error, Kid, Lost, laws};
 use krates_questions::basis::Basis;
 use krates_questions::root_choice::{RootChoice, choice_of, is_root};
 use krates_questions::standing::{Standing, known_standing};
+use krates_search::enabling::{KeptNode, NamedFeature, enable};
+use krates_search::found::Found;
+use krates_search::tracing::put_krate;
+use krates_selection::trace::Reason;
 
 /// Puts the roots: the graph's root, every member, or the members with one of the manifests that are asked for.
 ///

@@ -1,28 +1,29 @@
 //! All that is kept of a document.
 
-ghost use Rattle.krates_resolve.specs.Basis.{HasCounted, HasDone, TakesOne};
+ghost use Rattle.krates_resolve.specs.Progress.{HasCounted, HasDone, TakesOne};
 ghost use Rattle.krates_questions.specs.Basis.{Refuses};
 ghost use Rattle.std.specs.Prelude.{◌≡◌, IfErr, IfOk, OnOk};
-ghost use Rattle.krates_resolve.specs.Counting.{HasCountedAll, IsFresh};
-ghost use Rattle.krates_resolve.specs.Found.{IsSound};
+ghost use Rattle.krates_resolve.specs.Counting.{HasCountedAll};
+ghost use Rattle.krates_selection.specs.Work.{IsFresh};
+ghost use Rattle.krates_search.specs.Found.{IsSound};
 ghost use Rattle.krates_resolve.specs.Saturation.{HasExactly};
 ghost use Rattle.krates_lookups.specs.Lookup.{IsLookup, resolved_view};
 ghost use Rattle.krates_rules.specs.NamedIds.{NamesIdsOf};
 ghost use Rattle.krates_rules.specs.Questions.{questions};
 ghost use Rattle.krates_rules.specs.SelectionRefusals.{SelectionRefusal};
 
-use crate::expansion::expand;
-use crate::found::Found;
 use crate::heeding::heed;
-use crate::links::links_of;
 use crate::roots::put_roots;
-use crate::work::Work;
 use krates_document::setting::Setting;
 use krates_graph::agenda::Agenda;
 use krates_ids::Error;
 use krates_lookups::lookup::Lookup;
 use krates_questions::basis::Basis;
 use krates_questions::standing::exclusions_of;
+use krates_search::expansion::expand;
+use krates_search::found::Found;
+use krates_search::links::links_of;
+use krates_selection::work::Work;
 use std::alloc::{AllocError, Global};
 
 /// All that is kept of a document: exactly what has a derivation from the roots by the rules. The work is counted.

@@ -15,7 +15,7 @@ use crate::queries::direct::{in_order, krate_at};
 use krates_drawing::edge::Edge;
 use krates_graph::agenda::Agenda;
 use krates_graph::graph::{Direction, EdgeId, Graph, GraphEdge, NodeId};
-use krates_resolve::DepKind;
+use krates_rules::DepKind;
 use std::alloc::{AllocError, Global};
 
 /// Whether an edge has no kind or another one.

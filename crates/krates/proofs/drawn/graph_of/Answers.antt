@@ -4,9 +4,9 @@ use Rattle.krates_drawing.specs.Drawing.{lines, spots}
 use Rattle.krates_drawing.specs.Views.{arrow_view, kids_in, sheet_view}
 use Rattle.krates_drawing.specs.declared.edge.Arrow.{Arrow}
 use Rattle.krates_drawing.specs.declared.sheet.Named.{Named}
-use Rattle.krates_resolve.specs.CrateNumbers.{HasHome}
-use Rattle.krates_resolve.specs.Selection.{feature_fact}
-use Rattle.krates_resolve.specs.declared.selection.EnabledFeature.{EnabledFeature}
+use Rattle.krates_selection.specs.CrateNumbers.{HasHome}
+use Rattle.krates_selection.specs.Selection.{feature_fact}
+use Rattle.krates_selection.specs.declared.selection.EnabledFeature.{EnabledFeature}
 use Rattle.krates_queries.specs.Drawn.{node_spot}
 use Rattle.krates_packages.specs.Krate.{krate_ids}
 use Rattle.krates.specs.MadeNodes.{nodes_in}

@@ -6,8 +6,8 @@ use Rattle.krates_drawing.specs.Views.{sheet_view}
 use Rattle.krates_questions.specs.DocumentModel.{as_resolved}
 use Rattle.krates_drawing.proofs.DocumentSheets.{none_doubled_in}
 use Rattle.krates_lookups.specs.Lookup.{resolved_view}
-use Rattle.krates_resolve.specs.Explained.{IsExplained, IsExplainedOf}
-use Rattle.krates_resolve.specs.Selection.{IsSelection, IsSelectionOf, RefusesSelection}
+use Rattle.krates_selection.specs.Explained.{IsExplained, IsExplainedOf}
+use Rattle.krates_selection.specs.Selection.{IsSelection, IsSelectionOf, RefusesSelection}
 use Rattle.krates_lookups.proofs.ReadIds.{each_read}
 use Rattle.krates_rules.specs.NamedIds.{NamesIdsOf, named_ids}
 use Rattle.krates_rules.specs.Questions.{questions}

@@ -9,8 +9,8 @@ use Rattle.std.specs.Prelude.{String}
 use Rattle.std.specs.declared.alloc.Global.{Global}
 use mathlib.Core.List.{map-id}
 use Rattle.krates_drawing.proofs.Members.{Member, contains_of}
-use Rattle.krates_resolve.specs.CrateNumbers.{HasHome}
-use Rattle.krates_resolve.specs.declared.selection.EnabledFeature.{EnabledFeature}
+use Rattle.krates_selection.specs.CrateNumbers.{HasHome}
+use Rattle.krates_selection.specs.declared.selection.EnabledFeature.{EnabledFeature}
 use Rattle.krates.specs.Enabled.{AreEnabledSets, IsPut}
 use Rattle.krates.proofs.EnabledLemmas.{none_enabled, one_more_enabled, taken_item}
 use Rattle.krates.proofs.enabled.enabled_of.Goals as goal

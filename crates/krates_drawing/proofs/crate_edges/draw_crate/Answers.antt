@@ -1,7 +1,7 @@
 use Rattle.std.proofs.Common.{◌++◌, List, map, ap, sym, arith, ◌∙◌}
 use Rattle.std.proofs.lemmas.List.{append-nil, take_all}
 use Rattle.std.specs.Prelude.{flat_map}
-use Rattle.krates_resolve.specs.CrateNumbers.{id_at}
+use Rattle.krates_selection.specs.CrateNumbers.{id_at}
 use Rattle.krates_drawing.specs.Drawing.{Line, pair_lines}
 use Rattle.krates_drawing.specs.Sheet as model
 use Rattle.krates_drawing.specs.SheetOrder.{children_of}

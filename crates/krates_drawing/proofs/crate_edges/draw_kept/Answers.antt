@@ -1,5 +1,5 @@
 use Rattle.std.proofs.Common.{◌≡◌, length, sym, subst}
-use Rattle.krates_resolve.specs.CrateNumbers.{HasEnds, id_at}
+use Rattle.krates_selection.specs.CrateNumbers.{HasEnds, id_at}
 use Rattle.krates_drawing.specs.Drawing.{crate_number}
 use Rattle.krates_drawing.specs.Views.{kids_in, sheet_view}
 use Rattle.krates_drawing.specs.declared.sheet.Link.{Link}

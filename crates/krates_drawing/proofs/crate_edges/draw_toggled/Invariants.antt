@@ -1,5 +1,5 @@
 use Rattle.std.proofs.Common.{◌≡◌, ◌++◌, map, drop}
-use Rattle.krates_resolve.specs.CrateNumbers.{id_at}
+use Rattle.krates_selection.specs.CrateNumbers.{id_at}
 use Rattle.krates_drawing.specs.Drawing.{AtFeature}
 use Rattle.krates_drawing.specs.Origin.{line_from}
 use Rattle.krates_drawing.specs.Sheet.{toggle_of}

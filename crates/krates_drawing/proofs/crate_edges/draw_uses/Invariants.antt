@@ -1,6 +1,6 @@
 use Rattle.std.proofs.Common.{◌≡◌, ◌++◌, map, drop}
 use Rattle.krates_cm.specs.Document.{text_view}
-use Rattle.krates_resolve.specs.Selection.{edge_view}
+use Rattle.krates_selection.specs.Selection.{edge_view}
 use Rattle.krates_rules.specs.Kind.{kind_of}
 use Rattle.krates_drawing.specs.Drawing.{AtCrate, AtFeature, DepFeature, line}
 use Rattle.krates_drawing.specs.Views.{kids_in, sheet_view, arrow_view}

@@ -2,7 +2,7 @@ use Rattle.std.proofs.Common.{List, map, refl, subst, ap, ◌∙◌}
 use Rattle.std.specs.List.{AllZip}
 use Rattle.krates_ids.specs.Identity.{Identity}
 use Rattle.krates_questions.specs.DocumentModel.{as_resolved}
-use Rattle.krates_resolve.specs.declared.selection.EnabledFeature.{EnabledFeature}
+use Rattle.krates_selection.specs.declared.selection.EnabledFeature.{EnabledFeature}
 use Rattle.krates_drawing.specs.Gathered.{MeaningsTold, count_in, given_in}
 use Rattle.krates_drawing.specs.Told.{IsToldOf}
 use Rattle.krates_drawing.specs.Views.{meanings_view}

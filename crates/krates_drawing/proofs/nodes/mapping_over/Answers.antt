@@ -1,6 +1,6 @@
 use Rattle.std.proofs.Common.{◌≡◌, length, rules, ap, subst, sym, ◌∙◌}
 use Rattle.std.proofs.lemmas.List.{with_items_is}
-use Rattle.krates_resolve.specs.CrateNumbers.{HasEnds}
+use Rattle.krates_selection.specs.CrateNumbers.{HasEnds}
 use Rattle.krates_drawing.specs.Views.{sheet_view}
 use Rattle.krates_drawing.specs.declared.sheet.Link.{Link}
 use Rattle.krates_drawing.proofs.Mapped.{mapping_more, mapping_none}

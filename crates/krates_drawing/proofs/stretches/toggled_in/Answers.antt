@@ -1,7 +1,7 @@
 use Rattle.std.proofs.Common.{refl, rules}
 use Rattle.std.proofs.lemmas.Fn.{always_returns_same}
 use Rattle.std.specs.Ordering.{is_eq, is_lt, nat_cmp}
-use Rattle.krates_resolve.specs.declared.selection.ToggledFeature.{ToggledFeature}
+use Rattle.krates_selection.specs.declared.selection.ToggledFeature.{ToggledFeature}
 use Rattle.krates_drawing.proofs.Halves.{cut}
 use Rattle.krates_drawing.proofs.Tests.{cut_krate, toggled_by_krate}
 use Rattle.krates_drawing.proofs.stretches.toggled_in.Goals as goal

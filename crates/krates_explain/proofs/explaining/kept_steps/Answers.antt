@@ -16,7 +16,7 @@ use Rattle.krates_lookups.specs.CrateTable.{AreNumbersOf}
 use Rattle.krates_lookups.proofs.SeenInOrder.{sorted_same}
 use Rattle.krates_questions.specs.Basis.{document_of, rules_of}
 use Rattle.krates_ids.specs.Identity.{Identity, id_cmp}
-use Rattle.krates_resolve.specs.declared.trace.NumberedStep.{NumberedStep}
+use Rattle.krates_selection.specs.declared.trace.NumberedStep.{NumberedStep}
 use Rattle.krates_rules.specs.Referent.{id_order}
 use Rattle.krates_rules.specs.Resolved.{id_of}
 use Rattle.krates_steps.specs.Part.{AreBackward, SameFact}

@@ -7,12 +7,12 @@ use Rattle.krates_document.proofs.Seen.{seen_more}
 use Rattle.krates_rules.specs.Facts.{Kept}
 use Rattle.krates_rules.specs.Questions.{edge_between}
 use Rattle.krates_rules.specs.Referent.{IsReferent}
-use Rattle.krates_resolve.specs.Heeding.{IsAskedAt}
-use Rattle.krates_resolve.proofs.Finding.{finds_asked, for_reason}
-use Rattle.krates_resolve.proofs.Growing.{advances_trans, asked_at_grows}
+use Rattle.krates_search.specs.Heeding.{IsAskedAt}
+use Rattle.krates_search.proofs.Finding.{finds_asked, for_reason}
+use Rattle.krates_search.proofs.Growing.{advances_trans, asked_at_grows}
 use Rattle.krates_resolve.proofs.Heedings.{may_ask_there, referring_more}
 use Rattle.krates_resolve.proofs.Referred.{asked_each, each_among, item_among, meant_here, referent_within}
-use Rattle.krates_resolve.proofs.Waking.{one_way}
+use Rattle.krates_selection.proofs.Steps.{one_way}
 use Rattle.krates_resolve.proofs.heeding.ask.Goals as goal
 
 pub ask_once-requires-clause-within : goal.ask_once-requires-clause-within

@@ -5,7 +5,7 @@ use Rattle.krates_text.specs.FeatureReference.{IsReference, krate, strong, weak,
 use Rattle.krates_lookups.specs.Lookup.{resolved_view}
 use Rattle.krates_rules.specs.Resolved.{id_of}
 use Rattle.krates_rules.specs.Facts.{Feature}
-use Rattle.krates_resolve.proofs.Finding.{finds_named, for_reason}
+use Rattle.krates_search.proofs.Finding.{finds_named, for_reason}
 use Rattle.krates_resolve.proofs.Heedings.{value_may, may_name, followed_by, on_ok_both, referring_step}
 use Rattle.krates_resolve.proofs.heeding.follow.Goals as goal
 

@@ -1,6 +1,6 @@
 use Rattle.std.proofs.Common.{String, Global, string_bytes}
 use Rattle.krates_text.specs.FeatureReference.{Reference, IsReference}
-use Rattle.krates_resolve.specs.Found.{Advances, IsFollowed}
+use Rattle.krates_search.specs.Found.{Advances, IsFollowed}
 use Rattle.krates_lookups.specs.Lookup.{resolved_view}
 use Rattle.krates_rules.specs.Resolved.{id_of}
 use Rattle.krates_document.proofs.Seen.{SeenBelow}

@@ -6,10 +6,10 @@ use Rattle.krates_rules.specs.Questions.{edge_between}
 use Rattle.krates_rules.specs.Referent.{IsReferent}
 use Rattle.krates_rules.specs.Resolved.{id_of}
 use Rattle.krates_rules.specs.Facts.{Kept, Toggled}
-use Rattle.krates_resolve.proofs.Finding.{finds_asked, finds_strongly, for_reason}
-use Rattle.krates_resolve.proofs.Growing.{advances_trans, asked_at_grows}
+use Rattle.krates_search.proofs.Finding.{finds_asked, finds_strongly, for_reason}
+use Rattle.krates_search.proofs.Growing.{advances_trans, asked_at_grows}
 use Rattle.krates_resolve.proofs.Heedings.{unmarked_strongly, may_toggle_strongly, may_ask_there, referring_more}
-use Rattle.krates_resolve.proofs.Waking.{one_way}
+use Rattle.krates_selection.proofs.Steps.{one_way}
 use Rattle.krates_resolve.proofs.heeding.toggle_at.Goals as goal
 
 pub ask_once-requires-clause-may : goal.ask_once-requires-clause-may

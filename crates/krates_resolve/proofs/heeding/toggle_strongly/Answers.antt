@@ -5,8 +5,8 @@ use Rattle.krates_questions.specs.ReferentPlace.{referent_id}
 use Rattle.krates_questions.specs.declared.referent.Referent.{Referent}
 use Rattle.krates_document.proofs.Seen.{seen_more}
 use Rattle.krates_text.specs.FeatureReference.{strong}
-use Rattle.krates_resolve.specs.Heeding.{IsAskedAt, IsToggledStronglyAt}
-use Rattle.krates_resolve.proofs.Growing.{advances_trans, asked_at_grows, strongly_at_grows}
+use Rattle.krates_search.specs.Heeding.{IsAskedAt, IsToggledStronglyAt}
+use Rattle.krates_search.proofs.Growing.{advances_trans, asked_at_grows, strongly_at_grows}
 use Rattle.krates_resolve.proofs.Heedings.{referring_more}
 use Rattle.krates_resolve.proofs.Referred.{asked_each, each_among, item_among, meant_here, referent_within, strongly_each}
 use Rattle.krates_resolve.proofs.heeding.toggle_strongly.Goals as goal

@@ -5,8 +5,8 @@ use Rattle.krates_questions.specs.ReferentPlace.{referent_id}
 use Rattle.krates_questions.specs.declared.referent.Referent.{Referent}
 use Rattle.krates_document.proofs.Seen.{seen_more}
 use Rattle.krates_text.specs.FeatureReference.{weak}
-use Rattle.krates_resolve.specs.Heeding.{IsWaitingAt}
-use Rattle.krates_resolve.proofs.Growing.{advances_trans, waiting_at_grows}
+use Rattle.krates_search.specs.Heeding.{IsWaitingAt}
+use Rattle.krates_search.proofs.Growing.{advances_trans, waiting_at_grows}
 use Rattle.krates_resolve.proofs.Heedings.{referring_more}
 use Rattle.krates_resolve.proofs.Referred.{each_among, item_among, meant_here, referent_within, waiting_each}
 use Rattle.krates_resolve.proofs.heeding.wait.Goals as goal

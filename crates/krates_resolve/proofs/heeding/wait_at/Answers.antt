@@ -5,9 +5,9 @@ use Rattle.krates_rules.specs.Questions.{edge_between}
 use Rattle.krates_rules.specs.Referent.{IsReferent}
 use Rattle.krates_rules.specs.Resolved.{id_of}
 use Rattle.krates_rules.specs.Facts.{Toggled}
-use Rattle.krates_resolve.proofs.Finding.{finds_weakly, for_reason}
+use Rattle.krates_search.proofs.Finding.{finds_weakly, for_reason}
 use Rattle.krates_resolve.proofs.Heedings.{wait_advances, asked_weakly, asking_step, may_toggle_weakly}
-use Rattle.krates_resolve.proofs.Waking.{one_way}
+use Rattle.krates_selection.proofs.Steps.{one_way}
 use Rattle.krates_resolve.proofs.heeding.wait_at.Goals as goal
 
 pub kept-requires : goal.kept-requires

@@ -13,9 +13,9 @@ use Rattle.krates_rules.specs.SelectionRefusals.{SelectionRefusal}
 use Rattle.krates_lookups.specs.Lookup.{IsOf, resolved_view}
 use Rattle.krates_lookups.specs.declared.lookup.Lookup.{Lookup}
 use Rattle.krates_lookups.proofs.ReadIds.{each_read}
-use Rattle.krates_resolve.specs.Explained.{IsExplained, IsExplainedOf}
-use Rattle.krates_resolve.specs.Selection.{IsSelection, IsSelectionOf, RefusesSelection}
-use Rattle.krates_resolve.specs.declared.selection.Selection.{Selection}
+use Rattle.krates_selection.specs.Explained.{IsExplained, IsExplainedOf}
+use Rattle.krates_selection.specs.Selection.{IsSelection, IsSelectionOf, RefusesSelection}
+use Rattle.krates_selection.specs.declared.selection.Selection.{Selection}
 use Rattle.krates_document.specs.declared.ids.Ids.{Ids}
 use Rattle.krates_resolve.proofs.resolution.select.Goals as goal
 

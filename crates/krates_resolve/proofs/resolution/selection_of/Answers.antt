@@ -5,12 +5,12 @@ use Rattle.krates_rules.specs.Referent.{id_order}
 use Rattle.krates_rules.specs.Resolved.{id_of}
 use Rattle.krates_lookups.specs.CrateTable.{AreNumbered}
 use Rattle.krates_lookups.specs.Lookup.{resolved_view}
-use Rattle.krates_resolve.specs.KeptEdges.{AreInOrder}
-use Rattle.krates_resolve.specs.KeptFeatures.{AreSorted}
-use Rattle.krates_resolve.specs.KeptToggled.{AreToggled}
-use Rattle.krates_resolve.specs.declared.found_edge.FoundEdge.{FoundEdge}
-use Rattle.krates_resolve.specs.declared.found_toggle.FoundToggle.{FoundToggle}
-use Rattle.krates_resolve.specs.declared.selection.Selection.{Selection}
+use Rattle.krates_search.specs.KeptEdges.{AreInOrder}
+use Rattle.krates_search.specs.KeptFeatures.{AreSorted}
+use Rattle.krates_search.specs.KeptToggled.{AreToggled}
+use Rattle.krates_search.specs.declared.found_edge.FoundEdge.{FoundEdge}
+use Rattle.krates_search.specs.declared.found_toggle.FoundToggle.{FoundToggle}
+use Rattle.krates_selection.specs.declared.selection.Selection.{Selection}
 use Rattle.krates_resolve.proofs.CountedSelection.{IsCountedWhole, counts_each}
 use Rattle.krates_lookups.proofs.NodeParts.{nodes_long}
 use Rattle.krates_resolve.proofs.Selected.{IsInOrder, edges_kept, features_kept, selected, toggles_kept, whole_of}

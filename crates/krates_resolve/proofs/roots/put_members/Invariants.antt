@@ -1,6 +1,6 @@
 use Rattle.krates_ids.specs.Identity.{Identity}
-use Rattle.krates_resolve.specs.Basis.{HasRootedEach}
-use Rattle.krates_resolve.specs.Found.{Advances, IsRooted}
+use Rattle.krates_resolve.specs.Progress.{HasRootedEach}
+use Rattle.krates_search.specs.Found.{Advances, IsRooted}
 use Rattle.krates_lookups.specs.Lookup.{resolved_view}
 use Rattle.krates_rules.specs.Resolved.{id_of}
 use Rattle.krates_rules.specs.Roots.{IsRoot}

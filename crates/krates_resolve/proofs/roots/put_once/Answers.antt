@@ -4,11 +4,11 @@ use Rattle.std.proofs.lemmas.Result.{on_ok_weaker}
 use Rattle.krates_rules.specs.Facts.{Crate}
 use Rattle.krates_lookups.specs.Lookup.{resolved_view}
 use Rattle.krates_rules.specs.Resolved.{id_of}
-use Rattle.krates_resolve.specs.Found.{HasFound}
-use Rattle.krates_resolve.proofs.Finding.{finds_root, for_reason}
-use Rattle.krates_resolve.proofs.Growing.{advances_refl, advances_trans}
+use Rattle.krates_search.specs.Found.{HasFound}
+use Rattle.krates_search.proofs.Finding.{finds_root, for_reason}
+use Rattle.krates_search.proofs.Growing.{advances_refl, advances_trans}
 use Rattle.krates_resolve.proofs.Heedings.{on_ok_both}
-use Rattle.krates_resolve.proofs.Putting.{on_false, on_true}
+use Rattle.krates_search.proofs.Putting.{on_false, on_true}
 use Rattle.krates_resolve.proofs.Rooted.{each_grows, each_put, each_stays, root_enables, rooted_here}
 use Rattle.krates_resolve.proofs.roots.put_once.Goals as goal
 

@@ -1,10 +1,10 @@
 use Rattle.std.proofs.Common.{◌≡◌, ◌+◌, ◌-◌, ◌≤◌, length, refl, sym, ap, ◌∙◌, subst, arith}
 use Rattle.krates_graph.specs.Agenda.{PutNumbers}
 use Rattle.krates_lookups.proofs.NodeParts.{within_vec}
-use Rattle.krates_resolve.specs.Found.{IsSound, Advances, IsFeatureStep, IsKrateStep}
+use Rattle.krates_search.specs.Found.{IsSound, Advances, IsFeatureStep, IsKrateStep}
 use Rattle.krates_lookups.specs.Lookup.{resolved_view}
 use Rattle.krates_resolve.specs.Saturation.{AreDone}
-use Rattle.krates_resolve.specs.declared.found.Found.{Found}
+use Rattle.krates_search.specs.declared.found.Found.{Found}
 use Rattle.krates_resolve.proofs.TakenSteps.{taken_step, taken_within}
 use Rattle.krates_resolve.proofs.Taken.{sound_taken, taken_put, taken_below, has_room, unchanged, same_agendas, crate_done, feature_done, none_done}
 use Rattle.krates_resolve.specs.Counting.{AreCounted}

@@ -1,0 +1,79 @@
+-- The features of a list of numbers.
+use Rattle.std.proofs.Common.{◌≡◌, ◌↔◌, ℕ, ◌<◌, List, length, get_or, map, Some, Contains, option_map, refl, sym, ap, ◌∙◌, subst}
+use Rattle.std.proofs.lemmas.Option.{slice_get-map, slice_get-get_or, slice_get_read, same_Some}
+use Rattle.std.specs.List.{AllZip, slice_get}
+use Rattle.krates_cm.specs.Document.{Text, NodeModel, text_view}
+use Rattle.krates_ids.specs.Identity.{Identity, Reads}
+use Rattle.krates_rules.specs.Facts.{Id, Fact, Feature}
+use Rattle.krates_lookups.specs.FeatureTable.{listed_view}
+use Rattle.krates_search.specs.Found.{IsEnabled}
+use Rattle.krates_lookups.specs.ListedFeatures.{listed_features}
+use Rattle.krates_rules.specs.Resolved.{NodeAt, Resolved, id_of}
+use Rattle.krates_lookups.specs.Lookup.{IsLookup, resolved_view}
+use Rattle.krates_lookups.specs.Numbering.{FeatureAt}
+use Rattle.krates_selection.specs.CrateNumbers.{id_at}
+use Rattle.krates_search.specs.KeptFeatures.{HasKeptHome, IsFeatureOf}
+use Rattle.krates_search.specs.KeptNumbers.{IsKeptNode, IsNumberAt}
+use Rattle.krates_selection.specs.Selection.{feature_fact}
+use Rattle.krates_lookups.specs.declared.feature_table.ListedFeature.{ListedFeature}
+use Rattle.krates_lookups.specs.declared.lookup.Lookup.{Lookup}
+use Rattle.krates_selection.specs.declared.selection.EnabledFeature.{EnabledFeature}
+use Rattle.krates_rules.proofs.Readings.{ReadsOnce, left_of, right_of}
+use Rattle.krates_lookups.proofs.FeatureNumbers.{one_feature}
+use Rattle.krates_document.proofs.FirstPlaces.{seen_at}
+use Rattle.krates_rules.proofs.OnlyOne.{place_in}
+use Rattle.krates_rules.proofs.Standings.{contains_at}
+
+-- a node has only one id
+same_id_at : ReadsOnce → (r : Resolved) (i j : Id) (place other : ℕ) → NodeAt r i place → NodeAt r j other → place ≡ other → i ≡ j
+same_id_at once r i j place other a b same =
+    let node : a.node ≡ b.node = same_Some a.node b.node (sym a.at ∙ ap (λ k. slice_get r.graph.nodes k) same ∙ b.at) in
+    let text : b.node.id ≡ a.node.id = ap (λ (n : NodeModel). n.id) (sym node) in
+    sym a.id.same ∙ ap id_of (once b.node.id a.id.read b.id.read (subst (λ t. Reads t a.id.read) (sym text) a.id.reads) b.id.reads) ∙ b.id.same
+
+-- these are exactly the enabled features
+pub enabled_told : ReadsOnce → (r : Resolved) (kids : List Identity) (numbers : List ℕ) (list : List EnabledFeature) → AllZip (IsFeatureOf r kids) numbers list → (i : Id) (f : Text)
+    → IsEnabled r numbers i f ↔ Contains (map (feature_fact kids) list) (Feature i f)
+enabled_told once r kids numbers list z i f = (
+  λ e. (
+      let at = place_in numbers e.number e.among in
+      let x = right_of (IsFeatureOf r kids) numbers list at.0 e.number z at.1 in
+      let there = x.2.at in
+      let one = one_feature r (id_at kids x.0.krate) i (text_view x.0.name) f e.number there e.at in
+      let krate : id_at kids x.0.krate ≡ i = same_id_at once r (id_at kids x.0.krate) i there.place e.at.place there.node e.at.node one.0 in
+      let fact : feature_fact kids x.0 ≡ Feature i f = rw (krate, one.1) refl in
+      contains_at (map (feature_fact kids) list) at.0 (Feature i f) (slice_get-map (feature_fact kids) list at.0 ∙ ap (option_map (feature_fact kids)) x.1 ∙ ap (λ (y : Fact). Some y) fact)),
+  λ c. (
+      let at = place_in (map (feature_fact kids) list) (Feature i f) c in
+      let s = seen_at (feature_fact kids) list at.0 (Feature i f) at.1 in
+      let x = get_or list at.0 s.0 in
+      let n = left_of (IsFeatureOf r kids) numbers list at.0 x z (slice_get-get_or list at.0 s.0 s.1) in
+      let krate : id_at kids x.krate ≡ i = cc in
+      let name : text_view x.name ≡ f = cc in
+      record { number = n.0; among = contains_at numbers at.0 n.0 n.1; at = subst (λ j. FeatureAt r j f n.0) krate (subst (λ g. FeatureAt r (id_at kids x.krate) g n.0) name n.2.at) }),
+)
+
+-- ---- the feature of a number, as the code finds it
+
+listed_here : (d : Lookup) (number : ℕ) (x : ListedFeature) → IsLookup d → number < length d.features.listed.items → x ≡ get_or d.features.listed.items number x
+    → slice_get (listed_features (resolved_view d)) number ≡ Some (listed_view x)
+listed_here d number x h lt is =
+    let xs = d.features.listed.items in
+    ap (λ l. slice_get l number) (sym h.features) ∙ slice_get-map listed_view xs number ∙ ap (option_map listed_view) (slice_get_read xs (length xs) number x refl lt is)
+
+-- the crate of a listed feature is kept where that of its number is
+pub home_kept : (d : Lookup) (kids : List Identity) (number : ℕ) (x : ListedFeature) → IsLookup d → number < length d.features.listed.items → x ≡ get_or d.features.listed.items number x → HasKeptHome (resolved_view d) kids number
+    → IsKeptNode (resolved_view d) kids x.place
+home_kept d kids number x h lt is k =
+    let r = resolved_view d in
+    let same : (k.at.place, k.name) ≡ (x.place, x.name.now) = same_Some (k.at.place, k.name) (x.place, x.name.now) (sym k.at.at ∙ listed_here d number x h lt is) in
+    record { krate = k.krate; node = subst (NodeAt r k.krate) (ap (λ (p : ℕ × Text). p.0) same) k.at.node; kept = k.kept }
+
+-- the feature with the crate's number and the listed name is that of the number
+pub feature_here : (d : Lookup) (kids : List Identity) (number : ℕ) (x : ListedFeature) (y : EnabledFeature) → IsLookup d → number < length d.features.listed.items → x ≡ get_or d.features.listed.items number x → IsKeptNode (resolved_view d) kids x.place
+    → IsNumberAt (resolved_view d) kids x.place y.krate → text_view y.name ≡ x.name.now → IsFeatureOf (resolved_view d) kids number y
+feature_here d kids number x y h lt is k n name =
+    let r = resolved_view d in
+    let node = subst (λ (i : Id). NodeAt r i x.place) (sym (n.is k.krate k.node)) k.node in
+    let at : FeatureAt r (id_at kids y.krate) x.name.now number = record { place = x.place; at = listed_here d number x h lt is; node = node } in
+    record { at = subst (λ (f : Text). FeatureAt r (id_at kids y.krate) f number) (sym name) at; home = n.below }

@@ -1,0 +1,19 @@
+use Rattle.std.proofs.Common.{◌≡◌}
+use Rattle.krates_search.specs.Found.{Advances, IsToggledIn}
+use Rattle.krates_search.specs.Links.{HasMarked}
+use Rattle.krates_lookups.specs.Lookup.{resolved_view}
+use Rattle.krates_lookups.specs.NodeEntry.{parent_of, child_of}
+use Rattle.krates_search.specs.declared.links.Links.{Links}
+use Rattle.krates_search.specs.declared.links.Waiting.{Waiting}
+use Rattle.krates_document.proofs.Seen.{SeenBelow}
+use Rattle.krates_search.proofs.Growth.{with_links}
+use Rattle.krates_search.proofs.enabling.wake.Given as goal
+
+-- the dependency is marked, and the features so far have been toggled since
+abbrev pub invariant-loop-waiter : goal.invariant-loop-waiter
+invariant-loop-waiter l =
+    (links : Links)
+    × HasMarked l.fn.found.links links l.entry.place l.entry.index l.step l.waiter-items
+    × Advances (resolved_view l.basis.lookup.now) l.basis.setting.now (with_links l.fn.found links) l.found
+    × SeenBelow (λ (w : Waiting). IsToggledIn (resolved_view l.basis.lookup.now) l.found (parent_of l.entry) (child_of l.entry) w.name.now) l.waiter-items l.waiter-index
+    × (l.found.links ≡ links)

@@ -1,0 +1,10 @@
+use Rattle.std.proofs.Common.{take}
+use Rattle.std.specs.List.{AllZip}
+use Rattle.krates_lookups.specs.Lookup.{resolved_view}
+use Rattle.krates_search.specs.KeptFeatures.{IsFeatureOf}
+use Rattle.krates_search.specs.KeptNumbers.{kids_in}
+use Rattle.krates_search.proofs.kept_features.features_at.Given as goal
+
+-- the features have the numbers so far
+abbrev pub invariant-loop-number : goal.invariant-loop-number
+invariant-loop-number l = AllZip (IsFeatureOf (resolved_view l.lookup) (kids_in l.numbers)) (take l.number-index l.found) l.features.items

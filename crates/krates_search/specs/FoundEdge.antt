@@ -1,0 +1,18 @@
+-- A kept edge as the search finds it.
+use Rattle.krates_cm.specs.Document.{dep_kind_info_view}
+use Rattle.krates_rules.specs.Facts.{Edge}
+use Rattle.krates_rules.specs.Questions.{edge_between}
+use Rattle.krates_rules.specs.Resolved.{NodeAt, Resolved, id_of}
+use Rattle.krates_selection.specs.Selection.{IsPlacedAs}
+use Rattle.krates_search.specs.declared.found_edge.FoundEdge.{FoundEdge}
+use Rattle.krates_rules.specs.Setting.{SettingModel}
+
+-- the edge as the rules speak of it
+abbrev pub found_view : FoundEdge → Edge
+found_view e = edge_between (id_of e.parent.now) (id_of e.child.now) (dep_kind_info_view e.info.now)
+
+-- the edge names its declared dependency, the first place of its kind and target, and the nodes of its crates
+pub record IsFoundEdge (r : Resolved) (s : SettingModel) (e : FoundEdge) : Type 0 where
+  pub placed : IsPlacedAs r s (found_view e) e.declared e.place
+  pub parent : NodeAt r (id_of e.parent.now) e.parent_node
+  pub child : NodeAt r (id_of e.child.now) e.child_node

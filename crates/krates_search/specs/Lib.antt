@@ -1,0 +1,11 @@
+pub mod Basis
+pub mod Found
+pub mod FoundEdge
+pub mod FoundToggle
+pub mod Heeding
+pub mod KeptEdges
+pub mod KeptFeatures
+pub mod KeptNumbers
+pub mod KeptToggled
+pub mod Kinds
+pub mod Links

@@ -1,0 +1,287 @@
+//! What is enabled and kept: features, toggled features and edges.
+
+ghost use Rattle.krates_questions.specs.Basis.{Derives, HasEntry, IsNodeAt, IsWantedAt, Lists, Refuses};
+ghost use Rattle.krates_search.specs.Basis.{Finds, FindsListed, FindsToggled, FindsUsed, Has, HasEnabled, HasEnabledFor, HasKeptStep, HasListed, HasToggledBy, IsNodeOf, IsNumberOf, IsRight, MayEnable, MayEnableFor, MayEnableListed, MayToggleFor, Moves, crate_of};
+ghost use Rattle.krates_lookups.specs.NodeEntry.{child_of, edge_for, edge_of};
+ghost use Rattle.std.specs.Prelude.{◌≡◌, IfErr, IfOk, OnOk};
+ghost use Rattle.krates_cm.specs.Document.{DepKindInfoModel, dependency_view};
+ghost use Rattle.krates_rules.specs.Facts.{Crate, Feature, Kept};
+ghost use Rattle.krates_search.specs.Kinds.{IsFirstOf};
+ghost use Rattle.krates_search.specs.Links.{IsMarked};
+ghost use Rattle.krates_lookups.specs.Lookup.{IsLookup};
+ghost use Rattle.krates_rules.specs.Resolved.{id_of};
+ghost use Rattle.krates_rules.specs.Rules.{default_name};
+
+use crate::found::Found;
+use crate::found_edge::found_edge;
+use crate::found_toggle::FoundToggle;
+use crate::tracing::{put_feature, put_krate, put_step};
+use krates_cm::Dependency;
+use krates_ids::{Error, Kid, Lost, laws};
+use krates_lookups::features::feature_number;
+use krates_lookups::node_entry::{EntryEdge, NodeEntry, declared_at};
+use krates_questions::basis::Basis;
+use krates_selection::trace::{NumberedFact, NumberedStep, Reason};
+
+/// The node of a kept crate.
+#[derive(Clone, Copy)]
+pub struct KeptNode<'a> {
+    /// The crate.
+    pub id: &'a Kid,
+    /// The place of its node.
+    pub place: usize,
+}
+
+/// A feature that is named, and why it is found.
+#[derive(Clone, Copy)]
+pub struct NamedFeature<'a> {
+    /// Its name.
+    pub name: &'a str,
+    /// Why it is found.
+    pub reason: Reason,
+}
+
+/// How an edge is kept.
+#[derive(Clone, Copy)]
+pub(crate) struct Keeping {
+    /// The first place of its kind and target in the `dep_kinds` of the dependency.
+    pub kind: usize,
+    /// The place of its declared dependency.
+    pub declared: usize,
+    /// The place of the node of the crate that it leads to.
+    pub node: usize,
+    /// Why it is found.
+    pub reason: Reason,
+}
+
+/// Enables a feature of a kept crate, which has to list it.
+pub fn enable<'a>(
+    basis: &Basis<'a, '_>,
+    node: KeptNode<'a>,
+    feature: NamedFeature<'a>,
+    found: &mut Found<'a>,
+) -> Result<(), Error>
+    requires lookup { IsLookup basis.now.lookup.now }
+    requires node { IsNodeOf basis.now node }
+    requires sound { IsRight basis.now found.old }
+    requires kept { Has basis.now found.old (Crate (crate_of node)) }
+    requires may { MayEnable basis.now (crate_of node) feature.name.now }
+    requires step { FindsListed basis.now found.old feature.reason (crate_of node) feature.name.now }
+    ensures advanced { OnOk result (Moves basis.now found.old found.new) }
+    ensures listed { OnOk result (Lists basis.now (crate_of node.entry) feature.entry.name.now) }
+    ensures named { OnOk result (HasEnabled basis.now found.new (crate_of node.entry) feature.entry.name.now) }
+    ensures same_links { OnOk result (found.new.links ≡ found.old.links) }
+    ensures refused { IfErr result (Refuses basis.now) }
+{
+    let number = listed_number(basis, node, feature.name)?;
+    put_feature(basis, number, feature.reason, found)?;
+    Ok(())
+}
+
+/// The number of a feature of a kept crate, which has to list it.
+fn listed_number<'a>(
+    basis: &Basis<'a, '_>,
+    node: KeptNode<'a>,
+    name: &'a str,
+) -> Result<usize, Error>
+    requires lookup { IsLookup basis.now.lookup.now }
+    requires node { IsNodeOf basis.now node }
+    requires may { MayEnable basis.now (crate_of node) name.now }
+    ensures number { IfOk result (IsNumberOf basis.now (crate_of node.entry) name.now) }
+    ensures refused { IfErr result (Refuses basis.now) }
+{
+    laws::one_reading();
+    match feature_number(basis.lookup, node.place, name) {
+        Some(number) => Ok(number),
+        None => Err(Error::Lost(Lost::Feature {
+            krate: node.id.clone()?,
+            name: String::from_str(basis.alloc, name)?,
+        })),
+    }
+}
+
+/// Enables the default feature of a kept crate, where it lists it.
+fn enable_default<'a>(
+    basis: &Basis<'a, '_>,
+    node: KeptNode<'a>,
+    reason: Reason,
+    found: &mut Found<'a>,
+) -> Result<(), Error>
+    requires lookup { IsLookup basis.now.lookup.now }
+    requires node { IsNodeOf basis.now node }
+    requires sound { IsRight basis.now found.old }
+    requires kept { Has basis.now found.old (Crate (crate_of node)) }
+    requires may { MayEnableListed basis.now (crate_of node) default_name }
+    requires step { FindsListed basis.now found.old reason (crate_of node) default_name }
+    ensures advanced { OnOk result (Moves basis.now found.old found.new) }
+    ensures enabled { OnOk result (HasListed basis.now found.new (crate_of node.entry) default_name) }
+    ensures same_links { OnOk result (found.new.links ≡ found.old.links) }
+    ensures refused { IfErr result (Refuses basis.now) }
+{
+    laws::one_reading();
+    let Some(number) = feature_number(basis.lookup, node.place, "default") else {
+        return Ok(());
+    };
+    put_feature(basis, number, reason, found)?;
+    Ok(())
+}
+
+/// Toggles a feature of a kept crate by another crate: notes by whom, and enables it.
+pub fn toggle<'a>(
+    basis: &Basis<'a, '_>,
+    by: KeptNode<'a>,
+    node: KeptNode<'a>,
+    feature: NamedFeature<'a>,
+    found: &mut Found<'a>,
+) -> Result<(), Error>
+    requires lookup { IsLookup basis.now.lookup.now }
+    requires by { IsNodeOf basis.now by }
+    requires node { IsNodeOf basis.now node }
+    requires sound { IsRight basis.now found.old }
+    requires kept { Has basis.now found.old (Crate (crate_of node)) }
+    requires may { MayToggleFor basis.now (crate_of by) (crate_of node) feature.name.now }
+    requires step { FindsToggled basis.now found.old feature.reason (crate_of by) (crate_of node)
+        feature.name.now }
+    ensures advanced { OnOk result (Moves basis.now found.old found.new) }
+    ensures toggled { OnOk result (HasToggledBy basis.now found.new by.entry node.entry feature.entry.name.now) }
+    ensures same_links { OnOk result (found.new.links ≡ found.old.links) }
+    ensures refused { IfErr result (Refuses basis.now) }
+{
+    laws::one_reading();
+    let number = listed_number(basis, node, feature.name)?;
+    let step = NumberedStep {
+        fact: NumberedFact::Toggled {
+            place: by.place,
+            number,
+        },
+        reason: feature.reason,
+    };
+    let toggled = put_step(basis, step, found)?;
+    put_feature(basis, number, Reason::by_one(7, toggled), found)?;
+    found.toggled.push(FoundToggle {
+        by: by.id,
+        krate: node.id,
+        name: feature.name,
+        by_node: by.place,
+        krate_node: node.place,
+    })?;
+    Ok(())
+}
+
+/// Enables what a declared dependency asks of its crate: the features that it lists, and the default one where it uses defaults.
+fn enable_declared<'a>(
+    basis: &Basis<'a, '_>,
+    dependency: &'a Dependency,
+    node: KeptNode<'a>,
+    reason: Reason,
+    found: &mut Found<'a>,
+) -> Result<(), Error>
+    requires lookup { IsLookup basis.now.lookup.now }
+    requires node { IsNodeOf basis.now node }
+    requires sound { IsRight basis.now found.old }
+    requires kept { Has basis.now found.old (Crate (crate_of node)) }
+    requires may { MayEnableFor basis.now (dependency_view dependency.now) (crate_of node) }
+    requires step { FindsUsed basis.now found.old reason (dependency_view dependency.now) (crate_of node) }
+    ensures advanced { OnOk result (Moves basis.now found.old found.new) }
+    ensures used { OnOk result (HasEnabledFor basis.now found.new dependency.now node.entry) }
+    ensures same_links { OnOk result (found.new.links ≡ found.old.links) }
+    ensures refused { IfErr result (Refuses basis.now) }
+{
+    for name in &dependency.features {
+        let feature = NamedFeature {
+            name: name.as_str(),
+            reason,
+        };
+        enable(basis, node, feature, found)?;
+    }
+    if dependency.uses_default_features {
+        enable_default(basis, node, reason, found)?;
+    }
+    Ok(())
+}
+
+/// Marks this dependency with the step that keeps an edge by it, and toggles its features that waited for that.
+fn wake<'a>(
+    basis: &Basis<'a, '_>,
+    entry: &NodeEntry<'a>,
+    node: KeptNode<'a>,
+    step: usize,
+    found: &mut Found<'a>,
+) -> Result<(), Error>
+    requires lookup { IsLookup basis.now.lookup.now }
+    requires entry { HasEntry basis.now entry.now }
+    requires node { IsNodeOf basis.now node }
+    requires of_child { crate_of node ≡ child_of entry.now }
+    requires sound { IsRight basis.now found.old }
+    requires kept { Has basis.now found.old (Crate (child_of entry.now)) }
+    requires may { (k : DepKindInfoModel) × Derives basis.now (Kept (edge_for entry.now k)) }
+    requires step { HasKeptStep basis.now found.old step entry.now }
+    ensures advanced { OnOk result (Moves basis.now found.old found.new) }
+    ensures marked { OnOk result (IsMarked found.new.links entry.now.place entry.now.index) }
+    ensures refused { IfErr result (Refuses basis.now) }
+{
+    laws::one_reading();
+    if found.links.is_kept(entry.place, entry.index) {
+        return Ok(());
+    }
+    let waiters = found
+        .links
+        .mark(basis.alloc, entry.place, entry.index, step);
+    let by = KeptNode {
+        id: entry.parent,
+        place: entry.place,
+    };
+    for waiter in waiters.as_slice() {
+        let feature = NamedFeature {
+            name: waiter.name,
+            reason: Reason::by_two(7, waiter.step, step),
+        };
+        toggle(basis, by, node, feature, found)?;
+    }
+    Ok(())
+}
+
+/// Keeps an edge of an entry, and with it the crate that it leads to, and what it asks of that crate.
+///
+/// What follows from the edge is put before the edge itself, so that no edge ever stands without what it gives.
+pub(crate) fn keep<'a>(
+    basis: &Basis<'a, '_>,
+    edge: &EntryEdge<'a, '_>,
+    keeping: Keeping,
+    found: &mut Found<'a>,
+) -> Result<(), Error>
+    requires lookup { IsLookup basis.now.lookup.now }
+    requires entry { HasEntry basis.now edge.now.entry.now }
+    requires first { IsFirstOf edge.now keeping.kind }
+    requires node { IsNodeAt basis.now (child_of edge.now.entry.now) keeping.node }
+    requires sound { IsRight basis.now found.old }
+    requires wanted { IsWantedAt basis.now edge.now keeping.declared }
+    requires may { Derives basis.now (Kept (edge_of edge.now)) }
+    requires step { Finds basis.now found.old keeping.reason (Kept (edge_of edge.now)) }
+    ensures advanced { OnOk result (Moves basis.now found.old found.new) }
+    ensures kept { OnOk result (Has basis.now found.new (Kept (edge_of edge.now))) }
+    ensures refused { IfErr result (Refuses basis.now) }
+{
+    laws::one_reading();
+    let entry = edge.entry;
+    let kept = found_edge(edge, keeping.kind, keeping.declared, keeping.node);
+    let step = NumberedStep {
+        fact: NumberedFact::Kept {
+            place: entry.place,
+            index: entry.index,
+            kind: keeping.kind,
+        },
+        reason: keeping.reason,
+    };
+    let number = put_step(basis, step, found)?;
+    put_krate(basis, keeping.node, Reason::by_one(5, number), found)?;
+    let node = KeptNode {
+        id: entry.child,
+        place: keeping.node,
+    };
+    let dependency = declared_at(entry, keeping.declared);
+    enable_declared(basis, dependency, node, Reason::by_one(6, number), found)?;
+    wake(basis, entry, node, number, found)?;
+    found.edges.push(kept)?;
+    Ok(())
+}

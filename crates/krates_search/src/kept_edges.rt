@@ -1,0 +1,82 @@
+//! The kept edges in order, as a selection has them.
+
+ghost use Rattle.std.specs.Prelude.{All, IfOk};
+ghost use Rattle.std.specs.List.{AllZip};
+ghost use Rattle.krates_lookups.specs.Lookup.{IsLookup, resolved_view};
+ghost use Rattle.krates_questions.specs.Basis.{document_of};
+ghost use Rattle.krates_search.specs.FoundEdge.{IsFoundEdge};
+ghost use Rattle.krates_search.specs.KeptEdges.{AreInOrder, HasKeptNodes, IsCopyOf};
+ghost use Rattle.krates_search.specs.KeptNumbers.{AreKeptNumbers, kids_in};
+
+use crate::found_edge::FoundEdge;
+use crate::kept_numbers::{KeptNumbers, number_at};
+use krates_ids::laws;
+use krates_lookups::lookup::Lookup;
+use krates_lookups::sorted::in_order;
+use krates_questions::basis::Basis;
+use krates_selection::selection::KeptEdge;
+use std::alloc::{AllocError, Global};
+
+/// The found edges in order, each once. The only error is running out of memory.
+///
+/// Time: O(n log n).
+pub fn kept_edges(
+    basis: &Basis<'_, '_>,
+    numbers: &KeptNumbers<'_>,
+    found: &[FoundEdge<'_>],
+) -> Result<Vec<KeptEdge>, AllocError>
+    requires lookup { IsLookup basis.now.lookup.now }
+    requires numbers { AreKeptNumbers basis.now.lookup.now numbers.now }
+    requires found { All (IsFoundEdge (document_of basis.now) basis.now.setting.now) found.now }
+    requires kept { All (HasKeptNodes (document_of basis.now) (kids_in numbers.now)) found.now }
+    ensures { IfOk result (λ kept. AreInOrder (document_of basis.now) basis.now.setting.now
+        (kids_in numbers.now) found.now kept.items) }
+{
+    laws::comparison();
+    let kept = copies(basis.alloc, basis.lookup, numbers, found)?;
+    let sorted = in_order(kept)?;
+    Ok(sorted)
+}
+
+/// Copies of the edges, with the numbers of their crates.
+fn copies(
+    alloc: Global,
+    lookup: &Lookup<'_>,
+    numbers: &KeptNumbers<'_>,
+    edges: &[FoundEdge<'_>],
+) -> Result<Vec<KeptEdge>, AllocError>
+    requires lookup { IsLookup lookup.now }
+    requires numbers { AreKeptNumbers lookup.now numbers.now }
+    requires kept { All (HasKeptNodes (resolved_view lookup.now) (kids_in numbers.now)) edges.now }
+    ensures { IfOk result (λ kept. AllZip (IsCopyOf (kids_in numbers.now)) edges.now kept.items) }
+{
+    let mut kept = Vec::with_capacity(alloc, edges.len())?;
+    for edge in edges {
+        kept.push(copy_of(lookup, numbers, edge)?)?;
+    }
+    Ok(kept)
+}
+
+/// A copy of what an edge says, with the numbers of its crates.
+fn copy_of(
+    lookup: &Lookup<'_>,
+    numbers: &KeptNumbers<'_>,
+    edge: &FoundEdge<'_>,
+) -> Result<KeptEdge, AllocError>
+    requires lookup { IsLookup lookup.now }
+    requires numbers { AreKeptNumbers lookup.now numbers.now }
+    requires kept { HasKeptNodes (resolved_view lookup.now) (kids_in numbers.now) edge.now }
+    ensures { IfOk result (IsCopyOf (kids_in numbers.now) edge.now) }
+{
+    let parent = number_at(lookup, numbers, edge.parent_node);
+    let child = number_at(lookup, numbers, edge.child_node);
+    let cfg = edge.info.target.clone()?;
+    Ok(KeptEdge {
+        parent,
+        child,
+        place: edge.place,
+        kind: edge.info.kind,
+        cfg,
+        declared: edge.declared,
+    })
+}

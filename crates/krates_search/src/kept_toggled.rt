@@ -1,0 +1,72 @@
+//! The toggled features in order, as a selection has them.
+
+ghost use Rattle.std.specs.Prelude.{All, IfOk};
+ghost use Rattle.std.specs.List.{AllZip};
+ghost use Rattle.krates_lookups.specs.Lookup.{IsLookup, resolved_view};
+ghost use Rattle.krates_search.specs.KeptNumbers.{AreKeptNumbers, kids_in};
+ghost use Rattle.krates_search.specs.KeptToggled.{AreToggled, HasKeptCrates, IsToggleCopy};
+
+use crate::found_toggle::FoundToggle;
+use crate::kept_numbers::{KeptNumbers, number_at};
+use krates_ids::laws;
+use krates_lookups::lookup::Lookup;
+use krates_lookups::sorted::in_order;
+use krates_selection::selection::ToggledFeature;
+use std::alloc::{AllocError, Global};
+
+/// The toggled features that were found, in order, each once. The only error is running out of memory.
+///
+/// Time: O(n log n).
+pub fn kept_toggled(
+    alloc: Global,
+    lookup: &Lookup<'_>,
+    numbers: &KeptNumbers<'_>,
+    found: &[FoundToggle<'_>],
+) -> Result<Vec<ToggledFeature>, AllocError>
+    requires lookup { IsLookup lookup.now }
+    requires numbers { AreKeptNumbers lookup.now numbers.now }
+    requires kept { All (HasKeptCrates (resolved_view lookup.now) (kids_in numbers.now)) found.now }
+    ensures { IfOk result (λ kept. AreToggled (kids_in numbers.now) found.now kept.items) }
+{
+    laws::comparison();
+    let kept = copies(alloc, lookup, numbers, found)?;
+    let sorted = in_order(kept)?;
+    Ok(sorted)
+}
+
+/// Copies of the toggled features, with the numbers of their crates.
+fn copies(
+    alloc: Global,
+    lookup: &Lookup<'_>,
+    numbers: &KeptNumbers<'_>,
+    toggled: &[FoundToggle<'_>],
+) -> Result<Vec<ToggledFeature>, AllocError>
+    requires lookup { IsLookup lookup.now }
+    requires numbers { AreKeptNumbers lookup.now numbers.now }
+    requires kept { All (HasKeptCrates (resolved_view lookup.now) (kids_in numbers.now)) toggled.now }
+    ensures { IfOk result (λ kept. AllZip (IsToggleCopy (kids_in numbers.now)) toggled.now kept.items) }
+{
+    let mut kept = Vec::with_capacity(alloc, toggled.len())?;
+    for toggle in toggled {
+        kept.push(copy_of(alloc, lookup, numbers, toggle)?)?;
+    }
+    Ok(kept)
+}
+
+/// A copy of what a toggled feature says, with the numbers of its crates.
+fn copy_of(
+    alloc: Global,
+    lookup: &Lookup<'_>,
+    numbers: &KeptNumbers<'_>,
+    toggle: &FoundToggle<'_>,
+) -> Result<ToggledFeature, AllocError>
+    requires lookup { IsLookup lookup.now }
+    requires numbers { AreKeptNumbers lookup.now numbers.now }
+    requires kept { HasKeptCrates (resolved_view lookup.now) (kids_in numbers.now) toggle.now }
+    ensures { IfOk result (IsToggleCopy (kids_in numbers.now) toggle.now) }
+{
+    let by = number_at(lookup, numbers, toggle.by_node);
+    let krate = number_at(lookup, numbers, toggle.krate_node);
+    let name = String::from_str(alloc, toggle.name)?;
+    Ok(ToggledFeature { by, krate, name })
+}

@@ -1,0 +1,18 @@
+//! The state of a search for what is kept of a document: what was found so far with its steps, what waits for an edge, how crates,
+//! features and edges are put, and what was found in the order of ids.
+//!
+//! It follows no reference and knows no root: the crate above goes by the rules.
+#![tactic(auto)]
+
+pub mod enabling;
+pub mod expansion;
+pub mod found;
+pub mod found_edge;
+pub mod found_toggle;
+pub mod kept_edges;
+pub mod kept_features;
+pub mod kept_numbers;
+pub mod kept_toggled;
+mod kinds;
+pub mod links;
+pub mod tracing;

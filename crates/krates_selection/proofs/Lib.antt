@@ -1,0 +1,5 @@
+pub mod ByNumber
+pub mod CrateNumbers
+pub mod KeptEnds
+pub mod ListedFeatures
+pub mod Steps
