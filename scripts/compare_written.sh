@@ -23,7 +23,7 @@ room=$(mktemp -d)
 trap 'rm -rf "$room"' EXIT
 
 # What git knows or would add of the crates that the program uses, and their libraries.
-used='krates_text krates_json krates_cm krates_cm_write'
+used='krates_text krates_json krates_cm krates_cm_json'
 for crate in $used; do
     git ls-files -z --cached --others --exclude-standard "crates/$crate" | { xargs -0 ls -d 2> "$room/gone" || true; } | tar -cf - -T - | tar -xf - -C "$room"
     if [ -d "crates/$crate/out/rlib" ]; then
@@ -39,8 +39,8 @@ cat > "$room/crates/compare_written/src/main.rt" << 'END'
 //! Whether a document that is written is read as it was.
 #![tactic(auto)]
 
-use krates_cm::{Metadata, parse};
-use krates_cm_write::ToValue;
+use krates_cm::Metadata;
+use krates_cm_json::{ToValue, parse};
 use std::alloc::Global;
 use std::{env, fs};
 

@@ -23,7 +23,7 @@ STYLE = """
 
 # What a crate is for, by which it is coloured.
 ROOMS = {
-    "texts and the document": ("#e8f1fb", ["krates_text", "krates_json", "krates_cm", "krates_cm_write", "krates_ids"]),
+    "texts and the document": ("#e8f1fb", ["krates_text", "krates_json", "krates_cm", "krates_cm_json", "krates_ids"]),
     "the command": ("#f3eefb", ["krates_cargo"]),
     "what is believed": ("#fdf3d8", ["krates_rules"]),
     "questions and search": ("#e9f7ec", ["krates_document", "krates_lookups", "krates_questions", "krates_selection", "krates_search", "krates_resolve"]),

@@ -48,11 +48,20 @@ pub use semver;
 pub mod cm {
     pub use krates_cargo::{Features, MetadataCommand};
     pub use krates_cm::{
-        CrateType, DepKindInfo, Dependency, DependencyKind, Edition, Error, FromValue, Metadata,
-        Node, NodeDep, Package, PackageId, ReadError, Resolve, Source, Target, TargetKind,
-        UnknownName, WorkspaceDefaultMembers, laws,
+        CrateType, DepKindInfo, Dependency, DependencyKind, Edition, Error, Metadata, Node,
+        NodeDep, Package, PackageId, ReadError, Resolve, Source, Target, TargetKind, UnknownName,
+        WorkspaceDefaultMembers,
     };
-    pub use krates_cm_write::ToValue;
+    pub use krates_cm_json::{FromValue, ToValue};
+
+    /// Laws of comparisons, and of what is read from JSON and written as it.
+    pub mod laws {
+        pub use krates_cm::laws::{
+            dependency_kinds_compared, editions_compared, forms_compared, kinds_compared,
+            package_ids_compared, sources_compared,
+        };
+        pub use krates_cm_json::laws::{faults_are_exact, written_is_read};
+    }
 }
 
 /// Expressions over targets, and the targets that are known by their triple.

@@ -1,6 +1,7 @@
 //! Whole documents, read from their text.
 
-use krates_cm::{Error, Metadata, parse};
+use krates_cm::{Error, Metadata};
+use krates_cm_json::parse;
 use krates_samples::table::{Question, Row, hold};
 use std::alloc::{AllocError, Global};
 use std::test::Fail;

@@ -1,6 +1,7 @@
 //! Values that are read of JSON, and the packages that specifications are asked about, and whose features an index corrects.
 
-use krates_cm::{FromValue, Package};
+use krates_cm::Package;
+use krates_cm_json::FromValue;
 use krates_samples::table::{Question, Row, compare};
 use serde_json::Value;
 use std::alloc::Global;

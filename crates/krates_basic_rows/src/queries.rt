@@ -3,9 +3,10 @@
 use crate::ids::package_id;
 use crate::packages::{hold_within, read};
 use krates_cm::{
-    DepKindInfo, Dependency, DependencyKind, Edition, FromValue, Metadata, Package, PackageId,
-    Source, Target, TargetKind, WorkspaceDefaultMembers,
+    DepKindInfo, Dependency, DependencyKind, Edition, Metadata, Package, PackageId, Source, Target,
+    TargetKind, WorkspaceDefaultMembers,
 };
+use krates_cm_json::FromValue;
 use krates_samples::table::{Question, Row, compare};
 use std::alloc::{AllocError, Global};
 use std::fmt::Debug;

@@ -3,9 +3,10 @@
 use crate::packages::hold_within;
 use json::Scratch;
 use krates_cm::{
-    DepKindInfo, Dependency, FromValue, Metadata, Node, NodeDep, Package, PackageId, ReadError,
-    Resolve, Source, Target,
+    DepKindInfo, Dependency, Metadata, Node, NodeDep, Package, PackageId, ReadError, Resolve,
+    Source, Target,
 };
+use krates_cm_json::FromValue;
 use krates_json::{Borrowed, JsonRef, Parsed};
 use krates_samples::table::{Question, Row, compare, hold};
 use serde_json::Value;

@@ -1,10 +1,8 @@
 //! What each type is written as, and that what was written is read as it was.
 
 use crate::packages::{read, told_within};
-use krates_cm::{
-    Dependency, FromValue, Metadata, Node, Package, PackageId, Resolve, Source, Target,
-};
-use krates_cm_write::ToValue;
+use krates_cm::{Dependency, Metadata, Node, Package, PackageId, Resolve, Source, Target};
+use krates_cm_json::{FromValue, ToValue};
 use krates_samples::table::{Question, Row, hold};
 use std::alloc::Global;
 use std::fmt::Debug;

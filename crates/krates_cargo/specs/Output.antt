@@ -2,9 +2,9 @@
 use Rattle.std.specs.Prelude.{◌≡◌, Bool, true, false, Some, None, ⊤}
 use Rattle.std.specs.Str.{IsUtf8}
 use Rattle.krates_cm.specs.Document.{Text, MetadataModel, text_view}
-use Rattle.krates_cm.specs.Parsing.{IsDocument, IsRefusal}
 use Rattle.krates_cm.specs.declared.error.Error.{Error}
 use Rattle.krates_cm.specs.declared.error.Error.TheVariants as errors
+use Rattle.krates_cm_json.specs.Parsing.{IsDocument, IsRefusal}
 use Rattle.krates_text.specs.JsonLine.{json_line}
 
 -- cargo succeeded, what it wrote is a text, and this is its JSON line

@@ -5,14 +5,15 @@ ghost use Rattle.std.specs.Option.{option_map};
 ghost use Rattle.std.specs.Bool.{MatchBool};
 ghost use Rattle.std.specs.Borrow.{sem};
 ghost use Rattle.krates_cm.specs.Document.{metadata_view, text_view, texts_view};
-ghost use Rattle.krates_cm.specs.Parsing.{IsDocument, IsRefusal};
 ghost use Rattle.krates_cm.specs.declared.error.Error.TheVariants as errors;
+ghost use Rattle.krates_cm_json.specs.Parsing.{IsDocument, IsRefusal};
 ghost use Rattle.krates_cargo.specs.Command.{plain_command, words};
 ghost use Rattle.krates_cargo.specs.Features.{features_view};
 ghost use Rattle.krates_cargo.specs.Setters.{IsChosen, IsNotChosen, RestsCommand, choosing, with_variable};
 
 use crate::words::{push_all, push_flag, push_listed, push_valued, push_word};
-use krates_cm::{Error, Metadata, parse};
+use krates_cm::{Error, Metadata};
+use krates_cm_json::parse;
 use std::alloc::{AllocError, Global};
 use std::collections::BTreeMap;
 use std::marker::Model;

@@ -5,12 +5,12 @@ use Rattle.std.specs.List.{AllZip, AllByRecursion}
 use Rattle.std.specs.Prelude.{MatchOption}
 use Rattle.krates_cm.specs.Document.{Text, MetadataModel, NodeModel, ResolveModel, metadata_view}
 use Rattle.krates_cm.specs.Names.{version_named}
-use Rattle.krates_cm.specs.Parsing.{IsDocument, IsRefusal}
-use Rattle.krates_cm.specs.Tables.{metadata}
 use Rattle.krates_cm.specs.declared.error.Error as cm
 use Rattle.krates_cm.specs.declared.error.Error.TheVariants as cm_errors
 use Rattle.krates_cm.specs.declared.metadata.Metadata.{Metadata}
 use Rattle.krates_cm.specs.declared.package.Package.{Package}
+use Rattle.krates_cm_json.specs.Parsing.{IsDocument, IsRefusal}
+use Rattle.krates_cm_json.specs.Tables.{metadata}
 use Rattle.krates_derive.specs.Told.{steps_view}
 use Rattle.krates_ids.specs.Identity.{Identity, Reads}
 use Rattle.krates_ids.specs.declared.error.Error as build

@@ -3,11 +3,11 @@ use Rattle.std.proofs.Common.{◌≡◌, ◌<◌, ◌∷◌, ◌++◌, codes, �
 use Rattle.std.specs.List.{AllZip}
 use Rattle.std.specs.Prelude.{MatchOption, ⊤}
 use Rattle.krates_cm.specs.Document.{Text, metadata_view}
-use Rattle.krates_cm.specs.Parsing.{IsDocument}
 use Rattle.krates_cm.specs.declared.error.Error as cm
 use Rattle.krates_cm.specs.declared.metadata.Metadata.{Metadata}
 use Rattle.krates_cm.specs.declared.package.Package.{Package}
 use Rattle.krates_cm.specs.declared.package_id.PackageId.{PackageId}
+use Rattle.krates_cm_json.specs.Parsing.{IsDocument}
 use Rattle.krates_cargo.specs.Running.{IsSomeAnswer, IsUnrun}
 use Rattle.krates_drawing.specs.declared.edge.Edge.{Edge}
 use Rattle.krates_ids.specs.declared.error.Error as build

@@ -1,11 +1,11 @@
 -- Why a text has no listing, and why a run has no answer.
 use Rattle.std.specs.Prelude.{◌≡◌, List, Some, IsUtf8, ⊤}
 use Rattle.krates_cm.specs.Document.{Text, metadata_view}
-use Rattle.krates_cm.specs.Parsing.{IsDocument, IsRefusal}
 use Rattle.krates_cm.specs.declared.error.Error as cm
 use Rattle.krates_cm.specs.declared.error.Error.TheVariants as cm_errors
 use Rattle.krates_cm.specs.declared.metadata.Metadata.{Metadata}
 use Rattle.krates_cm.specs.declared.package.Package.{Package}
+use Rattle.krates_cm_json.specs.Parsing.{IsDocument, IsRefusal}
 use Rattle.krates_ids.specs.Identity.{Identity}
 use Rattle.krates_ids.specs.declared.error.Error as build
 use Rattle.krates_ids.specs.declared.error.Error.TheVariants as build_errors

@@ -1,9 +1,6 @@
 pub mod Comparisons
 pub mod Document
-pub mod Faults
+pub mod Errors
 pub mod Names
 pub mod PackageParts
-pub mod Parsing
 pub mod Queries
-pub mod Reading
-pub mod Tables

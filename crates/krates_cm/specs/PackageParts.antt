@@ -1,11 +1,11 @@
--- The two parts in which most of a package is read: a package has the fields of both.
+-- The two parts in which most of a package is read and copied: a package has the fields of both.
 use Rattle.std.specs.Prelude.{List, Option, option_map}
 use Rattle.semver.specs.Identifiers.{parts_of}
 use Rattle.serde_json.specs.Data.{Data}
 use Rattle.serde_json.specs.View.{view}
 use Rattle.krates_cm.specs.Document.{PackageModel, Text, text_view, texts_view, VersionModel}
-use Rattle.krates_cm.specs.declared.read.package.About.{About}
-use Rattle.krates_cm.specs.declared.read.package.Settings.{Settings}
+use Rattle.krates_cm.specs.declared.package_parts.About.{About}
+use Rattle.krates_cm.specs.declared.package_parts.Settings.{Settings}
 use Rattle.krates_cm.specs.declared.target.Edition.{Edition}
 
 -- what a package says of itself

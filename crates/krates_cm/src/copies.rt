@@ -9,7 +9,7 @@ use crate::dependency::Dependency;
 use crate::metadata::{Metadata, WorkspaceDefaultMembers};
 use crate::package::{Package, Source};
 use crate::package_id::PackageId;
-use crate::read::package::{About, Settings};
+use crate::package_parts::{About, Settings};
 use crate::resolve::{DepKindInfo, Node, NodeDep, Resolve};
 use crate::target::Target;
 use std::alloc::AllocError;

@@ -71,7 +71,7 @@ impl From<Utf8Error> for Error {
 }
 
 impl From<serde_json::Error> for Error {
-    ghost use Rattle.krates_cm.specs.Parsing.{JsonBecomes};
+    ghost use Rattle.krates_cm.specs.Errors.{JsonBecomes};
 
     ghost from_gives = { JsonBecomes };
 
@@ -85,7 +85,7 @@ impl From<serde_json::Error> for Error {
 }
 
 impl From<ReadError> for Error {
-    ghost use Rattle.krates_cm.specs.Parsing.{ReadErrorBecomes};
+    ghost use Rattle.krates_cm.specs.Errors.{ReadErrorBecomes};
 
     ghost from_gives = { ReadErrorBecomes };
 

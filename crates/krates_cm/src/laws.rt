@@ -1,4 +1,4 @@
-//! Laws of the tables that say what is read from a JSON value, and of comparisons, each the contract of a function that does nothing.
+//! Laws of comparisons, each the contract of a function that does nothing.
 
 ghost use Rattle.std.specs.Prelude.{◌≡◌, ◌↔◌, true, pos, Some};
 ghost use Rattle.std.specs.Cmp.Lexicographic.{slice_cmp};
@@ -6,27 +6,12 @@ ghost use Rattle.std.specs.Hash as fed;
 ghost use Rattle.std.specs.Ordering.{nat_cmp};
 ghost use Rattle.krates_cm.specs.Comparisons.{dependency_kind_place, edition_place, form_place, kind_place};
 ghost use Rattle.krates_cm.specs.Document.{id_view, source_view};
-ghost use Rattle.krates_cm.specs.Reading.{AlwaysExact};
-ghost use Rattle.krates_cm.specs.Tables.{dep_kind_info, node_dep, node, resolve, dependency, target, package_reader, metadata};
 
 use crate::dependency::DependencyKind;
 use crate::package::Source;
 use crate::package_id::PackageId;
 use crate::target::{CrateType, Edition, TargetKind};
 use std::hash::Hash;
-
-/// Of each table: some fault is true of a JSON value exactly where nothing is read from it.
-/// So a refusal names a true fault, and a value of which a fault is true is refused.
-pub fn faults_are_exact()
-    ensures dep_kind_info { AlwaysExact dep_kind_info }
-    ensures node_dep { AlwaysExact node_dep }
-    ensures node { AlwaysExact node }
-    ensures resolve { AlwaysExact resolve }
-    ensures dependency { AlwaysExact dependency }
-    ensures target { AlwaysExact target }
-    ensures a_package { AlwaysExact package_reader }
-    ensures metadata { AlwaysExact metadata }
-{}
 
 /// Sources are equal where their texts are.
 pub fn sources_compared()

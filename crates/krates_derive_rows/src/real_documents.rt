@@ -1,6 +1,7 @@
 //! Two documents that cargo wrote of small workspaces, broken into lines between values, with other paths.
 
-use krates_cm::{Metadata, parse};
+use krates_cm::Metadata;
+use krates_cm_json::parse;
 use krates_samples::documents::document;
 use std::alloc::Global;
 use std::test::Fail;

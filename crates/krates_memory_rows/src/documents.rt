@@ -1,7 +1,8 @@
 //! The document: reading it, and its own small questions.
 
 use crate::starving::{Call, answered, granted, other_refusal, refused, starved};
-use krates_cm::{Error, Metadata, Package, PackageId, WorkspaceDefaultMembers, parse};
+use krates_cm::{Error, Metadata, Package, PackageId, WorkspaceDefaultMembers};
+use krates_cm_json::parse;
 use krates_samples::documents::metadata;
 use krates_stand_in::DOCUMENT;
 use std::alloc::{AllocError, Global};

@@ -25,7 +25,8 @@
 //!
 //! Any other section is skipped here: it says how the document is used. A tilde anywhere stands for a blank.
 
-use krates_cm::{DependencyKind, Metadata, PackageId, parse};
+use krates_cm::{DependencyKind, Metadata, PackageId};
+use krates_cm_json::parse;
 use krates_ids::Kid;
 use std::alloc::{AllocError, Global};
 use std::test::Fail;

@@ -2,7 +2,7 @@ use Rattle.std.proofs.Common.{string_bytes, subst}
 use Rattle.krates_cli.specs.Options.{meant_request}
 use Rattle.krates_cli.proofs.ListingLemmas.{text_listed, text_refused}
 use Rattle.krates_cm.specs.Document.{Text, metadata_view}
-use Rattle.krates_cm.specs.Parsing.{IsDocument}
+use Rattle.krates_cm_json.specs.Parsing.{IsDocument}
 use Rattle.krates_cli.proofs.listing.listing.Goals as goal
 
 pub returns-clause-listed : goal.returns-clause-listed

@@ -1,0 +1,10 @@
+pub mod DocumentAgain
+pub mod ExactFaults
+pub mod ItemReading
+pub mod ListReading
+pub mod MapReading
+pub mod ReadAgain
+pub mod ReadBefore
+pub mod VersionsAgain
+pub mod WrittenFields
+pub mod WrittenLists

@@ -1,0 +1,9 @@
+pub mod Faults
+pub mod Fields
+pub mod Objects
+pub mod Parsing
+pub mod Reading
+pub mod RoundTrip
+pub mod Tables
+pub mod Texts
+pub mod WrittenTables
