@@ -53,7 +53,7 @@ has to be believed but its own statement, which fits a screen.
 - **Rebuild**: what kept members reach without edges of a kind has all that a build keeps which ignores the kind, where the graph has no
   root or a member as its root; and nothing else, where no feature is enabled and each member is a root. So both have `a` alone there; but
   where a feature of `a` names one of `b`, the first has `b` too. [Rebuilding](../crates/krates_drawing/specs/Rebuilding.antt),
-  `FilteredHoldsRebuild`; a caller's view of it is [Rebuilt](../crates/krates_rows/specs/Rebuilt.antt), `HoldsRebuilt`.
+  `FilteredHoldsRebuild`; a caller's view of it is [Rebuilt](../crates/krates_build_tests/specs/Rebuilt.antt), `HoldsRebuilt`.
 - **Agreement**: where no two crates come by one declared dependency of `p`, `p` depends directly on exactly those that have `p` as a
   dependent. So `a` depends on `b` exactly if `b` has `a` as a dependent; but where one dependency brings two versions of `d`, `a` is a
   dependent of both and depends on the one that comes last by id. It is the clause `agree` of `IsBuilt` below.

@@ -3,7 +3,7 @@
 
     scripts/changed_answers.py [--compiled] CRATE..
 
-A table is a list of rows in a constant of a crate whose name ends in `_rows`, and the last part of a row is its answer. In a copy of
+A table is a list of rows in a constant of a crate whose name ends in `_tests`, and the last part of a row is its answer. In a copy of
 the working tree each table gets a copy whose first row has another answer, and the test that walks it a copy that walks that one, with
 the functions between them. `rt try --test` runs them without a proof; with --compiled `rt test` does, which takes ten minutes, and
 which tests need that start their own program. Libraries that are built here needn't be built again.

@@ -43,7 +43,7 @@ def crates():
 
 def shown(name):
     """Whether a crate is part of the way from bytes to bytes: neither tests nor what tests stand on."""
-    return not name.endswith("_rows") and name not in {"krates_samples", "krates_stand_in", "fake_cargo"}
+    return not name.endswith("_tests") and name not in {"krates_samples", "krates_stand_in", "fake_cargo"}
 
 
 def reaches(stands_on, start):
@@ -138,7 +138,7 @@ LAYERS = [
         ("proofs", "invariants, answers, lemmas\\nproofs/, under the function's path"),
     ]),
     ("shown", "what shows that the contracts say enough", [
-        ("rows", "worked examples\\ncrates ending in _rows"),
+        ("rows", "worked examples\\ncrates ending in _tests"),
         ("edits", "wrong bodies that the prover refuses\\nmust-fail/, wrong-bodies/"),
         ("corpus", "real documents, lists and graphs\\nscripts/compare_*.sh"),
     ]),

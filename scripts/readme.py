@@ -20,7 +20,7 @@ import tempfile
 
 ROOT = pathlib.Path(__file__).resolve().parent.parent
 PAGES = ("README.md", "docs/GUIDE.md")
-FILES = ("crates/*_rows/src/readme.rt", "crates/krates_reports/src/*.rt")
+FILES = ("crates/*_tests/src/readme.rt", "crates/krates_reports/src/*.rt")
 
 # The crate whose modules are the blocks, what its line in crates.txt names, and its root file.
 NAME = "page_blocks"

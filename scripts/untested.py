@@ -4,7 +4,7 @@
     scripts/untested.py
 
 A public call is a `pub fn` of a library crate that another crate can name: it, or its type, stands in a public module or is
-given again by a `pub use`. A test is code in a crate whose name ends in `_rows`. A method is named by
+given again by a `pub use`. A test is code in a crate whose name ends in `_tests`. A method is named by
 `.name(` or `Type::name`, a function of a type by `Type::name`, and any other function by `name(`. So a method counts as tested where
 another type's method of that name is called: what is listed is untested, and what isn't may be. Laws are left out: they answer
 nothing that a test could compare.
@@ -109,7 +109,7 @@ def libraries():
     """The folders of the library crates whose calls are promised."""
     for root in sorted(ROOT.glob("crates/*/src/lib.rt")):
         crate = root.parent.parent.name
-        if not crate.endswith("_rows") and crate not in LEFT_OUT:
+        if not crate.endswith("_tests") and crate not in LEFT_OUT:
             yield root.parent
 
 
@@ -127,7 +127,7 @@ def untested(tests):
 
 
 def main():
-    tests = "\n".join(path.read_text(encoding="utf-8") for path in sorted(ROOT.glob("crates/*_rows/src/*.rt")))
+    tests = "\n".join(path.read_text(encoding="utf-8") for path in sorted(ROOT.glob("crates/*_tests/src/*.rt")))
     shown = {call for some in SHOWN_BY.values() for call in some}
     found = list(untested(tests))
     listed = [f"{place}: {call}" for place, call in found if call not in shown]

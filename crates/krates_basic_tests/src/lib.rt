@@ -1,0 +1,41 @@
+//! Worked examples of texts, JSON among them, the graph, ids and metadata: what the lowest crates, and those of the document, answer where
+//! the answer is known.
+//!
+//! They stand apart from the crates that they test, since a crate with tests is proved twice. What is expected stands in
+//! constants, which cost no proof: a row in the body of a test costs as much as a small function.
+#![tactic(auto)]
+
+#[cfg(test)]
+mod agenda;
+#[cfg(test)]
+mod correction;
+#[cfg(test)]
+mod documents;
+#[cfg(test)]
+mod expressions;
+#[cfg(test)]
+mod graph;
+#[cfg(test)]
+mod ids;
+#[cfg(test)]
+mod json_texts;
+#[cfg(test)]
+mod packages;
+#[cfg(test)]
+mod passing;
+#[cfg(test)]
+mod paths;
+#[cfg(test)]
+mod queries;
+#[cfg(test)]
+mod reading;
+#[cfg(test)]
+mod references;
+#[cfg(test)]
+mod refusals;
+#[cfg(test)]
+mod specifications;
+#[cfg(test)]
+mod targets;
+#[cfg(test)]
+mod writing;

@@ -1,0 +1,187 @@
+//! What a build hands out to explain what it keeps: each derivation is accepted, and all facts together are a closed list.
+
+use crate::builders::krates_of;
+use crate::facts::{push_steps, told};
+use crate::lists::{Ask, Given, OfLine};
+use krates::derive::{CheckError, check, check_closed};
+use krates::{Builder, Krates, NodeId};
+use krates_samples::documents::section;
+use krates_samples::table::{Row, hold};
+use std::alloc::{AllocError, Global};
+use std::test::Fail;
+
+/// Whether there is a derivation of the node, and it is accepted.
+fn is_accepted(
+    given: &Given<'_, Builder>,
+    krates: &Krates,
+    node: NodeId,
+) -> Result<bool, AllocError> {
+    Ok(match krates.why(node)? {
+        Some(derivation) => check(given.metadata, given.set, None, &derivation).is_ok(),
+        None => false,
+    })
+}
+
+/// Whether the derivation of each node is accepted.
+fn are_accepted(given: &Given<'_, Builder>, krates: &Krates) -> Result<bool, AllocError> {
+    for number in 0..krates.graph().raw_nodes().len() {
+        if !is_accepted(given, krates, NodeId::new(number as u32))? {
+            return Ok(false);
+        }
+    }
+    Ok(true)
+}
+
+/// What the check answers of all facts without the one at this place, where there is one.
+fn answer_without(
+    given: &Given<'_, Builder>,
+    krates: &Krates,
+    place: usize,
+) -> Result<Result<(), CheckError>, AllocError> {
+    let mut facts = krates.facts()?;
+    if place < facts.len() {
+        drop(facts.remove(place));
+    }
+    Ok(check_closed(given.metadata, given.set, None, &facts))
+}
+
+/// Whether so many facts, which are all, are a closed list, and aren't without any one of them.
+fn are_closed(
+    given: &Given<'_, Builder>,
+    krates: &Krates,
+    count: usize,
+) -> Result<bool, AllocError> {
+    for place in 0..count {
+        if answer_without(given, krates, place)? != Err(CheckError::Open) {
+            return Ok(false);
+        }
+    }
+    Ok(answer_without(given, krates, count)?.is_ok())
+}
+
+/// How many nodes and facts there are, and whether they are explained.
+fn counted(given: &Given<'_, Builder>, krates: &Krates) -> Result<String, AllocError> {
+    let nodes = krates.graph().raw_nodes().len();
+    let facts = krates.facts()?.len();
+    let accepted = are_accepted(given, krates)?;
+    let closed = are_closed(given, krates, facts)?;
+    format!(in given.alloc; "{nodes} nodes {accepted}, {facts} facts {closed}")
+}
+
+/// What is counted of a document.
+struct Explained;
+
+impl Ask for Explained {
+    type Set = Builder;
+
+    fn told(given: &Given<'_, Builder>, line: &str) -> Result<String, Fail> {
+        let krates = krates_of(given.alloc, line)?;
+        Ok(counted(given, &krates)?)
+    }
+}
+
+const EXPLAINED: &[Row] = &[
+    // a weak reference over an edge that another feature keeps, and a strong one beside it
+    ("a b?;b=dep:b w=b?/j|b;j=", "5 nodes true, 7 facts true"),
+    (
+        "a b?;b=dep:b w=b?/j s=b/k|b;j= k=",
+        "7 nodes true, 10 facts true",
+    ),
+    // a reference over an edge for tests
+    ("a b&dev;x=b/y|b;y=", "4 nodes true, 6 facts true"),
+    // a reference to a feature of an excluded crate
+    ("a b;x=b/nope|b / without b", "2 nodes true, 2 facts true"),
+    // a dependency that is known by the name of its library, and one that is renamed
+    (
+        "a md-5?;x=md-5/std|md-5&lib=md5;std= / nodes a md-5&as=md5;x|md-5;std",
+        "4 nodes true, 6 facts true",
+    ),
+    (
+        "a real?&as=alias;x=dep:alias|real / nodes a real&as=alias;x|real",
+        "3 nodes true, 4 facts true",
+    ),
+    // two versions, which a feature asks for by one name
+    (
+        "a d?;x=dep:d|d@0.10.0|d@0.9.0 / nodes a d@0.10.0 d@0.9.0;x|d@0.10.0|d@0.9.0 / names all",
+        "4 nodes true, 6 facts true",
+    ),
+    // an edge that two features ask for has one step
+    ("a b?;x=dep:b y=dep:b|b", "4 nodes true, 5 facts true"),
+];
+
+// documents that cargo wrote
+const REAL: &[Row] = &[
+    ("weakling", "25 nodes true, 39 facts true"),
+    ("gitter", "21 nodes true, 32 facts true"),
+];
+
+/// What is built of the document of a line, where its section `built` sets something more or something else.
+fn built(alloc: Global, line: &str) -> Result<Box<Krates>, Fail> {
+    let set = section(line, "built ").unwrap_or("");
+    let line = format!(in alloc; "{line} / {set}")?;
+    krates_of(alloc, line.as_str())
+}
+
+/// The steps of the derivation of a node, where there is one, and what the check answers of it.
+fn reason(given: &Given<'_, Builder>, krates: &Krates, node: NodeId) -> Result<String, Fail> {
+    let Some(derivation) = krates.why(node)? else {
+        return Ok(String::from_str(given.alloc, "none")?);
+    };
+    let answer = told(
+        given.alloc,
+        check(given.metadata, given.set, None, &derivation),
+    )?;
+    let mut text = String::new(given.alloc);
+    push_steps(&mut text, &derivation.steps)?;
+    text.push_str(answer.as_str())?;
+    Ok(text)
+}
+
+/// What a build explains, checked by what the line sets, which may be something else than what the build has set: the derivation of the
+/// node in the section `why`, and all facts.
+struct Rechecked;
+
+impl Ask for Rechecked {
+    type Set = Builder;
+
+    fn told(given: &Given<'_, Builder>, line: &str) -> Result<String, Fail> {
+        let krates = built(given.alloc, line)?;
+        let node = section(line, "why ").unwrap_or("").parse()?;
+        let reason = reason(given, &krates, NodeId::new(node))?;
+        let facts = told(given.alloc, answer_without(given, &krates, usize::MAX)?)?;
+        Ok(format!(in given.alloc; "{reason}, facts {facts}")?)
+    }
+}
+
+const RECHECKED: &[Row] = &[
+    // a crate that is needed for tests
+    (
+        "a b&dev|b / why 1",
+        "1 +a; 5 a>b:dev 0; 5 +b 1; yes, facts yes",
+    ),
+    // an enabled feature, and no second node
+    ("a;x= / why 1", "1 a/x; yes, facts yes"),
+    ("a / why 1", "none, facts yes"),
+    // two versions, of which a name means both: the second is there for no other reason
+    (
+        "a d?;x=dep:d|d@0.10.0|d@0.9.0 / nodes a d@0.10.0 d@0.9.0;x|d@0.10.0|d@0.9.0 / names all / why 2",
+        "1 a/x; 4 a>d@0.9.0 0; 5 +d@0.9.0 1; yes, facts yes",
+    ),
+    // the same build, checked where the name means the least: what it kept needn't be reached, and lacks nothing that is
+    (
+        "a d?;x=dep:d|d@0.10.0|d@0.9.0 / nodes a d@0.10.0 d@0.9.0;x|d@0.10.0|d@0.9.0 / why 2 / built names all",
+        "1 a/x; 4 a>d@0.9.0 0; 5 +d@0.9.0 1; step 1, facts yes",
+    ),
+    // the other way round: what is kept where it means the least is reached where it means both, and isn't all
+    (
+        "a d?;x=dep:d|d@0.10.0|d@0.9.0 / nodes a d@0.10.0 d@0.9.0;x|d@0.10.0|d@0.9.0 / names all / why 1 / built names least",
+        "1 a/x; 4 a>d@0.10.0 0; 5 +d@0.10.0 1; yes, facts open",
+    ),
+];
+
+#[test]
+fn builds_explain_what_they_keep(rt: HostRuntime) -> Result<(), Fail> {
+    hold::<OfLine<Explained>>(rt.alloc(), EXPLAINED)?;
+    hold::<OfLine<Explained>>(rt.alloc(), REAL)?;
+    hold::<OfLine<Rechecked>>(rt.alloc(), RECHECKED)
+}

@@ -1,0 +1,160 @@
+//! Facts and steps of the checkers, in the small language of facts (`krates_samples::facts`), and what the checkers answer, in words.
+//!
+//! A line begins with a document, has the sections `ignore KIND`, `without SPECS` and `names all` where something is set, and
+//! ends with the section `steps` or the section `facts`.
+
+use crate::lists::Sections;
+use krates_derive::{CheckError, Derivation, Fact, Step};
+use krates_document::Setting;
+use krates_ids::Kid;
+use krates_rules::{DepKind, Scope};
+use krates_samples::documents::{kind_named, word_of};
+use krates_samples::facts;
+use krates_samples::settings::package_specs;
+use std::alloc::{AllocError, Global};
+use std::test::Fail;
+
+/// The facts and steps of the checkers.
+pub(crate) struct Own;
+
+impl facts::Facts for Own {
+    type Fact = Fact;
+
+    type Step = Step;
+
+    fn of_crate(krate: Kid) -> Fact {
+        Fact::Crate(krate)
+    }
+
+    fn of_feature(krate: Kid, name: String) -> Fact {
+        Fact::Feature { krate, name }
+    }
+
+    fn of_edge(parent: Kid, child: Kid, kind: DepKind, cfg: Option<String>) -> Fact {
+        Fact::Kept {
+            parent,
+            child,
+            kind,
+            cfg,
+        }
+    }
+
+    fn of_toggle(parent: Kid, child: Kid, name: String) -> Fact {
+        Fact::Toggled {
+            parent,
+            child,
+            name,
+        }
+    }
+
+    fn of_step(rule: u8, fact: Fact, uses: Vec<usize>) -> Step {
+        Step { rule, fact, uses }
+    }
+}
+
+/// The steps of a text.
+pub(crate) fn steps_of(alloc: Global, text: &str) -> Result<Derivation, Fail> {
+    let steps = facts::steps_of::<Own>(alloc, text)?;
+    Ok(Derivation { steps })
+}
+
+/// The facts of the words.
+pub(crate) fn facts_of(alloc: Global, text: &str) -> Result<Vec<Fact>, Fail> {
+    facts::facts_of::<Own>(alloc, text)
+}
+
+/// Adds what stands behind the child of a kept edge: its kind, where it isn't normal, and its target.
+fn push_purpose(text: &mut String, kind: DepKind, cfg: Option<&str>) -> Result<(), AllocError> {
+    let word = match kind {
+        DepKind::Normal => "",
+        DepKind::Build => "build",
+        DepKind::Dev => "dev",
+    };
+    if let Some(cfg) = cfg {
+        return write!(text, ":{word}:{cfg}");
+    }
+    if !word.is_empty() {
+        write!(text, ":{word}")?;
+    }
+    Ok(())
+}
+
+/// The word for a crate.
+fn word(krate: &Kid) -> &str {
+    word_of(krate.repr())
+}
+
+/// Adds the word of a fact.
+fn push_word(text: &mut String, fact: &Fact) -> Result<(), AllocError> {
+    match fact {
+        Fact::Crate(krate) => write!(text, "+{}", word(krate)),
+        Fact::Feature { krate, name } => write!(text, "{}/{name}", word(krate)),
+        Fact::Kept {
+            parent,
+            child,
+            kind,
+            cfg,
+        } => {
+            write!(text, "{}>{}", word(parent), word(child))?;
+            push_purpose(text, *kind, cfg.as_deref())
+        }
+        Fact::Toggled {
+            parent,
+            child,
+            name,
+        } => write!(text, "{}>{}/{name}", word(parent), word(child)),
+    }
+}
+
+/// Adds a step, with a semicolon behind it.
+fn push_step(text: &mut String, step: &Step) -> Result<(), AllocError> {
+    write!(text, "{} ", step.rule)?;
+    push_word(text, &step.fact)?;
+    for used in &step.uses {
+        write!(text, " {used}")?;
+    }
+    text.push_str("; ")
+}
+
+/// Adds steps in the words in which they are read.
+pub(crate) fn push_steps(text: &mut String, steps: &[Step]) -> Result<(), AllocError> {
+    for step in steps {
+        push_step(text, step)?;
+    }
+    Ok(())
+}
+
+/// Sets what a section of a line asks.
+fn set(setting: &mut Setting, alloc: Global, section: &str) -> Result<(), Fail> {
+    let (setter, text) = section.split_once(' ').unwrap_or((section, ""));
+    match setter {
+        "ignore" => setting.ignore_kind(DepKind::from(kind_named(text)), Scope::All),
+        "names" => setting.all_named(text == "all"),
+        "without" => setting.exclude(package_specs(alloc, text)?)?,
+        _ => {}
+    }
+    Ok(())
+}
+
+impl Sections for Setting {
+    fn of_line(alloc: Global, line: &str) -> Result<Setting, Fail> {
+        let mut setting = Setting::new(alloc);
+        for section in line.split(" / ") {
+            set(&mut setting, alloc, section)?;
+        }
+        Ok(setting)
+    }
+}
+
+/// The word for an answer.
+pub(crate) fn told(alloc: Global, answer: Result<(), CheckError>) -> Result<String, Fail> {
+    let word = match answer {
+        Ok(()) => "yes",
+        Err(CheckError::Document) => "document",
+        Err(CheckError::Empty) => "empty",
+        Err(CheckError::Step(number)) => return Ok(format!(in alloc; "step {number}")?),
+        Err(CheckError::Memory) => "memory",
+        Err(CheckError::Open) => "open",
+    };
+    Ok(String::from_str(alloc, word)?)
+}

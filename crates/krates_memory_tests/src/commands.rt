@@ -1,0 +1,243 @@
+//! Commands: what grows in them, their words, and the command that a tool's options mean.
+
+use krates_cargo::{Cmd, Features, MetadataCommand};
+use krates_cm::Error;
+use krates_samples::starving::{Call, granted, other_refusal, refused, starved};
+use std::alloc::{AllocError, Global};
+use std::mem::replace;
+use std::process::Command;
+use std::test::Fail;
+
+/// Names for which a list that has one has to grow.
+const MORE: &str = "b,c,d,e,f,g,h,i,j";
+
+/// The texts between these characters.
+pub(crate) fn parts(alloc: Global, text: &str, between: char) -> Result<Vec<String>, AllocError> {
+    let mut parts = Vec::new(alloc);
+    for part in text.split(between) {
+        parts.push(String::from_str(alloc, part)?)?;
+    }
+    Ok(parts)
+}
+
+/// Adds the variables that a command sets, each with its value and a bar behind it.
+fn push_variables(text: &mut String, command: &Command) -> Result<(), AllocError> {
+    for (name, value) in command.get_envs() {
+        write!(text, "{name}={}|", value.unwrap_or(""))?;
+    }
+    Ok(())
+}
+
+/// Adds the words behind `metadata --format-version 1`, each with a bar behind it.
+fn push_words(text: &mut String, words: &[String]) -> Result<(), AllocError> {
+    for word in words.iter().skip(3) {
+        write!(text, "{word}|")?;
+    }
+    Ok(())
+}
+
+/// Compares the words with what is known.
+fn are_told(alloc: Global, words: &[String], expected: &str) -> Result<bool, AllocError> {
+    let mut text = String::new(alloc);
+    push_words(&mut text, words)?;
+    Ok(text.as_str() == expected)
+}
+
+/// Adds the variables that cargo is started with.
+fn push_environment(text: &mut String, command: &MetadataCommand) -> Result<(), Fail> {
+    let cargo = command.cargo_command(None)?;
+    Ok(push_variables(text, &cargo)?)
+}
+
+/// Compares the variables that a command sets, and its words, with what is known.
+fn is_told(alloc: Global, command: &MetadataCommand, expected: &str) -> Result<bool, Fail> {
+    let mut text = String::new(alloc);
+    push_environment(&mut text, command)?;
+    push_words(&mut text, &command.args()?)?;
+    Ok(text.as_str() == expected)
+}
+
+/// A call on a command that has a feature, a variable and other settings.
+#[derive(Debug)]
+enum OfCommand {
+    Features,
+    Env,
+    Args,
+}
+
+/// All calls on the command.
+const OF_COMMAND: &[OfCommand] = &[OfCommand::Features, OfCommand::Env, OfCommand::Args];
+
+/// The words of the command.
+const WORDS: &str = "--no-deps|--features|a|--manifest-path|p|--z|";
+
+/// What is told of the command.
+const COMMAND: &str = "A=1|--no-deps|--features|a|--manifest-path|p|--z|";
+
+/// The command, and features to be chosen.
+#[derive(Drop)]
+struct Named {
+    command: MetadataCommand,
+    names: Vec<String>,
+}
+
+/// Gives the command a feature, a variable and other settings.
+fn set_command(alloc: Global, command: &mut MetadataCommand) -> Result<(), Fail> {
+    command
+        .no_deps()
+        .manifest_path(String::from_str(alloc, "p")?)
+        .other_options(parts(alloc, "--z", ',')?);
+    command.features(Features::Selected(parts(alloc, "a", ',')?))?;
+    command.env("A", "1")?;
+    Ok(())
+}
+
+impl Call for OfCommand {
+    type Given = Named;
+
+    type Answer = Result<Option<Vec<String>>, Error>;
+
+    fn given(&self, alloc: Global) -> Result<Named, Fail> {
+        let mut command = MetadataCommand::new(alloc);
+        set_command(alloc, &mut command)?;
+        let names = parts(alloc, MORE, ',')?;
+        Ok(Named { command, names })
+    }
+
+    fn answer(&self, alloc: Global, given: &mut Named) -> Result<Option<Vec<String>>, Error> {
+        match self {
+            OfCommand::Features => {
+                let names = replace(&mut given.names, Vec::new(alloc));
+                given.command.features(Features::Selected(names))?;
+            }
+            OfCommand::Env => {
+                given.command.env("B", "2")?;
+            }
+            OfCommand::Args => return Ok(Some(given.command.args()?)),
+        }
+        Ok(None)
+    }
+
+    fn is_granted(
+        &self,
+        alloc: Global,
+        given: &mut Named,
+        answer: &Result<Option<Vec<String>>, Error>,
+    ) -> Result<bool, Fail> {
+        let ample = match self {
+            OfCommand::Features => {
+                "A=1|--no-deps|--features|a,b,c,d,e,f,g,h,i,j|--manifest-path|p|--z|"
+            }
+            _ => "A=1|B=2|--no-deps|--features|a|--manifest-path|p|--z|",
+        };
+        match answer {
+            Ok(None) => granted(is_told(alloc, &given.command, ample)?),
+            Ok(Some(words)) => granted(are_told(alloc, words, WORDS)?),
+            Err(Error::Memory) => refused(is_told(alloc, &given.command, COMMAND)?),
+            Err(_) => other_refusal(),
+        }
+    }
+}
+
+#[test]
+fn calls_on_a_command(rt: HostRuntime) -> Result<(), Fail> {
+    starved(&rt, OF_COMMAND)
+}
+
+/// A call on a tool's options that have one name of each list, and other settings.
+#[derive(Debug)]
+enum OfOptions {
+    Features,
+    OtherOptions,
+    IntoCommand,
+}
+
+/// All calls on the options.
+const OF_OPTIONS: &[OfOptions] = &[
+    OfOptions::Features,
+    OfOptions::OtherOptions,
+    OfOptions::IntoCommand,
+];
+
+/// What is told of the command that the options mean.
+const OPTIONS: &str = "--manifest-path|Cargo.toml|--all-features|--features|a|--a|";
+
+/// A tool's options, and more names.
+#[derive(Drop)]
+struct Options {
+    cmd: Cmd,
+    names: Vec<String>,
+}
+
+/// Gives the options one name of each list, and other settings.
+fn set_options(alloc: Global, cmd: &mut Cmd) -> Result<(), Fail> {
+    cmd.features(parts(alloc, "a", ',')?)?;
+    cmd.other_options(parts(alloc, "--a", ',')?)?;
+    cmd.all_features()
+        .manifest_path(String::from_str(alloc, "x/Cargo.toml")?);
+    Ok(())
+}
+
+/// Compares what is told of the command that the options mean with what is known.
+fn means(alloc: Global, given: &mut Options, expected: &str) -> Result<bool, Fail> {
+    let cmd = replace(&mut given.cmd, Cmd::new(alloc));
+    let command = cmd.into_command()?;
+    is_told(alloc, &command, expected)
+}
+
+impl Call for OfOptions {
+    type Given = Options;
+
+    type Answer = Result<Option<MetadataCommand>, Error>;
+
+    fn given(&self, alloc: Global) -> Result<Options, Fail> {
+        let mut cmd = Cmd::new(alloc);
+        set_options(alloc, &mut cmd)?;
+        let names = parts(alloc, MORE, ',')?;
+        Ok(Options { cmd, names })
+    }
+
+    fn answer(&self, alloc: Global, given: &mut Options) -> Result<Option<MetadataCommand>, Error> {
+        match self {
+            OfOptions::Features => {
+                let names = replace(&mut given.names, Vec::new(alloc));
+                given.cmd.features(names)?;
+            }
+            OfOptions::OtherOptions => {
+                let names = replace(&mut given.names, Vec::new(alloc));
+                given.cmd.other_options(names)?;
+            }
+            OfOptions::IntoCommand => {
+                let cmd = replace(&mut given.cmd, Cmd::new(alloc));
+                return Ok(Some(cmd.into_command()?));
+            }
+        }
+        Ok(None)
+    }
+
+    fn is_granted(
+        &self,
+        alloc: Global,
+        given: &mut Options,
+        answer: &Result<Option<MetadataCommand>, Error>,
+    ) -> Result<bool, Fail> {
+        let ample = match self {
+            OfOptions::Features => {
+                "--manifest-path|Cargo.toml|--all-features|--features|a b c d e f g h i j|--a|"
+            }
+            _ => "--manifest-path|Cargo.toml|--all-features|--features|a|--a|b|c|d|e|f|g|h|i|j|",
+        };
+        match answer {
+            Ok(None) => granted(means(alloc, given, ample)?),
+            Ok(Some(command)) => granted(is_told(alloc, command, OPTIONS)?),
+            Err(Error::Memory) if matches!(self, OfOptions::IntoCommand) => refused(true),
+            Err(Error::Memory) => refused(means(alloc, given, OPTIONS)?),
+            Err(_) => other_refusal(),
+        }
+    }
+}
+
+#[test]
+fn calls_on_options(rt: HostRuntime) -> Result<(), Fail> {
+    starved(&rt, OF_OPTIONS)
+}

@@ -1,0 +1,122 @@
+//! The document: reading it, and its own small questions.
+
+use krates_cm::{Error, Metadata, Package, PackageId, WorkspaceDefaultMembers};
+use krates_cm_json::parse;
+use krates_samples::documents::metadata;
+use krates_samples::starving::{Call, answered, granted, other_refusal, refused, starved};
+use krates_stand_in::DOCUMENT;
+use std::alloc::{AllocError, Global};
+use std::test::Fail;
+
+/// Two members, of which the first has a feature and needs the second.
+const LINE: &str = "a b&dev;f=g|b|c / members b a";
+
+/// Reads a document of two packages and a graph.
+#[derive(Debug)]
+struct Parse;
+
+/// The document is read.
+const PARSED: &[Parse] = &[Parse];
+
+/// What is read of this text with ample memory, printed.
+fn read_of(alloc: Global, text: &str) -> Result<String, AllocError> {
+    let read = parse(alloc, text);
+    format!(in alloc; "{read:?}")
+}
+
+impl Call for Parse {
+    type Given = String;
+
+    type Answer = Result<Metadata, Error>;
+
+    fn given(&self, alloc: Global) -> Result<String, Fail> {
+        Ok(String::from_str(alloc, DOCUMENT)?)
+    }
+
+    fn answer(&self, alloc: Global, given: &mut String) -> Result<Metadata, Error> {
+        parse(alloc, given.as_str())
+    }
+
+    fn is_granted(
+        &self,
+        alloc: Global,
+        given: &mut String,
+        answer: &Result<Metadata, Error>,
+    ) -> Result<bool, Fail> {
+        match answer {
+            Ok(_) => {
+                let ample = read_of(alloc, given.as_str())?;
+                granted(format!(in alloc; "{answer:?}")? == ample)
+            }
+            Err(Error::Memory) => refused(true),
+            Err(_) => other_refusal(),
+        }
+    }
+}
+
+#[test]
+fn reading_a_document(rt: HostRuntime) -> Result<(), Fail> {
+    starved(&rt, PARSED)
+}
+
+/// Whether the packages are `a` and `b`, in this order.
+pub(crate) fn are_a_and_b(packages: &[&Package]) -> bool {
+    match packages {
+        [first, second] => first.name.as_str() == "a" && second.name.as_str() == "b",
+        _ => false,
+    }
+}
+
+/// The document of a line, in a box.
+pub(crate) fn boxed(alloc: Global, line: &str) -> Result<Box<Metadata>, Fail> {
+    Ok(Box::new(alloc, metadata(alloc, line)?)?)
+}
+
+/// What a document is asked that has default members.
+#[derive(Debug)]
+enum Asked {
+    Members,
+    DefaultMembers,
+}
+
+/// All that it is asked.
+const ASKED: &[Asked] = &[Asked::Members, Asked::DefaultMembers];
+
+impl Call for Asked {
+    type Given = Box<Metadata>;
+
+    type Answer = Result<bool, AllocError>;
+
+    fn given(&self, alloc: Global) -> Result<Box<Metadata>, Fail> {
+        let mut given = boxed(alloc, LINE)?;
+        let ids = given.workspace_members.clone()?;
+        given.workspace_default_members = WorkspaceDefaultMembers(Some(ids));
+        Ok(given)
+    }
+
+    fn answer(&self, alloc: Global, given: &mut Box<Metadata>) -> Result<bool, AllocError> {
+        let metadata: &Metadata = given;
+        let packages = match self {
+            Asked::Members => Some(metadata.workspace_packages(alloc)?),
+            Asked::DefaultMembers => metadata.workspace_default_packages(alloc)?,
+        };
+        match &packages {
+            Some(packages) => Ok(are_a_and_b(packages)),
+            None => Ok(false),
+        }
+    }
+
+    fn is_granted(
+        &self,
+        _alloc: Global,
+        _given: &mut Box<Metadata>,
+        answer: &Result<bool, AllocError>,
+    ) -> Result<bool, Fail> {
+        answered(answer)
+    }
+}
+
+#[test]
+fn packages_of_members(rt: HostRuntime) -> Result<(), Fail> {
+    starved(&rt, ASKED)
+}

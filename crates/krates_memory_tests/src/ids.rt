@@ -1,0 +1,139 @@
+//! Ids, and the correction of a package by an index.
+
+use crate::commands::parts;
+use crate::documents::boxed;
+use krates_cm::{Metadata, PackageId};
+use krates_ids::{
+    CachingIndex, FeaturesMap, IdError, IndexAnswer, IndexKrate, IndexKrateVersion, Kid,
+};
+use krates_samples::starving::{Call, granted, other_refusal, refused, starved};
+use semver::Version;
+use std::alloc::{AllocError, Global};
+use std::collections::BTreeMap;
+use std::mem::replace;
+use std::test::Fail;
+
+/// An id with an escape, which is read by decoding it.
+const ESCAPED: &str = "git+https://github.com/a/b?branch=c%2Fd#0.1.0";
+
+/// Reads that id.
+#[derive(Debug)]
+struct ReadId;
+
+/// The id is read.
+const READ: &[ReadId] = &[ReadId];
+
+impl Call for ReadId {
+    type Given = PackageId;
+
+    type Answer = Result<Kid, IdError>;
+
+    fn given(&self, alloc: Global) -> Result<PackageId, Fail> {
+        let repr = String::from_str(alloc, ESCAPED)?;
+        Ok(PackageId { repr })
+    }
+
+    fn answer(&self, alloc: Global, given: &mut PackageId) -> Result<Kid, IdError> {
+        let repr = String::new(alloc);
+        Kid::try_from(replace(given, PackageId { repr }))
+    }
+
+    fn is_granted(
+        &self,
+        _alloc: Global,
+        _given: &mut PackageId,
+        answer: &Result<Kid, IdError>,
+    ) -> Result<bool, Fail> {
+        match answer {
+            Ok(kid) => granted(kid.source() == "git+https://github.com/a/b?branch=c/d"),
+            Err(IdError::Memory(id)) => refused(id.repr.as_str() == ESCAPED),
+            Err(_) => other_refusal(),
+        }
+    }
+}
+
+#[test]
+fn an_id_with_an_escape(rt: HostRuntime) -> Result<(), Fail> {
+    starved(&rt, READ)
+}
+
+/// The features that an index has of a package: a default one with a reference, and one without.
+fn known(alloc: Global) -> Result<FeaturesMap, Fail> {
+    let references = parts(alloc, "x", ',')?;
+    let mut features = BTreeMap::new(alloc);
+    drop(features.insert(String::from_str(alloc, "default")?, references)?);
+    drop(features.insert(String::from_str(alloc, "std")?, Vec::new(alloc))?);
+    Ok(features)
+}
+
+/// The answer of an index about the version 1.0.0 of `p`, which has these features.
+pub(crate) fn answer(alloc: Global) -> Result<IndexAnswer, Fail> {
+    let features = known(alloc)?;
+    let version = Version::parse(alloc, "1.0.0")?;
+    let versions = vec![in alloc; IndexKrateVersion { version, features }]?;
+    let mut krates = BTreeMap::new(alloc);
+    drop(krates.insert(String::from_str(alloc, "p")?, Some(IndexKrate { versions }))?);
+    Ok(IndexAnswer { krates })
+}
+
+/// A package that the index has, alone in its document.
+#[derive(Drop)]
+struct Indexed {
+    index: CachingIndex,
+    metadata: Box<Metadata>,
+}
+
+/// The features of the first package.
+fn features_told(alloc: Global, metadata: &Metadata) -> Result<String, AllocError> {
+    match metadata.packages.first() {
+        Some(pkg) => format!(in alloc; "{:?}", pkg.features),
+        None => format!(in alloc; "no package"),
+    }
+}
+
+/// Corrects the package.
+#[derive(Debug)]
+struct Correct;
+
+/// The package is corrected.
+const CORRECTED: &[Correct] = &[Correct];
+
+impl Call for Correct {
+    type Given = Indexed;
+
+    type Answer = Result<(), AllocError>;
+
+    fn given(&self, alloc: Global) -> Result<Indexed, Fail> {
+        let metadata = boxed(alloc, "p@1.0.0&crates.io;default=std,foo")?;
+        let answer = answer(alloc)?;
+        let index = CachingIndex { answer };
+        Ok(Indexed { index, metadata })
+    }
+
+    fn answer(&self, alloc: Global, given: &mut Indexed) -> Result<(), AllocError> {
+        match given.metadata.packages.first_mut() {
+            Some(pkg) => given.index.correct(alloc, pkg),
+            None => Ok(()),
+        }
+    }
+
+    fn is_granted(
+        &self,
+        alloc: Global,
+        given: &mut Indexed,
+        answer: &Result<(), AllocError>,
+    ) -> Result<bool, Fail> {
+        let told = features_told(alloc, &given.metadata)?;
+        match answer {
+            Ok(()) => granted(
+                told.as_str() == r#"{"default": ["std", "foo"], "foo": ["dep:foo"], "std": []}"#,
+            ),
+            Err(AllocError) => refused(told.as_str() == r#"{"default": ["std", "foo"]}"#),
+        }
+    }
+}
+
+#[test]
+fn a_correction(rt: HostRuntime) -> Result<(), Fail> {
+    starved(&rt, CORRECTED)
+}

@@ -1,0 +1,41 @@
+//! Worked examples of the program: what it answers to words, documents, runs of cargo and failing streams where the answer is known, with
+//! ample memory and with little.
+//!
+//! They stand apart from the crate that they test, since a crate with tests is proved twice. An example is a row of a table.
+//!
+//! A test doesn't get the path of another program, so this test program stands in for cargo: cargo's first word is `metadata`, and
+//! the test of this name writes the document.
+#![tactic(auto)]
+
+#[cfg(test)]
+mod by_cargo;
+#[cfg(test)]
+mod calls;
+#[cfg(test)]
+mod hostile;
+#[cfg(test)]
+mod large;
+#[cfg(test)]
+mod listing;
+#[cfg(test)]
+mod little_memory;
+#[cfg(test)]
+mod no_programs;
+#[cfg(test)]
+mod options;
+#[cfg(test)]
+mod printed;
+#[cfg(test)]
+mod streams;
+#[cfg(test)]
+mod why;
+
+#[cfg(test)]
+use std::test::Fail;
+
+/// Stands in for cargo, if words follow.
+#[cfg(test)]
+#[test]
+fn metadata(rt: HostRuntime) -> Result<(), Fail> {
+    by_cargo::stand_in(&rt)
+}

@@ -1,0 +1,212 @@
+//! What a document and a setting answer to the questions that the checkers ask, one by one.
+//!
+//! A line is a word for a crate and the name of a feature, or two crates, a kind and a target text; behind it stands what is set, in
+//! sections.
+
+use crate::asked::{Edge, edge_of};
+use crate::setters::setting_of;
+use krates_cm::{Dependency, Metadata};
+use krates_ids::{Error, Kid};
+use krates_questions::Need;
+use krates_resolve::{Document, Setting, admit};
+use krates_samples::documents::{kid_of, metadata};
+use krates_samples::table::{Question, Row, compare, hold};
+use std::alloc::{AllocError, Global};
+use std::test::Fail;
+
+/// A member that declares a crate for tests and for its build, and another for Windows, and whose node lists one kind and one feature
+/// more; a package without a node, and a node without a package.
+const DOCUMENT: &str =
+    "a b&dev b&build c&on=cfg(windows);f=b/g,x|b;g=|c|n / nodes a b&build&dev&normal c&on=cfg(windows);f e|b;g|c|q";
+
+/// What a document is asked about.
+trait Asked: Sized + Drop {
+    /// That of these words.
+    fn of_words(alloc: Global, words: &str) -> Result<Self, Fail>;
+
+    /// What is told of it.
+    fn told<'a>(
+        &'a self,
+        alloc: Global,
+        asked: &Document<'a>,
+        setting: &Setting,
+    ) -> Result<String, AllocError>;
+}
+
+/// What a document answers about something under a setting, once it is admitted.
+fn answered<A: Asked>(
+    alloc: Global,
+    metadata: &Metadata,
+    setting: &Setting,
+    about: &A,
+) -> Result<String, Error> {
+    let ids = admit(alloc, metadata)?;
+    let asked = Document::new(alloc, metadata, &ids)?;
+    Ok(about.told(alloc, &asked, setting)?)
+}
+
+/// What the document answers about what the words of a line say.
+struct AnswersAbout<A> {
+    about: A,
+}
+
+impl<A: Asked> Question for AnswersAbout<A> {
+    fn told(alloc: Global, line: &str) -> Result<String, Fail> {
+        let (words, _) = line.split_once(" / ").unwrap_or((line, ""));
+        let about = A::of_words(alloc, words)?;
+        let setting = setting_of(alloc, line)?;
+        let metadata = metadata(alloc, DOCUMENT)?;
+        Ok(answered(alloc, &metadata, &setting, &about)?)
+    }
+}
+
+/// A crate, and the name of a feature.
+#[derive(Drop)]
+struct Feature {
+    krate: Kid,
+    name: String,
+}
+
+/// Adds whether a crate is a root and stands, what there is for it, its package and whether it has a node.
+fn push_standing<'a>(
+    told: &mut String,
+    asked: &Document<'a>,
+    setting: &Setting,
+    krate: &'a Kid,
+) -> Result<(), AllocError> {
+    let (is_root, stands) = (asked.is_root(setting, krate), asked.stands(setting, krate));
+    let presence = asked.presence(setting, krate);
+    let package = match asked.package_of(krate) {
+        Some(package) => package.name.as_str(),
+        None => "none",
+    };
+    let has_node = asked.node_of(krate).is_some();
+    write!(
+        told,
+        "root {is_root}, stands {stands}, {presence:?}, package {package}, node {has_node}"
+    )
+}
+
+/// Adds whether the feature is listed, with its references, how many features are listed, and the crates on which the node depends.
+fn push_listed<'a>(
+    told: &mut String,
+    asked: &Document<'a>,
+    krate: &Kid,
+    name: &'a str,
+) -> Result<(), AllocError> {
+    let (is_listed, values) = (asked.lists(krate, name), asked.values(krate, name));
+    let count = asked.features(krate).len();
+    write!(told, ", lists {is_listed} {values:?} of {count}:")?;
+    for child in asked.children(krate) {
+        write!(told, " {}", child.name())?;
+    }
+    Ok(())
+}
+
+impl Asked for Feature {
+    fn of_words(alloc: Global, words: &str) -> Result<Feature, Fail> {
+        let (krate, name) = words.split_once(' ').unwrap_or((words, ""));
+        let name = String::from_str(alloc, name)?;
+        let krate = kid_of(alloc, krate)?;
+        Ok(Feature { krate, name })
+    }
+
+    /// Whether the crate is a root and stands, what there is for it, its package and whether it has a node; whether the feature is
+    /// listed, with its references; how many features are listed; and the crates on which its node depends.
+    fn told<'a>(
+        &'a self,
+        alloc: Global,
+        asked: &Document<'a>,
+        setting: &Setting,
+    ) -> Result<String, AllocError> {
+        let mut told = String::new(alloc);
+        push_standing(&mut told, asked, setting, &self.krate)?;
+        push_listed(&mut told, asked, &self.krate, self.name.as_str())?;
+        Ok(told)
+    }
+}
+
+/// The word for what there is for a dependency.
+fn need_word(need: Need<'_>) -> &'static str {
+    match need {
+        Need::Wanted(_) => "wanted",
+        Need::Undeclared => "undeclared",
+        Need::Nothing => "nothing",
+    }
+}
+
+impl Asked for Edge {
+    fn of_words(alloc: Global, words: &str) -> Result<Edge, Fail> {
+        edge_of(alloc, words)
+    }
+
+    /// What there is for the dependency, how many kinds are listed, and as which kind it is declared.
+    fn told<'a>(
+        &'a self,
+        alloc: Global,
+        asked: &Document<'a>,
+        setting: &Setting,
+    ) -> Result<String, AllocError> {
+        let need = need_word(asked.need(alloc, setting, &self.parent, &self.child, &self.info)?);
+        let kinds = asked.kinds(&self.parent, &self.child).len();
+        let declaration = asked.declaration(&self.parent, &self.child, &self.info);
+        let declared = declaration.map(|dep: &Dependency| dep.kind);
+        format!(in alloc; "{need} of {kinds}, {declared:?}")
+    }
+}
+
+const CRATES: &[Row] = &[
+    (
+        "a f",
+        r#"root true, stands true, Stands, package a, node true, lists true ["b/g", "x"] of 2: b c"#,
+    ),
+    // a feature that the manifest lacks, and one that the node doesn't list
+    (
+        "a e",
+        "root true, stands true, Stands, package a, node true, lists true [] of 2: b c",
+    ),
+    (
+        "a g / without a",
+        "root true, stands false, Excluded, package a, node true, lists false [] of 2: b c",
+    ),
+    (
+        "n f",
+        "root false, stands false, NoNode, package n, node false, lists false [] of 0:",
+    ),
+    (
+        "q f",
+        "root false, stands false, NoPackage, package none, node true, lists false [] of 0:",
+    ),
+];
+
+const EDGES: &[Row] = &[
+    ("a b dev", "wanted of 3, Some(Development)"),
+    ("a b build / ignore dev", "wanted of 3, Some(Build)"),
+    // what it is declared as doesn't hang on what is ignored
+    ("a b dev / ignore dev", "nothing of 3, Some(Development)"),
+    // listed, and not declared so
+    ("a b normal", "undeclared of 3, None"),
+    ("a c normal cfg(windows)", "wanted of 1, Some(Normal)"),
+    // not listed for every target, or not at all
+    ("a c normal", "nothing of 1, None"),
+    ("b c normal", "nothing of 0, None"),
+];
+
+#[test]
+fn what_there_is_for_crates_and_dependencies(rt: HostRuntime) -> Result<(), Fail> {
+    hold::<AnswersAbout<Feature>>(rt.alloc(), CRATES)?;
+    hold::<AnswersAbout<Edge>>(rt.alloc(), EDGES)
+}
+
+#[test]
+fn what_a_setting_asks_for(rt: HostRuntime) -> Result<(), Fail> {
+    let mut setting = Setting::new(rt.alloc());
+    setting.workspace(true);
+    setting.include_workspace_crates(rt.alloc(), &["/w/a", "/w/b/Cargo.toml"])?;
+    let told = format!(in rt.alloc(); "{:?} {}", setting.manifests(), setting.is_workspace())?;
+    compare(
+        "/w/a and /w/b/Cargo.toml",
+        told.as_str(),
+        r#"["/w/a/Cargo.toml", "/w/b/Cargo.toml"] true"#,
+    )
+}

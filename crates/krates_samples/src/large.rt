@@ -1,0 +1,56 @@
+//! A document that is larger than any number in the sources.
+
+use crate::documents::document;
+use std::alloc::Global;
+use std::ops::Range;
+use std::test::Fail;
+
+/// The numbers of many packages.
+pub const PACKAGES: Range<u32> = 1_000..3_000;
+
+/// The numbers of many features, of which each names the next.
+pub const FEATURES: Range<u32> = 1_000..6_000;
+
+/// The number of bytes of a long name.
+const BYTES: usize = 70_000;
+
+/// A name of so many letters.
+pub fn long_name(alloc: Global) -> Result<String, Fail> {
+    Ok("x".repeat(alloc, BYTES)?)
+}
+
+/// Adds the name of each of the many packages, between these texts.
+pub fn push_names(text: &mut String, before: &str, after: &str) -> Result<(), Fail> {
+    for number in PACKAGES {
+        write!(text, "{before}b{number}{after}")?;
+    }
+    Ok(())
+}
+
+/// Adds the many features.
+pub fn push_features(line: &mut String) -> Result<(), Fail> {
+    for number in FEATURES {
+        write!(line, "f{number}=f{} ", number.saturating_add(1))?;
+    }
+    Ok(())
+}
+
+/// Adds the many features of the member `a`, the many packages and one of a long name, which it needs, and `z`, which nobody needs.
+fn push_packages(line: &mut String, long: &str) -> Result<(), Fail> {
+    line.push('a')?;
+    push_names(line, " ", "")?;
+    write!(line, " {long};")?;
+    push_features(line)?;
+    line.push_str("f6000=")?;
+    push_names(line, "|", "")?;
+    write!(line, "|{long}|z")?;
+    Ok(())
+}
+
+/// The text of a document of these packages.
+pub fn large_document(alloc: Global) -> Result<String, Fail> {
+    let long = long_name(alloc)?;
+    let mut line = String::new(alloc);
+    push_packages(&mut line, long.as_str())?;
+    document(alloc, line.as_str())
+}
