@@ -3,69 +3,78 @@
 #
 #     scripts/try_tests.sh [CRATE..]
 #
-# Without a name: those of all crates. A program is run on its stdin with its args, and has to write its stdout. As many run side by
-# side as there are processors. Tests that start their own program aren't run: a program that isn't proved is started by a loader, which can't
-# stand in for it, so they are left to the gate.
+# Without a name: those of all crates. A program is run on its stdin with its args, and has to write its stdout and to end with status 0;
+# tests are run by scripts/try_crate.sh. As many crates are tried side by side as there are processors.
 #
-# Prints each test and program that failed, with what it said, and last how many passed, failed and weren't run. The status is 0 where
-# none failed and some passed.
+# Prints each test and program that failed, with what it said, and what is said of a crate whose tests didn't run; last how many passed, failed
+# and weren't run. The status is 0 where all were run and passed, and there was one.
 
 set -euo pipefail
 cd "$(dirname "$0")/.."
 room=$(mktemp -d)
 trap 'rm -rf "$room"' EXIT
 
-# The crates that have tests, and the programs, those of the greatest tests first.
+# Prints each line of these folders at which a test or a program begins, with its file.
+begins() {
+    grep -rsE '^ *#\[test\]|^fn main\(' "$@" --include=*.rt || true
+}
+
+# The crates that have some, those of the most tests first.
 crates=("$@")
 if [ ${#crates[@]} -eq 0 ]; then
-    mapfile -t crates < <(grep -rlE '^ *#\[test\]|^fn main\(' crates/*/src --include=*.rt | cut -d/ -f2 | sort | uniq -c | sort -rn | awk '{print $2}')
+    mapfile -t crates < <(begins crates/*/src | cut -d/ -f2 | sort | uniq -c | sort -rn | awk '{print $2}')
 fi
 
 for crate in "${crates[@]}"; do
-    if ! grep -rqsE '^ *#\[test\]|^fn main\(' "crates/$crate/src" --include=*.rt; then
+    if [ -z "$(begins "crates/$crate/src")" ]; then
         echo "$crate: there is no such crate, or it has no tests and is no program" >&2
         exit 2
     fi
 done
 
-# Runs the tests of a crate, or the program that it is.
-try_one() {
-    local crate=$1 said=$2/$1
-    cd "crates/$crate"
-    if [ -f src/main.rt ]; then
-        local words=()
-        [ ! -f args ] || mapfile -t words < args
-        rt try -- "${words[@]}" < "$([ -f stdin ] && echo stdin || echo /dev/null)" > "$said.out" 2> "$said.err" || true
-        if cmp -s "$said.out" "$([ -f stdout ] && echo stdout || echo /dev/null)"; then
-            echo "test $crate ... ok" > "$said"
-        else
-            { echo "test $crate ... FAILED"; diff "$said.out" stdout | head -5; tail -3 "$said.err"; } > "$said" || true
-        fi
+# Runs the program that a crate is, and tells it as a test is told.
+try_program() {
+    local words=() status=0
+    [ ! -f args ] || mapfile -t words < args
+    rt try -- "${words[@]}" < "$([ -f stdin ] && echo stdin || echo /dev/null)" > "$2.out" 2> "$2.err" || status=$?
+    if [ "$status" -eq 0 ] && cmp -s "$2.out" "$([ -f stdout ] && echo stdout || echo /dev/null)"; then
+        echo "test $1 ... ok"
     else
-        rt try --test > "$said" 2>&1 || true
-        grep -q '^test result: ' "$said" || echo "test $crate ... FAILED" >> "$said"
+        echo "test $1 ... FAILED"
+        diff "$2.out" stdout | head -5
+        tail -3 "$2.err"
     fi
+    echo "test result: "
 }
-export -f try_one
-printf '%s\n' "${crates[@]}" | xargs -P "$(nproc)" -I{} bash -c 'try_one "$1" "$2"' _ {} "$room"
 
-# A test that failed is not run where what it says is that the loader took its first word for a library.
-passed=0 failed=0 left=0
+# Runs the program that a crate is, and its tests.
+try_one() {
+    cd "crates/$1"
+    [ ! -f src/main.rt ] || try_program "$1" "$2/$1"
+    grep -rqE '^ *#\[test\]' src --include=*.rt && ../../scripts/try_crate.sh 2>&1
+}
+export -f try_program try_one
+printf '%s\n' "${crates[@]}" | xargs -P "$(nproc)" -I{} bash -c 'try_one "$1" "$2" > "$2/$1" || true' _ {} "$room"
+
+passed=0 failed=0 wanted=0
 for crate in "${crates[@]}"; do
     counts=$(awk -v crate="$crate" '
         function ended() {
-            if (name == "") return
-            if (said ~ /error while loading shared libraries/) left++
-            else { failed++; print crate ": " said > "/dev/stderr" }
+            if (name != "") { failed++; print crate ": " said > "/dev/stderr" }
             name = ""
         }
+        { all = all $0 "\n" }
         /^test .* \.\.\. / { ended(); if (/ok$/) passed++; else { name = $2; said = $0 }; next }
-        /^test result: / { ended(); next }
+        /^test result: / { ended(); told = 1; next }
         name != "" { said = said "\n" $0 }
-        END { ended(); print passed + 0, failed + 0, left + 0 }
+        END {
+            ended()
+            if (!told) printf "%s: not all run\n%s", crate, all > "/dev/stderr"
+            print passed + 0, failed + 0
+        }
     ' "$room/$crate")
-    read -r good bad rest <<< "$counts"
-    passed=$((passed + good)) failed=$((failed + bad)) left=$((left + rest))
+    read -r good bad <<< "$counts"
+    passed=$((passed + good)) failed=$((failed + bad)) wanted=$((wanted + $(begins "crates/$crate/src" | wc -l)))
 done
-echo "$passed passed, $failed failed, $left not run, as they start their own program"
-[ "$failed" -eq 0 ] && [ "$passed" -gt 0 ]
+echo "$passed passed, $failed failed, $((wanted - passed - failed)) not run"
+[ "$passed" -eq "$wanted" ] && [ "$passed" -gt 0 ]
