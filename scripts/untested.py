@@ -28,6 +28,8 @@ LAWS = ("laws.rt", "comparisons.rt")
 SHOWN_BY = {
     # the line that a command reads of what cargo wrote
     "MetadataCommand::json_line": ("first_object_line",),
+    # the id is all that a listing keeps of a package
+    "run": ("Package::into_id",),
     # what a setting has is asked of the setting
     "ignores": ("IgnoredKinds::with", "IgnoredKinds::has"),
     # a checker with an index looks at the corrected document

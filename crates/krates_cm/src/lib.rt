@@ -5,6 +5,7 @@ pub mod copies;
 pub mod dependency;
 pub mod error;
 pub mod laws;
+pub mod letting_go;
 pub mod metadata;
 pub mod names;
 pub mod package;
