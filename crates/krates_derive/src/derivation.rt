@@ -1,11 +1,7 @@
 //! Facts, and lists of steps by which they follow.
 
-ghost use Rattle.std.specs.Prelude.{◌≡◌};
-
 use krates_ids::Kid;
 use krates_rules::DepKind;
-use std::alloc::AllocError;
-use thiserror::Error;
 
 /// A fact about crates, features and edges that the rules of resolution derive.
 #[derive(Debug, Drop)]
@@ -57,34 +53,4 @@ pub struct Step {
 pub struct Derivation {
     /// The steps.
     pub steps: Vec<Step>,
-}
-
-/// Why a list of steps or of facts isn't accepted.
-#[derive(Clone, Copy, Debug, PartialEq, Eq, Error)]
-pub enum CheckError {
-    /// The document isn't admitted: it has no resolved graph, an id that isn't read, or a doubled one.
-    #[error("bad document")]
-    Document,
-    /// There is no step.
-    #[error("empty derivation")]
-    Empty,
-    /// The first step that doesn't follow.
-    #[error("step {0} does not follow")]
-    Step(usize),
-    /// Memory ran out.
-    #[error("out of memory")]
-    Memory,
-    /// A fact that follows from the list isn't in it.
-    #[error("open list")]
-    Open,
-}
-
-impl From<AllocError> for CheckError {
-    ghost use Rattle.krates_derive.specs.declared.derivation.CheckError.TheVariants.{Memory};
-
-    ghost from_gives = { λ _ error. error ≡ Memory };
-
-    fn from(_: AllocError) -> CheckError {
-        CheckError::Memory
-    }
 }

@@ -320,7 +320,7 @@ fn is_toggled<'a>(
 // ---- by the number of premises
 
 /// Whether a fact follows by the rule from nothing.
-pub(crate) fn from_nothing<'a>(basis: &Basis<'a, '_>, rule: u8, fact: &'a Fact) -> bool
+pub fn from_nothing<'a>(basis: &Basis<'a, '_>, rule: u8, fact: &'a Fact) -> bool
     ensures { IsTrue result ↔ Rule (rules_of basis.now) rule [] (fact_view fact.now) }
 {
     match lent(fact) {
@@ -406,7 +406,7 @@ fn from_toggle<'a>(
 }
 
 /// Whether a fact follows by the rule from another.
-pub(crate) fn from_one<'a>(
+pub fn from_one<'a>(
     basis: &Basis<'a, '_>,
     rule: u8,
     premise: &'a Fact,
@@ -463,7 +463,7 @@ fn toggle_from_two<'a>(
 }
 
 /// Whether a fact follows by the rule from two others.
-pub(crate) fn from_two<'a>(
+pub fn from_two<'a>(
     basis: &Basis<'a, '_>,
     rule: u8,
     first: &'a Fact,

@@ -15,7 +15,7 @@ use std::alloc::AllocError;
 
 /// An edge as a fact tells it.
 #[derive(Clone, Copy)]
-pub(crate) struct ToldEdge<'a> {
+pub struct ToldEdge<'a> {
     /// The crate that has the dependency.
     pub parent: &'a Kid,
     /// The crate that it depends on.

@@ -2,7 +2,8 @@
 
 use crate::facts::steps_of;
 use crate::lists::{Ask, Given, List, OfLine, Steps, list_in};
-use krates_derive::{CheckError, Derivation, check};
+use krates_check::{CheckError, check};
+use krates_derive::Derivation;
 use krates_document::Setting;
 use krates_samples::table::{Row, hold};
 use std::alloc::Global;

@@ -2,7 +2,8 @@
 
 use crate::facts::{facts_of, push_fact, told};
 use crate::lists::{Ask, Checked, Facts, Given, List, OfLine, list_in};
-use krates_derive::{Fact, check_closed};
+use krates_check::check_closed;
+use krates_derive::Fact;
 use krates_document::Setting;
 use krates_samples::table::{Row, hold};
 use std::alloc::Global;

@@ -10,7 +10,8 @@
 //! ends with the section `steps` or the section `facts`.
 
 use crate::lists::Sections;
-use krates_derive::{CheckError, Derivation, Fact, Step};
+use krates_check::CheckError;
+use krates_derive::{Derivation, Fact, Step};
 use krates_document::Setting;
 use krates_ids::Kid;
 use krates_rules::{DepKind, Scope};

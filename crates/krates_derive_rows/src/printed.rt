@@ -1,8 +1,8 @@
 //! What is printed: lists of steps, a step a line, and the refusals of the checkers.
 
 use crate::facts::steps_of;
+use krates_check::CheckError;
 use krates_cli::derivation_lines::lines_of;
-use krates_derive::CheckError;
 use krates_samples::table::{Question, Row, hold};
 use std::alloc::Global;
 use std::test::Fail;
