@@ -33,7 +33,7 @@ SHOWN_BY = {
     # a checker with an index looks at the corrected document, and asks what each fact of a list gives
     "check_closed": (
         "corrected Document::means are_roots_in is_crate_in is_kept_in are_simple_in are_toggling_in are_asked_in FactSet::of FactSet::has_crate"
-        " FactSet::has_feature"
+        " FactSet::has_feature let_go"
     ).split(),
     # one step is asked by the number of its premises
     "check": ("from_nothing", "from_one", "from_two"),

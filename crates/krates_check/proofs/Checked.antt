@@ -5,8 +5,8 @@ use Rattle.std.proofs.lemmas.Option.{slice_get-map, slice_get-get_or, same_Some}
 use Rattle.std.specs.List.{AllZip, slice_get}
 use Rattle.krates_cm.specs.Document.{MetadataModel}
 use Rattle.krates_check.specs.Using.{using}
-use Rattle.krates_derive.specs.Told.{fact_view, step_view, steps_view}
-use Rattle.krates_derive.specs.declared.derivation.Step.{Step}
+use Rattle.krates_rules.specs.StepViews.{fact_view, step_view, steps_view}
+use Rattle.krates_rules.specs.declared.derivation.Step.{Step}
 use Rattle.krates_rules.specs.Admission.{IdsModel, IsAdmitted}
 use Rattle.krates_rules.specs.Checks.{Answers}
 use Rattle.krates_rules.specs.Facts.{Fact}

@@ -1,7 +1,7 @@
 -- A caller's step with other uses.
 use Rattle.std.specs.Prelude.{ℕ, List}
-use Rattle.krates_derive.specs.Told.{fact_view}
-use Rattle.krates_derive.specs.declared.derivation.Step.{Step}
+use Rattle.krates_rules.specs.StepViews.{fact_view}
+use Rattle.krates_rules.specs.declared.derivation.Step.{Step}
 use Rattle.krates_rules.specs.Steps.{StepModel}
 
 abbrev pub using : Step → List ℕ → StepModel

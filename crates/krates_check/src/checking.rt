@@ -6,12 +6,12 @@ ghost use Rattle.krates_derive.specs.Basis.{rules_of};
 ghost use Rattle.krates_check.specs.Refusals.{IsCheckRefused, IsClosedRefused, IsRefusedThrough, IsStepFault, IsUnread};
 ghost use Rattle.krates_check.specs.SeenThrough.{SeesThrough, answer_of};
 ghost use Rattle.krates_check.specs.Using.{using};
-ghost use Rattle.krates_derive.specs.Told.{facts_view, step_view, steps_view};
 ghost use Rattle.krates_document.specs.Ids.{ids_view};
 ghost use Rattle.krates_ids.specs.Correction.{index_view};
 ghost use Rattle.krates_rules.specs.Admission.{IsAdmitted};
 ghost use Rattle.krates_rules.specs.Checks.{Answers, IsAcceptedFor, IsClosedFor};
 ghost use Rattle.krates_rules.specs.Derivation.{IsClosed};
+ghost use Rattle.krates_rules.specs.StepViews.{facts_view, step_view, steps_view};
 ghost use Rattle.krates_rules.specs.Steps.{EachFollows, StepFollows};
 
 use crate::check_error::CheckError;
@@ -20,10 +20,11 @@ use crate::seen_through::seen_through;
 use krates_cm::Metadata;
 use krates_derive::basis::Basis;
 use krates_derive::following::{from_nothing, from_one, from_two};
-use krates_derive::{Derivation, Fact, Step};
+use krates_document::corrected_document::let_go;
 use krates_document::{Ids, Setting, admit};
 use krates_ids::{CachingIndex, Error};
 use krates_questions::Document;
+use krates_rules::{Derivation, Fact, Step};
 use std::alloc::{AllocError, Global};
 
 /// Checks a list of steps for a document and a setting: the document is admitted, there is a step, and each step follows by its
@@ -99,7 +100,9 @@ fn check_corrected(
         (λ m. IsCheckRefused m setting.now (steps_view derivation.now.steps.items))) }
 {
     let seen = seen_through(alloc, index, metadata)?;
-    check_seen(alloc, &seen, setting, derivation)
+    let told = check_seen(alloc, &seen, setting, derivation);
+    let_go(seen);
+    told
 }
 
 /// Checks a list of facts for a document as an index corrects it.
@@ -116,7 +119,9 @@ fn check_closed_corrected(
         (metadata_view metadata.now) (λ m. IsClosedRefused m setting.now (facts_view facts.now))) }
 {
     let seen = seen_through(alloc, index, metadata)?;
-    check_closed_seen(alloc, &seen, setting, facts)
+    let told = check_closed_seen(alloc, &seen, setting, facts);
+    let_go(seen);
+    told
 }
 
 /// Checks a list of steps for a document as it is.

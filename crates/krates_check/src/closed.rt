@@ -7,11 +7,10 @@ ghost use Rattle.std.specs.Prelude.{◌↔◌, IfOk, IsTrue};
 ghost use Rattle.krates_derive.specs.Basis.{rules_of};
 ghost use Rattle.krates_derive.specs.Claim.{document_in, facts_in};
 ghost use Rattle.krates_derive.specs.Giving.{AllIn, FactIn, FeatureIn};
-ghost use Rattle.krates_derive.specs.Told.{fact_view, facts_view};
 ghost use Rattle.krates_rules.specs.Derivation.{IsClosed};
 ghost use Rattle.krates_rules.specs.Resolved.{id_of};
+ghost use Rattle.krates_rules.specs.StepViews.{fact_view, facts_view};
 
-use krates_derive::Fact;
 use krates_derive::basis::Basis;
 use krates_derive::closing::{
     Claim, are_asked_in, are_roots_in, are_simple_in, are_toggling_in, is_crate_in, is_kept_in,
@@ -19,6 +18,7 @@ use krates_derive::closing::{
 use krates_derive::fact_set::FactSet;
 use krates_derive::told::ToldEdge;
 use krates_ids::Kid;
+use krates_rules::Fact;
 use std::alloc::AllocError;
 
 /// Whether a list is closed.

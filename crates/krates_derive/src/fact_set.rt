@@ -3,13 +3,13 @@
 ghost use Rattle.std.specs.Prelude.{◌≡◌, ◌↔◌, ◌∷◌, ◌++◌, [], Contains, IfOk, IsTrue, List, OnOk};
 ghost use Rattle.krates_derive.specs.FactKey.{key_view};
 ghost use Rattle.krates_derive.specs.FactSet.{HasBetween, HasKeys, HasPairs};
-ghost use Rattle.krates_derive.specs.Told.{fact_view, facts_view};
 ghost use Rattle.krates_rules.specs.Facts.{Crate, Fact as FactModel, Feature};
 ghost use Rattle.krates_rules.specs.Resolved.{id_of};
+ghost use Rattle.krates_rules.specs.StepViews.{fact_view, facts_view};
 
-use crate::derivation::Fact;
 use crate::fact_key::{FactKey, Pair, key_of};
 use krates_ids::{Kid, laws};
+use krates_rules::Fact;
 use std::alloc::{AllocError, Global};
 use std::collections::BTreeSet;
 use std::marker::Model;
@@ -28,8 +28,8 @@ pub struct FactSet<'a> {
 impl<'a> Model for FactSet<'a> {
     ghost use Rattle.std.specs.Prelude.{List};
     ghost use Rattle.krates_derive.specs.FactSet.{HasKeys, HasPairs};
-    ghost use Rattle.krates_derive.specs.Told.{facts_view};
-    ghost use Rattle.krates_derive.specs.declared.derivation.Fact.{Fact};
+    ghost use Rattle.krates_rules.specs.StepViews.{facts_view};
+    ghost use Rattle.krates_rules.specs.declared.derivation.Fact.{Fact};
 
     ghost Value = { List Fact };
 

@@ -4,21 +4,22 @@ ghost use Rattle.std.specs.Prelude.{◌≡◌, ◌↔◌, ◌∷◌, [], Contain
 ghost use Rattle.krates_cm.specs.Document.{dependency_view, text_view};
 ghost use Rattle.krates_derive.specs.Basis.{document_of, rules_of};
 ghost use Rattle.krates_derive.specs.Following.{AsksDefault, AsksFeature, AsksForFeature, IsAskedBy, IsChildWith, IsNamedBy, IsRooted, IsRootedFeature, MayKeep, MustKeep, TogglesOver};
-ghost use Rattle.krates_derive.specs.Told.{fact_view, told_edge, told_feature, told_toggle, told_fact};
+ghost use Rattle.krates_derive.specs.Told.{told_edge, told_feature, told_toggle, told_fact};
 ghost use Rattle.krates_questions.specs.DocumentModel.{as_resolved};
 ghost use Rattle.krates_questions.specs.Need.{TellsDeclaration, TellsNeed};
 ghost use Rattle.krates_rules.specs.Facts.{Crate, Feature, Kept};
 ghost use Rattle.krates_rules.specs.Resolved.{id_of};
 ghost use Rattle.krates_rules.specs.Rules.{Rule};
+ghost use Rattle.krates_rules.specs.StepViews.{fact_view};
 
 use crate::basis::Basis;
-use crate::derivation::Fact;
 use crate::referring::{asks, names, toggles};
 use crate::told::{Told, ToldEdge, ToldFeature, ToldToggle, info_of, is_same, lent};
 use krates_cm::Dependency;
 use krates_document::Setting;
 use krates_ids::Kid;
 use krates_questions::{Document, Need};
+use krates_rules::Fact;
 use std::alloc::{AllocError, Global};
 
 // ---- edges

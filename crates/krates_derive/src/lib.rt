@@ -4,11 +4,8 @@
 
 pub mod basis;
 pub mod closing;
-pub mod derivation;
 mod fact_key;
 pub mod fact_set;
 pub mod following;
 mod referring;
 pub mod told;
-
-pub use derivation::{Derivation, Fact, Step};

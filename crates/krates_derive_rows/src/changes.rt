@@ -3,8 +3,8 @@
 use crate::facts::steps_of;
 use crate::lists::{Ask, Given, List, OfLine, Steps, list_in};
 use krates_check::{CheckError, check};
-use krates_derive::Derivation;
 use krates_document::Setting;
+use krates_rules::Derivation;
 use krates_samples::table::{Row, hold};
 use std::alloc::Global;
 use std::test::Fail;

@@ -3,8 +3,8 @@
 use crate::facts::{facts_of, push_fact, told};
 use crate::lists::{Ask, Checked, Facts, Given, List, OfLine, list_in};
 use krates_check::check_closed;
-use krates_derive::Fact;
 use krates_document::Setting;
+use krates_rules::Fact;
 use krates_samples::table::{Row, hold};
 use std::alloc::Global;
 use std::test::Fail;

@@ -11,10 +11,9 @@
 
 use crate::lists::Sections;
 use krates_check::CheckError;
-use krates_derive::{Derivation, Fact, Step};
 use krates_document::Setting;
 use krates_ids::Kid;
-use krates_rules::{DepKind, Scope};
+use krates_rules::{DepKind, Derivation, Fact, Scope, Step};
 use krates_samples::documents::{kid_of, kind_named};
 use krates_samples::settings::package_specs;
 use std::alloc::{AllocError, Global};

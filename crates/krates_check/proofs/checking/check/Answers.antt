@@ -2,7 +2,7 @@ use Rattle.std.proofs.Common.{None, refl}
 use Rattle.std.proofs.lemmas.Result.{IfErr-weaker, on_ok_weaker}
 use Rattle.krates_cm.specs.Document.{metadata_view}
 use Rattle.krates_check.specs.Refusals.{IsCheckRefused}
-use Rattle.krates_derive.specs.Told.{steps_view}
+use Rattle.krates_rules.specs.StepViews.{steps_view}
 use Rattle.krates_rules.specs.Checks.{IsAcceptedFor}
 use Rattle.krates_check.proofs.Through.{refused_through, sees}
 use Rattle.krates_check.proofs.checking.check.Goals as goal

@@ -2,8 +2,8 @@ use Rattle.std.proofs.Common.{◌≡◌, ◌<◌, ◌∙◌, List, length, subst
 use Rattle.std.proofs.lemmas.List.{length-map}
 use Rattle.std.proofs.lemmas.Result.{on_ok_weaker}
 use Rattle.krates_cm.specs.Document.{metadata_view}
-use Rattle.krates_derive.specs.Told.{step_view, steps_view}
-use Rattle.krates_derive.specs.declared.derivation.Step.{Step}
+use Rattle.krates_rules.specs.StepViews.{step_view, steps_view}
+use Rattle.krates_rules.specs.declared.derivation.Step.{Step}
 use Rattle.krates_document.specs.Ids.{ids_view}
 use Rattle.krates_questions.specs.DocumentModel.{as_resolved}
 use Rattle.krates_rules.specs.Questions.{questions}

@@ -1,6 +1,6 @@
 use Rattle.std.proofs.Common.{◌≡◌, ℕ, ◌<◌, Some}
 use Rattle.std.specs.List.{slice_get}
-use Rattle.krates_derive.specs.Told.{steps_view}
+use Rattle.krates_rules.specs.StepViews.{steps_view}
 use Rattle.krates_rules.specs.Steps.{StepModel, StepFollows}
 use Rattle.krates_derive.specs.Basis.{rules_of}
 use Rattle.krates_check.proofs.checking.check_steps.Given as goal

@@ -1,7 +1,7 @@
 use Rattle.std.proofs.Common.{◌↔◌, IsTrue, subst}
 use Rattle.std.proofs.lemmas.Result.{IfOk-weaker}
 use Rattle.krates_derive.specs.Basis.{rules_of}
-use Rattle.krates_derive.specs.Told.{steps_view}
+use Rattle.krates_rules.specs.StepViews.{steps_view}
 use Rattle.krates_rules.specs.Steps.{StepModel, StepFollows}
 use Rattle.krates_check.proofs.Checked.{one_used, two_used, many_used}
 use Rattle.krates_check.proofs.checking.follows.Goals as goal

@@ -1,7 +1,7 @@
 use Rattle.std.proofs.Common.{◌↔◌, IsTrue}
 use Rattle.std.proofs.lemmas.Result.{IfOk-weaker}
 use Rattle.krates_cm.specs.Document.{metadata_view}
-use Rattle.krates_derive.specs.Told.{facts_view}
+use Rattle.krates_rules.specs.StepViews.{facts_view}
 use Rattle.krates_document.specs.Ids.{ids_view}
 use Rattle.krates_questions.specs.DocumentModel.{as_resolved}
 use Rattle.krates_rules.specs.Derivation.{IsClosed}

@@ -1,7 +1,7 @@
 use Rattle.std.proofs.Common.{refl}
 use Rattle.krates_derive.specs.Giving.{FactIn}
-use Rattle.krates_derive.specs.Told.{fact_view}
-use Rattle.krates_derive.specs.declared.derivation.Fact.{Fact as ToldFact}
+use Rattle.krates_rules.specs.StepViews.{fact_view}
+use Rattle.krates_rules.specs.declared.derivation.Fact.{Fact as ToldFact}
 use Rattle.krates_derive.specs.Claim.{document_in, facts_in}
 use Rattle.krates_rules.specs.Facts.{Fact}
 use Rattle.krates_derive.proofs.Places.{contains_read}

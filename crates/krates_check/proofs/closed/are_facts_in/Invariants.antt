@@ -1,5 +1,5 @@
 use Rattle.krates_derive.specs.Giving.{FactIn}
-use Rattle.krates_derive.specs.Told.{fact_view}
+use Rattle.krates_rules.specs.StepViews.{fact_view}
 use Rattle.krates_derive.proofs.Seen.{SeenBelow}
 use Rattle.krates_derive.specs.Claim.{document_in, facts_in}
 use Rattle.krates_check.proofs.closed.are_facts_in.Given as goal

@@ -2,7 +2,7 @@ use Rattle.std.proofs.Common.{List, Bor, ap, sym, subst}
 use Rattle.std.proofs.lemmas.Result.{IfOk-weaker}
 use Rattle.krates_derive.specs.Basis.{document_of}
 use Rattle.krates_derive.specs.Giving.{AllIn, TheseRootsIn}
-use Rattle.krates_derive.specs.Told.{facts_view}
+use Rattle.krates_rules.specs.StepViews.{facts_view}
 use Rattle.krates_ids.specs.Identity.{Identity}
 use Rattle.krates_questions.specs.DocumentAnswers.{lent_ids}
 use Rattle.krates_rules.specs.Facts.{Fact}

@@ -1,7 +1,7 @@
 //! Facts, and lists of steps by which they follow.
 
+use crate::kind::DepKind;
 use krates_ids::Kid;
-use krates_rules::DepKind;
 
 /// A fact about crates, features and edges that the rules of resolution derive.
 #[derive(Debug, Drop)]
