@@ -32,8 +32,13 @@ SHOWN_BY = {
     "run": ("Package::into_id",),
     # what a setting has is asked of the setting
     "ignores": ("IgnoredKinds::with", "IgnoredKinds::has"),
-    # a checker with an index looks at the corrected document
-    "check_closed": ("corrected", "Document::means"),
+    # a checker with an index looks at the corrected document, and asks what each fact of a list gives
+    "check_closed": (
+        "corrected Document::means are_roots_in is_crate_in is_kept_in are_simple_in are_toggling_in are_asked_in FactSet::of FactSet::has_crate"
+        " FactSet::has_feature let_go"
+    ).split(),
+    # one step is asked by the number of its premises
+    "check": ("from_nothing", "from_one", "from_two"),
     # as what an edge is declared: by name, version and source
     "Document::declared": (
         "version_of declared_of is_name_of folded_order named_places places_under declared_at declared_places places_for entry_at parts_of"

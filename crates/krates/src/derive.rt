@@ -6,16 +6,17 @@
 
 ghost use Rattle.std.specs.Prelude.{IfErr, OnOk};
 ghost use Rattle.krates_cm.specs.Document.{metadata_view};
-ghost use Rattle.krates_derive.specs.Refusals.{IsCheckRefused, IsClosedRefused, IsRefusedThrough};
-ghost use Rattle.krates_derive.specs.SeenThrough.{SeesThrough, answer_of};
-ghost use Rattle.krates_derive.specs.Told.{facts_view, steps_view};
+ghost use Rattle.krates_check.specs.Refusals.{IsCheckRefused, IsClosedRefused, IsRefusedThrough};
+ghost use Rattle.krates_check.specs.SeenThrough.{SeesThrough, answer_of};
 ghost use Rattle.krates_rules.specs.Checks.{IsAcceptedFor, IsClosedFor};
+ghost use Rattle.krates_rules.specs.StepViews.{facts_view, steps_view};
 
 use crate::builder::Builder;
+pub use krates_check::CheckError;
+use krates_check::checking;
 use krates_cm::Metadata;
-use krates_derive::checking;
-pub use krates_derive::{CheckError, Derivation, Fact, Step};
 use krates_ids::CachingIndex;
+pub use krates_rules::{Derivation, Fact, Step};
 
 /// Checks a list of steps for a document and what a builder has set: the document is admitted, there is a step, and each step
 /// follows by its rule from the facts of the earlier steps that it uses, in the order of the rule. So the fact of each step,

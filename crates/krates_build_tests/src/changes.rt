@@ -2,8 +2,9 @@
 
 use crate::facts::steps_of;
 use crate::lists::{Ask, Given, List, OfLine, Steps, list_in};
-use krates_derive::{CheckError, Derivation, check};
+use krates_check::{CheckError, check};
 use krates_document::Setting;
+use krates_rules::Derivation;
 use krates_samples::table::{Row, hold};
 use std::alloc::Global;
 use std::test::Fail;

@@ -2,9 +2,10 @@
 
 use crate::facts::{Own, facts_of, told};
 use crate::lists::{Ask, Checked, Facts, Given, List, OfLine, list_in};
-use krates_derive::{Fact, check_closed};
+use krates_check::check_closed;
 use krates_document::Setting;
 use krates_samples::facts::push_fact;
+use krates_rules::Fact;
 use krates_samples::table::{Row, hold};
 use std::alloc::Global;
 use std::test::Fail;

@@ -4,10 +4,10 @@
 //! ends with the section `steps` or the section `facts`.
 
 use crate::lists::Sections;
-use krates_derive::{CheckError, Derivation, Fact, Step};
+use krates_check::CheckError;
 use krates_document::Setting;
 use krates_ids::Kid;
-use krates_rules::{DepKind, Scope};
+use krates_rules::{DepKind, Derivation, Fact, Scope, Step};
 use krates_samples::documents::{kind_named, word_of};
 use krates_samples::facts;
 use krates_samples::settings::package_specs;

@@ -87,7 +87,7 @@ impl List for Steps {
         let steps = steps_of(given.alloc, text)?;
         told(
             given.alloc,
-            krates_derive::check(given.alloc, given.metadata, given.set, index, &steps),
+            krates_check::check(given.alloc, given.metadata, given.set, index, &steps),
         )
     }
 
@@ -114,7 +114,7 @@ impl List for Facts {
         let facts = facts_of(given.alloc, text)?;
         told(
             given.alloc,
-            krates_derive::check_closed(given.alloc, given.metadata, given.set, index, &facts),
+            krates_check::check_closed(given.alloc, given.metadata, given.set, index, &facts),
         )
     }
 

@@ -11,7 +11,7 @@ use Rattle.krates_cm.specs.declared.metadata.Metadata.{Metadata}
 use Rattle.krates_cm.specs.declared.package.Package.{Package}
 use Rattle.krates_cm_json.specs.Parsing.{IsDocument, IsRefusal}
 use Rattle.krates_cm_json.specs.Tables.{metadata}
-use Rattle.krates_derive.specs.Told.{steps_view}
+use Rattle.krates_rules.specs.StepViews.{steps_view}
 use Rattle.krates_ids.specs.Identity.{Identity, Reads}
 use Rattle.krates_ids.specs.declared.error.Error as build
 use Rattle.krates_ids.specs.declared.error.Error.TheVariants as build_errors

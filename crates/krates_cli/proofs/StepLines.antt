@@ -3,7 +3,7 @@ use Rattle.std.proofs.Common.{◌≡◌, ℕ, zero, suc, ◌+◌, ◌<◌, ◌�
 use Rattle.std.specs.Fmt.{decimal}
 use Rattle.std.proofs.lemmas.List.{append-nil, append_assoc, length-take, take_more, get_or_default}
 use Rattle.krates_cm.specs.Document.{Text}
-use Rattle.krates_derive.specs.declared.derivation.Step.{Step}
+use Rattle.krates_rules.specs.declared.derivation.Step.{Step}
 use Rattle.krates_cli.specs.DerivationLines.{further_uses, lines_from, step_line}
 
 lines_append : (k : ℕ) (xs : List Step) (x : Step) → lines_from k (xs ++ x ∷ []) ≡ lines_from k xs ++ step_line (k + length xs) x

@@ -2,9 +2,9 @@
 use Rattle.std.specs.Prelude.{ℕ, ◌+◌, List, [], ◌∷◌, ◌++◌, Option, Some, None, codes, option_map}
 use Rattle.std.specs.Fmt.{decimal}
 use Rattle.krates_cm.specs.Document.{Text, text_view}
-use Rattle.krates_derive.specs.declared.derivation.Fact.{Fact}
-use Rattle.krates_derive.specs.declared.derivation.Fact.TheVariants as facts
-use Rattle.krates_derive.specs.declared.derivation.Step.{Step}
+use Rattle.krates_rules.specs.declared.derivation.Fact.{Fact}
+use Rattle.krates_rules.specs.declared.derivation.Fact.TheVariants as facts
+use Rattle.krates_rules.specs.declared.derivation.Step.{Step}
 use Rattle.krates_rules.specs.declared.kind.DepKind.{DepKind}
 use Rattle.krates_rules.specs.declared.kind.DepKind.TheVariants as kinds
 

@@ -1,8 +1,8 @@
 -- Why a crate of a document is kept, as it is told.
 use Rattle.std.specs.Prelude.{◌≡◌, ℕ, ◌+◌, ◌<◌, List, All, length, ⊤}
 use Rattle.krates_cm.specs.Document.{MetadataModel, Text}
-use Rattle.krates_derive.specs.Told.{steps_view}
-use Rattle.krates_derive.specs.declared.derivation.Step.{Step}
+use Rattle.krates_rules.specs.StepViews.{steps_view}
+use Rattle.krates_rules.specs.declared.derivation.Step.{Step}
 use Rattle.krates_explain.specs.Explanation.{HasTheseIds}
 use Rattle.krates_ids.specs.Identity.{Identity}
 use Rattle.krates_rules.specs.Checks.{IsAcceptedFor}

@@ -1,23 +1,15 @@
--- What a document gives from single facts, and when all of that stands in a list.
-use Rattle.std.proofs.Common.{◌≡◌, ◌↔◌, List, [], ◌∷◌, Bool, true, false, IsTrue, Contains, inl, inr, refl, sym, subst}
+-- What a document gives from single edges and references, and when all of that stands in a list.
+use Rattle.std.proofs.Common.{◌≡◌, ◌↔◌, List, Bool, true, false, IsTrue, Contains, refl, subst}
 use Rattle.krates_cm.specs.Document.{Text, DependencyModel, DepKindInfoModel}
-use Rattle.krates_derive.specs.Giving.{AskedAmongIn, AskedByIn, AskedIn, EdgesToIn, NamedIn, ToggledIn, IsTaken, ChildIn, EdgeIn, RootsIn, CrateIn, FeatureIn, KeptIn, FactIn, ValueIn, DepIn}
-use Rattle.krates_derive.specs.Referring.{Asks, toggling}
-use Rattle.krates_derive.proofs.ReferenceForms.{asks_nothing, one_form}
-use Rattle.krates_text.specs.FeatureReference.{Reference, IsReference, HasOneReading, krate, strong, weak, simple}
-use Rattle.krates_rules.specs.Facts.{Id, Edge, Fact, Cause, Crate, Feature, Kept, Toggled, Lost}
-use Rattle.krates_rules.specs.Features.{HasReference}
-use Rattle.krates_lookups.specs.FeatureValues.{AreValuesOf}
-use Rattle.krates_rules.specs.Derivation.{Among, IsClosed}
+use Rattle.krates_derive.specs.Giving.{AskedByIn, EdgesToIn, NamedIn, IsTaken, ChildIn, EdgeIn, SimpleIn, TogglingIn, DepIn}
+use Rattle.krates_derive.specs.Referring.{toggling}
+use Rattle.krates_derive.proofs.ReferenceForms.{asks_nothing, not_simple, one_form}
+use Rattle.krates_text.specs.FeatureReference.{Reference, IsReference, HasOneReading, strong, weak, simple}
+use Rattle.krates_rules.specs.Facts.{Id, Edge, Fact, Kept}
 use Rattle.krates_rules.specs.Referent.{IsReferent}
 use Rattle.krates_rules.specs.References.{Demands}
-use Rattle.krates_rules.specs.Rules.{IsAskedFor, root_crate, root_feature, lost_root_package, lost_root_node, feature_crate, named, lost_named, asked, toggled_strongly, lost_asked_package, lost_asked_node, lost_toggled_strongly, required, target, lost_undeclared, lost_required_package, lost_required_node, declared, by_default, lost_declared, toggled_weakly, toggled_feature, lost_toggled_weakly}
-use Rattle.krates_derive.specs.Told.{facts_view, fact_view}
-use Rattle.krates_derive.specs.declared.derivation.Fact.{Fact as ToldFact}
-use Rattle.krates_derive.specs.declared.derivation.Fact.TheVariants as told
-use Rattle.krates_derive.proofs.Places.{seen_at, place_in}
 use Rattle.krates_questions.specs.Need.{IsWantedAs, NotWanted, ListsKind, HasChild}
-use Rattle.krates_rules.specs.Questions.{edge_between, Stands, IsLoose, questions}
+use Rattle.krates_rules.specs.Questions.{edge_between, Stands, IsLoose}
 use Rattle.krates_rules.specs.Resolved.{Resolved}
 use Rattle.krates_rules.specs.Setting.{SettingModel}
 
@@ -70,29 +62,24 @@ not_toggling : {text : Text} → HasOneReading text → (a : Reference) → IsRe
 not_toggling h a x not_strong not_weak true dep g y = not_weak dep g (one_form h _ _ x y)
 not_toggling h a x not_strong not_weak false dep g y = not_strong dep g (one_form h _ _ x y)
 
-pub value_simple : {text : Text} → HasOneReading text → (r : Resolved) (s : SettingModel) (fs : List Fact) (p : Id) (name : Text) (b : Bool) → IsReference text (simple name) → (IsTrue b ↔ NamedIn r fs p name) → IsTrue b ↔ ValueIn r s fs p text
-value_simple {text} h r s fs p name b x told = (
-  λ t. record {
-    named = λ g y. subst (λ n. NamedIn r fs p n) (let e : simple name ≡ simple g = one_form h _ _ x y in cc) (told.0 t);
-    toggled = λ weakly dep g y. absurd (not_toggling h (simple name) x (λ d n e. absurd cc) (λ d n e. absurd cc) weakly dep g y);
-  },
-  λ v. told.1 (v.named name x),
+-- a reference that is a feature of its own crate
+pub simple_in : {text : Text} → HasOneReading text → (r : Resolved) (fs : List Fact) (p : Id) (name : Text) (b : Bool) → IsReference text (simple name) → (IsTrue b ↔ NamedIn r fs p name) → IsTrue b ↔ SimpleIn r fs p text
+simple_in {text} h r fs p name b x told = (
+  λ t g y. subst (λ n. NamedIn r fs p n) (let e : simple name ≡ simple g = one_form h _ _ x y in cc) (told.0 t),
+  λ v. told.1 (v name x),
 )
 
-pub value_krate : {text : Text} → HasOneReading text → (r : Resolved) (s : SettingModel) (fs : List Fact) (p : Id) (name : Text) → IsReference text (krate name) → ValueIn r s fs p text
-value_krate {text} h r s fs p name x = record {
-  named = λ g y. absurd (let e : krate name ≡ simple g = one_form h _ _ x y in cc);
-  toggled = λ weakly dep g y. absurd (not_toggling h (krate name) x (λ d n e. absurd cc) (λ d n e. absurd cc) weakly dep g y);
-}
+-- a reference of another form names none
+pub simple_nothing : {text : Text} → HasOneReading text → (r : Resolved) (fs : List Fact) (p : Id) (a : Reference) → IsReference text a → ((n : Text) → a ≡ simple n → ⊥) → SimpleIn r fs p text
+simple_nothing {text} h r fs p a x other g y = absurd (not_simple h a g x other y)
 
-pub value_strong : {text : Text} → HasOneReading text → (r : Resolved) (s : SettingModel) (fs : List Fact) (p : Id) (dep g : Text) (b : Bool) → IsReference text (strong dep g) → (IsTrue b ↔ DepIn r s fs p dep g) → IsTrue b ↔ ValueIn r s fs p text
-value_strong {text} h r s fs p dep g b x told = (
-  λ t. record {
-    named = λ n y. absurd (let e : strong dep g ≡ simple n = one_form h _ _ x y in cc);
-    toggled = there t;
-  },
-  λ v. told.1 (v.toggled false dep g x),
-)
+-- a reference to no feature of another crate toggles nothing
+pub toggling_nothing : {text : Text} → HasOneReading text → (r : Resolved) (s : SettingModel) (fs : List Fact) (p : Id) (a : Reference) → IsReference text a
+    → ((d g : Text) → a ≡ strong d g → ⊥) → ((d g : Text) → a ≡ weak d g → ⊥) → TogglingIn r s fs p text
+toggling_nothing {text} h r s fs p a x not_strong not_weak weakly dep g y = absurd (not_toggling h a x not_strong not_weak weakly dep g y)
+
+pub toggling_strong : {text : Text} → HasOneReading text → (r : Resolved) (s : SettingModel) (fs : List Fact) (p : Id) (dep g : Text) (b : Bool) → IsReference text (strong dep g) → (IsTrue b ↔ DepIn r s fs p dep g) → IsTrue b ↔ TogglingIn r s fs p text
+toggling_strong {text} h r s fs p dep g b x told = (there, λ v. told.1 (v false dep g x))
   where
     there : IsTrue b → (weakly : Bool) (d n : Text) → IsReference text (toggling weakly d n) → DepIn r s fs p d n
     there t true d n y = absurd (let e : strong dep g ≡ weak d n = one_form h _ _ x y in cc)
@@ -102,14 +89,8 @@ value_strong {text} h r s fs p dep g b x told = (
         let other : g ≡ n = cc in
         subst (λ m. DepIn r s fs p d m) other (subst (λ m. DepIn r s fs p m g) one (told.0 t))
 
-pub value_weak : {text : Text} → HasOneReading text → (r : Resolved) (s : SettingModel) (fs : List Fact) (p : Id) (dep g : Text) (b : Bool) → IsReference text (weak dep g) → (IsTrue b ↔ DepIn r s fs p dep g) → IsTrue b ↔ ValueIn r s fs p text
-value_weak {text} h r s fs p dep g b x told = (
-  λ t. record {
-    named = λ n y. absurd (let e : weak dep g ≡ simple n = one_form h _ _ x y in cc);
-    toggled = there t;
-  },
-  λ v. told.1 (v.toggled true dep g x),
-)
+pub toggling_weak : {text : Text} → HasOneReading text → (r : Resolved) (s : SettingModel) (fs : List Fact) (p : Id) (dep g : Text) (b : Bool) → IsReference text (weak dep g) → (IsTrue b ↔ DepIn r s fs p dep g) → IsTrue b ↔ TogglingIn r s fs p text
+toggling_weak {text} h r s fs p dep g b x told = (there, λ v. told.1 (v true dep g x))
   where
     there : IsTrue b → (weakly : Bool) (d n : Text) → IsReference text (toggling weakly d n) → DepIn r s fs p d n
     there t false d n y = absurd (let e : weak dep g ≡ strong d n = one_form h _ _ x y in cc)
@@ -118,21 +99,6 @@ value_weak {text} h r s fs p dep g b x told = (
         let one : dep ≡ d = cc in
         let other : g ≡ n = cc in
         subst (λ m. DepIn r s fs p d m) other (subst (λ m. DepIn r s fs p m g) one (told.0 t))
-
--- it holds of each text among the values, and so of each reference of the feature
-pub values_in : (r : Resolved) (s : SettingModel) (fs : List Fact) (p : Id) (f : Text) (values : List Text) → AreValuesOf r p f values
-    → ((text : Text) → Contains values text → ValueIn r s fs p text)
-    ↔ (((g : Text) → HasReference r p f (simple g) → NamedIn r fs p g) × ((weakly : Bool) (dep g : Text) → HasReference r p f (toggling weakly dep g) → DepIn r s fs p dep g))
-values_in r s fs p f values are = (
-  λ h. (
-    (λ g has. (let a = (are (simple g)).0 has in (h a.text a.among).named g a.is)),
-    λ weakly dep g has. (let a = (are (toggling weakly dep g)).0 has in (h a.text a.among).toggled weakly dep g a.is),
-  ),
-  λ h text among. record {
-    named = λ g is. h.0 g ((are (simple g)).1 (record { text = text; among = among; is = is }));
-    toggled = λ weakly dep g is. h.1 weakly dep g ((are (toggling weakly dep g)).1 (record { text = text; among = among; is = is }));
-  },
-)
 
 -- a reference that asks for what it names
 pub asked_told : {text : Text} → HasOneReading text → (r : Resolved) (s : SettingModel) (fs : List Fact) (p : Id) (a : Reference) (dep : Text) (b : Bool) → IsReference text a → Demands a dep
@@ -147,170 +113,3 @@ asked_told {text} h r s fs p a dep b x asks only told = (
 -- a reference that asks for nothing
 pub asked_nothing : {text : Text} → HasOneReading text → (r : Resolved) (s : SettingModel) (fs : List Fact) (p : Id) (a : Reference) → IsReference text a → ((dep : Text) → Demands a dep → ⊥) → AskedByIn r s fs p text
 asked_nothing {text} h r s fs p a x none c by = absurd (asks_nothing h r s p c a x none by)
-
--- it holds of each text among the values, and so of the feature
-pub asked_in : (r : Resolved) (s : SettingModel) (fs : List Fact) (p : Id) (f : Text) (values : List Text) → AreValuesOf r p f values → AskedAmongIn r s fs p values ↔ AskedIn r s fs p f
-asked_in r s fs p f values are = (
-  λ h c asks k. (let a = (are asks.reference).0 asks.refers in h a.text a.among c (record { reference = asks.reference; is = a.is; dep = asks.dep; asks = asks.asks; referent = asks.referent }) k),
-  λ h text among c by k. h c (record {
-    reference = by.reference;
-    dep = by.dep;
-    refers = (are by.reference).1 (record { text = text; among = among; is = by.is });
-    asks = by.asks;
-    referent = by.referent;
-  }) k,
-)
-
--- ---- lists that are closed
-
-told_not_lost : (x : ToldFact) (c : Cause) → fact_view x ≡ Lost c → ⊥
-told_not_lost (told.Crate k) c e = absurd cc
-told_not_lost (told.Feature k n) c e = absurd cc
-told_not_lost (told.Kept p d k t) c e = absurd cc
-told_not_lost (told.Toggled p d n) c e = absurd cc
-
--- no fact of the caller's list is lost
-pub none_lost : (xs : List ToldFact) (c : Cause) → Contains (facts_view xs) (Lost c) → ⊥
-none_lost xs c h =
-    let at = place_in (facts_view xs) (Lost c) h in
-    let s = seen_at fact_view xs at.0 (Lost c) at.1 in
-    told_not_lost _ c s.2
-
-none : (P : Fact → Type 0) (g : Fact) → Among g [] → P g
-none P g m = absurd m
-
-one : (P : Fact → Type 0) (f : Fact) → P f → (g : Fact) → Among g (f ∷ []) → P g
-one P f h g (inl e) = subst P (sym e) h
-one P f h g (inr e) = absurd e
-
-two : (P : Fact → Type 0) (a b : Fact) → P a → P b → (g : Fact) → Among g (a ∷ b ∷ []) → P g
-two P a b x y g (inl e) = subst P (sym e) x
-two P a b x y g (inr (inl e)) = subst P (sym e) y
-two P a b x y g (inr (inr e)) = absurd e
-
-roots_given : (r : Resolved) (s : SettingModel) (fs : List Fact) → ((c : Cause) → Contains fs (Lost c) → ⊥) → IsClosed (questions r s) fs → RootsIn r s fs
-unfolding questions
-roots_given r s fs lost closed i root = record {
-  kept = λ stands. closed _ _ _ (root_crate {p = i} root stands) (none (Contains fs));
-  enabled = λ stands f lists. closed _ _ _ (root_feature {p = i} {f = f} root stands lists) (none (Contains fs));
-  has_package = λ out. lost _ (closed _ _ _ (lost_root_package {p = i} root out) (none (Contains fs)));
-  has_node = λ out. lost _ (closed _ _ _ (lost_root_node {p = i} root out) (none (Contains fs)));
-}
-
-crate_given : (r : Resolved) (s : SettingModel) (fs : List Fact) (p : Id) → ((c : Cause) → Contains fs (Lost c) → ⊥) → IsClosed (questions r s) fs → Contains fs (Crate p) → CrateIn r s fs p
-unfolding questions
-crate_given r s fs p lost closed here c k =
-    let e : Edge = edge_between p c k in
-    record {
-      child = λ d w t. record {
-        kept = λ stands. closed _ _ _ (required {e = e} {d = d} (record { wanted = w; stands = stands }) t) (one (Contains fs) (Crate p) here);
-        has_package = λ out. lost _ (closed _ _ _ (lost_required_package {e = e} {d = d} w t out) (one (Contains fs) (Crate p) here));
-        has_node = λ out. lost _ (closed _ _ _ (lost_required_node {e = e} {d = d} w t out) (one (Contains fs) (Crate p) here));
-      };
-      declared = λ is l. lost _ (closed _ _ _ (lost_undeclared {e = e} l) (one (Contains fs) (Crate p) here));
-    }
-
-asked_for : (r : Resolved) (s : SettingModel) (p : Id) (f : Text) (c : Id) (k : DepKindInfoModel) → Asks r s p f c → IsAskedFor (questions r s) f (edge_between p c k)
-unfolding questions
-asked_for r s p f c k a = record { reference = a.reference; dep = a.dep; refers = a.refers; asks = a.asks; referent = a.referent }
-
-feature_given : (r : Resolved) (s : SettingModel) (fs : List Fact) (p : Id) (f : Text) → ((c : Cause) → Contains fs (Lost c) → ⊥) → IsClosed (questions r s) fs → Contains fs (Feature p f) → FeatureIn r s fs p f
-unfolding questions
-feature_given r s fs p f lost closed here =
-    let from = one (Contains fs) (Feature p f) here in
-    record {
-      crate = closed _ _ _ (feature_crate {p = p} {f = f}) from;
-      named = λ g has. record {
-        enabled = λ lists. closed _ _ _ (named {p = p} {f = f} {g = g} has lists) from;
-        listed = λ lacks. lost _ (closed _ _ _ (lost_named {p = p} {f = f} {g = g} has lacks) from);
-      };
-      toggled = over;
-      asked = λ c a k. (
-          let e : Edge = edge_between p c k in
-          record {
-            child = λ d w t. record {
-              kept = λ stands. closed _ _ _ (asked {e = e} {f = f} {d = d} (asked_for r s p f c k a) (record { wanted = w; stands = stands })) from;
-              has_package = λ out. lost _ (closed _ _ _ (lost_asked_package {e = e} {f = f} {d = d} (asked_for r s p f c k a) w out) from);
-              has_node = λ out. lost _ (closed _ _ _ (lost_asked_node {e = e} {f = f} {d = d} (asked_for r s p f c k a) w out) from);
-            };
-            declared = λ is l. absurd cc;
-          });
-    }
-  where
-    at_edge : (weakly : Bool) (dep g : Text) (e : Edge) → HasReference r e.parent f (toggling weakly dep g) → IsReferent r s.all_named e.parent dep e.child → Contains fs (Feature e.parent f) → Contains fs (Kept e) → ToggledIn r fs e.parent e.child g
-    at_edge true dep g e has is feature kept = record {
-      toggled = λ lists. closed _ _ _ (toggled_weakly {e = e} {f = f} {g = g} {c = dep} has is lists) (two (Contains fs) (Feature e.parent f) (Kept e) feature kept);
-      listed = λ lacks. lost _ (closed _ _ _ (lost_toggled_weakly {e = e} {f = f} {g = g} {c = dep} has is lacks) (two (Contains fs) (Feature e.parent f) (Kept e) feature kept));
-    }
-    at_edge false dep g e has is feature kept = record {
-      toggled = λ lists. closed _ _ _ (toggled_strongly {e = e} {f = f} {g = g} {c = dep} has is lists) (two (Contains fs) (Feature e.parent f) (Kept e) feature kept);
-      listed = λ lacks. lost _ (closed _ _ _ (lost_toggled_strongly {e = e} {f = f} {g = g} {c = dep} has is lacks) (two (Contains fs) (Feature e.parent f) (Kept e) feature kept));
-    }
-
-    over : (weakly : Bool) (dep g : Text) → HasReference r p f (toggling weakly dep g) → DepIn r s fs p dep g
-    over weakly dep g has c is e kept same child =
-        let h = at_edge weakly dep g e (subst (λ i. HasReference r i f (toggling weakly dep g)) (sym same) has) (subst (λ i. IsReferent r s.all_named i dep e.child) (sym same) (subst (IsReferent r s.all_named p dep) (sym child) is)) (subst (λ i. Contains fs (Feature i f)) (sym same) here) kept in
-        subst (λ i. ToggledIn r fs p i g) child (subst (λ i. ToggledIn r fs i e.child g) same h)
-
-kept_given : (r : Resolved) (s : SettingModel) (fs : List Fact) (e : Edge) → ((c : Cause) → Contains fs (Lost c) → ⊥) → IsClosed (questions r s) fs → Contains fs (Kept e) → KeptIn r fs e
-unfolding questions
-kept_given r s fs e lost closed here =
-    let from = one (Contains fs) (Kept e) here in
-    record {
-      crate = closed _ _ _ (target {e = e}) from;
-      used = λ d w. record {
-        declared = λ g among. record {
-          enabled = λ lists. closed _ _ _ (declared {e = e} {d = d} {g = g} w among lists) from;
-          listed = λ lacks. lost _ (closed _ _ _ (lost_declared {e = e} {d = d} {g = g} w among lacks) from);
-        };
-        by_default = λ uses lists. closed _ _ _ (by_default {e = e} {d = d} w uses lists) from;
-      };
-    }
-
-fact_given : (r : Resolved) (s : SettingModel) (fs : List Fact) (f : Fact) → ((c : Cause) → Contains fs (Lost c) → ⊥) → IsClosed (questions r s) fs → Contains fs f → FactIn r s fs f
-fact_given r s fs (Crate p) lost closed here = crate_given r s fs p lost closed here
-fact_given r s fs (Feature p f) lost closed here = feature_given r s fs p f lost closed here
-fact_given r s fs (Kept e) lost closed here = kept_given r s fs e lost closed here
-fact_given r s fs (Toggled p c g) lost closed here = closed _ _ _ (toggled_feature {p = p} {c = c} {g = g}) (one (Contains fs) (Toggled p c g) here)
-fact_given r s fs (Lost c) lost closed here = tt
-
--- all that the roots and the facts give stands in the list, so the list is closed
-facts_closed : (r : Resolved) (s : SettingModel) (fs : List Fact) → RootsIn r s fs → ((f : Fact) → Contains fs f → FactIn r s fs f) → IsClosed (questions r s) fs
-unfolding questions
-facts_closed r s fs roots facts n ps x (root_crate {p} root stands) from = (roots p root).kept stands
-facts_closed r s fs roots facts n ps x (root_feature {p} {f} root stands lists) from = (roots p root).enabled stands f lists
-facts_closed r s fs roots facts n ps x (lost_root_package {p} root out) from = absurd ((roots p root).has_package out)
-facts_closed r s fs roots facts n ps x (lost_root_node {p} root out) from = absurd ((roots p root).has_node out)
-facts_closed r s fs roots facts n ps x (feature_crate {p} {f}) from = (facts (Feature p f) (from _ (inl refl))).crate
-facts_closed r s fs roots facts n ps x (named {p} {f} {g} has lists) from = ((facts (Feature p f) (from _ (inl refl))).named g has).enabled lists
-facts_closed r s fs roots facts n ps x (lost_named {p} {f} {g} has lacks) from = absurd (((facts (Feature p f) (from _ (inl refl))).named g has).listed lacks)
-facts_closed r s fs roots facts n ps x (asked {e} {f} {d} a o) from =
-    (((facts (Feature e.parent f) (from _ (inl refl))).asked e.child (record { reference = a.reference; dep = a.dep; refers = a.refers; asks = a.asks; referent = a.referent }) (record { kind = e.kind; target = e.cfg })).child d o.wanted tt).kept o.stands
-facts_closed r s fs roots facts n ps x (toggled_strongly {e} {f} {g} {c} has is lists) from =
-    ((facts (Feature e.parent f) (from _ (inl refl))).toggled false c g has e.child is e (from _ (inr (inl refl))) refl refl).toggled lists
-facts_closed r s fs roots facts n ps x (lost_asked_package {e} {f} {d} a w out) from =
-    absurd ((((facts (Feature e.parent f) (from _ (inl refl))).asked e.child (record { reference = a.reference; dep = a.dep; refers = a.refers; asks = a.asks; referent = a.referent }) (record { kind = e.kind; target = e.cfg })).child d w tt).has_package out)
-facts_closed r s fs roots facts n ps x (lost_asked_node {e} {f} {d} a w out) from =
-    absurd ((((facts (Feature e.parent f) (from _ (inl refl))).asked e.child (record { reference = a.reference; dep = a.dep; refers = a.refers; asks = a.asks; referent = a.referent }) (record { kind = e.kind; target = e.cfg })).child d w tt).has_node out)
-facts_closed r s fs roots facts n ps x (lost_toggled_strongly {e} {f} {g} {c} has is lacks) from =
-    absurd (((facts (Feature e.parent f) (from _ (inl refl))).toggled false c g has e.child is e (from _ (inr (inl refl))) refl refl).listed lacks)
-facts_closed r s fs roots facts n ps x (required {e} {d} o t) from = (((facts (Crate e.parent) (from _ (inl refl))) e.child (record { kind = e.kind; target = e.cfg })).child d o.wanted t).kept o.stands
-facts_closed r s fs roots facts n ps x (target {e}) from = (facts (Kept e) (from _ (inl refl))).crate
-facts_closed r s fs roots facts n ps x (lost_undeclared {e} l) from = absurd (((facts (Crate e.parent) (from _ (inl refl))) e.child (record { kind = e.kind; target = e.cfg })).declared refl l)
-facts_closed r s fs roots facts n ps x (lost_required_package {e} {d} w t out) from = absurd ((((facts (Crate e.parent) (from _ (inl refl))) e.child (record { kind = e.kind; target = e.cfg })).child d w t).has_package out)
-facts_closed r s fs roots facts n ps x (lost_required_node {e} {d} w t out) from = absurd ((((facts (Crate e.parent) (from _ (inl refl))) e.child (record { kind = e.kind; target = e.cfg })).child d w t).has_node out)
-facts_closed r s fs roots facts n ps x (declared {e} {d} {g} w among lists) from = (((facts (Kept e) (from _ (inl refl))).used d w).declared g among).enabled lists
-facts_closed r s fs roots facts n ps x (by_default {e} {d} w uses lists) from = ((facts (Kept e) (from _ (inl refl))).used d w).by_default uses lists
-facts_closed r s fs roots facts n ps x (lost_declared {e} {d} {g} w among lacks) from = absurd ((((facts (Kept e) (from _ (inl refl))).used d w).declared g among).listed lacks)
-facts_closed r s fs roots facts n ps x (toggled_weakly {e} {f} {g} {c} has is lists) from =
-    ((facts (Feature e.parent f) (from _ (inl refl))).toggled true c g has e.child is e (from _ (inr (inl refl))) refl refl).toggled lists
-facts_closed r s fs roots facts n ps x (toggled_feature {p} {c} {g}) from = facts (Toggled p c g) (from _ (inl refl))
-facts_closed r s fs roots facts n ps x (lost_toggled_weakly {e} {f} {g} {c} has is lacks) from =
-    absurd (((facts (Feature e.parent f) (from _ (inl refl))).toggled true c g has e.child is e (from _ (inr (inl refl))) refl refl).listed lacks)
-
--- a list without lost facts is closed exactly where all of that stands in it
-pub closed_told : (r : Resolved) (s : SettingModel) (xs : List ToldFact) → (RootsIn r s (facts_view xs) × ((f : Fact) → Contains (facts_view xs) f → FactIn r s (facts_view xs) f)) ↔ IsClosed (questions r s) (facts_view xs)
-closed_told r s xs = (
-  λ h. facts_closed r s (facts_view xs) h.0 h.1,
-  λ closed. (roots_given r s (facts_view xs) (none_lost xs) closed, λ f here. fact_given r s (facts_view xs) f (none_lost xs) closed here),
-)

@@ -7,8 +7,8 @@ use Rattle.std.specs.BTreeSet.{BTreeSet, contains}
 use Rattle.std.specs.Ordering.{is_eq}
 use Rattle.krates_derive.specs.FactKey.{key_cmp, key_view, pair_cmp}
 use Rattle.krates_derive.specs.FactSet.{HasBetween, HasKeys, HasPairs}
-use Rattle.krates_derive.specs.Told.{fact_view, facts_view}
-use Rattle.krates_derive.specs.declared.derivation.Fact.{Fact as ToldFact}
+use Rattle.krates_rules.specs.StepViews.{fact_view, facts_view}
+use Rattle.krates_rules.specs.declared.derivation.Fact.{Fact as ToldFact}
 use Rattle.krates_derive.specs.declared.fact_key.FactKey.{FactKey}
 use Rattle.krates_derive.specs.declared.fact_key.Pair.{Pair}
 use Rattle.krates_derive.proofs.KeyOrder.{OrderTellsSame, key_from, key_to, order_of_pair, pair_from, pair_to}

@@ -1,4 +1,3 @@
-pub mod Checked
 pub mod Givings
 pub mod KeyOrder
 pub mod KeyedFacts
@@ -6,4 +5,3 @@ pub mod Places
 pub mod ReferenceForms
 pub mod Rows
 pub mod Seen
-pub mod Through

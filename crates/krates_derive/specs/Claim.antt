@@ -1,6 +1,6 @@
 -- What the check of a list of facts is made against.
 use Rattle.std.specs.Prelude.{List}
-use Rattle.krates_derive.specs.Told.{facts_view}
+use Rattle.krates_rules.specs.StepViews.{facts_view}
 use Rattle.krates_derive.specs.declared.closing.Claim.{Claim}
 use Rattle.krates_questions.specs.DocumentModel.{as_resolved}
 use Rattle.krates_rules.specs.Facts.{Fact}

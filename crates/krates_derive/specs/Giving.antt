@@ -79,10 +79,13 @@ MeantIn r fs p c g = (e : Edge) → Contains fs (Kept e) → e.parent ≡ p → 
 abbrev pub DepIn : Resolved → SettingModel → List Fact → Id → Text → Text → Type 0
 DepIn r s fs p dep g = (c : Id) → IsReferent r s.all_named p dep c → MeantIn r fs p c g
 
--- what a reference of a feature of the crate names or toggles
-pub record ValueIn (r : Resolved) (s : SettingModel) (fs : List Fact) (p : Id) (text : Text) : Type 0 where
-  pub named : (g : Text) → IsReference text (simple g) → NamedIn r fs p g
-  pub toggled : (weakly : Bool) (dep g : Text) → IsReference text (toggling weakly dep g) → DepIn r s fs p dep g
+-- the feature of the crate that the reference names
+abbrev pub SimpleIn : Resolved → List Fact → Id → Text → Type 0
+SimpleIn r fs p text = (g : Text) → IsReference text (simple g) → NamedIn r fs p g
+
+-- what the reference of a feature of the crate toggles
+abbrev pub TogglingIn : Resolved → SettingModel → List Fact → Id → Text → Type 0
+TogglingIn r s fs p text = (weakly : Bool) (dep g : Text) → IsReference text (toggling weakly dep g) → DepIn r s fs p dep g
 
 -- what a feature gives
 pub record FeatureIn (r : Resolved) (s : SettingModel) (fs : List Fact) (p : Id) (f : Text) : Type 0 where
@@ -131,9 +134,13 @@ DefaultIn r fs c uses = uses ≡ true → ListsFeature r c default_name → Cont
 abbrev pub NamesIn : Resolved → List Fact → Id → List Text → Type 0
 NamesIn r fs c names = (g : Text) → Contains names g → NamedIn r fs c g
 
--- what these references name or toggle
-abbrev pub ValuesIn : Resolved → SettingModel → List Fact → Id → List Text → Type 0
-ValuesIn r s fs p texts = (text : Text) → Contains texts text → ValueIn r s fs p text
+-- the features of the crate that these references name
+abbrev pub SimpleAmongIn : Resolved → List Fact → Id → List Text → Type 0
+SimpleAmongIn r fs p texts = (text : Text) → Contains texts text → SimpleIn r fs p text
+
+-- what these references toggle
+abbrev pub TogglingAmongIn : Resolved → SettingModel → List Fact → Id → List Text → Type 0
+TogglingAmongIn r s fs p texts = (text : Text) → Contains texts text → TogglingIn r s fs p text
 
 -- the edges that these references ask for
 abbrev pub AskedAmongIn : Resolved → SettingModel → List Fact → Id → List Text → Type 0

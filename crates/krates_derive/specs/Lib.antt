@@ -5,6 +5,4 @@ pub mod FactSet
 pub mod Following
 pub mod Giving
 pub mod Referring
-pub mod Refusals
-pub mod SeenThrough
 pub mod Told

@@ -6,7 +6,7 @@ use std::alloc::Global;
 
 /// What a check is made against: a document and a setting.
 #[derive(Clone, Copy)]
-pub(crate) struct Basis<'a, 's> {
+pub struct Basis<'a, 's> {
     /// What memory comes from.
     pub alloc: Global,
     /// The document.

@@ -1,20 +1,15 @@
-//! Whether a list has all that follows from it by one rule.
+//! Whether what is given by one rule stands in a list: by the roots, by a crate, an edge or a reference of the list.
 //!
-//! For each fact there is one question: whether all that it gives stands in the list. What a feature gives together with an edge
-//! is asked with the feature, for the edges in the list.
+//! What a feature gives together with an edge is asked with the feature, for the edges in the list.
 
 ghost use Rattle.std.specs.Prelude.{◌↔◌, IfOk, IsTrue, map};
 ghost use Rattle.krates_cm.specs.Document.{dependency_view, text_view};
-ghost use Rattle.krates_derive.specs.Basis.{rules_of};
 ghost use Rattle.krates_derive.specs.Claim.{document_in, facts_in};
-ghost use Rattle.krates_derive.specs.Giving.{AllIn, AskedAmongIn, AskedByIn, ChildIn, CrateIn, DefaultIn, DepIn, EdgeIn, EdgesIn, EdgesToIn, FactIn, FeatureIn, FeaturesIn, IsTaken, KeptIn, MeantIn, NamedIn, NamesIn, RootIn, StockIn, TheseRootsIn, ToggledIn, UsedIn, ValueIn, ValuesIn};
-ghost use Rattle.krates_derive.specs.Told.{fact_view, facts_view, told_edge};
+ghost use Rattle.krates_derive.specs.Giving.{AskedAmongIn, AskedByIn, ChildIn, CrateIn, DefaultIn, DepIn, EdgeIn, EdgesIn, EdgesToIn, FeaturesIn, IsTaken, KeptIn, MeantIn, NamedIn, NamesIn, RootIn, SimpleAmongIn, SimpleIn, StockIn, TheseRootsIn, ToggledIn, TogglingAmongIn, TogglingIn, UsedIn};
+ghost use Rattle.krates_derive.specs.Told.{told_edge};
 ghost use Rattle.krates_questions.specs.DocumentAnswers.{lent_ids};
-ghost use Rattle.krates_rules.specs.Derivation.{IsClosed};
 ghost use Rattle.krates_rules.specs.Resolved.{id_of};
 
-use crate::basis::Basis;
-use crate::derivation::Fact;
 use crate::fact_key::{FactKey, Pair, edge_key};
 use crate::fact_set::FactSet;
 use crate::following::{declaration_of, need_of};
@@ -28,7 +23,7 @@ use std::alloc::{AllocError, Global};
 
 /// What the check of a list of facts is made against: a document, a setting, and the list.
 #[derive(Clone, Copy)]
-pub(crate) struct Claim<'a, 's> {
+pub struct Claim<'a, 's> {
     /// What memory comes from.
     pub alloc: Global,
     /// The document.
@@ -39,28 +34,10 @@ pub(crate) struct Claim<'a, 's> {
     pub facts: &'s FactSet<'a>,
 }
 
-/// Whether a list is closed.
-pub(crate) fn is_closed<'a>(basis: &Basis<'a, '_>, facts: &'a [Fact]) -> Result<bool, AllocError>
-    ensures { IfOk result (λ b. IsTrue b ↔ IsClosed (rules_of basis.now) (facts_view facts.now)) }
-{
-    let set = FactSet::of(basis.alloc, facts)?;
-    let roots = basis.document.roots(basis.alloc, basis.setting)?;
-    let claim = Claim {
-        alloc: basis.alloc,
-        document: basis.document,
-        setting: basis.setting,
-        facts: &set,
-    };
-    if !are_roots_in(&claim, &roots) {
-        return Ok(false);
-    }
-    are_facts_in(&claim, facts)
-}
-
 // ---- roots
 
 /// Whether all that these roots give stands in the list.
-fn are_roots_in<'a>(claim: &Claim<'a, '_>, roots: &[&'a Kid]) -> bool
+pub fn are_roots_in<'a>(claim: &Claim<'a, '_>, roots: &[&'a Kid]) -> bool
     ensures { IsTrue result
         ↔ TheseRootsIn (document_in claim.now) claim.now.setting.now (facts_in claim.now)
         (lent_ids roots.now) }
@@ -107,51 +84,8 @@ fn are_features_in<'a>(claim: &Claim<'a, '_>, krate: &'a Kid) -> bool
 
 // ---- facts
 
-/// Whether all that these facts give stands in the list.
-fn are_facts_in<'a>(claim: &Claim<'a, '_>, facts: &'a [Fact]) -> Result<bool, AllocError>
-    ensures { IfOk result
-        (λ b. IsTrue b ↔ AllIn (document_in claim.now) claim.now.setting.now (facts_in claim.now)
-        (facts_view facts.now)) }
-{
-    for fact in facts {
-        if !is_fact_in(claim, fact)? {
-            return Ok(false);
-        }
-    }
-    Ok(true)
-}
-
-/// Whether all that a fact gives stands in the list.
-fn is_fact_in<'a>(claim: &Claim<'a, '_>, fact: &'a Fact) -> Result<bool, AllocError>
-    ensures { IfOk result
-        (λ b. IsTrue b ↔ FactIn (document_in claim.now) claim.now.setting.now (facts_in claim.now)
-        (fact_view fact.now)) }
-{
-    match fact {
-        Fact::Crate(krate) => is_crate_in(claim, krate),
-        Fact::Feature { krate, name } => is_feature_in(claim, krate, name.as_str()),
-        Fact::Kept {
-            parent,
-            child,
-            kind,
-            cfg,
-        } => {
-            let edge = ToldEdge {
-                parent,
-                child,
-                kind: *kind,
-                cfg,
-            };
-            is_kept_in(claim, &edge)
-        }
-        Fact::Toggled { child, name, .. } => {
-            Ok(claim.facts.has(&FactKey::Feature(child, name.as_str())))
-        }
-    }
-}
-
 /// Whether all that a crate gives by its edges stands in the list.
-fn is_crate_in<'a>(claim: &Claim<'a, '_>, krate: &'a Kid) -> Result<bool, AllocError>
+pub fn is_crate_in<'a>(claim: &Claim<'a, '_>, krate: &'a Kid) -> Result<bool, AllocError>
     ensures { IfOk result
         (λ b. IsTrue b ↔ CrateIn (document_in claim.now) claim.now.setting.now (facts_in claim.now)
         (id_of krate.now)) }
@@ -164,28 +98,8 @@ fn is_crate_in<'a>(claim: &Claim<'a, '_>, krate: &'a Kid) -> Result<bool, AllocE
     Ok(true)
 }
 
-/// Whether all that a feature gives stands in the list.
-fn is_feature_in<'a>(
-    claim: &Claim<'a, '_>,
-    krate: &'a Kid,
-    feature: &'a str,
-) -> Result<bool, AllocError>
-    ensures { IfOk result
-        (λ b. IsTrue b ↔ FeatureIn (document_in claim.now) claim.now.setting.now (facts_in claim.now)
-        (id_of krate.now) feature.now) }
-{
-    if !claim.facts.has(&FactKey::Crate(krate)) {
-        return Ok(false);
-    }
-    let values = claim.document.values(krate, feature);
-    if !are_values_in(claim, krate, values)? {
-        return Ok(false);
-    }
-    are_asked_in(claim, krate, values)
-}
-
 /// Whether all that an edge of the list gives stands in it.
-fn is_kept_in<'a>(claim: &Claim<'a, '_>, edge: &ToldEdge<'a>) -> Result<bool, AllocError>
+pub fn is_kept_in<'a>(claim: &Claim<'a, '_>, edge: &ToldEdge<'a>) -> Result<bool, AllocError>
     ensures { IfOk result
         (λ b. IsTrue b ↔ KeptIn (document_in claim.now) (facts_in claim.now) (told_edge edge.now)) }
 {
@@ -263,7 +177,7 @@ fn is_child_in<'a>(claim: &Claim<'a, '_>, edge: &ToldEdge<'a>) -> bool
 }
 
 /// Whether all edges that the references of a feature ask for stand in the list.
-fn are_asked_in<'a>(
+pub fn are_asked_in<'a>(
     claim: &Claim<'a, '_>,
     krate: &'a Kid,
     values: &'a [String],
@@ -314,33 +228,64 @@ fn are_edges_to_in<'a>(claim: &Claim<'a, '_>, krate: &'a Kid, dep: &str) -> Resu
 
 // ---- references
 
-/// Whether what each reference of a feature names or toggles stands in the list.
-fn are_values_in<'a>(
+/// Whether the feature of the same crate that each reference names stands in the list.
+pub fn are_simple_in<'a>(claim: &Claim<'a, '_>, krate: &'a Kid, values: &'a [String]) -> bool
+    ensures { let texts = map text_view values.now in
+        IsTrue result ↔ SimpleAmongIn (document_in claim.now) (facts_in claim.now) (id_of krate.now) texts }
+{
+    for value in values {
+        if !is_simple_in(claim, krate, value.as_str()) {
+            return false;
+        }
+    }
+    true
+}
+
+/// Whether the feature of the same crate that a reference names stands in the list.
+fn is_simple_in<'a>(claim: &Claim<'a, '_>, krate: &'a Kid, text: &'a str) -> bool
+    ensures { IsTrue result
+        ↔ SimpleIn (document_in claim.now) (facts_in claim.now) (id_of krate.now) text.now }
+{
+    laws::one_reference();
+    match features::ParsedFeature::from(text).feat() {
+        features::Feature::Simple(name) => is_named_in(claim, krate, name),
+        features::Feature::Krate(_) => true,
+        features::Feature::Strong { .. } => true,
+        features::Feature::Weak { .. } => true,
+    }
+}
+
+/// Whether what each reference of a feature toggles, with an edge of the list, stands in the list.
+pub fn are_toggling_in<'a>(
     claim: &Claim<'a, '_>,
     krate: &'a Kid,
     values: &'a [String],
 ) -> Result<bool, AllocError>
     ensures { let texts = map text_view values.now in
         IfOk result (λ b. IsTrue b
-        ↔ ValuesIn (document_in claim.now) claim.now.setting.now (facts_in claim.now) (id_of krate.now) texts) }
+        ↔ TogglingAmongIn (document_in claim.now) claim.now.setting.now (facts_in claim.now) (id_of krate.now) texts) }
 {
     for value in values {
-        if !is_value_in(claim, krate, value.as_str())? {
+        if !is_toggling_in(claim, krate, value.as_str())? {
             return Ok(false);
         }
     }
     Ok(true)
 }
 
-/// Whether what a reference of a feature names or toggles stands in the list.
-fn is_value_in<'a>(claim: &Claim<'a, '_>, krate: &'a Kid, text: &'a str) -> Result<bool, AllocError>
+/// Whether what a reference of a feature toggles, with an edge of the list, stands in the list.
+fn is_toggling_in<'a>(
+    claim: &Claim<'a, '_>,
+    krate: &'a Kid,
+    text: &'a str,
+) -> Result<bool, AllocError>
     ensures { IfOk result
-        (λ b. IsTrue b ↔ ValueIn (document_in claim.now) claim.now.setting.now (facts_in claim.now)
+        (λ b. IsTrue b ↔ TogglingIn (document_in claim.now) claim.now.setting.now (facts_in claim.now)
         (id_of krate.now) text.now) }
 {
     laws::one_reference();
     match features::ParsedFeature::from(text).feat() {
-        features::Feature::Simple(name) => Ok(is_named_in(claim, krate, name)),
+        features::Feature::Simple(_) => Ok(true),
         features::Feature::Krate(_) => Ok(true),
         features::Feature::Strong {
             krate: dep,

@@ -2,12 +2,12 @@
 
 ghost use Rattle.std.specs.Prelude.{◌≡◌};
 ghost use Rattle.krates_derive.specs.FactKey.{edge_view, key_view};
-ghost use Rattle.krates_derive.specs.Told.{fact_view, told_edge};
+ghost use Rattle.krates_derive.specs.Told.{told_edge};
+ghost use Rattle.krates_rules.specs.StepViews.{fact_view};
 
-use crate::derivation::Fact;
 use crate::told::ToldEdge;
 use krates_ids::Kid;
-use krates_rules::DepKind;
+use krates_rules::{DepKind, Fact};
 
 /// Two crates: one, and one that it depends on.
 #[derive(Clone, Copy, PartialEq, Eq, PartialOrd, Ord)]

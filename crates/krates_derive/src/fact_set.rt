@@ -3,20 +3,20 @@
 ghost use Rattle.std.specs.Prelude.{◌≡◌, ◌↔◌, ◌∷◌, ◌++◌, [], Contains, IfOk, IsTrue, List, OnOk};
 ghost use Rattle.krates_derive.specs.FactKey.{key_view};
 ghost use Rattle.krates_derive.specs.FactSet.{HasBetween, HasKeys, HasPairs};
-ghost use Rattle.krates_derive.specs.Told.{fact_view, facts_view};
-ghost use Rattle.krates_rules.specs.Facts.{Fact as FactModel};
+ghost use Rattle.krates_rules.specs.Facts.{Crate, Fact as FactModel, Feature};
 ghost use Rattle.krates_rules.specs.Resolved.{id_of};
+ghost use Rattle.krates_rules.specs.StepViews.{fact_view, facts_view};
 
-use crate::derivation::Fact;
 use crate::fact_key::{FactKey, Pair, key_of};
 use krates_ids::{Kid, laws};
+use krates_rules::Fact;
 use std::alloc::{AllocError, Global};
 use std::collections::BTreeSet;
 use std::marker::Model;
 
 /// A list of facts in which single facts are looked up, by binary search.
 #[derive(Drop)]
-pub(crate) struct FactSet<'a> {
+pub struct FactSet<'a> {
     /// The list.
     facts: &'a [Fact],
     /// Its facts.
@@ -28,8 +28,8 @@ pub(crate) struct FactSet<'a> {
 impl<'a> Model for FactSet<'a> {
     ghost use Rattle.std.specs.Prelude.{List};
     ghost use Rattle.krates_derive.specs.FactSet.{HasKeys, HasPairs};
-    ghost use Rattle.krates_derive.specs.Told.{facts_view};
-    ghost use Rattle.krates_derive.specs.declared.derivation.Fact.{Fact};
+    ghost use Rattle.krates_rules.specs.StepViews.{facts_view};
+    ghost use Rattle.krates_rules.specs.declared.derivation.Fact.{Fact};
 
     ghost Value = { List Fact };
 
@@ -40,7 +40,7 @@ impl<'a> Model for FactSet<'a> {
 
 impl<'a> FactSet<'a> {
     /// The list, ready for look-ups.
-    pub(crate) fn of(alloc: Global, facts: &'a [Fact]) -> Result<FactSet<'a>, AllocError>
+    pub fn of(alloc: Global, facts: &'a [Fact]) -> Result<FactSet<'a>, AllocError>
         ensures { IfOk result (λ set. set ≡ facts.now) }
     {
         let keys = keys_of(alloc, facts)?;
@@ -53,6 +53,20 @@ impl<'a> FactSet<'a> {
         ensures { IsTrue result ↔ Contains (facts_view self.now) (key_view wanted.now) }
     {
         self.keys.contains(wanted)
+    }
+
+    /// Whether the list says that the crate is kept.
+    pub fn has_crate(&self, krate: &'a Kid) -> bool
+        ensures { IsTrue result ↔ Contains (facts_view self.now) (Crate (id_of krate.now)) }
+    {
+        self.has(&FactKey::Crate(krate))
+    }
+
+    /// Whether the list says that the feature is enabled.
+    pub fn has_feature(&self, krate: &'a Kid, name: &'a str) -> bool
+        ensures { IsTrue result ↔ Contains (facts_view self.now) (Feature (id_of krate.now) name.now) }
+    {
+        self.has(&FactKey::Feature(krate, name))
     }
 
     /// Whether the list has an edge between two crates.

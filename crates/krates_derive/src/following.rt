@@ -4,21 +4,22 @@ ghost use Rattle.std.specs.Prelude.{◌≡◌, ◌↔◌, ◌∷◌, [], Contain
 ghost use Rattle.krates_cm.specs.Document.{dependency_view, text_view};
 ghost use Rattle.krates_derive.specs.Basis.{document_of, rules_of};
 ghost use Rattle.krates_derive.specs.Following.{AsksDefault, AsksFeature, AsksForFeature, IsAskedBy, IsChildWith, IsNamedBy, IsRooted, IsRootedFeature, MayKeep, MustKeep, TogglesOver};
-ghost use Rattle.krates_derive.specs.Told.{fact_view, told_edge, told_feature, told_toggle, told_fact};
+ghost use Rattle.krates_derive.specs.Told.{told_edge, told_feature, told_toggle, told_fact};
 ghost use Rattle.krates_questions.specs.DocumentModel.{as_resolved};
 ghost use Rattle.krates_questions.specs.Need.{TellsDeclaration, TellsNeed};
 ghost use Rattle.krates_rules.specs.Facts.{Crate, Feature, Kept};
 ghost use Rattle.krates_rules.specs.Resolved.{id_of};
 ghost use Rattle.krates_rules.specs.Rules.{Rule};
+ghost use Rattle.krates_rules.specs.StepViews.{fact_view};
 
 use crate::basis::Basis;
-use crate::derivation::Fact;
 use crate::referring::{asks, names, toggles};
 use crate::told::{Told, ToldEdge, ToldFeature, ToldToggle, info_of, is_same, lent};
 use krates_cm::Dependency;
 use krates_document::Setting;
 use krates_ids::Kid;
 use krates_questions::{Document, Need};
+use krates_rules::Fact;
 use std::alloc::{AllocError, Global};
 
 // ---- edges
@@ -320,7 +321,7 @@ fn is_toggled<'a>(
 // ---- by the number of premises
 
 /// Whether a fact follows by the rule from nothing.
-pub(crate) fn from_nothing<'a>(basis: &Basis<'a, '_>, rule: u8, fact: &'a Fact) -> bool
+pub fn from_nothing<'a>(basis: &Basis<'a, '_>, rule: u8, fact: &'a Fact) -> bool
     ensures { IsTrue result ↔ Rule (rules_of basis.now) rule [] (fact_view fact.now) }
 {
     match lent(fact) {
@@ -406,7 +407,7 @@ fn from_toggle<'a>(
 }
 
 /// Whether a fact follows by the rule from another.
-pub(crate) fn from_one<'a>(
+pub fn from_one<'a>(
     basis: &Basis<'a, '_>,
     rule: u8,
     premise: &'a Fact,
@@ -463,7 +464,7 @@ fn toggle_from_two<'a>(
 }
 
 /// Whether a fact follows by the rule from two others.
-pub(crate) fn from_two<'a>(
+pub fn from_two<'a>(
     basis: &Basis<'a, '_>,
     rule: u8,
     first: &'a Fact,

@@ -2,20 +2,20 @@
 
 ghost use Rattle.std.specs.Prelude.{◌≡◌, ◌↔◌, IfOk, IsTrue};
 ghost use Rattle.krates_cm.specs.Document.{dep_kind_info_view};
-ghost use Rattle.krates_derive.specs.Told.{fact_view, told_edge, told_fact};
+ghost use Rattle.krates_derive.specs.Told.{told_edge, told_fact};
 ghost use Rattle.krates_rules.specs.Kind.{written_of};
 ghost use Rattle.krates_rules.specs.Questions.{edge_between, kind_info_of};
 ghost use Rattle.krates_rules.specs.Resolved.{id_of};
+ghost use Rattle.krates_rules.specs.StepViews.{fact_view};
 
-use crate::derivation::Fact;
 use krates_cm::{DepKindInfo, DependencyKind};
 use krates_ids::{Kid, laws};
-use krates_rules::DepKind;
+use krates_rules::{DepKind, Fact};
 use std::alloc::AllocError;
 
 /// An edge as a fact tells it.
 #[derive(Clone, Copy)]
-pub(crate) struct ToldEdge<'a> {
+pub struct ToldEdge<'a> {
     /// The crate that has the dependency.
     pub parent: &'a Kid,
     /// The crate that it depends on.

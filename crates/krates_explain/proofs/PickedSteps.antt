@@ -3,8 +3,8 @@ use Rattle.std.proofs.Common.{◌≡◌, ◌⊎◌, inl, inr, ℕ, zero, suc, �
 use Rattle.std.proofs.lemmas.List.{length-map}
 use Rattle.std.proofs.lemmas.Option.{slice_get-map, slice_get_read, slice_get-get_or, same_Some}
 use Rattle.std.specs.List.{slice_get}
-use Rattle.krates_derive.specs.Told.{fact_view, step_view, steps_view}
-use Rattle.krates_derive.specs.declared.derivation.Step.{Step}
+use Rattle.krates_rules.specs.StepViews.{fact_view, step_view, steps_view}
+use Rattle.krates_rules.specs.declared.derivation.Step.{Step}
 use Rattle.krates_explain.specs.Chosen.{AreChosen, IsChosenIn}
 use Rattle.krates_explain.specs.Explanation.{explained_steps}
 use Rattle.krates_explain.specs.KeptFacts.{fact_in, kept_view, step_in}

@@ -2,8 +2,8 @@
 use Rattle.std.proofs.Common.{◌≡◌, ℕ, ◌+◌, ◌<◌, List, [], ◌∷◌, ◌++◌, All, None, length, get_or, take, refl, sym, ap, ◌∙◌, subst, arith}
 use Rattle.std.proofs.lemmas.List.{map-append, take_more}
 use Rattle.std.proofs.lemmas.Option.{slice_get-get_or, slice_get_within, get_or_from_slice_get}
-use Rattle.krates_derive.specs.Told.{fact_view, facts_view}
-use Rattle.krates_derive.specs.declared.derivation.Fact.{Fact as ToldFact}
+use Rattle.krates_rules.specs.StepViews.{fact_view, facts_view}
+use Rattle.krates_rules.specs.declared.derivation.Fact.{Fact as ToldFact}
 use Rattle.krates_explain.specs.Explanation.{uses_in}
 use Rattle.krates_explain.specs.KeptFacts.{fact_in, facts_in, kept_view, step_in, steps_in}
 use Rattle.krates_explain.specs.declared.kept.KeptStep.{KeptStep}

@@ -1,9 +1,9 @@
 -- The kept steps, and the derivation of one fact.
 use Rattle.std.specs.Prelude.{◌≡◌, ℕ, ◌+◌, ◌<◌, List, All, Contains, MatchOption, Option, Some, length, map, slice_get}
-use Rattle.krates_derive.specs.Told.{steps_view}
-use Rattle.krates_derive.specs.declared.derivation.Fact.{Fact as ToldFact}
-use Rattle.krates_derive.specs.declared.derivation.Fact.TheVariants as told
-use Rattle.krates_derive.specs.declared.derivation.Step.{Step}
+use Rattle.krates_rules.specs.StepViews.{steps_view}
+use Rattle.krates_rules.specs.declared.derivation.Fact.{Fact as ToldFact}
+use Rattle.krates_rules.specs.declared.derivation.Fact.TheVariants as told
+use Rattle.krates_rules.specs.declared.derivation.Step.{Step}
 use Rattle.krates_explain.specs.KeptFacts.{IsBelow, KeptModel, kept_view, steps_in}
 use Rattle.krates_explain.specs.declared.kept.Explanation.{Explanation}
 use Rattle.krates_explain.specs.declared.kept.KeptStep.{KeptStep}

@@ -1,16 +1,15 @@
 //! The derivation of one fact, and all facts.
 
 ghost use Rattle.std.specs.Prelude.{◌≡◌, ◌<◌, All, Contains, IfOk, length};
-ghost use Rattle.krates_derive.specs.Told.{facts_view, steps_view};
 ghost use Rattle.krates_explain.specs.Explanation.{AreBelow, HasTheseIds, IsDerivationOf, IsExplanation, explained_steps, uses_in};
 ghost use Rattle.krates_explain.specs.KeptFacts.{facts_in, steps_in};
+ghost use Rattle.krates_rules.specs.StepViews.{facts_view, steps_view};
 ghost use Rattle.krates_steps.specs.Picked.{ArePicked};
 
 use crate::kept::{Explanation, KeptStep};
 use crate::telling::{told, used};
-use krates_derive::{Derivation, Fact, Step};
 use krates_ids::Kid;
-use krates_rules::Uses;
+use krates_rules::{Derivation, Fact, Step, Uses};
 use krates_steps::{Part, laws, part_for};
 use std::alloc::{AllocError, Global};
 

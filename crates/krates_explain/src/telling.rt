@@ -1,17 +1,16 @@
 //! Facts with the ids of their crates.
 
 ghost use Rattle.std.specs.Prelude.{◌≡◌, ◌<◌, Contains, IfOk, length};
-ghost use Rattle.krates_derive.specs.Told.{fact_view};
 ghost use Rattle.krates_explain.specs.Explanation.{HasTheseIds};
 ghost use Rattle.krates_explain.specs.KeptFacts.{IsBelow, fact_in, kept_view};
 ghost use Rattle.krates_selection.specs.CrateNumbers.{id_at};
 ghost use Rattle.krates_rules.specs.Resolved.{id_of};
+ghost use Rattle.krates_rules.specs.StepViews.{fact_view};
 ghost use Rattle.krates_rules.specs.Uses.{numbers_used};
 
 use crate::kept::KeptFact;
-use krates_derive::Fact;
 use krates_ids::Kid;
-use krates_rules::Uses;
+use krates_rules::{Fact, Uses};
 use std::alloc::{AllocError, Global};
 
 /// The fact, with the ids of its crates.

@@ -1,9 +1,9 @@
 -- The derivation of a node, and all that is kept as facts.
 use Rattle.std.specs.Prelude.{◌≡◌, ◌≤◌, ◌<◌, ◌+◌, ℕ, List, All, MatchOption, Option, Some, length, slice_get}
 use Rattle.krates_cm.specs.Document.{text_view}
-use Rattle.krates_derive.specs.Told.{steps_view}
-use Rattle.krates_derive.specs.declared.derivation.Derivation.{Derivation}
-use Rattle.krates_derive.specs.declared.derivation.Step.{Step}
+use Rattle.krates_rules.specs.StepViews.{steps_view}
+use Rattle.krates_rules.specs.declared.derivation.Derivation.{Derivation}
+use Rattle.krates_rules.specs.declared.derivation.Step.{Step}
 use Rattle.krates_explain.specs.Explanation.{HasTheseIds}
 use Rattle.krates_selection.specs.CrateNumbers.{id_at}
 use Rattle.krates_ids.specs.Identity.{Identity}

@@ -22,5 +22,6 @@ pub mod Rules
 pub mod SelectionRefusals
 pub mod Setting
 pub mod StepParts
+pub mod StepViews
 pub mod Steps
 pub mod Uses

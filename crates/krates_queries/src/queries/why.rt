@@ -8,9 +8,9 @@ ghost use Rattle.krates_queries.specs.Why.{TellsWhy};
 use crate::kept::Krates;
 use crate::node::Node;
 use crate::numbers::node_at;
-use krates_derive::Derivation;
 use krates_explain::{Subject, derivation_of, step_of};
 use krates_graph::graph::NodeId;
+use krates_rules::Derivation;
 use std::alloc::AllocError;
 
 impl<N, E> Krates<N, E> {

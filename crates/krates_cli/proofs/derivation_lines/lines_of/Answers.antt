@@ -1,6 +1,6 @@
 use Rattle.std.proofs.Common.{◌≡◌, ◌<◌, List, ℕ, ◌++◌, length, get_or, take, sym, ap, ◌∙◌, subst}
 use Rattle.krates_cm.specs.Document.{Text}
-use Rattle.krates_derive.specs.declared.derivation.Step.{Step}
+use Rattle.krates_rules.specs.declared.derivation.Step.{Step}
 use Rattle.krates_cli.specs.DerivationLines.{step_line}
 use Rattle.krates_cli.proofs.StepLines.{lines_more}
 use Rattle.krates_cli.proofs.derivation_lines.lines_of.Goals as goal

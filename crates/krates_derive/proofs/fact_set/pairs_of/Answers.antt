@@ -1,5 +1,5 @@
 use Rattle.std.proofs.Common.{take, arith}
-use Rattle.krates_derive.specs.Told.{facts_view}
+use Rattle.krates_rules.specs.StepViews.{facts_view}
 use Rattle.krates_derive.proofs.KeyedFacts.{pairs_all, pairs_more, pairs_none}
 use Rattle.krates_derive.proofs.fact_set.pairs_of.Goals as goal
 

@@ -1,6 +1,6 @@
 use Rattle.std.proofs.Common.{take}
 use Rattle.krates_derive.specs.FactSet.{HasPairs}
-use Rattle.krates_derive.specs.Told.{facts_view}
+use Rattle.krates_rules.specs.StepViews.{facts_view}
 use Rattle.krates_derive.proofs.fact_set.pairs_of.Given as goal
 
 -- the set has the crates of the edges so far

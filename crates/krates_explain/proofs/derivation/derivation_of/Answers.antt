@@ -1,6 +1,6 @@
 use Rattle.std.proofs.Common.{◌≡◌, ◌<◌, All, List, length, sym, ap, ◌∙◌, subst, arith}
 use Rattle.std.proofs.lemmas.List.{length-map}
-use Rattle.krates_derive.specs.Told.{step_view, steps_view}
+use Rattle.krates_rules.specs.StepViews.{step_view, steps_view}
 use Rattle.krates_explain.proofs.ToldParts.{chosen_low, use_these}
 use Rattle.krates_explain.specs.Explanation.{explained_steps, uses_in}
 use Rattle.krates_explain.specs.declared.kept.KeptStep.{KeptStep}

@@ -1,7 +1,7 @@
 use Rattle.std.proofs.Common.{◌≡◌, ◌+◌, All, take, sym, ap, ◌∙◌, subst, rules}
 use Rattle.std.proofs.lemmas.List.{take_all}
 use Rattle.std.proofs.lemmas.List.Elements.{All-push}
-use Rattle.krates_derive.specs.Told.{facts_view}
+use Rattle.krates_rules.specs.StepViews.{facts_view}
 use Rattle.krates_explain.proofs.ToldParts.{facts_more}
 use Rattle.krates_explain.specs.Explanation.{HasTheseIds}
 use Rattle.krates_explain.specs.KeptFacts.{facts_in, steps_in}

@@ -1,5 +1,5 @@
 use Rattle.std.proofs.Common.{◌≡◌, All, take}
-use Rattle.krates_derive.specs.Told.{facts_view}
+use Rattle.krates_rules.specs.StepViews.{facts_view}
 use Rattle.krates_explain.specs.Explanation.{HasTheseIds}
 use Rattle.krates_explain.specs.KeptFacts.{facts_in, steps_in}
 use Rattle.krates_explain.proofs.derivation.facts_of.Given as goal

@@ -1,6 +1,6 @@
 use Rattle.std.proofs.Common.{◌≡◌, ◌++◌, [], ◌∷◌, All, refl, sym, subst, rules}
 use Rattle.std.proofs.lemmas.List.Elements.{All-push}
-use Rattle.krates_derive.specs.declared.derivation.Step.{Step}
+use Rattle.krates_rules.specs.declared.derivation.Step.{Step}
 use Rattle.krates_explain.specs.Explanation.{HasTheseIds}
 use Rattle.krates_explain.proofs.PickedSteps.{EachSoFar, IsPickedStep, all_picked, none_yet, one_more, picked_here}
 use Rattle.krates_explain.proofs.derivation.picked.Goals as goal

@@ -1,5 +1,5 @@
 use Rattle.std.proofs.Common.{All}
-use Rattle.krates_derive.specs.declared.derivation.Step.{Step}
+use Rattle.krates_rules.specs.declared.derivation.Step.{Step}
 use Rattle.krates_explain.specs.Explanation.{HasTheseIds}
 use Rattle.krates_explain.proofs.PickedSteps.{EachSoFar, IsPickedStep}
 use Rattle.krates_explain.proofs.derivation.picked.Given as goal
