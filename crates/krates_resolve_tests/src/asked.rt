@@ -154,7 +154,9 @@ struct Asked;
 impl Question for Asked {
     fn told(alloc: Global, line: &str) -> Result<String, Fail> {
         let metadata = document_of(alloc, line)?;
-        answer_of(alloc, &metadata, line)
+        let told = answer_of(alloc, &metadata, line);
+        metadata.let_go();
+        told
     }
 }
 
@@ -254,7 +256,9 @@ fn signed(alloc: Global, setting: &Setting, packages: &[Package]) -> Result<Stri
 /// Which packages of the two members' document are excluded.
 fn excluded(alloc: Global, setting: &Setting) -> Result<String, Fail> {
     let metadata = metadata(alloc, MEMBERS)?;
-    Ok(signed(alloc, setting, &metadata.packages)?)
+    let told = signed(alloc, setting, &metadata.packages);
+    metadata.let_go();
+    Ok(told?)
 }
 
 /// Whether a dependency with a target text passes.

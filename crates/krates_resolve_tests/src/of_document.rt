@@ -24,7 +24,9 @@ pub(crate) struct OfDocument<T: Told> {
 impl<T: Told> Question for OfDocument<T> {
     fn told(alloc: Global, line: &str) -> Result<String, Fail> {
         let metadata = metadata(alloc, line)?;
-        T::told_of(alloc, &metadata, line)
+        let told = T::told_of(alloc, &metadata, line);
+        metadata.let_go();
+        told
     }
 }
 
