@@ -113,7 +113,9 @@ fn selected_count(alloc: Global, metadata: &Metadata) -> Result<usize, Error> {
 /// How many crates are selected of the document of a line.
 fn selected(alloc: Global, line: &str) -> Result<usize, Fail> {
     let metadata = metadata(alloc, line)?;
-    Ok(selected_count(alloc, &metadata)?)
+    let count = selected_count(alloc, &metadata);
+    metadata.let_go();
+    Ok(count?)
 }
 
 /// What a call answers that the first word of the line names.

@@ -162,5 +162,7 @@ fn large_lists(rt: HostRuntime) -> Result<(), Fail> {
     let alloc = rt.alloc();
     let json = large_document(alloc)?;
     let metadata = MetadataCommand::parse(alloc, json.as_str())?;
-    hold_lists(alloc, &metadata, &Builder::new(alloc))
+    let held = hold_lists(alloc, &metadata, &Builder::new(alloc));
+    metadata.let_go();
+    held
 }

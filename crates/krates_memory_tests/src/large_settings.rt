@@ -151,8 +151,9 @@ fn a_large_package(rt: HostRuntime) -> Result<(), Fail> {
     let alloc = rt.alloc();
     let index = index(alloc)?;
     let mut metadata = featured(alloc)?;
-    let count = correct_all(alloc, &index, metadata.packages.as_mut_slice())?;
-    assert_eq!(rt; count, 5_002);
+    let count = correct_all(alloc, &index, metadata.packages.as_mut_slice());
+    metadata.let_go();
+    assert_eq!(rt; count?, 5_002);
     Ok(())
 }
 
