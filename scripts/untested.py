@@ -28,14 +28,12 @@ LAWS = ("laws.rt", "comparisons.rt")
 SHOWN_BY = {
     # the line that a command reads of what cargo wrote
     "MetadataCommand::json_line": ("first_object_line",),
-    # the id is all that a listing keeps of a package
-    "run": ("Package::into_id",),
     # what a setting has is asked of the setting
     "ignores": ("IgnoredKinds::with", "IgnoredKinds::has"),
     # a checker with an index looks at the corrected document, and asks what each fact of a list gives
     "check_closed": (
         "corrected Document::means are_roots_in is_crate_in is_kept_in are_simple_in are_toggling_in are_asked_in FactSet::of FactSet::has_crate"
-        " FactSet::has_feature let_go"
+        " FactSet::has_feature"
     ).split(),
     # one step is asked by the number of its premises
     "check": ("from_nothing", "from_one", "from_two"),

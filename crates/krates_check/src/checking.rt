@@ -20,7 +20,6 @@ use crate::seen_through::seen_through;
 use krates_cm::Metadata;
 use krates_derive::basis::Basis;
 use krates_derive::following::{from_nothing, from_one, from_two};
-use krates_document::corrected_document::let_go;
 use krates_document::{Ids, Setting, admit};
 use krates_ids::{CachingIndex, Error};
 use krates_questions::Document;
@@ -101,7 +100,7 @@ fn check_corrected(
 {
     let seen = seen_through(alloc, index, metadata)?;
     let told = check_seen(alloc, &seen, setting, derivation);
-    let_go(seen);
+    seen.let_go();
     told
 }
 
@@ -120,7 +119,7 @@ fn check_closed_corrected(
 {
     let seen = seen_through(alloc, index, metadata)?;
     let told = check_closed_seen(alloc, &seen, setting, facts);
-    let_go(seen);
+    seen.let_go();
     told
 }
 
