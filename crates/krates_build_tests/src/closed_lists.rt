@@ -1,11 +1,11 @@
 //! Lists of facts: each is closed as it was written, and open without any one of its facts.
 
-use crate::facts::{Own, facts_of, told};
+use crate::facts::told;
 use crate::lists::{Ask, Checked, Facts, Given, List, OfLine, list_in};
 use krates_check::check_closed;
 use krates_document::Setting;
 use krates_rules::Fact;
-use krates_samples::facts::push_fact;
+use krates_samples::facts::{facts_of, push_fact};
 use krates_samples::table::{Row, hold};
 use std::alloc::Global;
 use std::test::Fail;
@@ -175,7 +175,7 @@ fn push_with(
     added: &str,
 ) -> Result<(), Fail> {
     let mut facts = facts_of(given.alloc, text)?;
-    push_fact::<Own>(&mut facts, given.alloc, added)?;
+    push_fact(&mut facts, given.alloc, added)?;
     push_answer(all, given, &facts)
 }
 

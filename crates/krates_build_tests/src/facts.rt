@@ -7,61 +7,11 @@ use crate::lists::Sections;
 use krates_check::CheckError;
 use krates_document::Setting;
 use krates_ids::Kid;
-use krates_rules::{DepKind, Derivation, Fact, Scope, Step};
+use krates_rules::{DepKind, Fact, Scope, Step};
 use krates_samples::documents::{kind_named, word_of};
-use krates_samples::facts;
 use krates_samples::settings::package_specs;
 use std::alloc::{AllocError, Global};
 use std::test::Fail;
-
-/// The facts and steps of the checkers.
-pub(crate) struct Own;
-
-impl facts::Facts for Own {
-    type Fact = Fact;
-
-    type Step = Step;
-
-    fn of_crate(krate: Kid) -> Fact {
-        Fact::Crate(krate)
-    }
-
-    fn of_feature(krate: Kid, name: String) -> Fact {
-        Fact::Feature { krate, name }
-    }
-
-    fn of_edge(parent: Kid, child: Kid, kind: DepKind, cfg: Option<String>) -> Fact {
-        Fact::Kept {
-            parent,
-            child,
-            kind,
-            cfg,
-        }
-    }
-
-    fn of_toggle(parent: Kid, child: Kid, name: String) -> Fact {
-        Fact::Toggled {
-            parent,
-            child,
-            name,
-        }
-    }
-
-    fn of_step(rule: u8, fact: Fact, uses: Vec<usize>) -> Step {
-        Step { rule, fact, uses }
-    }
-}
-
-/// The steps of a text.
-pub(crate) fn steps_of(alloc: Global, text: &str) -> Result<Derivation, Fail> {
-    let steps = facts::steps_of::<Own>(alloc, text)?;
-    Ok(Derivation { steps })
-}
-
-/// The facts of the words.
-pub(crate) fn facts_of(alloc: Global, text: &str) -> Result<Vec<Fact>, Fail> {
-    facts::facts_of::<Own>(alloc, text)
-}
 
 /// Adds what stands behind the child of a kept edge: its kind, where it isn't normal, and its target.
 fn push_purpose(text: &mut String, kind: DepKind, cfg: Option<&str>) -> Result<(), AllocError> {

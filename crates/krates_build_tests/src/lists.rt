@@ -1,12 +1,13 @@
 //! The two kinds of lists that the checkers are asked about, and what is given with them.
 
-use crate::facts::{facts_of, steps_of, told};
+use crate::facts::told;
 use crate::real_documents::metadata_of;
 use krates::Builder;
 use krates_cm::Metadata;
 use krates_document::Setting;
 use krates_ids::CachingIndex;
 use krates_samples::documents::section;
+use krates_samples::facts::{facts_of, steps_of};
 use krates_samples::table::Question;
 use std::alloc::Global;
 use std::test::Fail;

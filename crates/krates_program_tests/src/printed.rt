@@ -1,58 +1,18 @@
 //! What is printed of lists of steps, a step a line.
 
-use krates::derive::{Derivation, Fact, Step};
-use krates::{DepKind, Kid};
 use krates_cli::derivation_lines::lines_of;
-use krates_samples::facts;
+use krates_samples::facts::steps_of;
 use krates_samples::table::{Question, Row, hold};
 use std::alloc::Global;
 use std::test::Fail;
-
-/// The facts and steps of a derivation.
-struct Own;
-
-impl facts::Facts for Own {
-    type Fact = Fact;
-
-    type Step = Step;
-
-    fn of_crate(krate: Kid) -> Fact {
-        Fact::Crate(krate)
-    }
-
-    fn of_feature(krate: Kid, name: String) -> Fact {
-        Fact::Feature { krate, name }
-    }
-
-    fn of_edge(parent: Kid, child: Kid, kind: DepKind, cfg: Option<String>) -> Fact {
-        Fact::Kept {
-            parent,
-            child,
-            kind,
-            cfg,
-        }
-    }
-
-    fn of_toggle(parent: Kid, child: Kid, name: String) -> Fact {
-        Fact::Toggled {
-            parent,
-            child,
-            name,
-        }
-    }
-
-    fn of_step(rule: u8, fact: Fact, uses: Vec<usize>) -> Step {
-        Step { rule, fact, uses }
-    }
-}
 
 /// The lines of a list of steps.
 struct Printed;
 
 impl Question for Printed {
     fn told(alloc: Global, line: &str) -> Result<String, Fail> {
-        let steps = facts::steps_of::<Own>(alloc, line)?;
-        Ok(lines_of(alloc, &Derivation { steps })?)
+        let derivation = steps_of(alloc, line)?;
+        Ok(lines_of(alloc, &derivation)?)
     }
 }
 

@@ -5,39 +5,14 @@
 //! - `a>b`, `a>b:dev` and `a>b:dev:TARGET`: the edge is kept.
 //! - `a>b/f`: a feature of the first crate toggles one of the second.
 //!
-//! A step is the number of its rule, its fact, and the numbers of the steps that it uses, as `4 a>b 1`; a semicolon divides
-//! steps. Whoever has facts and steps says what these words make of them, so that the checkers needn't stand below.
+//! A step is the number of its rule, its fact, and the numbers of the steps that it uses, as `4 a>b 1`; a semicolon divides steps.
 
 use crate::documents::{kid_of, kind_named};
 use krates_ids::Kid;
-use krates_rules::DepKind;
+use krates_rules::{DepKind, Derivation, Fact, Step};
 use std::alloc::{AllocError, Global};
 use std::str::SplitWhitespace;
 use std::test::Fail;
-
-/// Facts and steps that words are read into.
-pub trait Facts {
-    /// A fact.
-    type Fact: Drop;
-
-    /// A step.
-    type Step: Drop;
-
-    /// The crate is kept.
-    fn of_crate(krate: Kid) -> Self::Fact;
-
-    /// The feature of the crate is enabled.
-    fn of_feature(krate: Kid, name: String) -> Self::Fact;
-
-    /// The edge is kept.
-    fn of_edge(parent: Kid, child: Kid, kind: DepKind, cfg: Option<String>) -> Self::Fact;
-
-    /// A feature of the first crate toggles one of the second.
-    fn of_toggle(parent: Kid, child: Kid, name: String) -> Self::Fact;
-
-    /// The fact follows by the rule from the steps of these numbers.
-    fn of_step(rule: u8, fact: Self::Fact, uses: Vec<usize>) -> Self::Step;
-}
 
 /// The text that may be there.
 fn text_of(alloc: Global, text: Option<&str>) -> Result<Option<String>, AllocError> {
@@ -55,41 +30,50 @@ fn ends_of(alloc: Global, parent: &str, child: &str) -> Result<(Kid, Kid), Fail>
 }
 
 /// The fact that an edge is kept: its child, kind and target stand behind its parent.
-fn kept<F: Facts>(alloc: Global, parent: &str, rest: &str) -> Result<F::Fact, Fail> {
+fn kept(alloc: Global, parent: &str, rest: &str) -> Result<Fact, Fail> {
     let mut parts = rest.split(':');
     let child = parts.next().unwrap_or("");
     let kind = DepKind::from(kind_named(parts.next().unwrap_or("")));
     let cfg = text_of(alloc, parts.next())?;
     let (parent, child) = ends_of(alloc, parent, child)?;
-    Ok(F::of_edge(parent, child, kind, cfg))
+    Ok(Fact::Kept {
+        parent,
+        child,
+        kind,
+        cfg,
+    })
 }
 
 /// The fact of an edge: what stands behind its parent.
-fn edge_fact<F: Facts>(alloc: Global, parent: &str, rest: &str) -> Result<F::Fact, Fail> {
+fn edge_fact(alloc: Global, parent: &str, rest: &str) -> Result<Fact, Fail> {
     let Some((child, name)) = rest.split_once('/') else {
-        return kept::<F>(alloc, parent, rest);
+        return kept(alloc, parent, rest);
     };
     let name = String::from_str(alloc, name)?;
     let (parent, child) = ends_of(alloc, parent, child)?;
-    Ok(F::of_toggle(parent, child, name))
+    Ok(Fact::Toggled {
+        parent,
+        child,
+        name,
+    })
 }
 
 /// The fact that a feature is enabled: its crate stands before its name.
-fn enabled<F: Facts>(alloc: Global, word: &str) -> Result<F::Fact, Fail> {
+fn enabled(alloc: Global, word: &str) -> Result<Fact, Fail> {
     let (krate, name) = word.split_once('/').unwrap_or((word, ""));
     let name = String::from_str(alloc, name)?;
     let krate = kid_of(alloc, krate)?;
-    Ok(F::of_feature(krate, name))
+    Ok(Fact::Feature { krate, name })
 }
 
 /// The fact of a word.
-fn fact_of<F: Facts>(alloc: Global, word: &str) -> Result<F::Fact, Fail> {
+fn fact_of(alloc: Global, word: &str) -> Result<Fact, Fail> {
     if let Some(krate) = word.strip_prefix("+") {
-        return Ok(F::of_crate(kid_of(alloc, krate)?));
+        return Ok(Fact::Crate(kid_of(alloc, krate)?));
     }
     match word.split_once('>') {
-        Some((parent, rest)) => edge_fact::<F>(alloc, parent, rest),
-        None => enabled::<F>(alloc, word),
+        Some((parent, rest)) => edge_fact(alloc, parent, rest),
+        None => enabled(alloc, word),
     }
 }
 
@@ -103,42 +87,38 @@ fn used_numbers(alloc: Global, words: SplitWhitespace<'_>) -> Result<Vec<usize>,
 }
 
 /// Adds the step of these words.
-fn push_step<F: Facts>(steps: &mut Vec<F::Step>, alloc: Global, text: &str) -> Result<(), Fail> {
+fn push_step(steps: &mut Vec<Step>, alloc: Global, text: &str) -> Result<(), Fail> {
     let mut words = text.split_whitespace();
     let rule = words.next().unwrap_or("").parse()?;
     let word = words.next().unwrap_or("");
     let uses = used_numbers(alloc, words)?;
-    let fact = fact_of::<F>(alloc, word)?;
-    steps.push(F::of_step(rule, fact, uses))?;
+    let fact = fact_of(alloc, word)?;
+    steps.push(Step { rule, fact, uses })?;
     Ok(())
 }
 
 /// The steps of a text.
-pub fn steps_of<F: Facts>(alloc: Global, text: &str) -> Result<Vec<F::Step>, Fail> {
+pub fn steps_of(alloc: Global, text: &str) -> Result<Derivation, Fail> {
     let mut steps = Vec::new(alloc);
     for part in text.split(';') {
         if !part.trim().is_empty() {
-            push_step::<F>(&mut steps, alloc, part)?;
+            push_step(&mut steps, alloc, part)?;
         }
     }
-    Ok(steps)
+    Ok(Derivation { steps })
 }
 
 /// Adds the fact of a word.
-pub fn push_fact<F: Facts>(
-    facts: &mut Vec<F::Fact>,
-    alloc: Global,
-    word: &str,
-) -> Result<(), Fail> {
-    facts.push(fact_of::<F>(alloc, word)?)?;
+pub fn push_fact(facts: &mut Vec<Fact>, alloc: Global, word: &str) -> Result<(), Fail> {
+    facts.push(fact_of(alloc, word)?)?;
     Ok(())
 }
 
 /// The facts of the words.
-pub fn facts_of<F: Facts>(alloc: Global, text: &str) -> Result<Vec<F::Fact>, Fail> {
+pub fn facts_of(alloc: Global, text: &str) -> Result<Vec<Fact>, Fail> {
     let mut facts = Vec::new(alloc);
     for word in text.split_whitespace() {
-        push_fact::<F>(&mut facts, alloc, word)?;
+        push_fact(&mut facts, alloc, word)?;
     }
     Ok(facts)
 }
