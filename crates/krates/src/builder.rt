@@ -178,6 +178,11 @@ impl<S: Drop + 'static> Builder<S> {
     /// about no target and is false. The only refusal is running out of memory, and then the builder is as it was.
     /// Time O(targets).
     ///
+    /// A target that isn't known ([`Target::is_known`](krates_text::target::Target::is_known)) has no properties: `cfg(unix)`,
+    /// `cfg(windows)` and `cfg(target_os = "..")` are false there, so that what stands behind them is left out, and
+    /// nothing says so. Ask first, or describe the target by `TargetInfo::from_rustc`. What build scripts and
+    /// procedural macros need passes at the host, which is another target where one compiles for a second machine.
+    ///
     /// ```text
     /// let linux = Target::new(alloc, "x86_64-unknown-linux-gnu")?;
     /// builder.include_targets(vec![in alloc; (linux, Vec::new(alloc))]?)?;

@@ -34,6 +34,8 @@ mod references;
 #[cfg(test)]
 mod refusals;
 #[cfg(test)]
+mod rustc_cfg;
+#[cfg(test)]
 mod specifications;
 #[cfg(test)]
 mod targets;

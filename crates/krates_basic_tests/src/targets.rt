@@ -45,6 +45,15 @@ const PRINTED: &[Row] = &[
     ("", ""),
 ];
 
+/// Texts, and whether the target of each is described.
+const KNOWN: &[Row] = &[
+    ("x86_64-unknown-linux-gnu", "true"),
+    ("wasm32-unknown-unknown", "true"),
+    ("x86_64-pc-windows-gnu", "false"),
+    ("linux", "false"),
+    ("", "false"),
+];
+
 /// A description with each of its fields, or that there is none.
 fn shown(alloc: Global, info: Option<&TargetInfo>) -> Result<String, AllocError> {
     match info {
@@ -111,4 +120,19 @@ impl Question for Printed {
 #[test]
 fn prints_the_target(rt: HostRuntime) -> Result<(), Fail> {
     hold::<Printed>(rt.alloc(), PRINTED)
+}
+
+/// Whether the target of a text is described.
+struct Known;
+
+impl Question for Known {
+    fn told(alloc: Global, text: &str) -> Result<String, Fail> {
+        let target = Target::new(alloc, text)?;
+        Ok(format!(in alloc; "{}", target.is_known())?)
+    }
+}
+
+#[test]
+fn tells_what_is_known(rt: HostRuntime) -> Result<(), Fail> {
+    hold::<Known>(rt.alloc(), KNOWN)
 }

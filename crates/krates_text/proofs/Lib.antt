@@ -3,6 +3,7 @@ pub mod CutsLemmas
 pub mod FeatureReference
 pub mod PathLemmas
 pub mod TargetTable
+pub mod RustcCfg
 pub mod Copies
 pub mod CfgReading
 pub mod CfgFrames

@@ -5,6 +5,7 @@ pub mod JsonLine
 pub mod Path
 pub mod TargetTable
 pub mod TableRow
+pub mod RustcCfg
 pub mod CfgGrammar
 pub mod CfgReader
 pub mod CfgView

@@ -1,5 +1,5 @@
 -- The targets that are known by their triple, and what each is.
-use Rattle.std.specs.Prelude.{ℕ, List, [], ◌∷◌, Option, map, find, codes, string_bytes}
+use Rattle.std.specs.Prelude.{ℕ, Bool, true, false, List, [], ◌∷◌, Option, map, find, codes, string_bytes}
 use Rattle.std.specs.Option.{option_map_or}
 use Rattle.std.specs.Str.{bytes_eq}
 use Rattle.krates_text.specs.declared.target.TargetInfo.{TargetInfo}
@@ -78,6 +78,11 @@ target_of (variant.Unknown text) = unknown (string_bytes text)
 -- the target that a text names
 abbrev pub target_named : List ℕ → DescribedTarget
 target_named text = option_map_or builtin (row_of text) (unknown text)
+
+-- whether the target is described
+abbrev pub is_described : DescribedTarget → Bool
+is_described (builtin d) = true
+is_described (unknown text) = false
 
 -- the text that a target is printed as
 abbrev pub printed : DescribedTarget → List ℕ

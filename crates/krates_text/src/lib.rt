@@ -8,4 +8,5 @@ pub mod json_line;
 pub mod laws;
 pub mod passing;
 pub mod path;
+pub mod rustc_cfg;
 pub mod target;

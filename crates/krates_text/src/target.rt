@@ -2,7 +2,7 @@
 ghost use Rattle.std.specs.Prelude.{◌≡◌, Some, IfOk, find, map, string_bytes};
 ghost use Rattle.std.specs.Option.{option_copied, option_map};
 ghost use Rattle.std.specs.Str.{bytes_eq};
-ghost use Rattle.krates_text.specs.TargetTable.{table, row_of, description_of, target_of, target_named, printed};
+ghost use Rattle.krates_text.specs.TargetTable.{table, row_of, description_of, is_described, target_of, target_named, printed};
 ghost use Rattle.krates_text.specs.TableRow.{described};
 
 use std::alloc::{AllocError, Global};
@@ -247,6 +247,21 @@ impl Target {
             Some(info) => Ok(Target::Builtin(info)),
             None => Ok(Target::Unknown(String::from_str(alloc, text)?)),
         }
+    }
+
+    /// Whether the target is described. At one that isn't, no predicate such as `unix` or `target_os = ".."` holds, so
+    /// that a program which is given a triple will want to refuse it, or to describe the target by
+    /// [`TargetInfo::from_rustc`]. Time O(1).
+    ///
+    /// ```text
+    /// if !Target::new(alloc, triple)?.is_known() {
+    ///     eprintln!(rt; "{triple}: not in the table of targets")?;
+    /// }
+    /// ```
+    pub fn is_known(&self) -> bool
+        ensures { result ≡ is_described (target_of self.now) }
+    {
+        matches!(self, Target::Builtin(_))
     }
 
     /// The triple, or the unknown text. Time O(1).
