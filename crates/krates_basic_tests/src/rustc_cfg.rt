@@ -118,7 +118,7 @@ fn reads_other_lines(rt: HostRuntime) -> Result<(), Fail> {
 }
 
 /// A description with its atomics in order, but for `128`, which the table doesn't have.
-fn in_order(alloc: Global, mut info: TargetInfo) -> Result<String, AllocError> {
+fn in_fixed_order(alloc: Global, mut info: TargetInfo) -> Result<String, AllocError> {
     info.atomics.retain(|width| width.as_str() != "128");
     info.atomics.sort()?;
     format!(in alloc; "{info:?}")
@@ -130,8 +130,8 @@ fn compare_with_table(alloc: Global, line: &str) -> Result<(), Fail> {
     let Some(known) = builtin(alloc, info.triple.as_str())? else {
         return Err(Fail::new(format_args!("{line}: not in the table")));
     };
-    let told = in_order(alloc, info)?;
-    compare(line, told.as_str(), in_order(alloc, known)?.as_str())
+    let told = in_fixed_order(alloc, info)?;
+    compare(line, told.as_str(), in_fixed_order(alloc, known)?.as_str())
 }
 
 #[test]
