@@ -49,8 +49,8 @@ pub mod cm {
     pub use krates_cargo::{Features, MetadataCommand};
     pub use krates_cm::{
         CrateType, DepKindInfo, Dependency, DependencyKind, Edition, Error, Metadata, Node,
-        NodeDep, Package, PackageId, ReadError, Resolve, Source, Target, TargetKind, UnknownName,
-        WorkspaceDefaultMembers,
+        NodeDep, Package, PackageId, ReadError, Resolve, Source, SourceKind, Target, TargetKind,
+        UnknownName, WorkspaceDefaultMembers,
     };
     pub use krates_cm_json::{FromValue, ToValue};
 
@@ -58,7 +58,7 @@ pub mod cm {
     pub mod laws {
         pub use krates_cm::laws::{
             dependency_kinds_compared, editions_compared, forms_compared, kinds_compared,
-            package_ids_compared, sources_compared,
+            package_ids_compared, source_kinds_compared, sources_compared,
         };
         pub use krates_cm_json::laws::{faults_are_exact, written_is_read};
     }

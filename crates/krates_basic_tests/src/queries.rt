@@ -1,13 +1,13 @@
 //! What a document answers, what its kinds and ids print, and copies of its types.
 
 use crate::ids::package_id;
-use crate::packages::{hold_within, read};
+use crate::packages::{hold_within, package, read};
 use krates_cm::{
     DepKindInfo, Dependency, DependencyKind, Edition, Metadata, Package, PackageId, Source, Target,
     TargetKind, WorkspaceDefaultMembers,
 };
 use krates_cm_json::FromValue;
-use krates_samples::table::{Question, Row, compare};
+use krates_samples::table::{Question, Row, compare, hold};
 use std::alloc::{AllocError, Global};
 use std::fmt::Debug;
 use std::marker::PhantomData;
@@ -90,6 +90,43 @@ const KINDS: &[Row] = &[
     (r#""test","lib","bin""#, "lib bin test "),
 ];
 
+/// The source of a package as JSON, and of what kind it is, and whether the package is local.
+const SOURCES: &[Row] = &[
+    // as cargo writes a path dependency, and a member
+    ("null", "None, local: true"),
+    // as it writes crates.io, by either protocol
+    (
+        r#""registry+https://github.com/rust-lang/crates.io-index""#,
+        "Some(Registry), local: false",
+    ),
+    (
+        r#""sparse+https://index.crates.io/""#,
+        "Some(SparseRegistry), local: false",
+    ),
+    (
+        r#""git+https://github.com/x/y?branch=a#abc""#,
+        "Some(Git), local: false",
+    ),
+    // as an id has it
+    (r#""path+file:///w/x""#, "Some(Path), local: true"),
+    // only the first plus counts
+    (r#""git+path+x""#, "Some(Git), local: false"),
+    (r#""path+git+x""#, "Some(Path), local: true"),
+    (r#""x+path+y""#, "Some(Other), local: false"),
+    // the word is whole, and in small letters, and may have nothing behind it
+    (r#""gitx+https://h""#, "Some(Other), local: false"),
+    (r#""gi+https://h""#, "Some(Other), local: false"),
+    (r#"" path+file:///w/x""#, "Some(Other), local: false"),
+    (r#""Path+file:///w/x""#, "Some(Other), local: false"),
+    (r#""+x""#, "Some(Other), local: false"),
+    (r#""sparse+""#, "Some(SparseRegistry), local: false"),
+    // no plus
+    (r#""file:///x""#, "Some(Other), local: false"),
+    (r#""registry""#, "Some(Other), local: false"),
+    (r#""path""#, "Some(Other), local: false"),
+    (r#""""#, "Some(Other), local: false"),
+];
+
 /// The names of packages.
 fn names<'a>(alloc: Global, packages: &[&'a Package]) -> Result<Vec<&'a str>, AllocError> {
     let mut names = Vec::new(alloc);
@@ -154,6 +191,13 @@ fn files(alloc: Global, package: &Package) -> Result<String, AllocError> {
     Ok(text)
 }
 
+/// Of what kind the source of a package is, and whether the package is local.
+fn origin(alloc: Global, package: &Package) -> Result<String, AllocError> {
+    let kind = package.source.as_ref().map(|source| source.kind());
+    let is_local = package.is_local();
+    format!(in alloc; "{kind:?}, local: {is_local}")
+}
+
 /// The tests that say yes of a target.
 fn tests(alloc: Global, target: &Target) -> Result<String, AllocError> {
     let all = [
@@ -211,6 +255,21 @@ impl<T: Answers> Question for AnswersOf<T> {
         let value: T = read(alloc, json)?;
         Ok(value.answers(alloc)?)
     }
+}
+
+/// Of what kind a source is that JSON is, and whether a package of it is local.
+struct Origin;
+
+impl Question for Origin {
+    fn told(alloc: Global, source: &str) -> Result<String, Fail> {
+        let package = package(alloc, "1.0.0", source, "{}")?;
+        Ok(origin(alloc, &package)?)
+    }
+}
+
+#[test]
+fn sources_have_kinds(rt: HostRuntime) -> Result<(), Fail> {
+    hold::<Origin>(rt.alloc(), SOURCES)
 }
 
 #[test]

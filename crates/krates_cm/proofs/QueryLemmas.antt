@@ -1,15 +1,19 @@
 -- What the questions to a document rest on: membership by a test, and the path of a manifest.
-use Rattle.std.proofs.Common.{◌≡◌, ◌↔◌, ℕ, ◌+◌, ◌<◌, List, [], ◌∷◌, ◌++◌, length, map, take, get_or, cond, ◌||◌, bytes_eq, Bool, true, false, IsTrue, Contains, refl, sym, ap, ◌∙◌, arith, length-append, append-nil, rules, tests}
-use Rattle.std.specs.Prelude.{codes, filter}
+use Rattle.std.proofs.Common.{◌≡◌, ◌↔◌, ℕ, ◌+◌, ◌<◌, List, [], ◌∷◌, ◌++◌, length, map, take, get_or, cond, ◌||◌, bytes_eq, Bool, true, false, IsTrue, Contains, refl, sym, ap, ◌∙◌, arith, length-append, append-nil, eqb-true, inl, inr, rules, tests}
+use Rattle.std.specs.Prelude.{◌≢◌, codes, filter}
+use Rattle.std.proofs.lemmas.Bool.{both_ways, cases_Bool}
 use Rattle.std.proofs.lemmas.List.{get_or_default, map-append}
 use Rattle.std.proofs.lemmas.List.Elements.{filter_more}
 use Rattle.std.proofs.lemmas.List.Folds.{Any-from_list_any, list_any_at}
-use Rattle.std.specs.List.{list_any}
+use Rattle.std.proofs.lemmas.List.Sums.{fails_before_first, passes_at_first, split_at_first}
+use Rattle.std.proofs.lemmas.Slice.Eq.{bytes_eq-Decides}
+use Rattle.std.specs.List.{after_first, before_first, list_any, position_or_len}
 use Rattle.krates_text.specs.Path.{components, IsParent}
 use Rattle.krates_cm.specs.Document.{id_view}
-use Rattle.krates_cm.specs.Queries.{IsManifestIn}
+use Rattle.krates_cm.specs.Queries.{is_plus, source_kind, IsManifestIn}
 use Rattle.krates_cm.specs.contracts.package_id.PackageIdPartialEq.TheImpl.{ghosts as id_equality}
 use Rattle.krates_cm.specs.declared.package.Package.{Package}
+use Rattle.krates_cm.specs.declared.package.SourceKind.TheVariants.{Other}
 use Rattle.krates_cm.specs.declared.package_id.PackageId.{PackageId}
 use Rattle.krates_cm.specs.contracts.target.TargetKindPartialEq.TheImpl.{ghosts as kind_equality}
 use Rattle.krates_cm.specs.declared.target.TargetKind.{TargetKind}
@@ -95,3 +99,32 @@ passed_next test packages i here lt is fails =
 -- the test of `contains` tells whether the id is among them
 pub among_told : (ids : List PackageId) (id : PackageId) (b : Bool) → b ≡ list_any (λ one. id_equality.eq one id) ids → b ≡ list_any (λ one. bytes_eq one (id_view id)) (map id_view ids)
 among_told ids id b is = is ∙ sym (any_seen id_view (λ one. bytes_eq one (id_view id)) ids)
+
+-- ---- the kind of a source
+
+-- a text that has a plus is what stands before the first, that plus, and a rest
+cut_at_plus : (text : List ℕ) → list_any is_plus text ≡ true → (rest : List ℕ) × (text ≡ before_first is_plus text ++ 43 ∷ rest)
+cut_at_plus text has =
+    let any = Any-from_list_any is_plus text has in
+    let late : any.0 < position_or_len is_plus text → ⊥ = λ lt. both_ways (is_plus any.1) (ap is_plus (sym any.3) ∙ fails_before_first is_plus text any.0 any.1 lt) any.4 in
+    let within : position_or_len is_plus text < length text = omega (arith, late, any.2) in
+    let plus = eqb-true (get_or text (position_or_len is_plus text) 0) 43 (passes_at_first is_plus text 0 within) in
+    (after_first is_plus text, split_at_first is_plus text 0 within ∙ ap (λ b. before_first is_plus text ++ b ∷ after_first is_plus text) plus)
+
+-- what stands before the first plus isn't a name with which, and a plus, the text doesn't begin
+other_name : (text name : List ℕ) → list_any is_plus text ≡ true → ((rest : List ℕ) → text ≢ name ++ 43 ∷ rest) → bytes_eq (before_first is_plus text) name ≡ false
+other_name text name has lacks = elim (cases_Bool (bytes_eq (before_first is_plus text) name)) [
+  | inl same ↦
+      let cut = cut_at_plus text has in
+      absurd (lacks cut.0 (cut.1 ∙ ap (λ front. front ++ 43 ∷ cut.0) ((bytes_eq-Decides (before_first is_plus text) name).0 same)))
+  | inr other ↦ other
+]
+
+-- a text without a plus, or with another name before the first, is of another kind
+pub other_kind : (text : List ℕ) → ((rest : List ℕ) → text ≢ codes "registry+" ++ rest) → ((rest : List ℕ) → text ≢ codes "sparse+" ++ rest)
+    → ((rest : List ℕ) → text ≢ codes "git+" ++ rest) → ((rest : List ℕ) → text ≢ codes "path+" ++ rest) → source_kind text ≡ Other
+other_kind text registry sparse git path = elim (cases_Bool (list_any is_plus text)) [
+  | inl has ↦
+      rw (has, other_name text (codes "registry") has registry, other_name text (codes "sparse") has sparse, other_name text (codes "git") has git, other_name text (codes "path") has path) refl
+  | inr lacks ↦ rw lacks refl
+]

@@ -1,15 +1,38 @@
 -- What can be asked of a document: its root, the packages of its workspace, the files that a package names.
-use Rattle.std.specs.Prelude.{◌≡◌, ◌⊎◌, ℕ, List, [], ◌∷◌, ◌++◌, Option, None, Some, option_and_then, MatchOption, codes, bytes_eq, filter}
-use Rattle.std.specs.List.{AllWithin, All, find, list_any, slice_get}
+use Rattle.std.specs.Prelude.{◌≡◌, ◌⊎◌, ◌==◌, ℕ, Bool, List, [], ◌∷◌, ◌++◌, Option, None, Some, option_and_then, MatchOption, codes, bytes_eq, filter, if◌then◌else◌, ⊤}
+use Rattle.std.specs.List.{AllWithin, All, before_first, find, list_any, slice_get}
 use Rattle.std.specs.Path.{path_join}
 use Rattle.krates_text.specs.Path.{HasNoParent, IsParent, components}
 use Rattle.krates_cm.specs.Document.{Text, text_view, id_view}
 use Rattle.krates_cm.specs.declared.metadata.Metadata.{Metadata}
 use Rattle.krates_cm.specs.declared.package.Package.{Package}
+use Rattle.krates_cm.specs.declared.package.SourceKind.{SourceKind}
+use Rattle.krates_cm.specs.declared.package.SourceKind.TheVariants.{Registry, SparseRegistry, Git, Path, Other}
 
 -- the source of the packages of crates.io
 abbrev pub crates_io : Text
 crates_io = codes "registry+https://github.com/rust-lang/crates.io-index"
+
+-- whether a byte is the plus that ends the kind of a source
+abbrev pub is_plus : ℕ → Bool
+is_plus b = b == 43
+
+-- the kind that has this name
+abbrev pub source_kind_named : Text → SourceKind
+source_kind_named name =
+    if bytes_eq name (codes "registry") then Registry
+    else if bytes_eq name (codes "sparse") then SparseRegistry
+    else if bytes_eq name (codes "git") then Git
+    else if bytes_eq name (codes "path") then Path
+    else Other
+
+-- the kind of a source is named by what stands before its first plus
+abbrev pub source_kind : Text → SourceKind
+source_kind text = if list_any is_plus text then source_kind_named (before_first is_plus text) else Other
+
+-- a package is local that has no source, or one of a path
+abbrev pub IsLocal : Option Text → Type 0
+IsLocal source = MatchOption source ⊤ (λ text. source_kind text ≡ Path)
 
 -- the first package of this id
 abbrev pub package_of : List Package → Text → Option Package

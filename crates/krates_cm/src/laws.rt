@@ -8,7 +8,7 @@ ghost use Rattle.krates_cm.specs.Comparisons.{dependency_kind_place, edition_pla
 ghost use Rattle.krates_cm.specs.Document.{id_view, source_view};
 
 use crate::dependency::DependencyKind;
-use crate::package::Source;
+use crate::package::{Source, SourceKind};
 use crate::package_id::PackageId;
 use crate::target::{CrateType, Edition, TargetKind};
 use std::hash::Hash;
@@ -16,6 +16,11 @@ use std::hash::Hash;
 /// Sources are equal where their texts are.
 pub fn sources_compared()
     ensures equal { (a b : Source) → (⟦<Source as PartialEq>⟧.eq a b ≡ true) ↔ (source_view a ≡ source_view b) }
+{}
+
+/// Each kind of a source is equal to itself alone.
+pub fn source_kinds_compared()
+    ensures equal { (a b : SourceKind) → (⟦<SourceKind as PartialEq>⟧.eq a b ≡ true) ↔ (a ≡ b) }
 {}
 
 /// Package ids are equal, are ordered and are hashed as their texts are, by the bytes.

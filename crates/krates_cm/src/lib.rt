@@ -20,7 +20,7 @@ pub use dependency::{Dependency, DependencyKind};
 pub use error::Error;
 pub use metadata::{Metadata, WorkspaceDefaultMembers};
 pub use names::UnknownName;
-pub use package::{Package, Source};
+pub use package::{Package, Source, SourceKind};
 pub use package_id::PackageId;
 pub use read_error::ReadError;
 pub use resolve::{DepKindInfo, Node, NodeDep, Resolve};

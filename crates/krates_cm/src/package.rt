@@ -69,3 +69,19 @@ pub struct Source {
     /// The text of the source.
     pub repr: String,
 }
+
+/// What kind of place a source is: what stands before the first `+` of its text, as in `git+https://host/repository`
+/// (Cargo Book, "Package ID Specifications").
+#[derive(Clone, Copy, Debug, PartialEq, Eq)]
+pub enum SourceKind {
+    /// A registry whose index is a git repository, `registry`; crates.io too is written so.
+    Registry,
+    /// A registry whose index is read by HTTP, `sparse`.
+    SparseRegistry,
+    /// A git repository, `git`.
+    Git,
+    /// A directory, `path`.
+    Path,
+    /// None of these: another word stands there, or the text has no `+`.
+    Other,
+}

@@ -3,11 +3,11 @@
 ghost use Rattle.std.specs.Prelude.{◌≡◌, ◌↔◌, Contains, IfOk, IsSome, IsTrue, Some, bytes_eq, map, option_copied, option_map};
 ghost use Rattle.std.specs.List.{list_any};
 ghost use Rattle.krates_cm.specs.Document.{id_view, ids_view, source_view, text_view};
-ghost use Rattle.krates_cm.specs.Queries.{crates_io, package_of, packages_among, IsBeside, IsManifestIn, IsRootPackage};
+ghost use Rattle.krates_cm.specs.Queries.{crates_io, package_of, packages_among, source_kind, IsBeside, IsLocal, IsManifestIn, IsRootPackage};
 ghost use Rattle.krates_cm.specs.declared.target.TargetKind.TheVariants as kinds;
 
 use crate::metadata::{Metadata, WorkspaceDefaultMembers};
-use crate::package::{Package, Source};
+use crate::package::{Package, Source, SourceKind};
 use crate::package_id::PackageId;
 use crate::target::{Target, TargetKind};
 use krates_text::path;
@@ -150,6 +150,22 @@ impl Package {
     {
         beside(alloc, self.manifest_path.as_str(), &self.readme)
     }
+
+    /// Whether the package lies in a directory of this machine: it has no source, or one of the kind `SourceKind::Path`.
+    /// `cargo metadata` gives members of the workspace and path dependencies no source (Cargo Book, "cargo metadata");
+    /// the second form is that of ids. Looks at no other field. Time O(1), as that of `Source::kind`.
+    ///
+    /// ```text
+    /// let is_checked_out = pkg.is_local(); // and not fetched from a registry or by git
+    /// ```
+    pub fn is_local(&self) -> bool
+        ensures { IsTrue result ↔ IsLocal (option_map source_view self.now.source) }
+    {
+        match &self.source {
+            Some(source) => source.kind() == SourceKind::Path,
+            None => true,
+        }
+    }
 }
 
 impl Source {
@@ -165,6 +181,30 @@ impl Source {
         ensures { result ≡ bytes_eq (source_view self.now) crates_io }
     {
         self.repr.as_str() == "registry+https://github.com/rust-lang/crates.io-index"
+    }
+
+    /// What kind of place the source is, by exactly what stands before the first `+` of its text: `registry`, `sparse`,
+    /// `git` or `path`, in small letters. Any other text is `SourceKind::Other`, also one without a `+`. What follows
+    /// the `+` isn't read. Time O(1): four times at most nine bytes at the beginning of the text are compared.
+    ///
+    /// ```text
+    /// let kind = source.kind(); // SourceKind::Git for `git+https://host/repository?branch=main#0a1b2c`
+    /// ```
+    pub fn kind(&self) -> SourceKind
+        ensures { result ≡ source_kind (source_view self.now) }
+    {
+        let text = self.repr.as_str();
+        if text.starts_with("registry+") {
+            SourceKind::Registry
+        } else if text.starts_with("sparse+") {
+            SourceKind::SparseRegistry
+        } else if text.starts_with("git+") {
+            SourceKind::Git
+        } else if text.starts_with("path+") {
+            SourceKind::Path
+        } else {
+            SourceKind::Other
+        }
     }
 }
 

@@ -3,8 +3,9 @@
 //!
 //! - `graph`: the graph that is drawn of the document, number by number;
 //! - `queries`: what each query of the graph answers;
-//! - `reports`: four reports of the crates that the workspace needs, each an example of how the library is used: the licences, the
-//!   crates of the name whose version fits the requirement, the bill of materials, and the crates with several versions.
+//! - `reports`: five reports of the crates that the workspace needs, each an example of how the library is used: the licences, the
+//!   crates of the name whose version fits the requirement, the bill of materials, the crates with several versions, and who needs
+//!   those of the name, all the way up.
 //!
 //! The options are those of `krates-list`, but for `--cargo`. The graph and the answers are for the scripts that compare them with plain
 //! readings, so nothing is promised of their lines.
@@ -14,6 +15,7 @@ mod advisory;
 mod answers;
 mod drawing;
 mod duplicates;
+mod inverted;
 mod licences;
 mod lines;
 mod lookups;
@@ -56,7 +58,7 @@ fn push_report(lines: &mut String, report: Result<String, AllocError>) -> Result
     lines.push_str(report?.as_str())
 }
 
-/// Adds the four reports.
+/// Adds the five reports.
 fn push_reports(
     alloc: Global,
     lines: &mut String,
@@ -70,7 +72,11 @@ fn push_reports(
     )?;
     push_report(lines, materials::report(alloc, krates))?;
     lines.push_str("\n")?;
-    push_report(lines, duplicates::report(alloc, krates))
+    push_report(lines, duplicates::report(alloc, krates))?;
+    push_report(
+        lines,
+        inverted::report(alloc, krates, asked.name, &asked.affected),
+    )
 }
 
 /// Adds what is asked of a graph, where the packages of the document have these ids.
