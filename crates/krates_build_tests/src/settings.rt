@@ -76,6 +76,19 @@ const SETTINGS: &[Row] = &[
         r#"a b&on=cfg(target_feature~=~"atomics")|b / for x"#,
         "+a-b",
     ),
+    // a triple beside the table: of itself it has no property, and as rustc describes it those that cargo goes by
+    (
+        r#"a b&on=cfg(windows) c&on=cfg(all(windows,~target_env~=~"gnu")) d&on=cfg(unix) e&on=x86_64-pc-windows-gnu f&on=cfg(target_os~=~"freebsd") g&on=cfg(target_feature~=~"sse3")|b|c|d|e|f|g / for x86_64-pc-windows-gnu"#,
+        "+a+e-b-c-d-f-g",
+    ),
+    (
+        r#"a b&on=cfg(windows) c&on=cfg(all(windows,~target_env~=~"gnu")) d&on=cfg(unix) e&on=x86_64-pc-windows-gnu f&on=cfg(target_os~=~"freebsd") g&on=cfg(target_feature~=~"sse3")|b|c|d|e|f|g / for x86_64-pc-windows-gnu;debug_assertions;panic="unwind";target_abi="";target_arch="x86_64";target_endian="little";target_env="gnu";target_family="windows";target_feature="cmpxchg16b";target_feature="fxsr";target_feature="sse";target_feature="sse2";target_feature="sse3";target_has_atomic="128";target_has_atomic="16";target_has_atomic="32";target_has_atomic="64";target_has_atomic="8";target_has_atomic="ptr";target_os="windows";target_pointer_width="64";target_vendor="pc";windows"#,
+        "+a+b+c+e+g-d-f",
+    ),
+    (
+        r#"a b&on=cfg(windows) c&on=cfg(all(windows,~target_env~=~"gnu")) d&on=cfg(unix) e&on=x86_64-pc-windows-gnu f&on=cfg(target_os~=~"freebsd") g&on=cfg(target_feature~=~"sse3")|b|c|d|e|f|g / for x86_64-unknown-freebsd;debug_assertions;panic="unwind";target_abi="";target_arch="x86_64";target_endian="little";target_env="";target_family="unix";target_feature="fxsr";target_feature="sse";target_feature="sse2";target_has_atomic="16";target_has_atomic="32";target_has_atomic="64";target_has_atomic="8";target_has_atomic="ptr";target_os="freebsd";target_pointer_width="64";target_vendor="unknown";unix"#,
+        "+a+d+f-b-c-e-g",
+    ),
     // a crate whose node needs two versions of the one dependency that it declares; ids are ordered as texts
     (
         "a d|d@0.9.0|d@0.10.0 / nodes a d@0.9.0 d@0.10.0|d@0.9.0|d@0.10.0",

@@ -5,13 +5,14 @@
 //! - `include PATHS`: the crates with these manifests are roots.
 //! - `ignore KIND SCOPE`: this kind of dependency is ignored for the crates of the scope.
 //! - `without SPECS`: the packages that one of these fits are left out.
-//! - `for TARGETS`: the targets, each a triple, and behind a plus sign a feature that it has.
+//! - `for TARGETS`: the targets, each a triple, and behind a plus sign a feature that it has; or behind it, each behind a
+//!   semicolon, the lines by which rustc describes it.
 //!
 //! Any other section sets nothing. Here the words after the names are read; whoever has a builder or a setting sets them.
 
 use krates_ids::PkgSpec;
 use krates_rules::Scope;
-use krates_text::target::Target;
+use krates_text::target::{Target, TargetInfo};
 use std::alloc::Global;
 use std::test::Fail;
 
@@ -42,8 +43,18 @@ pub fn package_specs(alloc: Global, text: &str) -> Result<Vec<PkgSpec>, Fail> {
     Ok(specs)
 }
 
+/// The target of a triple that these lines of rustc's describe.
+fn described(alloc: Global, triple: &str, lines: &str) -> Result<(Target, Vec<String>), Fail> {
+    let text = lines.replace(alloc, ";", "\n")?;
+    let (info, features) = TargetInfo::from_rustc(alloc, triple, text.as_str())?;
+    Ok((Target::Builtin(info), features))
+}
+
 /// The target of a word.
 fn target(alloc: Global, word: &str) -> Result<(Target, Vec<String>), Fail> {
+    if let Some((triple, lines)) = word.split_once(';') {
+        return described(alloc, triple, lines);
+    }
     let (triple, feature) = word.split_once('+').unwrap_or((word, ""));
     let mut features = Vec::new(alloc);
     if !feature.is_empty() {
