@@ -4,6 +4,7 @@
 #![tactic(auto)]
 
 pub mod derivation;
+pub mod derivation_texts;
 pub mod kind;
 pub mod laws;
 pub mod uses;
