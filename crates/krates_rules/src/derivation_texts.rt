@@ -1,15 +1,29 @@
-//! How facts, steps and derivations are printed: ids by their texts, and of a derivation a step a line.
+//! How facts, steps and derivations are printed: ids by their texts, and a derivation a step a line.
 
 ghost use Rattle.std.specs.Prelude.{◌≡◌, Some};
-ghost use Rattle.krates_rules.specs.DerivationTexts.{derivation_lines, fact_text, kind_suffix, step_text, uses_text};
+ghost use Rattle.krates_rules.specs.DerivationTexts.{derivation_lines, fact_text, kind_suffix};
+ghost use Rattle.krates_rules.specs.DerivationTexts.{step_text, uses_text};
 
 use crate::derivation::{Derivation, Fact, Step};
 use crate::kind::DepKind;
 use std::fmt;
 
-/// Each fact begins with its own word, and ids stand by their texts: `crate ID`, `feature NAME of ID`, `kept PARENT -> CHILD`,
-/// `toggled NAME of CHILD by PARENT`. A kept edge has ` (build)` or ` (dev)` behind it where its kind isn't the normal one,
-/// and then its target in single quotes where it has one.
+impl DepKind {
+    /// A blank and the kind in brackets, and nothing for the normal one.
+    fn suffix(self) -> &'static str
+        ensures { result.now ≡ kind_suffix self }
+    {
+        match self {
+            DepKind::Normal => "",
+            DepKind::Build => " (build)",
+            DepKind::Dev => " (dev)",
+        }
+    }
+}
+
+/// `crate ID`, `feature NAME of ID`, `kept PARENT -> CHILD`, or `toggled NAME of CHILD by PARENT`, with the texts of
+/// the ids. Behind a kept edge stands ` (build)` or ` (dev)` where its kind isn't the normal one, and then its target in
+/// single quotes where it is for one.
 ///
 /// ```text
 /// kept path+file:///w/a#0.1.0 -> path+file:///w/b#0.1.0 (build) 'cfg(unix)'
@@ -27,7 +41,7 @@ impl fmt::Display for Fact {
                 kind,
                 cfg,
             } => {
-                write!(f, "kept {parent} -> {child}{}", kind_mark(*kind))?;
+                write!(f, "kept {parent} -> {child}{}", kind.suffix())?;
                 match cfg {
                     Some(cfg) => write!(f, " '{cfg}'"),
                     None => Ok(()),
@@ -39,17 +53,6 @@ impl fmt::Display for Fact {
                 name,
             } => write!(f, "toggled {name} of {child} by {parent}"),
         }
-    }
-}
-
-/// A blank and the kind in brackets, and nothing for the normal one.
-fn kind_mark(kind: DepKind) -> &'static str
-    ensures { result.now ≡ kind_suffix kind }
-{
-    match kind {
-        DepKind::Normal => "",
-        DepKind::Build => " (build)",
-        DepKind::Dev => " (dev)",
     }
 }
 
@@ -73,11 +76,11 @@ impl fmt::Display for UsedSteps<'_> {
     }
 }
 
-/// The number of the rule, the fact, and the numbers of the steps that it uses, where there are any. Its own number stands in
-/// the derivation.
+/// `rule NUMBER: `, its fact, and where it uses steps ` from ` and their numbers. Its own number it has from its
+/// derivation, which prints it.
 ///
 /// ```text
-/// rule 5: crate path+file:///w/b#0.1.0 from 1
+/// rule 7: toggled j of path+file:///w/b#0.1.0 by path+file:///w/a#0.1.0 from 0, 1
 /// ```
 impl fmt::Display for Step {
     ghost output = { λ step. Some (step_text step) };
@@ -87,7 +90,8 @@ impl fmt::Display for Step {
     }
 }
 
-/// A line for each step, in their order: its number, counted from 0, and the step. A derivation without a step prints nothing.
+/// A line for each step, in their order: its number, counted from 0, a blank, the step, and a line feed. Where there is
+/// no step, nothing. Time: O(length).
 ///
 /// ```text
 /// 0 rule 1: crate path+file:///w/a#0.1.0
