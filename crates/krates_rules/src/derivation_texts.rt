@@ -86,7 +86,13 @@ impl fmt::Display for Step {
     ghost output = { λ step. Some (step_text step) };
 
     fn fmt<W: fmt::Write>(&self, f: &mut fmt::Formatter<W>) -> fmt::Result {
-        write!(f, "rule {}: {}{}", self.rule, self.fact, UsedSteps(&self.uses))
+        write!(
+            f,
+            "rule {}: {}{}",
+            self.rule,
+            self.fact,
+            UsedSteps(&self.uses)
+        )
     }
 }
 
