@@ -1,5 +1,5 @@
-//! Worked examples of texts, JSON among them, the graph, ids and metadata: what the lowest crates, and those of the document, answer where
-//! the answer is known.
+//! Worked examples of texts, JSON among them, the graph, ids, metadata and printed steps: what the lowest crates,
+//! and those of the document, answer where the answer is known.
 //!
 //! They stand apart from the crates that they test, since a crate with tests is proved twice. What is expected stands in
 //! constants, which cost no proof: a row in the body of a test costs as much as a small function.
@@ -9,6 +9,8 @@
 mod agenda;
 #[cfg(test)]
 mod correction;
+#[cfg(test)]
+mod derivation_texts;
 #[cfg(test)]
 mod documents;
 #[cfg(test)]

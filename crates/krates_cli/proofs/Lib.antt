@@ -5,5 +5,4 @@ pub mod ListedLemmas
 pub mod ListingLemmas
 pub mod OptionsLemmas
 pub mod ReportedLemmas
-pub mod StepLines
 pub mod WhyKeptLemmas

@@ -1,7 +1,6 @@
 pub mod CargoListing
 pub mod CommandLine
 pub mod Counted
-pub mod DerivationLines
 pub mod FailedCall
 pub mod Lines
 pub mod Listing

@@ -13,7 +13,7 @@ use Rattle.krates_rules.specs.Setting.{SettingModel}
 use Rattle.krates.specs.Build.{IsResolvable, KeepsCrate, DropsCrate, IsLost}
 use Rattle.krates_packages.specs.Listed.{AreThosePackages}
 use Rattle.krates_cli.specs.Counted.{AppendsFront}
-use Rattle.krates_cli.specs.DerivationLines.{derivation_lines}
+use Rattle.krates_rules.specs.DerivationTexts.{derivation_lines}
 use Rattle.krates_cli.specs.Lines.{lines_of}
 use Rattle.krates_cli.specs.Request.{Request}
 use Rattle.krates_cli.specs.WhyKept.{IsWhyKept}

@@ -13,7 +13,7 @@ use Rattle.krates_rules.specs.StepParts.{HaveOwnFacts, IsUsedLater}
 use Rattle.krates_rules.specs.Steps.{EndsIn}
 use Rattle.krates_queries.specs.Kept.{KeptCrates, IsNotKept, ids_of}
 use Rattle.krates_queries.specs.Why.{IsWhy}
-use Rattle.krates_cli.specs.DerivationLines.{derivation_lines}
+use Rattle.krates_rules.specs.DerivationTexts.{derivation_lines}
 use Rattle.krates_cli.specs.declared.run_error.RunError.{RunError}
 use Rattle.krates_cli.specs.declared.run_error.RunError.TheVariants as errors
 

@@ -3,7 +3,6 @@
 
 pub mod command_line;
 pub mod counted;
-pub mod derivation_lines;
 mod failed_call;
 pub mod laws;
 mod lines;

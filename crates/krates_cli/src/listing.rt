@@ -55,7 +55,7 @@ fn listing_of(alloc: Global, options: &Options, metadata: Metadata) -> Result<St
 
 /// Reads one document up to the end of the input, builds under the options, and writes a line `+ ` and the id for
 /// each kept crate, then a line `- ` and the id for each other package, both in the order of the ids. Where a crate is to be
-/// explained, it writes in their place a line for each step of its derivation, as `derivation_lines::lines_of` has them; which
+/// explained, it writes in their place a line for each step of its derivation, as its `Display` prints them; which
 /// derivation it is, where there are several, is left open.
 ///
 /// It is refused as `Read`, `Utf8`, `Parse`, `Build`, `NotKept` or `Write`, in this order and only where that is true of the

@@ -3,7 +3,6 @@
 ghost use Rattle.std.specs.Prelude.{IfErr, IfOk, string_bytes};
 ghost use Rattle.krates_cli.specs.WhyKept.{ExplainsKept, IsUnexplained};
 
-use crate::derivation_lines::lines_of;
 use crate::listed::Listed;
 use crate::run_error::RunError;
 use krates::{Kid, Krates};
@@ -26,5 +25,5 @@ pub(crate) fn why_kept(
     let Some(derivation) = krates.why(node)? else {
         unreachable!()
     };
-    Ok(lines_of(alloc, &derivation)?)
+    Ok(format!(in alloc; "{derivation}")?)
 }

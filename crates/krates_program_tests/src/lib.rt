@@ -24,8 +24,6 @@ mod no_programs;
 #[cfg(test)]
 mod options;
 #[cfg(test)]
-mod printed;
-#[cfg(test)]
 mod streams;
 #[cfg(test)]
 mod why;

@@ -1,5 +1,6 @@
 pub mod AnyTarget
 pub mod DerivationLaws
+pub mod DerivationTexts
 pub mod KeyOrder
 pub mod ListsOfSteps
 pub mod Moved

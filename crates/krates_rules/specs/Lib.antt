@@ -5,6 +5,7 @@ pub mod DeclaredDependency
 pub mod DeclaredSource
 pub mod DependencyName
 pub mod Derivation
+pub mod DerivationTexts
 pub mod Facts
 pub mod Features
 pub mod Kind

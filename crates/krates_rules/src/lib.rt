@@ -1,9 +1,10 @@
 //! What is believed of resolution, and nothing else: a document seen by package id, a setting, the seven rules, what is
-//! derivable, and which documents are admitted. With the laws that hold of these definitions, whatever the code does, and the
-//! types in which a caller tells facts and steps.
+//! derivable, and which documents are admitted. With the laws that hold of these definitions, whatever the code does, the
+//! types in which a caller tells facts and steps, and how these are printed.
 #![tactic(auto)]
 
 pub mod derivation;
+mod derivation_texts;
 pub mod kind;
 pub mod laws;
 pub mod uses;

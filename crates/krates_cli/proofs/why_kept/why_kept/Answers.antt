@@ -24,5 +24,5 @@ returns-clause-explained c =
     let k = c.args.krates.now in
     let n = c.in-Some.node in
     let first = same_first c.graph.result.now k.graph c.graph.ensures.graph c.graph.ensures.first in
-    explains k c.args.krate.now n c.in-Some-2.derivation.steps.items (string_bytes c.in_ok-lines_of.field-0) first ((c.nid_for_kid.ensures n).0 c.in-Some.is)
-    (subst (TellsWhy k n) c.in-Some-2.is c.in_ok-derivation.ensures) c.in_ok-lines_of.ensures
+    explains k c.args.krate.now n c.in-Some-2.derivation.steps.items (string_bytes c.in_ok-format.field-0) first ((c.nid_for_kid.ensures n).0 c.in-Some.is)
+    (subst (TellsWhy k n) c.in-Some-2.is c.in_ok-derivation.ensures) c.in_ok-format.ensures.ok

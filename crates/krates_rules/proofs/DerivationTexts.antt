@@ -1,10 +1,10 @@
--- The lines of a derivation, one by one.
-use Rattle.std.proofs.Common.{◌≡◌, ℕ, zero, suc, ◌+◌, ◌<◌, ◌≤◌, List, [], ◌∷◌, ◌++◌, length, get_or, take, codes, refl, sym, ap, ◌∙◌, arith, subst}
+-- The lines of a derivation, and the numbers that a step uses, one by one.
+use Rattle.std.proofs.Common.{◌≡◌, ℕ, suc, ◌+◌, ◌<◌, List, [], ◌∷◌, ◌++◌, length, get_or, take, codes, sym, ap, ◌∙◌, arith}
 use Rattle.std.specs.Fmt.{decimal}
-use Rattle.std.proofs.lemmas.List.{append-nil, append_assoc, length-take, take_more, get_or_default}
+use Rattle.std.proofs.lemmas.List.{append-nil, append_assoc, length-take, take_more}
 use Rattle.krates_cm.specs.Document.{Text}
 use Rattle.krates_rules.specs.declared.derivation.Step.{Step}
-use Rattle.krates_cli.specs.DerivationLines.{further_uses, lines_from, step_line}
+use Rattle.krates_rules.specs.DerivationTexts.{further_uses, lines_from, step_line, uses_text}
 
 lines_append : (k : ℕ) (xs : List Step) (x : Step) → lines_from k (xs ++ x ∷ []) ≡ lines_from k xs ++ step_line (k + length xs) x
 lines_append k [] x =
@@ -29,5 +29,12 @@ further_append (y ∷ ys) x =
     ∙ sym (append_assoc (codes ", ") (decimal y ++ further_uses ys) (codes ", " ++ decimal x))
 
 -- one more number
-pub further_more : (xs : List ℕ) (i : ℕ) → i < length xs → further_uses (take (i + 1) xs) ≡ further_uses (take i xs) ++ (codes ", " ++ decimal (get_or xs i 0))
+further_more : (xs : List ℕ) (i : ℕ) → i < length xs → further_uses (take (i + 1) xs) ≡ further_uses (take i xs) ++ (codes ", " ++ decimal (get_or xs i 0))
 further_more xs i lt = ap further_uses (take_more xs i 0 lt) ∙ further_append (take i xs) (get_or xs i 0)
+
+pub uses_more : (x : ℕ) (xs : List ℕ) (i : ℕ) → i < length xs → uses_text (x ∷ take i xs) ++ (codes ", " ++ decimal (get_or xs i 0)) ≡ uses_text (x ∷ take (i + 1) xs)
+uses_more x xs i lt =
+    let so_far = further_uses (take i xs) in
+    let one = codes ", " ++ decimal (get_or xs i 0) in
+    append_assoc (codes " from ") (decimal x ++ so_far) one
+    ∙ ap (λ (t : Text). codes " from " ++ t) (append_assoc (decimal x) so_far one ∙ ap (λ (t : Text). decimal x ++ t) (sym (further_more xs i lt)))

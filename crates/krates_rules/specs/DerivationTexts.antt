@@ -1,4 +1,4 @@
--- The lines of a derivation: a step each, with its number, its rule, its fact, and the numbers of the steps that it uses.
+-- What is printed of facts, of steps, and of derivations, a step a line.
 use Rattle.std.specs.Prelude.{ℕ, ◌+◌, List, [], ◌∷◌, ◌++◌, Option, Some, None, codes, option_map}
 use Rattle.std.specs.Fmt.{decimal}
 use Rattle.krates_cm.specs.Document.{Text, text_view}
@@ -38,9 +38,13 @@ abbrev pub uses_text : List ℕ → Text
 uses_text [] = []
 uses_text (used ∷ uses) = codes " from " ++ (decimal used ++ further_uses uses)
 
+-- a step, whose number stands in its derivation alone
+abbrev pub step_text : Step → Text
+step_text x = codes "rule " ++ (decimal x.rule ++ (codes ": " ++ (fact_text x.fact ++ uses_text x.uses.items)))
+
 -- the line of the step with this number
 abbrev pub step_line : ℕ → Step → Text
-step_line number x = decimal number ++ (codes " rule " ++ (decimal x.rule ++ (codes ": " ++ (fact_text x.fact ++ (uses_text x.uses.items ++ 10 ∷ [])))))
+step_line number x = decimal number ++ (codes " " ++ (step_text x ++ 10 ∷ []))
 
 -- those of steps that are numbered from here on
 abbrev pub lines_from : ℕ → List Step → Text
