@@ -3,7 +3,6 @@ use Rattle.std.proofs.Common.{◌≡◌, ℕ, [], ◌∷◌, ◌++◌, Bool, tru
 use Rattle.std.specs.Prelude.{◌⊎◌, ◌==◌, not, Option, Some, None, Ok, bytes_eq, if◌then◌else◌}
 use Rattle.std.specs.List.{AllByRecursion, list_any}
 use Rattle.std.specs.Option.{is_none}
-use Rattle.std.specs.Borrow.{Bor}
 use Rattle.std.specs.Cmp.Lexicographic.{bytes_decides}
 use Rattle.std.proofs.lemmas.Bool.{false≢true, ne_eqb, eqb-false, not-false}
 use Rattle.std.proofs.Math.Bool.{or-true}
@@ -11,7 +10,7 @@ use Rattle.semver.specs.Grammar.{IsValid}
 use Rattle.semver.specs.Identifiers.{parts_text}
 use Rattle.krates_cm.specs.Document.{Text, VersionModel}
 use Rattle.krates_cm.specs.Names.{version_named}
-use Rattle.krates_text.specs.Cuts.{Lacks, CutsLast, FirstCut, LastCut}
+use Rattle.krates_text.specs.Cuts.{Lacks, FirstCut, LastCut}
 use Rattle.krates_ids.specs.PackageSpecification.{Specification, specification, Checks, checked, is_name_byte, is_name, begins_with_letter, name_check, version_check, sides_checks, SplitAt, IsUnsplit, IsFragment, is_split, is_name_alone, is_version_alone, HasScheme, IsUrl, with_scheme, without_scheme, IsLocated, url_alone, with_fragment, IsText, a_fragment, a_url, a_short_url, default_scheme, Gives, IsSpec}
 use Rattle.krates_ids.specs.Separators.{hash_sign, slash, colon, at_sign}
 use Rattle.krates_ids.specs.SpecificationText.{after_last_slash, marked_version, named_text, text_of_parts, spec_text}
@@ -40,17 +39,9 @@ after_last_slash-at : (x y : Text) → Lacks slash y → after_last_slash (x ++ 
 after_last_slash-at [] y h = after_last_slash-lacks y h
 after_last_slash-at (b ∷ x) y h = rw (one_there (b ∷ x) y) (after_last_slash-at x y h)
 
+-- what follows it is what the last cut leaves
 pub after_last_slash-cut : (t x y : Text) → LastCut slash t x y → after_last_slash t ≡ y
 after_last_slash-cut t x y cut = rw cut.is (after_last_slash-at x y cut.lacks)
-
-abbrev piece_of : Text → Option (Bor Text × Bor Text) → Text
-piece_of t None = t
-piece_of t (Some p) = p.1.now
-
--- what `cut_last` found
-pub after_last_slash-cuts : (t : Text) (r : Option (Bor Text × Bor Text)) → CutsLast slash t r → after_last_slash t ≡ piece_of t r
-after_last_slash-cuts t None h = after_last_slash-lacks t h
-after_last_slash-cuts t (Some p) h = after_last_slash-cut t p.0.now p.1.now h
 
 -- ---- checks that all pass
 
@@ -87,7 +78,7 @@ IsTold piece name (Some v) = IsValid v
 IsTold None name None = Unit {0}
 IsTold (Some piece) name None = (piece ≡ name) ⊎ (begins_with_letter name ≡ true)
 
--- the same of a specification with a url
+-- a url that is one, and a name and a version that can follow it
 record IsPlaced (url name : Text) (version : Option VersionModel) : Type 0 where
   piece : Text
   checks : Checks
@@ -97,6 +88,7 @@ record IsPlaced (url name : Text) (version : Option VersionModel) : Type 0 where
   named : is_name name ≡ true
   told : IsTold (Some piece) name version
 
+-- a specification that some text is
 abbrev IsPrintable : Text → Option VersionModel → Option Text → Type 0
 IsPrintable name version None = (is_name name ≡ true) × IsTold None name version
 IsPrintable name version (Some url) = IsPlaced url name version

@@ -44,13 +44,15 @@ pub fn one_specification()
         → IsSpecFault t refusal → IsSpecFault t other → refusal ≡ other }
 {}
 
-/// A package specification that was read is printed as a text that reads as exactly it, whatever the text was; two that
-/// differ are printed otherwise. So `PkgSpec::from_str` of the printed text returns an equal one, unless memory runs out.
+/// A package specification that was read is printed as a text that reads as exactly it, whatever the text was; two
+/// that differ are printed otherwise. So `PkgSpec::from_str` of the printed text returns an equal one, unless memory
+/// runs out.
 pub fn printed_specification()
     ensures again { (t : Text) (a : Specification)
         → IsSpec t a.name a.version a.url → IsSpec (spec_text a) a.name a.version a.url }
     ensures distinct { (t u : Text) (a b : Specification)
-        → IsSpec t a.name a.version a.url → IsSpec u b.name b.version b.url → spec_text a ≡ spec_text b → a ≡ b }
+        → IsSpec t a.name a.version a.url → IsSpec u b.name b.version b.url
+        → spec_text a ≡ spec_text b → a ≡ b }
 {}
 
 /// A package that is corrected again by the same answer keeps all features as they are.

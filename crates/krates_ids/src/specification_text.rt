@@ -9,11 +9,12 @@ use crate::cuts::cut_last;
 use crate::pkgspec::PkgSpec;
 use std::fmt;
 
-/// As cargo prints a specification (Cargo Book, "Package ID Specifications"): `NAME` or `NAME@VERSION` without a url, and
-/// `URL#NAME` or `URL#NAME@VERSION` with one, but `URL` or `URL#VERSION` where the name is the last piece of the url.
+/// As cargo prints a specification (Cargo Book, "Package ID Specifications"): `NAME` or `NAME@VERSION` without a
+/// url, and `URL#NAME` or `URL#NAME@VERSION` with one, but `URL` or `URL#VERSION` where the name is the last piece
+/// of the url.
 ///
-/// A specification that was read is printed as a text that reads as an equal one (`laws::printed_specification`). Time
-/// O(length).
+/// A specification that was read is printed as a text that reads as an equal one (`laws::printed_specification`).
+/// Time O(length).
 ///
 /// ```text
 /// let spec = PkgSpec::from_str(alloc, "crates.io/foo#foo:1.2.3")?;
