@@ -36,6 +36,62 @@ const READ: &[Row] = &[
     ),
     ("crates.io/foo", "foo, any version, cargo://crates.io/foo"),
     ("crates.io/foo#1.2.3", "foo, 1.2.3, cargo://crates.io/foo"),
+    (
+        "https://x.org/7zip",
+        "7zip, any version, https://x.org/7zip",
+    ),
+    (
+        "https://x.org/7zip#7zip:1.0.0",
+        "7zip, 1.0.0, https://x.org/7zip",
+    ),
+    ("https://x.org/a#@1.0.0", ", 1.0.0, https://x.org/a"),
+];
+
+/// Texts, and how the specification that each is prints.
+const PRINTED: &[Row] = &[
+    ("", ""),
+    ("bitflags", "bitflags"),
+    ("bitflags@1.0.4", "bitflags@1.0.4"),
+    ("bitflags:1.0.4", "bitflags@1.0.4"),
+    ("7zip", "7zip"),
+    ("@1.0.4-rc.1+build", "@1.0.4-rc.1+build"),
+    (
+        "https://github.com/rust-lang/cargo",
+        "https://github.com/rust-lang/cargo",
+    ),
+    (
+        "https://github.com/rust-lang/cargo#0.33.0-beta.1",
+        "https://github.com/rust-lang/cargo#0.33.0-beta.1",
+    ),
+    (
+        "https://github.com/rust-lang/crates.io-index#bitflags",
+        "https://github.com/rust-lang/crates.io-index#bitflags",
+    ),
+    (
+        "https://github.com/rust-lang/cargo#crates-io@0.21.0",
+        "https://github.com/rust-lang/cargo#crates-io@0.21.0",
+    ),
+    (
+        "https://github.com/rust-lang/cargo#crates-io:0.21.0",
+        "https://github.com/rust-lang/cargo#crates-io@0.21.0",
+    ),
+    // the last piece is left out where it is given as the name
+    ("https://x.org/b/a#a", "https://x.org/b/a"),
+    ("https://x.org/b/a#a@1.0.0", "https://x.org/b/a#1.0.0"),
+    // an earlier piece isn't, nor the end of the last
+    ("https://x.org/b/a#b", "https://x.org/b/a#b"),
+    (
+        "https://x.org/b/crates-io#io@1.0.0",
+        "https://x.org/b/crates-io#io@1.0.0",
+    ),
+    ("crates.io/foo", "cargo://crates.io/foo"),
+    ("crates.io/foo#1.2.3", "cargo://crates.io/foo#1.2.3"),
+    ("crates.io/foo#bar", "cargo://crates.io/foo#bar"),
+    ("https://x.org/7zip", "https://x.org/7zip"),
+    ("https://x.org/7zip#1.0.0", "https://x.org/7zip#1.0.0"),
+    ("https://x.org/7zip#7zip:1.0.0", "https://x.org/7zip#1.0.0"),
+    ("https://x.org/a#7zip@1.0.0", "https://x.org/a#7zip@1.0.0"),
+    ("https://x.org/a#@1.0.0", "https://x.org/a#@1.0.0"),
 ];
 
 const NO_NAME: &str = "package spec was invalid: found an invalid character for the package name";
@@ -163,6 +219,32 @@ fn texts_are_specifications_or_refused(rt: HostRuntime) -> Result<(), Fail> {
     hold::<Read>(rt.alloc(), READ)?;
     hold::<Copied>(rt.alloc(), READ)?;
     hold::<Read>(rt.alloc(), REFUSED)
+}
+
+/// How the specification that a text is prints.
+struct Printed;
+
+impl Question for Printed {
+    fn told(alloc: Global, text: &str) -> Result<String, Fail> {
+        let spec = PkgSpec::from_str(alloc, text)?;
+        Ok(spec.to_string(alloc)?)
+    }
+}
+
+/// The specification that its printed text is.
+struct PrintedAndRead;
+
+impl Question for PrintedAndRead {
+    fn told(alloc: Global, text: &str) -> Result<String, Fail> {
+        let printed = Printed::told(alloc, text)?;
+        Read::told(alloc, printed.as_str())
+    }
+}
+
+#[test]
+fn specifications_print_as_texts_that_read_alike(rt: HostRuntime) -> Result<(), Fail> {
+    hold::<Printed>(rt.alloc(), PRINTED)?;
+    hold::<PrintedAndRead>(rt.alloc(), READ)
 }
 
 /// Whether the specification that a text is matches a package.

@@ -14,5 +14,7 @@ pub mod RefusalsLemmas
 pub mod SpansLemmas
 pub mod SpecificationLawLemmas
 pub mod SpecificationLemmas
+pub mod SpecificationTextLemmas
 pub mod StableLemmas
 pub mod TwiceLemmas
+pub mod VersionTextLemmas

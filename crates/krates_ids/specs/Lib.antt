@@ -10,4 +10,5 @@ pub mod Refusals
 pub mod Separators
 pub mod Spans
 pub mod SpecificationAnswers
+pub mod SpecificationText
 pub mod StableParts

@@ -8,6 +8,7 @@ ghost use Rattle.krates_cm.specs.Document.{Text, PackageModel};
 ghost use Rattle.krates_ids.specs.Correction.{named, IndexModel, IsCorrected, with_features};
 ghost use Rattle.krates_ids.specs.Identity.{Identity, Reads, NeedsDecoding, Fault, IsFault, IsSameId, same_id, id_cmp, id_hash_input};
 ghost use Rattle.krates_ids.specs.PackageSpecification.{Specification, IsSpec, IsSpecFault};
+ghost use Rattle.krates_ids.specs.SpecificationText.{spec_text};
 
 /// Each text is an id or has a fault, never both; it is at most one id, and has at most one fault. A text that has an escape to
 /// be decoded is an id, so that running out of memory never stands in place of a fault.
@@ -41,6 +42,17 @@ pub fn one_specification()
         → IsSpec t a.name a.version a.url → IsSpec t b.name b.version b.url → a ≡ b }
     ensures one_refusal { (t : Text) (refusal other : Text)
         → IsSpecFault t refusal → IsSpecFault t other → refusal ≡ other }
+{}
+
+/// A package specification that was read is printed as a text that reads as exactly it, whatever the text was; two
+/// that differ are printed otherwise. So `PkgSpec::from_str` of the printed text returns an equal one, unless memory
+/// runs out.
+pub fn printed_specification()
+    ensures again { (t : Text) (a : Specification)
+        → IsSpec t a.name a.version a.url → IsSpec (spec_text a) a.name a.version a.url }
+    ensures distinct { (t u : Text) (a b : Specification)
+        → IsSpec t a.name a.version a.url → IsSpec u b.name b.version b.url
+        → spec_text a ≡ spec_text b → a ≡ b }
 {}
 
 /// A package that is corrected again by the same answer keeps all features as they are.

@@ -14,6 +14,7 @@ pub mod laws;
 mod opaque;
 pub mod pkgspec;
 mod span;
+mod specification_text;
 mod stable;
 
 pub use correction::CachingIndex;
