@@ -36,7 +36,7 @@ pub use krates_queries::from_package::{FromPackage, KrateDetails};
 pub use krates_queries::kept::{Krates, KratesIter};
 pub use krates_queries::node::{EnabledFeatures, Node};
 pub use krates_queries::queries::{
-    Deps, DirectDependency, DirectDependent, KrateMatch, Matches, Members,
+    Deps, DirectDependency, DirectDependent, KrateMatch, KrateNodes, Matches, Members,
 };
 pub use krates_resolve::{DepKind, Scope, Work};
 pub use krates_text::features::{Feature, ParsedFeature};

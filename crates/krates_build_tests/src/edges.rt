@@ -3,7 +3,8 @@
 
 use crate::of_graph::{OfGraph, Told, push_marked};
 use krates::graph::Direction;
-use krates::{DepKind, EdgeId, Krates, Node, NodeId, Package};
+use krates::{DepKind, EdgeId, Kid, Krates, Node, NodeId, Package};
+use krates_samples::documents::word_of;
 use krates_samples::table::{Row, hold};
 use std::alloc::AllocError;
 use std::test::Fail;
@@ -79,6 +80,67 @@ const DIRECT: &[Row] = &[
     ("a b|b a", " 0<1 by 1 0>1 by 0 1<0 by 0 1>0 by 1"),
     // two declared dependencies on one crate name it once
     ("a b b&dev|b / nodes a b&normal&dev|b", " 0>1 by 0 1<0 by 0"),
+];
+
+/// Adds a mark and the word of an id.
+fn push_kid(text: &mut String, mark: &str, kid: &Kid) -> Result<(), AllocError> {
+    push_marked(text, mark, word_of(kid.repr()))
+}
+
+/// Adds the ids of the direct dependents of a number, each behind `<`.
+fn push_dependent_kids(text: &mut String, krates: &Krates, node: NodeId) -> Result<(), AllocError> {
+    for found in &krates.direct_dependents(node)? {
+        push_kid(text, "<", found.kid)?;
+    }
+    Ok(())
+}
+
+/// Adds the ids of the direct dependencies of a number, where it is that of a node, each behind `>`.
+fn push_dependency_kids(
+    text: &mut String,
+    krates: &Krates,
+    node: NodeId,
+) -> Result<(), AllocError> {
+    if node.index() >= krates.graph().node_count() {
+        return Ok(());
+    }
+    for found in &krates.direct_dependencies(node)? {
+        push_kid(text, ">", found.kid)?;
+    }
+    Ok(())
+}
+
+/// The id of each kept crate, with those of its direct dependents and dependencies.
+struct Kids;
+
+impl Told<Package> for Kids {
+    fn push(text: &mut String, krates: &Krates, _line: &str) -> Result<(), Fail> {
+        for found in krates.krate_nodes() {
+            push_kid(text, " ", found.kid)?;
+            push_dependent_kids(text, krates, found.node_id)?;
+            push_dependency_kids(text, krates, found.node_id)?;
+        }
+        Ok(())
+    }
+}
+
+const KIDS: &[Row] = &[
+    ("c b a|b a|a / members c", " a<b<c b<c>a c>a>b"),
+    // of two versions the mapping has one
+    (
+        "a d|d@0.10.0|d@0.9.0 / nodes a d@0.10.0 d@0.9.0|d@0.10.0|d@0.9.0",
+        " a>d@0.9.0 d@0.10.0<a d@0.9.0<a",
+    ),
+    // by an edge into a feature, whose own node has no id
+    (
+        "a b!&with=default|b;default= / nodes a b|b;default",
+        " a>b b<a",
+    ),
+    // an id that has the name of the directory
+    (
+        "a real&id=path+file:///w/dir#0.1.0|real&id=path+file:///w/dir#0.1.0",
+        " a>dir dir<a",
+    ),
 ];
 
 /// Adds what stands at the end of an edge: the name of a crate, or a plus sign and the name of a feature.
@@ -168,6 +230,7 @@ const FILTERED: &[Row] = &[
 #[test]
 fn answers_along_edges(rt: HostRuntime) -> Result<(), Fail> {
     hold::<OfGraph<Direct>>(rt.alloc(), DIRECT)?;
+    hold::<OfGraph<Kids>>(rt.alloc(), KIDS)?;
     hold::<OfGraph<Ends>>(rt.alloc(), ENDS)?;
     hold::<OfGraph<Filtered>>(rt.alloc(), FILTERED)
 }

@@ -1,12 +1,12 @@
 //! Questions about crates to a graph that was built: by id, by name, by number, and which are members.
 //!
 //! The section `ask` of a line has the question: `number`, `node` or `features` and a word for a crate, `found` and such a word,
-//! perhaps with the name of a feature behind it, `members`, `name` and a name, `search`, a name and a requirement, or `krate`
-//! and a number. A crate is answered as its word, a feature as the number of its crate, a slash and its name.
+//! perhaps with the name of a feature behind it, `members`, `nodes`, `name` and a name, `search`, a name and a requirement, or
+//! `krate` and a number. A crate is answered as its word, a feature as the number of its crate, a slash and its name.
 
 use crate::of_graph::{OfGraph, Told, push_features, push_number};
 use krates::semver::VersionReq;
-use krates::{KrateDetails, Krates, Matches, Node, NodeId, Package};
+use krates::{KrateDetails, KrateMatch, Krates, Matches, Node, NodeId, Package};
 use krates_samples::documents::{kid_of, section, word_of};
 use krates_samples::table::{Row, hold};
 use std::alloc::AllocError;
@@ -57,16 +57,29 @@ fn push_members(text: &mut String, krates: &Krates) -> Result<(), AllocError> {
     Ok(())
 }
 
-/// Adds crates that were found, each with its number and version.
+/// Adds a crate that was found, with its number and version.
+fn push_match(text: &mut String, found: &KrateMatch<'_, Package>) -> Result<(), AllocError> {
+    let word = word_of(found.kid.repr());
+    write!(
+        text,
+        " {}={word}({})",
+        found.node_id.index(),
+        found.krate.version()
+    )
+}
+
+/// Adds crates that were found.
 fn push_matches(text: &mut String, found: Matches<'_, Package>) -> Result<(), AllocError> {
     for one in found {
-        let word = word_of(one.kid.repr());
-        write!(
-            text,
-            " {}={word}({})",
-            one.node_id.index(),
-            one.krate.version()
-        )?;
+        push_match(text, &one)?;
+    }
+    Ok(())
+}
+
+/// Adds all kept crates.
+fn push_krate_nodes(text: &mut String, krates: &Krates) -> Result<(), AllocError> {
+    for one in krates.krate_nodes() {
+        push_match(text, &one)?;
     }
     Ok(())
 }
@@ -100,6 +113,7 @@ impl Told<Package> for LookedUp {
             "number" | "node" | "features" | "found" => push_by_id(text, krates, question, words),
             "name" => Ok(push_matches(text, krates.krates_by_name(words))?),
             "search" => push_search(text, krates, words),
+            "nodes" => Ok(push_krate_nodes(text, krates)?),
             "krate" => push_krate(text, krates, words),
             _ => Ok(push_members(text, krates)?),
         }
@@ -158,6 +172,22 @@ const LOOKED_UP: &[Row] = &[
     ("a|b / members a b / without a / ask members", " b"),
     // none is kept
     ("a|b / members a / root b / ask members", ""),
+    // all kept crates by number, which is the order of the ids and not that of the packages
+    ("b a|a|c / members b / ask nodes", " 0=a(0.1.0) 1=b(0.1.0)"),
+    (
+        "a d|d@0.10.0|d@0.9.0 / nodes a d@0.10.0 d@0.9.0|d@0.10.0|d@0.9.0 / ask nodes",
+        " 0=a(0.1.0) 1=d@0.10.0(0.10.0) 2=d@0.9.0(0.9.0)",
+    ),
+    // a graph of five nodes, of which three are those of features
+    (
+        "a b?;b=dep:b w=b?/j|b;j= / nodes a b;b w|b;j / ask nodes",
+        " 0=a(0.1.0) 1=b(0.1.0)",
+    ),
+    // a package whose directory has another name
+    (
+        "a real&id=path+file:///w/dir#0.1.0|real&id=path+file:///w/dir#0.1.0 / ask nodes",
+        " 0=a(0.1.0) 1=dir(0.1.0)",
+    ),
     // crates of a name
     (
         "a d|d@0.10.0|d@0.9.0 / nodes a d@0.10.0 d@0.9.0|d@0.10.0|d@0.9.0 / ask name d",

@@ -1,6 +1,7 @@
 pub mod EdgeNumbers
 pub mod FeatureNodes
 pub mod JoinedLemmas
+pub mod KrateNodeLemmas
 pub mod CrateIds
 pub mod MatchLemmas
 pub mod NodeLemmas

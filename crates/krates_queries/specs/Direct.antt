@@ -8,6 +8,7 @@ use Rattle.krates_drawing.specs.Agreement.{DependsOn, IsOf}
 use Rattle.krates_drawing.specs.Drawing.{FeatureSpot}
 use Rattle.krates_drawing.specs.Stored.{LeadsAlong}
 use Rattle.krates_graph.specs.declared.graph.edge.GraphEdge.{GraphEdge}
+use Rattle.krates_ids.specs.Identity.{Identity}
 use Rattle.krates_queries.specs.Drawn.{node_spot}
 use Rattle.krates_queries.specs.declared.node.Node.{Node}
 use Rattle.krates_queries.specs.declared.node.Node.TheVariants.{Krate, Feature}
@@ -24,10 +25,21 @@ value_in (Some (Feature krate_index name)) = None
 abbrev pub value_at : {N : Type 0} → List (Node N) → ℕ → Option N
 value_at nodes n = value_in (slice_get nodes n)
 
+-- the id of a crate, and what stands for its package
+abbrev pub id_and_value_in : {N : Type 0} → Option (Node N) → Option (Identity × N)
+id_and_value_in None = None
+id_and_value_in (Some (Krate id krate features mapping)) = Some (id, krate)
+id_and_value_in (Some (Feature krate_index name)) = None
+
+-- the same for the crate of a number
+abbrev pub id_and_value_at : {N : Type 0} → List (Node N) → ℕ → Option (Identity × N)
+id_and_value_at nodes n = id_and_value_in (slice_get nodes n)
+
 -- ---- joined crates
 
--- a crate, its number, and that of an edge
+-- a crate with its id, its number, and that of an edge
 pub record Joined (N : Type 0) : Type 0 where
+  pub id : Identity
   pub krate : N
   pub node : ℕ
   pub edge : ℕ
@@ -40,11 +52,11 @@ pub record IsLeastEdge {N E : Type 0} (nodes : List (Node N)) (edges : List (Gra
   pub to : IsOf (map node_spot nodes) d edge.target
   pub least : (j : ℕ) (e : GraphEdge E) → slice_get edges j ≡ Some e → e.source ≡ p → IsOf (map node_spot nodes) d e.target → k ≤ j
 
--- These are exactly the crates whose numbers have the property, each once, by number, each with its value and such an edge.
+-- These are exactly the crates whose numbers have the property, each once, by number, each with its id, its value and such an edge.
 pub record AreJoined {N : Type 0} (nodes : List (Node N)) (Is : ℕ → Type 0) (IsEdge : ℕ → ℕ → Type 0) (joined : List (Joined N)) : Type 0 where
   pub by_number : IsStrictlySortedBy nat_cmp (map (λ j. j.node) joined)
   pub exactly : (n : ℕ) → Contains (map (λ j. j.node) joined) n ↔ Is n
-  pub krates : All (λ j. value_at nodes j.node ≡ Some j.krate) joined
+  pub krates : All (λ j. id_and_value_at nodes j.node ≡ Some (j.id, j.krate)) joined
   pub edges : All (λ j. IsEdge j.node j.edge) joined
 
 -- ---- what holds of every graph that is built
@@ -80,11 +92,11 @@ is_feature_in d (Some (Feature krate_index name)) = krate_index == d
 abbrev pub is_feature_of : {N : Type 0} → List (Node N) → ℕ → ℕ → Bool
 is_feature_of nodes d n = is_feature_in d (slice_get nodes n)
 
--- the crate of the number, if it has a value and an edge
-abbrev pub joined_by : {N : Type 0} → ℕ → Option N → Option ℕ → Option (Joined N)
-joined_by n (Some krate) (Some edge) = Some (record { krate = krate; node = n; edge = edge })
+-- the crate of the number, if it has an id with a value, and an edge
+abbrev pub joined_by : {N : Type 0} → ℕ → Option (Identity × N) → Option ℕ → Option (Joined N)
+joined_by n (Some both) (Some edge) = Some (record { id = both.0; krate = both.1; node = n; edge = edge })
 joined_by n _ _ = None
 
--- those of these numbers that have both
-abbrev pub joined_all : {N : Type 0} → (ℕ → Option N) → (ℕ → Option ℕ) → List ℕ → List (Joined N)
-joined_all value edge numbers = filter_map (λ n. joined_by n (value n) (edge n)) numbers
+-- those of these numbers that have them
+abbrev pub joined_all : {N : Type 0} → (ℕ → Option (Identity × N)) → (ℕ → Option ℕ) → List ℕ → List (Joined N)
+joined_all both edge numbers = filter_map (λ n. joined_by n (both n) (edge n)) numbers

@@ -18,7 +18,7 @@ abbrev pub AreDependencies : {N E : Type 0} → List (Node N) → List (GraphEdg
 AreDependencies nodes edges p joined = AreJoined nodes (DependsOn (map node_spot nodes) p) (IsLeastEdge nodes edges p) joined
 
 abbrev pub dependency_view : {N : Type 0} → DirectDependency N → Joined N
-dependency_view d = record { krate = d.krate.now; node = d.node_id; edge = d.edge_id }
+dependency_view d = record { id = d.kid.now; krate = d.krate.now; node = d.node_id; edge = d.edge_id }
 
 -- ---- steps
 

@@ -23,7 +23,7 @@ abbrev pub AreDependents : {N E : Type 0} → List (Node N) → List (GraphEdge 
 AreDependents nodes edges d joined = AreJoined nodes (IsDependent nodes edges d) (λ p. IsLeastEdge nodes edges p d) joined
 
 abbrev pub dependent_view : {N : Type 0} → DirectDependent N → Joined N
-dependent_view d = record { krate = d.krate.now; node = d.node_id; edge = d.edge_id }
+dependent_view d = record { id = d.kid.now; krate = d.krate.now; node = d.node_id; edge = d.edge_id }
 
 -- ---- steps
 

@@ -6,6 +6,7 @@ pub mod Explained
 pub mod GetDeps
 pub mod GetNode
 pub mod Kept
+pub mod KrateNodes
 pub mod KratesFiltered
 pub mod Matches
 pub mod Neighbours

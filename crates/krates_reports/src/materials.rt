@@ -1,6 +1,6 @@
 //! A bill of materials as JSON: the kept crates, and which needs which.
 
-use krates::{Krates, NodeId, Package};
+use krates::{KrateMatch, Krates, Package};
 use serde_json::{Value, json};
 use std::alloc::{AllocError, Global};
 
@@ -19,16 +19,15 @@ fn components(alloc: Global, krates: &Krates) -> Result<Vec<Value>, AllocError> 
     Ok(components)
 }
 
-/// Adds an edge from each crate that depends directly on the crate of a node.
+/// Adds an edge from each crate that depends directly on another.
 fn push_edges(
     alloc: Global,
     krates: &Krates,
-    to: &Package,
-    node: NodeId,
+    to: &KrateMatch<'_, Package>,
     edges: &mut Vec<Value>,
 ) -> Result<(), AllocError> {
-    for found in &krates.direct_dependents(node)? {
-        edges.push(json!(in alloc; {"from": &found.krate.id.repr, "to": &to.id.repr})?)?;
+    for from in &krates.direct_dependents(to.node_id)? {
+        edges.push(json!(in alloc; {"from": &from.krate.id.repr, "to": &to.krate.id.repr})?)?;
     }
     Ok(())
 }
@@ -36,9 +35,8 @@ fn push_edges(
 /// The edges between kept crates, in the order of the ids to which and from which they lead.
 fn edges(alloc: Global, krates: &Krates) -> Result<Vec<Value>, AllocError> {
     let mut edges = Vec::new(alloc);
-    for number in 0..krates.len() {
-        let node = NodeId::new(number as u32);
-        push_edges(alloc, krates, &krates[node], node, &mut edges)?;
+    for to in krates.krate_nodes() {
+        push_edges(alloc, krates, &to, &mut edges)?;
     }
     Ok(edges)
 }

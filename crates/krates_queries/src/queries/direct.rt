@@ -4,20 +4,23 @@ ghost use Rattle.std.specs.Prelude.{◌≡◌, ◌++◌, ◌↔◌, ℕ, Contain
 ghost use Rattle.std.specs.List.Sorted.{IsStrictlySortedBy};
 ghost use Rattle.std.specs.Ordering.{nat_cmp};
 ghost use Rattle.krates_drawing.specs.Views.{listed};
-ghost use Rattle.krates_queries.specs.Direct.{Joined, is_feature_of as is_feature, joined_all, joined_by, value_at};
+ghost use Rattle.krates_queries.specs.Direct.{Joined, id_and_value_at, is_feature_of as is_feature, joined_all, joined_by, value_at};
 ghost use Rattle.krates_queries.specs.Neighbours.{AreInOrder, first_edge};
 
 use crate::node::Node;
 use crate::queries::neighbours::{Neighbour, edge_of};
 use krates_graph::graph::{EdgeId, NodeId};
+use krates_ids::Kid;
 use std::alloc::{AllocError, Global};
 
-/// What stands for the crate of a number; `None` for a feature, and where there is no node.
-pub(crate) fn krate_at<N>(nodes: &[Node<N>], number: NodeId) -> Option<&N>
-    ensures { option_map (λ krate. krate.now) result ≡ value_at nodes.now number }
+/// The id of the crate of a number, and what stands for it; `None` for a feature, and where there is no node.
+pub(crate) fn krate_at<N>(nodes: &[Node<N>], number: NodeId) -> Option<(&Kid, &N)>
+    ensures both { option_map (λ found. (found.0.now, found.1.now)) result
+        ≡ id_and_value_at nodes.now number }
+    ensures value { option_map (λ found. found.1.now) result ≡ value_at nodes.now number }
 {
     match nodes.get(number.index()) {
-        Some(Node::Krate { krate, .. }) => Some(krate),
+        Some(Node::Krate { id, krate, .. }) => Some((id, krate)),
         Some(Node::Feature { .. }) => None,
         None => None,
     }
@@ -36,14 +39,15 @@ pub(crate) fn is_feature_of<N>(nodes: &[Node<N>], krate: NodeId, number: NodeId)
 
 /// A crate that an edge joins to a node, as a query returns it.
 pub(crate) trait FromJoined<'a, N> {
-    /// The crate, its number, and that of the edge.
+    /// The crate with its id, its number, and that of the edge.
     ghost joined: { Self → Joined N };
 
-    /// The answer for a crate, its number, and that of an edge.
-    fn from_joined(krate: &'a N, node_id: NodeId, edge_id: EdgeId) -> Self
+    /// The answer for a crate with its id, its number, and that of an edge.
+    fn from_joined(krate: &'a N, kid: &'a Kid, node_id: NodeId, edge_id: EdgeId) -> Self
     where
         Self: Sized,
-        ensures { joined result ≡ record { krate = krate.now; node = node_id; edge = edge_id } };
+        ensures { joined result
+            ≡ record { id = kid.now; krate = krate.now; node = node_id; edge = edge_id } };
 }
 
 /// Adds the crate of a number, with the first edge by which it is a neighbour; nothing if it isn't one.
@@ -55,15 +59,15 @@ fn push_joined<'a, N, J: FromJoined<'a, N> + Drop>(
 ) -> Result<(), AllocError>
     requires { AreInOrder neighbours.now }
     ensures { OnOk result (map J.joined found.new.items ≡ map J.joined found.old.items
-        ++ listed (joined_by number (value_at nodes.now number) (first_edge neighbours.now number))) }
+        ++ listed (joined_by number (id_and_value_at nodes.now number) (first_edge neighbours.now number))) }
 {
-    let Some(krate) = krate_at(nodes, number) else {
+    let Some((kid, krate)) = krate_at(nodes, number) else {
         return Ok(());
     };
     let Some(edge_id) = edge_of(neighbours, number) else {
         return Ok(());
     };
-    match found.push(J::from_joined(krate, number, edge_id)) {
+    match found.push(J::from_joined(krate, kid, number, edge_id)) {
         Ok(()) => Ok(()),
         Err(_) => Err(AllocError),
     }
@@ -78,7 +82,7 @@ pub(crate) fn joined<'a, N, J: FromJoined<'a, N> + Drop>(
 ) -> Result<Vec<J>, AllocError>
     requires { AreInOrder neighbours.now }
     ensures { IfOk result (λ found. map J.joined found.items
-        ≡ joined_all (value_at nodes.now) (first_edge neighbours.now) numbers.now) }
+        ≡ joined_all (id_and_value_at nodes.now) (first_edge neighbours.now) numbers.now) }
 {
     let mut found = Vec::new(alloc);
     for number in numbers {

@@ -9,6 +9,7 @@ use crate::node::Node;
 use crate::queries::direct::{FromJoined, in_order, joined};
 use crate::queries::neighbours::{Neighbour, ordered};
 use krates_graph::graph::{Direction, EdgeId, Graph, NodeId};
+use krates_ids::Kid;
 use std::alloc::{AllocError, Global};
 
 /// A crate on which another depends directly.
@@ -16,6 +17,8 @@ use std::alloc::{AllocError, Global};
 pub struct DirectDependency<'a, N> {
     /// What stands for the package of the crate.
     pub krate: &'a N,
+    /// The id of the crate.
+    pub kid: &'a Kid,
     /// The number of the crate.
     pub node_id: NodeId,
     /// The least edge from the other to the crate or to a feature of it.
@@ -48,9 +51,15 @@ fn named<N>(alloc: Global, node: &Node<N>) -> Result<Vec<NodeId>, AllocError>
 impl<'a, N> FromJoined<'a, N> for DirectDependency<'a, N> {
     ghost joined = { dependency_view };
 
-    fn from_joined(krate: &'a N, node_id: NodeId, edge_id: EdgeId) -> DirectDependency<'a, N> {
+    fn from_joined(
+        krate: &'a N,
+        kid: &'a Kid,
+        node_id: NodeId,
+        edge_id: EdgeId,
+    ) -> DirectDependency<'a, N> {
         DirectDependency {
             krate,
+            kid,
             node_id,
             edge_id,
         }

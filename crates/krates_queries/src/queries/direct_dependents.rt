@@ -8,6 +8,7 @@ use crate::node::Node;
 use crate::queries::direct::{FromJoined, in_order, is_feature_of, joined};
 use crate::queries::neighbours::{Neighbour, ordered};
 use krates_graph::graph::{Direction, EdgeId, Graph, NodeId};
+use krates_ids::Kid;
 use std::alloc::{AllocError, Global};
 
 /// A crate that depends directly on another, or on a feature of it.
@@ -15,6 +16,8 @@ use std::alloc::{AllocError, Global};
 pub struct DirectDependent<'a, N> {
     /// What stands for the package of the crate.
     pub krate: &'a N,
+    /// The id of the crate.
+    pub kid: &'a Kid,
     /// The number of the crate.
     pub node_id: NodeId,
     /// The least edge from the crate to the other or to a feature of it.
@@ -24,9 +27,15 @@ pub struct DirectDependent<'a, N> {
 impl<'a, N> FromJoined<'a, N> for DirectDependent<'a, N> {
     ghost joined = { dependent_view };
 
-    fn from_joined(krate: &'a N, node_id: NodeId, edge_id: EdgeId) -> DirectDependent<'a, N> {
+    fn from_joined(
+        krate: &'a N,
+        kid: &'a Kid,
+        node_id: NodeId,
+        edge_id: EdgeId,
+    ) -> DirectDependent<'a, N> {
         DirectDependent {
             krate,
+            kid,
             node_id,
             edge_id,
         }

@@ -1,7 +1,8 @@
 //! Crates of a name.
 
 ghost use Rattle.std.specs.Prelude.{◌≡◌, filter};
-ghost use Rattle.krates_queries.specs.Matches.{crates_of, is_named};
+ghost use Rattle.krates_queries.specs.KrateNodes.{crates_of};
+ghost use Rattle.krates_queries.specs.Matches.{is_named};
 
 use crate::from_package::KrateDetails;
 use crate::kept::Krates;
@@ -20,8 +21,7 @@ impl<N: KrateDetails, E> Krates<N, E> {
         ensures { result ≡ filter (is_named N.name_of name.now) (crates_of self.now) }
     {
         Matches {
-            left: self.nodes(),
-            number: 0,
+            left: self.krate_nodes(),
             name,
             wanted: None,
         }

@@ -113,7 +113,7 @@ fn push_krate<'a, N>(
         ≡ map (λ krate. krate.now) krates.old.items ++ listed (value_at nodes.now number)) }
 {
     match krate_at(nodes, number) {
-        Some(krate) => match krates.push(krate) {
+        Some((_, krate)) => match krates.push(krate) {
             Ok(()) => Ok(()),
             Err(_) => Err(AllocError),
         },

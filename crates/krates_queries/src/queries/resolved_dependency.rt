@@ -32,6 +32,7 @@ impl<N, E> Krates<N, E> {
     {
         let nodes = self.graph().raw_nodes();
         let number = number_at(nodes.get(node.index())?, place)?;
-        krate_at(nodes, number)
+        let (_, krate) = krate_at(nodes, number)?;
+        Some(krate)
     }
 }

@@ -1,7 +1,8 @@
 //! Crates of a name whose version fits.
 
 ghost use Rattle.std.specs.Prelude.{◌≡◌, Some, filter};
-ghost use Rattle.krates_queries.specs.Matches.{crates_of, fits, is_named};
+ghost use Rattle.krates_queries.specs.KrateNodes.{crates_of};
+ghost use Rattle.krates_queries.specs.Matches.{fits, is_named};
 
 use crate::from_package::KrateDetails;
 use crate::kept::Krates;
@@ -23,8 +24,7 @@ impl<N: KrateDetails, E> Krates<N, E> {
             (filter (is_named N.name_of name.now) (crates_of self.now)) }
     {
         Matches {
-            left: self.nodes(),
-            number: 0,
+            left: self.krate_nodes(),
             name,
             wanted: Some(req),
         }
