@@ -6,6 +6,7 @@ ghost use Rattle.krates.specs.BuildLaws.{IsBuildNamedPart, IsBuildNarrowing, IsB
 pub use krates_drawing::laws::filtered_holds_rebuild;
 use krates_drawing::laws::{drawn_alike, narrower_draws_no_more, sheet_there};
 use krates_ids::laws::{comparison, one_correction, one_reading};
+pub use krates_queries::laws::dependents_reach;
 use krates_resolve::laws as resolution;
 
 /// Builds don't depend on the order in which a document lists its packages, its members, the nodes of its graph, or the

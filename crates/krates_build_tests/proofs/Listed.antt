@@ -6,7 +6,7 @@ use Rattle.krates_cm.specs.Document.{MetadataModel, ResolveModel, metadata_view}
 use Rattle.krates_cm.specs.declared.metadata.Metadata.{Metadata}
 use Rattle.krates_drawing.specs.Connected.{AreConnected, IsNumbered}
 use Rattle.krates_drawing.specs.Drawing.{Line, Tie, CrateSpot, crate_number, crate_spot, feature_spot, lines, mapping, spots}
-use Rattle.krates_drawing.specs.Paths.{IsDrawn, IsFiltered, IsMemberNumber, Reaches, begins, goes_on}
+use Rattle.krates_drawing.specs.Paths.{IsDrawn, IsFiltered, IsMemberNumber, LeadsWithout, Reaches}
 use Rattle.krates_drawing.specs.Rebuilding.{EnablesNoFeature, FilteredHoldsRebuild, HasMemberRoot, MembersAreRoots}
 use Rattle.krates_drawing.specs.Sheet.{Sheet}
 use Rattle.krates_drawing.specs.Stored.{IsStoredAs}
@@ -33,6 +33,7 @@ use Rattle.krates_queries.specs.KratesFiltered.{AreReached, IsReached, line_view
 use Rattle.krates_queries.specs.Node.{CratesFirst, crate_ids}
 use Rattle.krates_queries.specs.declared.node.Node.{Node}
 use Rattle.krates_queries.specs.declared.node.Node.TheVariants.{Krate, Feature}
+use Rattle.krates_queries.proofs.PathLemmas.{reaches_more}
 use Rattle.krates_build_tests.specs.Rebuilt.{AreRebuilt, HoldsRebuilt, IgnoresToo, IsListed, Keeps, ListsRebuilt}
 
 -- ---- stored edges are the drawn ones
@@ -50,12 +51,6 @@ lines_same [] [] z = refl
 lines_same [] (e ∷ es) z = absurd z
 lines_same (l ∷ ls) [] z = absurd z
 lines_same (l ∷ ls) (e ∷ es) z = ap (λ k. k ∷ map line_view es) (line_same l e z.0) ∙ ap (λ ks. l ∷ ks) (lines_same ls es z.1)
-
--- the same paths, from the same starts
-reaches_more : (kind : DepKind) (ls ks : List Line) (A B : ℕ → Type 0) → ls ≡ ks → ((n : ℕ) → A n → B n) → (n : ℕ) → Reaches kind ls A n → Reaches kind ks B n
-reaches_more kind ls ks A B same to _ (begins {n} s) = begins {n = n} (to n s)
-reaches_more kind ls ks A B same to _ (goes_on {l} before among passes) =
-    goes_on {l = l} (reaches_more kind ls ks A B same to l.source before) (subst (λ xs. Contains xs l) same among) passes
 
 -- ---- a kept crate has its number
 
@@ -140,14 +135,17 @@ member_back m s g t k h n c =
 -- a crate is reached in the stored graph exactly if it is in the drawn one
 filtered_reached : {N : Type 0} (kind : DepKind) (m : MetadataModel) (s : SettingModel) (g : ResolveModel) (t : Sheet) (k : KeptCrates N Edge) → Shown m s g t k → (i : Id) → IsFiltered (resolved m g) t kind i
     → IsReached kind k.graph.edges k.members (crate_number t i)
-filtered_reached kind m s g t k h i w = reaches_more kind (lines t) (map line_view k.graph.edges) (IsMemberNumber (resolved m g) t) (Contains k.members) (sym h.edges) (member_there m s g t k h) (crate_number t i) w.reached
+filtered_reached kind m s g t k h i w =
+    reaches_more (LeadsWithout kind (lines t)) (LeadsWithout kind (map line_view k.graph.edges)) (IsMemberNumber (resolved m g) t) (Contains k.members) (λ a b. subst (λ (ls : List Line). LeadsWithout kind ls a b) (sym h.edges))
+    (member_there m s g t k h) (crate_number t i) w.reached
 
 reached_filtered : {N : Type 0} (kind : DepKind) (m : MetadataModel) (s : SettingModel) (g : ResolveModel) (t : Sheet) (k : KeptCrates N Edge) → Shown m s g t k → (i : Id) (n : ℕ) → StandsAt (ids_of k) i n
     → IsReached kind k.graph.edges k.members n → IsFiltered (resolved m g) t kind i
 reached_filtered kind m s g t k h i n at w =
     let numbered = number_of m s g t k h i n at in
-    let path = reaches_more kind (map line_view k.graph.edges) (lines t) (Contains k.members) (IsMemberNumber (resolved m g) t) h.edges (member_back m s g t k h) n w in
-    record { kept = numbered.kept; reached = subst (Reaches kind (lines t) (IsMemberNumber (resolved m g) t)) (sym numbered.number) path }
+    let path = reaches_more (LeadsWithout kind (map line_view k.graph.edges)) (LeadsWithout kind (lines t)) (Contains k.members) (IsMemberNumber (resolved m g) t) (λ a b. subst (λ (ls : List Line). LeadsWithout kind ls a b) h.edges)
+    (member_back m s g t k h) n w in
+    record { kept = numbered.kept; reached = subst (Reaches (LeadsWithout kind (lines t)) (IsMemberNumber (resolved m g) t)) (sym numbered.number) path }
 
 -- ---- both builds
 

@@ -48,6 +48,8 @@ mod printed;
 #[cfg(test)]
 mod public_names;
 #[cfg(test)]
+mod reaching;
+#[cfg(test)]
 mod readme;
 #[cfg(test)]
 mod real_documents;

@@ -16,7 +16,7 @@ use Rattle.krates_rules.specs.declared.kind.IgnoredKinds.{IgnoredKinds}
 use Rattle.krates_rules.specs.declared.kind.Scope.TheVariants as scopes
 use Rattle.krates_drawing.specs.Drawing.{End, AtCrate, AtFeature, Tie, Line, line, number, crate_number, lines}
 use Rattle.krates_drawing.specs.Sheet.{Link, Sheet}
-use Rattle.krates_drawing.specs.Paths.{Passes, Reaches, begins, goes_on, IsMemberNumber, IsFiltered}
+use Rattle.krates_drawing.specs.Paths.{LeadsWithout, Passes, Reaches, begins, goes_on, IsMemberNumber, IsFiltered}
 use Rattle.krates_drawing.specs.Rebuilding.{HasMemberRoot, EnablesNoFeature, MembersAreRoots, FilteredHoldsRebuild}
 use Rattle.krates_drawing.proofs.Arrows.{IsArrow, dep, dep_feature, toggles, own, names, names_crate, names_feature, KeepsEnds, arrow_in, drawn_of}
 use Rattle.krates_drawing.proofs.Closed.{keeps_ends, given_enabled, ends_stand, toggle_enabled}
@@ -38,12 +38,14 @@ record Pair (r : Resolved) (s : SettingModel) (g : IgnoredKinds) (k : DepKind) (
 
 -- the node is reached without edges of the kind
 abbrev ReachesEnd : Resolved → DepKind → Sheet → End → Type 0
-ReachesEnd r k t e = Reaches k (lines t) (IsMemberNumber r t) (number t e)
+ReachesEnd r k t e = Reaches (LeadsWithout k (lines t)) (IsMemberNumber r t) (number t e)
 
 -- ---- every crate that the second keeps is reached
 
 along : (r : Resolved) (k : DepKind) (t : Sheet) (from to : End) (tie : Tie) → KeepsEnds t → IsArrow t from to tie → Passes k tie → ReachesEnd r k t from → ReachesEnd r k t to
-along r k t from to tie ends arrow passes here = goes_on {l = line t from to tie} here (contains_of (lines t) (line t from to tie) (arrow_in t from to tie ends arrow)) passes
+along r k t from to tie ends arrow passes here =
+    goes_on {n = number t from} {m = number t to} here
+    (record { line = line t from to tie; among = contains_of (lines t) (line t from to tie) (arrow_in t from to tie ends arrow); passes = passes; from = refl; to = refl })
 
 child_reached : (r : Resolved) (s : SettingModel) (g : IgnoredKinds) (k : DepKind) (t : Sheet) → Pair r s g k t → (l : Link) → Member t.links l → (kind_of l.edge.kind ≡ k → ⊥)
     → ReachesEnd r k t (AtCrate l.edge.parent) → ReachesEnd r k t (AtCrate l.edge.child)
@@ -185,10 +187,12 @@ step_kept r s g k t w none l here among passes =
       keeps = arrow_keeps r s g k t w none d.from d.to d.tie d.arrow (subst (λ (x : Line). Passes k x.tie) (sym d.is) passes) from;
     }
 
-number_kept : (r : Resolved) (s : SettingModel) (g : IgnoredKinds) (k : DepKind) (t : Sheet) → Pair r s g k t → EnablesNoFeature (questions r s) → MembersAreRoots r s → (n : ℕ) → Reaches k (lines t) (IsMemberNumber r t) n
+number_kept : (r : Resolved) (s : SettingModel) (g : IgnoredKinds) (k : DepKind) (t : Sheet) → Pair r s g k t → EnablesNoFeature (questions r s) → MembersAreRoots r s → (n : ℕ) → Reaches (LeadsWithout k (lines t)) (IsMemberNumber r t) n
     → KeptNumber r s g t n
 number_kept r s g k t w none roots _ (begins {n} m) = start_kept r s g k t w roots n m
-number_kept r s g k t w none roots _ (goes_on {l} before among passes) = step_kept r s g k t w none l (number_kept r s g k t w none roots l.source before) among passes
+number_kept r s g k t w none roots _ (goes_on {n} before leads) =
+    let here = number_kept r s g k t w none roots n before in
+    subst (KeptNumber r s g t) leads.to (step_kept r s g k t w none leads.line (subst (KeptNumber r s g t) (sym leads.from) here) leads.among leads.passes)
 
 filtered_of : (r : Resolved) (s : SettingModel) (g : IgnoredKinds) (k : DepKind) (t : Sheet) → Pair r s g k t → EnablesNoFeature (questions r s) → MembersAreRoots r s → (p : Id) → IsFiltered r t k p
     → Derivable (questions r (ignoring s g)) (Crate p)

@@ -12,10 +12,18 @@ Passes k (Dep kind cfg) = kind ≡ k → ⊥
 Passes k (DepFeature kind cfg) = kind ≡ k → ⊥
 Passes k Feature = ⊤
 
--- the number at the end of a path that begins at a start and whose edges pass
-pub data Reaches (k : DepKind) (edges : List Line) (Start : ℕ → Type 0) : ℕ → Type 0 where
-  begins : {n : ℕ} → Start n → Reaches k edges Start n
-  goes_on : {l : Line} → Reaches k edges Start l.source → Contains edges l → Passes k l.tie → Reaches k edges Start l.target
+-- an edge that passes leads from one number to the other
+pub record LeadsWithout (k : DepKind) (edges : List Line) (n m : ℕ) : Type 0 where
+  pub line : Line
+  pub among : Contains edges line
+  pub passes : Passes k line.tie
+  pub from : line.source ≡ n
+  pub to : line.target ≡ m
+
+-- the number at the end of a path that begins at a start, where each step leads from one number to the next
+pub data Reaches (Leads : ℕ → ℕ → Type 0) (Start : ℕ → Type 0) : ℕ → Type 0 where
+  begins : {n : ℕ} → Start n → Reaches Leads Start n
+  goes_on : {n m : ℕ} → Reaches Leads Start n → Leads n m → Reaches Leads Start m
 
 -- the crate is kept
 pub record IsDrawn (t : Sheet) (p : Id) : Type 0 where
@@ -33,4 +41,4 @@ pub record IsMemberNumber (r : Resolved) (t : Sheet) (n : ℕ) : Type 0 where
 -- the kept crate stands at the end of a path from a kept member over edges without this kind
 pub record IsFiltered (r : Resolved) (t : Sheet) (k : DepKind) (p : Id) : Type 0 where
   pub kept : IsDrawn t p
-  pub reached : Reaches k (lines t) (IsMemberNumber r t) (crate_number t p)
+  pub reached : Reaches (LeadsWithout k (lines t)) (IsMemberNumber r t) (crate_number t p)

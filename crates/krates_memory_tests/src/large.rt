@@ -45,6 +45,16 @@ fn sizes(alloc: Global, krates: &Krates) -> Result<String, Fail> {
     )?)
 }
 
+/// How many crates all in all depend on the second, and whether the first feature of the first crate, which names the next, leads to the
+/// last, and that to the first.
+fn paths(alloc: Global, krates: &Krates) -> Result<String, Fail> {
+    let (first, last) = (NodeId::new(2_002), NodeId::new(7_002));
+    let needing = krates.all_dependents(NodeId::new(1))?.len();
+    let forth = krates.reaches(first, last)?;
+    let back = krates.reaches(last, first)?;
+    Ok(format!(in alloc; "{needing} needing, {forth}, {back}")?)
+}
+
 #[test]
 fn a_large_build(rt: HostRuntime) -> Result<(), Fail> {
     let alloc = rt.alloc();
@@ -56,6 +66,8 @@ fn a_large_build(rt: HostRuntime) -> Result<(), Fail> {
         told.as_str(),
         "2002 crates, 7003 nodes, 12002 edges, 2001 needed, 1 needing, 2002 reached, 70000 bytes"
     );
+    let told = paths(alloc, &krates)?;
+    assert_eq!(rt; told.as_str(), "2 needing, true, false");
     Ok(())
 }
 

@@ -13,6 +13,8 @@ use std::test::Fail;
 enum Asked {
     Dependencies,
     Dependents,
+    AllDependents,
+    Reaches,
     Filtered,
     Why,
     Facts,
@@ -22,6 +24,8 @@ enum Asked {
 const ASKED: &[Asked] = &[
     Asked::Dependencies,
     Asked::Dependents,
+    Asked::AllDependents,
+    Asked::Reaches,
     Asked::Filtered,
     Asked::Why,
     Asked::Facts,
@@ -42,6 +46,14 @@ fn is_dependency(krates: &Krates) -> Result<bool, AllocError> {
 fn is_dependent(krates: &Krates) -> Result<bool, AllocError> {
     match krates.direct_dependents(NodeId::new(1))?.as_slice() {
         [found] => Ok(found.node_id.index() == 0 && found.edge_id.index() == 0),
+        _ => Ok(false),
+    }
+}
+
+/// Whether the first crate and the second are all that depends on the second.
+fn are_all_dependents(krates: &Krates) -> Result<bool, AllocError> {
+    match krates.all_dependents(NodeId::new(1))?.as_slice() {
+        [first, second] => Ok(first.node_id.index() == 0 && second.node_id.index() == 1),
         _ => Ok(false),
     }
 }
@@ -68,6 +80,8 @@ impl Call for Asked {
         match self {
             Asked::Dependencies => is_dependency(given),
             Asked::Dependents => is_dependent(given),
+            Asked::AllDependents => are_all_dependents(given),
+            Asked::Reaches => given.reaches(NodeId::new(0), NodeId::new(1)),
             // without dependencies for tests
             Asked::Filtered => Ok(are_a_and_b(&given.krates_filtered(DepKind::Dev)?)),
             Asked::Why => has_reason(given),

@@ -1,3 +1,5 @@
+pub mod AllDependentsLemmas
+pub mod DependentLemmas
 pub mod EdgeNumbers
 pub mod FeatureNodes
 pub mod JoinedLemmas
@@ -7,5 +9,6 @@ pub mod MatchLemmas
 pub mod NodeLemmas
 pub mod NeighbourLemmas
 pub mod OrderedIds
+pub mod PathLemmas
 pub mod ReachedLemmas
 pub mod WhyLemmas

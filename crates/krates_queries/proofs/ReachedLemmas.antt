@@ -1,22 +1,19 @@
 -- A work list of all that is reached: all that was put is reached, and all that was taken was followed.
-use Rattle.std.proofs.Common.{◌≡◌, ◌⊎◌, ◌↔◌, ℕ, zero, suc, ◌+◌, ◌<◌, ◌≤◌, Bool, true, false, List, [], ◌∷◌, ◌++◌, length, take, map, get_or, All, Option, Some, None, Contains, slice_get, append_assoc, refl, sym, ap, ◌∙◌, subst, inl, inr, arith}
+use Rattle.std.proofs.Common.{◌≡◌, ◌⊎◌, ◌↔◌, ℕ, zero, suc, ◌+◌, ◌<◌, ◌≤◌, Bool, true, false, List, [], ◌∷◌, ◌++◌, length, take, get_or, Some, None, Contains, slice_get, append_assoc, refl, sym, ap, ◌∙◌, subst, inl, inr, arith}
 use Rattle.std.proofs.lemmas.List.Elements.{Contains-append_left, Contains-append_right, Contains-append_cases, Contains-push_cases}
 use Rattle.std.proofs.lemmas.Bool.{cases_lt}
 use Rattle.std.proofs.lemmas.List.{append-nil, take_more}
 use Rattle.std.proofs.lemmas.Option.{slice_get-get_or, slice_get_within, none-some, same_Some}
 use Rattle.std.specs.Bool.{OnFalse, OnTrue}
-use Rattle.krates_drawing.specs.Drawing.{Line}
-use Rattle.krates_drawing.specs.Paths.{Passes, Reaches, begins, goes_on}
-use Rattle.krates_drawing.specs.Views.{tie_view}
-use Rattle.krates_drawing.specs.declared.edge.Edge.{Edge}
-use Rattle.krates_graph.specs.Agenda.{PutNumbers, IsOrderly}
-use Rattle.krates_graph.specs.Graph.{numbers_at}
-use Rattle.krates_graph.specs.declared.graph.edge.Direction.TheVariants.{Outgoing}
+use Rattle.krates_drawing.specs.Paths.{Reaches, begins, goes_on}
+use Rattle.krates_graph.specs.Agenda.{PutNumbers}
+use Rattle.krates_graph.specs.Graph.{HasEnds, end_of, numbers_at}
+use Rattle.krates_graph.specs.declared.graph.edge.Direction.{Direction}
+use Rattle.krates_graph.specs.declared.graph.edge.Direction.TheVariants.{Outgoing, Incoming}
 use Rattle.krates_graph.specs.declared.graph.edge.GraphEdge.{GraphEdge}
-use Rattle.krates_rules.specs.declared.kind.DepKind.{DepKind}
-use Rattle.krates_queries.specs.KratesFiltered.{line_view, IsReached, IsTarget, IsTargetOf, Grows}
-use Rattle.krates_queries.proofs.EdgeNumbers.{EdgeAt, edge_at, at_edge, got, contains_got}
-use Rattle.krates_drawing.proofs.Members.{Member, member_of, contains_of, mapped_of, member_map}
+use Rattle.krates_queries.specs.Reached.{Grows, IsFarEnd, IsFarEndOf, IsNext, far_end}
+use Rattle.krates_queries.proofs.EdgeNumbers.{edge_at, at_edge, got, contains_got}
+use Rattle.krates_drawing.proofs.Members.{member_of, contains_of}
 
 -- ---- putting numbers
 
@@ -57,6 +54,12 @@ grows_both A B C a b c from_a from_b of g h = record {
   all = λ n x. elim (of n x) [ inl u ↦ grows_kept B b c n h (g.all n u) | inr v ↦ h.all n v ];
 }
 
+-- what was put into an empty agenda
+pub put_first : (New : ℕ → Type 0) (count : ℕ) (a b : PutNumbers) → a ≡ record { size = count; put = []; taken = 0 } → Grows New a b → (n : ℕ) → Contains b.put n ↔ New n
+put_first New count a b empty g n =
+    let put : b.put ≡ g.more = g.kept ∙ ap (λ (x : PutNumbers). x.put ++ g.more) empty in
+    (λ c. g.right n (subst (λ xs. Contains xs n) put c), g.all n)
+
 -- ---- a list, element by element
 
 pub in_front : (xs : List ℕ) (i x n : ℕ) → i < length xs → x ≡ get_or xs i x → Contains (take (i + 1) xs) n ↔ (Contains (take i xs) n ⊎ (x ≡ n))
@@ -75,63 +78,68 @@ past xs k none = elim (cases_lt k (length xs)) [
   | inr le ↦ le
 ]
 
--- ---- targets
+-- ---- the other ends
 
--- an edge has only one target
-pub one_target : (kind : DepKind) (edges : List (GraphEdge Edge)) (k n : ℕ) (e : GraphEdge Edge) → slice_get edges k ≡ Some e → (w : IsTarget kind edges k n) → w.edge ≡ e
-one_target kind edges k n e at w = same_Some w.edge e (sym w.at ∙ at)
+-- it is among the nodes
+pub far_within : {E : Type 0} (count : ℕ) (e : GraphEdge E) (d : Direction) → HasEnds count e → far_end d e < count
+far_within count e Outgoing h = h.1
+far_within count e Incoming h = h.0
 
-pub target_here : (kind : DepKind) (edges : List (GraphEdge Edge)) (k n : ℕ) (e : GraphEdge Edge) → slice_get edges k ≡ Some e → IsTarget kind edges k n → e.target ≡ n
-target_here kind edges k n e at w = ap (λ (x : GraphEdge Edge). x.target) (sym (one_target kind edges k n e at w)) ∙ w.to
+-- an edge has only one
+pub one_end : {E : Type 0} (P : E → Type 0) (edges : List (GraphEdge E)) (d : Direction) (k n : ℕ) (e : GraphEdge E) → slice_get edges k ≡ Some e → (w : IsFarEnd P edges d k n) → w.edge ≡ e
+one_end P edges d k n e at w = same_Some w.edge e (sym w.at ∙ at)
 
-pub target_passes : (kind : DepKind) (edges : List (GraphEdge Edge)) (k n : ℕ) (e : GraphEdge Edge) → slice_get edges k ≡ Some e → IsTarget kind edges k n → Passes kind (tie_view e.weight)
-target_passes kind edges k n e at w = subst (λ (x : GraphEdge Edge). Passes kind (tie_view x.weight)) (one_target kind edges k n e at w) w.passes
+pub end_here : {E : Type 0} (P : E → Type 0) (edges : List (GraphEdge E)) (d : Direction) (k n : ℕ) (e : GraphEdge E) → slice_get edges k ≡ Some e → IsFarEnd P edges d k n → far_end d e ≡ n
+end_here {E} P edges d k n e at w = ap (λ (x : GraphEdge E). far_end d x) (sym (one_end P edges d k n e at w)) ∙ w.far
 
--- the targets of one more edge
-pub targets_more : (kind : DepKind) (edges : List (GraphEdge Edge)) (ks : List ℕ) (i k : ℕ) (a b c : PutNumbers) → i < length ks → k ≡ get_or ks i k → Grows (IsTargetOf kind edges (take i ks)) a b → Grows (IsTarget kind edges k) b c
-    → Grows (IsTargetOf kind edges (take (i + 1) ks)) a c
-targets_more kind edges ks i k a b c lt is g h =
-    grows_both (IsTargetOf kind edges (take i ks)) (IsTarget kind edges k) (IsTargetOf kind edges (take (i + 1) ks)) a b c
-    (λ n w. record { number = w.number; among = (in_front ks i k w.number lt is).1 (inl w.among); target = w.target })
-    (λ n w. record { number = k; among = (in_front ks i k k lt is).1 (inr refl); target = w })
+pub end_passes : {E : Type 0} (P : E → Type 0) (edges : List (GraphEdge E)) (d : Direction) (k n : ℕ) (e : GraphEdge E) → slice_get edges k ≡ Some e → IsFarEnd P edges d k n → P e.weight
+end_passes {E} P edges d k n e at w = subst (λ (x : GraphEdge E). P x.weight) (one_end P edges d k n e at w) w.passes
+
+-- those of one more edge
+pub ends_more : {E : Type 0} (P : E → Type 0) (edges : List (GraphEdge E)) (d : Direction) (ks : List ℕ) (i k : ℕ) (a b c : PutNumbers) → i < length ks → k ≡ get_or ks i k → Grows (IsFarEndOf P edges d (take i ks)) a b
+    → Grows (IsFarEnd P edges d k) b c → Grows (IsFarEndOf P edges d (take (i + 1) ks)) a c
+ends_more P edges d ks i k a b c lt is g h =
+    grows_both (IsFarEndOf P edges d (take i ks)) (IsFarEnd P edges d k) (IsFarEndOf P edges d (take (i + 1) ks)) a b c
+    (λ n w. record { number = w.number; among = (in_front ks i k w.number lt is).1 (inl w.among); end = w.end })
+    (λ n w. record { number = k; among = (in_front ks i k k lt is).1 (inr refl); end = w })
     (λ n w. elim ((in_front ks i k w.number lt is).0 w.among) [
-      | inl c ↦ inl (record { number = w.number; among = c; target = w.target })
-      | inr e ↦ inr (subst (λ j. IsTarget kind edges j n) (sym e) w.target)
+      | inl c ↦ inl (record { number = w.number; among = c; end = w.end })
+      | inr e ↦ inr (subst (λ j. IsFarEnd P edges d j n) (sym e) w.end)
     ])
     g h
 
-pub no_targets : (kind : DepKind) (edges : List (GraphEdge Edge)) (a : PutNumbers) → Grows (IsTargetOf kind edges []) a a
-no_targets kind edges a = grows_none (IsTargetOf kind edges []) a (λ n w. member_of [] w.number w.among)
+pub no_ends : {E : Type 0} (P : E → Type 0) (edges : List (GraphEdge E)) (d : Direction) (a : PutNumbers) → Grows (IsFarEndOf P edges d []) a a
+no_ends P edges d a = grows_none (IsFarEndOf P edges d []) a (λ n w. member_of [] w.number w.among)
 
 -- ---- following
 
--- what was put is reached; the starts were put, and so were the targets of what was taken
-pub record IsFollowed (kind : DepKind) (count : ℕ) (edges : List (GraphEdge Edge)) (starts : List ℕ) (a : PutNumbers) : Type 0 where
-  pub size : a.size ≡ count
-  pub sound : (n : ℕ) → Contains a.put n → IsReached kind edges starts n
-  pub begun : (n : ℕ) → Contains starts n → Contains a.put n
-  pub followed : (i n m : ℕ) → i < a.taken → slice_get a.put i ≡ Some n → IsTargetOf kind edges (numbers_at edges n Outgoing) m → Contains a.put m
+-- what is reached from these along edges that pass
+abbrev pub IsFound : {E : Type 0} → (E → Type 0) → List (GraphEdge E) → Direction → List ℕ → ℕ → Type 0
+IsFound P edges d starts = Reaches (IsNext P edges d) (Contains starts)
 
-target_reached : (kind : DepKind) (edges : List (GraphEdge Edge)) (starts : List ℕ) (n m : ℕ) → IsReached kind edges starts n → IsTargetOf kind edges (numbers_at edges n Outgoing) m → IsReached kind edges starts m
-target_reached kind edges starts n m here w =
-    let e = w.target.edge in
-    let at = edge_at edges n Outgoing w.number (member_of (numbers_at edges n Outgoing) w.number w.among) in
-    let same : at.edge ≡ e = same_Some at.edge e (sym at.at ∙ w.target.at) in
-    let from : n ≡ e.source = sym at.end ∙ ap (λ (x : GraphEdge Edge). x.source) same in
-    let among : Contains (map line_view edges) (line_view e) = contains_of (map line_view edges) (line_view e) (member_map line_view edges e (member_of edges e (contains_got edges w.number e w.target.at))) in
-    subst (IsReached kind edges starts) w.target.to (goes_on {l = line_view e} (subst (IsReached kind edges starts) from here) among w.target.passes)
+-- what was put is reached; the starts were put, and so were the other ends of the edges of what was taken
+pub record IsFollowed {E : Type 0} (P : E → Type 0) (count : ℕ) (edges : List (GraphEdge E)) (d : Direction) (starts : List ℕ) (a : PutNumbers) : Type 0 where
+  pub size : a.size ≡ count
+  pub sound : (n : ℕ) → Contains a.put n → IsFound P edges d starts n
+  pub begun : (n : ℕ) → Contains starts n → Contains a.put n
+  pub followed : (i n m : ℕ) → i < a.taken → slice_get a.put i ≡ Some n → IsFarEndOf P edges d (numbers_at edges n d) m → Contains a.put m
+
+end_reached : {E : Type 0} (P : E → Type 0) (edges : List (GraphEdge E)) (d : Direction) (starts : List ℕ) (n m : ℕ) → IsFound P edges d starts n → IsFarEndOf P edges d (numbers_at edges n d) m → IsFound P edges d starts m
+end_reached {E} P edges d starts n m here w =
+    let e = w.end.edge in
+    let at = edge_at edges n d w.number (member_of (numbers_at edges n d) w.number w.among) in
+    let same : at.edge ≡ e = same_Some at.edge e (sym at.at ∙ w.end.at) in
+    let near : end_of d e ≡ n = ap (λ (x : GraphEdge E). end_of d x) (sym same) ∙ at.end in
+    goes_on {n = n} {m = m} here (record { edge = e; among = contains_got edges w.number e w.end.at; passes = w.end.passes; near = near; far = w.end.far })
 
 -- at the start
-pub followed_first : (kind : DepKind) (count : ℕ) (edges : List (GraphEdge Edge)) (starts : List ℕ) (a b : PutNumbers) → a ≡ record { size = count; put = []; taken = 0 } → Grows (Contains starts) a b → IsFollowed kind count edges starts b
-followed_first kind count edges starts a b new g =
-    let put : b.put ≡ g.more = g.kept ∙ ap (λ (x : PutNumbers). x.put ++ g.more) new in
-    let taken : b.taken ≡ 0 = g.taken ∙ ap (λ (x : PutNumbers). x.taken) new in
-    record {
-      size = g.size ∙ ap (λ (x : PutNumbers). x.size) new;
-      sound = λ n c. begins {n = n} (g.right n (subst (λ xs. Contains xs n) put c));
-      begun = λ n c. g.all n c;
-      followed = λ i n m lt at w. absurd (omega (arith, taken, lt));
-    }
+pub followed_first : {E : Type 0} (P : E → Type 0) (count : ℕ) (edges : List (GraphEdge E)) (d : Direction) (a : PutNumbers) → a.size ≡ count → a.taken ≡ 0 → IsFollowed P count edges d a.put a
+followed_first P count edges d a size none = record {
+  size = size;
+  sound = λ n c. begins {n = n} c;
+  begun = λ n c. c;
+  followed = λ i n m lt at w. absurd (omega (arith, none, lt));
+}
 
 got_left : (xs ys : List ℕ) (k n : ℕ) → k < length xs → slice_get (xs ++ ys) k ≡ Some n → slice_get xs k ≡ Some n
 got_left [] ys k n lt e = absurd (omega arith)
@@ -139,9 +147,9 @@ got_left (x ∷ xs) ys zero n lt e = e
 got_left (x ∷ xs) ys (suc k) n lt e = got_left xs ys k n (omega arith) e
 
 -- one more number is taken and followed
-pub followed_more : (kind : DepKind) (count : ℕ) (edges : List (GraphEdge Edge)) (starts : List ℕ) (a b c : PutNumbers) (x : ℕ) → IsFollowed kind count edges starts a → slice_get a.put a.taken ≡ Some x
-    → b ≡ record a { taken = a.taken + 1 } → Grows (IsTargetOf kind edges (numbers_at edges x Outgoing)) b c → IsFollowed kind count edges starts c
-followed_more kind count edges starts a b c x f at took g =
+pub followed_more : {E : Type 0} (P : E → Type 0) (count : ℕ) (edges : List (GraphEdge E)) (d : Direction) (starts : List ℕ) (a b c : PutNumbers) (x : ℕ) → IsFollowed P count edges d starts a → slice_get a.put a.taken ≡ Some x
+    → b ≡ record a { taken = a.taken + 1 } → Grows (IsFarEndOf P edges d (numbers_at edges x d)) b c → IsFollowed P count edges d starts c
+followed_more P count edges d starts a b c x f at took g =
     let put : b.put ≡ a.put = ap (λ (z : PutNumbers). z.put) took in
     let taken : c.taken ≡ a.taken + 1 = g.taken ∙ ap (λ (z : PutNumbers). z.taken) took in
     let kept : c.put ≡ a.put ++ g.more = g.kept ∙ ap (λ xs. xs ++ g.more) put in
@@ -151,7 +159,7 @@ followed_more kind count edges starts a b c x f at took g =
       size = g.size ∙ ap (λ (z : PutNumbers). z.size) took ∙ f.size;
       sound = λ n h. elim (Contains-append_cases a.put g.more n (subst (λ xs. Contains xs n) kept h)) [
         | inl old ↦ f.sound n old
-        | inr new ↦ target_reached kind edges starts x n here (g.right n new)
+        | inr new ↦ end_reached P edges d starts x n here (g.right n new)
       ];
       begun = λ n h. subst (λ xs. Contains xs n) (sym kept) (Contains-append_left a.put g.more n (f.begun n h));
       followed = λ i n m lt is w.
@@ -162,25 +170,24 @@ followed_more kind count edges starts a b c x f at took g =
             | inr after ↦
                 (let same : i ≡ a.taken = omega (arith, taken, lt, after) in
                 let is_x : n ≡ x = same_Some n x (sym old ∙ ap (slice_get a.put) same ∙ at) in
-                g.all m (subst (λ z. IsTargetOf kind edges (numbers_at edges z Outgoing) m) is_x w))
+                g.all m (subst (λ z. IsFarEndOf P edges d (numbers_at edges z d) m) is_x w))
           ]);
     }
 
 -- ---- all that is reached
 
 -- once all that was put was followed, all that is reached was put
-pub all_put : (kind : DepKind) (count : ℕ) (edges : List (GraphEdge Edge)) (starts : List ℕ) (a : PutNumbers) → IsFollowed kind count edges starts a → length a.put ≤ a.taken → (n : ℕ) → IsReached kind edges starts n → Contains a.put n
-all_put kind count edges starts a f done _ (begins {n} s) = f.begun n s
-all_put kind count edges starts a f done _ (goes_on {l} before among passes) =
-    let source = all_put kind count edges starts a f done l.source before in
-    let w = mapped_of line_view edges l (member_of (map line_view edges) l among) in
-    let c = contains_of edges w.from w.member in
-    let at : slice_get edges c.0 ≡ Some w.from = slice_get-get_or edges c.0 w.from c.1 ∙ ap (λ e. Some e) c.2 in
-    let from : w.from.source ≡ l.source = ap (λ (z : Line). z.source) w.is in
-    let target : IsTarget kind edges c.0 l.target = record { edge = w.from; at = at; passes = subst (λ (z : Line). Passes kind z.tie) (sym w.is) passes; to = ap (λ (z : Line). z.target) w.is } in
-    let number = contains_of (numbers_at edges l.source Outgoing) c.0 (at_edge edges l.source Outgoing c.0 (record { edge = w.from; at = at; end = from })) in
-    let place : slice_get a.put source.0 ≡ Some l.source = slice_get-get_or a.put source.0 l.source source.1 ∙ ap (λ k. Some k) source.2 in
-    f.followed source.0 l.source l.target (omega (arith, source.1, done)) place (record { number = c.0; among = number; target = target })
+pub all_put : {E : Type 0} (P : E → Type 0) (count : ℕ) (edges : List (GraphEdge E)) (d : Direction) (starts : List ℕ) (a : PutNumbers) → IsFollowed P count edges d starts a → length a.put ≤ a.taken
+    → (n : ℕ) → IsFound P edges d starts n → Contains a.put n
+all_put P count edges d starts a f done _ (begins {n} s) = f.begun n s
+all_put P count edges d starts a f done _ (goes_on {n} {m} before next) =
+    let source = all_put P count edges d starts a f done n before in
+    let c = next.among in
+    let at : slice_get edges c.0 ≡ Some next.edge = slice_get-get_or edges c.0 next.edge c.1 ∙ ap (λ e. Some e) c.2 in
+    let number = contains_of (numbers_at edges n d) c.0 (at_edge edges n d c.0 (record { edge = next.edge; at = at; end = next.near })) in
+    let place : slice_get a.put source.0 ≡ Some n = slice_get-get_or a.put source.0 n source.1 ∙ ap (λ k. Some k) source.2 in
+    f.followed source.0 n m (omega (arith, source.1, done)) place (record { number = c.0; among = number; end = record { edge = next.edge; at = at; passes = next.passes; far = next.far } })
 
-pub exactly_put : (kind : DepKind) (count : ℕ) (edges : List (GraphEdge Edge)) (starts : List ℕ) (a : PutNumbers) → IsFollowed kind count edges starts a → length a.put ≤ a.taken → (n : ℕ) → Contains a.put n ↔ IsReached kind edges starts n
-exactly_put kind count edges starts a f done n = (f.sound n, all_put kind count edges starts a f done n)
+pub exactly_put : {E : Type 0} (P : E → Type 0) (count : ℕ) (edges : List (GraphEdge E)) (d : Direction) (starts : List ℕ) (a : PutNumbers) → IsFollowed P count edges d starts a → length a.put ≤ a.taken
+    → (n : ℕ) → Contains a.put n ↔ IsFound P edges d starts n
+exactly_put P count edges d starts a f done n = (f.sound n, all_put P count edges d starts a f done n)

@@ -67,18 +67,18 @@ pub record IsLedTo {N E : Type 0} (nodes : List (Node N)) (edges : List (GraphEd
   pub crate : value_at nodes d ≡ Some krate
   pub leads : LeadsAlong (map node_spot nodes) edges p d
 
--- an edge leads from a feature of d to d
-pub record LeadsHome {E : Type 0} (edges : List (GraphEdge E)) (n d : ℕ) : Type 0 where
+-- an edge leads from number p to number d
+pub record HasEdge {E : Type 0} (edges : List (GraphEdge E)) (p d : ℕ) : Type 0 where
   pub edge : GraphEdge E
   pub among : Contains edges edge
-  pub from : edge.source ≡ n
+  pub from : edge.source ≡ p
   pub to : edge.target ≡ d
 
 -- What a mapping names is a crate, and an edge leads into it; from each feature an edge leads to its crate; and the nodes can be
 -- numbered.
 pub record AreConnected {N E : Type 0} (nodes : List (Node N)) (edges : List (GraphEdge E)) : Type 0 where
   pub mappings : (p d : ℕ) → DependsOn (map node_spot nodes) p d → IsLedTo nodes edges p d
-  pub features : (n d : ℕ) (name : Text) → slice_get (map node_spot nodes) n ≡ Some (FeatureSpot d name) → LeadsHome edges n d
+  pub features : (n d : ℕ) (name : Text) → slice_get (map node_spot nodes) n ≡ Some (FeatureSpot d name) → HasEdge edges n d
   pub numbered : length nodes < 2 ^ 32
 
 -- ---- steps

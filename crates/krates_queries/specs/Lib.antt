@@ -1,3 +1,5 @@
+pub mod AllDependents
+pub mod DependentLaws
 pub mod Direct
 pub mod DirectDependencies
 pub mod DirectDependents
@@ -12,6 +14,8 @@ pub mod Matches
 pub mod Neighbours
 pub mod Node
 pub mod NodeOrder
+pub mod Reached
+pub mod Reaches
 pub mod ResolvedDependency
 pub mod Why
 pub mod WorkspaceMembers

@@ -3,6 +3,7 @@
 
 pub mod from_package;
 pub mod kept;
+pub mod laws;
 pub mod node;
 pub mod numbers;
 pub mod queries;

@@ -1,5 +1,6 @@
 //! Questions to the graph of the kept crates, each in a file of its own.
 
+mod all_dependents;
 mod direct;
 mod direct_dependencies;
 mod direct_dependents;
@@ -15,6 +16,8 @@ mod matches;
 mod neighbours;
 mod nid_for_kid;
 mod node_for_kid;
+mod reached;
+mod reaches;
 mod resolved_dependency;
 mod search_matches;
 mod why;

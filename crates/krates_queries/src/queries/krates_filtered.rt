@@ -1,62 +1,21 @@
 //! The crates that members reach without edges of a kind.
 
-ghost use Rattle.std.specs.Prelude.{◌≡◌, ◌↔◌, ◌++◌, ℕ, ◌<◌, ◌^◌, All, Contains, IfOk, IsTrue, OnOk, length, map, option_map, slice_get};
+ghost use Rattle.std.specs.Prelude.{◌≡◌, ◌↔◌, ◌++◌, ℕ, ◌<◌, ◌^◌, All, Contains, IfOk, OnOk, length, map};
 ghost use Rattle.std.specs.List.{filter_map};
-ghost use Rattle.krates_drawing.specs.Paths.{Passes};
-ghost use Rattle.krates_drawing.specs.Views.{listed, tie_view};
-ghost use Rattle.krates_graph.specs.Graph.{HasEnds, numbers_at};
-ghost use Rattle.krates_graph.specs.declared.graph.edge.Direction.TheVariants.{Outgoing};
+ghost use Rattle.krates_drawing.specs.Views.{listed};
 ghost use Rattle.krates_queries.specs.Direct.{value_at};
-ghost use Rattle.krates_queries.specs.KratesFiltered.{AreReached, Grows, IsReached, IsTarget, IsTargetOf};
+ghost use Rattle.krates_queries.specs.KratesFiltered.{AreReached, IsReached};
+ghost use Rattle.krates_queries.specs.Reached.{Grows};
 
 use crate::kept::Krates;
 use crate::node::Node;
-use crate::queries::direct::{in_order, krate_at};
+use crate::queries::direct::krate_at;
+use crate::queries::reached::{WithoutKind, nodes_put, put_reached};
 use krates_drawing::edge::Edge;
 use krates_graph::agenda::Agenda;
-use krates_graph::graph::{Direction, EdgeId, Graph, GraphEdge, NodeId};
+use krates_graph::graph::{Direction, Graph, NodeId};
 use krates_rules::DepKind;
 use std::alloc::{AllocError, Global};
-
-/// Whether an edge has no kind or another one.
-fn passes(kind: DepKind, edge: &Edge) -> bool
-    ensures { IsTrue result ↔ Passes kind (tie_view edge.now) }
-{
-    match edge {
-        Edge::Dep { kind: other, .. } => *other != kind,
-        Edge::DepFeature { kind: other, .. } => *other != kind,
-        Edge::Feature => true,
-    }
-}
-
-/// The edge of a number.
-fn edge_at(edges: &[GraphEdge<Edge>], id: EdgeId) -> Option<&GraphEdge<Edge>>
-    ensures { option_map (λ edge. edge.now) result ≡ slice_get edges.now id }
-{
-    edges.get(id.index())
-}
-
-/// Puts the target of an edge, if the edge passes.
-fn put_target(kind: DepKind, edges: &[GraphEdge<Edge>], id: EdgeId, agenda: &mut Agenda)
-    requires { All (HasEnds agenda.old.size) edges.now }
-    ensures { Grows (IsTarget kind edges.now id) agenda.old agenda.new }
-{
-    if let Some(edge) = edge_at(edges, id) {
-        if passes(kind, &edge.weight) {
-            agenda.put(edge.target.index());
-        }
-    }
-}
-
-/// Puts the targets of the edges of these numbers that pass.
-fn put_targets(kind: DepKind, edges: &[GraphEdge<Edge>], ids: &[EdgeId], agenda: &mut Agenda)
-    requires { All (HasEnds agenda.old.size) edges.now }
-    ensures { Grows (IsTargetOf kind edges.now ids.now) agenda.old agenda.new }
-{
-    for id in ids {
-        put_target(kind, edges, *id, agenda);
-    }
-}
 
 /// Puts these numbers.
 fn put_all(numbers: &[NodeId], agenda: &mut Agenda)
@@ -68,7 +27,7 @@ fn put_all(numbers: &[NodeId], agenda: &mut Agenda)
     }
 }
 
-/// The nodes that are reached from these over edges that pass. Each is followed once.
+/// The nodes that are reached from these over edges that have no kind or another one.
 fn reached<N>(
     alloc: Global,
     kind: DepKind,
@@ -83,24 +42,13 @@ fn reached<N>(
 {
     let mut agenda = Agenda::new(alloc, graph.node_count())?;
     put_all(starts, &mut agenda);
-    while let Some(taken) = agenda.take() {
-        let node = NodeId::new(taken.number() as u32);
-        let ids = graph.edge_numbers(node, Direction::Outgoing);
-        put_targets(kind, graph.raw_edges(), ids, &mut agenda);
-    }
+    put_reached(
+        &WithoutKind { kind },
+        Direction::Outgoing,
+        graph,
+        &mut agenda,
+    );
     Ok(agenda)
-}
-
-/// The numbers as those of nodes.
-fn as_nodes(alloc: Global, numbers: &[usize]) -> Result<Vec<NodeId>, AllocError>
-    requires { All (λ n. n < 2 ^ 32) numbers.now }
-    ensures { IfOk result (λ nodes. nodes.items ≡ numbers.now) }
-{
-    let mut nodes = Vec::new(alloc);
-    for number in numbers {
-        nodes.push(NodeId::new(*number as u32))?;
-    }
-    Ok(nodes)
 }
 
 /// Adds what stands for the crate of a number, if it is a crate.
@@ -165,7 +113,7 @@ impl<N> Krates<N, Edge> {
         let alloc = self.alloc();
         let graph = self.graph();
         let agenda = reached(alloc, kind, graph, self.members())?;
-        let numbers = in_order(as_nodes(alloc, agenda.numbers())?);
+        let numbers = nodes_put(alloc, &agenda)?;
         krates_among(alloc, graph.raw_nodes(), &numbers)
     }
 }

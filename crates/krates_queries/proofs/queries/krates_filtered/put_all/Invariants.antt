@@ -1,5 +1,5 @@
 use Rattle.std.proofs.Common.{Contains, take}
-use Rattle.krates_queries.specs.KratesFiltered.{Grows}
+use Rattle.krates_queries.specs.Reached.{Grows}
 use Rattle.krates_queries.proofs.queries.krates_filtered.put_all.Given as goal
 
 abbrev pub invariant-loop-number : goal.invariant-loop-number

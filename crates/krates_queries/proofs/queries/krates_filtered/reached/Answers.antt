@@ -1,38 +1,20 @@
-use Rattle.std.proofs.Common.{◌≡◌, ◌∙◌, ℕ, ◌<◌, ◌^◌, Some, None, [], length, slice_get, sym, ap, arith, subst}
-use Rattle.std.proofs.lemmas.List.Elements.{All-contains}
+use Rattle.std.proofs.Common.{◌∙◌, Contains, ap}
 use Rattle.krates_graph.specs.Agenda.{PutNumbers}
-use Rattle.krates_queries.proofs.EdgeNumbers.{contains_got}
-use Rattle.krates_queries.proofs.ReachedLemmas.{IsFollowed, exactly_put, followed_first, followed_more, past}
+use Rattle.krates_queries.proofs.PathLemmas.{reached_without}
+use Rattle.krates_queries.proofs.ReachedLemmas.{put_first}
 use Rattle.krates_queries.proofs.queries.krates_filtered.reached.Goals as goal
 
-pub loop-taken-init : goal.loop-taken-init
-loop-taken-init g c =
-    followed_first c.args.kind (length c.args.graph.now.nodes) c.args.graph.now.edges c.args.starts.now c.in_ok-agenda.agenda c.put_all.new.agenda
-    (c.in_ok-agenda.ensures ∙ ap (λ (n : ℕ). record { size = n; put = []; taken = 0 }) c.node_count.ensures.count)
-    c.put_all.ensures
+pub put_reached-requires-clause-none_taken : goal.put_reached-requires-clause-none_taken
+put_reached-requires-clause-none_taken g c = c.put_all.ensures.taken ∙ ap (λ (a : PutNumbers). a.taken) c.in_ok-agenda.ensures
 
-pub overflow_cast-number : goal.overflow_cast-number
-overflow_cast-number g c =
-    let at : slice_get c.loop-taken.agenda.put c.loop-taken.agenda.taken ≡ Some c.in-Some.taken = sym c.in-Some.ensures.first in
-    let put : c.take.new.self.put ≡ c.loop-taken.agenda.put = ap (λ (a : PutNumbers). a.put) c.in-Some.ensures.counted in
-    let size : c.take.new.self.size ≡ c.loop-taken.agenda.size = ap (λ (a : PutNumbers). a.size) c.in-Some.ensures.counted in
-    let below : c.in-Some.taken < c.take.new.self.size =
-    All-contains (λ n. n < c.take.new.self.size) c.take.new.self.put c.in-Some.taken c.take.ensures.orderly.below
-    (rw put (contains_got c.loop-taken.agenda.put c.loop-taken.agenda.taken c.in-Some.taken at)) in
-    omega (arith, below, size, c.loop-taken.invariant.size, c.number.ensures, c.requires.numbered)
-
-pub loop-taken-preserved : goal.loop-taken-preserved
-loop-taken-preserved g c =
-    followed_more c.args.kind (length c.args.graph.now.nodes) c.args.graph.now.edges c.args.starts.now c.loop-taken.agenda c.take.new.self c.put_targets.new.agenda c.in-Some.taken
-    c.loop-taken.invariant (sym c.in-Some.ensures.first) c.in-Some.ensures.counted
-    (rw (c.raw_edges.ensures.edges, c.edge_numbers-ids.ensures, c.new-node.ensures, c.number.ensures) at c.put_targets.ensures)
+pub put_reached-requires-clause-size : goal.put_reached-requires-clause-size
+put_reached-requires-clause-size g c = c.put_all.ensures.size ∙ ap (λ (a : PutNumbers). a.size) c.in_ok-agenda.ensures ∙ c.node_count.ensures.count
 
 pub returns-clause-put : goal.returns-clause-put
-returns-clause-put g c =
-    let same : c.take.new.self.put ≡ c.loop-taken.agenda.put = ap (λ (a : PutNumbers). a.put) c.in_default.ensures.counted in
-    rw same
-    (exactly_put c.args.kind (length c.args.graph.now.nodes) c.args.graph.now.edges c.args.starts.now c.loop-taken.agenda c.loop-taken.invariant
-    (past c.loop-taken.agenda.put c.loop-taken.agenda.taken (sym c.in_default.ensures.first)))
-
-pub returns-clause-size : goal.returns-clause-size
-returns-clause-size g c = ap (λ (a : PutNumbers). a.size) c.in_default.ensures.counted ∙ c.loop-taken.invariant.size
+returns-clause-put g c n =
+    let starts = c.args.starts.now in
+    let before = c.put_all.new.agenda in
+    let first = put_first (Contains starts) c.node_count.result c.in_ok-agenda.agenda before c.in_ok-agenda.ensures c.put_all.ensures in
+    let found = c.put_reached.ensures.put n in
+    let paths = reached_without c.args.kind c.args.graph.now.edges (Contains before.put) starts first n in
+    (λ h. paths.0 (found.0 h), λ h. found.1 (paths.1 h))

@@ -1,17 +1,14 @@
-use Rattle.std.proofs.Common.{◌≡◌, ◌∙◌, ◌↔◌, ◌<◌, ◌^◌, ℕ, List, Contains, sym, ap, subst, arith, length, map}
+use Rattle.std.proofs.Common.{◌∙◌, ◌<◌, ap, arith, length}
 use Rattle.std.proofs.lemmas.List.Elements.{All-weaker}
 use Rattle.std.proofs.lemmas.Result.{IfOk-weaker}
 use Rattle.std.specs.List.{filter_map}
 use Rattle.krates_queries.specs.Direct.{value_at}
 use Rattle.krates_queries.specs.Node.{crate_ids}
 use Rattle.krates_queries.proofs.CrateIds.{as_few_crates}
-use Rattle.krates_queries.specs.KratesFiltered.{AreReached, IsReached}
 use Rattle.krates_queries.proofs.queries.krates_filtered.Krates+N+Edge.krates_filtered.Goals as goal
 
-pub as_nodes-requires : goal.as_nodes-requires
-as_nodes-requires g c =
-    All-weaker (λ n. n < c.in_ok-agenda.agenda.size) (λ n. n < 2 ^ 32) (λ n lt. (let numbered = c.graph-graph.ensures.connected.numbered in omega (arith, lt, c.in_ok-agenda.ensures.size, numbered)))
-    c.numbers.result.now (rw c.numbers.ensures.put c.numbers.ensures.orderly.below)
+pub nodes_put-requires : goal.nodes_put-requires
+nodes_put-requires g c = let numbered = c.graph-graph.ensures.connected.numbered in omega (arith, c.in_ok-agenda.ensures.size, numbered)
 
 pub reached-requires-clause-starts : goal.reached-requires-clause-starts
 reached-requires-clause-starts g c =
@@ -22,15 +19,14 @@ pub returns : goal.returns
 returns g c =
     let graph = c.graph-graph.result.now in
     let starts = c.members.result.now in
-    let numbers = c.in_order-numbers.result.items in
-    let put : c.in_ok-as_nodes.field-0.items ≡ c.in_ok-agenda.agenda.put = c.in_ok-as_nodes.ensures ∙ c.numbers.ensures.put in
+    let numbers = c.in_ok-numbers.numbers.items in
     rw (← c.graph-graph.ensures.graph, ← c.members.ensures.members)
     (IfOk-weaker c.krates_among.result _ _
     (λ krates e. record {
       numbers = numbers;
-      by_number = c.in_order-numbers.ensures.ascending;
+      by_number = c.in_ok-numbers.ensures.ascending;
       exactly = λ n.
-          (let there : Contains numbers n ↔ Contains c.in_ok-agenda.agenda.put n = subst (λ (ns : List ℕ). Contains numbers n ↔ Contains ns n) put (c.in_order-numbers.ensures.same n) in
+          (let there = c.in_ok-numbers.ensures.same n in
           let reached = c.in_ok-agenda.ensures.put n in
           (λ h. reached.0 (there.0 h), λ h. there.1 (reached.1 h)));
       are = e ∙ ap (filter_map (value_at c.raw_nodes.result.now)) c.deref.ensures.value ∙ ap (λ nodes. filter_map (value_at nodes) numbers) c.raw_nodes.ensures.nodes;

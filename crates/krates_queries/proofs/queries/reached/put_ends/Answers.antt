@@ -1,0 +1,7 @@
+use Rattle.krates_queries.proofs.ReachedLemmas.{ends_more}
+use Rattle.krates_queries.proofs.queries.reached.put_ends.Goals as goal
+
+pub loop-id-preserved : goal.loop-id-preserved
+loop-id-preserved g c =
+    ends_more (g.F.EdgeFilter.admits c.args.filter.now) c.args.edges.now c.args.direction c.args.ids.now c.loop-id.id-index c.id-item.result c.args.agenda.now c.loop-id.agenda c.put_end.new.agenda
+    c.loop-id-test.true c.id-item.is c.loop-id.invariant c.put_end.ensures
