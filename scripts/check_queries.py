@@ -91,9 +91,23 @@ def dependencies(graph, own_edges, node):
     return [(krate, next(edge for edge in own_edges if graph.leads_into(edge, krate))) for krate in named]
 
 
-def node_lines(graph, node, own_edges):
+def leading_to(sources, node):
+    """The nodes from which a path of edges leads to the node, itself among them."""
+    found, left = {node}, [node]
+    while left:
+        for source in sources[left.pop()] - found:
+            found.add(source)
+            left.append(source)
+    return found
+
+
+def node_lines(graph, node, own_edges, sources):
     for source, edge in dependents(graph, node):
         yield f"dependent {node} {source} {edge} {graph.crates[source]}"
+    above = leading_to(sources, node)
+    yield from (f"above {node} {krate} {graph.crates[krate]}" for krate in sorted(above) if krate < len(graph.crates))
+    if 0 in above:
+        yield f"reached {node}"
     for target, edge in dependencies(graph, own_edges, node):
         yield f"dependency {node} {target} {edge} {graph.crates[target]}"
     for edge in own_edges:
@@ -177,8 +191,11 @@ def expected(graph, document):
     yield from (f"member crate {graph.crates[number]}" for number in members)
     yield from (f"krate {krate}" for krate in graph.crates)
     yield from (f"krate {number} {krate} {krate}" for number, krate in enumerate(graph.crates))
+    sources = [set() for _ in range(graph.count())]
+    for source, target, _ in graph.edges:
+        sources[target].add(source)
     for node in range(graph.count()):
-        yield from node_lines(graph, node, edges_from[node])
+        yield from node_lines(graph, node, edges_from[node], sources)
     for kind in ("normal", "build", "dev"):
         yield from (f"filtered {kind} {krate}" for krate in filtered(graph, edges_from, members, kind))
     yield from id_lines(graph, document)

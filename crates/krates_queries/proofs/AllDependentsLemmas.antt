@@ -8,7 +8,7 @@ use Rattle.std.specs.Ordering.{nat_cmp}
 use Rattle.krates_drawing.proofs.Members.{Member, contains_of, member_of}
 use Rattle.krates_graph.specs.declared.graph.edge.GraphEdge.{GraphEdge}
 use Rattle.krates_queries.specs.AllDependents.{AreAllDependents, match_at, match_in}
-use Rattle.krates_queries.specs.Matches.{Match, numbered_crates}
+use Rattle.krates_queries.specs.KrateNodes.{Match, numbered_crates}
 use Rattle.krates_queries.specs.Reaches.{HasPath}
 use Rattle.krates_queries.specs.declared.node.Node.{Node}
 use Rattle.krates_queries.specs.declared.node.Node.TheVariants.{Krate, Feature}

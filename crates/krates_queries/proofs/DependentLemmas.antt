@@ -10,7 +10,7 @@ use Rattle.krates_queries.specs.AllDependents.{match_in}
 use Rattle.krates_queries.specs.DependentLaws.{DependentsReach, DirectAreAmongAll}
 use Rattle.krates_queries.specs.Direct.{AreConnected, HasEdge, Joined, value_in}
 use Rattle.krates_queries.specs.DirectDependents.{IsDependent}
-use Rattle.krates_queries.specs.Matches.{Match, numbered_crates}
+use Rattle.krates_queries.specs.KrateNodes.{Match, numbered_crates}
 use Rattle.krates_queries.specs.Reaches.{HasPath}
 use Rattle.krates_queries.specs.declared.node.Node.{Node}
 use Rattle.krates_queries.specs.declared.node.Node.TheVariants.{Krate, Feature}

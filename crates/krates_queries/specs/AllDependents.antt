@@ -3,7 +3,7 @@ use Rattle.std.specs.Prelude.{◌↔◌, ℕ, List, Contains, Option, Some, None
 use Rattle.std.specs.List.Sorted.{IsStrictlySortedBy}
 use Rattle.std.specs.Ordering.{nat_cmp}
 use Rattle.krates_graph.specs.declared.graph.edge.GraphEdge.{GraphEdge}
-use Rattle.krates_queries.specs.Matches.{Match, numbered_crates}
+use Rattle.krates_queries.specs.KrateNodes.{Match, numbered_crates}
 use Rattle.krates_queries.specs.Reaches.{HasPath}
 use Rattle.krates_queries.specs.declared.node.Node.{Node}
 use Rattle.krates_queries.specs.declared.node.Node.TheVariants.{Krate, Feature}

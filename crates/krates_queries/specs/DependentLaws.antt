@@ -5,7 +5,7 @@ use Rattle.krates_graph.specs.declared.graph.edge.GraphEdge.{GraphEdge}
 use Rattle.krates_queries.specs.AllDependents.{AreAllDependents}
 use Rattle.krates_queries.specs.Direct.{AreConnected, Joined}
 use Rattle.krates_queries.specs.DirectDependents.{AreDependents}
-use Rattle.krates_queries.specs.Matches.{Match, numbered_crates}
+use Rattle.krates_queries.specs.KrateNodes.{Match, numbered_crates}
 use Rattle.krates_queries.specs.Reaches.{TellsPath}
 use Rattle.krates_queries.specs.declared.node.Node.{Node}
 

@@ -39,6 +39,23 @@ fn push_deps(lines: &mut String, krates: &Krates, node: NodeId) -> Result<(), Al
     Ok(())
 }
 
+/// Adds `above N SOURCE ID` for each crate from which a path leads to a node, and `reached N` where one leads from the first node.
+fn push_above(lines: &mut String, krates: &Krates, node: NodeId) -> Result<(), AllocError> {
+    let number = node.index();
+    for found in &krates.all_dependents(node)? {
+        push_line(
+            lines,
+            "above",
+            &[number, found.node_id.index()],
+            &found.krate.id,
+        )?;
+    }
+    if krates.reaches(NodeId::new(0), node)? {
+        writeln!(lines, "reached {number}")?;
+    }
+    Ok(())
+}
+
 /// How many places are asked of a crate: all that a dependency is declared at, and one more.
 fn places_of(krates: &Krates, number: usize) -> usize {
     if number < krates.len() {
@@ -64,6 +81,7 @@ fn push_nodes(lines: &mut String, krates: &Krates) -> Result<(), AllocError> {
     for number in 0..=krates.graph().node_count() {
         let node = NodeId::new(number as u32);
         push_dependents(lines, krates, node)?;
+        push_above(lines, krates, node)?;
         push_dependencies(lines, krates, node)?;
         push_deps(lines, krates, node)?;
         push_resolved(lines, krates, node)?;
@@ -103,8 +121,9 @@ fn push_krates(lines: &mut String, krates: &Krates) -> Result<(), AllocError> {
 
 /// Adds `krate N ID ID` for the number of each kept crate, by that number and by that of its node.
 fn push_numbers(lines: &mut String, krates: &Krates) -> Result<(), AllocError> {
-    for number in 0..krates.len() {
-        let (id, of_node) = (&krates[number].id, &krates[NodeId::new(number as u32)].id);
+    for found in krates.krate_nodes() {
+        let number = found.node_id.index();
+        let (id, of_node) = (&krates[number].id, &krates[found.node_id].id);
         writeln!(lines, "krate {number} {} {}", id.repr, of_node.repr)?;
     }
     Ok(())

@@ -4,11 +4,11 @@ ghost use Rattle.std.specs.Prelude.{◌≡◌, ◌++◌, IfOk, OnOk, map, option
 ghost use Rattle.std.specs.List.{filter_map};
 ghost use Rattle.krates_drawing.specs.Views.{listed};
 ghost use Rattle.krates_queries.specs.AllDependents.{AreAllDependents, match_at};
-ghost use Rattle.krates_queries.specs.Matches.{match_view};
+ghost use Rattle.krates_queries.specs.KrateNodes.{match_view};
 
 use crate::kept::Krates;
 use crate::node::Node;
-use crate::queries::matches::KrateMatch;
+use crate::queries::krate_nodes::KrateMatch;
 use crate::queries::reached::nodes_put;
 use crate::queries::reaches::leading_to;
 use krates_graph::graph::NodeId;

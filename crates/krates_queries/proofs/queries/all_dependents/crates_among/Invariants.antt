@@ -1,7 +1,7 @@
 use Rattle.std.proofs.Common.{◌≡◌, ◌++◌, drop, map}
 use Rattle.std.specs.List.{filter_map}
 use Rattle.krates_queries.specs.AllDependents.{match_at}
-use Rattle.krates_queries.specs.Matches.{match_view}
+use Rattle.krates_queries.specs.KrateNodes.{match_view}
 use Rattle.krates_queries.proofs.queries.all_dependents.crates_among.Given as goal
 
 abbrev pub invariant-loop-number : goal.invariant-loop-number
