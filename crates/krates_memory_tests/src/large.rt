@@ -45,8 +45,8 @@ fn sizes(alloc: Global, krates: &Krates) -> Result<String, Fail> {
     )?)
 }
 
-/// How many crates all in all depend on the second, and whether the first feature of the first crate, which names the next, leads to the
-/// last, and that to the first.
+/// How many crates all in all depend on the second, and whether the first feature of the first crate, of which each names
+/// the next, leads to the last, and that to the first.
 fn paths(alloc: Global, krates: &Krates) -> Result<String, Fail> {
     let (first, last) = (NodeId::new(2_002), NodeId::new(7_002));
     let needing = krates.all_dependents(NodeId::new(1))?.len();

@@ -16,5 +16,6 @@ DependentsReach {N} nodes edges = (d : ℕ) (all : List (Match N)) → AreAllDep
 
 -- In a graph as builds keep it, each direct dependent of a node is among all of its dependents.
 abbrev pub DirectAreAmongAll : {N E : Type 0} → List (Node N) → List (GraphEdge E) → Type 0
-DirectAreAmongAll {N} nodes edges = AreConnected nodes edges → All (HasEnds (length nodes)) edges → (d : ℕ) (direct : List (Joined N)) → AreDependents nodes edges d direct
-    → (all : List (Match N)) → AreAllDependents nodes edges d all → (j : Joined N) → Contains direct j → Contains (map (λ c. c.number) all) j.node
+DirectAreAmongAll {N} nodes edges = AreConnected nodes edges → All (HasEnds (length nodes)) edges
+    → (d : ℕ) (direct : List (Joined N)) → AreDependents nodes edges d direct → (all : List (Match N)) → AreAllDependents nodes edges d all
+    → (j : Joined N) → Contains direct j → Contains (map (λ c. c.number) all) j.node

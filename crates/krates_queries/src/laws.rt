@@ -5,7 +5,8 @@ ghost use Rattle.krates_graph.specs.declared.graph.edge.GraphEdge.{GraphEdge};
 ghost use Rattle.krates_queries.specs.DependentLaws.{DependentsReach, DirectAreAmongAll};
 ghost use Rattle.krates_queries.specs.declared.node.Node.{Node};
 
-/// A kept crate reaches a node exactly if it is among all dependents of the node, and all direct dependents of the node are among them.
+/// A kept crate reaches a node exactly if it is among all dependents of the node, and the direct dependents of the node are
+/// among them.
 pub fn dependents_reach<N, E>()
     ensures reach { (nodes : List (Node N)) (edges : List (GraphEdge E)) → DependentsReach nodes edges }
     ensures direct { (nodes : List (Node N)) (edges : List (GraphEdge E)) → DirectAreAmongAll nodes edges }

@@ -63,13 +63,14 @@ fn crates_among<'a, N>(
 }
 
 impl<N, E> Krates<N, E> {
-    /// The kept crates from which a path of edges leads to a node, each once, by number, which is the order of the ids: those that
-    /// depend on it directly, and those that depend on one of these, and so on. A crate is among its own, by the path without
-    /// edges; of a feature's node the crate is so only if a path leads from it to the feature. None for a number that no node
-    /// has. The only refusal is running out of memory.
+    /// The kept crates from which a path of edges leads to a node, each once, by number, which is the order
+    /// of the ids: those that depend on it directly, those that depend on one of these, and so on. A crate is
+    /// among its own, by the path without edges; the crate of a feature is among the feature's only if a path
+    /// leads from the crate to the feature. None for a number that no node has. The only refusal is running
+    /// out of memory.
     ///
-    /// Time: O(n log n + e), where n counts the nodes of the graph and e the edges to those from which the node is reached, each of
-    /// which is looked at once.
+    /// Time: O(n log n + e), where n counts the nodes of the graph and e the edges to those from which the
+    /// node is reached, each of which is looked at once.
     ///
     /// All that an advisory concerns, however far away:
     ///

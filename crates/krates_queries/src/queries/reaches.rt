@@ -39,11 +39,14 @@ pub(crate) fn leading_to<N, E>(
 }
 
 impl<N, E> Krates<N, E> {
-    /// Whether a path of edges leads from one node to the other. A node reaches itself, by the path without edges. A number that no
-    /// node has reaches nothing, and nothing reaches it. The only refusal is running out of memory.
+    /// Whether a path of edges leads from one node to the other. A node reaches itself, by the path without
+    /// edges. A number that no node has reaches nothing, and nothing reaches it. The only refusal is running
+    /// out of memory.
     ///
-    /// Time: O(n + e), where n counts the nodes of the graph and e the edges to those from which `to` is reached, each of which is
-    /// looked at once.
+    /// Time: O(n + e), where n counts the nodes of the graph and e the edges to those from which `to` is
+    /// reached, each of which is looked at once.
+    ///
+    /// Whether the program that is built uses what an advisory names:
     ///
     /// ```text
     /// if krates.reaches(app, vulnerable)? {
