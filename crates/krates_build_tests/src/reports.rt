@@ -1,6 +1,8 @@
 //! Reports that people ask for, as a caller writes them.
 
 use crate::builders::krates_of;
+use crate::setters;
+use krates::cm::SourceKind;
 use krates::{DepKind, DirectDependent, KrateDetails, Krates, NodeId, Package};
 use krates_samples::documents::section;
 use krates_samples::table::{Question, Row, hold};
@@ -123,8 +125,57 @@ const FOR_TESTS: &[Row] = &[
     ("a b&build c&dev|b|c", "c, "),
 ];
 
+/// Where a package is from.
+fn origin_of(krate: &Package) -> &'static str {
+    match &krate.source {
+        _ if krate.is_local() => "here",
+        Some(source) => match source.kind() {
+            SourceKind::Registry | SourceKind::SparseRegistry => "registry",
+            SourceKind::Git => "git",
+            SourceKind::Path | SourceKind::Other => "elsewhere",
+        },
+        None => "here",
+    }
+}
+
+/// Adds each kept crate, with its number, where it is from, and how many crates lead to it, itself among them.
+fn push_shipped(text: &mut String, krates: &Krates) -> Result<(), AllocError> {
+    for found in krates.krate_nodes() {
+        let number = found.node_id.index();
+        let above = krates.all_dependents(found.node_id)?.len();
+        let origin = origin_of(found.krate);
+        write!(text, "{number} {} {origin} {above}, ", found.kid.name())?;
+    }
+    Ok(())
+}
+
+/// The crates that are shipped to the target of the line.
+struct Shipped;
+
+impl Question for Shipped {
+    fn told(alloc: Global, line: &str) -> Result<String, Fail> {
+        let krates = setters::krates_of(alloc, line)?;
+        let mut text = String::new(alloc);
+        push_shipped(&mut text, &krates)?;
+        Ok(text)
+    }
+}
+
+const SHIPPED: &[Row] = &[
+    // at a target that rustc describes
+    (
+        r#"a b&on=cfg(windows) c&dev|b d&crates.io|c|d&crates.io / ignore dev all / for x86_64-pc-windows-gnu;target_family="windows""#,
+        "0 a here 1, 1 b here 2, 2 d registry 3, ",
+    ),
+    (
+        r#"a b&on=cfg(windows) c&dev|b d&crates.io|c|d&crates.io / ignore dev all / for x86_64-unknown-freebsd;target_family="unix""#,
+        "0 a here 1, ",
+    ),
+];
+
 #[test]
 fn reports(rt: HostRuntime) -> Result<(), Fail> {
     hold::<Reported<Dependents>>(rt.alloc(), DEPENDENTS)?;
-    hold::<Reported<ForTests>>(rt.alloc(), FOR_TESTS)
+    hold::<Reported<ForTests>>(rt.alloc(), FOR_TESTS)?;
+    hold::<Shipped>(rt.alloc(), SHIPPED)
 }

@@ -2,7 +2,7 @@ use Rattle.std.proofs.Common.{◌∙◌, ◌↔◌, ℕ, List, Contains, sym, ap
 use Rattle.std.proofs.lemmas.Result.{IfOk-weaker}
 use Rattle.std.specs.List.{filter_map}
 use Rattle.krates_queries.specs.AllDependents.{AreAllDependents, match_at}
-use Rattle.krates_queries.specs.Matches.{Match}
+use Rattle.krates_queries.specs.KrateNodes.{Match}
 use Rattle.krates_queries.specs.Reaches.{HasPath}
 use Rattle.krates_queries.specs.declared.node.Node.{Node}
 use Rattle.krates_queries.proofs.AllDependentsLemmas.{are_all_dependents}
