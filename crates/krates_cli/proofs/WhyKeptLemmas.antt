@@ -3,6 +3,7 @@ use Rattle.std.proofs.Common.{◌≡◌, ◌<◌, ◌∙◌, ℕ, List, Some, le
 use Rattle.std.proofs.lemmas.Option.{same_Some, slice_get_within}
 use Rattle.std.specs.List.{slice_get}
 use Rattle.krates_cm.specs.Document.{Text}
+use Rattle.krates_rules.specs.DerivationTexts.{derivation_lines}
 use Rattle.krates_rules.specs.StepViews.{steps_view}
 use Rattle.krates_rules.specs.declared.derivation.Step.{Step}
 use Rattle.krates_graph.specs.Graph.{StoredGraph}
@@ -15,7 +16,6 @@ use Rattle.krates_queries.specs.Kept.{KeptCrates, ids_of}
 use Rattle.krates_queries.specs.Node.{CratesFirst}
 use Rattle.krates_queries.specs.Why.{IsWhy, node_fact}
 use Rattle.krates_queries.specs.declared.node.Node.{Node}
-use Rattle.krates_rules.specs.DerivationTexts.{derivation_lines}
 use Rattle.krates_cli.specs.WhyKept.{ExplainsKept}
 
 pub same_first : {N E : Type 0} (g h : StoredGraph (Node N) E) → g ≡ h → CratesFirst g.nodes → CratesFirst h.nodes

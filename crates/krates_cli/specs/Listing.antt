@@ -5,6 +5,7 @@ use Rattle.krates_cm.specs.Document.{Text, metadata_view}
 use Rattle.krates_cm.specs.declared.metadata.Metadata.{Metadata}
 use Rattle.krates_cm.specs.declared.package.Package.{Package}
 use Rattle.krates_cm_json.specs.Parsing.{IsDocument}
+use Rattle.krates_rules.specs.DerivationTexts.{derivation_lines}
 use Rattle.krates_rules.specs.declared.derivation.Step.{Step}
 use Rattle.krates_ids.specs.Identity.{Identity}
 use Rattle.krates_rules.specs.Facts.{Id, Cause}
@@ -13,7 +14,6 @@ use Rattle.krates_rules.specs.Setting.{SettingModel}
 use Rattle.krates.specs.Build.{IsResolvable, KeepsCrate, DropsCrate, IsLost}
 use Rattle.krates_packages.specs.Listed.{AreThosePackages}
 use Rattle.krates_cli.specs.Counted.{AppendsFront}
-use Rattle.krates_rules.specs.DerivationTexts.{derivation_lines}
 use Rattle.krates_cli.specs.Lines.{lines_of}
 use Rattle.krates_cli.specs.Request.{Request}
 use Rattle.krates_cli.specs.WhyKept.{IsWhyKept}

@@ -1,6 +1,7 @@
 -- Why a crate of a document is kept, as it is told.
 use Rattle.std.specs.Prelude.{◌≡◌, ℕ, ◌+◌, ◌<◌, List, All, length, ⊤}
 use Rattle.krates_cm.specs.Document.{MetadataModel, Text}
+use Rattle.krates_rules.specs.DerivationTexts.{derivation_lines}
 use Rattle.krates_rules.specs.StepViews.{steps_view}
 use Rattle.krates_rules.specs.declared.derivation.Step.{Step}
 use Rattle.krates_explain.specs.Explanation.{HasTheseIds}
@@ -13,7 +14,6 @@ use Rattle.krates_rules.specs.StepParts.{HaveOwnFacts, IsUsedLater}
 use Rattle.krates_rules.specs.Steps.{EndsIn}
 use Rattle.krates_queries.specs.Kept.{KeptCrates, IsNotKept, ids_of}
 use Rattle.krates_queries.specs.Why.{IsWhy}
-use Rattle.krates_rules.specs.DerivationTexts.{derivation_lines}
 use Rattle.krates_cli.specs.declared.run_error.RunError.{RunError}
 use Rattle.krates_cli.specs.declared.run_error.RunError.TheVariants as errors
 
