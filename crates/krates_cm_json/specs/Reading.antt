@@ -11,22 +11,11 @@ pub record Reading (A : Type 0) : Type 1 where
   pub value : Option A
   pub IsFault : Fault → Type 0
 
--- the error is one of data of which nothing is read: it names a true fault
-abbrev pub Refuses : {A : Type 0} → ReadError → Reading A → Type 0
-Refuses e reading = (reading.value ≡ None) × reading.IsFault (fault_of e)
-
 -- What a function returned, seen by `view`, is what is read. A refusal comes where nothing is read,
 -- and names a true fault, unless memory ran out.
 abbrev pub Gives : {X Y : Type 0} → (X → Y) → Result X ReadError → Reading Y → Type 0
 Gives view (Ok x) reading = reading.value ≡ Some (view x)
-Gives view (Err e) reading = (e ≡ errors.Memory) ⊎ Refuses e reading
-
--- What a function returned, seen by three views, is what three readings read. A refusal is that of one
--- of them, and those before it are read, unless memory ran out.
-abbrev pub GivesThree : {X A B C : Type 0} → (X → A) → (X → B) → (X → C) → Result X ReadError → Reading A → Reading B → Reading C → Type 0
-GivesThree view_a view_b view_c (Ok x) a b c = (a.value ≡ Some (view_a x)) × (b.value ≡ Some (view_b x)) × (c.value ≡ Some (view_c x))
-GivesThree {A = A} {B = B} view_a view_b view_c (Err e) a b c = (e ≡ errors.Memory)
-    ⊎ (Refuses e a ⊎ ((x : A) × (a.value ≡ Some x) × (Refuses e b ⊎ ((y : B) × (b.value ≡ Some y) × Refuses e c))))
+Gives view (Err e) reading = (e ≡ errors.Memory) ⊎ ((reading.value ≡ None) × reading.IsFault (fault_of e))
 
 -- what is read of data that stands under a key: faults name the key
 abbrev pub Reader : Type 0 → Type 1

@@ -7,7 +7,6 @@ pub mod metadata;
 pub mod package;
 pub mod resolve;
 pub mod target;
-pub mod three;
 pub mod values;
 pub mod versions;
 

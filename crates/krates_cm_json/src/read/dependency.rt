@@ -4,9 +4,8 @@ ghost use Rattle.krates_cm.specs.Document.{DependencyModel, dependency_view};
 ghost use Rattle.krates_cm.specs.declared.dependency.DependencyKind.{DependencyKind};
 ghost use Rattle.krates_cm_json.specs.Tables.{dependency, dependency_kind};
 
-use crate::read::fields::{expect_object, optional};
+use crate::read::fields::{expect_object, optional, or_default, required};
 use crate::read::from_value::FromValue;
-use crate::read::three::{Fields, Optional, OrDefault, Required};
 use krates_cm::{Dependency, DependencyKind, ReadError};
 use krates_json::JsonRef;
 use std::alloc::Global;
@@ -51,36 +50,18 @@ impl FromValue for Dependency {
         key: &'static str,
     ) -> Result<Dependency, ReadError> {
         expect_object(value, key)?;
-        let fields = Fields { alloc, value };
-        let (name, source, req) = fields.three(
-            Required("name"),
-            Optional("source"),
-            Required("req"),
-        )?;
-        let (kind, is_optional, uses_default_features) = fields.three(
-            OrDefault("kind", DependencyKind::Normal),
-            Required("optional"),
-            Required("uses_default_features"),
-        )?;
-        let (features, target, rename) = fields.three(
-            Required("features"),
-            Optional("target"),
-            Optional("rename"),
-        )?;
-        let registry = optional(alloc, value, "registry")?;
-        let path = optional(alloc, value, "path")?;
         Ok(Dependency {
-            name,
-            source,
-            req,
-            kind,
-            optional: is_optional,
-            uses_default_features,
-            features,
-            target,
-            rename,
-            registry,
-            path,
+            name: required(alloc, value, "name")?,
+            source: optional(alloc, value, "source")?,
+            req: required(alloc, value, "req")?,
+            kind: or_default(alloc, value, "kind", DependencyKind::Normal)?,
+            optional: required(alloc, value, "optional")?,
+            uses_default_features: required(alloc, value, "uses_default_features")?,
+            features: required(alloc, value, "features")?,
+            target: optional(alloc, value, "target")?,
+            rename: optional(alloc, value, "rename")?,
+            registry: optional(alloc, value, "registry")?,
+            path: optional(alloc, value, "path")?,
         })
     }
 }

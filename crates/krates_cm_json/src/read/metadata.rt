@@ -5,9 +5,8 @@ ghost use Rattle.krates_cm.specs.Document.{Text, default_members_view, MetadataM
 ghost use Rattle.krates_cm_json.specs.Reading.{text, list, present};
 ghost use Rattle.krates_cm_json.specs.Tables.{metadata};
 
-use crate::read::fields::{expect_object, or_default, required};
+use crate::read::fields::{any_or_null, expect_object, optional, or_default, required};
 use crate::read::from_value::FromValue;
-use crate::read::three::{AnyOrNull, Fields, Optional, OrDefault, Required};
 use krates_cm::{Metadata, ReadError, WorkspaceDefaultMembers};
 use krates_json::JsonRef;
 use std::alloc::Global;
@@ -44,35 +43,21 @@ impl FromValue for Metadata {
         key: &'static str,
     ) -> Result<Metadata, ReadError> {
         expect_object(value, key)?;
-        let packages = required(alloc, value, "packages")?;
-        let workspace_members = required(alloc, value, "workspace_members")?;
-        let workspace_default_members = or_default(
-            alloc,
-            value,
-            "workspace_default_members",
-            WorkspaceDefaultMembers(None),
-        )?;
-        let fields = Fields { alloc, value };
-        let (resolve, workspace_root, target_directory) = fields.three(
-            Optional("resolve"),
-            Required("workspace_root"),
-            Required("target_directory"),
-        )?;
-        let (build_directory, workspace_metadata, version) = fields.three(
-            Optional("build_directory"),
-            AnyOrNull("metadata"),
-            OrDefault("version", 0),
-        )?;
         Ok(Metadata {
-            packages,
-            workspace_members,
-            workspace_default_members,
-            resolve,
-            workspace_root,
-            target_directory,
-            build_directory,
-            workspace_metadata,
-            version,
+            packages: required(alloc, value, "packages")?,
+            workspace_members: required(alloc, value, "workspace_members")?,
+            workspace_default_members: or_default(
+                alloc,
+                value,
+                "workspace_default_members",
+                WorkspaceDefaultMembers(None),
+            )?,
+            resolve: optional(alloc, value, "resolve")?,
+            workspace_root: required(alloc, value, "workspace_root")?,
+            target_directory: required(alloc, value, "target_directory")?,
+            build_directory: optional(alloc, value, "build_directory")?,
+            workspace_metadata: any_or_null(alloc, value, "metadata")?,
+            version: or_default(alloc, value, "version", 0)?,
         })
     }
 }

@@ -5,9 +5,10 @@ ghost use Rattle.krates_cm.specs.PackageParts.{AboutModel, about_view, SettingsM
 ghost use Rattle.krates_cm_json.specs.Reading.{text};
 ghost use Rattle.krates_cm_json.specs.Tables.{about, settings, package_reader};
 
-use crate::read::fields::{expect_object, optional, required};
+use crate::read::fields::{
+    any_or_null, expect_object, list_or_empty, optional, or_default, required,
+};
 use crate::read::from_value::FromValue;
-use crate::read::three::{AnyOrNull, Fields, ListOrEmpty, Optional, OrDefault, Required};
 use crate::read::versions::RustVersion;
 use krates_cm::package_parts::{About, Settings};
 use krates_cm::{Edition, Package, ReadError, Source};
@@ -46,34 +47,17 @@ impl FromValue for About {
         value: J,
         _key: &'static str,
     ) -> Result<About, ReadError> {
-        let fields = Fields { alloc, value };
-        let (authors, description, license) = fields.three(
-            ListOrEmpty("authors"),
-            Optional("description"),
-            Optional("license"),
-        )?;
-        let (license_file, categories, keywords) = fields.three(
-            Optional("license_file"),
-            ListOrEmpty("categories"),
-            ListOrEmpty("keywords"),
-        )?;
-        let (readme, repository, homepage) = fields.three(
-            Optional("readme"),
-            Optional("repository"),
-            Optional("homepage"),
-        )?;
-        let documentation = optional(alloc, value, "documentation")?;
         Ok(About {
-            authors,
-            description,
-            license,
-            license_file,
-            categories,
-            keywords,
-            readme,
-            repository,
-            homepage,
-            documentation,
+            authors: list_or_empty(alloc, value, "authors")?,
+            description: optional(alloc, value, "description")?,
+            license: optional(alloc, value, "license")?,
+            license_file: optional(alloc, value, "license_file")?,
+            categories: list_or_empty(alloc, value, "categories")?,
+            keywords: list_or_empty(alloc, value, "keywords")?,
+            readme: optional(alloc, value, "readme")?,
+            repository: optional(alloc, value, "repository")?,
+            homepage: optional(alloc, value, "homepage")?,
+            documentation: optional(alloc, value, "documentation")?,
         })
     }
 }
@@ -91,24 +75,13 @@ impl FromValue for Settings {
         value: J,
         _key: &'static str,
     ) -> Result<Settings, ReadError> {
-        let fields = Fields { alloc, value };
-        let (edition, metadata, links) = fields.three(
-            OrDefault("edition", Edition::E2015),
-            AnyOrNull("metadata"),
-            Optional("links"),
-        )?;
-        let (publish, default_run, rust_version): (_, _, Option<RustVersion>) = fields.three(
-            Optional("publish"),
-            Optional("default_run"),
-            Optional("rust_version"),
-        )?;
         Ok(Settings {
-            edition,
-            metadata,
-            links,
-            publish,
-            default_run,
-            rust_version: rust_version.map(|v| v.0),
+            edition: or_default(alloc, value, "edition", Edition::E2015)?,
+            metadata: any_or_null(alloc, value, "metadata")?,
+            links: optional(alloc, value, "links")?,
+            publish: optional(alloc, value, "publish")?,
+            default_run: optional(alloc, value, "default_run")?,
+            rust_version: optional::<RustVersion, J>(alloc, value, "rust_version")?.map(|v| v.0),
         })
     }
 }
@@ -127,17 +100,12 @@ impl FromValue for Package {
         key: &'static str,
     ) -> Result<Package, ReadError> {
         expect_object(value, key)?;
-        let fields = Fields { alloc, value };
-        let (name, version, id) = fields.three(
-            Required("name"),
-            Required("version"),
-            Required("id"),
-        )?;
-        let (source, dependencies, targets) = fields.three(
-            Optional("source"),
-            Required("dependencies"),
-            Required("targets"),
-        )?;
+        let name = required(alloc, value, "name")?;
+        let version = required(alloc, value, "version")?;
+        let id = required(alloc, value, "id")?;
+        let source = optional(alloc, value, "source")?;
+        let dependencies = required(alloc, value, "dependencies")?;
+        let targets = required(alloc, value, "targets")?;
         let features = required(alloc, value, "features")?;
         let manifest_path = required(alloc, value, "manifest_path")?;
         let about = About::from_json_at(alloc, value, key)?;

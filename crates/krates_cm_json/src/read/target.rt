@@ -6,9 +6,8 @@ ghost use Rattle.krates_cm.specs.declared.target.CrateType.{CrateType};
 ghost use Rattle.krates_cm.specs.declared.target.Edition.{Edition};
 ghost use Rattle.krates_cm_json.specs.Tables.{target, target_kind, crate_type, edition};
 
-use crate::read::fields::{expect_object, list_or_empty, required};
+use crate::read::fields::{expect_object, list_or_empty, or_default, required};
 use crate::read::from_value::FromValue;
-use crate::read::three::{Fields, ListOrEmpty, OrDefault, Required};
 use krates_cm::{CrateType, Edition, ReadError, Target, TargetKind};
 use krates_json::JsonRef;
 use std::alloc::Global;
@@ -80,30 +79,16 @@ impl FromValue for Target {
         key: &'static str,
     ) -> Result<Target, ReadError> {
         expect_object(value, key)?;
-        let fields = Fields { alloc, value };
-        let name = required(alloc, value, "name")?;
-        let kind = required(alloc, value, "kind")?;
-        let crate_types = list_or_empty(alloc, value, "crate_types")?;
-        let (required_features, src_path, edition) = fields.three(
-            ListOrEmpty("required-features"),
-            Required("src_path"),
-            OrDefault("edition", Edition::E2015),
-        )?;
-        let (doctest, test, doc) = fields.three(
-            OrDefault("doctest", true),
-            OrDefault("test", true),
-            OrDefault("doc", true),
-        )?;
         Ok(Target {
-            name,
-            kind,
-            crate_types,
-            required_features,
-            src_path,
-            edition,
-            doctest,
-            test,
-            doc,
+            name: required(alloc, value, "name")?,
+            kind: required(alloc, value, "kind")?,
+            crate_types: list_or_empty(alloc, value, "crate_types")?,
+            required_features: list_or_empty(alloc, value, "required-features")?,
+            src_path: required(alloc, value, "src_path")?,
+            edition: or_default(alloc, value, "edition", Edition::E2015)?,
+            doctest: or_default(alloc, value, "doctest", true)?,
+            test: or_default(alloc, value, "test", true)?,
+            doc: or_default(alloc, value, "doc", true)?,
         })
     }
 }
