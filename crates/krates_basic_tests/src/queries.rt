@@ -192,7 +192,7 @@ fn files(alloc: Global, package: &Package) -> Result<String, AllocError> {
 }
 
 /// Of what kind the source of a package is, and whether the package is local.
-fn origin(alloc: Global, package: &Package) -> Result<String, AllocError> {
+fn source_answers(alloc: Global, package: &Package) -> Result<String, AllocError> {
     let kind = package.source.as_ref().map(|source| source.kind());
     let is_local = package.is_local();
     format!(in alloc; "{kind:?}, local: {is_local}")
@@ -263,7 +263,7 @@ struct Origin;
 impl Question for Origin {
     fn told(alloc: Global, source: &str) -> Result<String, Fail> {
         let package = package(alloc, "1.0.0", source, "{}")?;
-        Ok(origin(alloc, &package)?)
+        Ok(source_answers(alloc, &package)?)
     }
 }
 

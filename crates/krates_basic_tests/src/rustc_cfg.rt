@@ -90,7 +90,7 @@ const OTHER_LINES: &[Row] = &[
 ];
 
 /// The target of a line: its triple, and behind each `;` a line of rustc's.
-fn described(alloc: Global, line: &str) -> Result<(TargetInfo, Vec<String>), AllocError> {
+fn target_of(alloc: Global, line: &str) -> Result<(TargetInfo, Vec<String>), AllocError> {
     let (triple, lines) = line.split_once(";").unwrap_or((line, ""));
     let text = lines.replace(alloc, ";", "\n")?;
     TargetInfo::from_rustc(alloc, triple, text.as_str())
@@ -101,7 +101,7 @@ struct Described;
 
 impl Question for Described {
     fn told(alloc: Global, line: &str) -> Result<String, Fail> {
-        let (info, features) = described(alloc, line)?;
+        let (info, features) = target_of(alloc, line)?;
         Ok(format!(in alloc; "{info:?} {features:?}")?)
     }
 }
@@ -126,7 +126,7 @@ fn in_fixed_order(alloc: Global, mut info: TargetInfo) -> Result<String, AllocEr
 
 /// Compares the target of a line with the one of the table.
 fn compare_with_table(alloc: Global, line: &str) -> Result<(), Fail> {
-    let (info, _) = described(alloc, line)?;
+    let (info, _) = target_of(alloc, line)?;
     let Some(known) = builtin(alloc, info.triple.as_str())? else {
         return Err(Fail::new(format_args!("{line}: not in the table")));
     };
