@@ -1,7 +1,7 @@
 //! An inverted tree, as `cargo tree --invert` shows it: who needs a crate, who needs those, and so on.
 
 use krates::semver::VersionReq;
-use krates::{Krates, NodeId};
+use krates::{Krates, Node, NodeId};
 use std::alloc::{AllocError, Global};
 use std::collections::BTreeSet;
 
@@ -19,10 +19,12 @@ fn push_line(
     open: &Open,
     is_new: bool,
 ) -> Result<(), AllocError> {
+    let Some(Node::Krate { krate, .. }) = krates.graph().raw_nodes().get(open.node.index()) else {
+        return Ok(());
+    };
     for _ in 0..open.depth {
         lines.push_str("    ")?;
     }
-    let krate = &krates[open.node];
     let mark = if is_new { "" } else { " (*)" };
     writeln!(lines, "{} {}{mark}", krate.name, krate.version)
 }
@@ -32,7 +34,7 @@ fn open_dependents(krates: &Krates, of: &Open, open: &mut Vec<Open>) -> Result<(
     for dependent in krates.direct_dependents(of.node)?.iter().rev() {
         open.push(Open {
             node: dependent.node_id,
-            depth: of.depth + 1,
+            depth: of.depth.saturating_add(1),
         })?;
     }
     Ok(())
@@ -52,7 +54,7 @@ fn push_tree(
             depth: 0
         },
     ]?;
-    for _ in 0..=krates.graph().edge_count() {
+    for _ in 0..krates.graph().edge_count().saturating_add(1) {
         let Some(next) = open.pop() else {
             return Ok(());
         };
