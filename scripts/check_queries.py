@@ -3,13 +3,13 @@
 
     scripts/check_queries.py FOLDER
 
-A document is FOLDER/NAME/metadata.json, which may be compressed, as metadata.json.gz. Each is read by krates_reports with the
-words `graph queries`, without an option and with --target x86_64-unknown-linux-gnu. It prints the graph, and behind it what each query
-answers: of every node, of every id of the document, of every feature and of every name. From the lines of the graph, and of the
-document its members, names and versions, this script makes the lines that are expected, each by the
-sentence that says what the query means, and compares.
+A document is FOLDER/NAME/metadata.json, which may be compressed, as metadata.json.gz. Each is read by cargo-krates with the
+word `graph` and with the word `queries`, without an option and with --target x86_64-unknown-linux-gnu: the one prints the graph, the other
+what each query answers, of every node, of every id of the document, of every feature and of every name. From the lines of the graph,
+and of the document its members, names and versions, this script makes the lines that are expected, each by the sentence that says what
+the query means, and compares.
 
-The program is crates/krates_reports/out/krates_reports, which `rt run` in that folder builds, or $KRATES_REPORTS.
+The program is crates/cargo_krates/out/cargo_krates, which `rt run` in that folder builds, or $CARGO_KRATES.
 The status is 0 where nothing differs and something was compared, and 1 otherwise.
 """
 import gzip
@@ -20,7 +20,7 @@ import subprocess
 import sys
 
 ROOT = pathlib.Path(__file__).resolve().parent.parent
-PROGRAM = os.environ.get("KRATES_REPORTS", str(ROOT / "crates" / "krates_reports" / "out" / "krates_reports"))
+PROGRAM = os.environ.get("CARGO_KRATES", str(ROOT / "crates" / "cargo_krates" / "out" / "cargo_krates"))
 SETTINGS = {"none": [], "linux": ["--target", "x86_64-unknown-linux-gnu"]}
 
 
@@ -203,18 +203,16 @@ def expected(graph, document):
     yield from name_lines(graph, packages)
 
 
-def printed(text, options):
-    """The lines of the graph, and those of the answers."""
-    run = subprocess.run([PROGRAM, "graph", "queries", *options], input=text, capture_output=True, check=True)
-    lines = run.stdout.decode().split("\n")
-    count = next(place for place, line in enumerate(lines) if line.split(" ")[0] not in ("node", "map", "edge"))
-    return lines[:count], lines[count:-1]
+def printed(text, word, options):
+    """The lines that a word prints of a document."""
+    words = [PROGRAM, word, "--metadata", "-", *options]
+    return subprocess.run(words, input=text, capture_output=True, check=True).stdout.decode().splitlines()
 
 
 def differences(text, options):
     """How many answers there are, and the first few that differ, as they are expected and as they are printed."""
-    drawn, answers = printed(text, options)
-    wanted = list(expected(Graph(drawn), json.loads(text)))
+    answers = printed(text, "queries", options)
+    wanted = list(expected(Graph(printed(text, "graph", options)), json.loads(text)))
     pairs = [(line, other) for line, other in zip(wanted, answers) if line != other]
     if len(wanted) != len(answers):
         pairs.append((f"{len(wanted)} lines", f"{len(answers)} lines"))

@@ -1,6 +1,6 @@
 #!/bin/sh
-# Runs krates_reports on each document of a folder, for the graph under several sets of options, and prints the lines that differ
-# from those that are expected of the drawn graph.
+# Runs `cargo-krates graph` on each document of a folder, under several sets of options, and prints the lines that differ from those
+# that are expected of the drawn graph.
 #
 #     scripts/compare_graphs.sh FOLDER
 #
@@ -10,10 +10,10 @@
 #     none.graph     no option
 #     linux.graph    --target x86_64-unknown-linux-gnu
 #
-# The lines are those that crates/krates_reports/src/drawing.rt explains. A file that isn't there is passed over. Where a build
-# is refused, the lines that are expected are 'refused (status 1)' and the refusal.
+# The lines are those that crates/krates_report/src/scripts/drawing.rt explains. A file that isn't there is passed over. Where a build
+# is refused, the lines that are expected are 'refused (status 1)' and the reason.
 #
-# The program is crates/krates_reports/out/krates_reports, which `rt run` in that folder builds, or $KRATES_REPORTS.
+# The program is crates/cargo_krates/out/cargo_krates, which `rt run` in that folder builds, or $CARGO_KRATES.
 # The status is 0 where nothing differs and something was compared, and 1 otherwise.
 
 set -u
@@ -24,9 +24,9 @@ if [ $# -ne 1 ] || [ ! -d "$1" ]; then
 fi
 
 folder=$1
-program=${KRATES_REPORTS:-$(dirname "$0")/../crates/krates_reports/out/krates_reports}
+program=${CARGO_KRATES:-$(dirname "$0")/../crates/cargo_krates/out/cargo_krates}
 if [ ! -x "$program" ]; then
-    echo "there is no program $program: run 'rt run < stdin' in crates/krates_reports" >&2
+    echo "there is no program $program: run 'rt run < stdin' in crates/cargo_krates" >&2
     exit 2
 fi
 
@@ -51,11 +51,11 @@ text_of() {
 
 # What the program writes for the document under options, or its status and its refusal.
 answer_under() {
-    "$program" graph "$@" < "$work/document" > "$work/lines" 2> "$work/refusal"
+    "$program" graph --metadata "$work/document" "$@" > "$work/lines" 2> "$work/refusal"
     status=$?
     if [ "$status" -ne 0 ]; then
         echo "refused (status $status)" > "$work/lines"
-        cat "$work/refusal" >> "$work/lines"
+        sed 's/^error: //' "$work/refusal" >> "$work/lines"
     fi
 }
 

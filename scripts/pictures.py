@@ -30,7 +30,7 @@ ROOMS = {
     "the graph": ("#e6f6f6", ["krates_graph", "krates_drawing", "krates_queries"]),
     "why": ("#f1f0e4", ["krates_steps", "krates_explain"]),
     "checkers without a search": ("#fdeaea", ["krates_derive", "krates_check"]),
-    "for callers": ("#eceff1", ["krates_packages", "krates", "krates_cli", "krates_list", "krates_reports"]),
+    "for callers": ("#eceff1", ["krates_packages", "krates", "krates_cli", "krates_list", "krates_report", "cargo_krates"]),
 }
 
 

@@ -5,7 +5,7 @@
     scripts/readme.py --compile   compiles each block alone
 
 Each block of Rattle's code in README.md and in docs/GUIDE.md has to stand, line by line, in a file readme.rt of a crate of worked
-examples or in a file of krates_reports: in one piece, but for what it imports, which the file has to import too, and for lines of comment.
+examples: in one piece, but for what it imports, which the file has to import too, and for lines of comment.
 
 With --compile, each block is a module of its own, word by word, of a crate of tests in a copy of the working tree, which `rt try`
 compiles; nothing is proved. It takes a minute.
@@ -20,7 +20,7 @@ import tempfile
 
 ROOT = pathlib.Path(__file__).resolve().parent.parent
 PAGES = ("README.md", "docs/GUIDE.md")
-FILES = ("crates/*_tests/src/readme.rt", "crates/krates_reports/src/*.rt")
+FILES = ("crates/*_tests/src/readme.rt",)
 
 # The crate whose modules are the blocks, what its line in crates.txt names, and its root file.
 NAME = "page_blocks"

@@ -8,6 +8,8 @@
 #![tactic(auto)]
 
 #[cfg(test)]
+mod asked;
+#[cfg(test)]
 mod by_cargo;
 #[cfg(test)]
 mod calls;
@@ -25,6 +27,8 @@ mod no_programs;
 mod options;
 #[cfg(test)]
 mod streams;
+#[cfg(test)]
+mod versions;
 #[cfg(test)]
 mod why;
 

@@ -1,0 +1,49 @@
+//! What is said on standard error.
+
+use std::env;
+use std::env::VarError;
+use std::fmt::Display;
+use std::io::IsTerminal;
+
+const RED: &str = "31";
+
+const YELLOW: &str = "33";
+
+/// Says why there is no answer.
+pub(crate) fn error(rt: &HostRuntime, reason: impl Display + Drop) {
+    say(rt, "error", RED, reason);
+}
+
+/// Says what a reader of the answer may want to know.
+pub(crate) fn note(rt: &HostRuntime, text: &str) {
+    say(rt, "note", YELLOW, text);
+}
+
+/// Says why the words are wrong, or which there are.
+pub(crate) fn wrong(rt: &HostRuntime, text: &str) {
+    match text.strip_prefix("error: ") {
+        Some(reason) => error(rt, reason.trim_end()),
+        None => {
+            let _ = eprint!(rt; "{text}");
+        }
+    }
+}
+
+/// Says a word and a text. Where that fails there is nowhere to say so.
+fn say(rt: &HostRuntime, word: &str, colour: &str, text: impl Display + Drop) {
+    let _ = if has_colours(rt) {
+        eprintln!(rt; "\u{1b}[1;{colour}m{word}\u{1b}[0m: {text}")
+    } else {
+        eprintln!(rt; "{word}: {text}")
+    };
+}
+
+/// Whether standard error is a terminal, and nothing is set in `NO_COLOR`.
+fn has_colours(rt: &HostRuntime) -> bool {
+    rt.stderr().is_terminal()
+        && match env::var(rt, "NO_COLOR") {
+            Ok(value) => value.is_empty(),
+            Err(VarError::NotPresent) => true,
+            Err(_) => false,
+        }
+}

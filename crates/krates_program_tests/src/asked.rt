@@ -1,0 +1,80 @@
+//! What `cargo krates` answers to its words.
+
+mod documents;
+mod kept;
+mod names;
+mod reasons;
+mod trees;
+
+use crate::versions::VERSIONS;
+use krates::Metadata;
+use krates::cm::MetadataCommand;
+use krates::target::Target;
+use krates_report::{Answer, Asked, asked_of};
+use krates_samples::documents::metadata;
+use krates_samples::table::{Question, Row, hold};
+use std::alloc::Global;
+use std::test::Fail;
+
+/// The document of a line, or the real one.
+fn document_of(alloc: Global, line: &str) -> Result<Metadata, Fail> {
+    if line == "versions" {
+        Ok(MetadataCommand::parse(alloc, VERSIONS)?)
+    } else {
+        metadata(alloc, line)
+    }
+}
+
+/// The second document of a line, if there is one.
+fn other_of(alloc: Global, line: Option<&str>) -> Result<Option<Metadata>, Fail> {
+    match line {
+        Some(line) => Ok(Some(document_of(alloc, line)?)),
+        None => Ok(None),
+    }
+}
+
+/// The words of a line, with a blank for each tilde.
+fn words_of(alloc: Global, line: &str) -> Result<Vec<String>, Fail> {
+    let mut words = Vec::new(alloc);
+    for word in line.split_whitespace() {
+        words.push(word.replace(alloc, '~', " ")?)?;
+    }
+    Ok(words)
+}
+
+/// The targets that the words name, of those that are known by their triple.
+fn add_targets(alloc: Global, asked: &mut Asked) -> Result<(), Fail> {
+    for triple in &asked.choice.triples {
+        let target = Target::new(alloc, triple.as_str())?;
+        asked.choice.targets.push((target, Vec::new(alloc)))?;
+    }
+    Ok(())
+}
+
+/// What is printed of documents, with a mark where it is a no; or why there is nothing.
+fn answered(alloc: Global, mut asked: Asked, documents: &str) -> Result<String, Fail> {
+    let (first, second) = match documents.split_once(" // ") {
+        Some((first, second)) => (first, Some(second)),
+        None => (documents, None),
+    };
+    add_targets(alloc, &mut asked)?;
+    let other = other_of(alloc, second)?;
+    match asked.answer(alloc, document_of(alloc, first)?, other) {
+        Ok(Answer { text, is_yes: true }) => Ok(text),
+        Ok(Answer { text, .. }) => Ok(format!(in alloc; "no: {text}")?),
+        Err(refusal) => Ok(format!(in alloc; "refused: {refusal}")?),
+    }
+}
+
+/// What the words of a line are answered, of the documents behind `<`, with `//` between them.
+struct Answered;
+
+impl Question for Answered {
+    fn told(alloc: Global, line: &str) -> Result<String, Fail> {
+        let (words, documents) = line.split_once(" < ").unwrap_or((line, ""));
+        match asked_of(alloc, &words_of(alloc, words)?) {
+            Ok(asked) => answered(alloc, asked, documents),
+            Err(error) => Ok(format!(in alloc; "{error}")?),
+        }
+    }
+}

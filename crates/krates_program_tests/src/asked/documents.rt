@@ -1,0 +1,67 @@
+//! What `cargo krates` says of whole documents: differences, bills of materials, lines for scripts.
+
+use crate::asked::Answered;
+use krates_samples::table::{Row, hold};
+use std::test::Fail;
+
+const DIFFERENCES: &[Row] = &[
+    ("diff OTHER < a b|b // a b|b", ""),
+    (
+        "diff OTHER < a b|b // a c|c",
+        "- b v0.1.0 (/w/b)\n+ c v0.1.0 (/w/c)\n- a v0.1.0 -> b v0.1.0\n+ a v0.1.0 -> c v0.1.0\n",
+    ),
+    (
+        "diff OTHER < a b|b // a b@0.2.0|b@0.2.0",
+        "~ b 0.1.0 -> 0.2.0\n- b v0.1.0 (/w/b)\n+ b v0.2.0 (/w/b)\n- a v0.1.0 -> b v0.1.0\n+ a v0.1.0 -> b v0.2.0\n",
+    ),
+    (
+        "diff OTHER < a b c|b|c // a b|b c|c",
+        "- a v0.1.0 -> c v0.1.0\n+ b v0.1.0 -> c v0.1.0\n",
+    ),
+    ("diff OTHER -e no-dev < a b&dev|b // a|b", ""),
+    (
+        "diff --json OTHER < a b|b // a b@0.2.0 c|b@0.2.0|c b@0.2.0",
+        "{\n  \"added\": [\n    {\n      \"id\": \"path+file:///w/b#b@0.2.0\",\n      \"name\": \"b\",\n      \"source\": null,\n      \"version\": \"0.2.0\"\n    },\n    {\n      \"id\": \"path+file:///w/c#0.1.0\",\n      \"name\": \"c\",\n      \"source\": null,\n      \"version\": \"0.1.0\"\n    }\n  ],\n  \"added_dependencies\": [\n    {\n      \"from\": \"path+file:///w/a#0.1.0\",\n      \"to\": \"path+file:///w/b#b@0.2.0\"\n    },\n    {\n      \"from\": \"path+file:///w/c#0.1.0\",\n      \"to\": \"path+file:///w/b#b@0.2.0\"\n    },\n    {\n      \"from\": \"path+file:///w/a#0.1.0\",\n      \"to\": \"path+file:///w/c#0.1.0\"\n    }\n  ],\n  \"changed\": [\n    {\n      \"from\": [\n        \"0.1.0\"\n      ],\n      \"name\": \"b\",\n      \"to\": [\n        \"0.2.0\"\n      ]\n    }\n  ],\n  \"removed\": [\n    {\n      \"id\": \"path+file:///w/b#0.1.0\",\n      \"name\": \"b\",\n      \"source\": null,\n      \"version\": \"0.1.0\"\n    }\n  ],\n  \"removed_dependencies\": [\n    {\n      \"from\": \"path+file:///w/a#0.1.0\",\n      \"to\": \"path+file:///w/b#0.1.0\"\n    }\n  ]\n}\n",
+    ),
+    ("diff OTHER < a", "refused: there is no second document"),
+];
+
+/// What one document has and another lacks.
+#[test]
+fn differences(rt: HostRuntime) -> Result<(), Fail> {
+    hold::<Answered>(rt.alloc(), DIFFERENCES)
+}
+
+const BILLS: &[Row] = &[
+    (
+        "sbom < a b&dev&crates.io|b&crates.io",
+        "{\n  \"$schema\": \"http://cyclonedx.org/schema/bom-1.5.schema.json\",\n  \"bomFormat\": \"CycloneDX\",\n  \"components\": [\n    {\n      \"bom-ref\": \"path+file:///w/a#0.1.0\",\n      \"name\": \"a\",\n      \"purl\": \"pkg:cargo/a@0.1.0?download_url=file%3A%2F%2F%2Fw%2Fa\",\n      \"scope\": \"required\",\n      \"type\": \"library\",\n      \"version\": \"0.1.0\"\n    },\n    {\n      \"bom-ref\": \"registry+https://github.com/rust-lang/crates.io-index#b@0.1.0\",\n      \"name\": \"b\",\n      \"purl\": \"pkg:cargo/b@0.1.0\",\n      \"scope\": \"excluded\",\n      \"type\": \"library\",\n      \"version\": \"0.1.0\"\n    }\n  ],\n  \"dependencies\": [\n    {\n      \"dependsOn\": [\n        \"registry+https://github.com/rust-lang/crates.io-index#b@0.1.0\"\n      ],\n      \"ref\": \"path+file:///w/a#0.1.0\"\n    },\n    {\n      \"dependsOn\": [],\n      \"ref\": \"registry+https://github.com/rust-lang/crates.io-index#b@0.1.0\"\n    }\n  ],\n  \"specVersion\": \"1.5\",\n  \"version\": 1\n}\n",
+    ),
+    (
+        "sbom --json < a",
+        "{\n  \"$schema\": \"http://cyclonedx.org/schema/bom-1.5.schema.json\",\n  \"bomFormat\": \"CycloneDX\",\n  \"components\": [\n    {\n      \"bom-ref\": \"path+file:///w/a#0.1.0\",\n      \"name\": \"a\",\n      \"purl\": \"pkg:cargo/a@0.1.0?download_url=file%3A%2F%2F%2Fw%2Fa\",\n      \"scope\": \"required\",\n      \"type\": \"library\",\n      \"version\": \"0.1.0\"\n    }\n  ],\n  \"dependencies\": [\n    {\n      \"dependsOn\": [],\n      \"ref\": \"path+file:///w/a#0.1.0\"\n    }\n  ],\n  \"specVersion\": \"1.5\",\n  \"version\": 1\n}\n",
+    ),
+];
+
+/// The bill of materials.
+#[test]
+fn bills(rt: HostRuntime) -> Result<(), Fail> {
+    hold::<Answered>(rt.alloc(), BILLS)
+}
+
+const SCRIPTS: &[Row] = &[
+    (
+        "graph < a b;f=b/y|b;y=",
+        "node 0 crate path+file:///w/a#0.1.0\nnode 1 crate path+file:///w/b#0.1.0\nnode 2 feature path+file:///w/a#0.1.0/f\nnode 3 feature path+file:///w/b#0.1.0/y\nmap 0 0 1\nedge 0 0 1 dep normal -\nedge 1 0 3 feature\nedge 2 2 0 feature\nedge 3 2 3 feature\nedge 4 3 1 feature\n",
+    ),
+    (
+        "queries < a",
+        "len 1\nroot /w\nmember crate path+file:///w/a#0.1.0\nkrate path+file:///w/a#0.1.0\nkrate 0 path+file:///w/a#0.1.0 path+file:///w/a#0.1.0\nabove 0 0 path+file:///w/a#0.1.0\nreached 0\nfiltered normal path+file:///w/a#0.1.0\nfiltered build path+file:///w/a#0.1.0\nfiltered dev path+file:///w/a#0.1.0\nnumber path+file:///w/a#0.1.0 0\nnode_of path+file:///w/a#0.1.0 crate path+file:///w/a#0.1.0\nfeatures path+file:///w/a#0.1.0\nfound path+file:///w/a#0.1.0 0 crate path+file:///w/a#0.1.0\nnamed a 0 path+file:///w/a#0.1.0\nmatching a 0 path+file:///w/a#0.1.0\n",
+    ),
+];
+
+/// The drawn graph, and what its queries answer.
+#[test]
+fn lines_for_scripts(rt: HostRuntime) -> Result<(), Fail> {
+    hold::<Answered>(rt.alloc(), SCRIPTS)
+}

@@ -1,0 +1,141 @@
+//! Which crate a word of `cargo krates` means, and words that ask for nothing.
+
+use crate::asked::Answered;
+use krates_samples::table::{Row, hold};
+use std::test::Fail;
+
+const NAMES: &[Row] = &[
+    (
+        "why b@0.1.0 < a b|b",
+        "b v0.1.0 (/w/b) is kept:\n  a v0.1.0 is a root\n  a v0.1.0 needs b v0.1.0\n",
+    ),
+    (
+        "why path+file:///w/b#0.1.0 < a b|b",
+        "b v0.1.0 (/w/b) is kept:\n  a v0.1.0 is a root\n  a v0.1.0 needs b v0.1.0\n",
+    ),
+    (
+        "why file:///w/b#0.1.0 < a b|b",
+        "b v0.1.0 (/w/b) is kept:\n  a v0.1.0 is a root\n  a v0.1.0 needs b v0.1.0\n",
+    ),
+    // an id with an escape, as cargo prints it and as the steps do
+    (
+        "why git+https://h/r?branch=x%2Fy#b@0.1.0 < a b&id=git+https://h/r?branch=x%2Fy#b@0.1.0|b&id=git+https://h/r?branch=x%2Fy#b@0.1.0",
+        "b v0.1.0 (/w/b) is kept:\n  a v0.1.0 is a root\n  a v0.1.0 needs b v0.1.0\n",
+    ),
+    (
+        "why git+https://h/r?branch=x/y#b@0.1.0 < a b&id=git+https://h/r?branch=x%2Fy#b@0.1.0|b&id=git+https://h/r?branch=x%2Fy#b@0.1.0",
+        "b v0.1.0 (/w/b) is kept:\n  a v0.1.0 is a root\n  a v0.1.0 needs b v0.1.0\n",
+    ),
+    (
+        "why b~0.1.0~(path+file:///w/b) < a b&id=b~0.1.0~(path+file:///w/b)|b&id=b~0.1.0~(path+file:///w/b)",
+        "b v0.1.0 (/w/b) is kept:\n  a v0.1.0 is a root\n  a v0.1.0 needs b v0.1.0\n",
+    ),
+    // none fits, and what comes near; one that isn't kept
+    ("why zzz < a b|b", "refused: no package fits `zzz`"),
+    (
+        "why sede < a serde|serde|sede_json",
+        "refused: no package fits `sede`; these come near:\n    serde@0.1.0\n    sede_json@0.1.0",
+    ),
+    (
+        "why b@0.2.0 < a b|b",
+        "refused: no package fits `b@0.2.0`; these come near:\n    b@0.1.0",
+    ),
+    (
+        "why leaf < versions",
+        "refused: no package fits `leaf`; these come near:\n    wk-leaf@1.0.0\n    wk-leaf@2.1.0\n    wk-leaf@3.0.0-beta.2",
+    ),
+    (
+        "why c < a b|b|c",
+        "refused: nothing that is kept needs `c`, which means:\n    c@0.1.0",
+    ),
+    (
+        "why path+file:///w/c#0.1.0 < a b|b|c",
+        "refused: nothing that is kept needs `path+file:///w/c#0.1.0`, which means:\n    c@0.1.0",
+    ),
+    (
+        "why wk_leaf < versions",
+        "refused: no package fits `wk_leaf`; these come near:\n    wk-leaf@1.0.0\n    wk-leaf@2.1.0\n    wk-leaf@3.0.0-beta.2",
+    ),
+    // several fit
+    (
+        "why d < a b|b d@0.2.0|d|d@0.2.0 / members a d",
+        "refused: `d` fits several packages; name one of them:\n    d@0.1.0\n    d@0.2.0",
+    ),
+    (
+        "why b < a b|b|b&crates.io / members a b&crates.io",
+        "refused: `b` fits several packages; name one of them:\n    path+file:///w/b#0.1.0\n    registry+https://github.com/rust-lang/crates.io-index#b@0.1.0",
+    ),
+    (
+        "dependents wk-leaf < versions",
+        "refused: `wk-leaf` fits several packages; name one of them:\n    wk-leaf@1.0.0\n    wk-leaf@2.1.0\n    wk-leaf@3.0.0-beta.2",
+    ),
+    // no specification
+    (
+        "why b@ < a b|b",
+        "refused: `b@` names no package: package spec cannot end with ':'\nwrite NAME, NAME@VERSION, or an id as cargo prints it",
+    ),
+    (
+        "tree a/ < a",
+        "refused: `a/` names no package: url ends with /\nwrite NAME, NAME@VERSION, or an id as cargo prints it",
+    ),
+];
+
+/// Which crate a word means.
+#[test]
+fn names(rt: HostRuntime) -> Result<(), Fail> {
+    hold::<Answered>(rt.alloc(), NAMES)
+}
+
+const WORDS: &[Row] = &[
+    (
+        "",
+        "Which crates a workspace needs, and why\n\nUsage: cargo krates <WORD>\n\nWords:\n  list         The crates that are kept, a line for each\n  tree         What the workspace or a crate needs, as a tree\n  dependents   Which crates need a crate, all the way up\n  why          Why a crate is kept, step by step from the workspace\n  features     Which features of a crate are enabled, each with a reason\n  duplicates   Which names are kept in several versions, and who needs each\n  licences     Under which licences the crates are, and which state none [alias: licenses]\n  uses         Which crates are shipped, and which are for building or development alone\n  diff         What another document keeps that this one doesn't, and the other way round\n  sbom         A bill of materials: CycloneDX 1.5, as JSON\n  graph        The graph that is drawn, number by number, to compare it by a script\n  queries      What each query of the graph answers, to compare it by a script\n  unreachable  Whether it is certain that nothing needs a crate\n  help         Print this message or the help of the given subcommand(s)\n\nOptions:\n  -h, --help     Print help\n  -V, --version  Print version\n\nSPEC names a package as cargo's -p does: serde, serde@1.0.152, or its id.\n`cargo krates WORD --help` lists the options of a word.\n",
+    ),
+    (
+        "lst",
+        "error: unrecognized subcommand 'lst'\n\n  tip: a similar subcommand exists: 'list'\n\nUsage: cargo krates <WORD>\n\nFor more information, try '--help'.\n",
+    ),
+    (
+        "why",
+        "error: the following required arguments were not provided:\n  <SPEC>\n\nUsage: cargo krates why <SPEC>\n\nFor more information, try '--help'.\n",
+    ),
+    (
+        "why x y",
+        "error: unexpected argument 'y' found\n\nUsage: cargo krates why [OPTIONS] <SPEC>\n\nFor more information, try '--help'.\n",
+    ),
+    (
+        "list --target",
+        "error: a value is required for '--target <TRIPLE>' but none was supplied\n\nFor more information, try '--help'.\n",
+    ),
+    (
+        "list --exclude a@",
+        "error: invalid value 'a@' for '--exclude <SPEC>': package spec cannot end with ':'\n\nFor more information, try '--help'.\n",
+    ),
+    (
+        "list --ignore-kind test",
+        "error: invalid value 'test' for '--ignore-kind <KIND>'\n  [possible values: normal, build, dev]\n\nFor more information, try '--help'.\n",
+    ),
+    (
+        "list -e normal,tests",
+        "error: invalid value 'tests' for '--edges <KINDS>'\n  [possible values: normal, build, dev, all, no-normal, no-build, no-dev]\n\nFor more information, try '--help'.\n",
+    ),
+    (
+        "list --cfg F",
+        "error: '--cfg <FILE>' stands more often than '--target <TRIPLE>': each file describes the target in its place\n\nFor more information, try '--help'.\n",
+    ),
+    (
+        "list --locked --metadata F",
+        "error: the argument '--locked' cannot be used with '--metadata <FILE>'\n\nUsage: cargo krates list --locked\n\nFor more information, try '--help'.\n",
+    ),
+    ("--version", "cargo-krates 0.22.0\n"),
+    (
+        "graph --json",
+        "error: unexpected argument '--json' found\n\nUsage: cargo krates graph [OPTIONS]\n\nFor more information, try '--help'.\n",
+    ),
+];
+
+/// Words that ask for nothing.
+#[test]
+fn words(rt: HostRuntime) -> Result<(), Fail> {
+    hold::<Answered>(rt.alloc(), WORDS)
+}

@@ -1,0 +1,189 @@
+//! The bill of materials as CycloneDX 1.5 (ECMA-424; <https://cyclonedx.org/docs/1.5/json/>).
+
+use crate::crate_name::{directory_of, url_of};
+use crate::krate_json::ids_json;
+use crate::materials::{Material, materials};
+use crate::shown::Shown;
+use crate::uses::{Builds, Use};
+use krates::Package;
+use krates::cm::{Source, SourceKind, Target, TargetKind};
+use percent_encoding::{AsciiSet, NON_ALPHANUMERIC, utf8_percent_encode};
+use serde_json::{Value, json};
+use std::alloc::{AllocError, Global};
+
+/// What a package url escapes: all but letters, digits and `-._~` (purl specification, "Character encoding").
+fn escaped() -> AsciiSet {
+    NON_ALPHANUMERIC
+        .remove(b'-')
+        .remove(b'.')
+        .remove(b'_')
+        .remove(b'~')
+}
+
+/// The source of crates.io, as cargo writes it.
+const CRATES_IO: &str = "registry+https://github.com/rust-lang/crates.io-index";
+
+/// The same where its index is read by HTTP.
+const SPARSE_CRATES_IO: &str = "sparse+https://index.crates.io/";
+
+/// The bill of materials of a document.
+#[derive(Drop)]
+pub struct Bill<'a> {
+    /// Its builds, from which it is known what is shipped.
+    pub builds: &'a Builds,
+    /// The kept crates with those on which they depend.
+    pub materials: Vec<Material<'a>>,
+}
+
+impl<'a> Bill<'a> {
+    /// That of these builds. The only refusal is running out of memory. Time: O(n log n + e log e) for n crates and e edges.
+    pub fn of(alloc: Global, builds: &'a Builds) -> Result<Bill<'a>, AllocError> {
+        let materials = materials(alloc, &builds.all)?;
+        Ok(Bill { builds, materials })
+    }
+}
+
+/// Adds a qualifier of a package url: a key, and a text with its escapes.
+fn push_qualifier(url: &mut String, key: &str, text: &str) -> Result<(), AllocError> {
+    write!(url, "?{key}=")?;
+    utf8_percent_encode(text, escaped()).append_to(url)
+}
+
+/// Adds the qualifier of a package that isn't from crates.io.
+fn push_source(url: &mut String, source: &Source) -> Result<(), AllocError> {
+    let text = source.repr.as_str();
+    if text == CRATES_IO || text == SPARSE_CRATES_IO {
+        return Ok(());
+    }
+    match source.kind() {
+        SourceKind::Git => push_qualifier(url, "vcs_url", text),
+        _ => push_qualifier(url, "repository_url", url_of(source)),
+    }
+}
+
+/// The package url of a crate (purl specification, type `cargo`): its name and version; where it isn't from crates.io, also the registry,
+/// the git repository, or the directory of this machine, so that it isn't taken for the one of that name on crates.io.
+fn package_url(alloc: Global, krate: &Package) -> Result<String, AllocError> {
+    let version = krate.version.to_string(alloc)?;
+    let mut url = format!(in alloc; "pkg:cargo/{}@", krate.name)?;
+    utf8_percent_encode(version.as_str(), escaped()).append_to(&mut url)?;
+    match &krate.source {
+        Some(source) if !krate.is_local() => push_source(&mut url, source)?,
+        _ => {
+            let place = format!(in alloc; "file://{}", directory_of(krate))?;
+            push_qualifier(&mut url, "download_url", place.as_str())?;
+        }
+    }
+    Ok(url)
+}
+
+/// Whether one of these is a program.
+fn has_program(targets: &[Target]) -> bool {
+    targets
+        .iter()
+        .any(|target| target.kind.contains(&TargetKind::Bin))
+}
+
+/// Whether one of these is a library.
+fn has_library(targets: &[Target]) -> bool {
+    targets.iter().any(|target| {
+        target.kind.contains(&TargetKind::Lib) || target.kind.contains(&TargetKind::ProcMacro)
+    })
+}
+
+/// What a crate is: a program alone is an application.
+fn type_of(krate: &Package) -> &'static str {
+    if has_program(&krate.targets) && !has_library(&krate.targets) {
+        "application"
+    } else {
+        "library"
+    }
+}
+
+/// Whether a crate is needed where the program runs.
+fn scope_of(usage: Use) -> &'static str {
+    match usage {
+        Use::Shipped => "required",
+        Use::Build => "excluded",
+        Use::Dev => "excluded",
+    }
+}
+
+/// The licences of a crate: its expression, in which an old `/` stands for `OR` (Cargo Book, "The license and license-file fields"), or
+/// else its file.
+fn licences(alloc: Global, krate: &Package) -> Result<Option<Value>, AllocError> {
+    if let Some(expression) = &krate.license {
+        let expression = expression.replace(alloc, "/", " OR ")?;
+        return Ok(Some(json!(in alloc; [{"expression": expression}])?));
+    }
+    match &krate.license_file {
+        Some(file) => Ok(Some(json!(in alloc; [{"license": {"name": file}}])?)),
+        None => Ok(None),
+    }
+}
+
+impl Bill<'_> {
+    /// What the bill says of a crate.
+    fn component(&self, alloc: Global, material: &Material<'_>) -> Result<Value, AllocError> {
+        let krate = material.krate.krate;
+        let usage = self.builds.use_of(material.krate.kid);
+        let mut component = json!(in alloc; {
+            "type": type_of(krate),
+            "bom-ref": &krate.id.repr,
+            "name": &krate.name,
+            "version": krate.version.to_string(alloc)?,
+            "scope": scope_of(usage),
+            "purl": package_url(alloc, krate)?
+        })?;
+        if let Some(licences) = licences(alloc, krate)? {
+            if let Some(members) = component.as_object_mut() {
+                members.insert(String::from_str(alloc, "licenses")?, licences)?;
+            }
+        }
+        Ok(component)
+    }
+
+    /// The kept crates.
+    fn components(&self, alloc: Global) -> Result<Value, AllocError> {
+        let mut components = Vec::new(alloc);
+        for material in &self.materials {
+            components.push(self.component(alloc, material)?)?;
+        }
+        Ok(Value::Array(components))
+    }
+
+    /// Each kept crate with those on which it depends directly.
+    fn dependencies(&self, alloc: Global) -> Result<Value, AllocError> {
+        let mut dependencies = Vec::new(alloc);
+        for material in &self.materials {
+            let ids = ids_json(alloc, &self.builds.all, &material.depends_on)?;
+            let id = &material.krate.krate.id.repr;
+            dependencies.push(json!(in alloc; {"ref": id, "dependsOn": ids})?)?;
+        }
+        Ok(Value::Array(dependencies))
+    }
+}
+
+impl Shown for Bill<'_> {
+    /// The JSON.
+    fn text(&self, alloc: Global) -> Result<String, AllocError> {
+        let mut text = self.json(alloc)?.to_string_pretty(alloc)?;
+        text.push_str("\n")?;
+        Ok(text)
+    }
+
+    /// `components`, the kept crates, and `dependencies`, with an entry for each of them. There is no time and no serial number in it, so
+    /// that the same document gives the same bytes.
+    fn json(&self, alloc: Global) -> Result<Value, AllocError> {
+        let components = self.components(alloc)?;
+        let dependencies = self.dependencies(alloc)?;
+        json!(in alloc; {
+            "$schema": "http://cyclonedx.org/schema/bom-1.5.schema.json",
+            "bomFormat": "CycloneDX",
+            "specVersion": "1.5",
+            "version": 1u64,
+            "components": components,
+            "dependencies": dependencies
+        })
+    }
+}

@@ -1,0 +1,69 @@
+//! How a crate is named for people.
+
+use krates::cm::{Source, SourceKind, Target, TargetKind};
+use krates::path::parent;
+use krates::{Kid, Package};
+use std::fmt;
+
+/// `NAME vVERSION`, as `cargo tree` writes it, with ` (proc-macro)` behind a library of procedural macros, and behind a package that
+/// isn't from a registry where it is: its directory or the url of its git repository, in brackets.
+#[derive(Clone, Copy)]
+pub struct ShortName<'a>(pub &'a Package);
+
+impl fmt::Display for ShortName<'_> {
+    fn fmt<W: fmt::Write>(&self, f: &mut fmt::Formatter<W>) -> fmt::Result {
+        let krate = self.0;
+        write!(f, "{} v{}", krate.name, krate.version)?;
+        if is_proc_macro(&krate.targets) {
+            f.write_str(" (proc-macro)")?;
+        }
+        match place_of(krate) {
+            Some(place) => write!(f, " ({place})"),
+            None => Ok(()),
+        }
+    }
+}
+
+/// `NAME vVERSION` of an id.
+#[derive(Clone, Copy)]
+pub struct ShortId<'a>(pub &'a Kid);
+
+impl fmt::Display for ShortId<'_> {
+    fn fmt<W: fmt::Write>(&self, f: &mut fmt::Formatter<W>) -> fmt::Result {
+        write!(f, "{} v{}", self.0.name(), self.0.version())
+    }
+}
+
+/// Whether one of these is a library of procedural macros.
+fn is_proc_macro(targets: &[Target]) -> bool {
+    targets
+        .iter()
+        .any(|target| target.kind.contains(&TargetKind::ProcMacro))
+}
+
+/// The directory of a package of this machine.
+pub(crate) fn directory_of(krate: &Package) -> &str {
+    match parent(krate.manifest_path.as_str()) {
+        Some(directory) => directory,
+        None => ".",
+    }
+}
+
+/// Where a package is that isn't from a registry.
+fn place_of(krate: &Package) -> Option<&str> {
+    if krate.is_local() {
+        return Some(directory_of(krate));
+    }
+    match &krate.source {
+        Some(source) if source.kind() == SourceKind::Git => Some(url_of(source)),
+        _ => None,
+    }
+}
+
+/// The url of a source: what stands behind its kind.
+pub(crate) fn url_of(source: &Source) -> &str {
+    match source.repr.as_str().split_once('+') {
+        Some((_, url)) => url,
+        None => source.repr.as_str(),
+    }
+}

@@ -1,0 +1,125 @@
+//! The difference of two graphs as it is shown.
+
+use crate::changed::Changed;
+use crate::crate_name::{ShortId, ShortName};
+use crate::difference::{Dependency, lacking, lost_dependencies};
+use crate::krate_json::krates_json;
+use crate::shown::Shown;
+use krates::{KrateMatch, Krates, Package};
+use serde_json::{Value, json};
+use std::alloc::{AllocError, Global};
+
+/// What one graph has and another lacks, both ways.
+#[derive(Drop)]
+pub struct Difference<'a> {
+    /// The crates that only the first keeps, by number.
+    pub removed: Vec<KrateMatch<'a, Package>>,
+    /// The crates that only the second keeps, by number.
+    pub added: Vec<KrateMatch<'a, Package>>,
+    /// The direct dependencies that only the first has.
+    pub removed_dependencies: Vec<Dependency<'a>>,
+    /// The direct dependencies that only the second has.
+    pub added_dependencies: Vec<Dependency<'a>>,
+    /// The names under which crates went and others came.
+    pub changed: Vec<Changed<'a>>,
+}
+
+impl<'a> Difference<'a> {
+    /// What stands between two graphs. The only refusal is running out of memory. Time O((n + e) log (n + e)) for n crates and e
+    /// edges of both.
+    pub fn between(
+        alloc: Global,
+        first: &'a Krates,
+        second: &'a Krates,
+    ) -> Result<Difference<'a>, AllocError> {
+        let removed = lacking(alloc, first, second)?;
+        let added = lacking(alloc, second, first)?;
+        let changed = Changed::between(alloc, &removed, &added)?;
+        Ok(Difference {
+            removed,
+            added,
+            changed,
+            removed_dependencies: lost_dependencies(alloc, first, second)?,
+            added_dependencies: lost_dependencies(alloc, second, first)?,
+        })
+    }
+}
+
+/// Adds a line for each crate.
+fn push_krates(
+    mark: &str,
+    krates: &[KrateMatch<'_, Package>],
+    lines: &mut String,
+) -> Result<(), AllocError> {
+    for found in krates {
+        writeln!(lines, "{mark} {}", ShortName(found.krate))?;
+    }
+    Ok(())
+}
+
+/// Adds a line for each dependency.
+fn push_dependencies(
+    mark: &str,
+    dependencies: &[Dependency<'_>],
+    lines: &mut String,
+) -> Result<(), AllocError> {
+    for dependency in dependencies {
+        let (parent, child) = (dependency.parent.kid, dependency.child.kid);
+        writeln!(lines, "{mark} {} -> {}", ShortId(parent), ShortId(child))?;
+    }
+    Ok(())
+}
+
+/// What JSON says of dependencies: the ids of both crates.
+fn dependencies_json(alloc: Global, dependencies: &[Dependency<'_>]) -> Result<Value, AllocError> {
+    let mut values = Vec::new(alloc);
+    for dependency in dependencies {
+        let (parent, child) = (&dependency.parent.krate.id, &dependency.child.krate.id);
+        values.push(json!(in alloc; {"from": &parent.repr, "to": &child.repr})?)?;
+    }
+    Ok(Value::Array(values))
+}
+
+impl Difference<'_> {
+    /// The names under which versions changed.
+    fn changed_json(&self, alloc: Global) -> Result<Value, AllocError> {
+        let mut values = Vec::new(alloc);
+        for changed in &self.changed {
+            values.push(changed.json(alloc)?)?;
+        }
+        Ok(Value::Array(values))
+    }
+}
+
+impl Shown for Difference<'_> {
+    /// A line `~ NAME VERSION -> VERSION` for each name under which versions changed; then `- ` and each crate that only the first
+    /// graph keeps, and `+ ` and each that only the second does; then the same of direct dependencies, `PARENT -> CHILD`.
+    fn text(&self, alloc: Global) -> Result<String, AllocError> {
+        let mut lines = String::new(alloc);
+        for changed in &self.changed {
+            changed.push(&mut lines)?;
+        }
+        push_krates("-", &self.removed, &mut lines)?;
+        push_krates("+", &self.added, &mut lines)?;
+        push_dependencies("-", &self.removed_dependencies, &mut lines)?;
+        push_dependencies("+", &self.added_dependencies, &mut lines)?;
+        Ok(lines)
+    }
+
+    /// An object: `changed`, with `name` and the versions `from` and `to`; the crates `removed` and `added`; and `removed_dependencies`
+    /// and `added_dependencies`, each with the ids `from` and `to`.
+    fn json(&self, alloc: Global) -> Result<Value, AllocError> {
+        let changed = self.changed_json(alloc)?;
+        let removed = krates_json(alloc, &self.removed)?;
+        let added = krates_json(alloc, &self.added)?;
+        let lost = dependencies_json(alloc, &self.removed_dependencies)?;
+        let won = dependencies_json(alloc, &self.added_dependencies)?;
+        json!(in alloc; {
+            "changed": changed,
+            "removed": removed,
+            "added": added,
+            "removed_dependencies": lost,
+            "added_dependencies": won
+        })
+    }
+}

@@ -1,0 +1,159 @@
+//! Derivations in plain sentences.
+
+use crate::crate_name::ShortId;
+use krates::derive::{Derivation, Fact, Step};
+use krates::{DepKind, Kid};
+use std::alloc::AllocError;
+
+/// The rule by which roots are kept.
+const ROOT: u8 = 1;
+
+/// What a step says, and from what it follows.
+#[derive(Clone, Copy)]
+struct Reason<'a> {
+    step: &'a Step,
+    /// The first step that it uses.
+    from: Option<&'a Step>,
+    /// The first step that this one uses.
+    before: Option<&'a Step>,
+}
+
+/// The first step that a step uses.
+fn first_used<'a>(derivation: &'a Derivation, step: &Step) -> Option<&'a Step> {
+    let used = step.uses.first()?;
+    derivation.steps.get(*used)
+}
+
+/// The step of a number, with what it uses first.
+fn reason_at(derivation: &Derivation, number: usize) -> Option<Reason<'_>> {
+    let step = derivation.steps.get(number)?;
+    let from = first_used(derivation, step);
+    let before = match from {
+        Some(from) => first_used(derivation, from),
+        None => None,
+    };
+    Some(Reason { step, from, before })
+}
+
+/// The fact of a step.
+fn fact_of(step: Option<&Step>) -> Option<&Fact> {
+    match step {
+        Some(step) => Some(&step.fact),
+        None => None,
+    }
+}
+
+/// What stands behind a dependency that isn't normal.
+fn purpose(kind: DepKind) -> &'static str {
+    match kind {
+        DepKind::Normal => "",
+        DepKind::Build => ", to build",
+        DepKind::Dev => ", for development",
+    }
+}
+
+impl Reason<'_> {
+    /// Adds what enables a feature.
+    fn push_enabling(&self, krate: &Kid, name: &str, lines: &mut String) -> Result<(), AllocError> {
+        match fact_of(self.from) {
+            None => write!(
+                lines,
+                "{} is a root, for which cargo lists it",
+                ShortId(krate)
+            ),
+            Some(Fact::Feature { name: by, .. }) => write!(lines, "its feature `{by}` enables it"),
+            Some(Fact::Kept { parent, .. }) if name == "default" => {
+                write!(lines, "{} needs it with default features", ShortId(parent))
+            }
+            Some(Fact::Kept { parent, .. }) => write!(lines, "{} asks for it", ShortId(parent)),
+            Some(Fact::Toggled { parent, .. }) => self.push_toggling(parent, lines),
+            Some(Fact::Crate(of)) => write!(lines, "{} asks for it", ShortId(of)),
+        }
+    }
+
+    /// Adds the feature of another crate that enables one.
+    fn push_toggling(&self, parent: &Kid, lines: &mut String) -> Result<(), AllocError> {
+        match fact_of(self.before) {
+            Some(Fact::Feature { name: by, .. }) => {
+                write!(lines, "feature `{by}` of {} enables it", ShortId(parent))
+            }
+            _ => write!(lines, "a feature of {} enables it", ShortId(parent)),
+        }
+    }
+
+    /// Adds the sentence of a step, if it says more than the steps before it.
+    fn push(&self, lines: &mut String) -> Result<(), AllocError> {
+        match &self.step.fact {
+            Fact::Crate(krate) if self.step.rule == ROOT => {
+                writeln!(lines, "  {} is a root", ShortId(krate))
+            }
+            Fact::Crate(_) | Fact::Toggled { .. } => Ok(()),
+            Fact::Feature { krate, name } => {
+                write!(
+                    lines,
+                    "  feature `{name}` of {} is enabled: ",
+                    ShortId(krate)
+                )?;
+                self.push_enabling(krate, name.as_str(), lines)?;
+                lines.push_str("\n")
+            }
+            Fact::Kept {
+                parent,
+                child,
+                kind,
+                cfg,
+            } => {
+                write!(lines, "  {} needs {}", ShortId(parent), ShortId(child))?;
+                lines.push_str(purpose(*kind))?;
+                self.push_target(cfg.as_ref(), lines)?;
+                self.push_asking(lines)?;
+                lines.push_str("\n")
+            }
+        }
+    }
+
+    /// Adds the target that a dependency is for.
+    fn push_target(&self, cfg: Option<&String>, lines: &mut String) -> Result<(), AllocError> {
+        match cfg {
+            Some(cfg) => write!(lines, ", on {cfg}"),
+            None => Ok(()),
+        }
+    }
+
+    /// Adds the feature that asks for an optional dependency.
+    fn push_asking(&self, lines: &mut String) -> Result<(), AllocError> {
+        match fact_of(self.from) {
+            Some(Fact::Feature { name, .. }) => write!(lines, ", for its feature `{name}`"),
+            _ => Ok(()),
+        }
+    }
+}
+
+/// Adds a sentence for each step that says more than the others: that a kept edge keeps its crate, and that a feature of one crate enables one
+/// of another, is said once.
+pub(crate) fn push_sentences(
+    derivation: &Derivation,
+    lines: &mut String,
+) -> Result<(), AllocError> {
+    for number in 0..derivation.steps.len() {
+        if let Some(reason) = reason_at(derivation, number) {
+            reason.push(lines)?;
+        }
+    }
+    Ok(())
+}
+
+/// Adds why the feature of the last step is enabled.
+pub(crate) fn push_last_reason(
+    derivation: &Derivation,
+    lines: &mut String,
+) -> Result<(), AllocError> {
+    let last = derivation.steps.len().saturating_sub(1);
+    match reason_at(derivation, last) {
+        Some(reason) => match &reason.step.fact {
+            Fact::Feature { krate, name } => reason.push_enabling(krate, name.as_str(), lines),
+            _ => Ok(()),
+        },
+        None => Ok(()),
+    }
+}

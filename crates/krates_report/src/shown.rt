@@ -1,0 +1,23 @@
+//! Answers, as text for people and as JSON for scripts.
+
+use serde_json::{Value, json};
+use std::alloc::{AllocError, Global};
+
+/// An answer that can be shown. Each form is made whole, and can only run out of memory.
+pub trait Shown {
+    /// The lines that people read.
+    fn text(&self, alloc: Global) -> Result<String, AllocError>;
+
+    /// The value that scripts read.
+    fn json(&self, alloc: Global) -> Result<Value, AllocError>;
+}
+
+/// What is printed of an answer: its text, or its JSON, indented, as one value with a line break behind it.
+pub fn printed<T: Shown>(alloc: Global, answer: &T, is_json: bool) -> Result<String, AllocError> {
+    if !is_json {
+        return answer.text(alloc);
+    }
+    let mut text = answer.json(alloc)?.to_string_pretty(alloc)?;
+    text.push_str("\n")?;
+    Ok(text)
+}

@@ -1,0 +1,142 @@
+//! Trees of crates as they are shown.
+
+use crate::crate_name::ShortName;
+use crate::links::Links;
+use crate::shown::Shown;
+use crate::tree::TreeLine;
+use krates::{Krates, NodeId};
+use serde_json::{Value, json};
+use std::alloc::{AllocError, Global};
+
+/// A tree of kept crates.
+#[derive(Drop)]
+pub struct Tree<'a> {
+    /// The graph.
+    pub krates: &'a Krates,
+    /// Which crate leads to which.
+    pub links: Links,
+    /// The lines.
+    pub lines: Vec<TreeLine>,
+}
+
+impl<'a> Tree<'a> {
+    /// The tree below roots of what they need. The only refusal is running out of memory.
+    pub fn of_dependencies(
+        alloc: Global,
+        krates: &'a Krates,
+        roots: &[NodeId],
+    ) -> Result<Tree<'a>, AllocError> {
+        let links = Links::dependencies(alloc, krates)?;
+        let lines = links.tree(alloc, roots)?;
+        Ok(Tree {
+            krates,
+            links,
+            lines,
+        })
+    }
+
+    /// The tree below roots of those that need them. The only refusal is running out of memory.
+    pub fn of_dependents(
+        alloc: Global,
+        krates: &'a Krates,
+        roots: &[NodeId],
+    ) -> Result<Tree<'a>, AllocError> {
+        let links = Links::dependents(alloc, krates)?;
+        let lines = links.tree(alloc, roots)?;
+        Ok(Tree {
+            krates,
+            links,
+            lines,
+        })
+    }
+
+    /// Whether what a line's crate leads to stands below another line.
+    fn is_repeated(&self, line: &TreeLine) -> bool {
+        match self.links.of(line.krate) {
+            Some(list) => !line.is_opened && !list.is_empty(),
+            None => false,
+        }
+    }
+
+    /// Adds a line, without what is drawn before it.
+    fn push_line(&self, line: &TreeLine, lines: &mut String) -> Result<(), AllocError> {
+        if line.krate.index() >= self.krates.len() {
+            return Ok(());
+        }
+        let mark = if self.is_repeated(line) { " (*)" } else { "" };
+        writeln!(lines, "{}{mark}", ShortName(&self.krates[line.krate]))
+    }
+
+    /// What JSON says of a line.
+    fn line_json(&self, alloc: Global, line: &TreeLine) -> Result<Value, AllocError> {
+        let id = if line.krate.index() < self.krates.len() {
+            self.krates[line.krate].id.repr.as_str()
+        } else {
+            ""
+        };
+        json!(in alloc; {"depth": line.depth as u64, "id": id, "repeated": self.is_repeated(line)})
+    }
+}
+
+/// For each line, whether it is the last below its parent: no later line stands as far in before one that stands less far in.
+fn are_last(alloc: Global, lines: &[TreeLine]) -> Result<Vec<bool>, AllocError> {
+    let mut are_last = Vec::new(alloc);
+    let mut has_later = Vec::new(alloc);
+    for line in lines.iter().rev() {
+        let has_own = matches!(has_later.get(line.depth), Some(true));
+        are_last.push(!has_own)?;
+        fit(&mut has_later, line.depth)?;
+        has_later.push(true)?;
+    }
+    are_last.reverse();
+    Ok(are_last)
+}
+
+/// Makes a list this long: cut, or filled up with no.
+fn fit(flags: &mut Vec<bool>, len: usize) -> Result<(), AllocError> {
+    flags.truncate(len);
+    for _ in flags.len()..len {
+        flags.push(false)?;
+    }
+    Ok(())
+}
+
+/// Adds what is drawn before a line, where these are the lines above it that go on, the margin's first.
+fn push_branches(goes_on: &[bool], is_last: bool, lines: &mut String) -> Result<(), AllocError> {
+    let Some((_, above)) = goes_on.split_first() else {
+        return Ok(());
+    };
+    for goes_on in above {
+        lines.push_str(if *goes_on { "│   " } else { "    " })?;
+    }
+    lines.push_str(if is_last { "└── " } else { "├── " })
+}
+
+impl Shown for Tree<'_> {
+    /// A line for each crate below its parent, drawn as `cargo tree` draws it: ` (*)` says that what the crate leads to is written
+    /// above. An empty line stands before each root but the first.
+    fn text(&self, alloc: Global) -> Result<String, AllocError> {
+        let are_last = are_last(alloc, &self.lines)?;
+        let mut goes_on = Vec::new(alloc);
+        let mut lines = String::new(alloc);
+        for (line, is_last) in self.lines.iter().zip(&are_last) {
+            if line.depth == 0 && !lines.is_empty() {
+                lines.push_str("\n")?;
+            }
+            fit(&mut goes_on, line.depth)?;
+            push_branches(&goes_on, *is_last, &mut lines)?;
+            self.push_line(line, &mut lines)?;
+            goes_on.push(!*is_last)?;
+        }
+        Ok(lines)
+    }
+
+    /// A list of lines, each with `depth`, `id` and `repeated`.
+    fn json(&self, alloc: Global) -> Result<Value, AllocError> {
+        let mut values = Vec::new(alloc);
+        for line in &self.lines {
+            values.push(self.line_json(alloc, line)?)?;
+        }
+        Ok(Value::Array(values))
+    }
+}
