@@ -10,8 +10,9 @@ crates, the licences, what is shipped (by the lists of builds that ignore kinds)
 difference from the same document under the other setting. Of each package that isn't kept `unreachable` has to say yes, of each that is no.
 
 The program is crates/cargo_krates/out/cargo_krates, which `rt run` in that folder builds, or $CARGO_KRATES. Of a document with more than
-200 crates only the first forty are asked about one by one. The status is 0 where nothing differs and something was compared, and 1 otherwise.
+200 crates only the first twelve are asked about one by one. The status is 0 where nothing differs and something was compared, and 1 otherwise.
 """
+import concurrent.futures
 import gzip
 import json
 import os
@@ -182,7 +183,7 @@ def difference(first, second):
 
 def asked_of(reading):
     """The words that are asked of a reading, with what they have to answer."""
-    few = range(len(reading.crates)) if len(reading.crates) <= 200 else range(40)
+    few = range(len(reading.crates)) if len(reading.crates) <= 200 else range(12)
     yield ("list",), reading.all_crates()
     yield ("tree",), reading.tree(reading.members(), reading.needs)
     yield ("duplicates",), reading.duplicates()
@@ -194,18 +195,17 @@ def asked_of(reading):
         yield ("tree", krate), reading.tree([number], reading.needs)
         yield ("dependents", krate), reading.tree([number], reading.needed_by)
         yield ("unreachable", krate), {"id": krate, "unreachable": False}
-    for krate in [krate for krate in reading.packages if krate not in reading.crates][:40]:
+    for krate in [krate for krate in reading.packages if krate not in reading.crates][:12]:
         yield ("unreachable", krate), {"id": krate, "unreachable": True}
 
 
 def differences(reading):
     """How many answers there are, and those that differ."""
-    count, wrong = 0, []
-    for words, wanted in asked_of(reading):
-        count += 1
-        if reading.ask(*words, statuses=(0, 1)) != wanted:
-            wrong.append(words)
-    for number in range(min(len(reading.crates), 40)):
+    asked = list(asked_of(reading))
+    with concurrent.futures.ThreadPoolExecutor(os.cpu_count()) as pool:
+        told = list(pool.map(lambda one: reading.ask(*one[0], statuses=(0, 1)), asked))
+    count, wrong = len(asked), [words for (words, wanted), answer in zip(asked, told) if answer != wanted]
+    for number in range(min(len(reading.crates), 12)):
         count += 1
         told = reading.ask("features", reading.crates[number])
         if [feature["name"] for feature in told["features"]] != reading.features(number):

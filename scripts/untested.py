@@ -66,7 +66,7 @@ SHOWN_BY = {
     "Asked::answer": (
         "fitting duplicates lacking lost_dependencies materials is_unreachable push_graph Links::dependents Links::dependencies Links::of Links::leads"
         " Links::tree Builds::use_of Builds::uses Packages::one Packages::any Bill::of Changed::between Difference::between Duplicates::of"
-        " Licences::of Tree::of_dependencies Tree::of_dependents Features::of"
+        " Licences::of Tree::of_dependencies Tree::of_dependents Features::of Choice::apply_to"
     ).split(),
 }
 

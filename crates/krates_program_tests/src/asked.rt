@@ -78,3 +78,25 @@ impl Question for Answered {
         }
     }
 }
+
+/// The words with which cargo is run for the words of a line.
+struct CargoTold;
+
+/// Words, with a blank between each two.
+fn line_of(alloc: Global, words: &[String]) -> Result<String, Fail> {
+    let mut line = String::new(alloc);
+    for word in words {
+        let blank = if line.is_empty() { "" } else { " " };
+        write!(line, "{blank}{word}")?;
+    }
+    Ok(line)
+}
+
+impl Question for CargoTold {
+    fn told(alloc: Global, line: &str) -> Result<String, Fail> {
+        match asked_of(alloc, &words_of(alloc, line)?) {
+            Ok(asked) => line_of(alloc, &asked.cargo.command(alloc)?.args()?),
+            Err(error) => Ok(format!(in alloc; "{error}")?),
+        }
+    }
+}

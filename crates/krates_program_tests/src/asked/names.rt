@@ -1,6 +1,6 @@
 //! Which crate a word of `cargo krates` means, and words that ask for nothing.
 
-use crate::asked::Answered;
+use crate::asked::{Answered, CargoTold};
 use krates_samples::table::{Row, hold};
 use std::test::Fail;
 
@@ -138,4 +138,30 @@ const WORDS: &[Row] = &[
 #[test]
 fn words(rt: HostRuntime) -> Result<(), Fail> {
     hold::<Answered>(rt.alloc(), WORDS)
+}
+
+const CARGO: &[Row] = &[
+    ("list", "metadata --format-version 1"),
+    (
+        "tree -F a,b --features c",
+        "metadata --format-version 1 --features a,b c",
+    ),
+    (
+        "tree --all-features --locked",
+        "metadata --format-version 1 --all-features --locked",
+    ),
+    (
+        "list --no-default-features --offline --frozen",
+        "metadata --format-version 1 --no-default-features --frozen --offline",
+    ),
+    (
+        "why b --manifest-path /w/a/Cargo.toml",
+        "metadata --format-version 1 --manifest-path Cargo.toml",
+    ),
+];
+
+/// The words with which cargo is run.
+#[test]
+fn words_for_cargo(rt: HostRuntime) -> Result<(), Fail> {
+    hold::<CargoTold>(rt.alloc(), CARGO)
 }
