@@ -99,7 +99,7 @@ class Reading:
 
     def kept_without(self, *kinds):
         words = [word for kind in kinds for word in ("--ignore-kind", kind)]
-        return set(run(self.text, "list", "--ids", *words, *self.options).split())
+        return set(run(self.text, "list", "--ids", *words, *self.options).splitlines())
 
     def uses(self):
         """What each crate is used for."""
@@ -157,17 +157,28 @@ def component(package, use):
     return made
 
 
+def identity(text):
+    """The name, version and source of an id, in either of its forms."""
+    if " " in text:
+        name, version, source = text.split(" ", 2)
+        return name, version, source[1:-1]
+    source, rest = text.rsplit("#", 1)
+    name, _, version = rest.rpartition("@")
+    return name or source.split("?")[0].rsplit("/", 1)[1], version, source
+
+
 def difference(first, second):
-    """What one reading has and another lacks."""
+    """What one reading has and another lacks; crates are told by what their ids say."""
     def lacking(one, other):
-        return [one.crate(number) for number, krate in enumerate(one.crates) if krate not in other.crates]
+        there = set(map(identity, other.crates))
+        return [one.crate(number) for number, krate in enumerate(one.crates) if identity(krate) not in there]
 
     def pairs(one):
         return [(one.crates[of], one.crates[to]) for to in range(len(one.crates)) for of in one.needed_by[to]]
 
     def lost(one, other):
-        there = set(pairs(other))
-        return [{"from": of, "to": to} for of, to in pairs(one) if (of, to) not in there]
+        there = {(identity(of), identity(to)) for of, to in pairs(other)}
+        return [{"from": of, "to": to} for of, to in pairs(one) if (identity(of), identity(to)) not in there]
 
     removed, added = lacking(first, second), lacking(second, first)
     names = {crate["name"] for crate in removed} & {crate["name"] for crate in added}

@@ -52,7 +52,7 @@ fn add_targets(alloc: Global, asked: &mut Asked) -> Result<(), Fail> {
 }
 
 /// What is printed of documents, with a mark where it is a no; or why there is nothing.
-fn answered(alloc: Global, mut asked: Asked, documents: &str) -> Result<String, Fail> {
+fn printed_of(alloc: Global, mut asked: Asked, documents: &str) -> Result<String, Fail> {
     let (first, second) = match documents.split_once(" // ") {
         Some((first, second)) => (first, Some(second)),
         None => (documents, None),
@@ -73,7 +73,7 @@ impl Question for Answered {
     fn told(alloc: Global, line: &str) -> Result<String, Fail> {
         let (words, documents) = line.split_once(" < ").unwrap_or((line, ""));
         match asked_of(alloc, &words_of(alloc, words)?) {
-            Ok(asked) => answered(alloc, asked, documents),
+            Ok(asked) => printed_of(alloc, asked, documents),
             Err(error) => Ok(format!(in alloc; "{error}")?),
         }
     }
