@@ -139,11 +139,13 @@ def copy_tree(room):
 def tried(crate, room, is_compiled):
     """Changes the tables of a crate, runs its tests, and tells what they say. Returns whether each changed one failed, and there was one."""
     found, left = {}, []
-    for file in sorted((room / "crates" / crate / "src").glob("*.rt")):
+    source = room / "crates" / crate / "src"
+    for file in sorted(source.rglob("*.rt")):
         added, here, untried = copies(file.read_text())
         file.write_text(file.read_text() + added)
-        found.update({f"{file.stem}::{test}": f"{file.stem} {table}" for test, table in here.items()})
-        left += [f"{file.stem} {table}" for table in untried]
+        module = "::".join(file.relative_to(source).with_suffix("").parts)
+        found.update({f"{module}::{test}": f"{module} {table}" for test, table in here.items()})
+        left += [f"{module} {table}" for table in untried]
     how = {"cwd": room / "crates" / crate, "capture_output": True, "text": True, "errors": "replace"}
     if is_compiled:
         subprocess.run(["rt", "fmt"], **how, check=True)
