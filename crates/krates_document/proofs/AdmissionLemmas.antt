@@ -115,6 +115,9 @@ twice_packages ids = doubled_so (HasDoubled ids.packages) (DoubledWithinRefusal 
 pub twice_nodes : (ids : IdsModel) (e : Error) → DoubledRefusal ids.nodes e → DoubledWithinRefusal ids e
 twice_nodes ids = doubled_so (HasDoubled ids.nodes) (DoubledWithinRefusal ids) (λ kid h. among_nodes h) tt
 
+pub twice_in : (lists : List (List Identity)) (list : List Identity) → Contains lists list → (e : Error) → DoubledRefusal list e → DoubledInRefusal lists e
+twice_in lists list among = doubled_so (HasDoubled list) (DoubledInRefusal lists) (λ kid h. (list, among, h)) tt
+
 pub twice_deps : (ids : IdsModel) (e : Error) → DoubledInRefusal ids.deps e → DoubledWithinRefusal ids e
 twice_deps ids = doubled_so (λ kid. (list : List Identity) × Contains ids.deps list × HasDoubled list kid) (DoubledWithinRefusal ids) (λ kid h. among_deps h.0 h.1 h.2) tt
 

@@ -3,10 +3,24 @@ use Rattle.std.proofs.lemmas.Result.{err_from_is_err_and}
 use Rattle.std.specs.Global.{Vec}
 use Rattle.std.specs.List.{AllByRecursion}
 use Rattle.krates_ids.specs.Identity.{Identity}
-use Rattle.krates_document.specs.AdmissionSteps.{AreDistinct, DoubledInRefusal}
+use Rattle.krates_document.specs.AdmissionSteps.{AreDistinct, DoubledInRefusal, DoubledRefusal}
 use Rattle.krates_document.specs.Ids.{ids_view}
-use Rattle.krates_document.proofs.AdmissionLemmas.{twice_deps}
+use Rattle.krates_document.proofs.AdmissionLemmas.{twice_deps, twice_nodes, twice_packages}
 use Rattle.krates_document.proofs.admission.expect_none_doubled.Goals as goal
+
+pub returns-in_err-expect_distinct-clause-refused : goal.returns-in_err-expect_distinct-clause-refused
+returns-in_err-expect_distinct-clause-refused c =
+    let error = c.in_err-expect_distinct.field-0.0 in
+    let twice = subst (λ (kids : List Identity). DoubledRefusal kids error) c.deref.ensures.value c.in_err-expect_distinct.ensures.refused in
+    let p = err_from_is_err_and c.from_residual.result c.from_residual.ensures.1 in
+    rw (p.1, p.2) (twice_packages (ids_view c.args.ids.now) error twice)
+
+pub returns-in_err-expect_distinct-2-clause-refused : goal.returns-in_err-expect_distinct-2-clause-refused
+returns-in_err-expect_distinct-2-clause-refused c =
+    let error = c.in_err-expect_distinct-2.field-0.0 in
+    let twice = subst (λ (kids : List Identity). DoubledRefusal kids error) c.deref-2.ensures.value c.in_err-expect_distinct-2.ensures.refused in
+    let p = err_from_is_err_and c.from_residual-in_err-expect_distinct-2.result c.from_residual-in_err-expect_distinct-2.ensures.1 in
+    rw (p.1, p.2) (twice_nodes (ids_view c.args.ids.now) error twice)
 
 pub returns-in_err-expect_all_distinct-clause-refused : goal.returns-in_err-expect_all_distinct-clause-refused
 returns-in_err-expect_all_distinct-clause-refused c =
