@@ -1,4 +1,4 @@
-use Rattle.std.proofs.Common.{refl}
+use Rattle.std.proofs.Common.{refl, rules}
 use Rattle.std.proofs.lemmas.Option.{slice_get-get_or, slice_get_within}
 use Rattle.krates_lookups.specs.Lookup.{resolved_view}
 use Rattle.krates_questions.proofs.AllReferents.{gone_by, gone_put, none_gone}
@@ -21,3 +21,11 @@ loop-there-preserved c =
 
 pub loop-there-init : goal.loop-there-init
 loop-there-init c = none_gone (resolved_view c.args.lookup.now) c.args.parts.now c.args.name.now c.args.places.now c.args.referents.now.items
+
+pub bounds-parts-place : goal.bounds-parts-place
+bounds-parts-place c =
+    let at = c.is_lesser.ensures.0 c.if-is_lesser.true in
+    slice_get_within c.args.parts.now.children.now _ at.0 at.1.at
+
+pub offset_bounds-parts-place : goal.offset_bounds-parts-place
+offset_bounds-parts-place c = let within = bounds-parts-place c in search rules

@@ -1,4 +1,4 @@
-use Rattle.std.proofs.Common.{Bool, sym, subst}
+use Rattle.std.proofs.Common.{Bool, sym, subst, rules}
 use Rattle.std.proofs.lemmas.Option.{slice_get-get_or, slice_get_within}
 use Rattle.std.proofs.lemmas.Result.{IfOk-weaker}
 use Rattle.krates_lookups.specs.Lookup.{resolved_view}
@@ -20,3 +20,9 @@ returns c =
           rw (w.referents-is, w.in_ok-push.ensures.items, c.new-referents.ensures.items) (one_in r parts name _ at (slice_get-get_or parts.children.now w.in-Some.place _ (slice_get_within parts.children.now w.in-Some.place at.child at.at))))
       | in_default w ↦ rw (w.referents-is, c.new-referents.ensures.items) (none_in r parts name w.in_default.ensures)
     ])
+
+pub bounds-parts-place : goal.bounds-parts-place
+bounds-parts-place c = slice_get_within c.args.parts.now.children.now c.in-Some.place c.in-Some.ensures.child c.in-Some.ensures.at
+
+pub offset_bounds-parts-place : goal.offset_bounds-parts-place
+offset_bounds-parts-place c = let within = bounds-parts-place c in search rules
