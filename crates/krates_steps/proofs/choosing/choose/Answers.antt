@@ -1,5 +1,6 @@
 use Rattle.std.proofs.Common.{◌≡◌, ◌<◌, List, Option, ℕ, Some, None, false, length, get_or, arith, sym, ap, ◌∙◌, subst, rules, tests}
 use Rattle.std.specs.List.{AllZip}
+use Rattle.std.proofs.lemmas.Grind.{elements}
 use Rattle.std.proofs.lemmas.Option.{slice_get-get_or}
 use Rattle.krates_rules.specs.Uses.{numbers_used}
 use Rattle.krates_rules.specs.declared.uses.Uses.{Uses}
@@ -43,3 +44,6 @@ returns-clause-more c =
     let uses = subst (λ (ns : List (Option ℕ)). AllZip (HasNewNumber choice.facts.now ns) (numbers_used x) (numbers_used c.renumbered-uses.result)) c.deref.ensures.value c.renumbered-uses.ensures in
     let done = step_chosen choice n (get_or choice.facts.now n 0) c.len.result x c.renumbered-uses.result making.chosen.items making.uses.items making.numbers.items c.requires.choice marked at fact count uses c.requires.below in
     rw (c.in_ok-push.ensures.items, c.in_ok-push-2.ensures.items) done
+
+pub returns-then-not-choice-number-clause-more : goal.returns-then-not-choice-number-clause-more
+returns-then-not-choice-number-clause-more c = grind (arith, elements)
