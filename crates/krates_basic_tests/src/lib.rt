@@ -8,6 +8,8 @@
 #[cfg(test)]
 mod agenda;
 #[cfg(test)]
+mod certificates;
+#[cfg(test)]
 mod correction;
 #[cfg(test)]
 mod derivation_texts;

@@ -1,0 +1,258 @@
+//! Certificates as JSON: what is written for steps and facts in the small language of facts (`krates_samples::facts`), what is read, and
+//! why a text is refused.
+
+use krates_certificate::{Certificate, CertificateError, Part};
+use krates_rules::Fact;
+use krates_samples::facts::{facts_of, steps_of};
+use krates_samples::table::{Question, Row, hold};
+use serde_json::{Value, json};
+use std::alloc::{AllocError, Global};
+use std::test::Fail;
+
+/// A setting of two words.
+fn setting(alloc: Global) -> Result<Vec<String>, AllocError> {
+    let mut words = Vec::new(alloc);
+    words.push(String::from_str(alloc, "--ignore")?)?;
+    words.push(String::from_str(alloc, "dev")?)?;
+    Ok(words)
+}
+
+/// What is written for a certificate.
+fn written(alloc: Global, certificate: &Certificate) -> Result<String, AllocError> {
+    certificate.to_value(alloc)?.to_string(alloc)
+}
+
+/// What is written for the steps of a line.
+struct OfSteps;
+
+impl Question for OfSteps {
+    fn told(alloc: Global, line: &str) -> Result<String, Fail> {
+        let derivation = steps_of(alloc, line)?;
+        let setting = setting(alloc)?;
+        let certificate = Certificate::Derivation {
+            setting,
+            derivation,
+        };
+        Ok(written(alloc, &certificate)?)
+    }
+}
+
+const STEPS: &[Row] = &[
+    (
+        "",
+        r#"{"kind":"derivation","setting":["--ignore","dev"],"steps":[]}"#,
+    ),
+    (
+        "1 +a; 5 a>b:build 0",
+        r#"{"kind":"derivation","setting":["--ignore","dev"],"steps":[{"fact":{"fact":"crate","krate":"path+file:///w/a#0.1.0"},"rule":1,"uses":[]},{"fact":{"cfg":null,"child":"path+file:///w/b#0.1.0","fact":"kept","kind":"build","parent":"path+file:///w/a#0.1.0"},"rule":5,"uses":[0]}]}"#,
+    ),
+];
+
+#[test]
+fn steps_are_written(rt: HostRuntime) -> Result<(), Fail> {
+    hold::<OfSteps>(rt.alloc(), STEPS)
+}
+
+/// What is written for the facts of a line.
+struct OfFacts;
+
+impl Question for OfFacts {
+    fn told(alloc: Global, line: &str) -> Result<String, Fail> {
+        let facts = facts_of(alloc, line)?;
+        let setting = Vec::new(alloc);
+        Ok(written(alloc, &Certificate::Closed { setting, facts })?)
+    }
+}
+
+const FACTS: &[Row] = &[
+    ("", r#"{"facts":[],"kind":"closed","setting":[]}"#),
+    (
+        "a/w a>b/j",
+        r#"{"facts":[{"fact":"feature","krate":"path+file:///w/a#0.1.0","name":"w"},{"child":"path+file:///w/b#0.1.0","fact":"toggled","name":"j","parent":"path+file:///w/a#0.1.0"}],"kind":"closed","setting":[]}"#,
+    ),
+    // an edge of each kind, for a target and for every target
+    (
+        "a>b a>b:dev:cfg(unix)",
+        r#"{"facts":[{"cfg":null,"child":"path+file:///w/b#0.1.0","fact":"kept","kind":"normal","parent":"path+file:///w/a#0.1.0"},{"cfg":"cfg(unix)","child":"path+file:///w/b#0.1.0","fact":"kept","kind":"dev","parent":"path+file:///w/a#0.1.0"}],"kind":"closed","setting":[]}"#,
+    ),
+];
+
+#[test]
+fn facts_are_written(rt: HostRuntime) -> Result<(), Fail> {
+    hold::<OfFacts>(rt.alloc(), FACTS)
+}
+
+/// The words of a setting, and what is printed of each fact or step.
+fn printed(alloc: Global, certificate: &Certificate) -> Result<String, AllocError> {
+    match certificate {
+        Certificate::Derivation {
+            setting,
+            derivation,
+        } => format!(in alloc; "{setting:?}\n{derivation}"),
+        Certificate::Closed { setting, facts } => {
+            let mut lines = format!(in alloc; "{setting:?}\n")?;
+            for fact in facts {
+                writeln!(lines, "{fact}")?;
+            }
+            Ok(lines)
+        }
+    }
+}
+
+/// Why a part is refused. Want of memory is handed on, as elsewhere.
+fn refusal(alloc: Global, error: CertificateError) -> Result<String, AllocError> {
+    if error.is_memory() {
+        return Err(AllocError);
+    }
+    format!(in alloc; "{error}")
+}
+
+/// What is read of a text, or why it is refused.
+struct Read;
+
+impl Question for Read {
+    fn told(alloc: Global, text: &str) -> Result<String, Fail> {
+        match Certificate::parse(alloc, text) {
+            Ok(certificate) => Ok(printed(alloc, &certificate)?),
+            Err(error) => Ok(refusal(alloc, error)?),
+        }
+    }
+}
+
+const TEXTS: &[Row] = &[
+    // other keys are passed over, and of a doubled key the last value counts
+    (
+        r#"{"by":"me","kind":"closed","kind":"derivation","setting":["-x"],"steps":[{"rule":255,"fact":{"fact":"crate","krate":"path+file:///w/a#0.1.0"},"uses":[]},{"rule":7,"fact":{"fact":"toggled","parent":"path+file:///w/a#0.1.0","child":"path+file:///w/b#0.1.0","name":"j"},"uses":[0,0,9]}]}"#,
+        "[\"-x\"]\n0 rule 255: crate path+file:///w/a#0.1.0\n1 rule 7: toggled j of path+file:///w/b#0.1.0 by path+file:///w/a#0.1.0 from 0, 0, 9\n",
+    ),
+    (
+        r#"{"kind":"closed","setting":[],"facts":[{"fact":"feature","krate":"path+file:///w/a#0.1.0","name":"w"},{"fact":"kept","parent":"path+file:///w/a#0.1.0","child":"path+file:///w/b#0.1.0","kind":"build","cfg":"cfg(unix)"}]}"#,
+        "[]\nfeature w of path+file:///w/a#0.1.0\nkept path+file:///w/a#0.1.0 -> path+file:///w/b#0.1.0 (build) 'cfg(unix)'\n",
+    ),
+    // what isn't JSON
+    ("{", "not JSON, at line 1 column 1"),
+    // keys that are missing, and of another type
+    ("[]", "missing key: kind"),
+    (r#"{"kind":"closed"}"#, "missing key: setting"),
+    (
+        r#"{"kind":"closed","setting":[1],"facts":[]}"#,
+        "wrong type at key: setting",
+    ),
+    (
+        r#"{"kind":"closed","setting":[],"steps":[]}"#,
+        "missing key: facts",
+    ),
+    (
+        r#"{"kind":"derivation","setting":[],"steps":{}}"#,
+        "wrong type at key: steps",
+    ),
+    (
+        r#"{"kind":"closed","setting":[],"facts":[{"fact":"kept","parent":"path+file:///w/a#0.1.0","child":"path+file:///w/b#0.1.0","kind":"dev"}]}"#,
+        "missing key: cfg",
+    ),
+    // names that aren't known
+    (
+        r#"{"kind":"open","setting":[],"facts":[]}"#,
+        "unknown name at key: kind",
+    ),
+    (
+        r#"{"kind":"closed","setting":[],"facts":[{"fact":"lost","krate":"path+file:///w/a#0.1.0"}]}"#,
+        "unknown name at key: fact",
+    ),
+    (
+        r#"{"kind":"closed","setting":[],"facts":[{"fact":"kept","parent":"path+file:///w/a#0.1.0","child":"path+file:///w/b#0.1.0","kind":"test","cfg":null}]}"#,
+        "unknown name at key: kind",
+    ),
+    // rules that have no number of a byte
+    (
+        r#"{"kind":"derivation","setting":[],"steps":[{"rule":256,"fact":{"fact":"crate","krate":"path+file:///w/a#0.1.0"},"uses":[]}]}"#,
+        "number above 255 at key: rule",
+    ),
+    (
+        r#"{"kind":"derivation","setting":[],"steps":[{"rule":-1,"fact":{"fact":"crate","krate":"path+file:///w/a#0.1.0"},"uses":[]}]}"#,
+        "wrong type at key: rule",
+    ),
+    // texts that are no id
+    (
+        r#"{"kind":"closed","setting":[],"facts":[{"fact":"crate","krate":"a"}]}"#,
+        "no package id at key: krate",
+    ),
+];
+
+#[test]
+fn texts_are_read_or_refused(rt: HostRuntime) -> Result<(), Fail> {
+    hold::<Read>(rt.alloc(), TEXTS)
+}
+
+/// The id that is read of a text, as it is written.
+struct Id;
+
+/// The text that stands for the id of a kept crate.
+fn id_in(alloc: Global, fact: &Fact) -> Result<String, AllocError> {
+    let value = fact.to_value(alloc)?;
+    let text = value.get("krate").and_then(|id| id.as_str());
+    String::from_str(alloc, text.unwrap_or("none"))
+}
+
+/// The fact that a crate is kept whose id is a text.
+fn kept_crate(alloc: Global, id: &str) -> Result<Value, AllocError> {
+    json!(in alloc; {"fact": "crate", "krate": id})
+}
+
+/// What is written, or why nothing is read.
+fn id_again(alloc: Global, read: Result<Fact, CertificateError>) -> Result<String, AllocError> {
+    match read {
+        Ok(fact) => id_in(alloc, &fact),
+        Err(error) => refusal(alloc, error),
+    }
+}
+
+impl Question for Id {
+    fn told(alloc: Global, id: &str) -> Result<String, Fail> {
+        let value = kept_crate(alloc, id)?;
+        Ok(id_again(alloc, Fact::from_value(alloc, &value))?)
+    }
+}
+
+const IDS: &[Row] = &[
+    // most ids are written as they were
+    ("path+file:///w/a#0.1.0", "path+file:///w/a#0.1.0"),
+    (
+        "a 1.0.0 (registry+https://i)",
+        "a 1.0.0 (registry+https://i)",
+    ),
+    (
+        "a 1.0.0 (git+https://h/r#c0)",
+        "a 1.0.0 (git+https://h/r#c0)",
+    ),
+    // the query of a git source is decoded, and reads as it did
+    (
+        "git+https://h/r?branch=x%2Fy#a@1.0.0",
+        "git+https://h/r?branch=x/y#a@1.0.0",
+    ),
+    // or its last piece would be the name
+    (
+        "git+https://h/a?branch=x%2Fy#1.0.0",
+        "a 1.0.0 (git+https://h/a?branch=x/y#)",
+    ),
+    // or its blank would begin the version
+    (
+        "git+https://h/r?tag=x%20y#a@1.0.0",
+        "a 1.0.0 (git+https://h/r?tag=x y#)",
+    ),
+    // or it would be decoded twice
+    (
+        "git+https://h/r?tag=x%252Fy#a@1.0.0",
+        "a 1.0.0 (git+https://h/r?tag=x%2Fy#)",
+    ),
+    (
+        "a 1.0.0 (git+https://h/r?tag=x y#)",
+        "a 1.0.0 (git+https://h/r?tag=x y#)",
+    ),
+    ("a", "no package id at key: krate"),
+];
+
+#[test]
+fn ids_are_written_to_be_read(rt: HostRuntime) -> Result<(), Fail> {
+    hold::<Id>(rt.alloc(), IDS)
+}

@@ -1,0 +1,6 @@
+pub mod IdLemmas
+pub mod ItemLemmas
+pub mod NeverBoth
+pub mod OneReading
+pub mod ReadAgain
+pub mod TextLemmas
