@@ -4,9 +4,10 @@
     scripts/gate_times.py [--anew] [CRATE..]
 
 Run it at the top of a clean clone, with nothing beside it on the machine. First comes what the gate itself prints, then the
-table, and at the end once more the gate's last line, which says how many passed; the status is the gate's. With names it is
-`rt ci` of these crates and those below them. What passes is kept on the machine, and isn't proved again by a later run: `--anew`
-proves all. The table is in processor seconds, user and system, and its rows are the crates:
+table, and at the end once more the gate's last line, which says how many passed; the status is the gate's. Where the toolchain keeps
+what passes, a later run doesn't prove it again, `--anew` proves all, and with names it is `rt ci` of these crates and those below
+them; another toolchain proves all each time, and takes none of these words. The table is in processor seconds, user and system, and its
+rows are the crates:
 
     proof   the crate is proved, and the statements are written that the crates above it use
     edits   its must-fail edits are tried

@@ -63,10 +63,10 @@ SHOWN_BY = {
     "facts": ("kept_steps", "Document::lookup"),
     "why": ("derivation_of", "step_of"),
     # what a word of `cargo krates` answers is made of values, which its text and its JSON show
-    "Asked::answer": (
+    "Reporter::answer": (
         "fitting duplicates lacking lost_dependencies materials is_unreachable push_graph Links::dependents Links::dependencies Links::of Links::leads"
-        " Links::tree Builds::use_of Builds::uses Packages::one Packages::any Bill::of Changed::between Difference::between Duplicates::of"
-        " Licences::of Tree::of_dependencies Tree::of_dependents Features::of Choice::apply_to"
+        " Choice::words Links::tree Builds::use_of Builds::uses Packages::one Packages::any Bill::of Changed::between Difference::between Duplicates::of"
+        " licences Tree::of_dependencies Tree::of_dependents Features::of"
     ).split(),
 }
 

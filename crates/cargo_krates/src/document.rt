@@ -4,7 +4,7 @@ use crate::failure::Failure;
 use crate::text;
 use krates::Metadata;
 use krates::cm::{Error, MetadataCommand};
-use krates_report::words::{Asked, CargoWords, Input, Word};
+use krates_words::{Asked, CargoWords, Input, Word};
 use std::alloc::{AllocError, Global};
 use std::fs;
 

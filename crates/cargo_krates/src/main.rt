@@ -11,7 +11,9 @@ mod targets;
 mod text;
 
 use crate::failure::Failure;
-use krates_report::{Answer, Asked, Choice, WordsError, asked_of};
+use krates::Package;
+use krates_report::{Answer, Reporter};
+use krates_words::{Asked, Choice, WordsError, asked_of};
 use std::io::Write;
 use std::process::ExitCode;
 use std::{env, io};
@@ -37,7 +39,8 @@ fn answer_of(rt: &HostRuntime, mut asked: Asked) -> Result<Answer, Failure> {
     note_host(rt, &asked.choice);
     let other = document::other(rt, &asked.word)?;
     let document = document::document(rt, &asked)?;
-    Ok(asked.answer(rt.alloc(), document, other)?)
+    note_exclusions(rt, &asked.choice, &document.packages);
+    Ok(Reporter::new(rt.alloc(), &asked).answer(document, other)?)
 }
 
 /// Says what targets alone leave out.
@@ -47,6 +50,15 @@ fn note_host(rt: &HostRuntime, choice: &Choice) {
             rt,
             "build scripts and proc-macros run on the host; --host adds what they need there",
         );
+    }
+}
+
+/// Says which exclusions leave nothing out.
+fn note_exclusions(rt: &HostRuntime, choice: &Choice, packages: &[Package]) {
+    for spec in &choice.exclusions {
+        if !packages.iter().any(|pkg| spec.matches(pkg)) {
+            said::note(rt, format_args!("--exclude {spec} fits no package"));
+        }
     }
 }
 

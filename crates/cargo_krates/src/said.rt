@@ -15,7 +15,7 @@ pub(crate) fn error(rt: &HostRuntime, reason: impl Display + Drop) {
 }
 
 /// Says what a reader of the answer may want to know.
-pub(crate) fn note(rt: &HostRuntime, text: &str) {
+pub(crate) fn note(rt: &HostRuntime, text: impl Display + Drop) {
     say(rt, "note", YELLOW, text);
 }
 

@@ -4,7 +4,7 @@ use crate::failure::Failure;
 use crate::{rustc, text};
 use krates::cfg::{TargetInfo, builtin};
 use krates::target::Target;
-use krates_report::words::Choice;
+use krates_words::Choice;
 use std::alloc::{AllocError, Global};
 
 /// The targets that are chosen, in their order, and then the host where it is chosen too.

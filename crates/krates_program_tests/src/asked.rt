@@ -10,14 +10,15 @@ use crate::versions::VERSIONS;
 use krates::Metadata;
 use krates::cm::MetadataCommand;
 use krates::target::Target;
-use krates_report::{Answer, Asked, asked_of};
+use krates_report::{Answer, Reporter};
 use krates_samples::documents::metadata;
 use krates_samples::table::{Question, Row, hold};
+use krates_words::{Asked, asked_of};
 use std::alloc::Global;
 use std::test::Fail;
 
 /// The document of a line, or the real one.
-fn document_of(alloc: Global, line: &str) -> Result<Metadata, Fail> {
+pub(crate) fn document_of(alloc: Global, line: &str) -> Result<Metadata, Fail> {
     if line == "versions" {
         Ok(MetadataCommand::parse(alloc, VERSIONS)?)
     } else {
@@ -34,7 +35,7 @@ fn other_of(alloc: Global, line: Option<&str>) -> Result<Option<Metadata>, Fail>
 }
 
 /// The words of a line, with a blank for each tilde.
-fn words_of(alloc: Global, line: &str) -> Result<Vec<String>, Fail> {
+pub(crate) fn words_of(alloc: Global, line: &str) -> Result<Vec<String>, Fail> {
     let mut words = Vec::new(alloc);
     for word in line.split_whitespace() {
         words.push(word.replace(alloc, '~', " ")?)?;
@@ -59,7 +60,8 @@ fn printed_of(alloc: Global, mut asked: Asked, documents: &str) -> Result<String
     };
     add_targets(alloc, &mut asked)?;
     let other = other_of(alloc, second)?;
-    match asked.answer(alloc, document_of(alloc, first)?, other) {
+    let document = document_of(alloc, first)?;
+    match Reporter::new(alloc, &asked).answer(document, other) {
         Ok(Answer { text, is_yes: true }) => Ok(text),
         Ok(Answer { text, .. }) => Ok(format!(in alloc; "no: {text}")?),
         Err(refusal) => Ok(format!(in alloc; "refused: {refusal}")?),
@@ -67,15 +69,20 @@ fn printed_of(alloc: Global, mut asked: Asked, documents: &str) -> Result<String
 }
 
 /// What the words of a line are answered, of the documents behind `<`, with `//` between them.
-struct Answered;
+pub(crate) fn answered_of(alloc: Global, line: &str) -> Result<String, Fail> {
+    let (words, documents) = line.split_once(" < ").unwrap_or((line, ""));
+    match asked_of(alloc, &words_of(alloc, words)?) {
+        Ok(asked) => printed_of(alloc, asked, documents),
+        Err(error) => Ok(format!(in alloc; "{error}")?),
+    }
+}
+
+/// Lines that are words, with the documents behind `<`.
+pub(crate) struct Answered;
 
 impl Question for Answered {
     fn told(alloc: Global, line: &str) -> Result<String, Fail> {
-        let (words, documents) = line.split_once(" < ").unwrap_or((line, ""));
-        match asked_of(alloc, &words_of(alloc, words)?) {
-            Ok(asked) => printed_of(alloc, asked, documents),
-            Err(error) => Ok(format!(in alloc; "{error}")?),
-        }
+        answered_of(alloc, line)
     }
 }
 

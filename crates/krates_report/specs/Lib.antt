@@ -1,14 +1,1 @@
-pub mod CargoWords
-pub mod Choice
-pub mod Difference
-pub mod Duplicates
-pub mod Fitting
-pub mod Grouped
-pub mod Labelled
-pub mod Licences
-pub mod Links
-pub mod Materials
-pub mod Those
-pub mod Tree
-pub mod Unreachable
-pub mod Uses
+pub mod Builds

@@ -2,11 +2,11 @@
 
 use crate::crate_name::{directory_of, url_of};
 use crate::krate_json::ids_json;
-use crate::materials::{Material, materials};
 use crate::shown::Shown;
-use crate::uses::{Builds, Use};
 use krates::Package;
 use krates::cm::{Source, SourceKind, Target, TargetKind};
+use krates_answers::materials::{Material, materials};
+use krates_answers::uses::{Builds, Use};
 use percent_encoding::{AsciiSet, NON_ALPHANUMERIC, utf8_percent_encode};
 use serde_json::{Value, json};
 use std::alloc::{AllocError, Global};

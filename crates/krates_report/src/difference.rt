@@ -1,157 +1,160 @@
-//! What one graph has and another lacks.
+//! The difference of two graphs as it is shown.
 
-ghost use Rattle.std.specs.Prelude.{◌≡◌, ◌↔◌, [], ◌∷◌, IfOk, IsTrue, OnOk, map};
-ghost use Rattle.krates_queries.specs.KrateNodes.{match_view};
-ghost use Rattle.krates_rules.specs.Resolved.{id_of};
-ghost use Rattle.krates_report.specs.Difference.{AreLacking, AreLost, HasDependency, IsMissing};
-ghost use Rattle.krates_report.specs.Difference.{dependency_view, pair_of};
-ghost use Rattle.krates_report.specs.Those.{AddsThose};
-
-use crate::links::Links;
-use crate::pushing::push;
-use krates::{DirectDependent, Edge, Kid, KrateMatch, Krates, Package};
+use crate::crate_name::{ShortId, ShortName};
+use crate::krate_json::krates_json;
+use crate::shown::Shown;
+use krates::semver::Version;
+use krates::{KrateMatch, Krates, Package};
+use krates_answers::changed::Changed;
+use krates_answers::difference::{Dependency, lacking, lost_dependencies};
+use serde_json::{Value, json};
 use std::alloc::{AllocError, Global};
-use std::marker::Model;
 
-/// A crate that depends directly on another, with that one.
-#[derive(Debug, Drop)]
-pub struct Dependency<'a> {
-    /// The crate that depends.
-    pub parent: KrateMatch<'a, Package>,
-    /// The crate on which it depends.
-    pub child: KrateMatch<'a, Package>,
-}
-
-/// A graph, in which direct dependencies are looked up.
+/// What one graph has and another lacks, both ways.
 #[derive(Drop)]
-struct There<'a, N, E> {
-    krates: &'a Krates<N, E>,
-    /// For each of its crates those that depend on it directly.
-    dependents: Links,
+pub struct Difference<'a> {
+    /// The crates that only the first keeps, by number.
+    pub removed: Vec<KrateMatch<'a, Package>>,
+    /// The crates that only the second keeps, by number.
+    pub added: Vec<KrateMatch<'a, Package>>,
+    /// The direct dependencies that only the first has.
+    pub removed_dependencies: Vec<Dependency<'a>>,
+    /// The direct dependencies that only the second has.
+    pub added_dependencies: Vec<Dependency<'a>>,
+    /// The names under which crates went and others came.
+    pub changed: Vec<Changed<'a>>,
 }
 
-impl<'a, N, E> Model for There<'a, N, E> {
-    ghost use Rattle.std.specs.Prelude.{length};
-    ghost use Rattle.krates_queries.specs.Kept.{KeptCrates, ids_of};
-    ghost use Rattle.krates_report.specs.Links.{AreLinks, IsNeededBy};
-
-    ghost Value = { KeptCrates N E };
-
-    ghost view = { λ there. there.krates.now };
-
-    ghost invariant = { λ there. AreLinks (length (ids_of there.krates.now)) (IsNeededBy there.krates.now)
-        there.dependents };
-}
-
-impl<'a, N, E> There<'a, N, E> {
-    /// The graph, with its links.
-    fn new(alloc: Global, krates: &'a Krates<N, E>) -> Result<There<'a, N, E>, AllocError>
-        ensures { IfOk result (λ there. there ≡ krates.now) }
-    {
-        let dependents = Links::dependents(alloc, krates)?;
-        Ok(There { krates, dependents })
-    }
-
-    /// Whether one crate depends directly on another, told by their ids.
-    fn has_dependency(&self, parent: &Kid, child: &Kid) -> bool
-        ensures { IsTrue result ↔ HasDependency self.now (id_of parent.now) (id_of child.now) }
-    {
-        let Some(parent) = self.krates.nid_for_kid(parent) else {
-            return false;
-        };
-        let Some(child) = self.krates.nid_for_kid(child) else {
-            return false;
-        };
-        self.dependents.leads(child, parent)
+impl<'a> Difference<'a> {
+    /// What stands between two graphs. The only refusal is running out of memory. Time O((n + e) log (n + e)) for n crates and e
+    /// edges of both.
+    pub fn between(
+        alloc: Global,
+        first: &'a Krates,
+        second: &'a Krates,
+    ) -> Result<Difference<'a>, AllocError> {
+        let removed = lacking(alloc, first, second)?;
+        let added = lacking(alloc, second, first)?;
+        let changed = Changed::between(alloc, &removed, &added)?;
+        Ok(Difference {
+            removed,
+            added,
+            changed,
+            removed_dependencies: lost_dependencies(alloc, first, second)?,
+            added_dependencies: lost_dependencies(alloc, second, first)?,
+        })
     }
 }
 
-/// The crates that one graph keeps and the other doesn't, told by their ids, by number. The only refusal is running out of memory.
-/// Time O(n log m) for n nodes of the one and m of the other.
-pub fn lacking<'a>(
-    alloc: Global,
-    here: &'a Krates,
-    there: &Krates,
-) -> Result<Vec<KrateMatch<'a, Package>>, AllocError>
-    ensures { IfOk result (λ found. AreLacking here.now there.now (map match_view found.items)) }
-{
-    let mut lacking = Vec::new(alloc);
-    for found in here.krate_nodes() {
-        if there.nid_for_kid(found.kid).is_none() {
-            push(&mut lacking, found)?;
-        }
-    }
-    Ok(lacking)
-}
-
-/// The dependency of a crate on another.
-fn dependency_of<'a>(
-    child: &KrateMatch<'a, Package>,
-    dependent: &DirectDependent<'a, Package>,
-) -> Dependency<'a>
-    ensures { dependency_view result ≡ pair_of (match_view child.now) dependent.now }
-{
-    Dependency {
-        parent: KrateMatch {
-            krate: dependent.krate,
-            kid: dependent.kid,
-            node_id: dependent.node_id,
-        },
-        child: KrateMatch {
-            krate: child.krate,
-            kid: child.kid,
-            node_id: child.node_id,
-        },
-    }
-}
-
-/// Adds the dependency of a crate on another, if the other graph lacks it.
-fn push_if_lost<'a>(
-    there: &There<'_, Package, Edge>,
-    child: &KrateMatch<'a, Package>,
-    dependent: &DirectDependent<'a, Package>,
-    lost: &mut Vec<Dependency<'a>>,
-) -> Result<(), AllocError>
-    ensures { OnOk result (AddsThose (IsMissing there.now) (pair_of (match_view child.now) dependent.now ∷ [])
-        (map dependency_view lost.old.items) (map dependency_view lost.new.items)) }
-{
-    if there.has_dependency(dependent.kid, child.kid) {
-        return Ok(());
-    }
-    push(lost, dependency_of(child, dependent))
-}
-
-/// Adds those of the direct dependencies on a crate that the other graph lacks.
-fn push_lost<'a>(
-    there: &There<'_, Package, Edge>,
-    child: &KrateMatch<'a, Package>,
-    dependents: &[DirectDependent<'a, Package>],
-    lost: &mut Vec<Dependency<'a>>,
-) -> Result<(), AllocError>
-    ensures { OnOk result (AddsThose (IsMissing there.now) (map (pair_of (match_view child.now)) dependents.now)
-        (map dependency_view lost.old.items) (map dependency_view lost.new.items)) }
-{
-    for dependent in dependents {
-        push_if_lost(there, child, dependent, lost)?;
+/// Adds versions, with a comma between each two.
+fn push_versions(versions: &[&Version], lines: &mut String) -> Result<(), AllocError> {
+    for (place, version) in versions.iter().enumerate() {
+        let comma = if place == 0 { "" } else { ", " };
+        write!(lines, "{comma}{version}")?;
     }
     Ok(())
 }
 
-/// The direct dependencies that one graph has and the other lacks, told by the ids of both crates: by the number of the crate
-/// on which the other depends, and then by that of the other. The only refusal is running out of memory. Time O(n + e log (n + e))
-/// for n nodes and e edges of both graphs.
-pub fn lost_dependencies<'a>(
-    alloc: Global,
-    here: &'a Krates,
-    there: &Krates,
-) -> Result<Vec<Dependency<'a>>, AllocError>
-    ensures { IfOk result (λ found. AreLost here.now there.now (map dependency_view found.items)) }
-{
-    let there = There::new(alloc, there)?;
-    let mut lost = Vec::new(alloc);
-    for child in here.krate_nodes() {
-        let dependents = here.direct_dependents(child.node_id)?;
-        push_lost(&there, &child, &dependents, &mut lost)?;
+/// Adds a name with its versions before and after.
+fn push_changed(changed: &Changed<'_>, lines: &mut String) -> Result<(), AllocError> {
+    write!(lines, "~ {} ", changed.name)?;
+    push_versions(&changed.from, lines)?;
+    lines.push_str(" -> ")?;
+    push_versions(&changed.to, lines)?;
+    lines.push_str("\n")
+}
+
+/// The texts of versions.
+fn versions_json(alloc: Global, versions: &[&Version]) -> Result<Value, AllocError> {
+    let mut values = Vec::new(alloc);
+    for version in versions {
+        values.push(Value::String(version.to_string(alloc)?))?;
     }
-    Ok(lost)
+    Ok(Value::Array(values))
+}
+
+/// What JSON says of a name under which versions changed.
+fn changed_json(alloc: Global, changed: &Changed<'_>) -> Result<Value, AllocError> {
+    let from = versions_json(alloc, &changed.from)?;
+    let to = versions_json(alloc, &changed.to)?;
+    json!(in alloc; {"name": changed.name, "from": from, "to": to})
+}
+
+/// Adds a line for each crate.
+fn push_krates(
+    mark: &str,
+    krates: &[KrateMatch<'_, Package>],
+    lines: &mut String,
+) -> Result<(), AllocError> {
+    for found in krates {
+        writeln!(lines, "{mark} {}", ShortName(found.krate))?;
+    }
+    Ok(())
+}
+
+/// Adds a line for each dependency.
+fn push_dependencies(
+    mark: &str,
+    dependencies: &[Dependency<'_>],
+    lines: &mut String,
+) -> Result<(), AllocError> {
+    for dependency in dependencies {
+        let (parent, child) = (dependency.parent.kid, dependency.child.kid);
+        writeln!(lines, "{mark} {} -> {}", ShortId(parent), ShortId(child))?;
+    }
+    Ok(())
+}
+
+/// What JSON says of dependencies: the ids of both crates.
+fn dependencies_json(alloc: Global, dependencies: &[Dependency<'_>]) -> Result<Value, AllocError> {
+    let mut values = Vec::new(alloc);
+    for dependency in dependencies {
+        let (parent, child) = (&dependency.parent.krate.id, &dependency.child.krate.id);
+        values.push(json!(in alloc; {"from": &parent.repr, "to": &child.repr})?)?;
+    }
+    Ok(Value::Array(values))
+}
+
+impl Difference<'_> {
+    /// The names under which versions changed.
+    fn changed_json(&self, alloc: Global) -> Result<Value, AllocError> {
+        let mut values = Vec::new(alloc);
+        for changed in &self.changed {
+            values.push(changed_json(alloc, changed)?)?;
+        }
+        Ok(Value::Array(values))
+    }
+}
+
+impl Shown for Difference<'_> {
+    /// A line `~ NAME VERSION -> VERSION` for each name under which versions changed; then `- ` and each crate that only the first
+    /// graph keeps, and `+ ` and each that only the second does; then the same of direct dependencies, `PARENT -> CHILD`.
+    fn text(&self, alloc: Global) -> Result<String, AllocError> {
+        let mut lines = String::new(alloc);
+        for changed in &self.changed {
+            push_changed(changed, &mut lines)?;
+        }
+        push_krates("-", &self.removed, &mut lines)?;
+        push_krates("+", &self.added, &mut lines)?;
+        push_dependencies("-", &self.removed_dependencies, &mut lines)?;
+        push_dependencies("+", &self.added_dependencies, &mut lines)?;
+        Ok(lines)
+    }
+
+    /// An object: `changed`, with `name` and the versions `from` and `to`; the crates `removed` and `added`; and `removed_dependencies`
+    /// and `added_dependencies`, each with the ids `from` and `to`.
+    fn json(&self, alloc: Global) -> Result<Value, AllocError> {
+        let changed = self.changed_json(alloc)?;
+        let removed = krates_json(alloc, &self.removed)?;
+        let added = krates_json(alloc, &self.added)?;
+        let lost = dependencies_json(alloc, &self.removed_dependencies)?;
+        let won = dependencies_json(alloc, &self.added_dependencies)?;
+        json!(in alloc; {
+            "changed": changed,
+            "removed": removed,
+            "added": added,
+            "removed_dependencies": lost,
+            "added_dependencies": won
+        })
+    }
 }

@@ -1,48 +1,103 @@
-//! Duplicate versions: the names that several kept crates have.
+//! Duplicate versions as they are shown.
 
-ghost use Rattle.std.specs.Prelude.{IfOk, map};
-ghost use Rattle.krates_cm.specs.Document.{text_view};
-ghost use Rattle.krates_queries.specs.KrateNodes.{crates_of};
-ghost use Rattle.krates_report.specs.Duplicates.{AreDuplicates, duplicate_view};
-
-use crate::labelled::{Label, labelled};
-use crate::pushing::push;
-use krates::{KrateMatch, Krates, Package};
+use crate::crate_name::ShortName;
+use crate::krate_json::{ids_json, krate_json};
+use crate::shown::Shown;
+use krates::{KrateMatch, Krates, NodeId, Package};
+use krates_answers::duplicates::{Duplicate, duplicates};
+use krates_answers::links::Links;
+use serde_json::{Value, json};
 use std::alloc::{AllocError, Global};
 
-/// A name that several kept crates have.
-#[derive(Debug, Drop)]
-pub struct Duplicate<'a> {
-    /// The name of their packages.
-    pub name: &'a str,
-    /// The crates, by number.
-    pub krates: Vec<KrateMatch<'a, Package>>,
+/// The names that several kept crates have, and who needs each of these crates.
+#[derive(Drop)]
+pub struct Duplicates<'a> {
+    /// The graph.
+    pub krates: &'a Krates,
+    /// The names, in their order.
+    pub names: Vec<Duplicate<'a>>,
+    /// Who needs each crate directly.
+    pub dependents: Links,
 }
 
-/// The name of a package, as a label.
-struct Name;
-
-impl Label for Name {
-    ghost label_of = { λ pkg. text_view pkg.name };
-
-    fn label(pkg: &Package) -> &str {
-        pkg.name.as_str()
+impl<'a> Duplicates<'a> {
+    /// Those of a graph. The only refusal is running out of memory. Time: O(n log n + e log e) for n nodes and e edges.
+    pub fn of(alloc: Global, krates: &'a Krates) -> Result<Duplicates<'a>, AllocError> {
+        Ok(Duplicates {
+            krates,
+            names: duplicates(alloc, krates)?,
+            dependents: Links::dependents(alloc, krates)?,
+        })
     }
-}
 
-/// The names that two or more of the kept crates have, in the order of their bytes, each with its crates by number. The only
-/// refusal is running out of memory. Time O(n log n) for n nodes.
-///
-/// A name is that of the package, which its id needn't have.
-pub fn duplicates<'a>(alloc: Global, krates: &'a Krates) -> Result<Vec<Duplicate<'a>>, AllocError>
-    ensures { IfOk result (λ found. AreDuplicates (crates_of krates.now) (map duplicate_view found.items)) }
-{
-    let by_name = labelled::<Name>(alloc, krates)?;
-    let mut duplicates = Vec::new(alloc);
-    for (name, krates) in by_name {
-        if krates.len() > 1 {
-            push(&mut duplicates, Duplicate { name, krates })?;
+    /// The numbers of the crates that need one directly.
+    fn dependents_of(&self, krate: &KrateMatch<'_, Package>) -> &[NodeId] {
+        self.dependents.of(krate.node_id).unwrap_or(&[])
+    }
+
+    /// Adds a crate, and below it those that need it.
+    fn push_krate(
+        &self,
+        krate: &KrateMatch<'_, Package>,
+        lines: &mut String,
+    ) -> Result<(), AllocError> {
+        writeln!(lines, "{}", ShortName(krate.krate))?;
+        for number in self.dependents_of(krate) {
+            if number.index() < self.krates.len() {
+                writeln!(lines, "    {}", ShortName(&self.krates[*number]))?;
+            }
         }
+        Ok(())
     }
-    Ok(duplicates)
+
+    /// Adds the crates of a name.
+    fn push_name(&self, name: &Duplicate<'_>, lines: &mut String) -> Result<(), AllocError> {
+        for krate in &name.krates {
+            self.push_krate(krate, lines)?;
+        }
+        Ok(())
+    }
+
+    /// What JSON says of a crate.
+    fn krate_json(
+        &self,
+        alloc: Global,
+        krate: &KrateMatch<'_, Package>,
+    ) -> Result<Value, AllocError> {
+        let dependents = ids_json(alloc, self.krates, self.dependents_of(krate))?;
+        let value = krate_json(alloc, krate.krate)?;
+        json!(in alloc; {"crate": value, "dependents": dependents})
+    }
+
+    /// What JSON says of a name.
+    fn name_json(&self, alloc: Global, name: &Duplicate<'_>) -> Result<Value, AllocError> {
+        let mut values = Vec::new(alloc);
+        for krate in &name.krates {
+            values.push(self.krate_json(alloc, krate)?)?;
+        }
+        json!(in alloc; {"name": name.name, "crates": Value::Array(values)})
+    }
+}
+
+impl Shown for Duplicates<'_> {
+    /// For each name its crates, and below each of them those that need it; between two names an empty line.
+    fn text(&self, alloc: Global) -> Result<String, AllocError> {
+        let mut lines = String::new(alloc);
+        for name in &self.names {
+            if !lines.is_empty() {
+                lines.push_str("\n")?;
+            }
+            self.push_name(name, &mut lines)?;
+        }
+        Ok(lines)
+    }
+
+    /// A list of objects with `name` and `crates`, each of these with `crate` and the ids of its `dependents`.
+    fn json(&self, alloc: Global) -> Result<Value, AllocError> {
+        let mut values = Vec::new(alloc);
+        for name in &self.names {
+            values.push(self.name_json(alloc, name)?)?;
+        }
+        Ok(Value::Array(values))
+    }
 }

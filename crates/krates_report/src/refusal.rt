@@ -1,8 +1,8 @@
 //! Why there is no answer.
 
-use crate::naming::NamingError;
 use krates::Error;
 use krates::derive::CheckError;
+use krates_answers::naming::NamingError;
 use std::alloc::{AllocError, AllocFailed};
 use std::fmt;
 

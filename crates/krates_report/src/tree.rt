@@ -1,104 +1,142 @@
-//! Trees of crates as lines, each crate opened once.
+//! Trees of crates as they are shown.
 
-ghost use Rattle.std.specs.Prelude.{◌≡◌, ◌<◌, ◌++◌, IfOk, OnOk, map, reverse};
-ghost use Rattle.krates_report.specs.Links.{IsListed};
-ghost use Rattle.krates_report.specs.Tree.{IsTree, line_below, list_of, root_line, roots_among};
-
-use crate::links::Links;
-use krates::NodeId;
+use crate::crate_name::ShortName;
+use crate::shown::Shown;
+use krates::{Krates, NodeId};
+use krates_answers::links::Links;
+use krates_answers::tree::TreeLine;
+use serde_json::{Value, json};
 use std::alloc::{AllocError, Global};
 
-/// A line of a tree.
-#[derive(Clone, Copy, Debug)]
-pub struct TreeLine {
-    /// How far in it stands: 0 for a root.
-    pub depth: usize,
-    /// The number of its crate.
-    pub krate: NodeId,
-    /// The number of the crate below which it stands, which leads to it; none for a root.
-    pub parent: Option<NodeId>,
-    /// Whether all to which its crate leads stands below it. Otherwise that stands below an earlier line of the same crate.
-    pub is_opened: bool,
+/// A tree of kept crates.
+#[derive(Drop)]
+pub struct Tree<'a> {
+    /// The graph.
+    pub krates: &'a Krates,
+    /// Which crate leads to which.
+    pub links: Links,
+    /// The lines.
+    pub lines: Vec<TreeLine>,
 }
 
-impl TreeLine {
-    /// The line of a root, before it is known whether it is opened.
-    fn of_root(krate: NodeId) -> TreeLine
-        ensures { result ≡ root_line krate }
-    {
-        TreeLine {
-            depth: 0,
-            krate,
-            parent: None,
-            is_opened: false,
+impl<'a> Tree<'a> {
+    /// The tree below roots of what they need. The only refusal is running out of memory.
+    pub fn of_dependencies(
+        alloc: Global,
+        krates: &'a Krates,
+        roots: &[NodeId],
+    ) -> Result<Tree<'a>, AllocError> {
+        let links = Links::dependencies(alloc, krates)?;
+        let lines = links.tree(alloc, roots)?;
+        Ok(Tree {
+            krates,
+            links,
+            lines,
+        })
+    }
+
+    /// The tree below roots of those that need them. The only refusal is running out of memory.
+    pub fn of_dependents(
+        alloc: Global,
+        krates: &'a Krates,
+        roots: &[NodeId],
+    ) -> Result<Tree<'a>, AllocError> {
+        let links = Links::dependents(alloc, krates)?;
+        let lines = links.tree(alloc, roots)?;
+        Ok(Tree {
+            krates,
+            links,
+            lines,
+        })
+    }
+
+    /// Whether what a line's crate leads to stands below another line.
+    fn is_repeated(&self, line: &TreeLine) -> bool {
+        match self.links.of(line.krate) {
+            Some(list) => !line.is_opened && !list.is_empty(),
+            None => false,
         }
     }
 
-    /// The line of a crate below this one, before it is known whether it is opened.
-    fn below(&self, krate: NodeId) -> TreeLine
-        requires { self.now.depth < usize.MAX }
-        ensures { result ≡ line_below self.now krate }
-    {
-        TreeLine {
-            depth: self.depth + 1,
-            krate,
-            parent: Some(self.krate),
-            is_opened: false,
-        }
-    }
-}
-
-impl Links {
-    /// The tree below roots: a line for each root and for each edge from a crate that is reached, depth first, in the order of the
-    /// numbers. Each crate is opened once, at its first line, so there are as many lines as roots and edges. Roots that
-    /// no crate has are left out. The only refusal is running out of memory. Time: O(n + e) for n crates and e edges between them.
-    pub fn tree(&self, alloc: Global, roots: &[NodeId]) -> Result<Vec<TreeLine>, AllocError>
-        ensures { IfOk result (λ lines. IsTree (IsListed self.now) (roots_among self.now roots.now) lines.items) }
-    {
-        let mut is_opened = vec![in alloc; false; self.len()]?;
-        let mut waiting = self.root_lines(alloc, roots)?;
-        let mut lines = Vec::new(alloc);
-        while let Some(next) = waiting.pop() {
-            let number = next.krate.index();
-            let is_new = !is_opened[number];
-            is_opened[number] = true;
-            if is_new {
-                self.push_below(&next, &mut waiting)?;
-            }
-            lines.push(TreeLine {
-                is_opened: is_new,
-                ..next
-            })?;
-        }
-        Ok(lines)
-    }
-
-    /// The lines of the roots that a crate has, the first one last.
-    fn root_lines(&self, alloc: Global, roots: &[NodeId]) -> Result<Vec<TreeLine>, AllocError>
-        ensures { IfOk result (λ lines. lines.items ≡ map root_line (roots_among self.now (reverse roots.now))) }
-    {
-        let count = self.len();
-        let mut lines = Vec::new(alloc);
-        for root in roots.iter().rev() {
-            if root.index() < count {
-                lines.push(TreeLine::of_root(*root))?;
-            }
-        }
-        Ok(lines)
-    }
-
-    /// Adds the lines below one, the first one last.
-    fn push_below(&self, line: &TreeLine, waiting: &mut Vec<TreeLine>) -> Result<(), AllocError>
-        requires { line.now.depth < usize.MAX }
-        ensures { OnOk result (waiting.new.items
-            ≡ waiting.old.items ++ map (line_below line.now) (reverse (list_of self.now line.now.krate))) }
-    {
-        let Some(numbers) = self.of(line.krate) else {
+    /// Adds a line, without what is drawn before it.
+    fn push_line(&self, line: &TreeLine, lines: &mut String) -> Result<(), AllocError> {
+        if line.krate.index() >= self.krates.len() {
             return Ok(());
-        };
-        for number in numbers.iter().rev() {
-            waiting.push(line.below(*number))?;
         }
-        Ok(())
+        let mark = if self.is_repeated(line) { " (*)" } else { "" };
+        writeln!(lines, "{}{mark}", ShortName(&self.krates[line.krate]))
+    }
+
+    /// What JSON says of a line.
+    fn line_json(&self, alloc: Global, line: &TreeLine) -> Result<Value, AllocError> {
+        let id = if line.krate.index() < self.krates.len() {
+            self.krates[line.krate].id.repr.as_str()
+        } else {
+            ""
+        };
+        json!(in alloc; {"depth": line.depth as u64, "id": id, "repeated": self.is_repeated(line)})
+    }
+}
+
+/// For each line, whether it is the last below its parent: no later line stands as far in before one that stands less far in.
+fn are_last(alloc: Global, lines: &[TreeLine]) -> Result<Vec<bool>, AllocError> {
+    let mut are_last = Vec::new(alloc);
+    let mut has_later = Vec::new(alloc);
+    for line in lines.iter().rev() {
+        let has_own = matches!(has_later.get(line.depth), Some(true));
+        are_last.push(!has_own)?;
+        fit(&mut has_later, line.depth)?;
+        has_later.push(true)?;
+    }
+    are_last.reverse();
+    Ok(are_last)
+}
+
+/// Makes a list this long: cut, or filled up with no.
+fn fit(flags: &mut Vec<bool>, len: usize) -> Result<(), AllocError> {
+    flags.truncate(len);
+    for _ in flags.len()..len {
+        flags.push(false)?;
+    }
+    Ok(())
+}
+
+/// Adds what is drawn before a line, where these are the lines above it that go on, the margin's first.
+fn push_branches(goes_on: &[bool], is_last: bool, lines: &mut String) -> Result<(), AllocError> {
+    let Some((_, above)) = goes_on.split_first() else {
+        return Ok(());
+    };
+    for goes_on in above {
+        lines.push_str(if *goes_on { "│   " } else { "    " })?;
+    }
+    lines.push_str(if is_last { "└── " } else { "├── " })
+}
+
+impl Shown for Tree<'_> {
+    /// A line for each crate below its parent, drawn as `cargo tree` draws it: ` (*)` says that what the crate leads to is written
+    /// above. An empty line stands before each root but the first.
+    fn text(&self, alloc: Global) -> Result<String, AllocError> {
+        let are_last = are_last(alloc, &self.lines)?;
+        let mut goes_on = Vec::new(alloc);
+        let mut lines = String::new(alloc);
+        for (line, is_last) in self.lines.iter().zip(&are_last) {
+            if line.depth == 0 && !lines.is_empty() {
+                lines.push_str("\n")?;
+            }
+            fit(&mut goes_on, line.depth)?;
+            push_branches(&goes_on, *is_last, &mut lines)?;
+            self.push_line(line, &mut lines)?;
+            goes_on.push(!*is_last)?;
+        }
+        Ok(lines)
+    }
+
+    /// A list of lines, each with `depth`, `id` and `repeated`.
+    fn json(&self, alloc: Global) -> Result<Value, AllocError> {
+        let mut values = Vec::new(alloc);
+        for line in &self.lines {
+            values.push(self.line_json(alloc, line)?)?;
+        }
+        Ok(Value::Array(values))
     }
 }

@@ -1,70 +1,63 @@
-//! What the kept crates are used for: they are shipped, or used in building, or only in development.
+//! What crates are used for as it is shown.
 
-ghost use Rattle.std.specs.Prelude.{◌≡◌, All, IfOk, map};
-ghost use Rattle.krates_queries.specs.KrateNodes.{crates_of, match_view};
-ghost use Rattle.krates_rules.specs.Resolved.{id_of};
-ghost use Rattle.krates_report.specs.Uses.{IsUse};
-
-use crate::pushing::push;
-use krates::{Kid, KrateMatch, Krates, Package};
+use crate::crate_name::ShortName;
+use crate::krate_json::krate_json;
+use crate::shown::Shown;
+use krates_answers::uses::{Use, UsedKrate};
+use serde_json::{Value, json};
 use std::alloc::{AllocError, Global};
 
-/// What a crate is used for.
-#[derive(Clone, Copy, Debug, PartialEq, Eq)]
-pub enum Use {
-    /// It is needed by what is shipped, over normal dependencies.
-    Shipped,
-    /// It isn't shipped, but build scripts need it.
-    Build,
-    /// Only tests, examples and benchmarks need it.
-    Dev,
+/// The kept crates, each with what it is used for.
+#[derive(Drop)]
+pub struct Uses<'a> {
+    /// The crates, by number.
+    pub used: Vec<UsedKrate<'a>>,
 }
 
-/// A kept crate, and what it is used for.
-#[derive(Debug, Drop)]
-pub struct UsedKrate<'a> {
-    /// The crate.
-    pub krate: KrateMatch<'a, Package>,
-    /// What it is used for.
-    pub usage: Use,
-}
-
-/// Builds of one document: under a setting, and under the same one with more kinds of dependencies ignored.
-#[derive(Debug, Drop)]
-pub struct Builds {
-    /// Under the setting.
-    pub all: Krates,
-    /// Dev dependencies are ignored too.
-    pub without_dev: Krates,
-    /// Dev and build dependencies are ignored too.
-    pub shipped: Krates,
-}
-
-impl Builds {
-    /// What a crate that is kept is used for. Takes no memory. Time O(log n).
-    pub fn use_of(&self, kid: &Kid) -> Use
-        ensures { IsUse self.now.shipped self.now.without_dev (id_of kid.now) result }
-    {
-        if self.shipped.nid_for_kid(kid).is_some() {
-            Use::Shipped
-        } else if self.without_dev.nid_for_kid(kid).is_some() {
-            Use::Build
-        } else {
-            Use::Dev
-        }
+impl Uses<'_> {
+    /// How many are used for this.
+    fn count(&self, usage: Use) -> usize {
+        self.used.iter().filter(|used| used.usage == usage).count()
     }
 
-    /// The kept crates by id, each with what it is used for. The only refusal is running out of memory. Time O(n log n).
-    pub fn uses(&self, alloc: Global) -> Result<Vec<UsedKrate<'_>>, AllocError>
-        ensures crates { IfOk result (λ used. map (λ u. match_view u.krate) used.items ≡ crates_of self.now.all) }
-        ensures uses { IfOk result (λ used. All (λ u. IsUse self.now.shipped self.now.without_dev
-            (id_of u.krate.kid.now) u.usage) used.items) }
-    {
-        let mut used = Vec::new(alloc);
-        for krate in self.all.krate_nodes() {
-            let usage = self.use_of(krate.kid);
-            push(&mut used, UsedKrate { krate, usage })?;
+    /// Adds a use with the number of its crates, and below it the crates.
+    fn push(&self, usage: Use, title: &str, lines: &mut String) -> Result<(), AllocError> {
+        writeln!(lines, "{title} ({})", self.count(usage))?;
+        for used in &self.used {
+            if used.usage == usage {
+                writeln!(lines, "    {}", ShortName(used.krate.krate))?;
+            }
         }
-        Ok(used)
+        Ok(())
+    }
+
+    /// The crates that are used for this.
+    fn json_of(&self, alloc: Global, usage: Use) -> Result<Value, AllocError> {
+        let mut values = Vec::new(alloc);
+        for used in &self.used {
+            if used.usage == usage {
+                values.push(krate_json(alloc, used.krate.krate)?)?;
+            }
+        }
+        Ok(Value::Array(values))
+    }
+}
+
+impl Shown for Uses<'_> {
+    /// `shipped`, `build only` and `dev only`, each with the number of its crates, and below it the crates.
+    fn text(&self, alloc: Global) -> Result<String, AllocError> {
+        let mut lines = String::new(alloc);
+        self.push(Use::Shipped, "shipped", &mut lines)?;
+        self.push(Use::Build, "build only", &mut lines)?;
+        self.push(Use::Dev, "dev only", &mut lines)?;
+        Ok(lines)
+    }
+
+    /// An object with the crates of `shipped`, `build` and `dev`.
+    fn json(&self, alloc: Global) -> Result<Value, AllocError> {
+        let shipped = self.json_of(alloc, Use::Shipped)?;
+        let build = self.json_of(alloc, Use::Build)?;
+        let dev = self.json_of(alloc, Use::Dev)?;
+        json!(in alloc; {"shipped": shipped, "build": build, "dev": dev})
     }
 }

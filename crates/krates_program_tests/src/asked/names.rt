@@ -30,6 +30,35 @@ const NAMES: &[Row] = &[
         "why b~0.1.0~(path+file:///w/b) < a b&id=b~0.1.0~(path+file:///w/b)|b&id=b~0.1.0~(path+file:///w/b)",
         "b v0.1.0 (/w/b) is kept:\n  a v0.1.0 is a root\n  a v0.1.0 needs b v0.1.0\n",
     ),
+    // the first numbers of a version, as cargo's `--package` takes them; a pre-release has to be named whole
+    (
+        "why b@0.1 < a b|b",
+        "b v0.1.0 (/w/b) is kept:\n  a v0.1.0 is a root\n  a v0.1.0 needs b v0.1.0\n",
+    ),
+    (
+        "why b:0 < a b|b",
+        "b v0.1.0 (/w/b) is kept:\n  a v0.1.0 is a root\n  a v0.1.0 needs b v0.1.0\n",
+    ),
+    (
+        "why d@0.2 < a b|b d@0.2.0|d|d@0.2.0 / members a d",
+        "d v0.2.0 (/w/d) is kept:\n  a v0.1.0 is a root\n  a v0.1.0 needs b v0.1.0\n  b v0.1.0 needs d v0.2.0\n",
+    ),
+    (
+        "why d@0 < a b|b d@0.2.0|d|d@0.2.0 / members a d",
+        "refused: `d@0` fits several packages; name one of them:\n    d@0.1.0\n    d@0.2.0",
+    ),
+    (
+        "why b@0.2 < a b|b",
+        "refused: no package fits `b@0.2`; these come near:\n    b@0.1.0",
+    ),
+    (
+        "why wk-leaf@3 < versions",
+        "refused: no package fits `wk-leaf@3`; these come near:\n    wk-leaf@1.0.0\n    wk-leaf@2.1.0\n    wk-leaf@3.0.0-beta.2",
+    ),
+    (
+        "why c@0.1 < a b|b|c",
+        "refused: nothing that is kept needs `c@0.1`, which means:\n    c@0.1.0",
+    ),
     // none fits, and what comes near; one that isn't kept
     ("why zzz < a b|b", "refused: no package fits `zzz`"),
     (
@@ -89,7 +118,7 @@ fn names(rt: HostRuntime) -> Result<(), Fail> {
 const WORDS: &[Row] = &[
     (
         "",
-        "Which crates a workspace needs, and why\n\nUsage: cargo krates <WORD>\n\nWords:\n  list         The crates that are kept, a line for each\n  tree         What the workspace or a crate needs, as a tree\n  dependents   Which crates need a crate, all the way up\n  why          Why a crate is kept, step by step from the workspace\n  features     Which features of a crate are enabled, each with a reason\n  duplicates   Which names are kept in several versions, and who needs each\n  licences     Under which licences the crates are, and which state none [alias: licenses]\n  uses         Which crates are shipped, and which are for building or development alone\n  diff         What another document keeps that this one doesn't, and the other way round\n  sbom         A bill of materials: CycloneDX 1.5, as JSON\n  graph        The graph that is drawn, number by number, to compare it by a script\n  queries      What each query of the graph answers, to compare it by a script\n  unreachable  Whether it is certain that nothing needs a crate\n  help         Print this message or the help of the given subcommand(s)\n\nOptions:\n  -h, --help     Print help\n  -V, --version  Print version\n\nSPEC names a package as cargo's -p does: serde, serde@1.0.152, or its id.\n`cargo krates WORD --help` lists the options of a word.\n",
+        "Which crates a workspace needs, and why\n\nUsage: cargo krates <WORD>\n\nWords:\n  list         The crates that are kept, a line for each\n  tree         What the workspace or a crate needs, as a tree\n  dependents   Which crates need a crate, all the way up\n  why          Why a crate is kept, step by step from the workspace\n  features     Which features of a crate are enabled, each with a reason\n  duplicates   Which names are kept in several versions, and who needs each\n  licences     Under which licences the crates are, and which state none [alias: licenses]\n  uses         Which crates are shipped, and which are for building or development alone\n  diff         What another document keeps that this one doesn't, and the other way round\n  sbom         A bill of materials: CycloneDX 1.5, as JSON\n  graph        The graph that is drawn, number by number, to compare it by a script\n  queries      What each query of the graph answers, to compare it by a script\n  unreachable  Whether it is certain that nothing needs a crate\n  certify      A certificate, as JSON, that someone else can check against the document\n  help         Print this message or the help of the given subcommand(s)\n\nOptions:\n  -h, --help     Print help\n  -V, --version  Print version\n\nSPEC names a package as cargo's -p does: serde, serde@1.0.152, or its id.\n`cargo krates WORD --help` lists the options of a word.\n",
     ),
     (
         "lst",
@@ -110,6 +139,18 @@ const WORDS: &[Row] = &[
     (
         "list --exclude a@",
         "error: invalid value 'a@' for '--exclude <SPEC>': package spec cannot end with ':'\n\nFor more information, try '--help'.\n",
+    ),
+    (
+        "certify",
+        "error: <SPEC> or '--all' is missing\n\nFor more information, try '--help'.\n",
+    ),
+    (
+        "certify a --all",
+        "error: <SPEC> can't stand beside '--all'\n\nFor more information, try '--help'.\n",
+    ),
+    (
+        "list --package w/b",
+        "error: invalid value 'w/b' for '--package <PATH>': it has to be an absolute path\n\nFor more information, try '--help'.\n",
     ),
     (
         "list --ignore-kind test",

@@ -1,0 +1,12 @@
+pub mod Difference
+pub mod Duplicates
+pub mod Fitting
+pub mod Grouped
+pub mod Labelled
+pub mod Licences
+pub mod Links
+pub mod Materials
+pub mod Those
+pub mod Tree
+pub mod Unreachable
+pub mod Uses

@@ -1,0 +1,18 @@
+//! The answers to what is asked of a graph of crates, as values, each by its definition: who needs what, trees, duplicates, licences, uses,
+//! differences, materials, and what can't be reached.
+#![tactic(auto)]
+
+pub mod changed;
+pub mod difference;
+pub mod duplicates;
+pub mod fitting;
+mod grouped;
+mod labelled;
+pub mod licences;
+pub mod links;
+pub mod materials;
+pub mod naming;
+mod pushing;
+pub mod tree;
+pub mod unreachable;
+pub mod uses;

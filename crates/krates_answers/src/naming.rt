@@ -1,0 +1,413 @@
+//! Which crate a word means.
+
+use crate::fitting::fitting;
+use krates::semver::VersionReq;
+use krates::{Error, IdError, Kid, KrateMatch, Krates, Package, PackageId, PkgSpec};
+use std::alloc::{AllocError, AllocFailed, Global};
+use std::fmt;
+use strsim::osa_distance;
+
+/// How many names that come near are told.
+const NEAR: usize = 5;
+
+/// Why a word doesn't mean one kept crate.
+#[derive(Debug, Drop)]
+pub enum NamingError {
+    /// The word is no package specification, for this reason.
+    Unread {
+        /// The word.
+        word: String,
+        /// What is wrong.
+        what: String,
+    },
+    /// No package of the document fits.
+    Unknown {
+        /// The word.
+        word: String,
+        /// What comes near, as specifications.
+        near: Vec<String>,
+    },
+    /// Packages of the document fit, and none of them is kept.
+    NotKept {
+        /// The word.
+        word: String,
+        /// The packages, as specifications.
+        packages: Vec<String>,
+    },
+    /// Several kept crates fit.
+    Several {
+        /// The word.
+        word: String,
+        /// Each of them, as a specification that fits no other.
+        specs: Vec<String>,
+    },
+    /// Memory ran out.
+    Memory,
+}
+
+impl From<AllocError> for NamingError {
+    fn from(_: AllocError) -> NamingError {
+        NamingError::Memory
+    }
+}
+
+impl<T: Drop> From<AllocFailed<T>> for NamingError {
+    fn from(_: AllocFailed<T>) -> NamingError {
+        NamingError::Memory
+    }
+}
+
+/// Writes each of these below the line.
+fn write_each<W: fmt::Write>(f: &mut fmt::Formatter<W>, texts: &[String]) -> fmt::Result {
+    for text in texts {
+        write!(f, "\n    {text}")?;
+    }
+    Ok(())
+}
+
+impl fmt::Display for NamingError {
+    fn fmt<W: fmt::Write>(&self, f: &mut fmt::Formatter<W>) -> fmt::Result {
+        match self {
+            NamingError::Unread { word, what } => write!(
+                f,
+                "`{word}` names no package: {what}\nwrite NAME, NAME@VERSION, or an id as cargo prints it"
+            ),
+            NamingError::Unknown { word, near } if near.is_empty() => {
+                write!(f, "no package fits `{word}`")
+            }
+            NamingError::Unknown { word, near } => {
+                write!(f, "no package fits `{word}`; these come near:")?;
+                write_each(f, near)
+            }
+            NamingError::NotKept { word, packages } => {
+                write!(f, "nothing that is kept needs `{word}`, which means:")?;
+                write_each(f, packages)
+            }
+            NamingError::Several { word, specs } => {
+                write!(f, "`{word}` fits several packages; name one of them:")?;
+                write_each(f, specs)
+            }
+            NamingError::Memory => f.write_str("out of memory"),
+        }
+    }
+}
+
+/// The packages of a document: those that are kept, and the others.
+#[derive(Clone, Copy)]
+pub struct Packages<'a> {
+    /// The graph of those that are kept.
+    pub krates: &'a Krates,
+    /// The others.
+    pub others: &'a [Package],
+}
+
+/// The id that a word is, as cargo prints it, if it is one.
+fn id_of(alloc: Global, word: &str) -> Result<Option<Kid>, AllocError> {
+    let repr = String::from_str(alloc, word)?;
+    match Kid::try_from(PackageId { repr }) {
+        Ok(kid) => Ok(Some(kid)),
+        Err(IdError::Memory(_)) => Err(AllocError),
+        Err(_) => Ok(None),
+    }
+}
+
+/// What a word means: a package specification, and the first numbers of the version where the word has no more of it.
+#[derive(Drop)]
+struct Wanted {
+    spec: PkgSpec,
+    numbers: Option<VersionReq>,
+}
+
+impl Wanted {
+    /// Whether a package has the version, as far as the word has it apart from the specification. First numbers fit no pre-release,
+    /// which has to be named whole.
+    fn has_version_of(&self, pkg: &Package) -> bool {
+        match &self.numbers {
+            Some(numbers) => numbers.matches(&pkg.version),
+            None => true,
+        }
+    }
+}
+
+/// A word that ends in the first one or two numbers of a version, without them, and these.
+fn without_numbers(word: &str) -> Option<(&str, &str)> {
+    let rest = word.trim_end_matches(|c: char| c.is_ascii_digit() || c == '.');
+    let numbers = word.strip_prefix(rest)?;
+    match rest.strip_suffix('@') {
+        Some(named) => Some((named, numbers)),
+        None => Some((rest.strip_suffix(':')?, numbers)),
+    }
+}
+
+/// What a word means whose version lacks its last numbers, if it is one: they are required to be these.
+fn wanted_by_numbers(alloc: Global, word: &str) -> Result<Option<Wanted>, AllocError> {
+    let Some((named, numbers)) = without_numbers(word) else {
+        return Ok(None);
+    };
+    let required = format!(in alloc; "={numbers}")?;
+    match (
+        PkgSpec::from_str(alloc, named),
+        VersionReq::parse(alloc, required.as_str()),
+    ) {
+        (Ok(spec), Ok(numbers)) => Ok(Some(Wanted {
+            spec,
+            numbers: Some(numbers),
+        })),
+        _ => Ok(None),
+    }
+}
+
+/// What a word means, as cargo's `--package` takes it.
+fn wanted_of(alloc: Global, word: &str) -> Result<Wanted, NamingError> {
+    let what = match PkgSpec::from_str(alloc, word) {
+        Ok(spec) => {
+            return Ok(Wanted {
+                spec,
+                numbers: None,
+            });
+        }
+        Err(Error::InvalidPkgSpec(what)) => what,
+        Err(_) => return Err(NamingError::Memory),
+    };
+    match wanted_by_numbers(alloc, word)? {
+        Some(wanted) => Ok(wanted),
+        None => Err(NamingError::Unread {
+            word: String::from_str(alloc, word)?,
+            what: String::from_str(alloc, what)?,
+        }),
+    }
+}
+
+/// `NAME@VERSION` of a package, which is a specification that fits it.
+fn spec_text(alloc: Global, pkg: &Package) -> Result<String, AllocError> {
+    format!(in alloc; "{}@{}", pkg.name, pkg.version)
+}
+
+/// Adds that of each of these.
+fn push_specs(
+    alloc: Global,
+    packages: &[&Package],
+    specs: &mut Vec<String>,
+) -> Result<(), AllocError> {
+    for pkg in packages {
+        specs.push(spec_text(alloc, pkg)?)?;
+    }
+    Ok(())
+}
+
+/// For each of these what names it alone: its name and version, or its id where another has both too.
+fn texts_of(alloc: Global, found: &[KrateMatch<'_, Package>]) -> Result<Vec<String>, AllocError> {
+    let mut texts = Vec::new(alloc);
+    for one in found {
+        let alike = found
+            .iter()
+            .filter(|other| {
+                other.krate.name == one.krate.name && other.krate.version == one.krate.version
+            })
+            .count();
+        if alike > 1 {
+            texts.push(one.krate.id.repr.clone()?)?;
+        } else {
+            texts.push(spec_text(alloc, one.krate)?)?;
+        }
+    }
+    Ok(texts)
+}
+
+/// A package that a word means.
+#[derive(Drop)]
+pub enum Meant<'a> {
+    /// It is kept.
+    Kept(KrateMatch<'a, Package>),
+    /// It isn't.
+    Other(&'a Package),
+}
+
+/// The kept crate of an id.
+fn krate_of<'a>(krates: &'a Krates, kid: &Kid) -> Option<KrateMatch<'a, Package>> {
+    for found in krates.krate_nodes() {
+        if found.kid == kid {
+            return Some(found);
+        }
+    }
+    None
+}
+
+/// The package of an id among these.
+fn package_of<'a>(packages: &'a [Package], kid: &Kid) -> Result<Option<&'a Package>, AllocError> {
+    for pkg in packages {
+        if let Ok(own) = Kid::try_from(pkg.id.clone()?) {
+            if own == *kid {
+                return Ok(Some(pkg));
+            }
+        }
+    }
+    Ok(None)
+}
+
+/// That a word means these packages, of which none is kept.
+fn not_kept(alloc: Global, word: &str, others: &[&Package]) -> Result<NamingError, AllocError> {
+    let mut packages = Vec::new(alloc);
+    push_specs(alloc, others, &mut packages)?;
+    let word = String::from_str(alloc, word)?;
+    Ok(NamingError::NotKept { word, packages })
+}
+
+/// That a word fits all of these.
+fn several(alloc: Global, word: &str, specs: Vec<String>) -> Result<NamingError, AllocError> {
+    let word = String::from_str(alloc, word)?;
+    Ok(NamingError::Several { word, specs })
+}
+
+impl<'a> Packages<'a> {
+    /// The one kept crate that a word means: by an id as cargo prints it, or else by a package specification as cargo's `--package`
+    /// takes it (Cargo Book, "Package ID Specifications"), which has to fit one kept crate alone. Its version may lack its last
+    /// numbers, as `rand@0.8`. Time O(n) for n packages; where none fits, their names are compared with the word's.
+    pub fn one(&self, alloc: Global, word: &str) -> Result<KrateMatch<'a, Package>, NamingError> {
+        match self.by_id(alloc, word)? {
+            Some(Meant::Kept(krate)) => Ok(krate),
+            Some(Meant::Other(pkg)) => Err(not_kept(alloc, word, &[pkg])?),
+            None => self.one_fitting(alloc, word),
+        }
+    }
+
+    /// The one package of the document that a word means, kept or not, as `one` takes words.
+    pub fn any(&self, alloc: Global, word: &str) -> Result<Meant<'a>, NamingError> {
+        match self.by_id(alloc, word)? {
+            Some(meant) => Ok(meant),
+            None => self.any_fitting(alloc, word),
+        }
+    }
+
+    /// The package whose id a word is, if it is one.
+    fn by_id(&self, alloc: Global, word: &str) -> Result<Option<Meant<'a>>, NamingError> {
+        let Some(kid) = id_of(alloc, word)? else {
+            return Ok(None);
+        };
+        if let Some(krate) = krate_of(self.krates, &kid) {
+            return Ok(Some(Meant::Kept(krate)));
+        }
+        match package_of(self.others, &kid)? {
+            Some(pkg) => Ok(Some(Meant::Other(pkg))),
+            None => Ok(None),
+        }
+    }
+
+    /// The one kept crate that a word fits.
+    fn one_fitting(
+        &self,
+        alloc: Global,
+        word: &str,
+    ) -> Result<KrateMatch<'a, Package>, NamingError> {
+        let wanted = wanted_of(alloc, word)?;
+        let mut kept = self.kept_fitting(alloc, &wanted)?;
+        if kept.len() > 1 {
+            return Err(several(alloc, word, texts_of(alloc, &kept)?)?);
+        }
+        match kept.pop() {
+            Some(one) => Ok(one),
+            None => Err(self.none(alloc, word, &wanted)?),
+        }
+    }
+
+    /// The one package of the document that a word fits.
+    fn any_fitting(&self, alloc: Global, word: &str) -> Result<Meant<'a>, NamingError> {
+        let wanted = wanted_of(alloc, word)?;
+        let mut kept = self.kept_fitting(alloc, &wanted)?;
+        let mut others = self.others_fitting(alloc, &wanted)?;
+        if kept.len().saturating_add(others.len()) > 1 {
+            let mut specs = texts_of(alloc, &kept)?;
+            push_specs(alloc, &others, &mut specs)?;
+            return Err(several(alloc, word, specs)?);
+        }
+        match (kept.pop(), others.pop()) {
+            (Some(krate), _) => Ok(Meant::Kept(krate)),
+            (None, Some(pkg)) => Ok(Meant::Other(pkg)),
+            (None, None) => Err(self.none(alloc, word, &wanted)?),
+        }
+    }
+
+    /// Why no kept crate fits.
+    fn none(&self, alloc: Global, word: &str, wanted: &Wanted) -> Result<NamingError, AllocError> {
+        let others = self.others_fitting(alloc, wanted)?;
+        if others.is_empty() {
+            let near = self.near(alloc, &wanted.spec)?;
+            let word = String::from_str(alloc, word)?;
+            return Ok(NamingError::Unknown { word, near });
+        }
+        not_kept(alloc, word, &others)
+    }
+
+    /// The kept crates that are wanted.
+    fn kept_fitting(
+        &self,
+        alloc: Global,
+        wanted: &Wanted,
+    ) -> Result<Vec<KrateMatch<'a, Package>>, AllocError> {
+        let mut kept = fitting(alloc, self.krates, &wanted.spec)?;
+        kept.retain(|found| wanted.has_version_of(found.krate));
+        Ok(kept)
+    }
+
+    /// The packages that aren't kept and that are wanted.
+    fn others_fitting(
+        &self,
+        alloc: Global,
+        wanted: &Wanted,
+    ) -> Result<Vec<&'a Package>, AllocError> {
+        let mut others = Vec::new(alloc);
+        for pkg in self.others {
+            if wanted.spec.matches(pkg) && wanted.has_version_of(pkg) {
+                others.push(pkg)?;
+            }
+        }
+        Ok(others)
+    }
+
+    /// What comes near a specification: packages of its name, or else with a name like it; a few, kept ones first.
+    fn near(&self, alloc: Global, spec: &PkgSpec) -> Result<Vec<String>, AllocError> {
+        let named = self.specs_near(alloc, spec.name.as_str(), Likeness::Same)?;
+        if named.is_empty() {
+            self.specs_near(alloc, spec.name.as_str(), Likeness::Near)
+        } else {
+            Ok(named)
+        }
+    }
+
+    /// A few packages whose names are so like this one, kept ones first, as specifications.
+    fn specs_near(
+        &self,
+        alloc: Global,
+        name: &str,
+        likeness: Likeness,
+    ) -> Result<Vec<String>, AllocError> {
+        let mut texts = Vec::new(alloc);
+        for pkg in self.krates.krates().chain(self.others) {
+            if texts.len() < NEAR && likeness.holds(alloc, pkg.name.as_str(), name)? {
+                texts.push(spec_text(alloc, pkg)?)?;
+            }
+        }
+        Ok(texts)
+    }
+}
+
+/// How like two names are.
+#[derive(Clone, Copy)]
+enum Likeness {
+    /// They are equal.
+    Same,
+    /// The one has the other in it, or they differ by no more than one letter in three.
+    Near,
+}
+
+impl Likeness {
+    /// Whether a name is so like a word.
+    fn holds(self, alloc: Global, name: &str, word: &str) -> Result<bool, AllocError> {
+        match self {
+            Likeness::Same => Ok(name == word),
+            Likeness::Near if word.is_empty() => Ok(false),
+            Likeness::Near if name.contains(word) => Ok(true),
+            Likeness::Near => Ok(osa_distance(alloc, name, word)? <= word.len() / 3),
+        }
+    }
+}

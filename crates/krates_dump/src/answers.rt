@@ -1,0 +1,156 @@
+//! What the queries of a graph answer, a line for each item, with what was asked before it: of the whole graph, and of each node.
+
+use crate::drawing::{push_edge, push_node};
+use crate::lines::push_line;
+use crate::lookups::{push_features, push_ids, push_names};
+use krates::{DepKind, Krates, NodeId, PackageId};
+use std::alloc::{AllocError, Global};
+
+/// Adds `dependent N SOURCE EDGE ID` for each crate that depends directly on a node.
+fn push_dependents(lines: &mut String, krates: &Krates, node: NodeId) -> Result<(), AllocError> {
+    let number = node.index();
+    for found in &krates.direct_dependents(node)? {
+        let numbers = [number, found.node_id.index(), found.edge_id.index()];
+        push_line(lines, "dependent", &numbers, &found.krate.id)?;
+    }
+    Ok(())
+}
+
+/// Adds `dependency N TARGET EDGE ID` for each crate on which a crate depends directly.
+fn push_dependencies(lines: &mut String, krates: &Krates, node: NodeId) -> Result<(), AllocError> {
+    let number = node.index();
+    if number >= krates.graph().node_count() {
+        return Ok(());
+    }
+    for found in &krates.direct_dependencies(node)? {
+        let numbers = [number, found.node_id.index(), found.edge_id.index()];
+        push_line(lines, "dependency", &numbers, &found.krate.id)?;
+    }
+    Ok(())
+}
+
+/// Adds `leads N EDGE` and `to N NODE` for each edge of a node.
+fn push_deps(lines: &mut String, krates: &Krates, node: NodeId) -> Result<(), AllocError> {
+    let (number, nodes) = ([node.index()], krates.graph().raw_nodes());
+    for (end, edge) in krates.get_deps(node) {
+        push_edge(lines, "leads", &number, edge)?;
+        push_node(lines, "to", &number, nodes, end)?;
+    }
+    Ok(())
+}
+
+/// Adds `above N SOURCE ID` for each crate from which a path leads to a node, and `reached N` where one leads from the first node.
+fn push_above(lines: &mut String, krates: &Krates, node: NodeId) -> Result<(), AllocError> {
+    let number = node.index();
+    for found in &krates.all_dependents(node)? {
+        push_line(
+            lines,
+            "above",
+            &[number, found.node_id.index()],
+            &found.krate.id,
+        )?;
+    }
+    if krates.reaches(NodeId::new(0), node)? {
+        writeln!(lines, "reached {number}")?;
+    }
+    Ok(())
+}
+
+/// How many places are asked of a crate: all that a dependency is declared at, and one more.
+fn places_of(krates: &Krates, number: usize) -> usize {
+    if number < krates.len() {
+        krates[number].dependencies.len().saturating_add(1)
+    } else {
+        1
+    }
+}
+
+/// Adds `resolved N PLACE ID` for each place of a node whose declared dependency means a crate.
+fn push_resolved(lines: &mut String, krates: &Krates, node: NodeId) -> Result<(), AllocError> {
+    let number = node.index();
+    for place in 0..places_of(krates, number) {
+        if let Some(krate) = krates.resolved_dependency(node, place) {
+            push_line(lines, "resolved", &[number, place], &krate.id)?;
+        }
+    }
+    Ok(())
+}
+
+/// Adds what is answered of each node, and of the number behind the last.
+fn push_nodes(lines: &mut String, krates: &Krates) -> Result<(), AllocError> {
+    for number in 0..=krates.graph().node_count() {
+        let node = NodeId::new(number as u32);
+        push_dependents(lines, krates, node)?;
+        push_above(lines, krates, node)?;
+        push_dependencies(lines, krates, node)?;
+        push_deps(lines, krates, node)?;
+        push_resolved(lines, krates, node)?;
+    }
+    Ok(())
+}
+
+/// Adds a line of words and an id for each crate that members reach without edges of a kind.
+fn push_filtered(
+    lines: &mut String,
+    krates: &Krates,
+    kind: DepKind,
+    words: &str,
+) -> Result<(), AllocError> {
+    for krate in &krates.krates_filtered(kind)? {
+        push_line(lines, words, &[], &krate.id)?;
+    }
+    Ok(())
+}
+
+/// Adds `member NODE` for each kept member.
+fn push_members(lines: &mut String, krates: &Krates) -> Result<(), AllocError> {
+    let nodes = krates.graph().raw_nodes();
+    for node in krates.workspace_members() {
+        push_node(lines, "member", &[], nodes, node)?;
+    }
+    Ok(())
+}
+
+/// Adds `krate ID` for each kept crate, in order.
+fn push_krates(lines: &mut String, krates: &Krates) -> Result<(), AllocError> {
+    for krate in krates.krates() {
+        push_line(lines, "krate", &[], &krate.id)?;
+    }
+    Ok(())
+}
+
+/// Adds `krate N ID ID` for the number of each kept crate, by that number and by that of its node.
+fn push_numbers(lines: &mut String, krates: &Krates) -> Result<(), AllocError> {
+    for found in krates.krate_nodes() {
+        let number = found.node_id.index();
+        let (id, of_node) = (&krates[number].id, &krates[found.node_id].id);
+        writeln!(lines, "krate {number} {} {}", id.repr, of_node.repr)?;
+    }
+    Ok(())
+}
+
+/// Adds what is answered of the whole graph: `len N`, `root PATH`, the members and the crates.
+fn push_whole(lines: &mut String, krates: &Krates) -> Result<(), AllocError> {
+    let (count, root) = (krates.len(), krates.workspace_root());
+    writeln!(lines, "len {count}\nroot {root}")?;
+    push_members(lines, krates)?;
+    push_krates(lines, krates)?;
+    push_numbers(lines, krates)
+}
+
+/// Adds what all queries answer, where the packages of the document have these ids.
+pub fn push_answers(
+    alloc: Global,
+    lines: &mut String,
+    krates: &Krates,
+    ids: &[PackageId],
+) -> Result<(), AllocError> {
+    push_whole(lines, krates)?;
+    push_nodes(lines, krates)?;
+    push_filtered(lines, krates, DepKind::Normal, "filtered normal")?;
+    push_filtered(lines, krates, DepKind::Build, "filtered build")?;
+    push_filtered(lines, krates, DepKind::Dev, "filtered dev")?;
+    push_ids(lines, krates, ids)?;
+    push_features(lines, krates)?;
+    push_names(alloc, lines, krates)
+}

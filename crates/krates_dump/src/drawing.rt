@@ -1,0 +1,110 @@
+//! The lines of a graph: `node N crate ID`, `node N feature ID/NAME`, `map CRATE PLACE CRATE` for each place of a mapping that names
+//! a crate, and `edge N SOURCE TARGET` with what the edge is: `dep` or `depfeature`, its kind and its target or `-`, or `feature`.
+
+use crate::lines::push_start;
+use krates::graph::{Graph, GraphEdge};
+use krates::{DepKind, Edge, Node, NodeId, Package};
+use std::alloc::AllocError;
+
+/// The id of the crate of a number, as the document writes it.
+fn id_at(nodes: &[Node<Package>], number: NodeId) -> &str {
+    match nodes.get(number.index()) {
+        Some(Node::Krate { krate, .. }) => krate.id.repr.as_str(),
+        _ => "",
+    }
+}
+
+/// Adds a line of a word, numbers and what a node is.
+pub(crate) fn push_node(
+    lines: &mut String,
+    word: &str,
+    numbers: &[usize],
+    nodes: &[Node<Package>],
+    node: &Node<Package>,
+) -> Result<(), AllocError> {
+    push_start(lines, word, numbers)?;
+    match node {
+        Node::Krate { krate, .. } => writeln!(lines, " crate {}", krate.id.repr),
+        Node::Feature { krate_index, name } => {
+            writeln!(lines, " feature {}/{name}", id_at(nodes, *krate_index))
+        }
+    }
+}
+
+/// The name of a kind.
+fn kind_name(kind: DepKind) -> &'static str {
+    match kind {
+        DepKind::Normal => "normal",
+        DepKind::Build => "build",
+        DepKind::Dev => "dev",
+    }
+}
+
+/// Adds a line of a word, numbers and what an edge is.
+pub(crate) fn push_edge(
+    lines: &mut String,
+    word: &str,
+    numbers: &[usize],
+    edge: &Edge,
+) -> Result<(), AllocError> {
+    push_start(lines, word, numbers)?;
+    let (mark, kind, cfg) = match edge {
+        Edge::Dep { kind, cfg } => ("dep", *kind, cfg),
+        Edge::DepFeature { kind, cfg } => ("depfeature", *kind, cfg),
+        Edge::Feature => return lines.push_str(" feature\n"),
+    };
+    let cfg = match cfg {
+        Some(cfg) => cfg.as_str(),
+        None => "-",
+    };
+    writeln!(lines, " {mark} {} {cfg}", kind_name(kind))
+}
+
+/// Adds the nodes.
+fn push_nodes(lines: &mut String, nodes: &[Node<Package>]) -> Result<(), AllocError> {
+    for (number, node) in nodes.iter().enumerate() {
+        push_node(lines, "node", &[number], nodes, node)?;
+    }
+    Ok(())
+}
+
+/// Adds a line for each crate that the mapping of a node names: a feature has none.
+fn push_mapping(lines: &mut String, number: usize, node: &Node<Package>) -> Result<(), AllocError> {
+    let Node::Krate { dep_mapping, .. } = node else {
+        return Ok(());
+    };
+    for (place, entry) in dep_mapping.iter().enumerate() {
+        if let Some(krate) = entry {
+            push_start(lines, "map", &[number, place, krate.index()])?;
+            lines.push_str("\n")?;
+        }
+    }
+    Ok(())
+}
+
+/// Adds the mappings.
+fn push_mappings(lines: &mut String, nodes: &[Node<Package>]) -> Result<(), AllocError> {
+    for (number, node) in nodes.iter().enumerate() {
+        push_mapping(lines, number, node)?;
+    }
+    Ok(())
+}
+
+/// Adds the edges.
+fn push_edges(lines: &mut String, edges: &[GraphEdge<Edge>]) -> Result<(), AllocError> {
+    for (number, edge) in edges.iter().enumerate() {
+        let numbers = [number, edge.source.index(), edge.target.index()];
+        push_edge(lines, "edge", &numbers, &edge.weight)?;
+    }
+    Ok(())
+}
+
+/// Adds the lines of a graph.
+pub fn push_graph(
+    lines: &mut String,
+    graph: &Graph<Node<Package>, Edge>,
+) -> Result<(), AllocError> {
+    push_nodes(lines, graph.raw_nodes())?;
+    push_mappings(lines, graph.raw_nodes())?;
+    push_edges(lines, graph.raw_edges())
+}

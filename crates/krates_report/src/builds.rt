@@ -1,0 +1,43 @@
+//! The builds of which answers are made.
+
+ghost use Rattle.std.specs.Prelude.{IfOk};
+ghost use Rattle.krates_cm.specs.Document.{metadata_view};
+ghost use Rattle.krates_report.specs.Builds.{AreBuildsOf, IsBuildOf};
+
+use crate::refusal::Refusal;
+use krates::{Builder, DepKind, Krates, Metadata, NoneFilter};
+use krates_answers::uses::Builds;
+use krates_words::Choice;
+use std::alloc::Global;
+
+/// The graph of a document under a choice, where dependencies of these kinds are ignored too. It is refused as `Build` where the
+/// document can't be built; it may instead return `Memory`. Time: that of `build_with_metadata`.
+pub fn built(
+    alloc: Global,
+    choice: &Choice,
+    also_ignored: &[DepKind],
+    metadata: Metadata,
+) -> Result<Krates, Refusal>
+    ensures { IfOk result (IsBuildOf (metadata_view metadata) choice.now also_ignored.now) }
+{
+    let mut builder = Builder::new(alloc);
+    choice.apply_to(alloc, also_ignored, &mut builder)?;
+    let krates: Krates = builder.build_with_metadata(metadata, &mut NoneFilter)?;
+    Ok(krates)
+}
+
+/// The three builds of a document by which it is known what crates are used for. It is refused as `built` is.
+pub fn builds(alloc: Global, choice: &Choice, metadata: Metadata) -> Result<Builds, Refusal>
+    ensures { IfOk result (AreBuildsOf (metadata_view metadata) choice.now) }
+{
+    let first = metadata.clone()?;
+    let second = metadata.clone()?;
+    let all = built(alloc, choice, &[], metadata)?;
+    let without_dev = built(alloc, choice, &[DepKind::Dev], first)?;
+    let shipped = built(alloc, choice, &[DepKind::Dev, DepKind::Build], second)?;
+    Ok(Builds {
+        all,
+        without_dev,
+        shipped,
+    })
+}

@@ -1,0 +1,2 @@
+pub mod IgnoresTooLemmas
+pub mod ManifestLemmas

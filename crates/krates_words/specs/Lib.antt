@@ -1,0 +1,2 @@
+pub mod CargoWords
+pub mod Choice

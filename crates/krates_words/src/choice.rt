@@ -1,0 +1,162 @@
+//! Which part of a document counts.
+
+ghost use Rattle.std.specs.Prelude.{◌≡◌, IfOk, OnOk, map, string_bytes};
+ghost use Rattle.krates.specs.BuilderModel.{ignoring};
+ghost use Rattle.krates_rules.specs.PlainSetting.{plain_setting};
+ghost use Rattle.krates_text.specs.AskedTargets.{asked_of};
+ghost use Rattle.krates_words.specs.Choice.{IgnoresToo, IsSettingOf};
+
+use crate::edges::name_of;
+use krates::target::Target;
+use krates::{Builder, DepKind, PkgSpec, Scope};
+use std::alloc::{AllocError, Global};
+use std::fmt::Display;
+
+/// Which part of a document counts.
+#[derive(Debug, Drop)]
+pub struct Choice {
+    /// Whether every member of the workspace is a root, also where the graph has a root of its own: `--workspace`.
+    pub workspace: bool,
+    /// Whether a name in a feature reference means all dependencies that answer to it: `--all-named`.
+    pub all_named: bool,
+    /// The dependencies of these kinds are ignored, whichever crate has them: `--edges` and `--ignore-kind`.
+    pub ignored: Vec<DepKind>,
+    /// The packages that one of these fits are left out: `--exclude`.
+    pub exclusions: Vec<PkgSpec>,
+    /// The directories of the members that are roots, as the document writes them: `--package`. Where none is given, `workspace`
+    /// counts.
+    pub packages: Vec<String>,
+    /// The triples of the targets: `--target`.
+    pub triples: Vec<String>,
+    /// The files that describe the first of these targets, in their order: `--cfg`. There are at most as many as triples.
+    pub cfgs: Vec<String>,
+    /// Whether the host is a target too: `--host`.
+    pub host: bool,
+    /// The targets, each with its features. Words know only their triples; whoever runs rustc or reads its descriptions adds
+    /// them. Where there are none, any target is meant.
+    pub targets: Vec<(Target, Vec<String>)>,
+}
+
+impl Choice {
+    /// Sets what is chosen, where nothing is set yet; dependencies of these kinds are ignored too. The only error is running out
+    /// of memory. Time O(length of what is chosen).
+    ///
+    /// ```text
+    /// let mut builder = Builder::new(alloc);
+    /// choice.apply_to(alloc, &[DepKind::Dev], &mut builder)?;
+    /// ```
+    pub fn apply_to<S: Drop + 'static>(
+        &self,
+        alloc: Global,
+        also_ignored: &[DepKind],
+        builder: &mut Builder<S>,
+    ) -> Result<(), AllocError>
+        requires { builder.old.setting ≡ plain_setting }
+        ensures setting { OnOk result (IsSettingOf self.now also_ignored.now builder.new.setting) }
+        ensures index { OnOk result (builder.new.index ≡ builder.old.index) }
+    {
+        builder.workspace(self.workspace);
+        builder.all_named(self.all_named);
+        ignore_kinds(builder, &self.ignored);
+        ignore_kinds(builder, also_ignored);
+        builder.exclude(self.exclusions.clone()?)?;
+        builder.include_workspace_crates(&paths_of(alloc, &self.packages)?)?;
+        builder.include_targets(copies_of(alloc, &self.targets)?)?;
+        Ok(())
+    }
+}
+
+impl Choice {
+    /// The words that mean this choice, in one order, one for each option. A target is told by its triple, however it was described.
+    /// The only error is running out of memory. Time O(length of what is chosen).
+    pub fn words(&self, alloc: Global) -> Result<Vec<String>, AllocError> {
+        let mut words = Vec::new(alloc);
+        if self.workspace {
+            words.push(String::from_str(alloc, "--workspace")?)?;
+        }
+        if self.all_named {
+            words.push(String::from_str(alloc, "--all-named")?)?;
+        }
+        push_each(alloc, "--package", &self.packages, &mut words)?;
+        push_kinds(alloc, &self.ignored, &mut words)?;
+        push_each(alloc, "--exclude", &self.exclusions, &mut words)?;
+        push_targets(alloc, &self.targets, &mut words)?;
+        Ok(words)
+    }
+}
+
+/// Adds an option for each of these values.
+fn push_each<T: Display>(
+    alloc: Global,
+    option: &str,
+    values: &[T],
+    words: &mut Vec<String>,
+) -> Result<(), AllocError> {
+    for value in values {
+        words.push(format!(in alloc; "{option}={value}")?)?;
+    }
+    Ok(())
+}
+
+/// Adds an option for each kind.
+fn push_kinds(alloc: Global, kinds: &[DepKind], words: &mut Vec<String>) -> Result<(), AllocError> {
+    for kind in kinds {
+        words.push(format!(in alloc; "--ignore-kind={}", name_of(*kind))?)?;
+    }
+    Ok(())
+}
+
+/// Adds an option for each target.
+fn push_targets(
+    alloc: Global,
+    targets: &[(Target, Vec<String>)],
+    words: &mut Vec<String>,
+) -> Result<(), AllocError> {
+    for target in targets {
+        words.push(format!(in alloc; "--target={}", target.0)?)?;
+    }
+    Ok(())
+}
+
+/// Ignores dependencies of these kinds, whichever crate has them.
+fn ignore_kinds<S: Drop + 'static>(builder: &mut Builder<S>, kinds: &[DepKind])
+    ensures ignored { IgnoresToo builder.old.setting.ignored builder.new.setting.ignored kinds.now }
+    ensures rest { builder.new ≡ ignoring builder.old builder.new.setting.ignored }
+{
+    for kind in kinds {
+        builder.ignore_kind(*kind, Scope::All);
+    }
+}
+
+/// The texts, as they are taken.
+fn paths_of(alloc: Global, texts: &[String]) -> Result<Vec<&str>, AllocError>
+    ensures { IfOk result (λ paths. map (λ path. path.now) paths.items ≡ map string_bytes texts.now) }
+{
+    let mut paths = Vec::new(alloc);
+    for text in texts {
+        paths.push(text.as_str())?;
+    }
+    Ok(paths)
+}
+
+/// Copies of targets, each with its features.
+fn copies_of(
+    alloc: Global,
+    targets: &[(Target, Vec<String>)],
+) -> Result<Vec<(Target, Vec<String>)>, AllocError>
+    ensures { IfOk result (λ copies. map asked_of copies.items ≡ map asked_of targets.now) }
+{
+    let mut copies = Vec::new(alloc);
+    for target in targets {
+        copies.push(copy_of(target)?)?;
+    }
+    Ok(copies)
+}
+
+/// A copy of a target with its features.
+#[tactic(auto, using(krates_text::proofs::Copies::texts_copied))]
+fn copy_of(target: &(Target, Vec<String>)) -> Result<(Target, Vec<String>), AllocError>
+    ensures { IfOk result (λ copy. asked_of copy ≡ asked_of target.now) }
+{
+    Ok((target.0.clone()?, target.1.clone()?))
+}

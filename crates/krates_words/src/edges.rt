@@ -1,0 +1,56 @@
+//! Which kinds of dependencies are followed, by `--edges` as `cargo tree` reads it and by `--ignore-kind`.
+
+use crate::error::WordsError;
+use krates::DepKind;
+use std::alloc::{AllocError, Global};
+
+const KINDS: [DepKind; 3] = [DepKind::Normal, DepKind::Build, DepKind::Dev];
+
+/// The kinds that aren't followed.
+pub(crate) fn ignored(
+    alloc: Global,
+    edges: &[&str],
+    ignored: &[&str],
+) -> Result<Vec<DepKind>, AllocError> {
+    let mut kinds = Vec::new(alloc);
+    for kind in &KINDS {
+        let name = name_of(*kind);
+        if !is_followed(edges, name) || ignored.contains(&name) {
+            kinds.push(*kind)?;
+        }
+    }
+    Ok(kinds)
+}
+
+/// How a kind is written.
+pub(crate) fn name_of(kind: DepKind) -> &'static str {
+    match kind {
+        DepKind::Normal => "normal",
+        DepKind::Build => "build",
+        DepKind::Dev => "dev",
+    }
+}
+
+/// Whether the kind of this name is followed.
+fn is_followed(edges: &[&str], name: &str) -> bool {
+    if edges.iter().any(|edge| edge.starts_with("no-")) {
+        !edges
+            .iter()
+            .any(|edge| edge.strip_prefix("no-") == Some(name))
+    } else {
+        edges.is_empty() || edges.iter().any(|edge| *edge == name || *edge == "all")
+    }
+}
+
+/// Kinds that are followed can't stand beside kinds that aren't.
+pub(crate) fn check(alloc: Global, edges: &[&str]) -> Result<(), WordsError> {
+    let left_out = edges.iter().find(|edge| edge.starts_with("no-"));
+    let followed = edges.iter().find(|edge| !edge.starts_with("no-"));
+    match (left_out, followed) {
+        (Some(left_out), Some(followed)) => Err(WordsError::wrong(
+            alloc,
+            format_args!("'{followed}' can't stand beside '{left_out}' in '--edges <KINDS>'"),
+        )),
+        _ => Ok(()),
+    }
+}

@@ -1,0 +1,67 @@
+//! Why words ask for nothing that is answered.
+
+use clap::error::ErrorKind;
+use std::alloc::{AllocError, AllocFailed, Global};
+use std::fmt;
+
+/// Why words ask for nothing that is answered.
+#[derive(Debug, Drop)]
+pub enum WordsError {
+    /// They ask for help or the version, which is this text.
+    Asked(String),
+    /// They are wrong, as this text says.
+    Wrong(String),
+    /// Memory ran out.
+    Memory,
+}
+
+impl WordsError {
+    /// The refusal of clap.
+    pub(crate) fn by_clap(alloc: Global, error: &clap::Error) -> WordsError {
+        match error.to_string(alloc) {
+            Ok(text) => WordsError::of_kind(error.kind(), text),
+            Err(_) => WordsError::Memory,
+        }
+    }
+
+    /// The refusal of this kind with this text.
+    fn of_kind(kind: ErrorKind, text: String) -> WordsError {
+        match kind {
+            ErrorKind::DisplayHelp | ErrorKind::DisplayVersion => WordsError::Asked(text),
+            ErrorKind::OutOfMemory => WordsError::Memory,
+            _ => WordsError::Wrong(text),
+        }
+    }
+
+    /// The words are wrong for this reason.
+    pub(crate) fn wrong(alloc: Global, reason: impl fmt::Display + Drop) -> WordsError {
+        match format!(in alloc; "error: {reason}\n\nFor more information, try '--help'.\n") {
+            Ok(text) => WordsError::Wrong(text),
+            Err(_) => WordsError::Memory,
+        }
+    }
+}
+
+/// The text.
+impl fmt::Display for WordsError {
+    fn fmt<W: fmt::Write>(&self, f: &mut fmt::Formatter<W>) -> fmt::Result {
+        match self {
+            WordsError::Asked(text) | WordsError::Wrong(text) => f.write_str(text.as_str()),
+            WordsError::Memory => f.write_str("error: out of memory\n"),
+        }
+    }
+}
+
+impl std::error::Error for WordsError {}
+
+impl From<AllocError> for WordsError {
+    fn from(_error: AllocError) -> WordsError {
+        WordsError::Memory
+    }
+}
+
+impl<T: Drop> From<AllocFailed<T>> for WordsError {
+    fn from(_error: AllocFailed<T>) -> WordsError {
+        WordsError::Memory
+    }
+}

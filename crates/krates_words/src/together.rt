@@ -1,0 +1,78 @@
+//! What can't go together in words, and what no option can mean.
+
+use crate::edges;
+use crate::error::WordsError;
+use crate::values::values;
+use clap::ArgMatches;
+use krates::path::ends_with;
+use std::alloc::Global;
+
+/// What can't go together is refused, and what no option can mean.
+pub(crate) fn check(alloc: Global, found: &ArgMatches<'_>) -> Result<(), WordsError> {
+    edges::check(alloc, values(found, "edges"))?;
+    check_descriptions(
+        alloc,
+        values(found, "target").len(),
+        values(found, "cfg").len(),
+    )?;
+    check_manifest(alloc, found.get_str("manifest-path"))?;
+    check_packages(alloc, values(found, "package"))?;
+    check_documents(alloc, found.get_str("metadata"), found.get_str("FILE"))
+}
+
+/// Each description is that of a target.
+fn check_descriptions(alloc: Global, targets: usize, cfgs: usize) -> Result<(), WordsError> {
+    if cfgs > targets {
+        return Err(WordsError::wrong(
+            alloc,
+            "'--cfg <FILE>' stands more often than '--target <TRIPLE>': each file describes the target in its place",
+        ));
+    }
+    Ok(())
+}
+
+/// The path of a manifest ends in `Cargo.toml`, since cargo is asked for that file in the folder above its end.
+fn check_manifest(alloc: Global, path: Option<&str>) -> Result<(), WordsError> {
+    match path {
+        Some(path) if !ends_with(path, "Cargo.toml") => Err(WordsError::wrong(
+            alloc,
+            format_args!(
+                "invalid value '{path}' for '--manifest-path <PATH>': it has to end in Cargo.toml"
+            ),
+        )),
+        _ => Ok(()),
+    }
+}
+
+/// The directories of members are absolute, as documents write them.
+fn check_packages(alloc: Global, paths: &[&str]) -> Result<(), WordsError> {
+    match paths.iter().find(|path| !is_absolute(path)) {
+        Some(path) => Err(WordsError::wrong(
+            alloc,
+            format_args!(
+                "invalid value '{path}' for '--package <PATH>': it has to be an absolute path"
+            ),
+        )),
+        None => Ok(()),
+    }
+}
+
+/// Whether a path is absolute, here or on Windows, where it begins with `\\` or a drive's letter and a colon.
+fn is_absolute(path: &str) -> bool {
+    path.starts_with('/') || path.starts_with('\\') || matches!(path.as_bytes(), [_, b':', ..])
+}
+
+/// Standard input is one document.
+fn check_documents(
+    alloc: Global,
+    document: Option<&str>,
+    other: Option<&str>,
+) -> Result<(), WordsError> {
+    if document == Some("-") && other == Some("-") {
+        return Err(WordsError::wrong(
+            alloc,
+            "standard input can't be both documents: one '-' has to be a file",
+        ));
+    }
+    Ok(())
+}
