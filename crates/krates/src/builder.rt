@@ -221,9 +221,23 @@ impl Builder {
         ensures setting { result.setting ≡ plain_setting }
         ensures index { result.index ≡ None }
     {
+        Builder::under(alloc, Setting::new(alloc))
+    }
+
+    /// A builder under this setting, and without an index. Time O(1).
+    ///
+    /// ```text
+    /// let mut setting = Setting::new(alloc);
+    /// setting.exclude(specs)?;
+    /// let builder = Builder::under(alloc, setting);
+    /// ```
+    pub fn under(alloc: Global, setting: Setting) -> Builder
+        ensures setting { result.setting ≡ setting }
+        ensures index { result.index ≡ None }
+    {
         Builder {
             alloc,
-            setting: Setting::new(alloc),
+            setting,
             index: None,
         }
     }

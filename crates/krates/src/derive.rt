@@ -6,14 +6,14 @@
 
 ghost use Rattle.std.specs.Prelude.{IfErr, OnOk};
 ghost use Rattle.krates_cm.specs.Document.{metadata_view};
-ghost use Rattle.krates_check.specs.Refusals.{IsCheckRefused, IsClosedRefused, IsRefusedThrough};
-ghost use Rattle.krates_check.specs.SeenThrough.{SeesThrough, answer_of};
+ghost use Rattle.krates_checkers.specs.Refusals.{IsCheckRefused, IsClosedRefused, IsRefusedThrough};
+ghost use Rattle.krates_checkers.specs.SeenThrough.{SeesThrough, answer_of};
 ghost use Rattle.krates_rules.specs.Checks.{IsAcceptedFor, IsClosedFor};
 ghost use Rattle.krates_rules.specs.StepViews.{facts_view, steps_view};
 
 use crate::builder::Builder;
-pub use krates_check::CheckError;
-use krates_check::checking;
+pub use krates_checkers::CheckError;
+use krates_checkers::checking;
 use krates_cm::Metadata;
 use krates_ids::CachingIndex;
 pub use krates_rules::{Derivation, Fact, Step};

@@ -1,6 +1,6 @@
 -- What a closed list of facts that lacks a crate says of the crate.
 use Rattle.std.proofs.Common.{List, None, subst}
-use Rattle.krates_check.specs.SeenThrough.{SeesThrough}
+use Rattle.krates_checkers.specs.SeenThrough.{SeesThrough}
 use Rattle.krates_cm.specs.Document.{MetadataModel}
 use Rattle.krates_rules.specs.Checks.{AreComplete, IsClosedFor}
 use Rattle.krates_rules.specs.Facts.{Crate, Fact, Id}

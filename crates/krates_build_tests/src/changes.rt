@@ -1,7 +1,7 @@
 //! Lists of steps that are changed step by step: each change leaves a step that doesn't follow, and it is the first.
 
 use crate::lists::{Ask, Given, List, OfLine, Steps, list_in};
-use krates_check::{CheckError, check};
+use krates_checkers::{CheckError, check};
 use krates_document::Setting;
 use krates_rules::Derivation;
 use krates_samples::facts::steps_of;

@@ -2,7 +2,7 @@
 
 use crate::facts::told;
 use crate::lists::{Ask, Checked, Facts, Given, List, OfLine, list_in};
-use krates_check::check_closed;
+use krates_checkers::check_closed;
 use krates_document::Setting;
 use krates_rules::Fact;
 use krates_samples::facts::{facts_of, push_fact};

@@ -1,7 +1,7 @@
 //! Lists of steps: each is accepted as it was written, and refused after one change; and what a refusal prints.
 
 use crate::lists::{Checked, OfLine, Steps};
-use krates_check::CheckError;
+use krates_checkers::CheckError;
 use krates_samples::table::{Question, Row, hold};
 use std::alloc::Global;
 use std::test::Fail;

@@ -4,7 +4,7 @@
 //! ends with the section `steps` or the section `facts`.
 
 use crate::lists::Sections;
-use krates_check::CheckError;
+use krates_checkers::CheckError;
 use krates_document::Setting;
 use krates_ids::Kid;
 use krates_rules::{DepKind, Fact, Scope, Step};

@@ -88,7 +88,7 @@ impl List for Steps {
         let steps = steps_of(given.alloc, text)?;
         told(
             given.alloc,
-            krates_check::check(given.alloc, given.metadata, given.set, index, &steps),
+            krates_checkers::check(given.alloc, given.metadata, given.set, index, &steps),
         )
     }
 
@@ -115,7 +115,7 @@ impl List for Facts {
         let facts = facts_of(given.alloc, text)?;
         told(
             given.alloc,
-            krates_check::check_closed(given.alloc, given.metadata, given.set, index, &facts),
+            krates_checkers::check_closed(given.alloc, given.metadata, given.set, index, &facts),
         )
     }
 

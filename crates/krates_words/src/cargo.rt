@@ -6,8 +6,8 @@ ghost use Rattle.krates_cm.specs.Document.{text_view};
 ghost use Rattle.krates_cm.specs.declared.error.Error.TheVariants.{NoManifestParent};
 ghost use Rattle.krates_words.specs.CargoWords.{asked_of_cargo};
 
-use krates::cm::{Error, MetadataCommand};
-use krates::{Cmd, LockOptions};
+use krates_cargo::{Cmd, LockOptions, MetadataCommand};
+use krates_cm::Error;
 use std::alloc::{AllocError, Global};
 
 /// What cargo is told, where the document comes from it (Cargo Book, "cargo metadata").

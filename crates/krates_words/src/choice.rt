@@ -1,14 +1,14 @@
 //! Which part of a document counts.
 
-ghost use Rattle.std.specs.Prelude.{◌≡◌, IfOk, OnOk, map, string_bytes};
-ghost use Rattle.krates.specs.BuilderModel.{ignoring};
-ghost use Rattle.krates_rules.specs.PlainSetting.{plain_setting};
+ghost use Rattle.std.specs.Prelude.{◌≡◌, IfOk, map, string_bytes};
 ghost use Rattle.krates_text.specs.AskedTargets.{asked_of};
 ghost use Rattle.krates_words.specs.Choice.{IgnoresToo, IsSettingOf};
 
 use crate::edges::name_of;
-use krates::target::Target;
-use krates::{Builder, DepKind, PkgSpec, Scope};
+use krates_document::Setting;
+use krates_ids::PkgSpec;
+use krates_rules::kind::{DepKind, Scope};
+use krates_text::target::Target;
 use std::alloc::{AllocError, Global};
 use std::fmt::Display;
 
@@ -38,35 +38,26 @@ pub struct Choice {
 }
 
 impl Choice {
-    /// Sets what is chosen, where nothing is set yet; dependencies of these kinds are ignored too. The only error is running out
-    /// of memory. Time O(length of what is chosen).
+    /// The setting that is chosen, where dependencies of these kinds are ignored too. The only error is running out of memory.
+    /// Time O(length of what is chosen).
     ///
     /// ```text
-    /// let mut builder = Builder::new(alloc);
-    /// choice.apply_to(alloc, &[DepKind::Dev], &mut builder)?;
+    /// let without_dev = choice.setting(alloc, &[DepKind::Dev])?;
     /// ```
-    pub fn apply_to<S: Drop + 'static>(
-        &self,
-        alloc: Global,
-        also_ignored: &[DepKind],
-        builder: &mut Builder<S>,
-    ) -> Result<(), AllocError>
-        requires { builder.old.setting ≡ plain_setting }
-        ensures setting { OnOk result (IsSettingOf self.now also_ignored.now builder.new.setting) }
-        ensures index { OnOk result (builder.new.index ≡ builder.old.index) }
+    pub fn setting(&self, alloc: Global, also_ignored: &[DepKind]) -> Result<Setting, AllocError>
+        ensures { IfOk result (IsSettingOf self.now also_ignored.now) }
     {
-        builder.workspace(self.workspace);
-        builder.all_named(self.all_named);
-        ignore_kinds(builder, &self.ignored);
-        ignore_kinds(builder, also_ignored);
-        builder.exclude(self.exclusions.clone()?)?;
-        builder.include_workspace_crates(&paths_of(alloc, &self.packages)?)?;
-        builder.include_targets(copies_of(alloc, &self.targets)?)?;
-        Ok(())
+        let mut setting = Setting::new(alloc);
+        setting.workspace(self.workspace);
+        setting.all_named(self.all_named);
+        ignore_kinds(&mut setting, &self.ignored);
+        ignore_kinds(&mut setting, also_ignored);
+        setting.exclude(self.exclusions.clone()?)?;
+        setting.include_workspace_crates(alloc, &paths_of(alloc, &self.packages)?)?;
+        setting.include_targets(copies_of(alloc, &self.targets)?)?;
+        Ok(setting)
     }
-}
 
-impl Choice {
     /// The words that mean this choice, in one order, one for each option. A target is told by its triple, however it was described.
     /// The only error is running out of memory. Time O(length of what is chosen).
     pub fn words(&self, alloc: Global) -> Result<Vec<String>, AllocError> {
@@ -119,12 +110,12 @@ fn push_targets(
 }
 
 /// Ignores dependencies of these kinds, whichever crate has them.
-fn ignore_kinds<S: Drop + 'static>(builder: &mut Builder<S>, kinds: &[DepKind])
-    ensures ignored { IgnoresToo builder.old.setting.ignored builder.new.setting.ignored kinds.now }
-    ensures rest { builder.new ≡ ignoring builder.old builder.new.setting.ignored }
+fn ignore_kinds(setting: &mut Setting, kinds: &[DepKind])
+    ensures ignored { IgnoresToo setting.old.ignored setting.new.ignored kinds.now }
+    ensures rest { setting.new ≡ record setting.old { ignored = setting.new.ignored } }
 {
     for kind in kinds {
-        builder.ignore_kind(*kind, Scope::All);
+        setting.ignore_kind(*kind, Scope::All);
     }
 }
 

@@ -1,7 +1,7 @@
 //! Which kinds of dependencies are followed, by `--edges` as `cargo tree` reads it and by `--ignore-kind`.
 
 use crate::error::WordsError;
-use krates::DepKind;
+use krates_rules::kind::DepKind;
 use std::alloc::{AllocError, Global};
 
 const KINDS: [DepKind; 3] = [DepKind::Normal, DepKind::Build, DepKind::Dev];

@@ -5,7 +5,7 @@ use crate::together::check;
 use crate::values::{required, text, texts, values};
 use crate::{Asked, CargoWords, Choice, Input, Word, edges};
 use clap::ArgMatches;
-use krates::{Error, PkgSpec};
+use krates_ids::{Error, PkgSpec};
 use std::alloc::{AllocError, Global};
 
 /// What is asked for.

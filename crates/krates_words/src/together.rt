@@ -4,7 +4,7 @@ use crate::edges;
 use crate::error::WordsError;
 use crate::values::values;
 use clap::ArgMatches;
-use krates::path::ends_with;
+use krates_text::path::ends_with;
 use std::alloc::Global;
 
 /// What can't go together is refused, and what no option can mean.
