@@ -254,9 +254,25 @@ fn not_kept(alloc: Global, word: &str, others: &[&Package]) -> Result<NamingErro
 }
 
 /// That a word fits all of these.
-fn several(alloc: Global, word: &str, specs: Vec<String>) -> Result<NamingError, AllocError> {
+fn several(
+    alloc: Global,
+    word: &str,
+    kept: &[KrateMatch<'_, Package>],
+    others: &[&Package],
+) -> Result<NamingError, AllocError> {
+    let mut specs = texts_of(alloc, kept)?;
+    push_specs(alloc, others, &mut specs)?;
     let word = String::from_str(alloc, word)?;
     Ok(NamingError::Several { word, specs })
+}
+
+/// What a word means, and the packages that it fits.
+#[derive(Drop)]
+struct Candidates<'a> {
+    wanted: Wanted,
+    kept: Vec<KrateMatch<'a, Package>>,
+    /// Those that aren't kept.
+    others: Vec<&'a Package>,
 }
 
 impl<'a> Packages<'a> {
@@ -299,43 +315,63 @@ impl<'a> Packages<'a> {
         alloc: Global,
         word: &str,
     ) -> Result<KrateMatch<'a, Package>, NamingError> {
-        let wanted = wanted_of(alloc, word)?;
-        let mut kept = self.kept_fitting(alloc, &wanted)?;
-        if kept.len() > 1 {
-            return Err(several(alloc, word, texts_of(alloc, &kept)?)?);
+        let mut found = self.candidates(alloc, word)?;
+        if found.kept.len() > 1 {
+            let refusal = several(alloc, word, &found.kept, &[]);
+            return Err(refusal.unwrap_or(NamingError::Memory));
         }
-        match kept.pop() {
-            Some(one) => Ok(one),
-            None => Err(self.none(alloc, word, &wanted)?),
+        match found.kept.pop() {
+            Some(krate) => Ok(krate),
+            None => Err(self.none(alloc, word, &found)),
         }
     }
 
     /// The one package of the document that a word fits.
     fn any_fitting(&self, alloc: Global, word: &str) -> Result<Meant<'a>, NamingError> {
-        let wanted = wanted_of(alloc, word)?;
-        let mut kept = self.kept_fitting(alloc, &wanted)?;
-        let mut others = self.others_fitting(alloc, &wanted)?;
-        if kept.len().saturating_add(others.len()) > 1 {
-            let mut specs = texts_of(alloc, &kept)?;
-            push_specs(alloc, &others, &mut specs)?;
-            return Err(several(alloc, word, specs)?);
+        let mut found = self.candidates(alloc, word)?;
+        if found.kept.len().saturating_add(found.others.len()) > 1 {
+            let refusal = several(alloc, word, &found.kept, &found.others);
+            return Err(refusal.unwrap_or(NamingError::Memory));
         }
-        match (kept.pop(), others.pop()) {
+        match (found.kept.pop(), found.others.pop()) {
             (Some(krate), _) => Ok(Meant::Kept(krate)),
             (None, Some(pkg)) => Ok(Meant::Other(pkg)),
-            (None, None) => Err(self.none(alloc, word, &wanted)?),
+            (None, None) => Err(self.none(alloc, word, &found)),
         }
     }
 
+    /// What a word means, and the packages that it fits.
+    fn candidates(&self, alloc: Global, word: &str) -> Result<Candidates<'a>, NamingError> {
+        let wanted = wanted_of(alloc, word)?;
+        let kept = self.kept_fitting(alloc, &wanted)?;
+        let others = self.others_fitting(alloc, &wanted)?;
+        Ok(Candidates {
+            wanted,
+            kept,
+            others,
+        })
+    }
+
     /// Why no kept crate fits.
-    fn none(&self, alloc: Global, word: &str, wanted: &Wanted) -> Result<NamingError, AllocError> {
-        let others = self.others_fitting(alloc, wanted)?;
-        if others.is_empty() {
-            let near = self.near(alloc, &wanted.spec)?;
-            let word = String::from_str(alloc, word)?;
-            return Ok(NamingError::Unknown { word, near });
-        }
-        not_kept(alloc, word, &others)
+    fn none(&self, alloc: Global, word: &str, found: &Candidates<'_>) -> NamingError {
+        let refusal = if found.others.is_empty() {
+            self.unknown(alloc, word, &found.wanted.spec)
+        } else {
+            not_kept(alloc, word, &found.others)
+        };
+        refusal.unwrap_or(NamingError::Memory)
+    }
+
+    /// That no package fits a word, with what comes near.
+    fn unknown(
+        &self,
+        alloc: Global,
+        word: &str,
+        spec: &PkgSpec,
+    ) -> Result<NamingError, AllocError> {
+        let near = self.near(alloc, spec)?;
+        let word = String::from_str(alloc, word)?;
+        Ok(NamingError::Unknown { word, near })
     }
 
     /// The kept crates that are wanted.

@@ -1,14 +1,15 @@
 //! The bill of materials as CycloneDX 1.5 (ECMA-424; <https://cyclonedx.org/docs/1.5/json/>).
 
 use crate::crate_name::{directory_of, url_of};
-use crate::krate_json::ids_json;
-use crate::shown::Shown;
+use crate::krate_json::{ids_json, version_json};
+use crate::members::{Members, add, list_of, object_of};
+use crate::shown::{Shown, pretty};
 use krates::Package;
 use krates::cm::{Source, SourceKind, Target, TargetKind};
 use krates_answers::materials::{Material, materials};
 use krates_answers::uses::{Builds, Use};
 use percent_encoding::{AsciiSet, NON_ALPHANUMERIC, utf8_percent_encode};
-use serde_json::{Value, json};
+use serde_json::Value;
 use std::alloc::{AllocError, Global};
 
 /// What a package url escapes: all but letters, digits and `-._~` (purl specification, "Character encoding").
@@ -61,19 +62,24 @@ fn push_source(url: &mut String, source: &Source) -> Result<(), AllocError> {
     }
 }
 
+/// Adds where a package is that isn't from crates.io.
+fn push_place(alloc: Global, krate: &Package, url: &mut String) -> Result<(), AllocError> {
+    match &krate.source {
+        Some(source) if !krate.is_local() => push_source(url, source),
+        _ => {
+            let place = format!(in alloc; "file://{}", directory_of(krate))?;
+            push_qualifier(url, "download_url", place.as_str())
+        }
+    }
+}
+
 /// The package url of a crate (purl specification, type `cargo`): its name and version; where it isn't from crates.io, also the registry,
 /// the git repository, or the directory of this machine, so that it isn't taken for the one of that name on crates.io.
 fn package_url(alloc: Global, krate: &Package) -> Result<String, AllocError> {
     let version = krate.version.to_string(alloc)?;
     let mut url = format!(in alloc; "pkg:cargo/{}@", krate.name)?;
     utf8_percent_encode(version.as_str(), escaped()).append_to(&mut url)?;
-    match &krate.source {
-        Some(source) if !krate.is_local() => push_source(&mut url, source)?,
-        _ => {
-            let place = format!(in alloc; "file://{}", directory_of(krate))?;
-            push_qualifier(&mut url, "download_url", place.as_str())?;
-        }
-    }
+    push_place(alloc, krate, &mut url)?;
     Ok(url)
 }
 
@@ -109,16 +115,35 @@ fn scope_of(usage: Use) -> &'static str {
     }
 }
 
-/// The licences of a crate: its expression, in which an old `/` stands for `OR` (Cargo Book, "The license and license-file fields"), or
-/// else its file.
-fn licences(alloc: Global, krate: &Package) -> Result<Option<Value>, AllocError> {
-    if let Some(expression) = &krate.license {
-        let expression = expression.replace(alloc, "/", " OR ")?;
-        return Ok(Some(json!(in alloc; [{"expression": expression}])?));
-    }
-    match &krate.license_file {
-        Some(file) => Ok(Some(json!(in alloc; [{"license": {"name": file}}])?)),
-        None => Ok(None),
+/// The package url of a crate.
+fn url_json(alloc: Global, krate: &Package) -> Result<Value, AllocError> {
+    Ok(Value::String(package_url(alloc, krate)?))
+}
+
+/// A licence that is an expression, in which an old `/` stands for `OR` (Cargo Book, "The license and license-file fields").
+fn expression_json(alloc: Global, expression: &str) -> Result<Value, AllocError> {
+    let expression = expression.replace(alloc, "/", " OR ")?;
+    object_of(alloc, "expression", Ok(Value::String(expression)))
+}
+
+/// A licence that is a file.
+fn licence_file_json(alloc: Global, file: &str) -> Result<Value, AllocError> {
+    let name = object_of(alloc, "name", Value::try_from_str(alloc, file));
+    object_of(alloc, "license", name)
+}
+
+/// Adds the licences of a crate: its expression, or else its file.
+fn put_licences(alloc: Global, krate: &Package, members: &mut Members) -> Result<(), AllocError> {
+    match (&krate.license, &krate.license_file) {
+        (Some(expression), _) => {
+            let licence = expression_json(alloc, expression.as_str());
+            members.put("licenses", list_of(alloc, licence))
+        }
+        (None, Some(file)) => {
+            let licence = licence_file_json(alloc, file.as_str());
+            members.put("licenses", list_of(alloc, licence))
+        }
+        (None, None) => Ok(()),
     }
 }
 
@@ -127,38 +152,42 @@ impl Bill<'_> {
     fn component(&self, alloc: Global, material: &Material<'_>) -> Result<Value, AllocError> {
         let krate = material.krate.krate;
         let usage = self.builds.use_of(material.krate.kid);
-        let mut component = json!(in alloc; {
-            "type": type_of(krate),
-            "bom-ref": &krate.id.repr,
-            "name": &krate.name,
-            "version": krate.version.to_string(alloc)?,
-            "scope": scope_of(usage),
-            "purl": package_url(alloc, krate)?
-        })?;
-        if let Some(licences) = licences(alloc, krate)? {
-            if let Some(members) = component.as_object_mut() {
-                members.insert(String::from_str(alloc, "licenses")?, licences)?;
-            }
-        }
-        Ok(component)
+        let mut members = Members::new(alloc);
+        members.texts(&[
+            ("type", type_of(krate)),
+            ("bom-ref", krate.id.repr.as_str()),
+            ("name", krate.name.as_str()),
+            ("scope", scope_of(usage)),
+        ])?;
+        members.put("version", version_json(alloc, &krate.version))?;
+        members.put("purl", url_json(alloc, krate))?;
+        put_licences(alloc, krate, &mut members)?;
+        Ok(members.object())
     }
 
     /// The kept crates.
     fn components(&self, alloc: Global) -> Result<Value, AllocError> {
         let mut components = Vec::new(alloc);
         for material in &self.materials {
-            components.push(self.component(alloc, material)?)?;
+            add(&mut components, self.component(alloc, material))?;
         }
         Ok(Value::Array(components))
+    }
+
+    /// A crate with those on which it depends directly.
+    fn dependency(&self, alloc: Global, material: &Material<'_>) -> Result<Value, AllocError> {
+        let needed = &material.depends_on;
+        let mut members = Members::new(alloc);
+        members.text("ref", material.krate.krate.id.repr.as_str())?;
+        members.put("dependsOn", ids_json(alloc, &self.builds.all, needed))?;
+        Ok(members.object())
     }
 
     /// Each kept crate with those on which it depends directly.
     fn dependencies(&self, alloc: Global) -> Result<Value, AllocError> {
         let mut dependencies = Vec::new(alloc);
         for material in &self.materials {
-            let ids = ids_json(alloc, &self.builds.all, &material.depends_on)?;
-            let id = &material.krate.krate.id.repr;
-            dependencies.push(json!(in alloc; {"ref": id, "dependsOn": ids})?)?;
+            add(&mut dependencies, self.dependency(alloc, material))?;
         }
         Ok(Value::Array(dependencies))
     }
@@ -167,23 +196,22 @@ impl Bill<'_> {
 impl Shown for Bill<'_> {
     /// The JSON.
     fn text(&self, alloc: Global) -> Result<String, AllocError> {
-        let mut text = self.json(alloc)?.to_string_pretty(alloc)?;
-        text.push_str("\n")?;
-        Ok(text)
+        let value = self.json(alloc)?;
+        pretty(alloc, &value)
     }
 
     /// `components`, the kept crates, and `dependencies`, with an entry for each of them. There is no time and no serial number in it, so
     /// that the same document gives the same bytes.
     fn json(&self, alloc: Global) -> Result<Value, AllocError> {
-        let components = self.components(alloc)?;
-        let dependencies = self.dependencies(alloc)?;
-        json!(in alloc; {
-            "$schema": "http://cyclonedx.org/schema/bom-1.5.schema.json",
-            "bomFormat": "CycloneDX",
-            "specVersion": "1.5",
-            "version": 1u64,
-            "components": components,
-            "dependencies": dependencies
-        })
+        let mut members = Members::new(alloc);
+        members.texts(&[
+            ("$schema", "http://cyclonedx.org/schema/bom-1.5.schema.json"),
+            ("bomFormat", "CycloneDX"),
+            ("specVersion", "1.5"),
+        ])?;
+        members.put("version", Ok(Value::from(1u64)))?;
+        members.put("components", self.components(alloc))?;
+        members.put("dependencies", self.dependencies(alloc))?;
+        Ok(members.object())
     }
 }

@@ -20,21 +20,32 @@ pub fn built(
 ) -> Result<Krates, Refusal>
     ensures { IfOk result (IsBuildOf (metadata_view metadata) choice.now also_ignored.now) }
 {
-    let mut builder = Builder::new(alloc);
-    choice.apply_to(alloc, also_ignored, &mut builder)?;
+    let setting = choice.setting(alloc, also_ignored)?;
+    let builder = Builder::under(alloc, setting);
     let krates: Krates = builder.build_with_metadata(metadata, &mut NoneFilter)?;
     Ok(krates)
+}
+
+/// The same of a copy of the document.
+fn copy_built(
+    alloc: Global,
+    choice: &Choice,
+    also_ignored: &[DepKind],
+    metadata: &Metadata,
+) -> Result<Krates, Refusal>
+    ensures { IfOk result (IsBuildOf (metadata_view metadata.now) choice.now also_ignored.now) }
+{
+    let copy = metadata.clone()?;
+    built(alloc, choice, also_ignored, copy)
 }
 
 /// The three builds of a document by which it is known what crates are used for. It is refused as `built` is.
 pub fn builds(alloc: Global, choice: &Choice, metadata: Metadata) -> Result<Builds, Refusal>
     ensures { IfOk result (AreBuildsOf (metadata_view metadata) choice.now) }
 {
-    let first = metadata.clone()?;
-    let second = metadata.clone()?;
-    let all = built(alloc, choice, &[], metadata)?;
-    let without_dev = built(alloc, choice, &[DepKind::Dev], first)?;
-    let shipped = built(alloc, choice, &[DepKind::Dev, DepKind::Build], second)?;
+    let all = copy_built(alloc, choice, &[], &metadata)?;
+    let without_dev = copy_built(alloc, choice, &[DepKind::Dev], &metadata)?;
+    let shipped = built(alloc, choice, &[DepKind::Dev, DepKind::Build], metadata)?;
     Ok(Builds {
         all,
         without_dev,

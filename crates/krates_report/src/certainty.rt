@@ -1,9 +1,10 @@
 //! Whether a package can be reached, as it is shown.
 
 use crate::crate_name::ShortName;
+use crate::members::Members;
 use crate::shown::Shown;
 use krates::Package;
-use serde_json::{Value, json};
+use serde_json::Value;
 use std::alloc::{AllocError, Global};
 
 /// Whether a package is certain not to be reached.
@@ -33,6 +34,9 @@ impl Shown for Certainty<'_> {
 
     /// An object with `id` and `unreachable`.
     fn json(&self, alloc: Global) -> Result<Value, AllocError> {
-        json!(in alloc; {"id": &self.package.id.repr, "unreachable": self.is_unreachable})
+        let mut members = Members::new(alloc);
+        members.text("id", self.package.id.repr.as_str())?;
+        members.put("unreachable", Ok(Value::Bool(self.is_unreachable)))?;
+        Ok(members.object())
     }
 }

@@ -1,13 +1,14 @@
 //! The difference of two graphs as it is shown.
 
 use crate::crate_name::{ShortId, ShortName};
-use crate::krate_json::krates_json;
+use crate::krate_json::{krates_json, version_json};
+use crate::members::{Members, add};
 use crate::shown::Shown;
 use krates::semver::Version;
 use krates::{KrateMatch, Krates, Package};
 use krates_answers::changed::Changed;
 use krates_answers::difference::{Dependency, lacking, lost_dependencies};
-use serde_json::{Value, json};
+use serde_json::Value;
 use std::alloc::{AllocError, Global};
 
 /// What one graph has and another lacks, both ways.
@@ -36,12 +37,14 @@ impl<'a> Difference<'a> {
         let removed = lacking(alloc, first, second)?;
         let added = lacking(alloc, second, first)?;
         let changed = Changed::between(alloc, &removed, &added)?;
+        let removed_dependencies = lost_dependencies(alloc, first, second)?;
+        let added_dependencies = lost_dependencies(alloc, second, first)?;
         Ok(Difference {
             removed,
             added,
+            removed_dependencies,
+            added_dependencies,
             changed,
-            removed_dependencies: lost_dependencies(alloc, first, second)?,
-            added_dependencies: lost_dependencies(alloc, second, first)?,
         })
     }
 }
@@ -68,16 +71,18 @@ fn push_changed(changed: &Changed<'_>, lines: &mut String) -> Result<(), AllocEr
 fn versions_json(alloc: Global, versions: &[&Version]) -> Result<Value, AllocError> {
     let mut values = Vec::new(alloc);
     for version in versions {
-        values.push(Value::String(version.to_string(alloc)?))?;
+        add(&mut values, version_json(alloc, *version))?;
     }
     Ok(Value::Array(values))
 }
 
 /// What JSON says of a name under which versions changed.
 fn changed_json(alloc: Global, changed: &Changed<'_>) -> Result<Value, AllocError> {
-    let from = versions_json(alloc, &changed.from)?;
-    let to = versions_json(alloc, &changed.to)?;
-    json!(in alloc; {"name": changed.name, "from": from, "to": to})
+    let mut members = Members::new(alloc);
+    members.text("name", changed.name)?;
+    members.put("from", versions_json(alloc, &changed.from))?;
+    members.put("to", versions_json(alloc, &changed.to))?;
+    Ok(members.object())
 }
 
 /// Adds a line for each crate.
@@ -105,12 +110,19 @@ fn push_dependencies(
     Ok(())
 }
 
-/// What JSON says of dependencies: the ids of both crates.
+/// What JSON says of a dependency: the ids of both crates.
+fn dependency_json(alloc: Global, dependency: &Dependency<'_>) -> Result<Value, AllocError> {
+    let mut members = Members::new(alloc);
+    members.text("from", dependency.parent.krate.id.repr.as_str())?;
+    members.text("to", dependency.child.krate.id.repr.as_str())?;
+    Ok(members.object())
+}
+
+/// That of each of these.
 fn dependencies_json(alloc: Global, dependencies: &[Dependency<'_>]) -> Result<Value, AllocError> {
     let mut values = Vec::new(alloc);
     for dependency in dependencies {
-        let (parent, child) = (&dependency.parent.krate.id, &dependency.child.krate.id);
-        values.push(json!(in alloc; {"from": &parent.repr, "to": &child.repr})?)?;
+        add(&mut values, dependency_json(alloc, dependency))?;
     }
     Ok(Value::Array(values))
 }
@@ -120,7 +132,7 @@ impl Difference<'_> {
     fn changed_json(&self, alloc: Global) -> Result<Value, AllocError> {
         let mut values = Vec::new(alloc);
         for changed in &self.changed {
-            values.push(changed_json(alloc, changed)?)?;
+            add(&mut values, changed_json(alloc, changed))?;
         }
         Ok(Value::Array(values))
     }
@@ -144,17 +156,14 @@ impl Shown for Difference<'_> {
     /// An object: `changed`, with `name` and the versions `from` and `to`; the crates `removed` and `added`; and `removed_dependencies`
     /// and `added_dependencies`, each with the ids `from` and `to`.
     fn json(&self, alloc: Global) -> Result<Value, AllocError> {
-        let changed = self.changed_json(alloc)?;
-        let removed = krates_json(alloc, &self.removed)?;
-        let added = krates_json(alloc, &self.added)?;
-        let lost = dependencies_json(alloc, &self.removed_dependencies)?;
-        let won = dependencies_json(alloc, &self.added_dependencies)?;
-        json!(in alloc; {
-            "changed": changed,
-            "removed": removed,
-            "added": added,
-            "removed_dependencies": lost,
-            "added_dependencies": won
-        })
+        let lost = &self.removed_dependencies;
+        let won = &self.added_dependencies;
+        let mut members = Members::new(alloc);
+        members.put("changed", self.changed_json(alloc))?;
+        members.put("removed", krates_json(alloc, &self.removed))?;
+        members.put("added", krates_json(alloc, &self.added))?;
+        members.put("removed_dependencies", dependencies_json(alloc, lost))?;
+        members.put("added_dependencies", dependencies_json(alloc, won))?;
+        Ok(members.object())
     }
 }

@@ -2,11 +2,12 @@
 
 use crate::crate_name::ShortName;
 use crate::krate_json::{ids_json, krate_json};
+use crate::members::{Members, add};
 use crate::shown::Shown;
 use krates::{KrateMatch, Krates, NodeId, Package};
 use krates_answers::duplicates::{Duplicate, duplicates};
 use krates_answers::links::Links;
-use serde_json::{Value, json};
+use serde_json::Value;
 use std::alloc::{AllocError, Global};
 
 /// The names that several kept crates have, and who needs each of these crates.
@@ -64,18 +65,28 @@ impl<'a> Duplicates<'a> {
         alloc: Global,
         krate: &KrateMatch<'_, Package>,
     ) -> Result<Value, AllocError> {
-        let dependents = ids_json(alloc, self.krates, self.dependents_of(krate))?;
-        let value = krate_json(alloc, krate.krate)?;
-        json!(in alloc; {"crate": value, "dependents": dependents})
+        let dependents = self.dependents_of(krate);
+        let mut members = Members::new(alloc);
+        members.put("crate", krate_json(alloc, krate.krate))?;
+        members.put("dependents", ids_json(alloc, self.krates, dependents))?;
+        Ok(members.object())
+    }
+
+    /// What JSON says of the crates of a name.
+    fn krates_json(&self, alloc: Global, name: &Duplicate<'_>) -> Result<Value, AllocError> {
+        let mut values = Vec::new(alloc);
+        for krate in &name.krates {
+            add(&mut values, self.krate_json(alloc, krate))?;
+        }
+        Ok(Value::Array(values))
     }
 
     /// What JSON says of a name.
     fn name_json(&self, alloc: Global, name: &Duplicate<'_>) -> Result<Value, AllocError> {
-        let mut values = Vec::new(alloc);
-        for krate in &name.krates {
-            values.push(self.krate_json(alloc, krate)?)?;
-        }
-        json!(in alloc; {"name": name.name, "crates": Value::Array(values)})
+        let mut members = Members::new(alloc);
+        members.text("name", name.name)?;
+        members.put("crates", self.krates_json(alloc, name))?;
+        Ok(members.object())
     }
 }
 
@@ -96,7 +107,7 @@ impl Shown for Duplicates<'_> {
     fn json(&self, alloc: Global) -> Result<Value, AllocError> {
         let mut values = Vec::new(alloc);
         for name in &self.names {
-            values.push(self.name_json(alloc, name)?)?;
+            add(&mut values, self.name_json(alloc, name))?;
         }
         Ok(Value::Array(values))
     }

@@ -11,6 +11,7 @@ pub mod duplicates;
 mod krate_json;
 pub mod licences;
 pub mod list;
+mod members;
 pub mod refusal;
 pub mod reporter;
 mod sentences;

@@ -2,9 +2,10 @@
 
 use crate::crate_name::ShortName;
 use crate::krate_json::krates_json;
+use crate::members::{Members, add};
 use crate::shown::Shown;
 use krates_answers::licences::Licence;
-use serde_json::{Value, json};
+use serde_json::Value;
 use std::alloc::{AllocError, Global};
 
 /// The kept crates by licence.
@@ -28,14 +29,21 @@ fn push_licence(licence: &Licence<'_>, lines: &mut String) -> Result<(), AllocEr
     Ok(())
 }
 
+/// The text of a licence, or null where there is none.
+fn text_json(alloc: Global, text: &str) -> Result<Value, AllocError> {
+    if text.is_empty() {
+        Ok(Value::Null)
+    } else {
+        Value::try_from_str(alloc, text)
+    }
+}
+
 /// What JSON says of a licence.
 fn licence_json(alloc: Global, licence: &Licence<'_>) -> Result<Value, AllocError> {
-    let krates = krates_json(alloc, &licence.krates)?;
-    if licence.text.is_empty() {
-        json!(in alloc; {"licence": null, "crates": krates})
-    } else {
-        json!(in alloc; {"licence": licence.text, "crates": krates})
-    }
+    let mut members = Members::new(alloc);
+    members.put("licence", text_json(alloc, licence.text))?;
+    members.put("crates", krates_json(alloc, &licence.krates))?;
+    Ok(members.object())
 }
 
 impl Shown for Licences<'_> {
@@ -52,7 +60,7 @@ impl Shown for Licences<'_> {
     fn json(&self, alloc: Global) -> Result<Value, AllocError> {
         let mut values = Vec::new(alloc);
         for licence in &self.licences {
-            values.push(licence_json(alloc, licence)?)?;
+            add(&mut values, licence_json(alloc, licence))?;
         }
         Ok(Value::Array(values))
     }

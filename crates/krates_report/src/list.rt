@@ -2,6 +2,7 @@
 
 use crate::crate_name::ShortName;
 use crate::krate_json::krate_json;
+use crate::members::add;
 use crate::shown::Shown;
 use krates::Krates;
 use serde_json::Value;
@@ -34,7 +35,7 @@ impl Shown for List<'_> {
     fn json(&self, alloc: Global) -> Result<Value, AllocError> {
         let mut values = Vec::new(alloc);
         for krate in self.krates.krates() {
-            values.push(krate_json(alloc, krate)?)?;
+            add(&mut values, krate_json(alloc, krate))?;
         }
         Ok(Value::Array(values))
     }

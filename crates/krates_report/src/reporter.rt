@@ -8,11 +8,11 @@ use crate::duplicates::Duplicates;
 use crate::licences::Licences;
 use crate::list::List;
 use crate::refusal::Refusal;
-use crate::shown::{Shown, printed};
+use crate::shown::{Shown, pretty, printed};
 use crate::tree::Tree;
 use crate::uses::Uses;
 use crate::why::{Features, Why};
-use krates::derive::Derivation;
+use krates::derive::{Derivation, Fact};
 use krates::{Builder, Kid, Krates, Metadata, Node, NodeId, OnFilter, Package, PackageId};
 use krates_answers::licences::licences;
 use krates_answers::naming::{Meant, Packages};
@@ -31,6 +31,13 @@ pub struct Answer {
     pub is_yes: bool,
 }
 
+impl Answer {
+    /// A yes.
+    fn yes(text: String) -> Answer {
+        Answer { text, is_yes: true }
+    }
+}
+
 /// A filter that keeps the packages that a build doesn't, as long as there is memory.
 #[derive(Drop)]
 struct Others {
@@ -43,6 +50,21 @@ impl OnFilter for Others {
 
     fn filtered(&mut self, pkg: Package) {
         self.is_whole = self.packages.push(pkg).is_ok() && self.is_whole;
+    }
+}
+
+impl Others {
+    /// These and the graph that doesn't keep them, if there was memory for all of them.
+    fn beside(self, krates: Krates) -> Result<Divided, Refusal> {
+        let Others { packages, is_whole } = self;
+        if is_whole {
+            Ok(Divided {
+                krates,
+                others: packages,
+            })
+        } else {
+            Err(Refusal::Memory)
+        }
     }
 }
 
@@ -104,28 +126,44 @@ impl Reporter<'_> {
     /// built, as `Naming` where a word doesn't mean one package, as `Check` where the checker doesn't accept the facts of the build,
     /// as `NoOther` where a second document is missing; it may instead return `Memory`. Time: that of the builds, and of the answer.
     pub fn answer(&self, metadata: Metadata, other: Option<Metadata>) -> Result<Answer, Refusal> {
-        let text = match &self.asked.word {
-            Word::List { ids } => self.list(metadata, *ids)?,
-            Word::Tree { spec } => self.tree(metadata, spec.as_ref())?,
-            Word::Dependents { spec } => self.dependents(metadata, spec.as_str())?,
-            Word::Why { spec, steps } => self.why(metadata, spec.as_str(), *steps)?,
-            Word::Features { spec } => self.features(metadata, spec.as_str())?,
-            Word::Duplicates => self.duplicates(metadata)?,
-            Word::Licences => self.licences(metadata)?,
-            Word::Uses => self.uses(metadata)?,
-            Word::Sbom => self.bill(metadata)?,
-            Word::Diff { .. } => self.difference(metadata, other)?,
-            Word::Graph => self.graph(metadata)?,
-            Word::Queries => self.queries(metadata)?,
-            Word::Certify { spec } => self.certificate(metadata, spec.as_ref())?,
-            Word::Unreachable { spec } => return self.unreachable(metadata, spec.as_str()),
-        };
-        Ok(Answer { text, is_yes: true })
+        match other {
+            Some(other) => self.of_both(metadata, other),
+            None => self.of_one(metadata),
+        }
     }
 
-    /// What is printed of an answer.
-    fn shown<T: Shown>(&self, answer: &T) -> Result<String, Refusal> {
-        Ok(printed(self.alloc, answer, self.asked.is_json)?)
+    /// What is printed of two documents; only a word that compares takes the second one.
+    fn of_both(&self, metadata: Metadata, other: Metadata) -> Result<Answer, Refusal> {
+        match &self.asked.word {
+            Word::Diff { .. } => self.difference(metadata, other),
+            _ => self.of_one(metadata),
+        }
+    }
+
+    /// What is printed of one document.
+    fn of_one(&self, metadata: Metadata) -> Result<Answer, Refusal> {
+        match &self.asked.word {
+            Word::List { ids } => self.list(metadata, *ids),
+            Word::Tree { spec } => self.tree(metadata, spec.as_ref()),
+            Word::Dependents { spec } => self.dependents(metadata, spec.as_str()),
+            Word::Why { spec, steps } => self.why(metadata, spec.as_str(), *steps),
+            Word::Features { spec } => self.features(metadata, spec.as_str()),
+            Word::Duplicates => self.duplicates(metadata),
+            Word::Licences => self.licences(metadata),
+            Word::Uses => self.uses(metadata),
+            Word::Sbom => self.bill(metadata),
+            Word::Diff { .. } => Err(Refusal::NoOther),
+            Word::Graph => self.graph(metadata),
+            Word::Queries => self.queries(metadata),
+            Word::Certify { spec } => self.certificate(metadata, spec.as_ref()),
+            Word::Unreachable { spec } => self.unreachable(metadata, spec.as_str()),
+        }
+    }
+
+    /// What is printed of an answer that is a yes.
+    fn shown<T: Shown>(&self, answer: &T) -> Result<Answer, Refusal> {
+        let text = printed(self.alloc, answer, self.asked.is_json)?;
+        Ok(Answer::yes(text))
     }
 
     /// The graph of a document.
@@ -135,26 +173,23 @@ impl Reporter<'_> {
 
     /// The graph of a document and the packages that it doesn't keep.
     fn divided(&self, metadata: Metadata) -> Result<Divided, Refusal> {
+        let builder = self.builder()?;
         let mut others = Others {
             packages: Vec::new(self.alloc),
             is_whole: true,
         };
-        let mut builder = Builder::new(self.alloc);
-        self.asked.choice.apply_to(self.alloc, &[], &mut builder)?;
         let krates = builder.build_with_metadata(metadata, &mut others)?;
-        let Others { packages, is_whole } = others;
-        if is_whole {
-            Ok(Divided {
-                krates,
-                others: packages,
-            })
-        } else {
-            Err(Refusal::Memory)
-        }
+        others.beside(krates)
+    }
+
+    /// A builder under what is chosen.
+    fn builder(&self) -> Result<Builder, AllocError> {
+        let setting = self.asked.choice.setting(self.alloc, &[])?;
+        Ok(Builder::under(self.alloc, setting))
     }
 
     /// The kept crates.
-    fn list(&self, metadata: Metadata, has_ids: bool) -> Result<String, Refusal> {
+    fn list(&self, metadata: Metadata, has_ids: bool) -> Result<Answer, Refusal> {
         let krates = self.built(metadata)?;
         self.shown(&List {
             krates: &krates,
@@ -163,152 +198,191 @@ impl Reporter<'_> {
     }
 
     /// The tree of what a crate needs, or the members where none is named.
-    fn tree(&self, metadata: Metadata, spec: Option<&String>) -> Result<String, Refusal> {
+    fn tree(&self, metadata: Metadata, spec: Option<&String>) -> Result<Answer, Refusal> {
         let divided = self.divided(metadata)?;
-        let packages = divided.packages();
-        let roots = match spec {
-            Some(spec) => { vec![in self.alloc; packages.one(self.alloc, spec.as_str())?.node_id]? }
-            None => members_of(self.alloc, packages.krates)?,
-        };
-        self.shown(&Tree::of_dependencies(self.alloc, packages.krates, &roots)?)
+        let roots = self.roots(&divided, spec)?;
+        let tree = Tree::of_dependencies(self.alloc, &divided.krates, &roots)?;
+        self.shown(&tree)
+    }
+
+    /// The number of the crate that a word means, or those of the members where there is none.
+    fn roots(&self, divided: &Divided, spec: Option<&String>) -> Result<Vec<NodeId>, Refusal> {
+        match spec {
+            Some(spec) => self.root(divided, spec.as_str()),
+            None => Ok(members_of(self.alloc, &divided.krates)?),
+        }
+    }
+
+    /// The number of the crate that a word means.
+    fn root(&self, divided: &Divided, spec: &str) -> Result<Vec<NodeId>, Refusal> {
+        let found = divided.packages().one(self.alloc, spec)?;
+        Ok(vec![in self.alloc; found.node_id]?)
     }
 
     /// The tree of those that need a crate.
-    fn dependents(&self, metadata: Metadata, spec: &str) -> Result<String, Refusal> {
+    fn dependents(&self, metadata: Metadata, spec: &str) -> Result<Answer, Refusal> {
         let divided = self.divided(metadata)?;
-        let packages = divided.packages();
-        let roots = vec![in self.alloc; packages.one(self.alloc, spec)?.node_id]?;
-        self.shown(&Tree::of_dependents(self.alloc, packages.krates, &roots)?)
+        let roots = self.root(&divided, spec)?;
+        let tree = Tree::of_dependents(self.alloc, &divided.krates, &roots)?;
+        self.shown(&tree)
     }
 
     /// Why a crate is kept.
-    fn why(&self, metadata: Metadata, spec: &str, has_steps: bool) -> Result<String, Refusal> {
+    fn why(&self, metadata: Metadata, spec: &str, has_steps: bool) -> Result<Answer, Refusal> {
         let divided = self.divided(metadata)?;
         let found = divided.packages().one(self.alloc, spec)?;
-        let Some(derivation) = divided.krates.why(found.node_id)? else {
-            return Ok(String::new(self.alloc));
-        };
-        self.shown(&Why {
-            krate: found.krate,
-            derivation,
-            has_steps,
-        })
+        match divided.krates.why(found.node_id)? {
+            Some(derivation) => self.shown(&Why {
+                krate: found.krate,
+                derivation,
+                has_steps,
+            }),
+            None => Ok(Answer::yes(String::new(self.alloc))),
+        }
     }
 
     /// The enabled features of a crate.
-    fn features(&self, metadata: Metadata, spec: &str) -> Result<String, Refusal> {
+    fn features(&self, metadata: Metadata, spec: &str) -> Result<Answer, Refusal> {
         let divided = self.divided(metadata)?;
         let found = divided.packages().one(self.alloc, spec)?;
-        self.shown(&Features::of(self.alloc, &divided.krates, found)?)
+        let features = Features::of(self.alloc, &divided.krates, found)?;
+        self.shown(&features)
     }
 
     /// The names that several kept crates have.
-    fn duplicates(&self, metadata: Metadata) -> Result<String, Refusal> {
+    fn duplicates(&self, metadata: Metadata) -> Result<Answer, Refusal> {
         let krates = self.built(metadata)?;
-        self.shown(&Duplicates::of(self.alloc, &krates)?)
+        let duplicates = Duplicates::of(self.alloc, &krates)?;
+        self.shown(&duplicates)
     }
 
     /// The licences of the kept crates.
-    fn licences(&self, metadata: Metadata) -> Result<String, Refusal> {
+    fn licences(&self, metadata: Metadata) -> Result<Answer, Refusal> {
         let krates = self.built(metadata)?;
         let licences = licences(self.alloc, &krates)?;
         self.shown(&Licences { licences })
     }
 
     /// What the kept crates are used for.
-    fn uses(&self, metadata: Metadata) -> Result<String, Refusal> {
+    fn uses(&self, metadata: Metadata) -> Result<Answer, Refusal> {
         let builds = builds(self.alloc, &self.asked.choice, metadata)?;
         let used = builds.uses(self.alloc)?;
         self.shown(&Uses { used })
     }
 
     /// The bill of materials.
-    fn bill(&self, metadata: Metadata) -> Result<String, Refusal> {
+    fn bill(&self, metadata: Metadata) -> Result<Answer, Refusal> {
         let builds = builds(self.alloc, &self.asked.choice, metadata)?;
-        self.shown(&Bill::of(self.alloc, &builds)?)
+        let bill = Bill::of(self.alloc, &builds)?;
+        self.shown(&bill)
     }
 
     /// What the graphs of two documents have alone.
-    fn difference(&self, first: Metadata, second: Option<Metadata>) -> Result<String, Refusal> {
-        let Some(second) = second else {
-            return Err(Refusal::NoOther);
-        };
+    fn difference(&self, first: Metadata, second: Metadata) -> Result<Answer, Refusal> {
         let first = self.built(first)?;
         let second = self.built(second)?;
-        self.shown(&Difference::between(self.alloc, &first, &second)?)
+        let difference = Difference::between(self.alloc, &first, &second)?;
+        self.shown(&difference)
     }
 
     /// The drawn graph, number by number.
-    fn graph(&self, metadata: Metadata) -> Result<String, Refusal> {
+    fn graph(&self, metadata: Metadata) -> Result<Answer, Refusal> {
         let krates = self.built(metadata)?;
         let mut lines = String::new(self.alloc);
         push_graph(&mut lines, krates.graph())?;
-        Ok(lines)
+        Ok(Answer::yes(lines))
     }
 
     /// What each query answers.
-    fn queries(&self, metadata: Metadata) -> Result<String, Refusal> {
+    fn queries(&self, metadata: Metadata) -> Result<Answer, Refusal> {
         let ids = ids_of(self.alloc, &metadata.packages)?;
         let krates = self.built(metadata)?;
         let mut lines = String::new(self.alloc);
         push_answers(self.alloc, &mut lines, &krates, &ids)?;
-        Ok(lines)
+        Ok(Answer::yes(lines))
     }
 
     /// Whether a package is certain not to be reached.
     fn unreachable(&self, metadata: Metadata, spec: &str) -> Result<Answer, Refusal> {
         let divided = self.divided(metadata.clone()?)?;
+        self.certainty(&metadata, &divided, spec)
+    }
+
+    /// The same of a document and what is built of it.
+    fn certainty(
+        &self,
+        metadata: &Metadata,
+        divided: &Divided,
+        spec: &str,
+    ) -> Result<Answer, Refusal> {
         let package = match divided.packages().any(self.alloc, spec)? {
             Meant::Kept(found) => found.krate,
             Meant::Other(package) => package,
         };
-        // each id of a document that is built is read, so that only memory may lack
-        let Ok(kid) = Kid::try_from(package.id.clone()?) else {
-            return Err(Refusal::Memory);
-        };
         let facts = divided.krates.facts()?;
-        let mut builder = Builder::new(self.alloc);
-        self.asked.choice.apply_to(self.alloc, &[], &mut builder)?;
-        let is_unreachable = is_unreachable(&metadata, &builder, &facts, &kid)?;
-        let text = self.shown(&Certainty {
+        let is_unreachable = self.is_unreachable(metadata, &facts, package)?;
+        let mut answer = self.shown(&Certainty {
             package,
             is_unreachable,
             facts: facts.len(),
         })?;
-        Ok(Answer {
-            text,
-            is_yes: is_unreachable,
-        })
+        answer.is_yes = is_unreachable;
+        Ok(answer)
+    }
+
+    /// Whether a package is certain not to be reached, by these facts.
+    fn is_unreachable(
+        &self,
+        metadata: &Metadata,
+        facts: &[Fact],
+        package: &Package,
+    ) -> Result<bool, Refusal> {
+        // each id of a document that is built is read, so that only memory may lack
+        let Ok(kid) = Kid::try_from(package.id.clone()?) else {
+            return Err(Refusal::Memory);
+        };
+        let builder = self.builder()?;
+        Ok(is_unreachable(metadata, &builder, facts, &kid)?)
     }
 
     /// A certificate: that a crate is kept; or, of all crates and of one that isn't kept, that nothing else is.
-    fn certificate(&self, metadata: Metadata, spec: Option<&String>) -> Result<String, Refusal> {
+    fn certificate(&self, metadata: Metadata, spec: Option<&String>) -> Result<Answer, Refusal> {
         let divided = self.divided(metadata)?;
-        let derivation = match spec {
-            Some(spec) => self.derivation(&divided, spec.as_str())?,
-            None => None,
-        };
-        let setting = self.asked.choice.words(self.alloc)?;
-        let certificate = match derivation {
-            Some(derivation) => Certificate::Derivation {
-                setting,
-                derivation,
-            },
-            None => Certificate::Closed {
-                setting,
-                facts: divided.krates.facts()?,
-            },
-        };
-        let mut text = certificate
-            .to_value(self.alloc)?
-            .to_string_pretty(self.alloc)?;
-        text.push_str("\n")?;
-        Ok(text)
+        let certificate = self.certificate_of(&divided, spec)?;
+        let value = certificate.to_value(self.alloc)?;
+        let text = pretty(self.alloc, &value)?;
+        Ok(Answer::yes(text))
     }
 
-    /// The steps that lead to the crate that a word means, if it is kept.
-    fn derivation(&self, divided: &Divided, spec: &str) -> Result<Option<Derivation>, Refusal> {
-        match divided.packages().any(self.alloc, spec)? {
+    /// The certificate that is asked for.
+    fn certificate_of(
+        &self,
+        divided: &Divided,
+        spec: Option<&String>,
+    ) -> Result<Certificate, Refusal> {
+        let setting = self.asked.choice.words(self.alloc)?;
+        match self.derivation(divided, spec)? {
+            Some(derivation) => Ok(Certificate::Derivation {
+                setting,
+                derivation,
+            }),
+            None => {
+                let facts = divided.krates.facts()?;
+                Ok(Certificate::Closed { setting, facts })
+            }
+        }
+    }
+
+    /// The steps that lead to the crate that is asked for, if one is and it is kept.
+    fn derivation(
+        &self,
+        divided: &Divided,
+        spec: Option<&String>,
+    ) -> Result<Option<Derivation>, Refusal> {
+        let Some(spec) = spec else {
+            return Ok(None);
+        };
+        match divided.packages().any(self.alloc, spec.as_str())? {
             Meant::Kept(found) => Ok(divided.krates.why(found.node_id)?),
             Meant::Other(_) => Ok(None),
         }

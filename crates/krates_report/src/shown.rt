@@ -1,6 +1,6 @@
 //! Answers, as text for people and as JSON for scripts.
 
-use serde_json::{Value, json};
+use serde_json::Value;
 use std::alloc::{AllocError, Global};
 
 /// An answer that can be shown. Each form is made whole, and can only run out of memory.
@@ -17,7 +17,13 @@ pub fn printed<T: Shown>(alloc: Global, answer: &T, is_json: bool) -> Result<Str
     if !is_json {
         return answer.text(alloc);
     }
-    let mut text = answer.json(alloc)?.to_string_pretty(alloc)?;
+    let value = answer.json(alloc)?;
+    pretty(alloc, &value)
+}
+
+/// The indented text of a value, with a line break behind it.
+pub(crate) fn pretty(alloc: Global, value: &Value) -> Result<String, AllocError> {
+    let mut text = value.to_string_pretty(alloc)?;
     text.push_str("\n")?;
     Ok(text)
 }

@@ -1,11 +1,12 @@
 //! Trees of crates as they are shown.
 
 use crate::crate_name::ShortName;
+use crate::members::{Members, add};
 use crate::shown::Shown;
 use krates::{Krates, NodeId};
 use krates_answers::links::Links;
 use krates_answers::tree::TreeLine;
-use serde_json::{Value, json};
+use serde_json::Value;
 use std::alloc::{AllocError, Global};
 
 /// A tree of kept crates.
@@ -74,7 +75,11 @@ impl<'a> Tree<'a> {
         } else {
             ""
         };
-        json!(in alloc; {"depth": line.depth as u64, "id": id, "repeated": self.is_repeated(line)})
+        let mut members = Members::new(alloc);
+        members.put("depth", Ok(Value::from(line.depth as u64)))?;
+        members.text("id", id)?;
+        members.put("repeated", Ok(Value::Bool(self.is_repeated(line))))?;
+        Ok(members.object())
     }
 }
 
@@ -135,7 +140,7 @@ impl Shown for Tree<'_> {
     fn json(&self, alloc: Global) -> Result<Value, AllocError> {
         let mut values = Vec::new(alloc);
         for line in &self.lines {
-            values.push(self.line_json(alloc, line)?)?;
+            add(&mut values, self.line_json(alloc, line))?;
         }
         Ok(Value::Array(values))
     }

@@ -2,9 +2,10 @@
 
 use crate::crate_name::ShortName;
 use crate::krate_json::krate_json;
+use crate::members::{Members, add};
 use crate::shown::Shown;
 use krates_answers::uses::{Use, UsedKrate};
-use serde_json::{Value, json};
+use serde_json::Value;
 use std::alloc::{AllocError, Global};
 
 /// The kept crates, each with what it is used for.
@@ -36,7 +37,7 @@ impl Uses<'_> {
         let mut values = Vec::new(alloc);
         for used in &self.used {
             if used.usage == usage {
-                values.push(krate_json(alloc, used.krate.krate)?)?;
+                add(&mut values, krate_json(alloc, used.krate.krate))?;
             }
         }
         Ok(Value::Array(values))
@@ -55,9 +56,10 @@ impl Shown for Uses<'_> {
 
     /// An object with the crates of `shipped`, `build` and `dev`.
     fn json(&self, alloc: Global) -> Result<Value, AllocError> {
-        let shipped = self.json_of(alloc, Use::Shipped)?;
-        let build = self.json_of(alloc, Use::Build)?;
-        let dev = self.json_of(alloc, Use::Dev)?;
-        json!(in alloc; {"shipped": shipped, "build": build, "dev": dev})
+        let mut members = Members::new(alloc);
+        members.put("shipped", self.json_of(alloc, Use::Shipped))?;
+        members.put("build", self.json_of(alloc, Use::Build))?;
+        members.put("dev", self.json_of(alloc, Use::Dev))?;
+        Ok(members.object())
     }
 }

@@ -1,11 +1,12 @@
 //! Why a crate is kept, and why its features are enabled.
 
 use crate::crate_name::ShortName;
+use crate::members::{Members, add};
 use crate::sentences::{push_last_reason, push_sentences};
 use crate::shown::Shown;
-use krates::derive::{Derivation, Step};
+use krates::derive::{Derivation, Fact, Step};
 use krates::{KrateMatch, Krates, Node, NodeId, Package};
-use serde_json::{Value, json};
+use serde_json::Value;
 use std::alloc::{AllocError, Global};
 
 /// Why a crate is kept.
@@ -19,14 +20,36 @@ pub struct Why<'a> {
     pub has_steps: bool,
 }
 
+/// The text of a fact.
+fn fact_json(alloc: Global, fact: &Fact) -> Result<Value, AllocError> {
+    Ok(Value::String(format!(in alloc; "{fact}")?))
+}
+
+/// The numbers of steps.
+fn uses_json(alloc: Global, uses: &[usize]) -> Result<Value, AllocError> {
+    let mut values = Vec::new(alloc);
+    for used in uses {
+        add(&mut values, Ok(Value::from(*used as u64)))?;
+    }
+    Ok(Value::Array(values))
+}
+
 /// What JSON says of a step.
 fn step_json(alloc: Global, step: &Step) -> Result<Value, AllocError> {
-    let mut uses = Vec::new(alloc);
-    for used in &step.uses {
-        uses.push(Value::from(*used as u64))?;
+    let mut members = Members::new(alloc);
+    members.put("rule", Ok(Value::from(step.rule as u64)))?;
+    members.put("fact", fact_json(alloc, &step.fact))?;
+    members.put("uses", uses_json(alloc, &step.uses))?;
+    Ok(members.object())
+}
+
+/// That of each of these.
+fn steps_json(alloc: Global, steps: &[Step]) -> Result<Value, AllocError> {
+    let mut values = Vec::new(alloc);
+    for step in steps {
+        add(&mut values, step_json(alloc, step))?;
     }
-    let fact = format!(in alloc; "{}", step.fact)?;
-    json!(in alloc; {"rule": step.rule as u64, "fact": fact, "uses": Value::Array(uses)})
+    Ok(Value::Array(values))
 }
 
 impl Shown for Why<'_> {
@@ -42,11 +65,10 @@ impl Shown for Why<'_> {
 
     /// `id` and `steps`, each with `rule`, `fact` and `uses`.
     fn json(&self, alloc: Global) -> Result<Value, AllocError> {
-        let mut steps = Vec::new(alloc);
-        for step in &self.derivation.steps {
-            steps.push(step_json(alloc, step)?)?;
-        }
-        json!(in alloc; {"id": &self.krate.id.repr, "steps": Value::Array(steps)})
+        let mut members = Members::new(alloc);
+        members.text("id", self.krate.id.repr.as_str())?;
+        members.put("steps", steps_json(alloc, &self.derivation.steps))?;
+        Ok(members.object())
     }
 }
 
@@ -112,6 +134,23 @@ impl<'a> Features<'a> {
     }
 }
 
+/// What JSON says of a feature.
+fn feature_json(alloc: Global, feature: &EnabledFeature<'_>) -> Result<Value, AllocError> {
+    let mut members = Members::new(alloc);
+    members.text("name", feature.name)?;
+    members.text("reason", feature.reason.as_str())?;
+    Ok(members.object())
+}
+
+/// That of each of these.
+fn features_json(alloc: Global, features: &[EnabledFeature<'_>]) -> Result<Value, AllocError> {
+    let mut values = Vec::new(alloc);
+    for feature in features {
+        add(&mut values, feature_json(alloc, feature))?;
+    }
+    Ok(Value::Array(values))
+}
+
 impl Shown for Features<'_> {
     /// The crate, and below it a line for each feature: its name, and why it is enabled.
     fn text(&self, alloc: Global) -> Result<String, AllocError> {
@@ -124,10 +163,9 @@ impl Shown for Features<'_> {
 
     /// `id` and `features`, each with `name` and `reason`.
     fn json(&self, alloc: Global) -> Result<Value, AllocError> {
-        let mut values = Vec::new(alloc);
-        for feature in &self.features {
-            values.push(json!(in alloc; {"name": feature.name, "reason": &feature.reason})?)?;
-        }
-        json!(in alloc; {"id": &self.krate.id.repr, "features": Value::Array(values)})
+        let mut members = Members::new(alloc);
+        members.text("id", self.krate.id.repr.as_str())?;
+        members.put("features", features_json(alloc, &self.features))?;
+        Ok(members.object())
     }
 }
