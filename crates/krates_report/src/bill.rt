@@ -1,8 +1,8 @@
 //! The bill of materials as CycloneDX 1.5 (ECMA-424; <https://cyclonedx.org/docs/1.5/json/>).
 
 use crate::crate_name::{directory_of, url_of};
-use crate::krate_json::{ids_json, version_json};
-use crate::members::{Members, add, list_of, object_of};
+use crate::krate_json::ids_json;
+use crate::members::{Members, Values, list_of, string};
 use crate::shown::{Shown, pretty};
 use krates::Package;
 use krates::cm::{Source, SourceKind, Target, TargetKind};
@@ -115,35 +115,28 @@ fn scope_of(usage: Use) -> &'static str {
     }
 }
 
-/// The package url of a crate.
-fn url_json(alloc: Global, krate: &Package) -> Result<Value, AllocError> {
-    Ok(Value::String(package_url(alloc, krate)?))
-}
-
-/// A licence that is an expression, in which an old `/` stands for `OR` (Cargo Book, "The license and license-file fields").
+/// The list of a licence that is an expression, in which an old `/` stands for `OR` (Cargo Book, "The license and license-file fields").
 fn expression_json(alloc: Global, expression: &str) -> Result<Value, AllocError> {
-    let expression = expression.replace(alloc, "/", " OR ")?;
-    object_of(alloc, "expression", Ok(Value::String(expression)))
+    let expression = string(expression.replace(alloc, "/", " OR "));
+    let licence = Members::new(alloc).put("expression", expression);
+    list_of(alloc, licence.object())
 }
 
-/// A licence that is a file.
+/// The list of a licence that is a file.
 fn licence_file_json(alloc: Global, file: &str) -> Result<Value, AllocError> {
-    let name = object_of(alloc, "name", Value::try_from_str(alloc, file));
-    object_of(alloc, "license", name)
+    let name = Members::new(alloc).text("name", file);
+    let licence = Members::new(alloc).put("license", name.object());
+    list_of(alloc, licence.object())
 }
 
-/// Adds the licences of a crate: its expression, or else its file.
-fn put_licences(alloc: Global, krate: &Package, members: &mut Members) -> Result<(), AllocError> {
+/// These members with the licences of a crate: its expression, or else its file.
+fn with_licences(alloc: Global, krate: &Package, members: Members) -> Members {
     match (&krate.license, &krate.license_file) {
         (Some(expression), _) => {
-            let licence = expression_json(alloc, expression.as_str());
-            members.put("licenses", list_of(alloc, licence))
+            members.put("licenses", expression_json(alloc, expression.as_str()))
         }
-        (None, Some(file)) => {
-            let licence = licence_file_json(alloc, file.as_str());
-            members.put("licenses", list_of(alloc, licence))
-        }
-        (None, None) => Ok(()),
+        (None, Some(file)) => members.put("licenses", licence_file_json(alloc, file.as_str())),
+        (None, None) => members,
     }
 }
 
@@ -152,44 +145,41 @@ impl Bill<'_> {
     fn component(&self, alloc: Global, material: &Material<'_>) -> Result<Value, AllocError> {
         let krate = material.krate.krate;
         let usage = self.builds.use_of(material.krate.kid);
-        let mut members = Members::new(alloc);
-        members.texts(&[
-            ("type", type_of(krate)),
-            ("bom-ref", krate.id.repr.as_str()),
-            ("name", krate.name.as_str()),
-            ("scope", scope_of(usage)),
-        ])?;
-        members.put("version", version_json(alloc, &krate.version))?;
-        members.put("purl", url_json(alloc, krate))?;
-        put_licences(alloc, krate, &mut members)?;
-        Ok(members.object())
+        let members = Members::new(alloc)
+            .text("type", type_of(krate))
+            .text("bom-ref", krate.id.repr.as_str())
+            .text("name", krate.name.as_str())
+            .put("version", string(krate.version.to_string(alloc)))
+            .text("scope", scope_of(usage))
+            .put("purl", string(package_url(alloc, krate)));
+        with_licences(alloc, krate, members).object()
     }
 
     /// The kept crates.
     fn components(&self, alloc: Global) -> Result<Value, AllocError> {
-        let mut components = Vec::new(alloc);
+        let mut components = Values::new(alloc);
         for material in &self.materials {
-            add(&mut components, self.component(alloc, material))?;
+            components.add(self.component(alloc, material));
         }
-        Ok(Value::Array(components))
+        components.list()
     }
 
     /// A crate with those on which it depends directly.
     fn dependency(&self, alloc: Global, material: &Material<'_>) -> Result<Value, AllocError> {
         let needed = &material.depends_on;
-        let mut members = Members::new(alloc);
-        members.text("ref", material.krate.krate.id.repr.as_str())?;
-        members.put("dependsOn", ids_json(alloc, &self.builds.all, needed))?;
-        Ok(members.object())
+        Members::new(alloc)
+            .text("ref", material.krate.krate.id.repr.as_str())
+            .put("dependsOn", ids_json(alloc, &self.builds.all, needed))
+            .object()
     }
 
     /// Each kept crate with those on which it depends directly.
     fn dependencies(&self, alloc: Global) -> Result<Value, AllocError> {
-        let mut dependencies = Vec::new(alloc);
+        let mut dependencies = Values::new(alloc);
         for material in &self.materials {
-            add(&mut dependencies, self.dependency(alloc, material))?;
+            dependencies.add(self.dependency(alloc, material));
         }
-        Ok(Value::Array(dependencies))
+        dependencies.list()
     }
 }
 
@@ -203,15 +193,13 @@ impl Shown for Bill<'_> {
     /// `components`, the kept crates, and `dependencies`, with an entry for each of them. There is no time and no serial number in it, so
     /// that the same document gives the same bytes.
     fn json(&self, alloc: Global) -> Result<Value, AllocError> {
-        let mut members = Members::new(alloc);
-        members.texts(&[
-            ("$schema", "http://cyclonedx.org/schema/bom-1.5.schema.json"),
-            ("bomFormat", "CycloneDX"),
-            ("specVersion", "1.5"),
-        ])?;
-        members.put("version", Ok(Value::from(1u64)))?;
-        members.put("components", self.components(alloc))?;
-        members.put("dependencies", self.dependencies(alloc))?;
-        Ok(members.object())
+        Members::new(alloc)
+            .text("$schema", "http://cyclonedx.org/schema/bom-1.5.schema.json")
+            .text("bomFormat", "CycloneDX")
+            .text("specVersion", "1.5")
+            .put("version", Ok(Value::from(1u64)))
+            .put("components", self.components(alloc))
+            .put("dependencies", self.dependencies(alloc))
+            .object()
     }
 }

@@ -34,9 +34,9 @@ impl Shown for Certainty<'_> {
 
     /// An object with `id` and `unreachable`.
     fn json(&self, alloc: Global) -> Result<Value, AllocError> {
-        let mut members = Members::new(alloc);
-        members.text("id", self.package.id.repr.as_str())?;
-        members.put("unreachable", Ok(Value::Bool(self.is_unreachable)))?;
-        Ok(members.object())
+        Members::new(alloc)
+            .text("id", self.package.id.repr.as_str())
+            .put("unreachable", Ok(Value::Bool(self.is_unreachable)))
+            .object()
     }
 }

@@ -1,8 +1,8 @@
 //! The difference of two graphs as it is shown.
 
 use crate::crate_name::{ShortId, ShortName};
-use crate::krate_json::{krates_json, version_json};
-use crate::members::{Members, add};
+use crate::krate_json::krates_json;
+use crate::members::{Members, Values, string};
 use crate::shown::Shown;
 use krates::semver::Version;
 use krates::{KrateMatch, Krates, Package};
@@ -69,20 +69,20 @@ fn push_changed(changed: &Changed<'_>, lines: &mut String) -> Result<(), AllocEr
 
 /// The texts of versions.
 fn versions_json(alloc: Global, versions: &[&Version]) -> Result<Value, AllocError> {
-    let mut values = Vec::new(alloc);
+    let mut values = Values::new(alloc);
     for version in versions {
-        add(&mut values, version_json(alloc, *version))?;
+        values.add(string(version.to_string(alloc)));
     }
-    Ok(Value::Array(values))
+    values.list()
 }
 
 /// What JSON says of a name under which versions changed.
 fn changed_json(alloc: Global, changed: &Changed<'_>) -> Result<Value, AllocError> {
-    let mut members = Members::new(alloc);
-    members.text("name", changed.name)?;
-    members.put("from", versions_json(alloc, &changed.from))?;
-    members.put("to", versions_json(alloc, &changed.to))?;
-    Ok(members.object())
+    Members::new(alloc)
+        .text("name", changed.name)
+        .put("from", versions_json(alloc, &changed.from))
+        .put("to", versions_json(alloc, &changed.to))
+        .object()
 }
 
 /// Adds a line for each crate.
@@ -112,29 +112,29 @@ fn push_dependencies(
 
 /// What JSON says of a dependency: the ids of both crates.
 fn dependency_json(alloc: Global, dependency: &Dependency<'_>) -> Result<Value, AllocError> {
-    let mut members = Members::new(alloc);
-    members.text("from", dependency.parent.krate.id.repr.as_str())?;
-    members.text("to", dependency.child.krate.id.repr.as_str())?;
-    Ok(members.object())
+    Members::new(alloc)
+        .text("from", dependency.parent.krate.id.repr.as_str())
+        .text("to", dependency.child.krate.id.repr.as_str())
+        .object()
 }
 
 /// That of each of these.
 fn dependencies_json(alloc: Global, dependencies: &[Dependency<'_>]) -> Result<Value, AllocError> {
-    let mut values = Vec::new(alloc);
+    let mut values = Values::new(alloc);
     for dependency in dependencies {
-        add(&mut values, dependency_json(alloc, dependency))?;
+        values.add(dependency_json(alloc, dependency));
     }
-    Ok(Value::Array(values))
+    values.list()
 }
 
 impl Difference<'_> {
     /// The names under which versions changed.
     fn changed_json(&self, alloc: Global) -> Result<Value, AllocError> {
-        let mut values = Vec::new(alloc);
+        let mut values = Values::new(alloc);
         for changed in &self.changed {
-            add(&mut values, changed_json(alloc, changed))?;
+            values.add(changed_json(alloc, changed));
         }
-        Ok(Value::Array(values))
+        values.list()
     }
 }
 
@@ -158,12 +158,12 @@ impl Shown for Difference<'_> {
     fn json(&self, alloc: Global) -> Result<Value, AllocError> {
         let lost = &self.removed_dependencies;
         let won = &self.added_dependencies;
-        let mut members = Members::new(alloc);
-        members.put("changed", self.changed_json(alloc))?;
-        members.put("removed", krates_json(alloc, &self.removed))?;
-        members.put("added", krates_json(alloc, &self.added))?;
-        members.put("removed_dependencies", dependencies_json(alloc, lost))?;
-        members.put("added_dependencies", dependencies_json(alloc, won))?;
-        Ok(members.object())
+        Members::new(alloc)
+            .put("changed", self.changed_json(alloc))
+            .put("removed", krates_json(alloc, &self.removed))
+            .put("added", krates_json(alloc, &self.added))
+            .put("removed_dependencies", dependencies_json(alloc, lost))
+            .put("added_dependencies", dependencies_json(alloc, won))
+            .object()
     }
 }

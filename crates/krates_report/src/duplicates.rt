@@ -2,7 +2,7 @@
 
 use crate::crate_name::ShortName;
 use crate::krate_json::{ids_json, krate_json};
-use crate::members::{Members, add};
+use crate::members::{Members, Values};
 use crate::shown::Shown;
 use krates::{KrateMatch, Krates, NodeId, Package};
 use krates_answers::duplicates::{Duplicate, duplicates};
@@ -66,27 +66,27 @@ impl<'a> Duplicates<'a> {
         krate: &KrateMatch<'_, Package>,
     ) -> Result<Value, AllocError> {
         let dependents = self.dependents_of(krate);
-        let mut members = Members::new(alloc);
-        members.put("crate", krate_json(alloc, krate.krate))?;
-        members.put("dependents", ids_json(alloc, self.krates, dependents))?;
-        Ok(members.object())
+        Members::new(alloc)
+            .put("crate", krate_json(alloc, krate.krate))
+            .put("dependents", ids_json(alloc, self.krates, dependents))
+            .object()
     }
 
     /// What JSON says of the crates of a name.
     fn krates_json(&self, alloc: Global, name: &Duplicate<'_>) -> Result<Value, AllocError> {
-        let mut values = Vec::new(alloc);
+        let mut values = Values::new(alloc);
         for krate in &name.krates {
-            add(&mut values, self.krate_json(alloc, krate))?;
+            values.add(self.krate_json(alloc, krate));
         }
-        Ok(Value::Array(values))
+        values.list()
     }
 
     /// What JSON says of a name.
     fn name_json(&self, alloc: Global, name: &Duplicate<'_>) -> Result<Value, AllocError> {
-        let mut members = Members::new(alloc);
-        members.text("name", name.name)?;
-        members.put("crates", self.krates_json(alloc, name))?;
-        Ok(members.object())
+        Members::new(alloc)
+            .text("name", name.name)
+            .put("crates", self.krates_json(alloc, name))
+            .object()
     }
 }
 
@@ -105,10 +105,10 @@ impl Shown for Duplicates<'_> {
 
     /// A list of objects with `name` and `crates`, each of these with `crate` and the ids of its `dependents`.
     fn json(&self, alloc: Global) -> Result<Value, AllocError> {
-        let mut values = Vec::new(alloc);
+        let mut values = Values::new(alloc);
         for name in &self.names {
-            add(&mut values, self.name_json(alloc, name))?;
+            values.add(self.name_json(alloc, name));
         }
-        Ok(Value::Array(values))
+        values.list()
     }
 }

@@ -2,7 +2,7 @@
 
 use crate::crate_name::ShortName;
 use crate::krate_json::krates_json;
-use crate::members::{Members, add};
+use crate::members::{Members, Values};
 use crate::shown::Shown;
 use krates_answers::licences::Licence;
 use serde_json::Value;
@@ -40,10 +40,10 @@ fn text_json(alloc: Global, text: &str) -> Result<Value, AllocError> {
 
 /// What JSON says of a licence.
 fn licence_json(alloc: Global, licence: &Licence<'_>) -> Result<Value, AllocError> {
-    let mut members = Members::new(alloc);
-    members.put("licence", text_json(alloc, licence.text))?;
-    members.put("crates", krates_json(alloc, &licence.krates))?;
-    Ok(members.object())
+    Members::new(alloc)
+        .put("licence", text_json(alloc, licence.text))
+        .put("crates", krates_json(alloc, &licence.krates))
+        .object()
 }
 
 impl Shown for Licences<'_> {
@@ -58,10 +58,10 @@ impl Shown for Licences<'_> {
 
     /// A list of objects with `licence`, which is null where there is none, and `crates`.
     fn json(&self, alloc: Global) -> Result<Value, AllocError> {
-        let mut values = Vec::new(alloc);
+        let mut values = Values::new(alloc);
         for licence in &self.licences {
-            add(&mut values, licence_json(alloc, licence))?;
+            values.add(licence_json(alloc, licence));
         }
-        Ok(Value::Array(values))
+        values.list()
     }
 }

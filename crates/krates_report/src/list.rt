@@ -2,7 +2,7 @@
 
 use crate::crate_name::ShortName;
 use crate::krate_json::krate_json;
-use crate::members::add;
+use crate::members::Values;
 use crate::shown::Shown;
 use krates::Krates;
 use serde_json::Value;
@@ -33,10 +33,10 @@ impl Shown for List<'_> {
 
     /// A list of crates.
     fn json(&self, alloc: Global) -> Result<Value, AllocError> {
-        let mut values = Vec::new(alloc);
+        let mut values = Values::new(alloc);
         for krate in self.krates.krates() {
-            add(&mut values, krate_json(alloc, krate))?;
+            values.add(krate_json(alloc, krate));
         }
-        Ok(Value::Array(values))
+        values.list()
     }
 }

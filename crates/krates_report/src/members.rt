@@ -1,4 +1,6 @@
-//! JSON objects and lists, member by member.
+//! JSON objects and lists, value by value.
+//!
+//! Where memory runs out, it is told once, when the object or the list is asked for: until then nothing more is kept.
 
 use serde_json::{Map, Value, push, put};
 use std::alloc::{AllocError, Global};
@@ -8,6 +10,8 @@ use std::alloc::{AllocError, Global};
 pub(crate) struct Members {
     alloc: Global,
     members: Map<String, Value>,
+    /// Whether there was memory for all of them.
+    is_whole: bool,
 }
 
 impl Members {
@@ -16,43 +20,83 @@ impl Members {
         Members {
             alloc,
             members: Map::new(alloc),
+            is_whole: true,
         }
     }
 
-    /// Adds a value, if there was memory to make it.
-    pub(crate) fn put(
-        &mut self,
-        key: &'static str,
-        value: Result<Value, AllocError>,
-    ) -> Result<(), AllocError> {
-        put(&mut self.members, self.alloc, key, value?)
+    /// These, and a value.
+    pub(crate) fn put(mut self, key: &'static str, value: Result<Value, AllocError>) -> Members {
+        self.is_whole = self.has_put(key, value) && self.is_whole;
+        self
     }
 
-    /// Adds a text.
-    pub(crate) fn text(&mut self, key: &'static str, text: &str) -> Result<(), AllocError> {
-        self.put(key, Value::try_from_str(self.alloc, text))
+    /// These, and a text.
+    pub(crate) fn text(self, key: &'static str, text: &str) -> Members {
+        let value = Value::try_from_str(self.alloc, text);
+        self.put(key, value)
     }
 
-    /// Adds texts, each under its key.
-    pub(crate) fn texts(&mut self, texts: &[(&'static str, &str)]) -> Result<(), AllocError> {
-        for (key, text) in texts {
-            self.text(*key, *text)?;
+    /// Adds a value; whether there was memory for it.
+    fn has_put(&mut self, key: &'static str, value: Result<Value, AllocError>) -> bool {
+        match value {
+            Ok(value) => put(&mut self.members, self.alloc, key, value).is_ok(),
+            Err(AllocError) => false,
         }
-        Ok(())
     }
 
     /// The object of these members.
-    pub(crate) fn object(self) -> Value {
-        Value::Object(self.members)
+    pub(crate) fn object(self) -> Result<Value, AllocError> {
+        if self.is_whole {
+            Ok(Value::Object(self.members))
+        } else {
+            Err(AllocError)
+        }
     }
 }
 
-/// Adds a value to a list, if there was memory to make it.
-pub(crate) fn add(
-    values: &mut Vec<Value>,
-    value: Result<Value, AllocError>,
-) -> Result<(), AllocError> {
-    push(values, value?)
+/// The values of a list that is being made.
+#[derive(Drop)]
+pub(crate) struct Values {
+    values: Vec<Value>,
+    /// Whether there was memory for all of them.
+    is_whole: bool,
+}
+
+impl Values {
+    /// None.
+    pub(crate) fn new(alloc: Global) -> Values {
+        Values {
+            values: Vec::new(alloc),
+            is_whole: true,
+        }
+    }
+
+    /// Adds a value.
+    pub(crate) fn add(&mut self, value: Result<Value, AllocError>) {
+        self.is_whole = self.has_added(value) && self.is_whole;
+    }
+
+    /// Adds a value; whether there was memory for it.
+    fn has_added(&mut self, value: Result<Value, AllocError>) -> bool {
+        match value {
+            Ok(value) => push(&mut self.values, value).is_ok(),
+            Err(AllocError) => false,
+        }
+    }
+
+    /// The list of these values.
+    pub(crate) fn list(self) -> Result<Value, AllocError> {
+        if self.is_whole {
+            Ok(Value::Array(self.values))
+        } else {
+            Err(AllocError)
+        }
+    }
+}
+
+/// A text as a value.
+pub(crate) fn string(text: Result<String, AllocError>) -> Result<Value, AllocError> {
+    Ok(Value::String(text?))
 }
 
 /// The list of one value.
@@ -60,18 +104,7 @@ pub(crate) fn list_of(
     alloc: Global,
     value: Result<Value, AllocError>,
 ) -> Result<Value, AllocError> {
-    let mut values = Vec::new(alloc);
-    add(&mut values, value)?;
-    Ok(Value::Array(values))
-}
-
-/// The object of one key.
-pub(crate) fn object_of(
-    alloc: Global,
-    key: &'static str,
-    value: Result<Value, AllocError>,
-) -> Result<Value, AllocError> {
-    let mut members = Members::new(alloc);
-    members.put(key, value)?;
-    Ok(members.object())
+    let mut values = Values::new(alloc);
+    values.add(value);
+    values.list()
 }

@@ -1,7 +1,7 @@
 //! Trees of crates as they are shown.
 
 use crate::crate_name::ShortName;
-use crate::members::{Members, add};
+use crate::members::{Members, Values};
 use crate::shown::Shown;
 use krates::{Krates, NodeId};
 use krates_answers::links::Links;
@@ -75,11 +75,11 @@ impl<'a> Tree<'a> {
         } else {
             ""
         };
-        let mut members = Members::new(alloc);
-        members.put("depth", Ok(Value::from(line.depth as u64)))?;
-        members.text("id", id)?;
-        members.put("repeated", Ok(Value::Bool(self.is_repeated(line))))?;
-        Ok(members.object())
+        Members::new(alloc)
+            .put("depth", Ok(Value::from(line.depth as u64)))
+            .text("id", id)
+            .put("repeated", Ok(Value::Bool(self.is_repeated(line))))
+            .object()
     }
 }
 
@@ -138,10 +138,10 @@ impl Shown for Tree<'_> {
 
     /// A list of lines, each with `depth`, `id` and `repeated`.
     fn json(&self, alloc: Global) -> Result<Value, AllocError> {
-        let mut values = Vec::new(alloc);
+        let mut values = Values::new(alloc);
         for line in &self.lines {
-            add(&mut values, self.line_json(alloc, line))?;
+            values.add(self.line_json(alloc, line));
         }
-        Ok(Value::Array(values))
+        values.list()
     }
 }

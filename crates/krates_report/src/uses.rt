@@ -2,7 +2,7 @@
 
 use crate::crate_name::ShortName;
 use crate::krate_json::krate_json;
-use crate::members::{Members, add};
+use crate::members::{Members, Values};
 use crate::shown::Shown;
 use krates_answers::uses::{Use, UsedKrate};
 use serde_json::Value;
@@ -34,13 +34,13 @@ impl Uses<'_> {
 
     /// The crates that are used for this.
     fn json_of(&self, alloc: Global, usage: Use) -> Result<Value, AllocError> {
-        let mut values = Vec::new(alloc);
+        let mut values = Values::new(alloc);
         for used in &self.used {
             if used.usage == usage {
-                add(&mut values, krate_json(alloc, used.krate.krate))?;
+                values.add(krate_json(alloc, used.krate.krate));
             }
         }
-        Ok(Value::Array(values))
+        values.list()
     }
 }
 
@@ -56,10 +56,10 @@ impl Shown for Uses<'_> {
 
     /// An object with the crates of `shipped`, `build` and `dev`.
     fn json(&self, alloc: Global) -> Result<Value, AllocError> {
-        let mut members = Members::new(alloc);
-        members.put("shipped", self.json_of(alloc, Use::Shipped))?;
-        members.put("build", self.json_of(alloc, Use::Build))?;
-        members.put("dev", self.json_of(alloc, Use::Dev))?;
-        Ok(members.object())
+        Members::new(alloc)
+            .put("shipped", self.json_of(alloc, Use::Shipped))
+            .put("build", self.json_of(alloc, Use::Build))
+            .put("dev", self.json_of(alloc, Use::Dev))
+            .object()
     }
 }

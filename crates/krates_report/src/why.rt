@@ -1,10 +1,10 @@
 //! Why a crate is kept, and why its features are enabled.
 
 use crate::crate_name::ShortName;
-use crate::members::{Members, add};
+use crate::members::{Members, Values, string};
 use crate::sentences::{push_last_reason, push_sentences};
 use crate::shown::Shown;
-use krates::derive::{Derivation, Fact, Step};
+use krates::derive::{Derivation, Step};
 use krates::{KrateMatch, Krates, Node, NodeId, Package};
 use serde_json::Value;
 use std::alloc::{AllocError, Global};
@@ -20,36 +20,31 @@ pub struct Why<'a> {
     pub has_steps: bool,
 }
 
-/// The text of a fact.
-fn fact_json(alloc: Global, fact: &Fact) -> Result<Value, AllocError> {
-    Ok(Value::String(format!(in alloc; "{fact}")?))
-}
-
 /// The numbers of steps.
 fn uses_json(alloc: Global, uses: &[usize]) -> Result<Value, AllocError> {
-    let mut values = Vec::new(alloc);
+    let mut values = Values::new(alloc);
     for used in uses {
-        add(&mut values, Ok(Value::from(*used as u64)))?;
+        values.add(Ok(Value::from(*used as u64)));
     }
-    Ok(Value::Array(values))
+    values.list()
 }
 
 /// What JSON says of a step.
 fn step_json(alloc: Global, step: &Step) -> Result<Value, AllocError> {
-    let mut members = Members::new(alloc);
-    members.put("rule", Ok(Value::from(step.rule as u64)))?;
-    members.put("fact", fact_json(alloc, &step.fact))?;
-    members.put("uses", uses_json(alloc, &step.uses))?;
-    Ok(members.object())
+    Members::new(alloc)
+        .put("rule", Ok(Value::from(step.rule as u64)))
+        .put("fact", string(format!(in alloc; "{}", step.fact)))
+        .put("uses", uses_json(alloc, &step.uses))
+        .object()
 }
 
 /// That of each of these.
 fn steps_json(alloc: Global, steps: &[Step]) -> Result<Value, AllocError> {
-    let mut values = Vec::new(alloc);
+    let mut values = Values::new(alloc);
     for step in steps {
-        add(&mut values, step_json(alloc, step))?;
+        values.add(step_json(alloc, step));
     }
-    Ok(Value::Array(values))
+    values.list()
 }
 
 impl Shown for Why<'_> {
@@ -65,10 +60,10 @@ impl Shown for Why<'_> {
 
     /// `id` and `steps`, each with `rule`, `fact` and `uses`.
     fn json(&self, alloc: Global) -> Result<Value, AllocError> {
-        let mut members = Members::new(alloc);
-        members.text("id", self.krate.id.repr.as_str())?;
-        members.put("steps", steps_json(alloc, &self.derivation.steps))?;
-        Ok(members.object())
+        Members::new(alloc)
+            .text("id", self.krate.id.repr.as_str())
+            .put("steps", steps_json(alloc, &self.derivation.steps))
+            .object()
     }
 }
 
@@ -136,19 +131,19 @@ impl<'a> Features<'a> {
 
 /// What JSON says of a feature.
 fn feature_json(alloc: Global, feature: &EnabledFeature<'_>) -> Result<Value, AllocError> {
-    let mut members = Members::new(alloc);
-    members.text("name", feature.name)?;
-    members.text("reason", feature.reason.as_str())?;
-    Ok(members.object())
+    Members::new(alloc)
+        .text("name", feature.name)
+        .text("reason", feature.reason.as_str())
+        .object()
 }
 
 /// That of each of these.
 fn features_json(alloc: Global, features: &[EnabledFeature<'_>]) -> Result<Value, AllocError> {
-    let mut values = Vec::new(alloc);
+    let mut values = Values::new(alloc);
     for feature in features {
-        add(&mut values, feature_json(alloc, feature))?;
+        values.add(feature_json(alloc, feature));
     }
-    Ok(Value::Array(values))
+    values.list()
 }
 
 impl Shown for Features<'_> {
@@ -163,9 +158,9 @@ impl Shown for Features<'_> {
 
     /// `id` and `features`, each with `name` and `reason`.
     fn json(&self, alloc: Global) -> Result<Value, AllocError> {
-        let mut members = Members::new(alloc);
-        members.text("id", self.krate.id.repr.as_str())?;
-        members.put("features", features_json(alloc, &self.features))?;
-        Ok(members.object())
+        Members::new(alloc)
+            .text("id", self.krate.id.repr.as_str())
+            .put("features", features_json(alloc, &self.features))
+            .object()
     }
 }
