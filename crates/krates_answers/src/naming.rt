@@ -318,11 +318,12 @@ impl<'a> Packages<'a> {
         let mut found = self.candidates(alloc, word)?;
         if found.kept.len() > 1 {
             let refusal = several(alloc, word, &found.kept, &[]);
-            return Err(refusal.unwrap_or(NamingError::Memory));
-        }
-        match found.kept.pop() {
-            Some(krate) => Ok(krate),
-            None => Err(self.none(alloc, word, &found)),
+            Err(refusal.unwrap_or(NamingError::Memory))
+        } else {
+            match found.kept.pop() {
+                Some(krate) => Ok(krate),
+                None => Err(self.none(alloc, word, &found)),
+            }
         }
     }
 
@@ -331,12 +332,13 @@ impl<'a> Packages<'a> {
         let mut found = self.candidates(alloc, word)?;
         if found.kept.len().saturating_add(found.others.len()) > 1 {
             let refusal = several(alloc, word, &found.kept, &found.others);
-            return Err(refusal.unwrap_or(NamingError::Memory));
-        }
-        match (found.kept.pop(), found.others.pop()) {
-            (Some(krate), _) => Ok(Meant::Kept(krate)),
-            (None, Some(pkg)) => Ok(Meant::Other(pkg)),
-            (None, None) => Err(self.none(alloc, word, &found)),
+            Err(refusal.unwrap_or(NamingError::Memory))
+        } else {
+            match (found.kept.pop(), found.others.pop()) {
+                (Some(krate), _) => Ok(Meant::Kept(krate)),
+                (None, Some(pkg)) => Ok(Meant::Other(pkg)),
+                (None, None) => Err(self.none(alloc, word, &found)),
+            }
         }
     }
 

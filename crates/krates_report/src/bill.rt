@@ -186,8 +186,7 @@ impl Bill<'_> {
 impl Shown for Bill<'_> {
     /// The JSON.
     fn text(&self, alloc: Global) -> Result<String, AllocError> {
-        let value = self.json(alloc)?;
-        pretty(alloc, &value)
+        pretty(alloc, self.json(alloc))
     }
 
     /// `components`, the kept crates, and `dependencies`, with an entry for each of them. There is no time and no serial number in it, so

@@ -8,7 +8,7 @@ use crate::refusal::Refusal;
 use krates::{Builder, DepKind, Krates, Metadata, NoneFilter};
 use krates_answers::uses::Builds;
 use krates_words::Choice;
-use std::alloc::Global;
+use std::alloc::{AllocError, Global};
 
 /// The graph of a document under a choice, where dependencies of these kinds are ignored too. It is refused as `Build` where the
 /// document can't be built; it may instead return `Memory`. Time: that of `build_with_metadata`.
@@ -20,10 +20,17 @@ pub fn built(
 ) -> Result<Krates, Refusal>
     ensures { IfOk result (IsBuildOf (metadata_view metadata) choice.now also_ignored.now) }
 {
-    let setting = choice.setting(alloc, also_ignored)?;
-    let builder = Builder::under(alloc, setting);
-    let krates: Krates = builder.build_with_metadata(metadata, &mut NoneFilter)?;
-    Ok(krates)
+    match choice.setting(alloc, also_ignored) {
+        Ok(setting) => {
+            let builder = Builder::under(alloc, setting);
+            let krates: Krates = builder.build_with_metadata(metadata, &mut NoneFilter)?;
+            Ok(krates)
+        }
+        Err(AllocError) => {
+            metadata.let_go();
+            Err(Refusal::Memory)
+        }
+    }
 }
 
 /// The same of a copy of the document.
@@ -43,9 +50,18 @@ fn copy_built(
 pub fn builds(alloc: Global, choice: &Choice, metadata: Metadata) -> Result<Builds, Refusal>
     ensures { IfOk result (AreBuildsOf (metadata_view metadata) choice.now) }
 {
-    let all = copy_built(alloc, choice, &[], &metadata)?;
-    let without_dev = copy_built(alloc, choice, &[DepKind::Dev], &metadata)?;
-    let shipped = built(alloc, choice, &[DepKind::Dev, DepKind::Build], metadata)?;
+    let builds = builds_of_copies(alloc, choice, &metadata);
+    metadata.let_go();
+    builds
+}
+
+/// The same of copies of the document.
+fn builds_of_copies(alloc: Global, choice: &Choice, metadata: &Metadata) -> Result<Builds, Refusal>
+    ensures { IfOk result (AreBuildsOf (metadata_view metadata.now) choice.now) }
+{
+    let all = copy_built(alloc, choice, &[], metadata)?;
+    let without_dev = copy_built(alloc, choice, &[DepKind::Dev], metadata)?;
+    let shipped = copy_built(alloc, choice, &[DepKind::Dev, DepKind::Build], metadata)?;
     Ok(Builds {
         all,
         without_dev,

@@ -4,7 +4,8 @@ use crate::crate_name::ShortName;
 use crate::krate_json::krates_json;
 use crate::members::{Members, Values};
 use crate::shown::Shown;
-use krates_answers::licences::Licence;
+use krates::Krates;
+use krates_answers::licences::{Licence, licences};
 use serde_json::Value;
 use std::alloc::{AllocError, Global};
 
@@ -13,6 +14,14 @@ use std::alloc::{AllocError, Global};
 pub struct Licences<'a> {
     /// Each licence, in the order of the texts.
     pub licences: Vec<Licence<'a>>,
+}
+
+impl<'a> Licences<'a> {
+    /// Those of a graph.
+    pub(crate) fn of(alloc: Global, krates: &'a Krates) -> Result<Licences<'a>, AllocError> {
+        let licences = licences(alloc, krates)?;
+        Ok(Licences { licences })
+    }
 }
 
 /// Adds a licence, and below it its crates.

@@ -1,6 +1,7 @@
 //! JSON objects and lists, value by value.
 //!
-//! Where memory runs out, it is told once, when the object or the list is asked for: until then nothing more is kept.
+//! That memory ran out for a value is told where the object or the list is asked for, and not at each value: so a long object is made
+//! without an exit for each key.
 
 use serde_json::{Map, Value, push, put};
 use std::alloc::{AllocError, Global};

@@ -14,9 +14,9 @@ use crate::uses::Uses;
 use crate::why::{Features, Why};
 use krates::derive::{Derivation, Fact};
 use krates::{Builder, Kid, Krates, Metadata, Node, NodeId, OnFilter, Package, PackageId};
-use krates_answers::licences::licences;
 use krates_answers::naming::{Meant, Packages};
 use krates_answers::unreachable::is_unreachable;
+use krates_answers::uses::Builds;
 use krates_certificate::{Certificate, Part};
 use krates_dump::{push_answers, push_graph};
 use krates_words::{Asked, Word};
@@ -54,6 +54,20 @@ impl OnFilter for Others {
 }
 
 impl Others {
+    /// None yet.
+    fn new(alloc: Global) -> Others {
+        Others {
+            packages: Vec::new(alloc),
+            is_whole: true,
+        }
+    }
+
+    /// The graph that is built of a document and the packages that it doesn't keep.
+    fn divided(mut self, builder: Builder, metadata: Metadata) -> Result<Divided, Refusal> {
+        let krates = builder.build_with_metadata(metadata, &mut self)?;
+        self.beside(krates)
+    }
+
     /// These and the graph that doesn't keep them, if there was memory for all of them.
     fn beside(self, krates: Krates) -> Result<Divided, Refusal> {
         let Others { packages, is_whole } = self;
@@ -136,7 +150,10 @@ impl Reporter<'_> {
     fn of_both(&self, metadata: Metadata, other: Metadata) -> Result<Answer, Refusal> {
         match &self.asked.word {
             Word::Diff { .. } => self.difference(metadata, other),
-            _ => self.of_one(metadata),
+            _ => {
+                other.let_go();
+                self.of_one(metadata)
+            }
         }
     }
 
@@ -152,17 +169,21 @@ impl Reporter<'_> {
             Word::Licences => self.licences(metadata),
             Word::Uses => self.uses(metadata),
             Word::Sbom => self.bill(metadata),
-            Word::Diff { .. } => Err(Refusal::NoOther),
             Word::Graph => self.graph(metadata),
             Word::Queries => self.queries(metadata),
             Word::Certify { spec } => self.certificate(metadata, spec.as_ref()),
             Word::Unreachable { spec } => self.unreachable(metadata, spec.as_str()),
+            Word::Diff { .. } => {
+                metadata.let_go();
+                Err(Refusal::NoOther)
+            }
         }
     }
 
-    /// What is printed of an answer that is a yes.
-    fn shown<T: Shown>(&self, answer: &T) -> Result<Answer, Refusal> {
-        let text = printed(self.alloc, answer, self.asked.is_json)?;
+    /// What is printed of an answer that is a yes, if there was memory to make it.
+    fn shown<T: Shown + Drop>(&self, answer: Result<T, AllocError>) -> Result<Answer, Refusal> {
+        let answer = answer?;
+        let text = printed(self.alloc, &answer, self.asked.is_json)?;
         Ok(Answer::yes(text))
     }
 
@@ -171,15 +192,20 @@ impl Reporter<'_> {
         built(self.alloc, &self.asked.choice, &[], metadata)
     }
 
+    /// The three graphs of a document by which uses are told.
+    fn builds(&self, metadata: Metadata) -> Result<Builds, Refusal> {
+        builds(self.alloc, &self.asked.choice, metadata)
+    }
+
     /// The graph of a document and the packages that it doesn't keep.
     fn divided(&self, metadata: Metadata) -> Result<Divided, Refusal> {
-        let builder = self.builder()?;
-        let mut others = Others {
-            packages: Vec::new(self.alloc),
-            is_whole: true,
-        };
-        let krates = builder.build_with_metadata(metadata, &mut others)?;
-        others.beside(krates)
+        match self.builder() {
+            Ok(builder) => Others::new(self.alloc).divided(builder, metadata),
+            Err(AllocError) => {
+                metadata.let_go();
+                Err(Refusal::Memory)
+            }
+        }
     }
 
     /// A builder under what is chosen.
@@ -191,124 +217,177 @@ impl Reporter<'_> {
     /// The kept crates.
     fn list(&self, metadata: Metadata, has_ids: bool) -> Result<Answer, Refusal> {
         let krates = self.built(metadata)?;
-        self.shown(&List {
+        self.shown(Ok(List {
             krates: &krates,
             has_ids,
-        })
+        }))
     }
 
     /// The tree of what a crate needs, or the members where none is named.
     fn tree(&self, metadata: Metadata, spec: Option<&String>) -> Result<Answer, Refusal> {
         let divided = self.divided(metadata)?;
-        let roots = self.roots(&divided, spec)?;
-        let tree = Tree::of_dependencies(self.alloc, &divided.krates, &roots)?;
-        self.shown(&tree)
-    }
-
-    /// The number of the crate that a word means, or those of the members where there is none.
-    fn roots(&self, divided: &Divided, spec: Option<&String>) -> Result<Vec<NodeId>, Refusal> {
-        match spec {
-            Some(spec) => self.root(divided, spec.as_str()),
-            None => Ok(members_of(self.alloc, &divided.krates)?),
-        }
-    }
-
-    /// The number of the crate that a word means.
-    fn root(&self, divided: &Divided, spec: &str) -> Result<Vec<NodeId>, Refusal> {
-        let found = divided.packages().one(self.alloc, spec)?;
-        Ok(vec![in self.alloc; found.node_id]?)
+        self.tree_below(&divided, spec)
     }
 
     /// The tree of those that need a crate.
     fn dependents(&self, metadata: Metadata, spec: &str) -> Result<Answer, Refusal> {
         let divided = self.divided(metadata)?;
-        let roots = self.root(&divided, spec)?;
-        let tree = Tree::of_dependents(self.alloc, &divided.krates, &roots)?;
-        self.shown(&tree)
+        self.tree_above(&divided, spec)
     }
 
     /// Why a crate is kept.
     fn why(&self, metadata: Metadata, spec: &str, has_steps: bool) -> Result<Answer, Refusal> {
         let divided = self.divided(metadata)?;
-        let found = divided.packages().one(self.alloc, spec)?;
-        match divided.krates.why(found.node_id)? {
-            Some(derivation) => self.shown(&Why {
-                krate: found.krate,
-                derivation,
-                has_steps,
-            }),
-            None => Ok(Answer::yes(String::new(self.alloc))),
-        }
+        self.why_in(&divided, spec, has_steps)
     }
 
     /// The enabled features of a crate.
     fn features(&self, metadata: Metadata, spec: &str) -> Result<Answer, Refusal> {
         let divided = self.divided(metadata)?;
-        let found = divided.packages().one(self.alloc, spec)?;
-        let features = Features::of(self.alloc, &divided.krates, found)?;
-        self.shown(&features)
+        self.features_in(&divided, spec)
     }
 
     /// The names that several kept crates have.
     fn duplicates(&self, metadata: Metadata) -> Result<Answer, Refusal> {
         let krates = self.built(metadata)?;
-        let duplicates = Duplicates::of(self.alloc, &krates)?;
-        self.shown(&duplicates)
+        self.shown(Duplicates::of(self.alloc, &krates))
     }
 
     /// The licences of the kept crates.
     fn licences(&self, metadata: Metadata) -> Result<Answer, Refusal> {
         let krates = self.built(metadata)?;
-        let licences = licences(self.alloc, &krates)?;
-        self.shown(&Licences { licences })
+        self.shown(Licences::of(self.alloc, &krates))
     }
 
     /// What the kept crates are used for.
     fn uses(&self, metadata: Metadata) -> Result<Answer, Refusal> {
-        let builds = builds(self.alloc, &self.asked.choice, metadata)?;
-        let used = builds.uses(self.alloc)?;
-        self.shown(&Uses { used })
+        let builds = self.builds(metadata)?;
+        self.shown(Uses::of(self.alloc, &builds))
     }
 
     /// The bill of materials.
     fn bill(&self, metadata: Metadata) -> Result<Answer, Refusal> {
-        let builds = builds(self.alloc, &self.asked.choice, metadata)?;
-        let bill = Bill::of(self.alloc, &builds)?;
-        self.shown(&bill)
+        let builds = self.builds(metadata)?;
+        self.shown(Bill::of(self.alloc, &builds))
     }
 
     /// What the graphs of two documents have alone.
     fn difference(&self, first: Metadata, second: Metadata) -> Result<Answer, Refusal> {
-        let first = self.built(first)?;
+        match self.built(first) {
+            Ok(first) => self.difference_from(&first, second),
+            Err(refusal) => {
+                second.let_go();
+                Err(refusal)
+            }
+        }
+    }
+
+    /// What the graph of a document and another graph have alone.
+    fn difference_from(&self, first: &Krates, second: Metadata) -> Result<Answer, Refusal> {
         let second = self.built(second)?;
-        let difference = Difference::between(self.alloc, &first, &second)?;
-        self.shown(&difference)
+        self.shown(Difference::between(self.alloc, first, &second))
     }
 
     /// The drawn graph, number by number.
     fn graph(&self, metadata: Metadata) -> Result<Answer, Refusal> {
         let krates = self.built(metadata)?;
+        self.graph_lines(&krates)
+    }
+
+    /// What each query answers.
+    fn queries(&self, metadata: Metadata) -> Result<Answer, Refusal> {
+        match ids_of(self.alloc, &metadata.packages) {
+            Ok(ids) => self.queries_of(metadata, &ids),
+            Err(AllocError) => {
+                metadata.let_go();
+                Err(Refusal::Memory)
+            }
+        }
+    }
+
+    /// The same, where the packages of the document have these ids.
+    fn queries_of(&self, metadata: Metadata, ids: &[PackageId]) -> Result<Answer, Refusal> {
+        let krates = self.built(metadata)?;
+        self.query_lines(&krates, ids)
+    }
+
+    /// Whether a package is certain not to be reached.
+    fn unreachable(&self, metadata: Metadata, spec: &str) -> Result<Answer, Refusal> {
+        let answer = self.unreachable_in(&metadata, spec);
+        metadata.let_go();
+        answer
+    }
+
+    /// The same, of a document that stays.
+    fn unreachable_in(&self, metadata: &Metadata, spec: &str) -> Result<Answer, Refusal> {
+        let divided = self.divided(metadata.clone()?)?;
+        self.certainty(metadata, &divided, spec)
+    }
+
+    /// A certificate: that a crate is kept; or, of all crates and of one that isn't kept, that nothing else is.
+    fn certificate(&self, metadata: Metadata, spec: Option<&String>) -> Result<Answer, Refusal> {
+        let divided = self.divided(metadata)?;
+        self.certificate_in(&divided, spec)
+    }
+}
+
+/// What is printed of what was built. Nothing large is owned here, so that no refusal has to let it go.
+impl Reporter<'_> {
+    /// The tree of what a crate needs, or the members where none is named.
+    fn tree_below(&self, divided: &Divided, spec: Option<&String>) -> Result<Answer, Refusal> {
+        let roots = match spec {
+            Some(spec) => self.root(divided, spec.as_str())?,
+            None => members_of(self.alloc, &divided.krates)?,
+        };
+        self.shown(Tree::of_dependencies(self.alloc, &divided.krates, &roots))
+    }
+
+    /// The tree of those that need a crate.
+    fn tree_above(&self, divided: &Divided, spec: &str) -> Result<Answer, Refusal> {
+        let roots = self.root(divided, spec)?;
+        self.shown(Tree::of_dependents(self.alloc, &divided.krates, &roots))
+    }
+
+    /// The number of the crate that a word means, as a list.
+    fn root(&self, divided: &Divided, spec: &str) -> Result<Vec<NodeId>, Refusal> {
+        let found = divided.packages().one(self.alloc, spec)?;
+        Ok(vec![in self.alloc; found.node_id]?)
+    }
+
+    /// Why a crate is kept.
+    fn why_in(&self, divided: &Divided, spec: &str, has_steps: bool) -> Result<Answer, Refusal> {
+        let found = divided.packages().one(self.alloc, spec)?;
+        match divided.krates.why(found.node_id)? {
+            Some(derivation) => self.shown(Ok(Why {
+                krate: found.krate,
+                derivation,
+                has_steps,
+            })),
+            None => Ok(Answer::yes(String::new(self.alloc))),
+        }
+    }
+
+    /// The enabled features of a crate.
+    fn features_in(&self, divided: &Divided, spec: &str) -> Result<Answer, Refusal> {
+        let found = divided.packages().one(self.alloc, spec)?;
+        self.shown(Features::of(self.alloc, &divided.krates, found))
+    }
+
+    /// The drawn graph, number by number.
+    fn graph_lines(&self, krates: &Krates) -> Result<Answer, Refusal> {
         let mut lines = String::new(self.alloc);
         push_graph(&mut lines, krates.graph())?;
         Ok(Answer::yes(lines))
     }
 
-    /// What each query answers.
-    fn queries(&self, metadata: Metadata) -> Result<Answer, Refusal> {
-        let ids = ids_of(self.alloc, &metadata.packages)?;
-        let krates = self.built(metadata)?;
+    /// What each query answers, where packages have these ids.
+    fn query_lines(&self, krates: &Krates, ids: &[PackageId]) -> Result<Answer, Refusal> {
         let mut lines = String::new(self.alloc);
-        push_answers(self.alloc, &mut lines, &krates, &ids)?;
+        push_answers(self.alloc, &mut lines, krates, ids)?;
         Ok(Answer::yes(lines))
     }
 
     /// Whether a package is certain not to be reached.
-    fn unreachable(&self, metadata: Metadata, spec: &str) -> Result<Answer, Refusal> {
-        let divided = self.divided(metadata.clone()?)?;
-        self.certainty(&metadata, &divided, spec)
-    }
-
-    /// The same of a document and what is built of it.
     fn certainty(
         &self,
         metadata: &Metadata,
@@ -321,11 +400,11 @@ impl Reporter<'_> {
         };
         let facts = divided.krates.facts()?;
         let is_unreachable = self.is_unreachable(metadata, &facts, package)?;
-        let mut answer = self.shown(&Certainty {
+        let mut answer = self.shown(Ok(Certainty {
             package,
             is_unreachable,
             facts: facts.len(),
-        })?;
+        }))?;
         answer.is_yes = is_unreachable;
         Ok(answer)
     }
@@ -345,12 +424,10 @@ impl Reporter<'_> {
         Ok(is_unreachable(metadata, &builder, facts, &kid)?)
     }
 
-    /// A certificate: that a crate is kept; or, of all crates and of one that isn't kept, that nothing else is.
-    fn certificate(&self, metadata: Metadata, spec: Option<&String>) -> Result<Answer, Refusal> {
-        let divided = self.divided(metadata)?;
-        let certificate = self.certificate_of(&divided, spec)?;
-        let value = certificate.to_value(self.alloc)?;
-        let text = pretty(self.alloc, &value)?;
+    /// The certificate that is asked for, as JSON.
+    fn certificate_in(&self, divided: &Divided, spec: Option<&String>) -> Result<Answer, Refusal> {
+        let certificate = self.certificate_of(divided, spec)?;
+        let text = pretty(self.alloc, certificate.to_value(self.alloc))?;
         Ok(Answer::yes(text))
     }
 

@@ -17,12 +17,15 @@ pub fn printed<T: Shown>(alloc: Global, answer: &T, is_json: bool) -> Result<Str
     if !is_json {
         return answer.text(alloc);
     }
-    let value = answer.json(alloc)?;
-    pretty(alloc, &value)
+    pretty(alloc, answer.json(alloc))
 }
 
-/// The indented text of a value, with a line break behind it.
-pub(crate) fn pretty(alloc: Global, value: &Value) -> Result<String, AllocError> {
+/// The indented text of a value, with a line break behind it, if there was memory to make the value.
+pub(crate) fn pretty(
+    alloc: Global,
+    value: Result<Value, AllocError>,
+) -> Result<String, AllocError> {
+    let value = value?;
     let mut text = value.to_string_pretty(alloc)?;
     text.push_str("\n")?;
     Ok(text)

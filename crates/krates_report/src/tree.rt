@@ -59,6 +59,24 @@ impl<'a> Tree<'a> {
         }
     }
 
+    /// Adds a line behind what is drawn before it. For each line that it stands below, the margin's first, `goes_on` says whether more
+    /// follows below the same parent; those that it doesn't stand below are forgotten, and it is noted itself.
+    fn push_drawn(
+        &self,
+        line: &TreeLine,
+        is_last: bool,
+        goes_on: &mut Vec<bool>,
+        lines: &mut String,
+    ) -> Result<(), AllocError> {
+        if line.depth == 0 && !lines.is_empty() {
+            lines.push_str("\n")?;
+        }
+        fit(goes_on, line.depth)?;
+        push_branches(goes_on, is_last, lines)?;
+        goes_on.push(!is_last)?;
+        self.push_line(line, lines)
+    }
+
     /// Adds a line, without what is drawn before it.
     fn push_line(&self, line: &TreeLine, lines: &mut String) -> Result<(), AllocError> {
         if line.krate.index() >= self.krates.len() {
@@ -125,13 +143,7 @@ impl Shown for Tree<'_> {
         let mut goes_on = Vec::new(alloc);
         let mut lines = String::new(alloc);
         for (line, is_last) in self.lines.iter().zip(&are_last) {
-            if line.depth == 0 && !lines.is_empty() {
-                lines.push_str("\n")?;
-            }
-            fit(&mut goes_on, line.depth)?;
-            push_branches(&goes_on, *is_last, &mut lines)?;
-            self.push_line(line, &mut lines)?;
-            goes_on.push(!*is_last)?;
+            self.push_drawn(line, *is_last, &mut goes_on, &mut lines)?;
         }
         Ok(lines)
     }

@@ -4,7 +4,7 @@ use crate::crate_name::ShortName;
 use crate::krate_json::krate_json;
 use crate::members::{Members, Values};
 use crate::shown::Shown;
-use krates_answers::uses::{Use, UsedKrate};
+use krates_answers::uses::{Builds, Use, UsedKrate};
 use serde_json::Value;
 use std::alloc::{AllocError, Global};
 
@@ -13,6 +13,14 @@ use std::alloc::{AllocError, Global};
 pub struct Uses<'a> {
     /// The crates, by number.
     pub used: Vec<UsedKrate<'a>>,
+}
+
+impl<'a> Uses<'a> {
+    /// Those by these builds.
+    pub(crate) fn of(alloc: Global, builds: &'a Builds) -> Result<Uses<'a>, AllocError> {
+        let used = builds.uses(alloc)?;
+        Ok(Uses { used })
+    }
 }
 
 impl Uses<'_> {

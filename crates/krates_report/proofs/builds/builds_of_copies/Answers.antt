@@ -1,4 +1,4 @@
-use Rattle.krates_report.proofs.builds.builds.Goals as goal
+use Rattle.krates_report.proofs.builds.builds_of_copies.Goals as goal
 
 pub returns : goal.returns
 returns c = record {
