@@ -3,35 +3,15 @@
 //! The status is 0 where the answer is printed, 1 where it is no or where there is none, and 2 where the words are wrong.
 #![tactic(auto)]
 
-mod document;
 mod failure;
-mod rustc;
-mod said;
-mod targets;
-mod text;
 
 use crate::failure::Failure;
 use krates::Package;
+use krates_host::program::{NO, print, refuse_asked, refuse_words, words_of};
+use krates_host::{document, said, targets};
 use krates_report::{Answer, Reporter};
-use krates_words::{Asked, Choice, WordsError, asked_of};
-use std::io::Write;
+use krates_words::{Asked, Choice, asked_of};
 use std::process::ExitCode;
-use std::{env, io};
-
-/// The answer is no, or there is none.
-const NO: u8 = 1;
-
-/// The words are wrong.
-const WRONG: u8 = 2;
-
-/// The words after the program's name.
-fn words_of(rt: &HostRuntime) -> io::Result<Vec<String>> {
-    let mut words = Vec::new(rt.alloc());
-    for word in env::args(rt)?.skip(1) {
-        words.push(word)?;
-    }
-    Ok(words)
-}
 
 /// The answer to what is asked.
 fn answer_of(rt: &HostRuntime, mut asked: Asked) -> Result<Answer, Failure> {
@@ -73,44 +53,12 @@ fn print_answer(rt: &HostRuntime, asked: Asked) -> ExitCode {
     }
 }
 
-/// Prints a text. Where nobody reads it any more, that is no error.
-fn print(rt: &HostRuntime, text: &str, is_yes: bool) -> ExitCode {
-    let mut output = rt.stdout();
-    match output.write_all(text.as_bytes()) {
-        Ok(()) if is_yes => ExitCode::SUCCESS,
-        Ok(()) => ExitCode::from(NO),
-        Err(cause) if cause.kind() == io::ErrorKind::BrokenPipe => ExitCode::SUCCESS,
-        Err(cause) => {
-            said::error(rt, format_args!("can't write the answer: {cause}"));
-            ExitCode::from(NO)
-        }
-    }
-}
-
 /// Does what the words ask for.
 fn run(rt: &HostRuntime, words: &[String]) -> ExitCode {
     match asked_of(rt.alloc(), words) {
         Ok(asked) => print_answer(rt, asked),
-        Err(WordsError::Asked(text)) => print(rt, text.as_str(), true),
-        Err(WordsError::Wrong(text)) => {
-            said::wrong(rt, text.as_str());
-            ExitCode::from(WRONG)
-        }
-        Err(WordsError::Memory) => {
-            said::error(rt, "out of memory");
-            ExitCode::from(NO)
-        }
+        Err(error) => refuse_asked(rt, &error),
     }
-}
-
-/// Says why the words can't be read.
-fn refuse_words(rt: &HostRuntime, cause: &io::Error) -> ExitCode {
-    if cause.kind() == io::ErrorKind::InvalidData {
-        said::error(rt, "a word isn't UTF-8");
-        return ExitCode::from(WRONG);
-    }
-    said::error(rt, "out of memory");
-    ExitCode::from(NO)
 }
 
 /// Does what the words ask for.

@@ -1,2 +1,3 @@
 pub mod CargoWords
 pub mod Choice
+pub mod SettingWords

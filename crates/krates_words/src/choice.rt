@@ -4,13 +4,11 @@ ghost use Rattle.std.specs.Prelude.{◌≡◌, IfOk, map, string_bytes};
 ghost use Rattle.krates_text.specs.AskedTargets.{asked_of};
 ghost use Rattle.krates_words.specs.Choice.{IgnoresToo, IsSettingOf};
 
-use crate::edges::name_of;
 use krates_document::Setting;
 use krates_ids::PkgSpec;
 use krates_rules::kind::{DepKind, Scope};
 use krates_text::target::Target;
 use std::alloc::{AllocError, Global};
-use std::fmt::Display;
 
 /// Which part of a document counts.
 #[derive(Debug, Drop)]
@@ -57,56 +55,6 @@ impl Choice {
         setting.include_targets(copies_of(alloc, &self.targets)?)?;
         Ok(setting)
     }
-
-    /// The words that mean this choice, in one order, one for each option. A target is told by its triple, however it was described.
-    /// The only error is running out of memory. Time O(length of what is chosen).
-    pub fn words(&self, alloc: Global) -> Result<Vec<String>, AllocError> {
-        let mut words = Vec::new(alloc);
-        if self.workspace {
-            words.push(String::from_str(alloc, "--workspace")?)?;
-        }
-        if self.all_named {
-            words.push(String::from_str(alloc, "--all-named")?)?;
-        }
-        push_each(alloc, "--package", &self.packages, &mut words)?;
-        push_kinds(alloc, &self.ignored, &mut words)?;
-        push_each(alloc, "--exclude", &self.exclusions, &mut words)?;
-        push_targets(alloc, &self.targets, &mut words)?;
-        Ok(words)
-    }
-}
-
-/// Adds an option for each of these values.
-fn push_each<T: Display>(
-    alloc: Global,
-    option: &str,
-    values: &[T],
-    words: &mut Vec<String>,
-) -> Result<(), AllocError> {
-    for value in values {
-        words.push(format!(in alloc; "{option}={value}")?)?;
-    }
-    Ok(())
-}
-
-/// Adds an option for each kind.
-fn push_kinds(alloc: Global, kinds: &[DepKind], words: &mut Vec<String>) -> Result<(), AllocError> {
-    for kind in kinds {
-        words.push(format!(in alloc; "--ignore-kind={}", name_of(*kind))?)?;
-    }
-    Ok(())
-}
-
-/// Adds an option for each target.
-fn push_targets(
-    alloc: Global,
-    targets: &[(Target, Vec<String>)],
-    words: &mut Vec<String>,
-) -> Result<(), AllocError> {
-    for target in targets {
-        words.push(format!(in alloc; "--target={}", target.0)?)?;
-    }
-    Ok(())
 }
 
 /// Ignores dependencies of these kinds, whichever crate has them.

@@ -55,8 +55,7 @@ impl KnownWord {
     fn subcommand<'w>(&self, alloc: Global) -> Result<Command<'w>, AllocError> {
         let command = self.with_names(alloc, self.named(alloc)?)?;
         let command = self.with_form(alloc, command)?;
-        let command = with_options(alloc, command, "Which crates", &OF_CRATES)?;
-        let command = with_options(alloc, command, "Which targets", &OF_TARGETS)?;
+        let command = with_choice(alloc, command)?;
         let command = with_options(alloc, command, "What cargo is told", &OF_CARGO)?;
         command.arg(input(alloc)?)
     }
@@ -126,6 +125,15 @@ fn input<'w>(alloc: Global) -> Result<Arg<'w>, AllocError> {
     Ok(input)
 }
 
+/// With the options that choose a part of the document.
+pub(crate) fn with_choice<'w>(
+    alloc: Global,
+    command: Command<'w>,
+) -> Result<Command<'w>, AllocError> {
+    let command = with_options(alloc, command, "Which crates", &OF_CRATES)?;
+    with_options(alloc, command, "Which targets", &OF_TARGETS)
+}
+
 /// With options under a heading of help.
 fn with_options<'w>(
     alloc: Global,
@@ -142,7 +150,7 @@ fn with_options<'w>(
 
 impl KnownOption {
     /// The option as an argument.
-    fn arg<'w>(&self, alloc: Global) -> Arg<'w> {
+    pub(crate) fn arg<'w>(&self, alloc: Global) -> Arg<'w> {
         let arg = Arg::new(alloc, self.name).long(self.name).help(self.help);
         let arg = match self.short {
             Some(short) => arg.short(short),

@@ -1,5 +1,8 @@
 //! Which kinds of dependencies are followed, by `--edges` as `cargo tree` reads it and by `--ignore-kind`.
 
+ghost use Rattle.std.specs.Prelude.{◌≡◌};
+ghost use Rattle.krates_words.specs.SettingWords.{kind_name};
+
 use crate::error::WordsError;
 use krates_rules::kind::DepKind;
 use std::alloc::{AllocError, Global};
@@ -23,7 +26,9 @@ pub(crate) fn ignored(
 }
 
 /// How a kind is written.
-pub(crate) fn name_of(kind: DepKind) -> &'static str {
+pub(crate) fn name_of(kind: DepKind) -> &'static str
+    ensures { result.now ≡ kind_name kind }
+{
     match kind {
         DepKind::Normal => "normal",
         DepKind::Build => "build",

@@ -97,7 +97,7 @@ fn cargo(alloc: Global, found: &ArgMatches<'_>) -> Result<CargoWords, AllocError
 }
 
 /// Which part of the document counts, without targets.
-fn choice(alloc: Global, found: &ArgMatches<'_>) -> Result<Choice, WordsError> {
+pub(crate) fn choice(alloc: Global, found: &ArgMatches<'_>) -> Result<Choice, WordsError> {
     let ignored = edges::ignored(alloc, values(found, "edges"), values(found, "ignore-kind"))?;
     let exclusions = exclusions(alloc, values(found, "exclude"))?;
     let packages = texts(alloc, found, "package")?;

@@ -182,6 +182,14 @@ pub(crate) const METADATA: KnownOption = KnownOption {
     help: "Read the output of `cargo metadata --format-version 1` from this file,{n}or from standard input for `-`, in place of running cargo",
 };
 
+/// The document against which a certificate is checked.
+pub(crate) const DOCUMENT: KnownOption = KnownOption {
+    name: "metadata",
+    short: None,
+    takes: Takes::One("FILE"),
+    help: "The document: the output of `cargo metadata --format-version 1` in this file",
+};
+
 const IDS: KnownOption = KnownOption {
     name: "ids",
     short: None,

@@ -1,19 +1,22 @@
-//! What the words of the command line `cargo krates` ask for. Nothing is read but the words.
+//! What the words of the command lines `cargo krates` and `krates_check` ask for. Nothing is read but the words.
 #![tactic(auto)]
 
 mod cargo;
+mod check_words;
 mod choice;
 mod command;
 mod edges;
 mod error;
 mod found;
 mod known;
+mod setting_words;
 mod together;
 mod values;
 
 use crate::command::command_line;
 use crate::found::asked;
 pub use cargo::CargoWords;
+pub use check_words::{CheckWords, check_words_of};
 pub use choice::Choice;
 pub use error::WordsError;
 use std::alloc::Global;

@@ -9,15 +9,20 @@ use std::alloc::Global;
 
 /// What can't go together is refused, and what no option can mean.
 pub(crate) fn check(alloc: Global, found: &ArgMatches<'_>) -> Result<(), WordsError> {
+    check_choice(alloc, found)?;
+    check_manifest(alloc, found.get_str("manifest-path"))?;
+    check_documents(alloc, found.get_str("metadata"), found.get_str("FILE"))
+}
+
+/// The same of the options that choose a part of the document.
+pub(crate) fn check_choice(alloc: Global, found: &ArgMatches<'_>) -> Result<(), WordsError> {
     edges::check(alloc, values(found, "edges"))?;
     check_descriptions(
         alloc,
         values(found, "target").len(),
         values(found, "cfg").len(),
     )?;
-    check_manifest(alloc, found.get_str("manifest-path"))?;
-    check_packages(alloc, values(found, "package"))?;
-    check_documents(alloc, found.get_str("metadata"), found.get_str("FILE"))
+    check_packages(alloc, values(found, "package"))
 }
 
 /// Each description is that of a target.
@@ -57,9 +62,13 @@ fn check_packages(alloc: Global, paths: &[&str]) -> Result<(), WordsError> {
     }
 }
 
-/// Whether a path is absolute, here or on Windows, where it begins with `\\` or a drive's letter and a colon.
+/// Whether a path is absolute, here or on Windows, where it begins with `\\` or with a drive's letter, a colon and a slash.
 fn is_absolute(path: &str) -> bool {
-    path.starts_with('/') || path.starts_with('\\') || matches!(path.as_bytes(), [_, b':', ..])
+    match path.as_bytes() {
+        [b'/' | b'\\', ..] => true,
+        [drive, b':', b'/' | b'\\', ..] => drive.is_ascii_alphabetic(),
+        _ => false,
+    }
 }
 
 /// Standard input is one document.

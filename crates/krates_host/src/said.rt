@@ -10,17 +10,17 @@ const RED: &str = "31";
 const YELLOW: &str = "33";
 
 /// Says why there is no answer.
-pub(crate) fn error(rt: &HostRuntime, reason: impl Display + Drop) {
+pub fn error(rt: &HostRuntime, reason: impl Display + Drop) {
     say(rt, "error", RED, reason);
 }
 
 /// Says what a reader of the answer may want to know.
-pub(crate) fn note(rt: &HostRuntime, text: impl Display + Drop) {
+pub fn note(rt: &HostRuntime, text: impl Display + Drop) {
     say(rt, "note", YELLOW, text);
 }
 
 /// Says why the words are wrong, or which there are.
-pub(crate) fn wrong(rt: &HostRuntime, text: &str) {
+pub fn wrong(rt: &HostRuntime, text: &str) {
     match text.strip_prefix("error: ") {
         Some(reason) => error(rt, reason.trim_end()),
         None => {

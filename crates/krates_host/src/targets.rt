@@ -2,13 +2,13 @@
 
 use crate::failure::Failure;
 use crate::{rustc, text};
-use krates::cfg::{TargetInfo, builtin};
-use krates::target::Target;
+use krates_text::target::{Target, TargetInfo, builtin};
 use krates_words::Choice;
 use std::alloc::{AllocError, Global};
 
-/// The targets that are chosen, in their order, and then the host where it is chosen too.
-pub(crate) fn targets_of(
+/// The targets that are chosen, in their order, and then the host where it is chosen too. One that is neither in the table nor described by
+/// a file is described by rustc; one that rustc doesn't know is refused by its name. Time: that of running rustc for each of these.
+pub fn targets_of(
     rt: &HostRuntime,
     choice: &Choice,
 ) -> Result<Vec<(Target, Vec<String>)>, Failure> {

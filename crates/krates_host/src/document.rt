@@ -2,16 +2,17 @@
 
 use crate::failure::Failure;
 use crate::text;
-use krates::Metadata;
-use krates::cm::{Error, MetadataCommand};
+use krates_cargo::MetadataCommand;
+use krates_cm::{Error, Metadata};
 use krates_words::{Asked, CargoWords, Input, Word};
 use std::alloc::{AllocError, Global};
 use std::fs;
 
 const WITHOUT_CARGO: &str = "; install Rust, or read a document by --metadata FILE";
 
-/// The document that is asked about.
-pub(crate) fn document(rt: &HostRuntime, asked: &Asked) -> Result<Metadata, Failure> {
+/// The document that is asked about: that of cargo, of a file, or of standard input. It is refused where none of these has one. Time: that
+/// of cargo, and O(n) in the length of the text.
+pub fn document(rt: &HostRuntime, asked: &Asked) -> Result<Metadata, Failure> {
     match &asked.input {
         Input::Cargo => of_cargo(rt, &asked.cargo),
         Input::File(path) => in_file(rt, path),
@@ -19,8 +20,8 @@ pub(crate) fn document(rt: &HostRuntime, asked: &Asked) -> Result<Metadata, Fail
     }
 }
 
-/// The document with which it is compared, where a word asks for that.
-pub(crate) fn other(rt: &HostRuntime, word: &Word) -> Result<Option<Metadata>, Failure> {
+/// The document with which it is compared, where a word asks for that. It is refused as `document` is.
+pub fn other(rt: &HostRuntime, word: &Word) -> Result<Option<Metadata>, Failure> {
     match word {
         Word::Diff { other } if other.as_str() == "-" => Ok(Some(in_input(rt)?)),
         Word::Diff { other } => Ok(Some(in_file(rt, other)?)),
@@ -28,8 +29,9 @@ pub(crate) fn other(rt: &HostRuntime, word: &Word) -> Result<Option<Metadata>, F
     }
 }
 
-/// The document in a file.
-fn in_file(rt: &HostRuntime, path: &str) -> Result<Metadata, Failure> {
+/// The document in a file. It is refused as `Unread`, `NoText` or `NoDocument`, each with the file; it may instead return `Memory`.
+/// Time O(n) in the length of the text.
+pub fn in_file(rt: &HostRuntime, path: &str) -> Result<Metadata, Failure> {
     let text = text::in_file(rt, path)?;
     parsed(rt.alloc(), path, text.as_str())
 }

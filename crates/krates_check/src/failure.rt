@@ -1,0 +1,24 @@
+//! Why there is no yes.
+
+use krates_verdict::Refusal;
+use std::alloc::AllocError;
+
+/// Why there is no yes.
+#[derive(Debug, Drop, thiserror::Error)]
+pub(crate) enum Failure {
+    /// There is no document or target to check against.
+    #[error("{0}")]
+    Host(#[from] krates_host::Failure),
+    /// The certificate doesn't hold, or isn't read.
+    #[error("{0}")]
+    Refused(#[from] Refusal),
+    /// Memory ran out.
+    #[error("out of memory")]
+    Memory,
+}
+
+impl From<AllocError> for Failure {
+    fn from(_error: AllocError) -> Failure {
+        Failure::Memory
+    }
+}

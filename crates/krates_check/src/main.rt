@@ -1,0 +1,57 @@
+//! `krates_check --metadata FILE [OPTIONS]`: checks the certificate in standard input against a document, without the search that found
+//! what it says and without a graph. `krates_check --help` lists the options.
+//!
+//! The status is 0 where the certificate holds, which is printed with what it says; 1 where it doesn't, or where there is nothing to check;
+//! and 2 where the words are wrong.
+#![tactic(auto)]
+
+mod failure;
+
+use crate::failure::Failure;
+use krates_host::program::{NO, refuse_asked, refuse_words, words_of};
+use krates_host::{document, said, targets};
+use krates_verdict::{Claim, run};
+use krates_words::{CheckWords, check_words_of};
+use std::io::IsTerminal;
+use std::process::ExitCode;
+
+/// Checks the certificate in standard input, and prints what it says where it holds.
+fn check(rt: &HostRuntime, mut asked: CheckWords) -> Result<(), Failure> {
+    asked.choice.targets = targets::targets_of(rt, &asked.choice)?;
+    let metadata = document::in_file(rt, asked.document.as_str())?;
+    let setting = asked.choice.setting(rt.alloc(), &[])?;
+    let words = asked.choice.words(rt.alloc())?;
+    let claim = Claim {
+        metadata: &metadata,
+        setting: &setting,
+        words: &words,
+    };
+    if rt.stdin().is_terminal() {
+        said::note(rt, "reading a certificate from standard input");
+    }
+    run(rt.alloc(), &claim, &mut rt.reader(), &mut rt.stdout())?;
+    Ok(())
+}
+
+/// Does what the words ask for.
+fn answer(rt: &HostRuntime, words: &[String]) -> ExitCode {
+    let asked = match check_words_of(rt.alloc(), words) {
+        Ok(asked) => asked,
+        Err(error) => return refuse_asked(rt, &error),
+    };
+    match check(rt, asked) {
+        Ok(()) => ExitCode::SUCCESS,
+        Err(failure) => {
+            said::error(rt, failure);
+            ExitCode::from(NO)
+        }
+    }
+}
+
+/// Does what the words ask for.
+fn main(rt: HostRuntime) -> ExitCode {
+    match words_of(&rt) {
+        Ok(words) => answer(&rt, &words),
+        Err(cause) => refuse_words(&rt, &cause),
+    }
+}

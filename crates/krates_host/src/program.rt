@@ -1,0 +1,61 @@
+//! The words of a program, what it prints, and its status: 0 for a yes, 1 for a no or where there is no answer, and 2 for wrong words.
+
+use crate::said;
+use krates_words::WordsError;
+use std::io::Write;
+use std::process::ExitCode;
+use std::{env, io};
+
+/// The answer is no, or there is none.
+pub const NO: u8 = 1;
+
+/// The words are wrong.
+pub const WRONG: u8 = 2;
+
+/// The words after the program's name. It is refused as `InvalidData` where one isn't UTF-8. Time O(length of the words).
+pub fn words_of(rt: &HostRuntime) -> io::Result<Vec<String>> {
+    let mut words = Vec::new(rt.alloc());
+    for word in env::args(rt)?.skip(1) {
+        words.push(word)?;
+    }
+    Ok(words)
+}
+
+/// Says why the words can't be read, and answers the status.
+pub fn refuse_words(rt: &HostRuntime, cause: &io::Error) -> ExitCode {
+    if cause.kind() == io::ErrorKind::InvalidData {
+        said::error(rt, "a word isn't UTF-8");
+        return ExitCode::from(WRONG);
+    }
+    said::error(rt, "out of memory");
+    ExitCode::from(NO)
+}
+
+/// Prints the help that was asked for, or says what is wrong with the words, and answers the status.
+pub fn refuse_asked(rt: &HostRuntime, error: &WordsError) -> ExitCode {
+    match error {
+        WordsError::Asked(text) => print(rt, text.as_str(), true),
+        WordsError::Wrong(text) => {
+            said::wrong(rt, text.as_str());
+            ExitCode::from(WRONG)
+        }
+        WordsError::Memory => {
+            said::error(rt, "out of memory");
+            ExitCode::from(NO)
+        }
+    }
+}
+
+/// Prints a text, and answers the status. Where nobody reads it any more, that is no error.
+pub fn print(rt: &HostRuntime, text: &str, is_yes: bool) -> ExitCode {
+    let mut output = rt.stdout();
+    match output.write_all(text.as_bytes()) {
+        Ok(()) if is_yes => ExitCode::SUCCESS,
+        Ok(()) => ExitCode::from(NO),
+        Err(cause) if cause.kind() == io::ErrorKind::BrokenPipe => ExitCode::SUCCESS,
+        Err(cause) => {
+            said::error(rt, format_args!("can't write the answer: {cause}"));
+            ExitCode::from(NO)
+        }
+    }
+}

@@ -1,0 +1,61 @@
+//! What the words of the program that checks certificates ask for.
+
+use crate::choice::Choice;
+use crate::command::with_choice;
+use crate::error::WordsError;
+use crate::found::choice;
+use crate::known::DOCUMENT;
+use crate::together::check_choice;
+use crate::values::required;
+use clap::{ArgMatches, Command};
+use std::alloc::{AllocError, Global};
+
+const EXPLANATION: &str = "\
+The certificate is read from standard input, as `cargo krates certify` writes it.
+The options have to be those under which it was made.";
+
+/// What a run of the checker is asked for. The certificate stands in standard input.
+#[derive(Debug, Drop)]
+pub struct CheckWords {
+    /// The file with the document: `--metadata`.
+    pub document: String,
+    /// Which part of the document counts.
+    pub choice: Choice,
+}
+
+/// What the words ask for that stand behind the name of the checker.
+///
+/// It is refused as `Asked` where the words ask for help or the version, as `Wrong` where they ask for nothing known or for what
+/// can't go together, and else as `Memory`. Time O(length of the words).
+pub fn check_words_of(alloc: Global, words: &[String]) -> Result<CheckWords, WordsError> {
+    match command_line(alloc)?.try_get_matches_from(words) {
+        Ok(found) => found_words(alloc, &found),
+        Err(error) => Err(WordsError::by_clap(alloc, &error)),
+    }
+}
+
+/// The command.
+fn command_line<'w>(alloc: Global) -> Result<Command<'w>, AllocError> {
+    let command = Command::new(alloc, "krates_check")
+        .version("0.22.0")
+        .about("Checks a certificate of which crates a workspace needs")
+        .after_help(EXPLANATION)
+        .no_binary_name(true)
+        .arg_required_else_help(true)
+        .arg(DOCUMENT.arg(alloc).required(true))?;
+    with_choice(alloc, command)
+}
+
+/// What is asked for, from what `clap` found in the words.
+fn found_words(alloc: Global, found: &ArgMatches<'_>) -> Result<CheckWords, WordsError> {
+    check_choice(alloc, found)?;
+    let document = required(alloc, found, "metadata")?;
+    if document.as_str() == "-" {
+        return Err(WordsError::wrong(
+            alloc,
+            "standard input is the certificate: '--metadata <FILE>' has to be a file",
+        ));
+    }
+    let choice = choice(alloc, found)?;
+    Ok(CheckWords { document, choice })
+}
