@@ -29,8 +29,8 @@ ROOMS = {
     "questions and search": ("#e9f7ec", ["krates_document", "krates_lookups", "krates_questions", "krates_selection", "krates_search", "krates_resolve"]),
     "the graph": ("#e6f6f6", ["krates_graph", "krates_drawing", "krates_queries"]),
     "why": ("#f1f0e4", ["krates_steps", "krates_explain"]),
-    "checkers without a search": ("#fdeaea", ["krates_derive", "krates_checkers", "krates_certificate"]),
-    "for callers": ("#eceff1", ["krates_packages", "krates", "krates_cli", "krates_list", "krates_answers", "krates_words", "krates_dump", "krates_report", "cargo_krates"]),
+    "checkers without a search": ("#fdeaea", ["krates_derive", "krates_checkers", "krates_certificate", "krates_verdict", "krates_check"]),
+    "for callers": ("#eceff1", ["krates_packages", "krates", "krates_cli", "krates_list", "krates_answers", "krates_words", "krates_dump", "krates_report", "krates_host", "cargo_krates"]),
 }
 
 

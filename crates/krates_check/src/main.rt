@@ -10,7 +10,7 @@ mod failure;
 use crate::failure::Failure;
 use krates_host::program::{NO, refuse_asked, refuse_words, words_of};
 use krates_host::{document, said, targets};
-use krates_verdict::{Claim, run};
+use krates_verdict::{Subject, run};
 use krates_words::{CheckWords, check_words_of};
 use std::io::IsTerminal;
 use std::process::ExitCode;
@@ -21,7 +21,7 @@ fn check(rt: &HostRuntime, mut asked: CheckWords) -> Result<(), Failure> {
     let metadata = document::in_file(rt, asked.document.as_str())?;
     let setting = asked.choice.setting(rt.alloc(), &[])?;
     let words = asked.choice.words(rt.alloc())?;
-    let claim = Claim {
+    let subject = Subject {
         metadata: &metadata,
         setting: &setting,
         words: &words,
@@ -29,7 +29,7 @@ fn check(rt: &HostRuntime, mut asked: CheckWords) -> Result<(), Failure> {
     if rt.stdin().is_terminal() {
         said::note(rt, "reading a certificate from standard input");
     }
-    run(rt.alloc(), &claim, &mut rt.reader(), &mut rt.stdout())?;
+    run(rt.alloc(), &subject, &mut rt.reader(), &mut rt.stdout())?;
     Ok(())
 }
 

@@ -13,7 +13,7 @@ use krates::target::Target;
 use krates_report::{Answer, Reporter};
 use krates_samples::documents::metadata;
 use krates_samples::table::{Question, Row, hold};
-use krates_words::{Asked, asked_of};
+use krates_words::{Asked, Choice, asked_of};
 use std::alloc::Global;
 use std::test::Fail;
 
@@ -44,10 +44,10 @@ pub(crate) fn words_of(alloc: Global, line: &str) -> Result<Vec<String>, Fail> {
 }
 
 /// The targets that the words name, of those that are known by their triple.
-fn add_targets(alloc: Global, asked: &mut Asked) -> Result<(), Fail> {
-    for triple in &asked.choice.triples {
+pub(crate) fn add_targets(alloc: Global, choice: &mut Choice) -> Result<(), Fail> {
+    for triple in &choice.triples {
         let target = Target::new(alloc, triple.as_str())?;
-        asked.choice.targets.push((target, Vec::new(alloc)))?;
+        choice.targets.push((target, Vec::new(alloc)))?;
     }
     Ok(())
 }
@@ -58,7 +58,7 @@ fn printed_of(alloc: Global, mut asked: Asked, documents: &str) -> Result<String
         Some((first, second)) => (first, Some(second)),
         None => (documents, None),
     };
-    add_targets(alloc, &mut asked)?;
+    add_targets(alloc, &mut asked.choice)?;
     let other = other_of(alloc, second)?;
     let document = document_of(alloc, first)?;
     match Reporter::new(alloc, &asked).answer(document, other) {

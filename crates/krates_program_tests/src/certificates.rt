@@ -1,11 +1,9 @@
-//! Certificates as `cargo krates` writes them, and what the checkers say of them once they are read back.
+//! Certificates as `cargo krates` writes them, and what the program says that checks them.
 
-use crate::asked::{Answered, answered_of, document_of, words_of};
-use krates::derive::{CheckError, check, check_closed};
-use krates::{Builder, Metadata};
-use krates_certificate::Certificate;
+use crate::asked::{Answered, add_targets, answered_of, document_of, words_of};
 use krates_samples::table::{Question, Row, hold};
-use krates_words::{Asked, asked_of};
+use krates_verdict::{Subject, run};
+use krates_words::{CheckWords, check_words_of};
 use std::alloc::Global;
 use std::test::Fail;
 
@@ -32,79 +30,162 @@ fn certificates(rt: HostRuntime) -> Result<(), Fail> {
     hold::<Answered>(rt.alloc(), CERTIFICATES)
 }
 
-/// What the checker of its kind says of a certificate.
-fn verdict(
-    metadata: &Metadata,
-    builder: &Builder,
-    certificate: &Certificate,
-) -> Result<usize, CheckError> {
-    match certificate {
-        Certificate::Derivation { derivation, .. } => {
-            check(metadata, builder, None, derivation)?;
-            Ok(derivation.steps.len())
-        }
-        Certificate::Closed { facts, .. } => {
-            check_closed(metadata, builder, None, facts)?;
-            Ok(facts.len())
-        }
+/// What is written where a certificate holds of what is asked and a document, or why it doesn't.
+fn written(
+    alloc: Global,
+    mut asked: CheckWords,
+    document: &str,
+    certificate: &[u8],
+) -> Result<String, Fail> {
+    add_targets(alloc, &mut asked.choice)?;
+    let subject = Subject {
+        metadata: &document_of(alloc, document)?,
+        setting: &asked.choice.setting(alloc, &[])?,
+        words: &asked.choice.words(alloc)?,
+    };
+    let mut input = certificate;
+    let mut output = Vec::new(alloc);
+    match run(alloc, &subject, &mut input, &mut output) {
+        Ok(()) => Ok(String::from_utf8(output)?),
+        Err(refusal) => Ok(format!(in alloc; "refused: {refusal}")?),
     }
 }
 
-/// What is said of a certificate under what is asked: how many steps or facts hold, or why they don't.
-fn checked(
-    alloc: Global,
-    asked: &Asked,
-    metadata: &Metadata,
-    certificate: &Certificate,
-) -> Result<String, Fail> {
-    let mut builder = Builder::new(alloc);
-    asked.choice.apply_to(alloc, &[], &mut builder)?;
-    match verdict(metadata, &builder, certificate) {
-        Ok(count) => Ok(format!(in alloc; "{count} hold")?),
-        Err(refusal) => Ok(format!(in alloc; "{refusal}")?),
+/// What the checker says of a certificate under the words of a line, about the document behind `<`.
+fn checked(alloc: Global, line: &str, certificate: &[u8]) -> Result<String, Fail> {
+    let (words, document) = line.split_once(" < ").unwrap_or((line, ""));
+    match check_words_of(alloc, &words_of(alloc, words)?) {
+        Ok(asked) => written(alloc, asked, document, certificate),
+        Err(error) => Ok(format!(in alloc; "{error}")?),
     }
 }
 
 /// The words that ask for a certificate and its document, and behind `=>` the words and the document by which it is checked: what the
-/// checker says of the certificate as it is printed, read and handed to it.
+/// checker says of the certificate as it is printed.
 struct Certified;
 
 impl Question for Certified {
     fn told(alloc: Global, line: &str) -> Result<String, Fail> {
         let (made, by) = line.split_once(" => ").unwrap_or((line, line));
-        let certificate = Certificate::parse(alloc, answered_of(alloc, made)?.as_str())?;
-        let (words, document) = by.split_once(" < ").unwrap_or((by, ""));
-        let asked = asked_of(alloc, &words_of(alloc, words)?)?;
-        checked(alloc, &asked, &document_of(alloc, document)?, &certificate)
+        let certificate = answered_of(alloc, made)?;
+        checked(alloc, by, certificate.as_bytes())
     }
 }
 
 const CERTIFIED: &[Row] = &[
-    ("certify b < a b|b", "3 hold"),
-    ("certify --all < a b|b", "3 hold"),
-    ("certify c < a b|b|c", "3 hold"),
-    ("certify a -e no-dev < a b&dev|b", "1 hold"),
-    // of another document, and under another setting
     (
-        "certify b < a b|b => certify b < a b&dev|b",
-        "step 1 does not follow",
+        "certify b < a b|b => --metadata m < a b|b",
+        "holds: crate path+file:///w/b#0.1.0 is kept, 3 steps\n",
     ),
     (
-        "certify b < a b&dev|b => certify b -e no-dev < a b&dev|b",
-        "step 1 does not follow",
+        "certify a < a => --metadata m < a",
+        "holds: crate path+file:///w/a#0.1.0 is kept, 1 step\n",
     ),
     (
-        "certify --all -e no-dev < a b&dev|b => certify --all < a b&dev|b",
-        "open list",
+        "certify --all < a b|b => --metadata m < a b|b",
+        "holds: nothing but these 2 crates can be reached\n",
     ),
     (
-        "certify --all < a b|b => certify --all < a b c|b|c",
-        "open list",
+        "certify --all < a => --metadata m < a",
+        "holds: nothing but this 1 crate can be reached\n",
+    ),
+    (
+        "certify c < a b|b|c => --metadata m < a b|b|c",
+        "holds: nothing but these 2 crates can be reached\n",
+    ),
+    // other words that mean the same setting
+    (
+        "certify a -e no-dev < a b&dev|b => --metadata m --ignore-kind dev < a b&dev|b",
+        "holds: crate path+file:///w/a#0.1.0 is kept, 1 step\n",
+    ),
+    (
+        "certify --all --target x86_64-pc-windows-msvc --exclude b < a b|b => --exclude b --target x86_64-pc-windows-msvc --metadata m < a b|b",
+        "holds: nothing but this 1 crate can be reached\n",
+    ),
+    // another document
+    (
+        "certify b < a b|b => --metadata m < a b&dev|b",
+        "refused: step 1 does not follow",
+    ),
+    (
+        "certify --all < a b|b => --metadata m < a b c|b|c",
+        "refused: something follows from the facts and isn't among them",
+    ),
+    // another setting
+    (
+        "certify b < a b&dev|b => --metadata m -e no-dev < a b&dev|b",
+        "refused: the certificate is of another setting: no options",
+    ),
+    (
+        "certify --all -e no-dev --workspace < a b&dev|b => --metadata m < a b&dev|b",
+        "refused: the certificate is of another setting: --workspace --ignore-kind=dev",
+    ),
+    // wrong words
+    (
+        "certify a < a => --metadata - < a",
+        "error: standard input is the certificate: '--metadata <FILE>' has to be a file\n\nFor more information, try '--help'.\n",
+    ),
+    (
+        "certify a < a => --metadata m --package w/a < a",
+        "error: invalid value 'w/a' for '--package <PATH>': it has to be an absolute path\n\nFor more information, try '--help'.\n",
+    ),
+    (
+        "certify a < a => --metadata m --package w:a < a",
+        "error: invalid value 'w:a' for '--package <PATH>': it has to be an absolute path\n\nFor more information, try '--help'.\n",
     ),
 ];
 
-/// Certificates, as the checkers judge them.
+/// Certificates that are written, as the program that checks them judges them.
+#[test]
+fn certified(rt: HostRuntime) -> Result<(), Fail> {
+    hold::<Certified>(rt.alloc(), CERTIFIED)
+}
+
+/// A certificate, without a name behind its document: what the checker says of it about the document `a b|b`.
+struct Judged;
+
+impl Question for Judged {
+    fn told(alloc: Global, line: &str) -> Result<String, Fail> {
+        checked(alloc, "--metadata m < a b|b", line.as_bytes())
+    }
+}
+
+const JUDGED: &[Row] = &[
+    // what the last step says, whatever the others say
+    (
+        r#"{"kind":"derivation","setting":[],"steps":[{"fact":{"fact":"crate","krate":"path+file:///w/a#0.1.0"},"rule":1,"uses":[]},{"fact":{"fact":"kept","parent":"path+file:///w/a#0.1.0","child":"path+file:///w/b#0.1.0","kind":"normal","cfg":null},"rule":5,"uses":[0]}]}"#,
+        "holds: kept path+file:///w/a#0.1.0 -> path+file:///w/b#0.1.0 follows, 2 steps\n",
+    ),
+    (
+        r#"{"kind":"derivation","setting":[],"steps":[{"fact":{"fact":"crate","krate":"path+file:///w/a#0.1.0"},"rule":1,"uses":[]},{"fact":{"fact":"crate","krate":"path+file:///w/b#0.1.0"},"rule":1,"uses":[]}]}"#,
+        "refused: step 1 does not follow",
+    ),
+    (
+        r#"{"kind":"derivation","setting":[],"steps":[]}"#,
+        "refused: the derivation has no step",
+    ),
+    // a crate that is told twice counts once
+    (
+        r#"{"kind":"closed","setting":[],"facts":[{"fact":"crate","krate":"path+file:///w/a#0.1.0"},{"fact":"kept","parent":"path+file:///w/a#0.1.0","child":"path+file:///w/b#0.1.0","kind":"normal","cfg":null},{"fact":"crate","krate":"path+file:///w/b#0.1.0"},{"fact":"crate","krate":"path+file:///w/b#0.1.0"}]}"#,
+        "holds: nothing but these 2 crates can be reached\n",
+    ),
+    // of a doubled key the last counts
+    (
+        r#"{"kind":"derivation","setting":["--workspace"],"setting":[],"steps":[{"fact":{"fact":"crate","krate":"path+file:///w/a#0.1.0"},"rule":1,"uses":[]}]}"#,
+        "holds: crate path+file:///w/a#0.1.0 is kept, 1 step\n",
+    ),
+    (
+        r#"{"kind":"derivation","setting":[],"setting":["--workspace"],"steps":[{"fact":{"fact":"crate","krate":"path+file:///w/a#0.1.0"},"rule":1,"uses":[]}]}"#,
+        "refused: the certificate is of another setting: --workspace",
+    ),
+    (
+        r#"{"kind":"closed","setting":[],"facts":[]}"#,
+        "refused: something follows from the facts and isn't among them",
+    ),
+];
+
+/// Certificates that are written by hand, as they are judged.
 #[test]
 fn judged(rt: HostRuntime) -> Result<(), Fail> {
-    hold::<Certified>(rt.alloc(), CERTIFIED)
+    hold::<Judged>(rt.alloc(), JUDGED)
 }

@@ -1,0 +1,205 @@
+#!/usr/bin/env python3
+"""Writes certificates of documents, and checks them and damaged ones by the program that checks certificates alone.
+
+    scripts/check_certificates.py FOLDER [COUNT]
+
+A document is FOLDER/NAME/metadata.json, which may be compressed, as metadata.json.gz. Of each, without an option and under
+`--edges no-dev --target x86_64-unknown-linux-gnu`, `cargo-krates certify` writes the closed list of all that is kept, that of a package that
+isn't, and a derivation of each kept crate, of at most twelve. Each has to hold, with the crates and steps that it has. Then in each one fact or
+step is taken away, exchanged for the next one, or added, and it is checked with another document and under the other setting: each of these
+has to be refused, a step at a place at or behind the change. At last COUNT damaged certificates, 1,000 where none is given and the same
+in every run: texts that are cut off, and values that are gone, of another type, doubled under their key, or exchanged. None of them may be
+a yes, and each has to end with status 1, nothing on standard output and one line on standard error.
+
+The programs are crates/cargo_krates/out/cargo_krates and crates/krates_check/out/krates_check, which `rt run` in these folders builds, or
+$CARGO_KRATES and $KRATES_CHECK. Each run that ends otherwise is told. The status is 0 where none did and something was checked, and 1 otherwise.
+"""
+import copy
+import gzip
+import json
+import os
+import pathlib
+import random
+import re
+import subprocess
+import sys
+import tempfile
+
+ROOT = pathlib.Path(__file__).resolve().parent.parent
+MAKER = os.environ.get("CARGO_KRATES", str(ROOT / "crates/cargo_krates/out/cargo_krates"))
+CHECKER = os.environ.get("KRATES_CHECK", str(ROOT / "crates/krates_check/out/krates_check"))
+SETTINGS = [[], ["--edges", "no-dev", "--target", "x86_64-unknown-linux-gnu"]]
+CRATES = 12
+REFUSED = re.compile(r"error: (step (\d+) does not follow|something follows from the facts and isn't among them)\n")
+
+
+class Tally:
+    """How many runs ended as they have to, by what was done to the certificate, and which didn't."""
+
+    def __init__(self):
+        self.counts, self.wrong = {}, []
+
+    def add(self, kind, is_right, told):
+        self.counts[kind] = self.counts.get(kind, 0) + 1
+        if not is_right:
+            self.wrong.append(f"{kind}: {told}")
+
+
+def documents(folder, place):
+    """The name and the file of each document, written out where it is compressed."""
+    for path in sorted(pathlib.Path(folder).glob("*/metadata.json*")):
+        raw = path.read_bytes()
+        file = pathlib.Path(place) / f"{path.parent.name}.json"
+        file.write_bytes(gzip.decompress(raw) if path.suffix == ".gz" else raw)
+        yield path.parent.name, file
+
+
+def made(file, options, *words):
+    """What the first program prints."""
+    ran = subprocess.run([MAKER, *words, *options, "--metadata", str(file)], capture_output=True, text=True)
+    assert ran.returncode == 0, (words, ran.stderr)
+    return ran.stdout
+
+
+def checked(file, options, certificate):
+    """How the checker ends: its status, standard output and standard error."""
+    text = certificate if isinstance(certificate, bytes) else json.dumps(certificate).encode()
+    ran = subprocess.run([CHECKER, *options, "--metadata", str(file)], input=text, capture_output=True)
+    return ran.returncode, ran.stdout.decode(), ran.stderr.decode()
+
+
+def parts(certificate):
+    """Its steps or facts."""
+    return certificate["steps" if certificate["kind"] == "derivation" else "facts"]
+
+
+def number(count, word):
+    return f"{count} {word}" if count == 1 else f"{count} {word}s"
+
+
+def wanted(certificate):
+    """What is printed of a certificate that holds."""
+    listed = parts(certificate)
+    if certificate["kind"] == "derivation":
+        return f"holds: crate {listed[-1]['fact']['krate']} is kept, {number(len(listed), 'step')}\n"
+    count = len({fact["krate"] for fact in listed if fact["fact"] == "crate"})
+    return f"holds: nothing but {'this' if count == 1 else 'these'} {number(count, 'crate')} can be reached\n"
+
+
+def certificates(file, options):
+    """The certificates of a document."""
+    ids = made(file, options, "list", "--ids").split("\n")[:-1]
+    listed = json.loads(file.read_text())["packages"]
+    yield json.loads(made(file, options, "certify", "--all"))
+    for package in [package["id"] for package in listed if package["id"] not in ids][:1]:
+        yield json.loads(made(file, options, "certify", package))
+    for krate in ids[:: max(1, len(ids) // CRATES)][:CRATES]:
+        yield json.loads(made(file, options, "certify", krate))
+
+
+def changed(certificate, rng):
+    """The certificate with one part taken away, exchanged for the next, or added: what was done, the first place that it touches, the certificate."""
+    count = len(parts(certificate))
+    other = copy.deepcopy(parts(certificate)[0])
+    if certificate["kind"] == "closed":
+        place = rng.randrange(count)
+        for kind, change in ("taken away", lambda p: p.pop(place)), ("exchanged", lambda p: p.__setitem__(place, p[place - 1])):
+            if kind == "taken away" or p_differ(certificate, place):
+                yield kind, place, edited(certificate, change)
+        return
+    if count > 1:
+        place = rng.randrange(count - 1)
+        yield "taken away", place, edited(certificate, lambda p: p.pop(place))
+        yield "exchanged", place, edited(certificate, lambda p: p.__setitem__(slice(place, place + 2), [p[place + 1], p[place]]))
+    other["rule"] = 2
+    yield "added", count, edited(certificate, lambda p: p.append(other))
+
+
+def p_differ(certificate, place):
+    """Whether a fact and the one before it aren't the same."""
+    return parts(certificate)[place] != parts(certificate)[place - 1]
+
+
+def edited(certificate, change):
+    made = copy.deepcopy(certificate)
+    change(parts(made))
+    return made
+
+
+def check_changes(tally, name, file, options, certificate, rng):
+    """One part of a certificate is changed in each way."""
+    for kind, place, made in changed(certificate, rng):
+        status, out, said = checked(file, options, made)
+        refusal = REFUSED.fullmatch(said)
+        is_placed = bool(refusal) and (refusal[2] is None or int(refusal[2]) >= place)
+        tally.add(kind, status == 1 and not out and is_placed, f"{name} {options} at {place}: {status} {out}{said}")
+
+
+def leaves(value, path=()):
+    """The paths to all values within a value."""
+    yield path
+    items = value.items() if isinstance(value, dict) else enumerate(value) if isinstance(value, list) else ()
+    for key, item in items:
+        yield from leaves(item, (*path, key))
+
+
+def damaged(text, rng):
+    """A damaged certificate that means something else: its bytes."""
+    while True:
+        if rng.random() < 0.2:
+            return text[: rng.randrange(len(text) - 2)]
+        value = json.loads(text)
+        path = rng.choice([path for path in leaves(value) if path])
+        above = value
+        for key in path[:-1]:
+            above = above[key]
+        old, how = above[path[-1]], rng.randrange(4)
+        if how == 0:
+            del above[path[-1]]
+        elif how == 1:
+            above[path[-1]] = rng.choice([None, True, -1, 1.5, 7, "", "x", [], {}, [[]], "path+file:///z#z@9.9.9"])
+        elif how == 2:
+            above[path[-1]] = {"x": old}
+        elif isinstance(above, dict) and isinstance(old, str):
+            doubled = f"{json.dumps(path[-1])}:{json.dumps(old)}"
+            written = json.dumps(value, separators=(",", ":"))
+            return written.replace(doubled, f'{doubled},{json.dumps(path[-1])}:"z"', 1).encode()
+        if value != json.loads(text):
+            return json.dumps(value).encode()
+
+
+def check_damage(tally, whole, count, rng):
+    """Damaged certificates, each checked with the document and under the setting of the whole one."""
+    for _ in range(count):
+        name, file, options, certificate = rng.choice(whole)
+        text = damaged(json.dumps(certificate).encode(), rng)
+        status, out, said = checked(file, options, text)
+        is_right = status == 1 and not out and said.count("\n") == 1 and said.startswith("error: ")
+        tally.add("damaged", is_right, f"{name} {options}: {status} {out}{said}{text[:2000]!r}")
+
+
+def main():
+    rng, tally, whole = random.Random(1), Tally(), []
+    with tempfile.TemporaryDirectory() as place:
+        files = list(documents(sys.argv[1], place))
+        for at, (name, file) in enumerate(files):
+            for number, options in enumerate(SETTINGS):
+                for certificate in certificates(file, options):
+                    ended = checked(file, options, certificate)
+                    tally.add("whole", ended == (0, wanted(certificate), ""), f"{name} {options}: {ended}")
+                    ended = checked(file, SETTINGS[1 - number], certificate)
+                    tally.add("other setting", ended[0] == 1 and "of another setting" in ended[2], f"{name}: {ended}")
+                    ended = checked(files[at - 1][1], options, certificate)
+                    tally.add("other document", ended[0] == 1 and not ended[1], f"{name} by {files[at - 1][0]}: {ended}")
+                    check_changes(tally, name, file, options, certificate, rng)
+                    if len(json.dumps(certificate)) < 200_000:
+                        whole.append((name, file, options, certificate))
+        check_damage(tally, whole, int(sys.argv[2]) if len(sys.argv) > 2 else 1000, rng)
+    for line in tally.wrong[:20]:
+        print(line[:3000])
+    print(", ".join(f"{kind}: {count}" for kind, count in tally.counts.items()), f"; {len(tally.wrong)} ended otherwise")
+    return 1 if tally.wrong or not tally.counts.get("whole") else 0
+
+
+if __name__ == "__main__":
+    sys.exit(main())
