@@ -3,7 +3,7 @@
 #
 #     scripts/try_tests.sh [CRATE..]
 #
-# Without a name: those of all crates. A program is run on its stdin with its args, and has to write its stdout and to end with status 0.
+# Without a name: those of all crates. A program is run on its stdin with its args beside the files of data/, and has to write its stdout and to end with status 0.
 # As many crates are tried side by side as there are processors, each by scripts/try_crate.sh.
 #
 # Prints each test and program that failed, with what it said, and what is said of a crate whose tests didn't run; last how many passed, failed
@@ -34,9 +34,12 @@ done
 
 # Runs the program that a crate is, and tells it as a test is told.
 try_program() {
-    local words=() status=0
+    local words=() data=() file status=0
     [ ! -f args ] || mapfile -t words < args
-    ../../scripts/try_crate.sh -- "${words[@]}" < "$([ -f stdin ] && echo stdin || echo /dev/null)" > "$2.out" 2> "$2.err" || status=$?
+    for file in data/*; do
+        [ ! -f "$file" ] || data+=(--data "${file#data/}=$file")
+    done
+    ../../scripts/try_crate.sh "${data[@]}" -- "${words[@]}" < "$([ -f stdin ] && echo stdin || echo /dev/null)" > "$2.out" 2> "$2.err" || status=$?
     if [ "$status" -eq 0 ] && cmp -s "$2.out" "$([ -f stdout ] && echo stdout || echo /dev/null)"; then
         echo "test $1 ... ok"
     else
