@@ -38,10 +38,13 @@ fn written(
     certificate: &[u8],
 ) -> Result<String, Fail> {
     add_targets(alloc, &mut asked.choice)?;
+    let metadata = document_of(alloc, document)?;
+    let setting = asked.choice.setting(alloc, &[])?;
+    let words = asked.choice.words(alloc)?;
     let subject = Subject {
-        metadata: &document_of(alloc, document)?,
-        setting: &asked.choice.setting(alloc, &[])?,
-        words: &asked.choice.words(alloc)?,
+        metadata: &metadata,
+        setting: &setting,
+        words: &words,
     };
     let mut input = certificate;
     let mut output = Vec::new(alloc);
