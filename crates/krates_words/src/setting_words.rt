@@ -49,6 +49,7 @@ fn packages(alloc: Global, paths: &[String]) -> Result<Vec<String>, AllocError>
 {
     let mut words = Vec::new(alloc);
     for path in paths {
+        let path = path.as_str();
         words.push(format!(in alloc; "--package={path}")?)?;
     }
     Ok(words)
