@@ -1,7 +1,7 @@
 //! The words that mean a choice.
 
-ghost use Rattle.std.specs.Prelude.{◌≡◌, IfOk, map};
-ghost use Rattle.krates_cm.specs.Document.{texts_view};
+ghost use Rattle.std.specs.Prelude.{◌≡◌, ◌++◌, IfOk, codes, map};
+ghost use Rattle.krates_cm.specs.Document.{text_view, texts_view};
 ghost use Rattle.krates_words.specs.SettingWords.{exclusion_word, flag_words, kind_word, package_word, target_word, words_of};
 
 use crate::choice::Choice;
@@ -49,10 +49,16 @@ fn packages(alloc: Global, paths: &[String]) -> Result<Vec<String>, AllocError>
 {
     let mut words = Vec::new(alloc);
     for path in paths {
-        let path = path.as_str();
-        words.push(format!(in alloc; "--package={path}")?)?;
+        words.push(package(alloc, path.as_str())?)?;
     }
     Ok(words)
+}
+
+/// The directory of a member.
+fn package(alloc: Global, path: &str) -> Result<String, AllocError>
+    ensures { IfOk result (λ word. text_view word ≡ codes "--package=" ++ path.now) }
+{
+    format!(in alloc; "--package={path}")
 }
 
 /// The kinds that are ignored.
