@@ -66,7 +66,7 @@ SHOWN_BY = {
     # what a word of `cargo krates` answers is made of values, which its text and its JSON show
     "Reporter::answer": (
         "fitting duplicates lacking lost_dependencies materials is_unreachable push_graph Links::dependents Links::dependencies Links::of Links::leads"
-        " Choice::words Links::tree Builds::use_of Builds::uses Packages::one Packages::any Bill::of Changed::between Difference::between Duplicates::of"
+        " Links::tree Builds::use_of Builds::uses Packages::one Packages::any Bill::of Changed::between Difference::between Duplicates::of"
         " licences Tree::of_dependencies Tree::of_dependents Features::of"
     ).split(),
 }

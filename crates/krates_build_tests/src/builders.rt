@@ -1,11 +1,12 @@
-//! Both checks by what a builder has set.
+//! Both checks by a builder under a setting.
 
-ghost use Rattle.std.specs.Prelude.{◌≡◌, IfOk, None, OnOk};
+ghost use Rattle.std.specs.Prelude.{◌≡◌, IfOk, None};
 
 use crate::closed_lists::{ADDED, LOST};
 use crate::derivations::{DECLARED, ORDERED, STRONG};
 use crate::lists::{Ask, Facts, Given, List, OfLine, Sections, Steps, list_in};
 use crate::real_documents::metadata_of;
+use krates::resolve::Setting;
 use krates::{Builder, DepKind, Krates, NoneFilter, Scope};
 use krates_samples::documents::kind_named;
 use krates_samples::settings::package_specs;
@@ -13,32 +14,30 @@ use krates_samples::table::hold;
 use std::alloc::Global;
 use std::test::Fail;
 
-/// Sets of a builder what a section of a line asks.
-fn set(alloc: Global, builder: &mut Builder, section: &str) -> Result<(), Fail>
-    ensures index { OnOk result (builder.new.index ≡ builder.old.index) }
-{
+/// Sets what a section of a line asks.
+fn set(alloc: Global, setting: &mut Setting, section: &str) -> Result<(), Fail> {
     let (setter, text) = section.split_once(' ').unwrap_or((section, ""));
     if setter == "ignore" {
-        builder.ignore_kind(DepKind::from(kind_named(text)), Scope::All);
+        setting.ignore_kind(DepKind::from(kind_named(text)), Scope::All);
     }
     if setter == "names" {
-        builder.all_named(text == "all");
+        setting.all_named(text == "all");
     }
     if setter == "without" {
-        builder.exclude(package_specs(alloc, text)?)?;
+        setting.exclude(package_specs(alloc, text)?)?;
     }
     Ok(())
 }
 
-/// A builder without an index that is set as the sections of a line ask.
+/// A builder under what the sections of a line ask, without an index.
 pub(crate) fn builder_of(alloc: Global, line: &str) -> Result<Builder, Fail>
     ensures no_index { IfOk result (λ builder. builder.index ≡ None) }
 {
-    let mut builder = Builder::new(alloc);
+    let mut setting = Setting::new(alloc);
     for section in line.split(" / ") {
-        set(alloc, &mut builder, section)?;
+        set(alloc, &mut setting, section)?;
     }
-    Ok(builder)
+    Ok(Builder::under(alloc, setting))
 }
 
 impl Sections for Builder {
