@@ -16,11 +16,12 @@ use Rattle.krates_words.specs.Choice.{IsSettingOf}
 use Rattle.krates_words.specs.declared.choice.Choice.{Choice}
 
 module _ {S F N E : Type 0} (may_answer : Answering S) (filters : F → Package → F → Type 0) (made : Package → N → Type 0) (made_edge : Edge → E → Type 0) where
-  pub build_of : (index : Option S) (m : Metadata) (c : Choice) (also : List DepKind) (s : SettingModel) (before after : F) (k : KeptCrates N E) → index ≡ None → IsSettingOf c also s
-      → Sees may_answer index m (λ seen. IsBuilt filters made made_edge seen s before after k) → IsBuildOf (metadata_view m) c also k
-  build_of None m c also s before after k unindexed chosen sees = record {
-    setting = s;
-    chosen = chosen;
-    kept = subst (λ (seen : Metadata). (i : Id) → KeepsCrate (metadata_view seen) s i ↔ Contains (map id_of (ids_of k)) i) sees.is_seen sees.holds.kept;
+  pub build_of : (index : Option S) (m : Metadata) (c : Choice) (also : List DepKind) (s chosen : SettingModel) (before after : F) (k : KeptCrates N E) → index ≡ None → s ≡ chosen
+      → IsSettingOf c also chosen → Sees may_answer index m (λ seen. IsBuilt filters made made_edge seen s before after k) → IsBuildOf (metadata_view m) c also k
+  build_of None m c also s chosen before after k unindexed under is_chosen sees = record {
+    setting = chosen;
+    chosen = is_chosen;
+    kept = subst (λ (t : SettingModel). (i : Id) → KeepsCrate (metadata_view m) t i ↔ Contains (map id_of (ids_of k)) i) under
+        (subst (λ (seen : Metadata). (i : Id) → KeepsCrate (metadata_view seen) s i ↔ Contains (map id_of (ids_of k)) i) sees.is_seen sees.holds.kept);
   }
-  build_of (Some source) m c also s before after k unindexed chosen sees = cc
+  build_of (Some source) m c also s chosen before after k unindexed under is_chosen sees = cc

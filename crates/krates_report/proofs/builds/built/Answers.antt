@@ -1,9 +1,8 @@
-use Rattle.std.proofs.Common.{◌∙◌}
 use Rattle.krates_report.proofs.BuildLemmas.{build_of}
 use Rattle.krates_report.proofs.builds.built.Goals as goal
 
-pub returns : goal.returns
-returns c =
-    let b = c.apply_to.new.builder in
-    build_of _ _ _ _ b.index c.args.metadata c.args.choice.now c.args.also_ignored.now b.setting _ _ c.in_ok-krates.krates (c.in_ok-apply_to.ensures.index ∙ c.new-builder.ensures.index)
-    c.in_ok-apply_to.ensures.setting c.in_ok-krates.ensures.built
+pub returns-in_ok-krates-in-Ok : goal.returns-in_ok-krates-in-Ok
+returns-in_ok-krates-in-Ok c =
+    let b = c.under-builder.result in
+    build_of _ _ _ _ b.index c.args.metadata c.args.choice.now c.args.also_ignored.now b.setting c.in-Ok.setting _ _ c.in_ok-krates-in-Ok.krates c.under-builder.ensures.index
+    c.under-builder.ensures.setting c.in-Ok.ensures c.in_ok-krates-in-Ok.ensures.built
