@@ -1,0 +1,18 @@
+use Rattle.std.proofs.lemmas.Result.{err_from_is_err_and}
+use Rattle.krates_cm.specs.Document.{MetadataModel, metadata_view}
+use Rattle.krates_checkers.specs.Refusals.{IsCheckRefused}
+use Rattle.krates_rules.specs.Checks.{IsAcceptedFor}
+use Rattle.krates_rules.specs.StepViews.{steps_view}
+use Rattle.krates_verdict.proofs.JudgeLemmas.{as_given, objects}
+use Rattle.krates_verdict.proofs.subject.Subject.expect_steps.Goals as goal
+
+pub returns-clause-accepted : goal.returns-clause-accepted
+returns-clause-accepted c =
+    let s = c.args.self.now in
+    as_given (metadata_view s.metadata.now) (λ (m : MetadataModel). IsAcceptedFor m s.setting.now (steps_view c.args.derivation.now.steps.items)) c.in_ok-check.ensures.accepted
+
+pub returns-in_err-check-clause-refused : goal.returns-in_err-check-clause-refused
+returns-in_err-check-clause-refused c =
+    let s = c.args.self.now in
+    let p = err_from_is_err_and c.from_residual.result c.from_residual.ensures.1 in
+    rw p.1 (objects (metadata_view s.metadata.now) (λ (m : MetadataModel). IsCheckRefused m s.setting.now (steps_view c.args.derivation.now.steps.items)) c.in_err-check.field-0.0 p.0 c.in_err-check.ensures.refused p.2)

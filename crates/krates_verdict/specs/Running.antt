@@ -1,0 +1,78 @@
+-- What a run reads, what it writes of it, and why it writes nothing.
+use Rattle.std.specs.Prelude.{◌≡◌, IfSome, IsUtf8, Option, ⊤}
+use Rattle.std.specs.Io.KnownBytes.{Appends}
+use Rattle.krates_cm.specs.Document.{Text}
+use Rattle.krates_certificate.specs.Refusals.{fault_of}
+use Rattle.krates_certificate.specs.Tables.{IsCertificateText, TextFault}
+use Rattle.krates_certificate.specs.Told.{certificate_told}
+use Rattle.krates_certificate.specs.declared.certificate.Certificate.{Certificate}
+use Rattle.krates_verdict.specs.Holding.{Holds}
+use Rattle.krates_verdict.specs.Refusals.{JudgeRefusal}
+use Rattle.krates_verdict.specs.Subject.{SubjectModel}
+use Rattle.krates_verdict.specs.VerdictText.{verdict_line}
+use Rattle.krates_verdict.specs.declared.refusal.Refusal.{Refusal}
+use Rattle.krates_verdict.specs.declared.refusal.Refusal.TheVariants as refusals
+use Rattle.krates_verdict.specs.declared.verdict.Verdict.{Verdict}
+
+-- ---- of bytes
+
+-- The bytes are a text that reads as a certificate, and this holds of it.
+pub record IsOfCertificate (bytes : Text) (P : Certificate → Type 0) : Type 0 where
+  pub is_text : IsUtf8 bytes
+  pub certificate : Certificate
+  pub reads : IsCertificateText bytes (certificate_told certificate)
+  pub so : P certificate
+
+-- They are a certificate that holds, and this is what it says.
+abbrev pub IsVerdictOf : SubjectModel → Text → Verdict → Type 0
+IsVerdictOf s bytes verdict = IsOfCertificate bytes (λ c. Holds s c verdict)
+
+-- Why these bytes have no verdict that is written: the first class that is true of them counts. Memory may always run out, and the reader or
+-- the writer may always fail.
+abbrev pub IsRefusalOf : SubjectModel → Text → Refusal → Type 0
+IsRefusalOf s bytes (refusals.Read cause) = ⊤
+IsRefusalOf s bytes refusals.Utf8 = IsUtf8 bytes → ⊥
+IsRefusalOf s bytes (refusals.Certificate cause) = IsUtf8 bytes × TextFault bytes (fault_of cause)
+IsRefusalOf s bytes (refusals.Setting claimed) = IsOfCertificate bytes (λ c. JudgeRefusal s c (refusals.Setting claimed))
+IsRefusalOf s bytes (refusals.Check cause) = IsOfCertificate bytes (λ c. JudgeRefusal s c (refusals.Check cause))
+IsRefusalOf s bytes (refusals.Write cause) = (verdict : Verdict) × IsVerdictOf s bytes verdict
+IsRefusalOf s bytes refusals.Memory = ⊤
+
+-- ---- of a reader and a writer
+
+-- This holds of the bytes that were read, which are all that the reader had left, where these were known.
+pub record OfAllRead (left : Option Text) (P : Text → Type 0) : Type 0 where
+  pub bytes : Text
+  pub all : IfSome left (λ known. bytes ≡ known)
+  pub so : P bytes
+
+-- What was read is a certificate that holds, and the line that says so is what was added to the known bytes of the writer.
+pub record WritesVerdict (s : SubjectModel) (left old new : Option Text) : Type 0 where
+  pub verdict : Verdict
+  pub is : OfAllRead left (λ bytes. IsVerdictOf s bytes verdict)
+  pub appended : Appends old new (verdict_line verdict)
+
+-- What was read has no verdict that is written, for this reason.
+abbrev pub RunRefusal : SubjectModel → Option Text → Refusal → Type 0
+RunRefusal s left cause = OfAllRead left (λ bytes. IsRefusalOf s bytes cause)
+
+-- the writer is as it was, but for one that failed
+abbrev pub Leaves : {W : Type 0} → W → W → Refusal → Type 0
+Leaves old new (refusals.Write cause) = ⊤
+Leaves old new _ = new ≡ old
+
+-- the cause isn't the certificate's: the reader or the writer failed, or memory ran out
+abbrev pub IsOutside : Refusal → Type 0
+IsOutside (refusals.Read cause) = ⊤
+IsOutside (refusals.Write cause) = ⊤
+IsOutside refusals.Memory = ⊤
+IsOutside _ = ⊥
+
+-- ---- reading
+
+-- why there is no text
+abbrev pub IsUnread : Option Text → Refusal → Type 0
+IsUnread left (refusals.Read cause) = ⊤
+IsUnread left refusals.Utf8 = OfAllRead left (λ bytes. IsUtf8 bytes → ⊥)
+IsUnread left refusals.Memory = ⊤
+IsUnread left _ = ⊥

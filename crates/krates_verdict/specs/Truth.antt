@@ -1,0 +1,18 @@
+-- What a verdict means by the rules of resolution.
+use Rattle.std.specs.Prelude.{◌≡◌, ℕ, Contains, List, length}
+use Rattle.krates_rules.specs.Checks.{Answers}
+use Rattle.krates_rules.specs.Derivation.{Derivable}
+use Rattle.krates_rules.specs.Facts.{Crate, Fact, Id}
+use Rattle.krates_verdict.specs.Holding.{StandOnce}
+use Rattle.krates_verdict.specs.Subject.{SubjectModel}
+
+-- the document is admitted, and the fact has a derivation under the setting
+abbrev pub IsDerivable : SubjectModel → Fact → Type 0
+IsDerivable s f = Answers s.metadata s.setting (λ q. Derivable q f)
+
+-- the document is admitted, and each crate that is kept under the setting is one of so many
+pub record AreAllReachable (s : SubjectModel) (count : ℕ) : Type 0 where
+  pub krates : List Id
+  pub once : StandOnce krates
+  pub counted : count ≡ length krates
+  pub all : Answers s.metadata s.setting (λ q. (id : Id) → Derivable q (Crate id) → Contains krates id)

@@ -1,0 +1,46 @@
+//! Laws of verdicts, for all documents, settings and certificates. Each is the contract of a function that does nothing.
+
+ghost use Rattle.std.specs.Prelude.{ℕ};
+ghost use Rattle.krates_cm.specs.Document.{Text};
+ghost use Rattle.krates_certificate.specs.declared.certificate.Certificate.{Certificate};
+ghost use Rattle.krates_ids.specs.Identity.{Identity};
+ghost use Rattle.krates_rules.specs.Facts.{Crate};
+ghost use Rattle.krates_rules.specs.Resolved.{id_of};
+ghost use Rattle.krates_rules.specs.StepViews.{fact_view};
+ghost use Rattle.krates_rules.specs.declared.derivation.Fact.{Fact};
+ghost use Rattle.krates_verdict.specs.Holding.{Holds};
+ghost use Rattle.krates_verdict.specs.Running.{IsOutside, IsRefusalOf, IsVerdictOf};
+ghost use Rattle.krates_verdict.specs.Subject.{SubjectModel};
+ghost use Rattle.krates_verdict.specs.Truth.{AreAllReachable, IsDerivable};
+ghost use Rattle.krates_verdict.specs.declared.refusal.Refusal.{Refusal};
+ghost use Rattle.krates_verdict.specs.declared.verdict.Verdict.{Verdict};
+ghost use Rattle.krates_verdict.specs.declared.verdict.Verdict.TheVariants as verdicts;
+
+use krates_certificate::laws as certificates;
+use krates_ids::laws as ids;
+use krates_rules::laws as rules;
+
+/// What a verdict says is true of the document and the setting, whoever made the certificate: the crate that is kept and the fact that
+/// follows are derivable, and no crate is derivable but those that were counted.
+pub fn verdicts_are_true()
+    ensures kept { (s : SubjectModel) (c : Certificate) (krate : Identity) (steps : ℕ)
+        → Holds s c (verdicts.Kept krate steps) → IsDerivable s (Crate (id_of krate)) }
+    ensures follows { (s : SubjectModel) (c : Certificate) (fact : Fact) (steps : ℕ)
+        → Holds s c (verdicts.Follows fact steps) → IsDerivable s (fact_view fact) }
+    ensures closed { (s : SubjectModel) (c : Certificate) (krates : ℕ)
+        → Holds s c (verdicts.Closed krates) → AreAllReachable s krates }
+{
+    rules::accepted_lists();
+    rules::closed_lists();
+}
+
+/// Bytes that are a certificate which holds are refused only where the reader or the writer fails, or memory runs out: no other
+/// refusal is true of them. So a run over them succeeds, these aside.
+pub fn held_or_refused()
+    ensures { (s : SubjectModel) (bytes : Text) (verdict : Verdict) (cause : Refusal)
+        → IsVerdictOf s bytes verdict → IsRefusalOf s bytes cause → IsOutside cause }
+{
+    certificates::one_reading();
+    certificates::faults_are_true();
+    ids::one_reading();
+}

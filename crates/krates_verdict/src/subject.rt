@@ -1,0 +1,120 @@
+//! What a certificate is judged against, and how it is judged.
+
+ghost use Rattle.std.specs.Prelude.{◌≡◌, ◌↔◌, [], IfErr, IfOk, IsTrue, OnOk, map};
+ghost use Rattle.krates_cm.specs.Document.{text_view, texts_view};
+ghost use Rattle.krates_checkers.specs.Refusals.{IsCheckRefused, IsClosedRefused};
+ghost use Rattle.krates_checkers.specs.declared.check_error.CheckError.TheVariants.{Empty};
+ghost use Rattle.krates_rules.specs.Checks.{IsAcceptedFor, IsClosedFor};
+ghost use Rattle.krates_rules.specs.StepViews.{facts_view, steps_view};
+ghost use Rattle.krates_verdict.specs.Holding.{Holds, StepsSay};
+ghost use Rattle.krates_verdict.specs.Refusals.{IsObjection, IsOtherSetting, JudgeRefusal};
+ghost use Rattle.krates_verdict.specs.Subject.{subject_view};
+ghost use Rattle.krates_verdict.specs.declared.refusal.Refusal.TheVariants as refusals;
+
+use crate::crates_of_facts::count_crates;
+use crate::refusal::Refusal;
+use crate::verdict::Verdict;
+use krates_certificate::Certificate;
+use krates_checkers::{CheckError, check, check_closed};
+use krates_cm::Metadata;
+use krates_document::Setting;
+use krates_rules::{Derivation, Fact, Step};
+use std::alloc::Global;
+
+/// What a certificate is judged against: a document, a setting, and the words that mean this setting, as a command line has them.
+#[derive(Clone, Copy)]
+pub struct Subject<'a> {
+    /// The document.
+    pub metadata: &'a Metadata,
+    /// The setting.
+    pub setting: &'a Setting,
+    /// The words that mean it. A certificate has to have the same, in the same order.
+    pub words: &'a [String],
+}
+
+impl Subject<'_> {
+    /// Judges a certificate: it was made under the words of the subject's setting, and the checkers accept its steps or its facts
+    /// for the document and the setting. Then it says what its last step says, or how many crates its facts name.
+    ///
+    /// It is refused as `Setting` where its words are others, otherwise as `Check` where a checker says no. It may instead return
+    /// `Memory`.
+    ///
+    /// Time: that of the checker, and O(n log n) for n facts.
+    ///
+    /// ```text
+    /// let certificate = Certificate::parse(alloc, text)?;
+    /// println!(rt; "{}", subject.judge(alloc, certificate)?)?;
+    /// ```
+    pub fn judge(&self, alloc: Global, certificate: Certificate) -> Result<Verdict, Refusal>
+        ensures holds { IfOk result (Holds (subject_view self.now) certificate) }
+        ensures refused { IfErr result (JudgeRefusal (subject_view self.now) certificate) }
+    {
+        match certificate {
+            Certificate::Derivation {
+                setting,
+                derivation,
+            } => {
+                self.expect_words(setting)?;
+                self.expect_steps(alloc, &derivation)?;
+                said_by_steps(derivation.steps)
+            }
+            Certificate::Closed { setting, facts } => {
+                self.expect_words(setting)?;
+                self.expect_closed(alloc, &facts)?;
+                let krates = count_crates(alloc, &facts)?;
+                Ok(Verdict::Closed { krates })
+            }
+        }
+    }
+
+    /// Refuses other words than those of the setting.
+    fn expect_words(&self, claimed: Vec<String>) -> Result<(), Refusal>
+        ensures same { OnOk result (texts_view claimed ≡ (subject_view self.now).words) }
+        ensures refused { IfErr result (IsOtherSetting (subject_view self.now) (texts_view claimed)) }
+    {
+        if self.has_words(&claimed) {
+            return Ok(());
+        }
+        Err(Refusal::Setting { claimed })
+    }
+
+    /// Whether these are the words of the setting.
+    fn has_words(&self, claimed: &[String]) -> bool
+        ensures { IsTrue result ↔ (map text_view claimed.now ≡ (subject_view self.now).words) }
+    {
+        claimed == self.words
+    }
+
+    /// Refuses a list of steps that the checker refuses.
+    fn expect_steps(&self, alloc: Global, derivation: &Derivation) -> Result<(), Refusal>
+        ensures accepted { let s = subject_view self.now in
+            OnOk result (IsAcceptedFor s.metadata s.setting (steps_view derivation.now.steps.items)) }
+        ensures refused { let s = subject_view self.now in
+            let steps = steps_view derivation.now.steps.items in
+            IfErr result (IsObjection (IsCheckRefused s.metadata s.setting steps)) }
+    {
+        Ok(check(alloc, self.metadata, self.setting, None, derivation)?)
+    }
+
+    /// Refuses a list of facts that the checker refuses.
+    fn expect_closed(&self, alloc: Global, facts: &[Fact]) -> Result<(), Refusal>
+        ensures closed { let s = subject_view self.now in
+            OnOk result (IsClosedFor s.metadata s.setting (facts_view facts.now)) }
+        ensures refused { let s = subject_view self.now in
+            IfErr result (IsObjection (IsClosedRefused s.metadata s.setting (facts_view facts.now))) }
+    {
+        Ok(check_closed(alloc, self.metadata, self.setting, None, facts)?)
+    }
+}
+
+/// What the last step says. It is refused, as a derivation without a step, exactly where there is none.
+fn said_by_steps(mut steps: Vec<Step>) -> Result<Verdict, Refusal>
+    ensures says { IfOk result (StepsSay steps.items) }
+    ensures refused { IfErr result (λ e. (e ≡ refusals.Check Empty) × (steps.items ≡ [])) }
+{
+    let count = steps.len();
+    match steps.pop() {
+        Some(last) => Ok(Verdict::of_last(last.fact, count)),
+        None => Err(Refusal::Check(CheckError::Empty)),
+    }
+}
