@@ -63,6 +63,8 @@ SHOWN_BY = {
     # the steps that a build keeps, and those of them that lead to a node
     "facts": ("kept_steps", "Document::lookup"),
     "why": ("derivation_of", "step_of"),
+    # what is read as a certificate is judged
+    "run": ("Subject::judge",),
     # what a word of `cargo krates` answers is made of values, which its text and its JSON show
     "Reporter::answer": (
         "fitting duplicates lacking lost_dependencies materials is_unreachable push_graph Links::dependents Links::dependencies Links::of Links::leads"
