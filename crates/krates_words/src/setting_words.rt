@@ -85,10 +85,7 @@ fn exclusions(alloc: Global, specs: &[PkgSpec]) -> Result<Vec<String>, AllocErro
 }
 
 /// The triples of the targets.
-fn targets(
-    alloc: Global,
-    targets: &[(Target, Vec<String>)],
-) -> Result<Vec<String>, AllocError>
+fn targets(alloc: Global, targets: &[(Target, Vec<String>)]) -> Result<Vec<String>, AllocError>
     ensures { IfOk result (λ words. texts_view words ≡ map target_word targets.now) }
 {
     let mut words = Vec::new(alloc);
