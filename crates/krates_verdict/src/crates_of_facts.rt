@@ -1,6 +1,6 @@
 //! The crates that a list of facts names, each once.
 
-ghost use Rattle.std.specs.Prelude.{◌≡◌, ◌∷◌, ◌++◌, [], IfOk, List, OnOk};
+ghost use Rattle.std.specs.Prelude.{◌∷◌, ◌++◌, [], IfOk, List, OnOk};
 ghost use Rattle.krates_rules.specs.Facts.{Fact as FactModel};
 ghost use Rattle.krates_rules.specs.StepViews.{fact_view, facts_view};
 ghost use Rattle.krates_verdict.specs.CratesOfFacts.{HasCrates};
