@@ -8,10 +8,11 @@
 mod failure;
 
 use crate::failure::Failure;
+use krates_cm::Metadata;
 use krates_host::program::{NO, refuse_asked, refuse_words, words_of};
 use krates_host::{document, said, targets};
 use krates_verdict::{Subject, run};
-use krates_words::{CheckWords, check_words_of};
+use krates_words::{CheckWords, Choice, check_words_of};
 use std::io::IsTerminal;
 use std::process::ExitCode;
 
@@ -19,16 +20,23 @@ use std::process::ExitCode;
 fn check(rt: &HostRuntime, mut asked: CheckWords) -> Result<(), Failure> {
     asked.choice.targets = targets::targets_of(rt, &asked.choice)?;
     let metadata = document::in_file(rt, asked.document.as_str())?;
-    let setting = asked.choice.setting(rt.alloc(), &[])?;
-    let words = asked.choice.words(rt.alloc())?;
-    let subject = Subject {
-        metadata: &metadata,
-        setting: &setting,
-        words: &words,
-    };
     if rt.stdin().is_terminal() {
         said::note(rt, "reading a certificate from standard input");
     }
+    let told = check_against(rt, &asked.choice, &metadata);
+    metadata.let_go();
+    told
+}
+
+/// The same, of the document that was read.
+fn check_against(rt: &HostRuntime, choice: &Choice, metadata: &Metadata) -> Result<(), Failure> {
+    let setting = choice.setting(rt.alloc(), &[])?;
+    let words = choice.words(rt.alloc())?;
+    let subject = Subject {
+        metadata,
+        setting: &setting,
+        words: &words,
+    };
     run(rt.alloc(), &subject, &mut rt.reader(), &mut rt.stdout())?;
     Ok(())
 }

@@ -13,6 +13,7 @@ use crate::tree::Tree;
 use crate::uses::Uses;
 use crate::why::{Features, Why};
 use krates::derive::{Derivation, Fact};
+use krates::resolve::Setting;
 use krates::{Builder, Kid, Krates, Metadata, Node, NodeId, OnFilter, Package, PackageId};
 use krates_answers::naming::{Meant, Packages};
 use krates_answers::unreachable::is_unreachable;
@@ -62,8 +63,14 @@ impl Others {
         }
     }
 
-    /// The graph that is built of a document and the packages that it doesn't keep.
-    fn divided(mut self, builder: Builder, metadata: Metadata) -> Result<Divided, Refusal> {
+    /// The graph that is built of a document under a setting, and the packages that it doesn't keep.
+    fn divided(
+        mut self,
+        alloc: Global,
+        setting: Setting,
+        metadata: Metadata,
+    ) -> Result<Divided, Refusal> {
+        let builder = Builder::under(alloc, setting);
         let krates = builder.build_with_metadata(metadata, &mut self)?;
         self.beside(krates)
     }
@@ -199,8 +206,8 @@ impl Reporter<'_> {
 
     /// The graph of a document and the packages that it doesn't keep.
     fn divided(&self, metadata: Metadata) -> Result<Divided, Refusal> {
-        match self.builder() {
-            Ok(builder) => Others::new(self.alloc).divided(builder, metadata),
+        match self.setting() {
+            Ok(setting) => Others::new(self.alloc).divided(self.alloc, setting, metadata),
             Err(AllocError) => {
                 metadata.let_go();
                 Err(Refusal::Memory)
@@ -208,10 +215,9 @@ impl Reporter<'_> {
         }
     }
 
-    /// A builder under what is chosen.
-    fn builder(&self) -> Result<Builder, AllocError> {
-        let setting = self.asked.choice.setting(self.alloc, &[])?;
-        Ok(Builder::under(self.alloc, setting))
+    /// What is chosen.
+    fn setting(&self) -> Result<Setting, AllocError> {
+        self.asked.choice.setting(self.alloc, &[])
     }
 
     /// The kept crates.
@@ -420,7 +426,7 @@ impl Reporter<'_> {
         let Ok(kid) = Kid::try_from(package.id.clone()?) else {
             return Err(Refusal::Memory);
         };
-        let builder = self.builder()?;
+        let builder = Builder::under(self.alloc, self.setting()?);
         Ok(is_unreachable(metadata, &builder, facts, &kid)?)
     }
 
