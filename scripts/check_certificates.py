@@ -7,7 +7,7 @@ A document is FOLDER/NAME/metadata.json, which may be compressed, as metadata.js
 `--edges no-dev --target x86_64-unknown-linux-gnu`, `cargo-krates certify` writes the closed list of all that is kept, that of a package that
 isn't, and a derivation of each kept crate, of at most twelve. Each has to hold, with the crates and steps that it has. Then in each one fact or
 step is taken away, exchanged for the next one, or added, and it is checked with another document and under the other setting: each of these
-has to be refused, a step at a place at or behind the change. At last COUNT damaged certificates, 1,000 where none is given and the same
+has to be refused, a step at a place at or behind the change; but by another document only where what it says isn't so there. At last COUNT damaged certificates, 1,000 where none is given and the same
 in every run: texts that are cut off, and values that are gone, of another type, doubled under their key, or exchanged. None of them may be
 a yes, and each has to end with status 1, nothing on standard output and one line on standard error.
 
@@ -86,9 +86,22 @@ def wanted(certificate):
     return f"holds: nothing but {'this' if count == 1 else 'these'} {number(count, 'crate')} can be reached\n"
 
 
+def kept(file, options):
+    """The ids of the kept crates."""
+    return made(file, options, "list", "--ids").split("\n")[:-1]
+
+
+def is_so(file, options, certificate):
+    """Whether what a certificate says is so of a document."""
+    ids, listed = set(kept(file, options)), parts(certificate)
+    if certificate["kind"] == "derivation":
+        return listed[-1]["fact"]["krate"] in ids
+    return ids <= {fact["krate"] for fact in listed if fact["fact"] == "crate"}
+
+
 def certificates(file, options):
     """The certificates of a document."""
-    ids = made(file, options, "list", "--ids").split("\n")[:-1]
+    ids = kept(file, options)
     listed = json.loads(file.read_text())["packages"]
     yield json.loads(made(file, options, "certify", "--all"))
     for package in [package["id"] for package in listed if package["id"] not in ids][:1]:
@@ -133,6 +146,14 @@ def check_changes(tally, name, file, options, certificate, rng):
         refusal = REFUSED.fullmatch(said)
         is_placed = bool(refusal) and (refusal[2] is None or int(refusal[2]) >= place)
         tally.add(kind, status == 1 and not out and is_placed, f"{name} {options} at {place}: {status} {out}{said}")
+
+
+def check_other(tally, file, options, certificate):
+    """A certificate is checked with another document."""
+    status, out, said = checked(file, options, certificate)
+    is_refused = status == 1 and not out and said.startswith("error: ")
+    is_right = is_refused or (status, out) == (0, wanted(certificate)) and is_so(file, options, certificate)
+    tally.add("other document", is_right, f"{file} {options}: {status} {out}{said}")
 
 
 def leaves(value, path=()):
@@ -189,8 +210,7 @@ def main():
                     tally.add("whole", ended == (0, wanted(certificate), ""), f"{name} {options}: {ended}")
                     ended = checked(file, SETTINGS[1 - number], certificate)
                     tally.add("other setting", ended[0] == 1 and "of another setting" in ended[2], f"{name}: {ended}")
-                    ended = checked(files[at - 1][1], options, certificate)
-                    tally.add("other document", ended[0] == 1 and not ended[1], f"{name} by {files[at - 1][0]}: {ended}")
+                    check_other(tally, files[at - 1][1], options, certificate)
                     check_changes(tally, name, file, options, certificate, rng)
                     if len(json.dumps(certificate)) < 200_000:
                         whole.append((name, file, options, certificate))
