@@ -176,6 +176,9 @@ def damaged(text, rng):
             above = above[key]
         old, how = above[path[-1]], rng.randrange(4)
         if how == 0:
+            # the first steps of a derivation are one too
+            if path == ("steps", len(value.get("steps", [])) - 1):
+                continue
             del above[path[-1]]
         elif how == 1:
             above[path[-1]] = rng.choice([None, True, -1, 1.5, 7, "", "x", [], {}, [[]], "path+file:///z#z@9.9.9"])
