@@ -140,20 +140,20 @@ const CERTIFIED: &[Row] = &[
 
 /// Certificates that are written, as the program that checks them judges them.
 #[test]
-fn certified(rt: HostRuntime) -> Result<(), Fail> {
+fn certificates_checked(rt: HostRuntime) -> Result<(), Fail> {
     hold::<Certified>(rt.alloc(), CERTIFIED)
 }
 
 /// A certificate, without a name behind its document: what the checker says of it about the document `a b|b`.
-struct Judged;
+struct ByHand;
 
-impl Question for Judged {
+impl Question for ByHand {
     fn told(alloc: Global, line: &str) -> Result<String, Fail> {
         checked(alloc, "--metadata m < a b|b", line.as_bytes())
     }
 }
 
-const JUDGED: &[Row] = &[
+const BY_HAND: &[Row] = &[
     // what the last step says, whatever the others say
     (
         r#"{"kind":"derivation","setting":[],"steps":[{"fact":{"fact":"crate","krate":"path+file:///w/a#0.1.0"},"rule":1,"uses":[]},{"fact":{"fact":"kept","parent":"path+file:///w/a#0.1.0","child":"path+file:///w/b#0.1.0","kind":"normal","cfg":null},"rule":5,"uses":[0]}]}"#,
@@ -189,6 +189,6 @@ const JUDGED: &[Row] = &[
 
 /// Certificates that are written by hand, as they are judged.
 #[test]
-fn judged(rt: HostRuntime) -> Result<(), Fail> {
-    hold::<Judged>(rt.alloc(), JUDGED)
+fn certificates_by_hand(rt: HostRuntime) -> Result<(), Fail> {
+    hold::<ByHand>(rt.alloc(), BY_HAND)
 }
