@@ -30,15 +30,17 @@ ROOMS = {
     "the graph": ("#e6f6f6", ["krates_graph", "krates_drawing", "krates_queries"]),
     "why": ("#f1f0e4", ["krates_steps", "krates_explain"]),
     "checkers without a search": ("#fdeaea", ["krates_derive", "krates_checkers", "krates_certificate", "krates_verdict", "krates_check"]),
-    "for callers": ("#eceff1", ["krates_packages", "krates", "krates_cli", "krates_list", "krates_answers", "krates_words", "krates_dump", "krates_report", "krates_host", "cargo_krates"]),
+    "for callers": ("#eceff1", ["krates_packages", "krates", "krates_cli", "krates_list", "krates_answers", "krates_words", "krates_dump", "krates_report", "krates_host", "cargo_krates", "krates_foreign", "krates_c"]),
 }
 
 
 def crates():
     """Each crate of this repository with the crates of it on which it stands."""
     lines = [line.split(":") for line in (ROOT / "crates.txt").read_text().splitlines() if line.strip()]
-    names = {name.strip() for name, _ in lines}
-    return {name.strip(): [below for below in rest.split() if below in names] for name, rest in lines}
+    # behind the name may stand what is made of the crate
+    lines = [(head.split()[0], rest.split()) for head, rest in lines]
+    names = {name for name, _ in lines}
+    return {name: [below for below in rest if below in names] for name, rest in lines}
 
 
 def shown(name):

@@ -63,8 +63,10 @@ SHOWN_BY = {
     # the steps that a build keeps, and those of them that lead to a node
     "facts": ("kept_steps", "Document::lookup"),
     "why": ("derivation_of", "step_of"),
-    # what is read as a certificate is judged
-    "run": ("Subject::judge",),
+    # what is read as a document is listed, and what is read as a certificate is judged
+    "run": ("listing_of", "Subject::judge", "Subject::judge_bytes"),
+    # a refusal is handed over with its status
+    "hand_over": ("Refusal::status",),
     # what a word of `cargo krates` answers is made of values, which its text and its JSON show
     "Reporter::answer": (
         "fitting duplicates lacking lost_dependencies materials is_unreachable push_graph Links::dependents Links::dependencies Links::of Links::leads"

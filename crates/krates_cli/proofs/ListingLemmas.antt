@@ -129,15 +129,17 @@ lines_listed (pkg ∷ packages) (l ∷ values) h =
     ap (λ (id : PackageId). id_line (codes "+ ") id ++ listed_lines values) h.0 ∙ ap (λ ls. line (codes "+ ") pkg ++ ls) (lines_listed packages values h.1)
 
 -- what is built without an index is built of the document as it is given
-pub built_as_given : {S : Type 0} (may_answer : Answering S) (index : Option S) (s meant : SettingModel) (m : Metadata) (made_edge : Edge → Edge → Type 0) (kept : KeptCrates Listed Edge) (before after : Reported) → index ≡ None → s ≡ meant
-    → Sees may_answer index m (λ seen. IsBuilt Reports IsListedOf made_edge seen s before after kept) → IsBuilt Reports IsListedOf made_edge m meant before after kept
-built_as_given may_answer index s meant m made_edge kept before after none same sees =
-    subst (λ t. IsBuilt Reports IsListedOf made_edge m t before after kept) same (as_given may_answer m (λ seen. IsBuilt Reports IsListedOf made_edge seen s before after kept) (subst (λ i. Sees may_answer i m (λ seen. IsBuilt Reports IsListedOf made_edge seen s before after kept)) none sees))
+pub built_as_given : {S F N E : Type 0} (may_answer : Answering S) (index : Option S) (s meant : SettingModel) (m : Metadata) (filters : F → Package → F → Type 0) (made : Package → N → Type 0) (made_edge : Edge → E → Type 0) (kept : KeptCrates N E) (before after : F)
+    → index ≡ None → s ≡ meant
+    → Sees may_answer index m (λ seen. IsBuilt filters made made_edge seen s before after kept) → IsBuilt filters made made_edge m meant before after kept
+built_as_given may_answer index s meant m filters made made_edge kept before after none same sees =
+    subst (λ t. IsBuilt filters made made_edge m t before after kept) same (as_given may_answer m (λ seen. IsBuilt filters made made_edge seen s before after kept) (subst (λ i. Sees may_answer i m (λ seen. IsBuilt filters made made_edge seen s before after kept)) none sees))
 
 -- its packages are those that are kept, and those that are reported
-pub split_by : (s : SettingModel) (m : Metadata) (made_edge : Edge → Edge → Type 0) (kept : KeptCrates Listed Edge) (before after : Reported) → IsResolvable (metadata_view m) → (built : IsBuilt Reports IsListedOf made_edge m s before after kept)
+pub split_by : {F N E : Type 0} (filters : F → Package → F → Type 0) (made : Package → N → Type 0) (made_edge : Edge → E → Type 0) (s : SettingModel) (m : Metadata) (kept : KeptCrates N E) (before after : F)
+    → IsResolvable (metadata_view m) → (built : IsBuilt filters made made_edge m s before after kept)
     → IsSplit s m built.values.packages built.reported.others
-split_by s m made_edge kept before after resolvable built = record {
+split_by filters made made_edge s m kept before after resolvable built = record {
   resolvable = resolvable;
   none_lost = built.none_lost;
   some = built.some;
@@ -157,7 +159,7 @@ listed s m made_edge kept before after lines told resolvable built empty whole t
     let others : told ≡ reported_lines reported.others = told_is ∙ collected.1 ∙ ap (λ ls. ls ++ reported_lines reported.others) empty in record {
       kept = built.values.packages;
       others = reported.others;
-      split = split_by s m made_edge kept before after resolvable built;
+      split = split_by Reports IsListedOf made_edge s m kept before after resolvable built;
       written = written ∙ ap (λ ls. listed_lines (values_of kept) ++ ls) others ∙ ap (λ ls. ls ++ reported_lines reported.others) (lines_listed built.values.packages (values_of kept) built.values.made_of);
     }
 
@@ -169,7 +171,7 @@ explained s m made_edge kept before after krate lines resolvable built e =
     let follows = built.explained.follows in record {
       kept = built.values.packages;
       others = built.reported.others;
-      split = split_by s m made_edge kept before after resolvable built;
+      split = split_by Reports IsListedOf made_edge s m kept before after resolvable built;
       steps = e.steps;
       why = record {
         accepted = record {
@@ -198,7 +200,7 @@ unexplained a m made_edge kept before after krate (errors.NotKept same) resolvab
   asked = asked ∙ ap (λ (i : Identity). Some i) (sym why.0);
   kept = built.values.packages;
   others = built.reported.others;
-  split = split_by a.setting m made_edge kept before after resolvable built;
+  split = split_by Reports IsListedOf made_edge a.setting m kept before after resolvable built;
   dropped = λ keeps.
       let among = (built.kept (id_of krate)).0 (subst (λ (i : Identity). KeepsCrate (metadata_view m) a.setting (id_of i)) why.0 keeps) in
       let w = place_of (ids_of kept) (id_of krate) among.0 among.1 among.2 in

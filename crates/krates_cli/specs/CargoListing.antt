@@ -1,7 +1,7 @@
 -- The listing of the document that cargo writes, and why a run of cargo has none.
 use Rattle.std.specs.Prelude.{◌≡◌, Option, ⊤}
 use Rattle.std.specs.Io.KnownBytes.{Appends}
-use Rattle.krates_cm.specs.Document.{Text, metadata_view}
+use Rattle.krates_cm.specs.Document.{Text}
 use Rattle.krates_cm.specs.declared.error.Error as cm
 use Rattle.krates_cm.specs.declared.error.Error.TheVariants as cm_errors
 use Rattle.krates_cargo.specs.Running.{IsUnrun}

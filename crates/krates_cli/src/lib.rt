@@ -15,6 +15,7 @@ mod why_kept;
 
 pub use command_line::{program, refuse_words};
 pub use counted::Counted;
-pub use listing::{run, run_by_cargo};
-pub use options::{Options, OptionsError, options_of, set_options};
+pub use listed::Listed;
+pub use listing::{listing_of, run, run_by_cargo};
+pub use options::{Options, OptionsError, kid_of, options_of, targets_of};
 pub use run_error::RunError;

@@ -11,9 +11,9 @@ use std::alloc::{AllocError, Global};
 /// A node of the graph has room for what it holds in place of a package, also where it is that of a feature: with this
 /// it takes an eighth of what it would take with packages.
 #[derive(Drop)]
-pub(crate) struct Listed {
+pub struct Listed {
     /// Its id, as the document has it.
-    pub(crate) id: PackageId,
+    pub id: PackageId,
 }
 
 impl FromPackage for Listed {

@@ -12,7 +12,7 @@ ghost use Rattle.krates_cli.specs.declared.run_error.RunError.TheVariants as err
 use crate::counted::Counted;
 use crate::lines::all_lines;
 use crate::listed::Listed;
-use crate::options::{Options, set_options};
+use crate::options::Options;
 use crate::reported::Reported;
 use crate::run_error::RunError;
 use crate::why_kept::why_kept;
@@ -36,15 +36,22 @@ fn listing(alloc: Global, options: &Options, text: String) -> Result<String, Run
 }
 
 /// The lines of a document under the options: those of the kept packages, then those of the others; or those of the derivation of
-/// the crate that is to be explained. It is refused as `Build`, `NotKept` or `Memory`.
-fn listing_of(alloc: Global, options: &Options, metadata: Metadata) -> Result<String, RunError>
+/// the crate that is to be explained. The program that the options may ask for is not looked at.
+///
+/// It is refused as `Build`, or as `NotKept` where the crate that is to be explained isn't kept, each only where that is true of the
+/// document. It may instead return `Memory`. Time: that of the build.
+///
+/// ```text
+/// let metadata = MetadataCommand::parse(alloc, text)?;
+/// let lines = listing_of(alloc, &options, metadata)?;
+/// ```
+pub fn listing_of(alloc: Global, options: &Options, metadata: Metadata) -> Result<String, RunError>
     ensures listed { IfOk result
         (λ lines. IsListingOf (meant_request options.now) metadata (string_bytes lines)) }
     ensures refused { IfErr result (IsUnlisted (meant_request options.now) metadata) }
 {
     let mut reported = Reported::new(alloc);
-    let mut builder = Builder::new(alloc);
-    set_options(alloc, options, &mut builder)?;
+    let builder = Builder::under(alloc, options.setting(alloc)?);
     let krates: Krates<Listed> = builder.build_with_metadata(metadata, &mut reported)?;
     if let Some(krate) = &options.why {
         return why_kept(alloc, &krates, krate);

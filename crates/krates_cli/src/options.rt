@@ -4,13 +4,13 @@ ghost use Rattle.std.specs.Prelude.{◌≡◌, ◌∷◌, IfErr, IfOk, OnOk, map
 ghost use Rattle.krates_ids.specs.Identity.{Identity, Reads};
 ghost use Rattle.krates_ids.specs.PackageSpecification.{Specification, IsSpec, spec_view};
 ghost use Rattle.krates_text.specs.AskedTargets.{asked_of};
-ghost use Rattle.krates_rules.specs.PlainSetting.{plain_setting};
 ghost use Rattle.krates_cli.specs.Options.{IsCommandLine, IsUnknown, asked_at, kind_named, options_view, plain_options, setting_of};
 ghost use Rattle.krates_cli.specs.OptionsReading.{AddsFirst, AddsValue, BeginsUnknown, IsNoValue, IsUnread, with_ignored};
 ghost use Rattle.krates_cli.specs.declared.options.OptionsError.TheVariants.{Memory};
 
+use krates::resolve::Setting;
 use krates::target::Target;
-use krates::{Builder, Error, IdError, Kid, PackageId, PkgSpec};
+use krates::{Error, IdError, Kid, PackageId, PkgSpec};
 use krates_ids::laws;
 use krates_resolve::{DepKind, Scope};
 use std::alloc::{AllocError, AllocFailed, Global};
@@ -73,6 +73,25 @@ impl Options {
             why: None,
             all_named: false,
         }
+    }
+
+    /// The setting that is meant: what is asked for of the packages, the program and the crate that is to be explained apart. The
+    /// only error is running out of memory. Time O(length of the options).
+    ///
+    /// ```text
+    /// let options = options_of(alloc, words)?;
+    /// let builder = Builder::under(alloc, options.setting(alloc)?);
+    /// ```
+    pub fn setting(&self, alloc: Global) -> Result<Setting, AllocError>
+        ensures { IfOk result (λ setting. setting ≡ setting_of (options_view self.now)) }
+    {
+        let mut setting = Setting::new(alloc);
+        setting.workspace(self.workspace);
+        setting.all_named(self.all_named);
+        ignore_kinds(&mut setting, &self.ignored);
+        setting.include_targets(targets_of(alloc, &self.targets)?)?;
+        setting.exclude(self.exclusions.clone()?)?;
+        Ok(setting)
     }
 
     /// Adds what the words ask for that begin with this option, and answers the words that follow it.
@@ -148,8 +167,12 @@ fn pkg_spec(alloc: Global, word: &str) -> Result<PkgSpec, OptionsError>
     }
 }
 
-/// The package id that a word is.
-fn kid_of(alloc: Global, word: &str) -> Result<Kid, OptionsError>
+/// The package id that a word is. It is refused as `Unknown` exactly where the word is none, or as `Memory`. Time O(length of the word).
+///
+/// ```text
+/// let krate = kid_of(alloc, "path+file:///w/b#0.1.0")?;
+/// ```
+pub fn kid_of(alloc: Global, word: &str) -> Result<Kid, OptionsError>
     ensures read { IfOk result (λ krate. Reads word.now krate) }
     ensures refused { IfErr result (IsUnread ((krate : Identity) → Reads word.now krate → ⊥)) }
 {
@@ -183,37 +206,25 @@ pub fn options_of(alloc: Global, words: &[String]) -> Result<Options, OptionsErr
     Ok(options)
 }
 
-/// Sets what the options mean, where nothing is set yet. The only error is running out of memory. Time O(options).
-pub fn set_options<S: Drop + 'static>(
-    alloc: Global,
-    options: &Options,
-    builder: &mut Builder<S>,
-) -> Result<(), AllocError>
-    requires { builder.old.setting ≡ plain_setting }
-    ensures setting { OnOk result (builder.new.setting ≡ setting_of (options_view options.now)) }
-    ensures index { OnOk result (builder.new.index ≡ builder.old.index) }
-{
-    builder.workspace(options.workspace);
-    builder.all_named(options.all_named);
-    ignore_kinds(builder, &options.ignored);
-    builder.include_targets(targets_of(alloc, &options.targets)?)?;
-    builder.exclude(options.exclusions.clone()?)?;
-    Ok(())
-}
-
 /// Ignores dependencies of these kinds, whichever crate has them.
-fn ignore_kinds<S: Drop + 'static>(builder: &mut Builder<S>, kinds: &[DepKind])
-    ensures setting { builder.new.setting ≡ record
-        (builder.old.setting) { ignored = with_ignored kinds.now builder.old.setting.ignored } }
-    ensures index { builder.new.index ≡ builder.old.index }
+fn ignore_kinds(setting: &mut Setting, kinds: &[DepKind])
+    ensures { setting.new ≡ record setting.old { ignored = with_ignored kinds.now setting.old.ignored } }
 {
     for kind in kinds {
-        builder.ignore_kind(*kind, Scope::All);
+        setting.ignore_kind(*kind, Scope::All);
     }
 }
 
-/// The targets with these triples, each without features.
-fn targets_of(alloc: Global, triples: &[String]) -> Result<Vec<(Target, Vec<String>)>, AllocError>
+/// The targets with these triples, each without features, as options mean them. The only error is running out of memory. Time
+/// O(length of the triples).
+///
+/// ```text
+/// let targets = targets_of(alloc, &options.targets)?;
+/// ```
+pub fn targets_of(
+    alloc: Global,
+    triples: &[String],
+) -> Result<Vec<(Target, Vec<String>)>, AllocError>
     ensures { IfOk result
         (λ targets. map asked_of targets.items ≡ map asked_at (map string_bytes triples.now)) }
 {

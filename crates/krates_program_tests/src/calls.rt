@@ -2,7 +2,7 @@
 
 use crate::listing::words_of;
 use krates::{Builder, Kid, Krates, NoneFilter};
-use krates_cli::{Counted, Options, OptionsError, options_of, set_options};
+use krates_cli::{Counted, Options, OptionsError, options_of};
 use krates_samples::documents::metadata;
 use krates_samples::table::{Question, Row, hold};
 use std::alloc::{AllocError, Global};
@@ -57,8 +57,7 @@ const OPTIONS: &[Row] = &[
 
 /// How many crates of the document of a line a builder keeps for which the options are set.
 fn count_kept(alloc: Global, options: &Options, line: &str) -> Result<String, Fail> {
-    let mut builder = Builder::new(alloc);
-    set_options(alloc, options, &mut builder)?;
+    let builder = Builder::under(alloc, options.setting(alloc)?);
     let metadata = metadata(alloc, line)?;
     let krates: Krates = builder.build_with_metadata(metadata, &mut NoneFilter)?;
     Ok(format!(in alloc; "{}", krates.len())?)

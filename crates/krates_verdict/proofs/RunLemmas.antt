@@ -1,4 +1,4 @@
--- What is known of a text, and of what was read, where there is no verdict.
+-- What is known of bytes, and of what was read, where there is no verdict.
 use Rattle.std.proofs.Common.{◌≡◌, ◌⊎◌, IfErr, IfSome, IsUtf8, None, [], Option, Result, Some, Ok, Err, inl, inr, refl, subst, sym}
 use Rattle.krates_cm.specs.Document.{Text}
 use Rattle.krates_certificate.specs.Refusals.{IsMemory, fault_of}
@@ -7,14 +7,14 @@ use Rattle.krates_certificate.specs.Told.{certificate_told}
 use Rattle.krates_certificate.specs.declared.certificate.Certificate.{Certificate}
 use Rattle.krates_certificate.specs.declared.certificate_error.CertificateError.{CertificateError}
 use Rattle.krates_verdict.specs.RefusalText.{CertificateErrorBecomes}
-use Rattle.krates_verdict.specs.Refusals.{JudgeRefusal}
-use Rattle.krates_verdict.specs.Running.{IsRefusalOf, IsUnread, RunRefusal}
+use Rattle.krates_verdict.specs.Refusals.{IsOfReader, JudgeRefusal}
+use Rattle.krates_verdict.specs.Running.{IsRefusalOf, IsUnheld, RunRefusal}
 use Rattle.krates_verdict.specs.Subject.{SubjectModel}
 use Rattle.krates_verdict.specs.declared.refusal.Refusal.{Refusal}
 use Rattle.krates_verdict.specs.declared.refusal.Refusal.TheVariants as refusals
 
--- a text that is no certificate is refused as that
-pub no_certificate : (s : SubjectModel) (read text : Text) (cause : CertificateError) (e : Refusal) → IsUtf8 text → read ≡ text → IsMemory (fault_of cause) ⊎ TextFault read (fault_of cause) → CertificateErrorBecomes cause e → IsRefusalOf s text e
+-- bytes that are no certificate are refused as that
+pub no_certificate : (s : SubjectModel) (read text : Text) (cause : CertificateError) (e : Refusal) → IsUtf8 text → read ≡ text → IsMemory (fault_of cause) ⊎ TextFault read (fault_of cause) → CertificateErrorBecomes cause e → IsUnheld s text e
 no_certificate s read text cause (refusals.Certificate same) utf8 is told becomes = elim told [
   | inl memory ↦ absurd (becomes.1 memory)
   | inr fault ↦ (utf8, subst (λ (c : CertificateError). TextFault text (fault_of c)) (sym becomes.0) (subst (λ (t : Text). TextFault t (fault_of cause)) is fault))
@@ -26,8 +26,8 @@ no_certificate s read text cause (refusals.Setting _) utf8 is told becomes = abs
 no_certificate s read text cause (refusals.Check _) utf8 is told becomes = absurd becomes
 no_certificate s read text cause (refusals.Write _) utf8 is told becomes = absurd becomes
 
--- a text whose certificate is refused is refused so
-certificate_refused : (s : SubjectModel) (text : Text) (c : Certificate) (e : Refusal) → IsUtf8 text → IsCertificateText text (certificate_told c) → JudgeRefusal s c e → IsRefusalOf s text e
+-- bytes whose certificate is refused are refused so
+certificate_refused : (s : SubjectModel) (text : Text) (c : Certificate) (e : Refusal) → IsUtf8 text → IsCertificateText text (certificate_told c) → JudgeRefusal s c e → IsUnheld s text e
 certificate_refused s text c (refusals.Setting claimed) utf8 reads h = record { is_text = utf8; certificate = c; reads = reads; so = h }
 certificate_refused s text c (refusals.Check cause) utf8 reads h = record { is_text = utf8; certificate = c; reads = reads; so = h }
 certificate_refused s text c refusals.Memory utf8 reads h = tt
@@ -36,28 +36,38 @@ certificate_refused s text c refusals.Utf8 utf8 reads h = absurd h
 certificate_refused s text c (refusals.Certificate _) utf8 reads h = absurd h
 certificate_refused s text c (refusals.Write _) utf8 reads h = absurd h
 
-pub text_refused : {A : Type 0} (s : SubjectModel) (text : Text) (c : Certificate) (r : Result A Refusal) → IsUtf8 text → IsCertificateText text (certificate_told c) → IfErr r (JudgeRefusal s c) → IfErr r (IsRefusalOf s text)
-text_refused s text c (Ok x) utf8 reads h = h
-text_refused s text c (Err e) utf8 reads h = certificate_refused s text c e utf8 reads h
+pub bytes_refused : {A : Type 0} (s : SubjectModel) (text : Text) (c : Certificate) (r : Result A Refusal) → IsUtf8 text → IsCertificateText text (certificate_told c) → IfErr r (JudgeRefusal s c) → IfErr r (IsUnheld s text)
+bytes_refused s text c (Ok x) utf8 reads h = h
+bytes_refused s text c (Err e) utf8 reads h = certificate_refused s text c e utf8 reads h
 
 -- there are bytes that are those that are known
 some_bytes : (left : Option Text) → (bytes : Text) × IfSome left (λ known. bytes ≡ known)
 some_bytes None = ([], tt)
 some_bytes (Some known) = (known, refl)
 
-unread : (s : SubjectModel) (left : Option Text) (e : Refusal) → IsUnread left e → RunRefusal s left e
+unread : (s : SubjectModel) (left : Option Text) (e : Refusal) → IsOfReader e → RunRefusal s left e
 unread s left (refusals.Read cause) h = let w = some_bytes left in record { bytes = w.0; all = w.1; so = tt }
-unread s left refusals.Utf8 h = record { bytes = h.bytes; all = h.all; so = h.so }
 unread s left refusals.Memory h = let w = some_bytes left in record { bytes = w.0; all = w.1; so = tt }
+unread s left refusals.Utf8 h = absurd h
 unread s left (refusals.Certificate _) h = absurd h
 unread s left (refusals.Setting _) h = absurd h
 unread s left (refusals.Check _) h = absurd h
 unread s left (refusals.Write _) h = absurd h
 
--- a run without a text is refused so
-pub run_unread : (s : SubjectModel) (left : Option Text) (e same : Refusal) → IsUnread left e → same ≡ e → RunRefusal s left same
+-- a run without bytes is refused so
+pub run_unread : (s : SubjectModel) (left : Option Text) (e same : Refusal) → IsOfReader e → same ≡ e → RunRefusal s left same
 run_unread s left e same h is = subst (RunRefusal s left) (sym is) (unread s left e h)
 
--- and so is one over a text that is refused
-pub run_refused : (s : SubjectModel) (left : Option Text) (bytes : Text) (e same : Refusal) → IfSome left (λ known. bytes ≡ known) → IsRefusalOf s bytes e → same ≡ e → RunRefusal s left same
-run_refused s left bytes e same all h is = subst (RunRefusal s left) (sym is) (record { bytes = bytes; all = all; so = h })
+-- bytes without a verdict have none that is written
+unwritten : (s : SubjectModel) (bytes : Text) (e : Refusal) → IsUnheld s bytes e → IsRefusalOf s bytes e
+unwritten s bytes refusals.Utf8 h = h
+unwritten s bytes (refusals.Certificate _) h = h
+unwritten s bytes (refusals.Setting _) h = h
+unwritten s bytes (refusals.Check _) h = h
+unwritten s bytes refusals.Memory h = h
+unwritten s bytes (refusals.Read _) h = absurd h
+unwritten s bytes (refusals.Write _) h = absurd h
+
+-- and so is one over bytes that are refused
+pub run_refused : (s : SubjectModel) (left : Option Text) (bytes : Text) (e same : Refusal) → IfSome left (λ known. bytes ≡ known) → IsUnheld s bytes e → same ≡ e → RunRefusal s left same
+run_refused s left bytes e same all h is = subst (RunRefusal s left) (sym is) (record { bytes = bytes; all = all; so = unwritten s bytes e h })

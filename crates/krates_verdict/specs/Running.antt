@@ -27,16 +27,20 @@ pub record IsOfCertificate (bytes : Text) (P : Certificate → Type 0) : Type 0 
 abbrev pub IsVerdictOf : SubjectModel → Text → Verdict → Type 0
 IsVerdictOf s bytes verdict = IsOfCertificate bytes (λ c. Holds s c verdict)
 
--- Why these bytes have no verdict that is written: the first class that is true of them counts. Memory may always run out, and the reader or
--- the writer may always fail.
+-- Why these bytes have no verdict: the first class that is true of them counts. Memory may always run out.
+abbrev pub IsUnheld : SubjectModel → Text → Refusal → Type 0
+IsUnheld s bytes refusals.Utf8 = IsUtf8 bytes → ⊥
+IsUnheld s bytes (refusals.Certificate cause) = IsUtf8 bytes × TextFault bytes (fault_of cause)
+IsUnheld s bytes (refusals.Setting claimed) = IsOfCertificate bytes (λ c. JudgeRefusal s c (refusals.Setting claimed))
+IsUnheld s bytes (refusals.Check cause) = IsOfCertificate bytes (λ c. JudgeRefusal s c (refusals.Check cause))
+IsUnheld s bytes refusals.Memory = ⊤
+IsUnheld s bytes _ = ⊥
+
+-- Why they have no verdict that is written: the reader or the writer may always fail, too.
 abbrev pub IsRefusalOf : SubjectModel → Text → Refusal → Type 0
 IsRefusalOf s bytes (refusals.Read cause) = ⊤
-IsRefusalOf s bytes refusals.Utf8 = IsUtf8 bytes → ⊥
-IsRefusalOf s bytes (refusals.Certificate cause) = IsUtf8 bytes × TextFault bytes (fault_of cause)
-IsRefusalOf s bytes (refusals.Setting claimed) = IsOfCertificate bytes (λ c. JudgeRefusal s c (refusals.Setting claimed))
-IsRefusalOf s bytes (refusals.Check cause) = IsOfCertificate bytes (λ c. JudgeRefusal s c (refusals.Check cause))
 IsRefusalOf s bytes (refusals.Write cause) = (verdict : Verdict) × IsVerdictOf s bytes verdict
-IsRefusalOf s bytes refusals.Memory = ⊤
+IsRefusalOf s bytes cause = IsUnheld s bytes cause
 
 -- ---- of a reader and a writer
 
@@ -67,12 +71,3 @@ IsOutside (refusals.Read cause) = ⊤
 IsOutside (refusals.Write cause) = ⊤
 IsOutside refusals.Memory = ⊤
 IsOutside _ = ⊥
-
--- ---- reading
-
--- why there is no text
-abbrev pub IsUnread : Option Text → Refusal → Type 0
-IsUnread left (refusals.Read cause) = ⊤
-IsUnread left refusals.Utf8 = OfAllRead left (λ bytes. IsUtf8 bytes → ⊥)
-IsUnread left refusals.Memory = ⊤
-IsUnread left _ = ⊥

@@ -1,16 +1,14 @@
 //! A run: from the certificate that comes in to the verdict that goes out.
 
-ghost use Rattle.std.specs.Prelude.{IfErr, IfOk, IfSome, OnOk, string_bytes, ◌≡◌};
+ghost use Rattle.std.specs.Prelude.{IfErr, IfOk, IfSome, OnOk, ◌≡◌};
 ghost use Rattle.std.specs.Io.KnownBytes.{IsAtEnd};
-ghost use Rattle.std.specs.Str.{IsUtf8};
-ghost use Rattle.krates_verdict.specs.Running.{IsRefusalOf, IsUnread, IsVerdictOf, Leaves};
+ghost use Rattle.krates_verdict.specs.Refusals.{IsOfReader};
+ghost use Rattle.krates_verdict.specs.Running.{Leaves};
 ghost use Rattle.krates_verdict.specs.Running.{RunRefusal, WritesVerdict};
 ghost use Rattle.krates_verdict.specs.Subject.{subject_view};
 
 use crate::refusal::Refusal;
 use crate::subject::Subject;
-use crate::verdict::Verdict;
-use krates_certificate::Certificate;
 use std::alloc::Global;
 use std::io::{Read, Write};
 
@@ -21,7 +19,7 @@ use std::io::{Read, Write};
 /// the reader, of what was read, or of the writer. It may instead return `Memory`. The whole line is made before its first byte is
 /// written, so after each refusal but `Write` nothing was written.
 ///
-/// Time: O(n) for n bytes, and that of `Subject::judge`.
+/// Time: O(n) for n bytes, and that of `Subject::judge_bytes`.
 ///
 /// ```text
 /// run(rt.alloc(), &subject, &mut stdin(&rt), &mut stdout(&rt))?;
@@ -38,8 +36,8 @@ pub fn run<R: Read, W: Write>(
     ensures unwritten { IfErr result (Leaves output.old output.new) }
     ensures read { OnOk result (IsAtEnd (R.remaining input.new)) }
 {
-    let text = read_text(alloc, input)?;
-    let verdict = judge_text(alloc, subject, text)?;
+    let bytes = read_all(alloc, input)?;
+    let verdict = subject.judge_bytes(alloc, &bytes)?;
     let line = format!(in alloc; "{verdict}\n")?;
     match output.write_all(line.as_bytes()) {
         Ok(()) => Ok(()),
@@ -47,32 +45,16 @@ pub fn run<R: Read, W: Write>(
     }
 }
 
-/// The text that the input has up to its end. It is refused as `Read`, `Utf8` or `Memory`.
-fn read_text<R: Read>(alloc: Global, input: &mut R) -> Result<String, Refusal>
+/// The bytes that the input has up to its end. It is refused as `Read` or `Memory`.
+fn read_all<R: Read>(alloc: Global, input: &mut R) -> Result<Vec<u8>, Refusal>
     ensures whole { IfOk result
-        (λ text. IfSome (R.remaining input.old) (λ known. string_bytes text ≡ known)) }
+        (λ bytes. IfSome (R.remaining input.old) (λ known. bytes.items ≡ known)) }
     ensures end { OnOk result (IsAtEnd (R.remaining input.new)) }
-    ensures refused { IfErr result (IsUnread (R.remaining input.old)) }
+    ensures refused { IfErr result IsOfReader }
 {
     let mut bytes = Vec::new(alloc);
     match input.read_to_end(&mut bytes) {
-        Ok(_) => {}
-        Err(cause) => return Err(Refusal::unread(cause)),
+        Ok(_) => Ok(bytes),
+        Err(cause) => Err(Refusal::unread(cause)),
     }
-    match String::from_utf8(bytes) {
-        Ok(text) => Ok(text),
-        Err(_) => Err(Refusal::Utf8),
-    }
-}
-
-/// The verdict on a text. It is refused as `Certificate`, `Setting`, `Check` or `Memory`.
-fn judge_text(alloc: Global, subject: &Subject<'_>, text: String) -> Result<Verdict, Refusal>
-    ensures is_text { IsUtf8 (string_bytes text) }
-    ensures holds { IfOk result (IsVerdictOf (subject_view subject.now) (string_bytes text)) }
-    ensures refused { IfErr result (IsRefusalOf (subject_view subject.now) (string_bytes text)) }
-{
-    let certificate = Certificate::parse(alloc, text.as_str())?;
-    // the checker takes its room
-    drop(text);
-    subject.judge(alloc, certificate)
 }

@@ -8,6 +8,7 @@ ghost use Rattle.krates_rules.specs.Checks.{IsAcceptedFor, IsClosedFor};
 ghost use Rattle.krates_rules.specs.StepViews.{facts_view, steps_view};
 ghost use Rattle.krates_verdict.specs.Holding.{Holds, StepsSay};
 ghost use Rattle.krates_verdict.specs.Refusals.{IsObjection, IsOtherSetting, JudgeRefusal};
+ghost use Rattle.krates_verdict.specs.Running.{IsUnheld, IsVerdictOf};
 ghost use Rattle.krates_verdict.specs.Subject.{subject_view};
 ghost use Rattle.krates_verdict.specs.declared.refusal.Refusal.TheVariants as refusals;
 
@@ -20,6 +21,7 @@ use krates_cm::Metadata;
 use krates_document::Setting;
 use krates_rules::{Derivation, Fact, Step};
 use std::alloc::Global;
+use std::str;
 
 /// What a certificate is judged against: a document, a setting, and the words that mean this setting, as a command line has them.
 #[derive(Clone, Copy)]
@@ -65,6 +67,25 @@ impl Subject<'_> {
                 Ok(Verdict::Closed { krates })
             }
         }
+    }
+
+    /// Judges the bytes of a certificate: they are a text that `Certificate::parse` reads, and `judge` says what it holds.
+    ///
+    /// It is refused as `Utf8` or `Certificate` where the bytes are no text or no certificate, otherwise as by `judge`. It may
+    /// instead return `Memory`. Time: O(n) for n bytes, and that of `judge`.
+    ///
+    /// ```text
+    /// println!(rt; "{}", subject.judge_bytes(alloc, certificate)?)?;
+    /// ```
+    pub fn judge_bytes(&self, alloc: Global, certificate: &[u8]) -> Result<Verdict, Refusal>
+        ensures holds { IfOk result (IsVerdictOf (subject_view self.now) certificate.now) }
+        ensures refused { IfErr result (IsUnheld (subject_view self.now) certificate.now) }
+    {
+        let Ok(text) = str::from_utf8(certificate) else {
+            return Err(Refusal::Utf8);
+        };
+        let certificate = Certificate::parse(alloc, text)?;
+        self.judge(alloc, certificate)
     }
 
     /// Refuses other words than those of the setting.

@@ -1,4 +1,4 @@
-use Rattle.std.proofs.Common.{◌≡◌, IsUtf8, rules, string_bytes}
+use Rattle.std.proofs.Common.{◌≡◌, rules, string_bytes}
 use Rattle.std.proofs.lemmas.Result.{err_from_is_err_and}
 use Rattle.krates_cli.specs.Options.{meant_request}
 use Rattle.krates_cli.proofs.ListingLemmas.{begun, run_refused}

@@ -1,4 +1,4 @@
-use Rattle.std.proofs.Common.{◌≡◌, ◌<◌, ◌≤◌, ◌∙◌, Some, None, arith, length, string_bytes, subst, sym}
+use Rattle.std.proofs.Common.{◌<◌, ◌≤◌, ◌∙◌, arith, length, string_bytes, subst, sym}
 use Rattle.std.proofs.lemmas.Option.{none-some}
 use Rattle.krates_queries.specs.Why.{TellsWhy}
 use Rattle.krates_cli.proofs.WhyKeptLemmas.{explains, is_node, same_first}

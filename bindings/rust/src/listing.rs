@@ -1,0 +1,32 @@
+//! The packages of a document.
+
+/// The packages of a document: those that are kept, and the others, both in the order of their ids.
+#[derive(Clone, Debug, PartialEq, Eq)]
+pub struct Listing {
+    lines: String,
+}
+
+impl Listing {
+    pub(crate) fn new(lines: String) -> Listing {
+        Listing { lines }
+    }
+
+    /// The ids of the packages that are kept, as the document has them.
+    pub fn kept(&self) -> impl Iterator<Item = &str> {
+        self.marked("+ ")
+    }
+
+    /// The ids of the others.
+    pub fn others(&self) -> impl Iterator<Item = &str> {
+        self.marked("- ")
+    }
+
+    /// The lines, as `krates-list` writes them: each id behind `+ ` or `- `.
+    pub fn as_str(&self) -> &str {
+        &self.lines
+    }
+
+    fn marked(&self, mark: &'static str) -> impl Iterator<Item = &str> {
+        self.lines.lines().filter_map(move |line| line.strip_prefix(mark))
+    }
+}

@@ -1,0 +1,58 @@
+//! Why there is no answer.
+
+use std::fmt;
+
+/// Why there is no answer. Each is true of what was asked, memory apart; the first that is true counts.
+#[derive(Clone, Debug, PartialEq, Eq)]
+pub enum Refusal {
+    /// An option can't be meant: a specification that can't be read, a line feed in a value, or a target of which nothing is known.
+    Options(String),
+    /// The text of an id is none.
+    Id(String),
+    /// The document is not UTF-8.
+    Utf8,
+    /// The text is not a document of `cargo metadata`, for this reason.
+    Parse(String),
+    /// The document has no graph of crates under the options, for this reason.
+    Build(String),
+    /// The crate that is to be explained is not kept.
+    NotKept(String),
+    /// The certificate does not hold, for this reason.
+    Certificate(String),
+    /// Memory ran out.
+    Memory,
+}
+
+impl Refusal {
+    /// That of a status, with the text that was handed over.
+    pub(crate) fn of(status: u32, text: String) -> Refusal {
+        match status {
+            1 => Refusal::Options(text),
+            2 => Refusal::Id(text),
+            3 => Refusal::Utf8,
+            4 => Refusal::Parse(text),
+            5 => Refusal::Build(text),
+            6 => Refusal::NotKept(text),
+            7 => Refusal::Certificate(text),
+            9 => Refusal::Memory,
+            _ => unreachable!("the library has no status {status}"),
+        }
+    }
+}
+
+impl fmt::Display for Refusal {
+    fn fmt(&self, f: &mut fmt::Formatter<'_>) -> fmt::Result {
+        match self {
+            Refusal::Options(cause)
+            | Refusal::Id(cause)
+            | Refusal::Parse(cause)
+            | Refusal::Build(cause)
+            | Refusal::NotKept(cause)
+            | Refusal::Certificate(cause) => f.write_str(cause),
+            Refusal::Utf8 => f.write_str("the document is not UTF-8"),
+            Refusal::Memory => f.write_str("out of memory"),
+        }
+    }
+}
+
+impl std::error::Error for Refusal {}

@@ -1,0 +1,60 @@
+-- The setting that words ask for, one word a line, and the words that a certificate under this setting has.
+use Rattle.std.specs.Prelude.{◌≡◌, ◌++◌, IsUtf8, List, None, codes, map, ⊤}
+use Rattle.std.specs.Str.Lines.{lines}
+use Rattle.krates_cm.specs.Document.{Text}
+use Rattle.krates_cli.specs.Options.{IsCommandLine, OptionsModel, setting_of}
+use Rattle.krates_ids.specs.PackageSpecification.{Specification}
+use Rattle.krates_ids.specs.SpecificationText.{spec_text}
+use Rattle.krates_rules.specs.Setting.{SettingModel}
+use Rattle.krates_text.specs.TargetTable.{printed, target_named}
+use Rattle.krates_words.specs.SettingWords.{flag_words, kind_word}
+use Rattle.krates_foreign.specs.declared.refusal.Refusal.{Refusal}
+use Rattle.krates_foreign.specs.declared.refusal.Refusal.TheVariants as refusals
+
+-- the options ask for no program, and for no crate that is to be explained
+pub record AskAlone (o : OptionsModel) : Type 0 where
+  pub no_program : o.cargo ≡ None
+  pub no_crate : o.explaining ≡ None
+
+-- The bytes are a text whose lines are options, and these ask for a setting alone.
+pub record AsksFor (words : Text) (o : OptionsModel) : Type 0 where
+  pub is_text : IsUtf8 words
+  pub options : IsCommandLine (lines words) o
+  pub alone : AskAlone o
+
+-- The words ask for a setting, of which this is true.
+abbrev pub Under : Text → (SettingModel → Type 0) → Type 0
+Under words P = (o : OptionsModel) × AsksFor words o × P (setting_of o)
+
+-- They ask for none.
+abbrev pub AskForNone : Text → Type 0
+AskForNone words = (o : OptionsModel) → AsksFor words o → ⊥
+
+-- why no setting is read from the words
+abbrev pub IsUnasked : Text → Refusal → Type 0
+IsUnasked words refusals.Words = AskForNone words
+IsUnasked words refusals.Memory = ⊤
+IsUnasked words _ = ⊥
+
+-- ---- of options that were read
+
+abbrev pub IsAloneRefused : OptionsModel → Refusal → Type 0
+IsAloneRefused o refusals.Words = AskAlone o → ⊥
+IsAloneRefused o _ = ⊥
+
+-- ---- the words of a certificate
+
+abbrev pub exclusion_word : Specification → Text
+exclusion_word spec = codes "--exclude=" ++ spec_text spec
+
+abbrev pub target_word : Text → Text
+target_word triple = codes "--target=" ++ printed (target_named triple)
+
+-- the words that mean this setting, as `cargo krates certify` writes them
+abbrev pub setting_words : OptionsModel → List Text
+setting_words o =
+    flag_words (codes "--workspace") o.workspace
+    ++ (flag_words (codes "--all-named") o.all_named
+    ++ (map kind_word o.ignored
+    ++ (map exclusion_word o.exclusions
+    ++ map target_word o.targets)))

@@ -1,0 +1,50 @@
+-- How an answer is handed over in the room that the caller lends.
+use Rattle.std.specs.Prelude.{◌≡◌, ◌⊎◌, ◌++◌, ◌<◌, ◌≤◌, [], IfSome, Ok, Err, Result, String, drop, length, string_bytes}
+use Rattle.std.specs.declared.alloc.Global.{Global}
+use Rattle.krates_cm.specs.Document.{Text}
+use Rattle.krates_foreign.specs.RefusalText.{refusal_text}
+use Rattle.krates_foreign.specs.Status.{number_of, status_of}
+use Rattle.krates_foreign.specs.declared.handing.Answer.{Answer}
+use Rattle.krates_foreign.specs.declared.refusal.Refusal.{Refusal}
+use Rattle.krates_foreign.specs.declared.refusal.Refusal.TheVariants as refusals
+use Rattle.krates_foreign.specs.declared.status.Status.{Status}
+use Rattle.krates_foreign.specs.declared.status.Status.TheVariants as statuses
+
+-- ---- one text
+
+-- The text stands at the front of the room, and behind it the room is as it was; the answer has its status and its length.
+pub record Fits (status : Status) (text : Text) (answer : Answer) (old new : Text) : Type 0 where
+  pub room : length text ≤ length old
+  pub status_is : answer.status ≡ number_of status
+  pub length_is : answer.length ≡ length text
+  pub written : new ≡ text ++ drop (length text) old
+
+-- There is no room for it: nothing was written, and the answer says so, with the room that it needs.
+pub record FitsNot (text : Text) (answer : Answer) (old new : Text) : Type 0 where
+  pub room : length old < length text
+  pub status_is : answer.status ≡ number_of statuses.TooShort
+  pub length_is : answer.length ≡ length text
+  pub unwritten : new ≡ old
+
+abbrev pub IsHanded : Status → Text → Answer → Text → Text → Type 0
+IsHanded status text answer old new = Fits status text answer old new ⊎ FitsNot text answer old new
+
+-- ---- one of several
+
+-- A text was handed over that may be told with its status.
+abbrev pub Hands : (Status → Text → Type 0) → Answer → Text → Text → Type 0
+Hands MayTell answer old new = (status : Status) × (text : Text) × MayTell status text × IsHanded status text answer old new
+
+-- What is told of a refusal: what is printed of it, where that is stated.
+abbrev pub TellsRefusal : Refusal → Text → Type 0
+TellsRefusal refusal text = (refusal ≡ refusals.Memory → ⊥) × IfSome (refusal_text refusal) (λ stated. text ≡ stated)
+
+-- An answer is told, or a refusal with its status; where memory runs out, no text.
+pub data Tells (Answers : Text → Type 0) (Refuses : Refusal → Type 0) : Status → Text → Type 0 where
+  answered : {text : Text} → Answers text → Tells Answers Refuses statuses.Answered text
+  refused : {text : Text} {refusal : Refusal} → Refuses refusal → TellsRefusal refusal text → Tells Answers Refuses (status_of refusal) text
+  no_memory : Tells Answers Refuses statuses.Memory []
+
+-- what is told of the answer of a call
+abbrev pub TellsOf : Result (String Global) Refusal → Status → Text → Type 0
+TellsOf told = Tells (λ text. (s : String Global) × (told ≡ Ok s) × (string_bytes s ≡ text)) (λ refusal. told ≡ Err refusal)

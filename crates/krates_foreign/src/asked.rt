@@ -1,0 +1,52 @@
+//! The setting that words ask for.
+
+ghost use Rattle.std.specs.Prelude.{◌≡◌, IfErr, IfOk, map, string_bytes};
+ghost use Rattle.std.specs.Str.Lines.{lines};
+ghost use Rattle.krates_cli.specs.Options.{options_view};
+ghost use Rattle.krates_foreign.specs.Asked.{AsksFor, IsAloneRefused, IsUnasked, AskAlone};
+
+use crate::refusal::Refusal;
+use krates_cli::{Options, OptionsError, laws, options_of};
+use std::alloc::{AllocError, Global};
+use std::str;
+
+/// The options that words ask for, one word a line: those of `krates-list` that ask for a setting. It is refused as `Words` where
+/// they are no UTF-8, are no options, or ask for a program or for a crate that is to be explained, and only there. It may instead
+/// return `Memory`.
+pub(crate) fn options_in(alloc: Global, words: &[u8]) -> Result<Options, Refusal>
+    ensures asked { IfOk result (λ options. AsksFor words.now (options_view options)) }
+    ensures refused { IfErr result (IsUnasked words.now) }
+{
+    laws::one_command_line();
+    let Ok(text) = str::from_utf8(words) else {
+        return Err(Refusal::Words);
+    };
+    let words = words_in(alloc, text)?;
+    match options_of(alloc, &words) {
+        Ok(options) => alone(options),
+        Err(OptionsError::Unknown) => Err(Refusal::Words),
+        Err(OptionsError::Memory) => Err(Refusal::Memory),
+    }
+}
+
+/// The lines of a text.
+fn words_in(alloc: Global, text: &str) -> Result<Vec<String>, AllocError>
+    ensures { IfOk result (λ words. map string_bytes words.items ≡ lines text.now) }
+{
+    let mut words = Vec::new(alloc);
+    for line in text.lines() {
+        words.push(String::from_str(alloc, line)?)?;
+    }
+    Ok(words)
+}
+
+/// The options, where they ask for a setting alone.
+fn alone(options: Options) -> Result<Options, Refusal>
+    ensures same { IfOk result (λ same. (same ≡ options) × AskAlone (options_view options)) }
+    ensures refused { IfErr result (IsAloneRefused (options_view options)) }
+{
+    if options.cargo.is_some() || options.why.is_some() {
+        return Err(Refusal::Words);
+    }
+    Ok(options)
+}

@@ -1,0 +1,71 @@
+//! How an answer is handed over to whoever lends the room for it.
+
+ghost use Rattle.std.specs.Prelude.{Err, IfErr, IfOk, length, string_bytes};
+ghost use Rattle.krates_foreign.specs.Handing.{Hands, IsHanded, TellsOf, TellsRefusal};
+
+use crate::refusal::Refusal;
+use crate::status::Status;
+use std::alloc::{AllocError, Global};
+
+/// How a call ended.
+#[repr(C)]
+#[derive(Clone, Copy, Debug)]
+pub struct Answer {
+    /// The number of its status.
+    pub status: u32,
+    /// The length of the text that was handed over, or for which there was no room.
+    pub length: usize,
+}
+
+/// Writes the text to the front of the room, where there is room for all of it; otherwise nothing.
+fn hand(status: Status, text: &[u8], room: &mut [u8]) -> Answer
+    ensures { IsHanded status text.now result room.old room.new }
+{
+    let length = text.len();
+    if room.len() < length {
+        let status = Status::TooShort.number();
+        return Answer { status, length };
+    }
+    room[..length].copy_from_slice(text);
+    let status = status.number();
+    Answer { status, length }
+}
+
+/// Hands an answer over: its text, or what is printed of the refusal, stands at the front of the room, and behind it the room is as
+/// it was. The answer has the status and the length of the text.
+///
+/// Where the room is too short for the text, it is as it was, the status is that of `TooShort`, and the length is the room that the text
+/// needs. Where memory runs out, it is as it was, the status is that of `Memory`, and the length 0. Time O(length of the text).
+///
+/// ```text
+/// let told = list(alloc, document, words);
+/// let answer = hand_over(alloc, &told, &mut room);
+/// ```
+pub fn hand_over(alloc: Global, told: &Result<String, Refusal>, room: &mut [u8]) -> Answer
+    ensures { Hands (TellsOf told.now) result room.old room.new }
+{
+    match told {
+        Ok(text) => hand(Status::Answered, text.as_bytes(), room),
+        Err(refusal) => hand_refusal(alloc, refusal, room),
+    }
+}
+
+/// Hands over what is printed of a refusal.
+fn hand_refusal(alloc: Global, refusal: &Refusal, room: &mut [u8]) -> Answer
+    ensures { Hands (TellsOf (Err refusal.now)) result room.old room.new }
+{
+    match text_of(alloc, refusal) {
+        Ok(text) => hand(refusal.status(), text.as_bytes(), room),
+        Err(_) => hand(Status::Memory, b"", room),
+    }
+}
+
+/// What is printed of a refusal, or nothing where memory ran out.
+fn text_of(alloc: Global, refusal: &Refusal) -> Result<String, AllocError>
+    ensures { IfOk result (λ text. TellsRefusal refusal.now (string_bytes text)) }
+{
+    match refusal {
+        Refusal::Memory => Err(AllocError),
+        _ => refusal.to_string(alloc),
+    }
+}

@@ -1,0 +1,197 @@
+//! Calls over bytes, as other languages make them: what stands in the room that the caller lends.
+
+use krates_foreign::{Refusal, Status, check, graph, hand_over, list, why};
+use krates_samples::documents::{document, section};
+use krates_samples::table::{Question, Row, hold};
+use std::alloc::Global;
+use std::str;
+use std::test::Fail;
+
+/// What a call answers, of a document and the words of a line; the id and the certificate stand in sections behind its document.
+fn called(
+    alloc: Global,
+    call: &str,
+    json: &[u8],
+    words: &[u8],
+    line: &str,
+) -> Result<String, Refusal> {
+    let section_of = |name: &str| section(line, name).unwrap_or("").as_bytes();
+    match call {
+        "list" => list(alloc, json, words),
+        "graph" => graph(alloc, json, words),
+        "why" => why(alloc, json, words, section_of("id ")),
+        _ => check(alloc, json, words, section_of("certificate ")),
+    }
+}
+
+/// The words between blanks, one a line.
+fn lines_of(alloc: Global, words: &str) -> Result<String, Fail> {
+    let mut lines = String::new(alloc);
+    for word in words.split_whitespace() {
+        lines.push_str(word)?;
+        lines.push_str("\n")?;
+    }
+    Ok(lines)
+}
+
+/// What is handed over in a room of so many bytes, each of them a full stop before: the status, the length, and the room.
+fn handed(alloc: Global, told: Result<String, Refusal>, length: usize) -> Result<String, Fail> {
+    let mut room = Vec::from_elem(alloc, b'.', length)?;
+    let answer = hand_over(alloc, &told, &mut room);
+    let room = str::from_utf8(&room)?;
+    Ok(format!(in alloc; "{} {} {room}", answer.status, answer.length)?)
+}
+
+/// What a call hands over: a line has the call, the length of the room and the words, and behind `<` the document, or a text that
+/// begins with `{`, or `no text`, which is no UTF-8.
+struct Handed;
+
+impl Question for Handed {
+    fn told(alloc: Global, line: &str) -> Result<String, Fail> {
+        let (asked, line) = line.split_once(" < ").unwrap_or((line, ""));
+        let (call, asked) = asked.split_once(' ').unwrap_or((asked, ""));
+        let (length, words) = asked.split_once(' ').unwrap_or((asked, ""));
+        let length = length.parse().unwrap_or(0);
+        let words = lines_of(alloc, words)?;
+        let told = match line {
+            "no text" => called(alloc, call, b"\xff", words.as_bytes(), line),
+            text if text.starts_with('{') => {
+                called(alloc, call, text.as_bytes(), words.as_bytes(), line)
+            }
+            _ => called_of(alloc, call, words.as_bytes(), line)?,
+        };
+        handed(alloc, told, length)
+    }
+}
+
+/// What a call answers of the document that a line describes.
+fn called_of(
+    alloc: Global,
+    call: &str,
+    words: &[u8],
+    line: &str,
+) -> Result<Result<String, Refusal>, Fail> {
+    let json = document(alloc, line)?;
+    Ok(called(alloc, call, json.as_bytes(), words, line))
+}
+
+const LISTED: &[Row] = &[
+    (
+        "list 52 < a b&dev|b",
+        "0 50 + path+file:///w/a#0.1.0\n+ path+file:///w/b#0.1.0\n..",
+    ),
+    (
+        "list 50 --ignore-kind dev < a b&dev|b",
+        "0 50 + path+file:///w/a#0.1.0\n- path+file:///w/b#0.1.0\n",
+    ),
+    // no room for the last byte, and none at all
+    (
+        "list 49 < a b&dev|b",
+        "8 50 .................................................",
+    ),
+    ("list 0 < a b&dev|b", "8 50 "),
+    (
+        "list 45 --ignore-kind < a",
+        "1 38 the options are not those of a setting.......",
+    ),
+    (
+        "list 38 --why path+file:///w/a#0.1.0 < a",
+        "1 38 the options are not those of a setting",
+    ),
+    (
+        "list 38 --cargo cargo < a",
+        "1 38 the options are not those of a setting",
+    ),
+    ("list 30 < no text", "3 25 the document is not UTF-8....."),
+    (
+        "list 60 < a / no graph",
+        "5 32 no resolution graph was provided............................",
+    ),
+];
+
+const EXPLAINED: &[Row] = &[
+    (
+        "why 165 < a b&dev|b / id path+file:///w/b#0.1.0",
+        "0 162 0 rule 1: crate path+file:///w/a#0.1.0\n1 rule 5: kept path+file:///w/a#0.1.0 -> path+file:///w/b#0.1.0 (dev) from 0\n2 rule 5: crate path+file:///w/b#0.1.0 from 1\n...",
+    ),
+    (
+        "why 33 --ignore-kind dev < a b&dev|b / id path+file:///w/b#0.1.0",
+        "6 32 not kept: path+file:///w/b#0.1.0.",
+    ),
+    (
+        "why 31 --ignore-kind dev < a b&dev|b / id path+file:///w/b#0.1.0",
+        "8 32 ...............................",
+    ),
+    ("why 30 < a / id b", "2 28 the text is not a package id.."),
+];
+
+const DRAWN: &[Row] = &[
+    (
+        "graph 235 < a b&with=j&on=cfg(unix) c!&build|b;j=|c;default=",
+        "0 233 crate 22:path+file:///w/a#0.1.0 1 2\ncrate 22:path+file:///w/b#0.1.0\ncrate 22:path+file:///w/c#0.1.0\nfeature 1 1:j\nfeature 2 7:default\nedge 0 3 depfeature normal 9:cfg(unix)\nedge 0 4 depfeature build\nedge 3 1 feature\nedge 4 2 feature\n..",
+    ),
+    // what the first declared dependency means isn't kept
+    (
+        "graph 88 --ignore-kind dev < a b&dev c|b|c",
+        "0 88 crate 22:path+file:///w/a#0.1.0 - 1\ncrate 22:path+file:///w/c#0.1.0\nedge 0 1 dep normal\n",
+    ),
+    (
+        "graph 84 < a b&dev|b",
+        "0 83 crate 22:path+file:///w/a#0.1.0 1\ncrate 22:path+file:///w/b#0.1.0\nedge 0 1 dep dev\n.",
+    ),
+    (
+        "graph 38 --exclude < a",
+        "1 38 the options are not those of a setting",
+    ),
+];
+
+const JUDGED: &[Row] = &[
+    (
+        r#"check 50 --ignore-kind dev < a b&dev|b / certificate {"kind":"closed","setting":["--ignore-kind=dev"],"facts":[{"fact":"crate","krate":"path+file:///w/a#0.1.0"}]}"#,
+        "0 47 holds: nothing but this 1 crate can be reached\n...",
+    ),
+    // all words of a setting, in the order of certificates
+    (
+        r#"check 47 --target x --exclude b --ignore-kind dev --all-named --workspace < a b&dev|b / certificate {"kind":"closed","setting":["--workspace","--all-named","--ignore-kind=dev","--exclude=b","--target=x"],"facts":[{"fact":"crate","krate":"path+file:///w/a#0.1.0"}]}"#,
+        "0 47 holds: nothing but this 1 crate can be reached\n",
+    ),
+    (
+        r#"check 56 < a b&dev|b / certificate {"kind":"closed","setting":["--ignore-kind=dev"],"facts":[{"fact":"crate","krate":"path+file:///w/a#0.1.0"}]}"#,
+        "7 56 the certificate is of another setting: --ignore-kind=dev",
+    ),
+    (
+        r#"check 53 < a b|b / certificate {"kind":"closed","setting":[],"facts":[{"fact":"crate","krate":"path+file:///w/a#0.1.0"}]}"#,
+        "7 53 something follows from the facts and isn't among them",
+    ),
+    ("check 25 < no text", "3 25 the document is not UTF-8"),
+];
+
+const STATUSES: &[(Status, u32)] = &[
+    (Status::Answered, 0),
+    (Status::Words, 1),
+    (Status::Id, 2),
+    (Status::Utf8, 3),
+    (Status::Parse, 4),
+    (Status::Build, 5),
+    (Status::NotKept, 6),
+    (Status::Certificate, 7),
+    (Status::TooShort, 8),
+    (Status::Memory, 9),
+];
+
+/// Each status by the number that other languages write.
+#[test]
+fn numbers_of_statuses(rt: HostRuntime) {
+    for (status, number) in STATUSES {
+        assert_eq!(rt; status.number(), *number);
+    }
+}
+
+/// Calls over bytes, and what they hand over.
+#[test]
+fn calls_over_bytes(rt: HostRuntime) -> Result<(), Fail> {
+    hold::<Handed>(rt.alloc(), LISTED)?;
+    hold::<Handed>(rt.alloc(), EXPLAINED)?;
+    hold::<Handed>(rt.alloc(), DRAWN)?;
+    hold::<Handed>(rt.alloc(), JUDGED)
+}
