@@ -60,7 +60,7 @@ static struct krates_answer answer(const struct asked *it, uint8_t *room, size_t
     return krates_check(it->document, it->length, options, words, more, extra, room, length);
 }
 
-enum { ROOM = 1 << 20, FILLED = 0xa5 };
+enum { ROOM = 1 << 15, FILLED = 0xa5 };
 
 static void fail(const struct asked *it, const char *why) {
     fprintf(stderr, "%s %s%s: request %zu: %s\n", it->call, it->options, it->more, refused_one, why);
