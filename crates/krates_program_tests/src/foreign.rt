@@ -35,7 +35,7 @@ fn lines_of(alloc: Global, words: &str) -> Result<String, Fail> {
 }
 
 /// What is handed over in a room of so many bytes, each of them a full stop before: the status, the length, and the room.
-fn handed(alloc: Global, told: Result<String, Refusal>, length: usize) -> Result<String, Fail> {
+fn told_of(alloc: Global, told: Result<String, Refusal>, length: usize) -> Result<String, Fail> {
     let mut room = Vec::from_elem(alloc, b'.', length)?;
     let answer = hand_over(alloc, &told, &mut room);
     let room = str::from_utf8(&room)?;
@@ -60,7 +60,7 @@ impl Question for Handed {
             }
             _ => called_of(alloc, call, words.as_bytes(), line)?,
         };
-        handed(alloc, told, length)
+        told_of(alloc, told, length)
     }
 }
 
