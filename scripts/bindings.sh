@@ -22,7 +22,10 @@ if [ ! -x "$KRATES_LIST" ]; then
 fi
 
 mkdir -p "$out"
-scripts/archive.py "$out/libkrates_c.a"
+scripts/over_gate.py krates_c --archive "$out/libkrates_c.a" > "$out/archive.log" 2>&1 || {
+    cat "$out/archive.log" >&2
+    exit 1
+}
 cp "$kit/c/liblibc_c.a" "$out"
 echo "bindings/out/libkrates_c.a: $(stat -c %s "$out/libkrates_c.a") bytes"
 

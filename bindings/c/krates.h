@@ -14,6 +14,7 @@
 #ifndef KRATES_H
 #define KRATES_H
 
+#include <stdbool.h>
 #include <stddef.h>
 #include <stdint.h>
 
@@ -76,15 +77,17 @@ struct krates_answer krates_check(
     const uint8_t *certificate, size_t certificate_length,
     uint8_t *room, size_t room_length);
 
-/* What the archive calls for memory. A block is there or isn't, and then the call that asked for it ends as KRATES_MEMORY. */
+/* What the archive calls for memory: a block of this size, with this alignment, a power of two up to 16, also where the size is 0. Of a
+ * block whose size changes, `kept` bytes count. Where there is no memory, nothing changes, and mostly the call that asked ends as
+ * KRATES_MEMORY. */
 struct krates_block {
-    uint64_t is_there;
+    bool is_there;
     void *at; /* never null */
 };
 
 struct krates_block rattle_alloc(size_t size, size_t align);
-struct krates_block rattle_realloc(void *at, size_t old_size, size_t size, size_t align);
-void rattle_dealloc(void *at, size_t size, size_t align);
+struct krates_block rattle_realloc(void *at, size_t kept, size_t size, size_t align);
+void rattle_dealloc(void *at);
 
 #ifdef __cplusplus
 }

@@ -29,13 +29,12 @@ struct krates_block rattle_alloc(size_t size, size_t align) {
     return made(at);
 }
 
-struct krates_block rattle_realloc(void *at, size_t old_size, size_t size, size_t align) {
-    (void)old_size;
+struct krates_block rattle_realloc(void *at, size_t kept, size_t size, size_t align) {
+    (void)kept;
     return made(is_refused() ? NULL : realloc(at, size != 0 ? size : align));
 }
 
-void rattle_dealloc(void *at, size_t size, size_t align) {
-    (void)size, (void)align;
+void rattle_dealloc(void *at) {
     blocks--;
     free(at);
 }

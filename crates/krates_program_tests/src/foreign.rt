@@ -7,20 +7,52 @@ use std::alloc::Global;
 use std::str;
 use std::test::Fail;
 
-/// What a call answers, of a document and the words of a line; the id and the certificate stand in sections behind its document.
-fn called(
-    alloc: Global,
-    call: &str,
-    json: &[u8],
-    words: &[u8],
-    line: &str,
-) -> Result<String, Refusal> {
-    let section_of = |name: &str| section(line, name).unwrap_or("").as_bytes();
-    match call {
-        "list" => list(alloc, json, words),
-        "graph" => graph(alloc, json, words),
-        "why" => why(alloc, json, words, section_of("id ")),
-        _ => check(alloc, json, words, section_of("certificate ")),
+/// What a line asks: the call, the length of the room, the words, and what stands behind `<`.
+#[derive(Clone, Copy)]
+struct Asked<'l> {
+    call: &'l str,
+    length: usize,
+    words: &'l str,
+    document: &'l str,
+}
+
+impl<'l> Asked<'l> {
+    /// What the line asks.
+    fn of(line: &'l str) -> Asked<'l> {
+        let (asked, document) = line.split_once(" < ").unwrap_or((line, ""));
+        let (call, asked) = asked.split_once(' ').unwrap_or((asked, ""));
+        let (length, words) = asked.split_once(' ').unwrap_or((asked, ""));
+        Asked {
+            call,
+            length: length.parse().unwrap_or(0),
+            words,
+            document,
+        }
+    }
+
+    /// The bytes of a section behind the document.
+    fn bytes_of(self, name: &str) -> &'l [u8] {
+        match section(self.document, name) {
+            Some(text) => text.as_bytes(),
+            None => b"",
+        }
+    }
+
+    /// What the call answers of a document under words, one a line; the id and the certificate stand in sections.
+    fn called(self, alloc: Global, json: &[u8], words: &[u8]) -> Result<String, Refusal> {
+        match self.call {
+            "list" => list(alloc, json, words),
+            "graph" => graph(alloc, json, words),
+            "why" => why(alloc, json, words, self.bytes_of("id ")),
+            _ => check(alloc, json, words, self.bytes_of("certificate ")),
+        }
+    }
+
+    /// What is handed over of a document.
+    fn handed(self, alloc: Global, json: &[u8]) -> Result<String, Fail> {
+        let words = lines_of(alloc, self.words)?;
+        let told = self.called(alloc, json, words.as_bytes());
+        room_of(alloc, &told, self.length)
     }
 }
 
@@ -35,44 +67,26 @@ fn lines_of(alloc: Global, words: &str) -> Result<String, Fail> {
 }
 
 /// What is handed over in a room of so many bytes, each of them a full stop before: the status, the length, and the room.
-fn told_of(alloc: Global, told: Result<String, Refusal>, length: usize) -> Result<String, Fail> {
+fn room_of(alloc: Global, told: &Result<String, Refusal>, length: usize) -> Result<String, Fail> {
     let mut room = Vec::from_elem(alloc, b'.', length)?;
-    let answer = hand_over(alloc, &told, &mut room);
+    let answer = hand_over(alloc, told, &mut room);
     let room = str::from_utf8(&room)?;
     Ok(format!(in alloc; "{} {} {room}", answer.status, answer.length)?)
 }
 
-/// What a call hands over: a line has the call, the length of the room and the words, and behind `<` the document, or a text that
-/// begins with `{`, or `no text`, which is no UTF-8.
+/// What a call hands over: a line has the call, the length of the room and the words, and behind `<` the document, or `no text`, which
+/// is no UTF-8.
 struct Handed;
 
 impl Question for Handed {
     fn told(alloc: Global, line: &str) -> Result<String, Fail> {
-        let (asked, line) = line.split_once(" < ").unwrap_or((line, ""));
-        let (call, asked) = asked.split_once(' ').unwrap_or((asked, ""));
-        let (length, words) = asked.split_once(' ').unwrap_or((asked, ""));
-        let length = length.parse().unwrap_or(0);
-        let words = lines_of(alloc, words)?;
-        let told = match line {
-            "no text" => called(alloc, call, b"\xff", words.as_bytes(), line),
-            text if text.starts_with('{') => {
-                called(alloc, call, text.as_bytes(), words.as_bytes(), line)
-            }
-            _ => called_of(alloc, call, words.as_bytes(), line)?,
-        };
-        told_of(alloc, told, length)
+        let asked = Asked::of(line);
+        if asked.document == "no text" {
+            return asked.handed(alloc, b"\xff");
+        }
+        let json = document(alloc, asked.document)?;
+        asked.handed(alloc, json.as_bytes())
     }
-}
-
-/// What a call answers of the document that a line describes.
-fn called_of(
-    alloc: Global,
-    call: &str,
-    words: &[u8],
-    line: &str,
-) -> Result<Result<String, Refusal>, Fail> {
-    let json = document(alloc, line)?;
-    Ok(called(alloc, call, json.as_bytes(), words, line))
 }
 
 const LISTED: &[Row] = &[
