@@ -36,7 +36,8 @@ ROOMS = {
 
 def crates():
     """Each crate of this repository with the crates of it on which it stands."""
-    lines = [line.split(":") for line in (ROOT / "crates.txt").read_text().splitlines() if line.strip()]
+    texts = [line.split("#")[0] for line in (ROOT / "crates.txt").read_text().splitlines()]
+    lines = [line.split(":") for line in texts if line.strip()]
     # behind the name may stand what is made of the crate
     lines = [(head.split()[0], rest.split()) for head, rest in lines]
     names = {name for name, _ in lines}

@@ -32,7 +32,7 @@ pub extern "C" fn krates_list(
         result room.old room.new }
 {
     let told = list(alloc, document, options);
-    hand_over(alloc, &told, room)
+    hand_over(alloc, told, room)
 }
 
 /// The lines of its graph: nodes with the mappings of the crates, then edges, as `krates_foreign::graph` writes them.
@@ -47,7 +47,7 @@ pub extern "C" fn krates_graph(
         result room.old room.new }
 {
     let told = graph(alloc, document, options);
-    hand_over(alloc, &told, room)
+    hand_over(alloc, told, room)
 }
 
 /// The lines of a derivation of the crate with this id, a step a line.
@@ -63,7 +63,7 @@ pub extern "C" fn krates_why(
         (WhyRefusal document.now options.now id.now)) result room.old room.new }
 {
     let told = why(alloc, document, options, id);
-    hand_over(alloc, &told, room)
+    hand_over(alloc, told, room)
 }
 
 /// The line that says what a certificate says, where it holds.
@@ -79,5 +79,5 @@ pub extern "C" fn krates_check(
         (CheckRefusal document.now options.now certificate.now)) result room.old room.new }
 {
     let told = check(alloc, document, options, certificate);
-    hand_over(alloc, &told, room)
+    hand_over(alloc, told, room)
 }

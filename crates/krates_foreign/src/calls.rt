@@ -1,8 +1,8 @@
 //! What is asked of a document under the setting that words ask for.
 
 ghost use Rattle.std.specs.Prelude.{IfErr, IfOk, string_bytes};
-ghost use Rattle.krates_foreign.specs.Calls.{CheckRefusal, Checks, Draws, Explains, ListRefusal, Lists, WhyRefusal};
 ghost use Rattle.krates_cli.specs.Options.{meant_request};
+ghost use Rattle.krates_foreign.specs.Calls.{CheckRefusal, Checks, Draws, Explains, ListRefusal, Lists, WhyRefusal};
 ghost use Rattle.krates_foreign.specs.Calls.{IsListedIn, IsNoId, IsUndrawnIn, IsUnlistedIn, NamesCrate};
 ghost use Rattle.krates_foreign.specs.Documents.{OfDocument};
 ghost use Rattle.krates_foreign.specs.DrawnLines.{DrawsPackages};
@@ -21,8 +21,8 @@ use std::str;
 /// The lines of a document's packages, as `krates-list` writes them: behind `+ ` the kept ones, behind `- ` the others, both in the
 /// order of the ids. The words are options of `krates-list`, one a line, and ask for a setting alone.
 ///
-/// It is refused as `Words`, `Utf8`, `Parse` or `Build`, in this order, each only where that is true. It may instead return
-/// `Memory`. Time: that of reading and of the build.
+/// It is refused as `Words`, `Utf8`, `Parse` or `Build`, in this order, each only where that is true; as `Build` also where the graph
+/// has more nodes or edges than can be numbered. It may instead return `Memory`. Time: that of reading and of the build.
 ///
 /// ```text
 /// let lines = list(alloc, document, b"--workspace\n--ignore-kind\ndev\n")?;
@@ -84,7 +84,7 @@ fn kid_in(alloc: Global, id: &[u8]) -> Result<Kid, Refusal>
 /// The lines of a document's graph: one for each node, then one for each edge, both in the order of their numbers, which count from 0.
 ///
 /// ```text
-/// crate 24:path+file:///w/a#0.1.0 1 -      a kept crate, and for each declared dependency the crate that it means
+/// crate 22:path+file:///w/a#0.1.0 1 -      a kept crate, and for each declared dependency the crate that it means
 /// feature 0 7:default                      an enabled feature, by the number of its crate
 /// edge 0 1 dep normal                      an edge, from node to node: its kind, and the target that it is for
 /// edge 0 2 depfeature build 9:cfg(unix)

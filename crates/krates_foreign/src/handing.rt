@@ -38,10 +38,16 @@ fn hand(status: Status, text: &[u8], room: &mut [u8]) -> Answer
 /// needs. Where memory runs out, it is as it was, the status is that of `Memory`, and the length 0. Time O(length of the text).
 ///
 /// ```text
-/// let told = list(alloc, document, words);
-/// let answer = hand_over(alloc, &told, &mut room);
+/// let answer = hand_over(alloc, list(alloc, document, words), &mut room);
 /// ```
-pub fn hand_over(alloc: Global, told: &Result<String, Refusal>, room: &mut [u8]) -> Answer
+pub fn hand_over(alloc: Global, told: Result<String, Refusal>, room: &mut [u8]) -> Answer
+    ensures { Hands (TellsOf told) result room.old room.new }
+{
+    hand_result(alloc, &told, room)
+}
+
+/// The same of what is lent, so that it is let go in one place.
+fn hand_result(alloc: Global, told: &Result<String, Refusal>, room: &mut [u8]) -> Answer
     ensures { Hands (TellsOf told.now) result room.old room.new }
 {
     match told {

@@ -52,7 +52,7 @@ impl<'l> Asked<'l> {
     fn handed(self, alloc: Global, json: &[u8]) -> Result<String, Fail> {
         let words = lines_of(alloc, self.words)?;
         let told = self.called(alloc, json, words.as_bytes());
-        room_of(alloc, &told, self.length)
+        room_of(alloc, told, self.length)
     }
 }
 
@@ -67,7 +67,7 @@ fn lines_of(alloc: Global, words: &str) -> Result<String, Fail> {
 }
 
 /// What is handed over in a room of so many bytes, each of them a full stop before: the status, the length, and the room.
-fn room_of(alloc: Global, told: &Result<String, Refusal>, length: usize) -> Result<String, Fail> {
+fn room_of(alloc: Global, told: Result<String, Refusal>, length: usize) -> Result<String, Fail> {
     let mut room = Vec::from_elem(alloc, b'.', length)?;
     let answer = hand_over(alloc, told, &mut room);
     let room = str::from_utf8(&room)?;

@@ -2,7 +2,7 @@ use Rattle.std.proofs.Common.{refl, string_bytes, subst}
 use Rattle.krates_cm.specs.Document.{Text}
 use Rattle.krates_foreign.specs.Handing.{IsHanded, answered}
 use Rattle.krates_foreign.specs.declared.status.Status.TheVariants as statuses
-use Rattle.krates_foreign.proofs.handing.hand_over.Goals as goal
+use Rattle.krates_foreign.proofs.handing.hand_result.Goals as goal
 
 pub returns-in-Ok : goal.returns-in-Ok
 returns-in-Ok c =
