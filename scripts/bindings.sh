@@ -5,14 +5,14 @@
 #     scripts/bindings.sh [COUNT]
 #
 # The archive of crates/krates_c and the toolchain's functions for memory come to bindings/out. Then come the tests of bindings/rust, without a network,
-# beside the program krates-list; the example in C; each call with each of its requests for memory refused in turn; and COUNT damaged documents (100,000).
+# beside the program krates-list; the example in C; each call with each of its requests for memory refused in turn; and COUNT damaged documents (400,000, a minute).
 # C is compiled with the address sanitizer.
 #
 # It wants cargo and gcc. The status is 0 where all of it went well.
 
 set -euo pipefail
 cd "$(dirname "$0")/.."
-count=${1:-100000}
+count=${1:-400000}
 kit=$(dirname "$(dirname "$(realpath "$(command -v rt)")")")
 out=$PWD/bindings/out
 export KRATES_LIST=$PWD/crates/krates_list/out/krates_list
