@@ -81,7 +81,10 @@ pub fn graph(document: &[u8], options: &Options) -> Result<Graph, Refusal> {
 pub fn why(document: &[u8], options: &Options, id: &str) -> Result<String, Refusal> {
     let words = options.words()?;
     let call = |room: &mut [u8]| ffi::why(document, words.as_bytes(), id.as_bytes(), room);
-    ffi::answered(document.len(), call).map_err(|refusal| options.refused(refusal))
+    ffi::answered(document.len(), call).map_err(|refusal| match refusal {
+        Refusal::Id(cause) => Refusal::Id(format!("{cause}: {id:?}")),
+        refusal => options.refused(refusal),
+    })
 }
 
 /// What a certificate says of a document under exactly these options, as `cargo krates certify` writes one, where it holds. No search

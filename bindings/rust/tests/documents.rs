@@ -203,7 +203,10 @@ fn refuses_with_the_cause() {
     assert!(matches!(refused, Err(Refusal::Options(_))));
     let refused = list(document, Options::new().exclude(["a"]));
     assert_eq!(refused, Err(Refusal::Build("no root crates available".into())));
-    assert!(matches!(why(document, &options, "b"), Err(Refusal::Id(_))));
+    assert_eq!(
+        why(document, &options, "b"),
+        Err(Refusal::Id("the text is not a package id: \"b\"".into()))
+    );
     let refused = why(
         document,
         Options::new().ignore_kind(DepKind::Dev),
