@@ -15,12 +15,12 @@ use Rattle.krates_selection.specs.Selection.{feature_fact}
 use Rattle.krates_selection.specs.declared.selection.Selection.{Selection}
 use Rattle.krates_rules.specs.Setting.{SettingModel}
 use Rattle.krates.specs.Build.{IsResolvable, IsDerived, KeepsCrate, DropsCrate, IsLost}
-use Rattle.krates_packages.specs.Listed.{AreThosePackages}
-use Rattle.krates_packages.specs.Division.{IsAmong, IsDivision}
-use Rattle.krates_packages.specs.Krate.{krate_ids, krate_packages}
-use Rattle.krates_packages.specs.declared.division.Division.{Division}
-use Rattle.krates_packages.proofs.DivisionLemmas.{ReadsOnce}
-use Rattle.krates_drawing.proofs.Members.{Member, member_of, contains_of, mapped_of, member_map}
+use Rattle.krates_drawing.specs.Listed.{AreThosePackages}
+use Rattle.krates_drawing.specs.Division.{IsAmong, IsDivision}
+use Rattle.krates_drawing.specs.Krate.{krate_ids, krate_packages}
+use Rattle.krates_drawing.specs.declared.division.Division.{Division}
+use Rattle.krates_drawing.proofs.DivisionLemmas.{ReadsOnce}
+use Rattle.krates_rules.proofs.Members.{Member, member_of, contains_of, mapped_of, member_map}
 use Rattle.krates.proofs.SelectionFacts.{Selects, kept_among, enabled_among, none_lost}
 use Rattle.krates_questions.proofs.StandingLaws.{derivable_stands}
 

@@ -25,9 +25,9 @@ use Rattle.krates_queries.specs.Drawn.{IsSheetFor}
 use Rattle.krates.specs.Indexed.{HasNames}
 use Rattle.krates.proofs.AdmittedAlike.{turned, resolvable_there}
 use Rattle.krates.proofs.CorrectedAlike.{OneCorrection, seen_alike}
-use Rattle.krates_packages.proofs.DivisionLemmas.{ReadsOnce}
+use Rattle.krates_drawing.proofs.DivisionLemmas.{ReadsOnce}
 use Rattle.krates.proofs.ListedAlike.{same_there, list_alike}
-use Rattle.krates_drawing.proofs.Members.{Member}
+use Rattle.krates_rules.proofs.Members.{Member}
 use Rattle.krates.proofs.SeenLemmas.{resolvable_seen}
 use Rattle.krates.proofs.SelectionFacts.{Selects, derived_of, none_lost}
 

@@ -9,7 +9,7 @@ use Rattle.krates_drawing.specs.Drawing.{CrateSpot, crate_number, lines, spots}
 use Rattle.krates_drawing.specs.Sheet.{Sheet}
 use Rattle.krates_drawing.specs.Stored.{IsStoredAs, LeadsAlong}
 use Rattle.krates_drawing.specs.declared.edge.Edge.{Edge}
-use Rattle.krates_drawing.proofs.Members.{member_of, contains_of, partner_of}
+use Rattle.krates_rules.proofs.Members.{member_of, contains_of, partner_of}
 use Rattle.krates_drawing.proofs.Storing.{stored_leads}
 use Rattle.krates_graph.specs.Graph.{StoredGraph}
 use Rattle.krates_ids.specs.Identity.{Identity}
@@ -21,9 +21,9 @@ use Rattle.krates.specs.Build.{HasOneEach}
 use Rattle.krates_queries.specs.Direct.{AreConnected, value_at, value_in}
 use Rattle.krates_queries.specs.DirectDependents.{IsDependent}
 use Rattle.krates_queries.specs.Drawn.{IsDrawing, IsSheetFor, node_spot}
-use Rattle.krates_queries.specs.Node.{crate_ids, CratesFirst}
-use Rattle.krates_queries.specs.declared.node.Node.{Node}
-use Rattle.krates_queries.specs.declared.node.Node.TheVariants.{Krate, Feature}
+use Rattle.krates_drawing.specs.Node.{crate_ids, CratesFirst}
+use Rattle.krates_drawing.specs.declared.node.Node.{Node}
+use Rattle.krates_drawing.specs.declared.node.Node.TheVariants.{Krate, Feature}
 use Rattle.krates_queries.proofs.EdgeNumbers.{got}
 
 -- matching lists have the same length

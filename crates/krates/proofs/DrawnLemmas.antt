@@ -32,9 +32,9 @@ use Rattle.krates_rules.specs.Facts.{Id, Feature}
 use Rattle.krates_rules.specs.Resolved.{HasGraphWith, Resolved, StandsAt, id_of, resolved}
 use Rattle.krates_rules.specs.Setting.{SettingModel}
 use Rattle.krates.specs.Build.{AreKeptMembers, HasOneEach, IsBuilt, IsResolvable, KeepsCrate}
-use Rattle.krates_packages.specs.Listed.{AreThosePackages}
+use Rattle.krates_drawing.specs.Listed.{AreThosePackages}
 use Rattle.krates_queries.specs.DirectDependents.{IsDependent}
-use Rattle.krates_packages.specs.Division.{IsAmong, IsDivision, sheet_ids}
+use Rattle.krates_drawing.specs.Division.{IsAmong, IsDivision, sheet_ids}
 use Rattle.krates_explain.specs.Explanation.{explained_steps}
 use Rattle.krates_explain.specs.declared.kept.Explanation.{Explanation}
 use Rattle.krates_queries.specs.Explained.{IsExplainedBy}
@@ -42,20 +42,20 @@ use Rattle.krates_queries.specs.Drawn.{IsNumbered, IsSheetFor, node_spot}
 use Rattle.krates.specs.Enabled.{AreEnabledSets, numbered}
 use Rattle.krates_queries.specs.Kept.{AreFeatures, AreNodes, IsEnabledIn, IsNameAt, names_in_each}
 use Rattle.krates.specs.KeptGraph.{IsGraphOf, named_fact}
-use Rattle.krates_packages.specs.Krate.{krate_ids, krate_packages}
+use Rattle.krates_drawing.specs.Krate.{krate_ids, krate_packages}
 use Rattle.krates.specs.MadeNodes.{IsMade}
-use Rattle.krates_queries.specs.Node.{crate_ids, crate_values, crate_features, CratesFirst, names_in}
-use Rattle.krates_packages.specs.declared.division.Division.{Division}
-use Rattle.krates_packages.specs.declared.krate.Krate.{Krate}
-use Rattle.krates_queries.specs.declared.node.Node.{Node}
+use Rattle.krates_drawing.specs.Node.{crate_ids, crate_values, crate_features, CratesFirst, names_in}
+use Rattle.krates_drawing.specs.declared.division.Division.{Division}
+use Rattle.krates_drawing.specs.declared.krate.Krate.{Krate}
+use Rattle.krates_drawing.specs.declared.node.Node.{Node}
 use Rattle.krates.proofs.BuildLemmas.{Builds, builds, enabled}
 use Rattle.krates.proofs.MadeLemmas.{AreDrawnNodes, alike, first_alike, mapped_length}
 use Rattle.krates_drawing.proofs.DocumentSheets.{selected_in}
-use Rattle.krates_drawing.proofs.Members.{Member, member_of, contains_of, mapped_of, member_map}
+use Rattle.krates_rules.proofs.Members.{Member, member_of, contains_of, mapped_of, member_map}
 use Rattle.krates.proofs.EnabledLemmas.{listed_at}
 use Rattle.krates.proofs.FeaturesDrawn.{are_features, id_here, stands_here, viewed_ids}
-use Rattle.krates_packages.proofs.DivisionLemmas.{ReadsOnce}
-use Rattle.krates_queries.proofs.OrderedIds.{Compares, HasLike, one_order}
+use Rattle.krates_drawing.proofs.DivisionLemmas.{ReadsOnce}
+use Rattle.krates_rules.proofs.OrderedIds.{Compares, HasLike, one_order}
 use Rattle.krates.proofs.SelectionFacts.{Selects, kept_among}
 
 -- ---- the sheet

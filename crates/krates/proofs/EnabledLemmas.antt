@@ -15,8 +15,8 @@ use Rattle.krates_rules.specs.Resolved.{id_of, StandsAt}
 use Rattle.krates_selection.specs.declared.selection.EnabledFeature.{EnabledFeature}
 use Rattle.krates.specs.Enabled.{AreEnabledSets, IsPut, numbered}
 use Rattle.krates_queries.specs.Kept.{IsNameAt, names_in_each}
-use Rattle.krates_queries.specs.Node.{names_in}
-use Rattle.krates_drawing.proofs.Members.{Member, member_of, contains_of, member_append, member_left, member_right}
+use Rattle.krates_drawing.specs.Node.{names_in}
+use Rattle.krates_rules.proofs.Members.{Member, member_of, contains_of, member_append, member_left, member_right}
 use Rattle.krates.proofs.NamesIn.{GetsName}
 
 -- ---- places of ids

@@ -7,7 +7,7 @@ use Rattle.std.specs.List.Sorted.{IsStrictlySortedBy}
 use Rattle.krates_cm.specs.Document.{MetadataModel, Text, metadata_view, text_view}
 use Rattle.krates_cm.specs.declared.metadata.Metadata.{Metadata}
 use Rattle.krates_cm.specs.declared.package.Package.{Package}
-use Rattle.krates_drawing.proofs.Members.{contains_of, member_of}
+use Rattle.krates_rules.proofs.Members.{contains_of, member_of}
 use Rattle.krates_drawing.specs.Views.{sheet_view}
 use Rattle.krates_drawing.specs.declared.edge.Edge.{Edge}
 use Rattle.krates_drawing.specs.declared.sheet.Sheet.{Sheet}
@@ -40,17 +40,17 @@ use Rattle.krates.proofs.DrawnLemmas.{facts_named}
 use Rattle.krates.proofs.EnabledLemmas.{stands_at_some}
 use Rattle.krates_queries.proofs.FeatureNodes.{feature_member}
 use Rattle.krates_queries.proofs.NodeLemmas.{as_many_features, place_at}
-use Rattle.krates_queries.proofs.OrderedIds.{Compares, HasLike, one_order}
+use Rattle.krates_rules.proofs.OrderedIds.{Compares, HasLike, one_order}
 use Rattle.krates.proofs.SelectionFacts.{Selects, crate_among, kept_among}
 use Rattle.krates_queries.specs.Drawn.{IsSheetFor}
 use Rattle.krates_queries.specs.Explained.{AreExplained, AreStepsFor, HasStepOf, IsExplainedBy, node_says}
 use Rattle.krates_queries.specs.Kept.{AreNodes, IsEnabledIn}
 use Rattle.krates.specs.KeptGraph.{IsGraphOf, named_fact}
-use Rattle.krates_packages.specs.Krate.{krate_ids}
-use Rattle.krates_queries.specs.Node.{crate_features, crate_ids}
-use Rattle.krates_packages.specs.declared.division.Division.{Division}
-use Rattle.krates_queries.specs.declared.node.Node.{Node}
-use Rattle.krates_queries.specs.declared.node.Node.TheVariants as nodes_are
+use Rattle.krates_drawing.specs.Krate.{krate_ids}
+use Rattle.krates_drawing.specs.Node.{crate_features, crate_ids}
+use Rattle.krates_drawing.specs.declared.division.Division.{Division}
+use Rattle.krates_drawing.specs.declared.node.Node.{Node}
+use Rattle.krates_drawing.specs.declared.node.Node.TheVariants as nodes_are
 
 -- ---- the steps of a selection
 

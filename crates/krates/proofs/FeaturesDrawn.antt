@@ -15,25 +15,25 @@ use Rattle.krates_drawing.specs.declared.sheet.Krate.{Krate as SheetKrate}
 use Rattle.krates_drawing.specs.declared.sheet.Named.{Named}
 use Rattle.krates_drawing.specs.declared.sheet.Sheet.{Sheet}
 use Rattle.krates_ids.specs.Identity.{Identity, empty_identity, id_cmp}
-use Rattle.krates_lookups.proofs.SeenInOrder.{sorted_same}
+use Rattle.krates_rules.proofs.SeenInOrder.{sorted_same}
 use Rattle.krates_selection.proofs.CrateNumbers.{seen_id}
 use Rattle.krates_selection.specs.CrateNumbers.{HasHome, id_at, no_id}
 use Rattle.krates_selection.specs.SelectionOrder.{feature_cmp}
 use Rattle.krates_rules.specs.Facts.{Id, Fact}
 use Rattle.krates_rules.specs.Facts as facts
 use Rattle.krates_rules.specs.Resolved.{id_of, StandsAt}
-use Rattle.krates_packages.specs.Division.{IsAmong, sheet_ids}
+use Rattle.krates_drawing.specs.Division.{IsAmong, sheet_ids}
 use Rattle.krates.specs.Enabled.{numbered}
 use Rattle.krates_queries.specs.Drawn.{node_spot}
 use Rattle.krates_queries.specs.Kept.{AreFeatures, IsEnabledIn, feature_order}
 use Rattle.krates.specs.KeptGraph.{named_fact}
-use Rattle.krates_queries.specs.Node.{crate_ids, crate_features, feature_names}
-use Rattle.krates_queries.specs.declared.node.Node.{Node}
-use Rattle.krates_queries.specs.declared.node.Node.TheVariants.{Krate, Feature}
+use Rattle.krates_drawing.specs.Node.{crate_ids, crate_features, feature_names}
+use Rattle.krates_drawing.specs.declared.node.Node.{Node}
+use Rattle.krates_drawing.specs.declared.node.Node.TheVariants.{Krate, Feature}
 use Rattle.krates.proofs.EnabledLemmas.{listed_at}
-use Rattle.krates_drawing.proofs.Members.{Member, member_of, contains_of, mapped_of, member_map}
+use Rattle.krates_rules.proofs.Members.{Member, member_of, contains_of, mapped_of, member_map}
 use Rattle.krates_queries.proofs.NodeLemmas.{as_many_features}
-use Rattle.krates_queries.proofs.OrderedIds.{Compares, equal_of}
+use Rattle.krates_rules.proofs.OrderedIds.{Compares, equal_of}
 
 -- ---- the names of the features are those of the sheet
 

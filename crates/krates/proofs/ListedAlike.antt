@@ -11,11 +11,11 @@ use Rattle.krates_ids.specs.Identity.{Identity, Reads, id_cmp}
 use Rattle.krates_rules.specs.Facts.{Id}
 use Rattle.krates_rules.specs.Reordering.{ReordersPackage, Reorders}
 use Rattle.krates_rules.specs.Resolved.{ReadsAs}
-use Rattle.krates_packages.specs.Listed.{HasIdAmong, AreThosePackages}
+use Rattle.krates_drawing.specs.Listed.{HasIdAmong, AreThosePackages}
 use Rattle.krates.specs.BuildLaws.{IsSamePackage, ListAlike}
-use Rattle.krates_packages.proofs.DivisionLemmas.{ReadsOnce}
-use Rattle.krates_queries.proofs.OrderedIds.{never_less}
-use Rattle.krates_drawing.proofs.Members.{Member, member_of, contains_of, mapped_of, member_map}
+use Rattle.krates_drawing.proofs.DivisionLemmas.{ReadsOnce}
+use Rattle.krates_rules.proofs.OrderedIds.{never_less}
+use Rattle.krates_rules.proofs.Members.{Member, member_of, contains_of, mapped_of, member_map}
 
 -- ---- lists in strict order
 

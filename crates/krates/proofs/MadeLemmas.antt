@@ -18,13 +18,13 @@ use Rattle.krates_ids.specs.Identity.{Identity}
 use Rattle.krates_rules.specs.Facts.{Id}
 use Rattle.krates_rules.specs.Resolved.{id_of}
 use Rattle.krates_queries.specs.Drawn.{node_spot}
-use Rattle.krates_packages.specs.Krate.{krate_ids, krate_packages}
+use Rattle.krates_drawing.specs.Krate.{krate_ids, krate_packages}
 use Rattle.krates.specs.MadeNodes.{AreNodesWith, IsMade, crate_node, feature_in, feature_node, mapping_in}
-use Rattle.krates_queries.specs.Node.{crate_ids, crate_values, crate_features, CratesFirst, names_in}
-use Rattle.krates_packages.specs.declared.krate.Krate.{Krate}
+use Rattle.krates_drawing.specs.Node.{crate_ids, crate_values, crate_features, CratesFirst, names_in}
+use Rattle.krates_drawing.specs.declared.krate.Krate.{Krate}
 use Rattle.krates.specs.declared.nodes.DrawnFeature.{DrawnFeature}
-use Rattle.krates_queries.specs.declared.node.Node.{Node}
-use Rattle.krates_queries.specs.declared.node.Node.TheVariants as node
+use Rattle.krates_drawing.specs.declared.node.Node.{Node}
+use Rattle.krates_drawing.specs.declared.node.Node.TheVariants as node
 
 -- one more pair
 pub zip_push : {A B : Type 0} (R : A → B → Type 0) (xs : List A) (ys : List B) (x : A) (y : B) → AllZip R xs ys → R x y → AllZip R (xs ++ x ∷ []) (ys ++ y ∷ [])

@@ -7,17 +7,17 @@ use Rattle.std.proofs.lemmas.List.Sorted.{Contains-permutation, IsPermutation-sy
 use Rattle.std.specs.List.{dedup}
 use Rattle.std.specs.List.Sorted.{IsPermutation, IsStrictlyIncreasing}
 use Rattle.krates_cm.specs.Document.{MetadataModel}
-use Rattle.krates_drawing.proofs.Members.{member_of, contains_of, partner_of, swapped}
+use Rattle.krates_rules.proofs.Members.{member_of, contains_of, partner_of, swapped}
 use Rattle.krates_ids.specs.Identity.{Identity, Reads}
 use Rattle.krates_rules.specs.Admission.{IsAdmitted, IdsModel}
 use Rattle.krates_rules.specs.Resolved.{IsMember, StandsAt, id_of, resolved}
 use Rattle.krates.specs.Build.{AreKeptMembers}
 use Rattle.krates_queries.specs.Kept.{AreCrateNumbers}
 use Rattle.krates.specs.Members.{AreNumbersOf, IsNumberOf}
-use Rattle.krates_queries.specs.Node.{crate_ids}
-use Rattle.krates_queries.specs.declared.node.Node.{Node}
-use Rattle.krates_packages.proofs.DivisionLemmas.{ReadsOnce}
-use Rattle.krates_queries.proofs.OrderedIds.{stands_within}
+use Rattle.krates_drawing.specs.Node.{crate_ids}
+use Rattle.krates_drawing.specs.declared.node.Node.{Node}
+use Rattle.krates_drawing.proofs.DivisionLemmas.{ReadsOnce}
+use Rattle.krates_rules.proofs.OrderedIds.{stands_within}
 use lib.Dec.{eqb}
 
 -- ---- id after id

@@ -11,8 +11,8 @@ use Rattle.std.specs.Prelude.{String}
 use Rattle.std.specs.Str.{bytes_eq}
 use Rattle.std.specs.declared.alloc.Global.{Global}
 use Rattle.krates_cm.specs.Document.{Text, text_view}
-use Rattle.krates_queries.specs.Node.{names_in}
-use Rattle.krates_drawing.proofs.Members.{Member}
+use Rattle.krates_drawing.specs.Node.{names_in}
+use Rattle.krates_rules.proofs.Members.{Member}
 
 -- whether one of the keys has these bytes
 abbrev has_key : List (String Global) → Text → Bool

@@ -7,7 +7,7 @@ use Rattle.krates_cm.specs.declared.metadata.Metadata.{Metadata}
 use Rattle.krates_cm.specs.declared.package.Package.{Package}
 use Rattle.krates_drawing.specs.Alike.{IsSheetThere}
 use Rattle.krates_drawing.specs.Narrower.{NarrowerDrawsNoMore}
-use Rattle.krates_drawing.proofs.Members.{member_of, contains_of}
+use Rattle.krates_rules.proofs.Members.{member_of, contains_of}
 use Rattle.krates_ids.specs.Identity.{Identity}
 use Rattle.krates_rules.specs.Facts.{Fact, Crate}
 use Rattle.krates_rules.specs.Naming.{IsNamedPart, naming}
@@ -16,11 +16,11 @@ use Rattle.krates_rules.specs.Reordering.{ReordersPackage, ReordersNode, Reorder
 use Rattle.krates_rules.specs.Resolved.{ReadsAs, resolved}
 use Rattle.krates_rules.specs.Setting.{SettingModel}
 use Rattle.krates.specs.Build.{IsDerived, IsResolvable, KeepsCrate}
-use Rattle.krates_packages.specs.Listed.{AreThosePackages}
+use Rattle.krates_drawing.specs.Listed.{AreThosePackages}
 use Rattle.krates.specs.BuildLaws.{IsBuildNamedPart, IsBuildNarrowing, KeepsPackages, ListsSame}
 use Rattle.krates.proofs.BuildsAlike.{sheet_for_there, refused_there}
 use Rattle.krates.proofs.CorrectedAlike.{OneCorrection, seen_alike}
-use Rattle.krates_packages.proofs.DivisionLemmas.{ReadsOnce}
+use Rattle.krates_drawing.proofs.DivisionLemmas.{ReadsOnce}
 use Rattle.krates.proofs.ListedAlike.{same_there}
 use Rattle.krates.proofs.NarrowedBuilds.{part, packages_part, sheets_part, refusals}
 use Rattle.krates.proofs.SeenLemmas.{resolvable_seen}

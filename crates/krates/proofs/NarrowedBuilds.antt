@@ -18,11 +18,11 @@ use Rattle.krates_rules.specs.Resolved.{id_of, resolved}
 use Rattle.krates_rules.specs.SelectionRefusals.{cause_of}
 use Rattle.krates_rules.specs.Setting.{SettingModel}
 use Rattle.krates.specs.Build.{IsResolvable, IsDerived, KeepsCrate, GraphRefusal, IsRefusedSeeing}
-use Rattle.krates_packages.specs.Listed.{AreThosePackages}
+use Rattle.krates_drawing.specs.Listed.{AreThosePackages}
 use Rattle.krates.specs.BuildLaws.{Succeeds}
 use Rattle.krates_queries.specs.Drawn.{CanBeNumbered, HasSheet, IsSheetFor}
-use Rattle.krates_packages.proofs.DivisionLemmas.{ReadsOnce}
-use Rattle.krates_drawing.proofs.Members.{Member, member_of}
+use Rattle.krates_drawing.proofs.DivisionLemmas.{ReadsOnce}
+use Rattle.krates_rules.proofs.Members.{Member, member_of}
 use Rattle.krates.proofs.SelectionFacts.{derived_of}
 
 -- ---- an admitted document has no other refusal

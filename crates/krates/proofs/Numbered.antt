@@ -17,20 +17,20 @@ use Rattle.krates_rules.specs.Setting.{SettingModel}
 use Rattle.krates.specs.Build.{GraphRefusal}
 use Rattle.krates_queries.specs.Drawn.{IsDrawing, IsNumbered, IsSheetFor, node_spot}
 use Rattle.krates_queries.specs.Kept.{AreNodes}
-use Rattle.krates_queries.specs.Node.{crate_ids}
+use Rattle.krates_drawing.specs.Node.{crate_ids}
 use Rattle.krates.specs.KeptGraph.{IsGraphOf}
-use Rattle.krates_packages.specs.declared.division.Division.{Division}
+use Rattle.krates_drawing.specs.declared.division.Division.{Division}
 use Rattle.krates_cm.specs.Document.{metadata_view}
 use Rattle.krates_cm.specs.declared.metadata.Metadata.{Metadata}
 use Rattle.krates_cm.specs.declared.package.Package.{Package}
 use Rattle.krates_drawing.specs.SheetOrder.{IsOrdered}
 use Rattle.krates_drawing.specs.Views.{sheet_view}
 use Rattle.krates_drawing.specs.declared.sheet.Sheet.{Sheet as SheetOf}
-use Rattle.krates_queries.specs.declared.node.Node.{Node}
-use Rattle.krates_queries.specs.declared.node.Node.TheVariants as node
+use Rattle.krates_drawing.specs.declared.node.Node.{Node}
+use Rattle.krates_drawing.specs.declared.node.Node.TheVariants as node
 use Rattle.krates.proofs.DrawnLemmas.{counted, graph_nodes}
 use Rattle.krates.proofs.BuildLemmas.{Builds}
-use Rattle.krates_queries.proofs.OrderedIds.{Compares}
+use Rattle.krates_rules.proofs.OrderedIds.{Compares}
 use Rattle.krates.proofs.MadeLemmas.{count_of}
 use Rattle.krates.proofs.SelectionFacts.{derived_of, none_lost}
 

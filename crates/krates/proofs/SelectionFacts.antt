@@ -14,8 +14,8 @@ use Rattle.krates_selection.specs.declared.selection.Selection.{Selection}
 use Rattle.krates_selection.specs.declared.selection.ToggledFeature.{ToggledFeature}
 use Rattle.krates_rules.specs.Setting.{SettingModel}
 use Rattle.krates.specs.Build.{IsDerived, KeepsCrate, IsLost}
-use Rattle.krates_packages.specs.Division.{IsAmong}
-use Rattle.krates_drawing.proofs.Members.{Member, member_of, contains_of, mapped_of, member_map, member_append, member_left, member_right}
+use Rattle.krates_drawing.specs.Division.{IsAmong}
+use Rattle.krates_rules.proofs.Members.{Member, member_of, contains_of, mapped_of, member_map, member_append, member_left, member_right}
 
 -- ---- the facts of a selection
 

@@ -26,7 +26,7 @@ use Rattle.krates_rules.specs.Setting.{SettingModel}
 use Rattle.krates_selection.specs.Selection.{IsSelectionOf}
 use Rattle.krates_selection.specs.declared.selection.Selection.{Selection}
 use Rattle.krates.specs.Indexed.{Answering, Sees}
-use Rattle.krates_packages.specs.Listed.{AreThosePackages}
+use Rattle.krates_drawing.specs.Listed.{AreThosePackages}
 use Rattle.krates_queries.specs.DirectDependents.{IsDependent}
 use Rattle.krates_queries.specs.Explained.{IsExplainedBy, steps_of}
 use Rattle.krates_queries.specs.Drawn.{HasSheet, IsDrawn, IsNumbered, node_spot}

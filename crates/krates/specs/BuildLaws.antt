@@ -19,7 +19,7 @@ use Rattle.krates_rules.specs.Reordering.{Reorders, ReordersPackage, ResolveAlik
 use Rattle.krates_rules.specs.Resolved.{id_of}
 use Rattle.krates_rules.specs.Setting.{SettingModel}
 use Rattle.krates.specs.Build.{IsResolvable, IsDerived, KeepsCrate, DropsCrate, IsLost, IsRefusedSeeing}
-use Rattle.krates_packages.specs.Listed.{AreThosePackages}
+use Rattle.krates_drawing.specs.Listed.{AreThosePackages}
 use Rattle.krates_document.specs.CorrectedDocument.{IsCorrectedDocument}
 use Rattle.krates_queries.specs.Drawn.{CanBeNumbered, IsSheetFor}
 use Rattle.krates.specs.Indexed.{HasNames}

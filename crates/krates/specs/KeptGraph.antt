@@ -7,13 +7,13 @@ use Rattle.krates_drawing.specs.Sheet.{Named, Sheet}
 use Rattle.krates_drawing.specs.declared.edge.Edge.{Edge}
 use Rattle.krates_graph.specs.Graph.{StoredGraph}
 use Rattle.krates_rules.specs.Facts.{Id, Fact, Feature}
-use Rattle.krates_packages.specs.Division.{IsAmong}
+use Rattle.krates_drawing.specs.Division.{IsAmong}
 use Rattle.krates_queries.specs.Drawn.{IsDrawing}
 use Rattle.krates_queries.specs.Kept.{IsEnabledIn}
-use Rattle.krates_packages.specs.Krate.{krate_ids, krate_packages}
-use Rattle.krates_queries.specs.Node.{crate_ids, crate_values, crate_features, CratesFirst}
-use Rattle.krates_packages.specs.declared.krate.Krate.{Krate}
-use Rattle.krates_queries.specs.declared.node.Node.{Node}
+use Rattle.krates_drawing.specs.Krate.{krate_ids, krate_packages}
+use Rattle.krates_drawing.specs.Node.{crate_ids, crate_values, crate_features, CratesFirst}
+use Rattle.krates_drawing.specs.declared.krate.Krate.{Krate}
+use Rattle.krates_drawing.specs.declared.node.Node.{Node}
 
 abbrev pub named_fact : Named → Fact
 named_fact n = Feature n.krate n.name

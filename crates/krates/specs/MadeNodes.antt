@@ -9,11 +9,11 @@ use Rattle.krates_drawing.specs.declared.nodes.Spot.{Spot}
 use Rattle.krates_drawing.specs.declared.nodes.Spot.TheVariants as drawn
 use Rattle.krates_ids.specs.declared.error.Error.{Error}
 use Rattle.krates_ids.specs.declared.error.Error.TheVariants as errors
-use Rattle.krates_packages.specs.declared.krate.Krate.{Krate}
+use Rattle.krates_drawing.specs.declared.krate.Krate.{Krate}
 use Rattle.krates.specs.declared.nodes.DrawnFeature.{DrawnFeature}
 use Rattle.krates.specs.declared.nodes.Nodes.{Nodes}
-use Rattle.krates_queries.specs.declared.node.Node.{Node}
-use Rattle.krates_queries.specs.declared.node.Node.TheVariants as node
+use Rattle.krates_drawing.specs.declared.node.Node.{Node}
+use Rattle.krates_drawing.specs.declared.node.Node.TheVariants as node
 
 abbrev Set : Type 0
 Set = BTreeSet (String Global)

@@ -23,8 +23,8 @@ use krates_drawing::laws as drawing_laws;
 use krates_drawing::limits::Limits;
 use krates_drawing::store::FromEdge;
 use krates_ids::{BuildIndexCache, Error, Kid, PkgSpec, laws};
-use krates_packages::division::{Division, divide};
-use krates_packages::filter::{OnFilter, report};
+use krates_drawing::division::{Division, divide};
+use krates_drawing::filter::{OnFilter, handed_over};
 use krates_queries::from_package::FromPackage;
 use krates_queries::kept::{Findings, Krates};
 use krates_resolve::{DepKind, Ids, Scope, Setting, admit};
@@ -354,8 +354,8 @@ fn build_admitted<N: FromPackage + Drop, E: FromEdge + Drop, F: OnFilter>(
     let count = kept.len();
     let explanation = explanation_of(alloc, &kept, steps)?;
     let graph = graph_of(alloc, limits, sheet, kept)?;
-    let members = members_of(alloc, graph.raw_nodes(), &members)?;
-    report(others, filter);
+    let members = members_of(alloc, graph.raw_nodes(), &members);
+    let members = handed_over(members, others, filter)?;
     let findings = Findings { work, explanation };
     Ok(Krates::new(graph, count, members, workspace_root, findings))
 }

@@ -5,7 +5,7 @@ ghost use Rattle.std.specs.BTreeSet.{keys};
 ghost use Rattle.krates_selection.specs.CrateNumbers.{HasHome};
 ghost use Rattle.krates.specs.Enabled.{AreEnabledSets, IsPut};
 
-use krates_queries::node::EnabledFeatures;
+use krates_drawing::node::EnabledFeatures;
 use krates_resolve::EnabledFeature;
 use std::alloc::{AllocError, Global};
 use std::collections::BTreeSet;

@@ -1,10 +1,10 @@
 //! The kept crates with the steps that explain them.
 
 ghost use Rattle.std.specs.Prelude.{◌≡◌, IfOk};
-ghost use Rattle.krates_packages.specs.Krate.{krate_ids};
+ghost use Rattle.krates_drawing.specs.Krate.{krate_ids};
 
 use krates_explain::{Explanation, KeptStep};
-use krates_packages::krate::Krate;
+use krates_drawing::krate::Krate;
 use std::alloc::{AllocError, Global};
 
 /// These steps, with the ids of these crates.

@@ -31,10 +31,10 @@ pub use krates_drawing::store::FromEdge;
 pub use krates_graph::graph::{EdgeId, NodeId};
 pub use krates_graph::{agenda, graph};
 pub use krates_ids::{Error, IdError, Kid, Lost, PkgSpec};
-pub use krates_packages::{FilterFn, NoneFilter, OnFilter};
+pub use krates_drawing::{FilterFn, NoneFilter, OnFilter};
 pub use krates_queries::from_package::{FromPackage, KrateDetails};
 pub use krates_queries::kept::{Krates, KratesIter};
-pub use krates_queries::node::{EnabledFeatures, Node};
+pub use krates_drawing::node::{EnabledFeatures, Node};
 pub use krates_queries::queries::{
     Deps, DirectDependency, DirectDependent, KrateMatch, KrateNodes, Matches, Members,
 };
@@ -80,7 +80,7 @@ pub mod index {
 
 /// Which documents can be resolved, what is kept of them, and what they answer to the questions of the rules.
 pub mod resolve {
-    pub use krates_lookups::lookup::Lookup;
+    pub use krates_questions::lookup::Lookup;
     pub use krates_resolve::{
         Document, EnabledFeature, Ids, KeptEdge, Need, NumberedFact, NumberedStep, Presence,
         Reason, Selection, Setting, ToggledFeature, Work, admit, select,

@@ -4,11 +4,11 @@ ghost use Rattle.std.specs.Prelude.{IfOk};
 ghost use Rattle.std.specs.List.Sorted.{IsStrictlyIncreasing};
 ghost use Rattle.krates_queries.specs.Kept.{AreNodes};
 ghost use Rattle.krates.specs.Members.{AreNumbersOf};
-ghost use Rattle.krates_queries.specs.Node.{crate_ids};
+ghost use Rattle.krates_drawing.specs.Node.{crate_ids};
 
 use krates_graph::graph::NodeId;
 use krates_ids::Kid;
-use krates_queries::node::Node;
+use krates_drawing::node::Node;
 use krates_queries::numbers::number_of;
 use std::alloc::{AllocError, Global};
 

@@ -11,9 +11,9 @@ use krates_cm::Package;
 use krates_drawing::nodes::Spot;
 use krates_graph::graph::{Graph, GraphError, NodeId};
 use krates_ids::Error;
-use krates_packages::krate::Krate;
+use krates_drawing::krate::Krate;
 use krates_queries::from_package::FromPackage;
-use krates_queries::node::{EnabledFeatures, Node};
+use krates_drawing::node::{EnabledFeatures, Node};
 use std::alloc::{AllocError, Global};
 
 /// An enabled feature, as it was drawn.

@@ -6,7 +6,7 @@ use Rattle.std.proofs.lemmas.List.Elements.{All-contains, All-filter, All-weaker
 use Rattle.std.specs.Cmp.Lexicographic.{slice_cmp}
 use Rattle.krates_cm.specs.Document.{Text, text_view}
 use Rattle.krates_cm.specs.declared.package.Package.{Package}
-use Rattle.krates_drawing.proofs.Members.{Member, member_of, contains_of, member_map, mapped_of, kept_of, member_filter}
+use Rattle.krates_rules.proofs.Members.{Member, member_of, contains_of, member_map, mapped_of, kept_of, member_filter}
 use Rattle.krates_queries.specs.KrateNodes.{Match}
 use Rattle.krates_queries.specs.Matches.{is_named}
 use Rattle.krates_answers.specs.Duplicates.{AreDuplicates, crates_named}

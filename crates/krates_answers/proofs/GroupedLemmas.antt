@@ -14,7 +14,7 @@ use Rattle.std.specs.Map.{keys_of}
 use Rattle.std.specs.Option.{is_some}
 use Rattle.std.specs.Ordering.{is_eq}
 use Rattle.krates_cm.specs.Document.{Text}
-use Rattle.krates_drawing.proofs.Members.{Member, member_of, contains_of, member_map, mapped_of, passing_of}
+use Rattle.krates_rules.proofs.Members.{Member, member_of, contains_of, member_map, mapped_of, passing_of}
 use Rattle.krates_drawing.proofs.Tests.{sorted_as}
 use Rattle.krates_answers.specs.Grouped.{AreGroups, Group, group_view, groups_in, items_under}
 use Rattle.krates_answers.proofs.HeldPairs.{text_order, text_order_total, value_under, items_of, HoldsPairs, some_of_map}

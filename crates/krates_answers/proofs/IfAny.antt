@@ -1,7 +1,7 @@
 -- A list, if it has anything.
 use Rattle.std.proofs.Common.{◌≡◌, ◌++◌, ℕ, zero, suc, slice_get, List, [], ◌∷◌, true, Option, Some, None, refl, inl, inr}
 use Rattle.std.specs.Option.{is_some}
-use Rattle.krates_drawing.proofs.Members.{Member}
+use Rattle.krates_rules.proofs.Members.{Member}
 
 -- a list, if it has anything
 abbrev pub if_any : {T : Type 0} → List T → Option (List T)

@@ -4,7 +4,7 @@ use Rattle.std.proofs.lemmas.List.{map-append}
 use Rattle.std.proofs.lemmas.List.Elements.{filter-append}
 use Rattle.std.proofs.lemmas.Slice.Eq.{bytes_eq-Decides}
 use Rattle.krates_cm.specs.Document.{Text}
-use Rattle.krates_drawing.proofs.Members.{Member, member_map, mapped_of, kept_of, member_filter}
+use Rattle.krates_rules.proofs.Members.{Member, member_map, mapped_of, kept_of, member_filter}
 use Rattle.krates_answers.specs.Grouped.{items_under}
 
 -- the item of a pair that was put at the end

@@ -3,7 +3,7 @@ use Rattle.std.proofs.Common.{◌≡◌, ℕ, Bool, true, false, cond, List, [],
 use Rattle.std.proofs.lemmas.List.{map-append}
 use Rattle.std.proofs.lemmas.List.Elements.{filter-append}
 use Rattle.std.specs.Option.{option_eq}
-use Rattle.krates_drawing.proofs.Members.{contains_of, kept_of, mapped_of, member_map, member_of}
+use Rattle.krates_rules.proofs.Members.{contains_of, kept_of, mapped_of, member_map, member_of}
 use Rattle.krates_answers.specs.Tree.{crates_below, crates_in}
 use Rattle.krates_answers.specs.declared.tree.TreeLine.{TreeLine}
 

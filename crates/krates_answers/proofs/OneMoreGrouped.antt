@@ -13,7 +13,7 @@ use Rattle.std.specs.List.Sorted.{IsStrictlySortedBy}
 use Rattle.std.specs.Option.{UnwrapsOrElse}
 use Rattle.std.specs.Ordering.{is_eq}
 use Rattle.krates_cm.specs.Document.{Text}
-use Rattle.krates_drawing.proofs.Members.{Member, member_of, contains_of, member_map, mapped_of}
+use Rattle.krates_rules.proofs.Members.{Member, member_of, contains_of, member_map, mapped_of}
 use Rattle.krates_drawing.proofs.Tests.{sorted_as}
 use Rattle.krates_answers.specs.Grouped.{AreGroups, Group, group_view, groups_in, items_under}
 use Rattle.krates_answers.proofs.GroupedLemmas.{are_groups}

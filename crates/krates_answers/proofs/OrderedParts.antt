@@ -5,7 +5,7 @@ use Rattle.std.proofs.lemmas.Map.Keys.{sorted_head, sorted_tail}
 use Rattle.std.specs.List.{AllByRecursion}
 use Rattle.std.specs.List.Sorted.{IsStrictlySortedBy}
 use Rattle.std.specs.Ordering.{nat_cmp}
-use Rattle.krates_drawing.proofs.Members.{Member, mapped_of, member_map}
+use Rattle.krates_rules.proofs.Members.{Member, mapped_of, member_map}
 use Rattle.krates_answers.specs.Those.{AreThose, none, takes, leaves}
 
 less : (n k : ℕ) → nat_cmp n k ≡ Less → n < k

@@ -2,7 +2,7 @@
 use Rattle.std.proofs.Common.{◌≡◌, ◌↔◌, ℕ, Bool, true, false, cond, List, [], ◌++◌, map, length, get_or, replicate, Option, Some, None, Contains, IsTrue, refl, sym, ap, ◌∙◌, inl, inr, arith}
 use Rattle.std.proofs.lemmas.Bool.{cases_lt, false≢true}
 use Rattle.std.proofs.lemmas.List.{get_or-replicate, get_or_past, length-replicate}
-use Rattle.krates_drawing.proofs.Members.{contains_of}
+use Rattle.krates_rules.proofs.Members.{contains_of}
 use Rattle.krates_drawing.specs.Paths.{Reaches, begins}
 use Rattle.krates_answers.specs.Links.{IsListed}
 use Rattle.krates_answers.specs.Tree.{IsInPlace, crates_below, crates_in, list_of, root_line}

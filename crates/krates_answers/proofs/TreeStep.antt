@@ -3,7 +3,7 @@ use Rattle.std.proofs.Common.{◌≡◌, ◌↔◌, ◌⊎◌, ℕ, ◌+◌, ◌
 use Rattle.std.proofs.lemmas.Bool.{cases_eq, eq-eqb, false≢true, ne_eqb}
 use Rattle.std.proofs.lemmas.List.{get_or-set_other, get_or-set_same, length-set, length_push, map_push}
 use Rattle.std.proofs.lemmas.List.Elements.{Contains-append_left, Contains-push, Contains-push_cases}
-use Rattle.krates_drawing.proofs.Members.{contains_of}
+use Rattle.krates_rules.proofs.Members.{contains_of}
 use Rattle.krates_drawing.specs.Paths.{goes_on}
 use Rattle.krates_answers.specs.Tree.{crates_below, crates_in, line_below, list_of}
 use Rattle.krates_answers.specs.declared.tree.TreeLine.{TreeLine}

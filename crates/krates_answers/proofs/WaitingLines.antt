@@ -3,7 +3,7 @@
 use Rattle.std.proofs.Common.{◌≡◌, ℕ, ◌+◌, ◌≤◌, true, List, [], ◌∷◌, ◌++◌, map, Option, Some, None, append_assoc, refl, ap, ◌∙◌, inl, inr, arith}
 use Rattle.std.proofs.lemmas.List.Elements.{All-nil, All-push}
 use Rattle.std.specs.Bool.{⊤}
-use Rattle.krates_drawing.proofs.Members.{Member}
+use Rattle.krates_rules.proofs.Members.{Member}
 use Rattle.krates_answers.specs.Tree.{IsInPlace, StandsBelow, line_below, root_line}
 use Rattle.krates_answers.specs.declared.tree.TreeLine.{TreeLine}
 

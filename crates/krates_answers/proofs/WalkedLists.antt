@@ -1,7 +1,7 @@
 -- A list through which a loop goes: what it has had so far, as the list sees it, and what is left.
 use Rattle.std.proofs.Common.{◌≡◌, List, [], ◌∷◌, ◌++◌, map, append_assoc, refl, sym, ap, ◌∙◌, subst, inl}
 use Rattle.std.proofs.lemmas.List.{append-nil, map-append}
-use Rattle.krates_drawing.proofs.Members.{Member, member_right}
+use Rattle.krates_rules.proofs.Members.{Member, member_right}
 use Rattle.krates_answers.specs.Those.{AreThose, none}
 use Rattle.krates_answers.proofs.ThoseLemmas.{AreThose-snoc_leaves, AreThose-snoc_takes}
 

@@ -12,7 +12,7 @@ use Rattle.krates_drawing.specs.Sheet.{Sheet}
 use Rattle.krates_drawing.specs.Stored.{IsStoredAs}
 use Rattle.krates_drawing.specs.Views.{tie_view}
 use Rattle.krates_drawing.specs.declared.edge.Edge.{Edge}
-use Rattle.krates_drawing.proofs.Members.{Member, member_of, member_left, member_map}
+use Rattle.krates_rules.proofs.Members.{Member, member_of, member_left, member_map}
 use Rattle.krates_graph.specs.Graph.{StoredGraph}
 use Rattle.krates_graph.specs.declared.graph.edge.GraphEdge.{GraphEdge}
 use Rattle.krates_ids.specs.Identity.{Identity}
@@ -30,9 +30,9 @@ use Rattle.krates.specs.BuildLaws.{IsBuildNarrowing, IsSeenBy}
 use Rattle.krates_queries.specs.Drawn.{IsDrawing, IsSheetFor, node_spot}
 use Rattle.krates_queries.specs.Kept.{KeptCrates, ids_of}
 use Rattle.krates_queries.specs.KratesFiltered.{AreReached, IsReached, line_view}
-use Rattle.krates_queries.specs.Node.{CratesFirst, crate_ids}
-use Rattle.krates_queries.specs.declared.node.Node.{Node}
-use Rattle.krates_queries.specs.declared.node.Node.TheVariants.{Krate, Feature}
+use Rattle.krates_drawing.specs.Node.{CratesFirst, crate_ids}
+use Rattle.krates_drawing.specs.declared.node.Node.{Node}
+use Rattle.krates_drawing.specs.declared.node.Node.TheVariants.{Krate, Feature}
 use Rattle.krates_queries.proofs.PathLemmas.{reaches_more}
 use Rattle.krates_build_tests.specs.Rebuilt.{AreRebuilt, HoldsRebuilt, IgnoresToo, IsListed, Keeps, ListsRebuilt}
 

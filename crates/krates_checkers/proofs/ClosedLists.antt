@@ -6,14 +6,15 @@ use Rattle.krates_derive.specs.Referring.{Asks, toggling}
 use Rattle.krates_text.specs.FeatureReference.{simple}
 use Rattle.krates_rules.specs.Facts.{Id, Edge, Fact, Cause, Crate, Feature, Kept, Toggled, Lost}
 use Rattle.krates_rules.specs.Features.{HasReference}
-use Rattle.krates_lookups.specs.FeatureValues.{AreValuesOf}
+use Rattle.krates_questions.specs.FeatureValues.{AreValuesOf}
 use Rattle.krates_rules.specs.Derivation.{Among, IsClosed}
 use Rattle.krates_rules.specs.Referent.{IsReferent}
 use Rattle.krates_rules.specs.Rules.{IsAskedFor, root_crate, root_feature, lost_root_package, lost_root_node, feature_crate, named, lost_named, asked, toggled_strongly, lost_asked_package, lost_asked_node, lost_toggled_strongly, required, target, lost_undeclared, lost_required_package, lost_required_node, declared, by_default, lost_declared, toggled_weakly, toggled_feature, lost_toggled_weakly}
 use Rattle.krates_rules.specs.StepViews.{facts_view, fact_view}
 use Rattle.krates_rules.specs.declared.derivation.Fact.{Fact as ToldFact}
 use Rattle.krates_rules.specs.declared.derivation.Fact.TheVariants as told
-use Rattle.krates_derive.proofs.Places.{seen_at, place_in}
+use Rattle.krates_rules.proofs.FirstPlaces.{seen_at}
+use Rattle.krates_rules.proofs.OnlyOne.{place_in}
 use Rattle.krates_rules.specs.Questions.{edge_between, questions}
 use Rattle.krates_rules.specs.Resolved.{Resolved}
 use Rattle.krates_rules.specs.Setting.{SettingModel}

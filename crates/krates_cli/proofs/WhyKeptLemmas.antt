@@ -13,9 +13,9 @@ use Rattle.krates_rules.specs.Resolved.{StandsAt, id_of}
 use Rattle.krates_rules.specs.Steps.{EndsIn}
 use Rattle.krates_queries.proofs.NodeLemmas.{crate_at}
 use Rattle.krates_queries.specs.Kept.{KeptCrates, ids_of}
-use Rattle.krates_queries.specs.Node.{CratesFirst}
+use Rattle.krates_drawing.specs.Node.{CratesFirst}
 use Rattle.krates_queries.specs.Why.{IsWhy, node_fact}
-use Rattle.krates_queries.specs.declared.node.Node.{Node}
+use Rattle.krates_drawing.specs.declared.node.Node.{Node}
 use Rattle.krates_cli.specs.WhyKept.{ExplainsKept}
 
 pub same_first : {N E : Type 0} (g h : StoredGraph (Node N) E) → g ≡ h → CratesFirst g.nodes → CratesFirst h.nodes

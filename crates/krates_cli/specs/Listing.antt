@@ -12,7 +12,7 @@ use Rattle.krates_rules.specs.Facts.{Id, Cause}
 use Rattle.krates_rules.specs.Resolved.{id_of}
 use Rattle.krates_rules.specs.Setting.{SettingModel}
 use Rattle.krates.specs.Build.{IsResolvable, KeepsCrate, DropsCrate, IsLost}
-use Rattle.krates_packages.specs.Listed.{AreThosePackages}
+use Rattle.krates_drawing.specs.Listed.{AreThosePackages}
 use Rattle.krates_cli.specs.Counted.{AppendsFront}
 use Rattle.krates_cli.specs.Lines.{lines_of}
 use Rattle.krates_cli.specs.Request.{Request}

@@ -6,7 +6,7 @@ use Rattle.krates_cm.specs.declared.metadata.Metadata.{Metadata}
 use Rattle.krates_ids.specs.Correction.{IsCorrected, index_view}
 use Rattle.krates_ids.specs.declared.index.IndexAnswer.{IndexAnswer}
 use Rattle.krates_document.specs.CorrectedDocument.{IsCorrectedPackage, IsCorrectedDocument}
-use Rattle.krates_document.proofs.Zips.{zip_mapped}
+use Rattle.krates_rules.proofs.Zips.{zip_mapped}
 
 -- each package is corrected
 pub views_corrected : (answer : IndexAnswer) (m p : Metadata) → IsCorrectedDocument answer m p → AllZip (IsCorrected (index_view answer)) (metadata_view m).packages (metadata_view p).packages

@@ -3,10 +3,7 @@ pub mod ChangedPlaces
 pub mod CorrectedDocument
 pub mod DeclaredOnce
 pub mod DistinctIds
-pub mod FirstPlaces
 pub mod FoldedNames
 pub mod LeastFitting
 pub mod NamedPlaces
 pub mod Passing
-pub mod Seen
-pub mod Zips

@@ -15,7 +15,7 @@ use Rattle.krates_cm.specs.Document.{Text}
 use Rattle.krates_document.specs.FoldedNames.{folded_order}
 use Rattle.krates_document.specs.NamedPlaces.{AreInOrder, AreNamed, StandsUnder, key_cmp, key_of, place_cmp, places_in, sought_key}
 use Rattle.krates_document.specs.declared.named_places.NamedPlace.{NamedPlace}
-use Rattle.krates_document.proofs.FirstPlaces.{seen_at}
+use Rattle.krates_rules.proofs.FirstPlaces.{seen_at}
 
 key_total : IsTotalOrder key_cmp
 key_total = then_total (on_total (λ (k : Text × Text). k.0) nat_list_cmp_total) (on_total (λ (k : Text × Text). k.1) nat_list_cmp_total)

@@ -19,8 +19,8 @@ use Rattle.krates_drawing.proofs.Arrows.{IsArrow, dep, dep_feature, toggles, own
 use Rattle.krates_drawing.proofs.Closed.{keeps_ends, given_enabled, ends_stand}
 use Rattle.krates_drawing.proofs.Derivations.{crate_of_feature}
 use Rattle.krates_drawing.proofs.Holding.{Holds, holds}
-use Rattle.krates_drawing.proofs.Members as members
-use Rattle.krates_drawing.proofs.Members.{Member, member_of, contains_of, kept_of, member_filter, mapped_of, member_map, passing_of, member_any, Front, front_of}
+use Rattle.krates_rules.proofs.Members as members
+use Rattle.krates_rules.proofs.Members.{Member, member_of, contains_of, kept_of, member_filter, mapped_of, member_map, passing_of, member_any, Front, front_of}
 use Rattle.krates_drawing.proofs.Drawn.{has_drawn}
 use Rattle.krates_drawing.proofs.NodeNumbers.{both, and_true, id_is, id_same, HasCrate, Stands, crate_stands, feature_stands, crate_node, feature_node, one_number}
 use Rattle.krates_rules.proofs.OnlyOne.{one_package}

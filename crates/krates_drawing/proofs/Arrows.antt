@@ -6,7 +6,7 @@ use Rattle.krates_rules.specs.Facts.{Id}
 use Rattle.krates_rules.specs.Kind.{kind_of}
 use Rattle.krates_drawing.specs.Drawing.{id_eq, End, AtCrate, AtFeature, Tie, Dep, DepFeature, Feature, Line, line, uses, is_from, is_to, is_between, from_crate, pair_lines, leads_to, children_lines, crate_lines, targets, meaning_lines, feature_lines, lines}
 use Rattle.krates_drawing.specs.Sheet.{Krate, Link, Meaning, OwnFeature, Crates, FeatureOf, Named, Toggle, Sheet}
-use Rattle.krates_drawing.proofs.Members.{Member, member_append, member_left, member_right, mapped_of, member_map, kept_of, member_filter, spread_of, member_spread, passing_of, member_any}
+use Rattle.krates_rules.proofs.Members.{Member, member_append, member_left, member_right, mapped_of, member_map, kept_of, member_filter, spread_of, member_spread, passing_of, member_any}
 use Rattle.krates_drawing.proofs.NodeNumbers.{both, and_true, id_is, id_same, HasCrate}
 
 -- an edge is drawn from one end to another, with this weight

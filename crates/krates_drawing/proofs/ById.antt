@@ -10,7 +10,7 @@ use Rattle.std.specs.List.Sorted.{IsStrictlySortedBy}
 use Rattle.std.specs.Ordering.{nat_cmp, on, ordering_then, then_cmp}
 use Rattle.krates_cm.specs.Document.{Text, text_view}
 use Rattle.krates_ids.specs.Identity.{Identity, empty_identity, id_cmp}
-use Rattle.krates_lookups.proofs.SeenInOrder.{sorted_seen}
+use Rattle.krates_rules.proofs.SeenInOrder.{sorted_seen}
 use Rattle.krates_selection.proofs.ByNumber.{compared_by_place}
 use Rattle.krates_selection.proofs.CrateNumbers.{seen_id}
 use Rattle.krates_selection.specs.CrateNumbers.{HasCrates, HasEnds, HasHome, id_at}
@@ -23,7 +23,7 @@ use Rattle.krates_rules.specs.Facts.{Id, Edge}
 use Rattle.krates_rules.specs.Referent.{id_order}
 use Rattle.krates_rules.specs.Resolved.{id_of}
 use Rattle.krates_drawing.specs.Sheet.{Toggle, toggle_of}
-use Rattle.krates_drawing.proofs.Members.{Member}
+use Rattle.krates_rules.proofs.Members.{Member}
 use Rattle.krates_drawing.proofs.Ordered.{Respects, alike, equal_zip}
 use Rattle.krates_drawing.proofs.Parts.{LikePart, like_nothing, like_keeps, like_leaves, likes_part}
 use Rattle.krates_drawing.proofs.CratePlaces.{numbers_compare}

@@ -19,7 +19,7 @@ use Rattle.krates_drawing.specs.Sheet.{Link, asked_by, has_text, Meaning, OwnFea
 use Rattle.krates_drawing.proofs.Arrows.{IsArrow, dep, dep_feature, toggles, own, names, names_crate, names_feature, KeepsEnds}
 use Rattle.krates_drawing.proofs.Derivations.{one, two, crate_of_feature, child_kept, kept_by}
 use Rattle.krates_drawing.proofs.Holding.{Holds}
-use Rattle.krates_drawing.proofs.Members.{Member, contains_of, member_append, kept_of, passing_of, member_any, partner_of, swapped}
+use Rattle.krates_rules.proofs.Members.{Member, contains_of, member_append, kept_of, passing_of, member_any, partner_of, swapped}
 use Rattle.krates_drawing.proofs.NodeNumbers.{text_is, text_same, feature_is, feature_passes, HasCrate, HasFeature, Stands, crate_stands, feature_stands}
 
 -- ---- kept edges

@@ -2,7 +2,7 @@
 use Rattle.krates_rules.specs.Facts.{Id}
 use Rattle.krates_drawing.specs.Paths.{IsDrawn}
 use Rattle.krates_drawing.specs.Sheet.{Sheet}
-use Rattle.krates_drawing.proofs.Members.{member_of, contains_of}
+use Rattle.krates_rules.proofs.Members.{member_of, contains_of}
 use Rattle.krates_drawing.proofs.NodeNumbers.{HasCrate}
 
 pub drawn_in : (t : Sheet) (p : Id) → HasCrate t p → IsDrawn t p

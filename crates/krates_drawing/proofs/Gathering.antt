@@ -9,7 +9,7 @@ use Rattle.std.specs.declared.alloc.Global.{Global}
 use Rattle.std.specs.Prelude.{String}
 use Rattle.krates_cm.specs.Document.{NodeModel, PackageModel, text_view, texts_view}
 use Rattle.krates_ids.specs.Identity.{Identity, id_cmp}
-use Rattle.krates_lookups.specs.Lookup.{IsPackageOf, TellsPackage}
+use Rattle.krates_questions.specs.Lookup.{IsPackageOf, TellsPackage}
 use Rattle.krates_questions.specs.Contents.{IsNodeOf, TellsNode}
 use Rattle.krates_rules.specs.Admission.{NoneDoubled}
 use Rattle.krates_rules.specs.DeclaredDependency.{dependency_entry}
@@ -39,7 +39,7 @@ use Rattle.krates_document.proofs.DeclaredOnce.{declared_stands}
 use Rattle.krates_drawing.proofs.ById.{zip_by}
 use Rattle.krates_drawing.proofs.Derivations.{child_kept, crate_of_feature, kept_stands}
 use Rattle.krates_drawing.proofs.Holding.{crate_there, edge_there, feature_there}
-use Rattle.krates_drawing.proofs.Members.{Member, contains_of, member_map}
+use Rattle.krates_rules.proofs.Members.{Member, contains_of, member_map}
 use Rattle.krates_drawing.proofs.Standing.{each}
 use Rattle.krates_rules.proofs.OnlyOne.{one_package}
 

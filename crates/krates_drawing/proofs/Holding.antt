@@ -14,7 +14,7 @@ use Rattle.krates_selection.specs.declared.selection.KeptEdge.{KeptEdge}
 use Rattle.krates_selection.specs.declared.selection.Selection.{Selection}
 use Rattle.krates_selection.specs.declared.selection.ToggledFeature.{ToggledFeature}
 use Rattle.krates_drawing.specs.Sheet.{Krate, IsKrate, Link, IsLink, Named, IsNamed, Toggle, toggle_of, Sheet, IsSheet}
-use Rattle.krates_drawing.proofs.Members.{Member, member_of, contains_of, member_append, member_left, member_right, mapped_of, member_map, Partner, partner_of, swapped}
+use Rattle.krates_rules.proofs.Members.{Member, member_of, contains_of, member_append, member_left, member_right, mapped_of, member_map, Partner, partner_of, swapped}
 use Rattle.krates_drawing.proofs.NodeNumbers.{HasCrate, HasFeature}
 
 -- the link of a kept edge

@@ -6,6 +6,7 @@ pub mod Children
 pub mod Closed
 pub mod CratePlaces
 pub mod Derivations
+pub mod DivisionLemmas
 pub mod DocumentSheets
 pub mod Drawn
 pub mod Entries
@@ -19,7 +20,6 @@ pub mod Holding
 pub mod Ignoring
 pub mod Joined
 pub mod Mapped
-pub mod Members
 pub mod NarrowerSheet
 pub mod NodeNumbers
 pub mod OneSheet
@@ -28,6 +28,7 @@ pub mod Parts
 pub mod Placed
 pub mod Rebuilt
 pub mod SaidAlike
+pub mod SearchedKrates
 pub mod SheetThere
 pub mod Sources
 pub mod Standing

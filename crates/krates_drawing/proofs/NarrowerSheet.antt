@@ -21,7 +21,7 @@ use Rattle.krates_drawing.proofs.ById.{edge_by_id, edge_order, edges_sorted, edg
 use Rattle.krates_drawing.proofs.Derivations.{kept_by}
 use Rattle.krates_drawing.proofs.FewerLines.{IsPartSheet, draws_no_more}
 use Rattle.krates_drawing.proofs.Holding.{edge_there}
-use Rattle.krates_drawing.proofs.Members.{Member}
+use Rattle.krates_rules.proofs.Members.{Member}
 use Rattle.krates_drawing.proofs.OneSheet.{SameCrate, SameEdge, SameFeature, Carries, ReadsOneReference, crate_order, crate_likes, edges_over, features_over, toggles_over, krates_same, links_same, features_same, one_place, placed}
 use Rattle.krates_drawing.proofs.Ordered.{itself}
 use Rattle.krates_drawing.proofs.Parts.{LikePart, likes_part, made_part}

@@ -7,7 +7,7 @@ use Rattle.krates_cm.specs.Document.{Text}
 use Rattle.krates_rules.specs.Facts.{Id}
 use Rattle.krates_drawing.specs.Drawing.{id_eq, place_of, End, AtCrate, AtFeature, is_crate, is_feature, crate_number, feature_number, number, mapping, CrateSpot, FeatureSpot, crate_spot, feature_spot, spots}
 use Rattle.krates_drawing.specs.Sheet.{Krate, Named, Sheet}
-use Rattle.krates_drawing.proofs.Members.{Member}
+use Rattle.krates_rules.proofs.Members.{Member}
 
 -- ---- equal ids and names
 

@@ -23,12 +23,12 @@ use Rattle.krates_selection.specs.declared.selection.KeptEdge.{KeptEdge}
 use Rattle.krates_selection.specs.declared.selection.Selection.{Selection}
 use Rattle.krates_drawing.specs.Alike.{IsDrawnAlike}
 use Rattle.krates_drawing.specs.Drawing.{lines, spots}
-use Rattle.krates_lookups.specs.FeatureValues.{values_of}
+use Rattle.krates_questions.specs.FeatureValues.{values_of}
 use Rattle.krates_drawing.specs.Sheet.{Krate, IsKrate, Link, IsLink, asked_by, has_text, Meaning, OwnFeature, Crates, FeatureOf, Named, IsNamed, IsMeaning, Names, Toggle, toggle_of, Sheet, IsSheet}
 use Rattle.krates_drawing.proofs.ById.{IsWithin, edge_by_id, edge_order, edges_sorted, edges_total, feature_by_id, feature_order, features_sorted, features_total, ids_total, same_lists, toggle_order, toggles_sorted, toggles_total, zip_by}
 use Rattle.krates_drawing.proofs.Closed.{text_there, text_has}
 use Rattle.krates_drawing.proofs.Holding.{crate_there, edge_there, feature_there, toggled_there, from_of, crate_from, link_from, feature_from, toggle_from, same_toggle}
-use Rattle.krates_drawing.proofs.Members.{Member, member_of, contains_of, mapped_of, member_map}
+use Rattle.krates_rules.proofs.Members.{Member, member_of, contains_of, mapped_of, member_map}
 use Rattle.krates_drawing.proofs.SaidAlike.{SaidAlike, said_alike, dependencies_same}
 use Rattle.krates_drawing.proofs.Ordered.{Respects, alike, made_same, equal_zip, itself}
 use Rattle.krates_drawing.proofs.Tests.{bools_same, filter_same}

@@ -3,7 +3,7 @@ use Rattle.std.proofs.Common.{◌≡◌, inl, inr, List, [], ◌∷◌, Ordering
 use Rattle.std.specs.Cmp.{IsTotalOrder}
 use Rattle.std.specs.List.{AllByRecursion, AllZip}
 use Rattle.std.specs.List.Sorted.{IsStrictlySortedBy}
-use Rattle.krates_drawing.proofs.Members.{Member, Partner}
+use Rattle.krates_rules.proofs.Members.{Member, Partner}
 
 -- related elements are in the same order
 pub record Respects {A : Type 0} (c : A → A → Ordering) (S : A → A → Type 0) : Type 0 where

@@ -4,7 +4,7 @@ use Rattle.std.proofs.lemmas.List.{length-append, length-map}
 use Rattle.std.specs.List.{AllZip, list_any}
 use Rattle.std.specs.List.Sorted.{IsStrictlySortedBy}
 use Rattle.krates_drawing.specs.Narrower.{IsPart, nothing, keeps, leaves_out}
-use Rattle.krates_drawing.proofs.Members.{Member}
+use Rattle.krates_rules.proofs.Members.{Member}
 use Rattle.krates_drawing.proofs.Ordered.{Respects, HasLikes, each, strict, later_likes}
 
 -- ---- parts

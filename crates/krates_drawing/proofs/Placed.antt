@@ -15,7 +15,7 @@ use Rattle.krates_rules.specs.Facts.{Id}
 use Rattle.krates_rules.specs.Referent.{id_order}
 use Rattle.krates_rules.specs.Resolved.{Resolved, id_of}
 use Rattle.krates_rules.specs.Setting.{SettingModel}
-use Rattle.krates_lookups.proofs.SeenInOrder.{equal_self}
+use Rattle.krates_rules.proofs.SeenInOrder.{equal_self}
 use Rattle.krates_drawing.specs.Agreement.{DependsOn, LeadsTo}
 use Rattle.krates_drawing.specs.Connected.{IsLedInto, LeadsHome, AreConnected}
 use Rattle.krates_drawing.specs.Drawing.{AtCrate, AtFeature, Feature, line, place_of, is_crate, is_feature, id_eq, crate_number, from_crate, lines, claimant, mapped, mapping, Spot, CrateSpot, FeatureSpot, crate_spot, feature_spot, spots}
@@ -25,7 +25,7 @@ use Rattle.krates_drawing.proofs.Arrows.{own, arrow_in}
 use Rattle.krates_drawing.proofs.ById.{feature_by_id, feature_order, features_sorted, ids_total}
 use Rattle.krates_drawing.proofs.Closed.{keeps_ends}
 use Rattle.krates_drawing.proofs.Holding.{holds}
-use Rattle.krates_drawing.proofs.Members.{Member, member_of, contains_of, mapped_of}
+use Rattle.krates_rules.proofs.Members.{Member, member_of, contains_of, mapped_of}
 use Rattle.krates_drawing.proofs.NodeNumbers.{both, and_true, id_is, id_same, text_is, text_same, HasCrate, crate_node}
 
 -- ---- nothing is below itself

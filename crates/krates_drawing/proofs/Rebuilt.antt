@@ -24,8 +24,8 @@ use Rattle.krates_drawing.proofs.Derivations.{one, crate_of_feature, kept_by, ne
 use Rattle.krates_drawing.proofs.Drawn.{drawn_in, has_drawn}
 use Rattle.krates_drawing.proofs.Holding.{Holds, holds}
 use Rattle.krates_drawing.proofs.Ignoring.{ignoring, root_alike, stands_alike, other_kind, wanted_alike}
-use Rattle.krates_drawing.proofs.Members.{Member, member_of, contains_of, Front, front_of}
-use Rattle.krates_drawing.proofs.Members as members
+use Rattle.krates_rules.proofs.Members.{Member, member_of, contains_of, Front, front_of}
+use Rattle.krates_rules.proofs.Members as members
 use Rattle.krates_drawing.proofs.NodeNumbers.{Stands, crate_stands, one_number}
 
 -- ---- the two builds

@@ -22,10 +22,10 @@ use Rattle.krates_selection.specs.declared.selection.KeptEdge.{KeptEdge}
 use Rattle.krates_selection.specs.declared.selection.Selection.{Selection}
 use Rattle.krates_drawing.specs.Alike.{IsSheetThere}
 use Rattle.krates_drawing.specs.Sheet.{Krate, IsKrate, Link, IsLink, asked_by, has_text, Meaning, OwnFeature, Crates, FeatureOf, Named, IsNamed, IsMeaning, Names, Sheet, IsSheet}
-use Rattle.krates_lookups.specs.FeatureValues.{values_of}
+use Rattle.krates_questions.specs.FeatureValues.{values_of}
 use Rattle.krates_drawing.proofs.Derivations.{child_kept, crate_of_feature, kept_by, kept_stands}
 use Rattle.krates_drawing.proofs.Holding.{crate_there, edge_there, feature_there}
-use Rattle.krates_drawing.proofs.Members.{Member, contains_of}
+use Rattle.krates_rules.proofs.Members.{Member, contains_of}
 use Rattle.krates_drawing.proofs.OneSheet.{listed_same}
 use Rattle.krates_drawing.proofs.Tests.{filter_same}
 use Rattle.krates_drawing.proofs.SaidAlike.{SaidAlike, said_alike, dependencies_same}

@@ -7,7 +7,7 @@ use Rattle.krates_drawing.specs.Sheet as model
 use Rattle.krates_drawing.specs.Sheet.{Sheet}
 use Rattle.krates_drawing.specs.declared.sheet.Link.{Link}
 use Rattle.krates_drawing.proofs.Arrows.{from_of}
-use Rattle.krates_drawing.proofs.Members.{Member, kept_of, member_map, member_of}
+use Rattle.krates_rules.proofs.Members.{Member, kept_of, member_map, member_of}
 
 -- some of the edges from p are edges from p
 pub sources_are : (t : Sheet) (v : Link → model.Link) (p : Id) (q : Link → Bool) (source : ℕ) (mine there : List Link) → map v mine ≡ from_crate t p → there ≡ filter q mine → source ≡ crate_number t p

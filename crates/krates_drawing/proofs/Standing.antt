@@ -7,7 +7,7 @@ use Rattle.krates_drawing.specs.Ends.{HasEnds, EndsStand}
 use Rattle.krates_drawing.proofs.Arrows.{drawn_of}
 use Rattle.krates_drawing.proofs.Closed.{ends_stand}
 use Rattle.krates_drawing.proofs.Holding.{holds}
-use Rattle.krates_drawing.proofs.Members.{Member}
+use Rattle.krates_rules.proofs.Members.{Member}
 use Rattle.krates_drawing.proofs.NodeNumbers.{number_below}
 
 pub each : {A : Type 0} (P : A → Type 0) (xs : List A) → ((x : A) → Member xs x → P x) → AllByRecursion P xs

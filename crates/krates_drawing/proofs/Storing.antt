@@ -6,7 +6,7 @@ use Rattle.krates_drawing.specs.Agreement.{IsOf, LeadsTo}
 use Rattle.krates_drawing.specs.Drawing.{Line, Spot}
 use Rattle.krates_drawing.specs.Stored.{IsStoredAs, LeadsAlong}
 use Rattle.krates_drawing.specs.declared.edge.Edge.{Edge}
-use Rattle.krates_drawing.proofs.Members.{member_of, contains_of, partner_of, swapped}
+use Rattle.krates_rules.proofs.Members.{member_of, contains_of, partner_of, swapped}
 
 -- stored edges lead where drawn ones lead
 pub stored_leads : {E : Type 0} (made : Edge → E → Type 0) (nodes : List Spot) (ls : List Line) (gs : List (GraphEdge E)) (p d : ℕ) → AllZip (IsStoredAs made) ls gs → LeadsTo nodes ls p d ↔ LeadsAlong nodes gs p d

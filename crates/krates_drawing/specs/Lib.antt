@@ -1,13 +1,17 @@
 pub mod Agreement
 pub mod Alike
 pub mod Connected
+pub mod Division
 pub mod Drawing
 pub mod EdgeText
 pub mod Ends
 pub mod Gathered
 pub mod Home
+pub mod Krate
 pub mod Limits
+pub mod Listed
 pub mod Narrower
+pub mod Node
 pub mod Origin
 pub mod Paths
 pub mod Rebuilding

@@ -11,7 +11,7 @@ use Rattle.krates_rules.specs.Questions.{IsDeclaredAt}
 use Rattle.krates_rules.specs.Referent.{AreReferents}
 use Rattle.krates_rules.specs.Resolved.{Resolved, id_of, HasPackage, HasNode}
 use Rattle.krates_rules.specs.Rules.{default_name}
-use Rattle.krates_lookups.specs.FeatureValues.{values_of}
+use Rattle.krates_questions.specs.FeatureValues.{values_of}
 use Rattle.krates_selection.specs.CrateNumbers.{id_at}
 use Rattle.krates_selection.specs.Selection.{edge_view}
 use Rattle.krates_rules.specs.Setting.{SettingModel}

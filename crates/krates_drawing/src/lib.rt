@@ -1,15 +1,20 @@
 //! The graph of a selection, drawn: what its nodes and edges are, as whole lists with their laws, and how they come
-//! into a stored graph.
+//! into a stored graph. And the packages of a document, as a build hands them on: divided into the selected ones and the others, each
+//! list in the order of the ids, and the others handed to a filter.
 #![tactic(auto)]
 
 mod crate_edges;
+pub mod division;
 pub mod edge;
 mod edge_count;
 mod feature_edges;
+pub mod filter;
 pub mod gather;
+pub mod krate;
 pub mod laws;
 pub mod limits;
 mod meanings;
+pub mod node;
 pub mod nodes;
 mod numbers;
 mod origin;
@@ -19,3 +24,5 @@ pub mod store;
 mod stretches;
 mod text_set;
 pub mod told;
+
+pub use filter::{FilterFn, NoneFilter, OnFilter};

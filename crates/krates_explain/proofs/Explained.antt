@@ -34,8 +34,8 @@ use Rattle.krates_rules.specs.Setting.{SettingModel}
 use Rattle.krates_rules.specs.Steps.{EachFollows, IsEarlier, StepModel}
 use Rattle.krates_rules.specs.Uses.{numbers_used}
 use Rattle.krates_rules.specs.declared.uses.Uses.{Uses}
-use Rattle.krates_steps.specs.Part.{AreBackward, HaveOwnNumbers, IsChosenFor, IsPartBy, SameFact}
-use Rattle.krates_steps.specs.Picked.{ArePicked, FirstsFollow, FirstsHaveOwnFacts, HaveTheseFacts, IsPicked, UseThese}
+use Rattle.krates_explain.specs.Part.{AreBackward, HaveOwnNumbers, IsChosenFor, IsPartBy, SameFact}
+use Rattle.krates_explain.specs.Picked.{ArePicked, FirstsFollow, FirstsHaveOwnFacts, HaveTheseFacts, IsPicked, UseThese}
 
 abbrev pub uses_of : List NumberedStep → List Uses
 uses_of steps = map (λ (x : NumberedStep). x.reason.uses) steps

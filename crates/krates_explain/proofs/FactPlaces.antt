@@ -11,7 +11,7 @@ use Rattle.krates_explain.specs.KeptFacts.{KeptModel}
 use Rattle.krates_explain.specs.declared.key.FactKey.{FactKey}
 use Rattle.krates_explain.proofs.KeyOrder.{key_from, key_to}
 use Rattle.krates_explain.proofs.PickedSteps.{pushed_at}
-use Rattle.krates_steps.specs.Part.{SameFact}
+use Rattle.krates_explain.specs.Part.{SameFact}
 
 is_equal : (o : Ordering) → is_eq o ≡ true → o ≡ Equal
 is_equal Less h = absurd cc

@@ -9,13 +9,13 @@ use Rattle.krates_explain.specs.Tables.{IsChildAt, IsKeptChild, IsKeptIn, IsKept
 use Rattle.krates_explain.specs.declared.keys.Tables.{Tables}
 use Rattle.krates_explain.proofs.FactPlaces.{zip_long}
 use Rattle.krates_ids.specs.Identity.{Identity, Reads}
-use Rattle.krates_lookups.proofs.Lookups.{one_id}
-use Rattle.krates_lookups.specs.CrateTable.{IsNumberOf, at_number}
-use Rattle.krates_lookups.specs.FeatureTable.{listed_view}
-use Rattle.krates_lookups.specs.ListedFeatures.{listed_features}
-use Rattle.krates_lookups.specs.Lookup.{IsLookup, IsNumberIn, resolved_view}
-use Rattle.krates_lookups.specs.declared.feature_table.ListedFeature.{ListedFeature}
-use Rattle.krates_lookups.specs.declared.lookup.Lookup.{Lookup}
+use Rattle.krates_questions.proofs.Lookups.{one_id}
+use Rattle.krates_questions.specs.CrateTable.{IsNumberOf, at_number}
+use Rattle.krates_questions.specs.FeatureTable.{listed_view}
+use Rattle.krates_questions.specs.ListedFeatures.{listed_features}
+use Rattle.krates_questions.specs.Lookup.{IsLookup, IsNumberIn, resolved_view}
+use Rattle.krates_questions.specs.declared.feature_table.ListedFeature.{ListedFeature}
+use Rattle.krates_questions.specs.declared.lookup.Lookup.{Lookup}
 use Rattle.krates_rules.proofs.OnlyOne.{place_in}
 use Rattle.krates_rules.proofs.Readings.{ReadsOnce, right_of}
 use Rattle.krates_rules.proofs.Standings.{contains_at}

@@ -1,8 +1,14 @@
+pub mod Chosen
 pub mod Explained
 pub mod FactPlaces
+pub mod FirstMarks
 pub mod KeptCrates
 pub mod KeptNumbers
 pub mod KeyOrder
 pub mod KeyedFacts
+pub mod Marks
+pub mod NeededParts
+pub mod PickedParts
 pub mod PickedSteps
+pub mod Places
 pub mod ToldParts

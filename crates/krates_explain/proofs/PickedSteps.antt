@@ -15,7 +15,7 @@ use Rattle.krates_explain.specs.declared.key.FactKey.{FactKey}
 use Rattle.krates_selection.specs.declared.trace.NumberedStep.{NumberedStep}
 use Rattle.krates_rules.specs.Uses.{numbers_used}
 use Rattle.krates_rules.specs.declared.uses.Uses.{Uses}
-use Rattle.krates_steps.specs.Picked.{ArePicked, IsPicked}
+use Rattle.krates_explain.specs.Picked.{ArePicked, IsPicked}
 
 pub pushed_at : {A : Type 0} (xs : List A) (y : A) (k : ℕ) (x : A) → slice_get (xs ++ y ∷ []) k ≡ Some x → (slice_get xs k ≡ Some x) ⊎ ((k ≡ length xs) × (x ≡ y))
 pushed_at [] y zero x at = inr (refl, sym (same_Some y x at))

@@ -12,8 +12,8 @@ use Rattle.krates_rules.specs.Facts.{Fact}
 use Rattle.krates_rules.specs.Steps.{StepModel}
 use Rattle.krates_rules.specs.Uses.{numbers_used}
 use Rattle.krates_rules.specs.declared.uses.Uses.{Uses}
-use Rattle.krates_steps.specs.Part.{IsPartBy}
-use Rattle.krates_steps.specs.Picked.{UseThese}
+use Rattle.krates_explain.specs.Part.{IsPartBy}
+use Rattle.krates_explain.specs.Picked.{UseThese}
 
 -- the steps use what their numbers stand for
 pub use_these : (kids : List Identity) (steps : List KeptStep) → UseThese (steps_in kids steps) (uses_in steps)

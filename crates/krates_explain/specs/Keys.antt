@@ -9,7 +9,7 @@ use Rattle.krates_explain.specs.declared.key.EdgeKey.{EdgeKey}
 use Rattle.krates_explain.specs.declared.key.FactKey.{FactKey}
 use Rattle.krates_explain.specs.declared.key.FactKey.TheVariants as keys
 use Rattle.krates_rules.specs.Kind.{written_of}
-use Rattle.krates_steps.specs.Part.{SameFact}
+use Rattle.krates_explain.specs.Part.{SameFact}
 
 -- the edge
 abbrev pub edge_view : EdgeKey → KeptModel

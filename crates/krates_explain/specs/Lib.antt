@@ -1,5 +1,10 @@
+pub mod Choice
 pub mod Chosen
 pub mod Explanation
+pub mod First
 pub mod KeptFacts
 pub mod Keys
+pub mod Needed
+pub mod Part
+pub mod Picked
 pub mod Tables

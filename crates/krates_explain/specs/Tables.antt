@@ -10,9 +10,9 @@ use Rattle.krates_explain.specs.declared.key.FeatureKey.{FeatureKey}
 use Rattle.krates_explain.specs.declared.keys.Tables.{Tables}
 use Rattle.krates_explain.specs.declared.kept.KeptStep.{KeptStep}
 use Rattle.krates_ids.specs.Identity.{Identity}
-use Rattle.krates_lookups.specs.CrateTable.{AreNumbered, AreNumbersOf}
-use Rattle.krates_lookups.specs.Lookup.{IsLookup, resolved_view}
-use Rattle.krates_lookups.specs.Numbering.{FeatureAt}
+use Rattle.krates_questions.specs.CrateTable.{AreNumbered, AreNumbersOf}
+use Rattle.krates_questions.specs.Lookup.{IsLookup, resolved_view}
+use Rattle.krates_questions.specs.Numbering.{FeatureAt}
 use Rattle.krates_selection.specs.CrateNumbers.{id_at}
 use Rattle.krates_selection.specs.Trace.{EdgeAt, HasSomeStep, Names}
 use Rattle.krates_selection.specs.declared.trace.NumberedFact.{NumberedFact}
@@ -23,7 +23,7 @@ use Rattle.krates_rules.specs.Resolved.{DepAt, HasNode, NodeAt, Resolved, Stands
 use Rattle.krates_rules.specs.Setting.{SettingModel}
 use Rattle.krates_rules.specs.StepParts.{HaveOwnFacts}
 use Rattle.krates_rules.specs.Steps.{EachFollows}
-use Rattle.krates_steps.specs.Part.{AreBackward}
+use Rattle.krates_explain.specs.Part.{AreBackward}
 
 abbrev pub document_in : Tables → Resolved
 document_in t = resolved_view t.lookup.now

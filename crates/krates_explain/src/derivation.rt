@@ -4,13 +4,13 @@ ghost use Rattle.std.specs.Prelude.{◌≡◌, ◌<◌, All, Contains, IfOk, len
 ghost use Rattle.krates_explain.specs.Explanation.{AreBelow, HasTheseIds, IsDerivationOf, IsExplanation, explained_steps, uses_in};
 ghost use Rattle.krates_explain.specs.KeptFacts.{facts_in, steps_in};
 ghost use Rattle.krates_rules.specs.StepViews.{facts_view, steps_view};
-ghost use Rattle.krates_steps.specs.Picked.{ArePicked};
+ghost use Rattle.krates_explain.specs.Picked.{ArePicked};
 
 use crate::kept::{Explanation, KeptStep};
 use crate::telling::{told, used};
 use krates_ids::Kid;
 use krates_rules::{Derivation, Fact, Step, Uses};
-use krates_steps::{Part, laws, part_for};
+use crate::{Part, laws, part_for};
 use std::alloc::{AllocError, Global};
 
 /// The derivation of the fact of the step with this number: of all steps those on which it stands, and itself at the end.

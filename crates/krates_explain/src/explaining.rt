@@ -5,7 +5,7 @@ ghost use Rattle.std.specs.List.Sorted.{IsStrictlySortedBy};
 ghost use Rattle.krates_explain.specs.Chosen.{AreChosen};
 ghost use Rattle.krates_explain.specs.Tables.{AreStepsOf, IsKeptIn};
 ghost use Rattle.krates_ids.specs.Identity.{id_cmp};
-ghost use Rattle.krates_lookups.specs.Lookup.{IsLookup};
+ghost use Rattle.krates_questions.specs.Lookup.{IsLookup};
 ghost use Rattle.krates_questions.specs.Basis.{Derives, document_of};
 ghost use Rattle.krates_selection.specs.Trace.{IsTrace};
 ghost use Rattle.krates_rules.specs.Facts.{Crate, Id};
@@ -15,11 +15,11 @@ use crate::key::{FactKey, fact_of};
 use crate::keys::{Tables, keys_of};
 use crate::numbering::numbers_of;
 use krates_ids::{Kid, laws};
-use krates_lookups::crate_table::numbers_of as crate_numbers_of;
+use krates_questions::crate_table::numbers_of as crate_numbers_of;
 use krates_questions::basis::Basis;
 use krates_rules::Uses;
 use krates_selection::NumberedStep;
-use krates_steps::{Part, first_steps, laws as step_laws};
+use crate::{Part, first_steps, laws as step_laws};
 use std::alloc::{AllocError, Global};
 
 /// The steps of a selection, with its crates by number: of each fact the first step, which uses the first steps of its premises.

@@ -16,9 +16,9 @@ use Rattle.krates_drawing.specs.declared.edge.Edge.{Edge}
 use Rattle.krates_graph.specs.declared.graph.edge.GraphEdge.{GraphEdge}
 use Rattle.krates_queries.specs.Drawn.{node_spot}
 use Rattle.krates_queries.specs.Kept.{KeptCrates}
-use Rattle.krates_queries.specs.Node.{crate_values}
-use Rattle.krates_queries.specs.declared.node.Node.{Node}
-use Rattle.krates_queries.specs.declared.node.Node.TheVariants as nodes
+use Rattle.krates_drawing.specs.Node.{crate_values}
+use Rattle.krates_drawing.specs.declared.node.Node.{Node}
+use Rattle.krates_drawing.specs.declared.node.Node.TheVariants as nodes
 use Rattle.krates_rules.specs.Setting.{SettingModel}
 use Rattle.krates.specs.Build.{IsBuilt, IsResolvable}
 use Rattle.krates_foreign.specs.DrawnLines.{DrawsPackages, crate_line, edge_line, edge_lines, feature_line, node_lines}

@@ -7,8 +7,8 @@ use Rattle.krates_drawing.specs.Drawing.{Line}
 use Rattle.krates_drawing.specs.Views.{tie_view}
 use Rattle.krates_drawing.specs.declared.edge.Edge.{Edge}
 use Rattle.krates_graph.specs.declared.graph.edge.GraphEdge.{GraphEdge}
-use Rattle.krates_queries.specs.declared.node.Node.{Node}
-use Rattle.krates_queries.specs.declared.node.Node.TheVariants as nodes
+use Rattle.krates_drawing.specs.declared.node.Node.{Node}
+use Rattle.krates_drawing.specs.declared.node.Node.TheVariants as nodes
 use Rattle.krates_foreign.specs.DrawnLines.{crate_line, edge_line, feature_line}
 
 -- the line of a node

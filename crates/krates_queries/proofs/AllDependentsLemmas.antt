@@ -5,13 +5,13 @@ use Rattle.std.proofs.lemmas.Option.{same_Some, none-some}
 use Rattle.std.specs.List.{cons_option, filter_map}
 use Rattle.std.specs.List.Sorted.{IsStrictlySortedBy}
 use Rattle.std.specs.Ordering.{nat_cmp}
-use Rattle.krates_drawing.proofs.Members.{Member, contains_of, member_of}
+use Rattle.krates_rules.proofs.Members.{Member, contains_of, member_of}
 use Rattle.krates_graph.specs.declared.graph.edge.GraphEdge.{GraphEdge}
 use Rattle.krates_queries.specs.AllDependents.{AreAllDependents, match_at, match_in}
 use Rattle.krates_queries.specs.KrateNodes.{Match, numbered_crates}
 use Rattle.krates_queries.specs.Reaches.{HasPath}
-use Rattle.krates_queries.specs.declared.node.Node.{Node}
-use Rattle.krates_queries.specs.declared.node.Node.TheVariants.{Krate, Feature}
+use Rattle.krates_drawing.specs.declared.node.Node.{Node}
+use Rattle.krates_drawing.specs.declared.node.Node.TheVariants.{Krate, Feature}
 
 -- ---- a crate among the nodes
 

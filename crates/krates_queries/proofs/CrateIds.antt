@@ -5,9 +5,9 @@ use Rattle.std.specs.List.{slice_get}
 use Rattle.krates_selection.specs.CrateNumbers.{id_at, no_id}
 use Rattle.krates_ids.specs.Identity.{Identity}
 use Rattle.krates_rules.specs.Resolved.{id_of}
-use Rattle.krates_queries.specs.Node.{crate_ids}
-use Rattle.krates_queries.specs.declared.node.Node.{Node}
-use Rattle.krates_queries.specs.declared.node.Node.TheVariants.{Krate, Feature}
+use Rattle.krates_drawing.specs.Node.{crate_ids}
+use Rattle.krates_drawing.specs.declared.node.Node.{Node}
+use Rattle.krates_drawing.specs.declared.node.Node.TheVariants.{Krate, Feature}
 
 -- there are no more crates than nodes
 pub as_few_crates : {N : Type 0} (nodes : List (Node N)) (n : ℕ) → n < length (crate_ids nodes) → n < length nodes

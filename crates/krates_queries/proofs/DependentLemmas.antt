@@ -2,7 +2,7 @@
 use Rattle.std.proofs.Common.{◌≡◌, ℕ, ◌<◌, List, All, Option, Some, None, map, length, slice_get, Contains, refl, sym, subst, inl, inr}
 use Rattle.std.proofs.lemmas.List.Elements.{All-contains}
 use Rattle.std.proofs.lemmas.Option.{none-some}
-use Rattle.krates_drawing.proofs.Members.{contains_of, member_map, member_of}
+use Rattle.krates_rules.proofs.Members.{contains_of, member_map, member_of}
 use Rattle.krates_drawing.specs.Paths.{Reaches, begins, goes_on}
 use Rattle.krates_graph.specs.Graph.{HasEnds}
 use Rattle.krates_graph.specs.declared.graph.edge.GraphEdge.{GraphEdge}
@@ -12,8 +12,8 @@ use Rattle.krates_queries.specs.Direct.{AreConnected, HasEdge, Joined, value_in}
 use Rattle.krates_queries.specs.DirectDependents.{IsDependent}
 use Rattle.krates_queries.specs.KrateNodes.{Match, numbered_crates}
 use Rattle.krates_queries.specs.Reaches.{HasPath}
-use Rattle.krates_queries.specs.declared.node.Node.{Node}
-use Rattle.krates_queries.specs.declared.node.Node.TheVariants.{Krate, Feature}
+use Rattle.krates_drawing.specs.declared.node.Node.{Node}
+use Rattle.krates_drawing.specs.declared.node.Node.TheVariants.{Krate, Feature}
 use Rattle.krates_queries.proofs.AllDependentsLemmas.{there_crate}
 
 pub dependents_reach : {N E : Type 0} (nodes : List (Node N)) (edges : List (GraphEdge E)) → DependentsReach nodes edges

@@ -8,8 +8,8 @@ use Rattle.krates_graph.specs.declared.graph.edge.Direction.{Direction}
 use Rattle.krates_graph.specs.declared.graph.edge.GraphEdge.{GraphEdge}
 use Rattle.krates_graph.specs.Graph.{HasEnds, edges_at, end_of, is_at, numbers_at}
 use Rattle.krates_queries.specs.GetDeps.{target_of, targets_of}
-use Rattle.krates_queries.specs.declared.node.Node.{Node}
-use Rattle.krates_drawing.proofs.Members.{Member, mapped_of, member_map, kept_of, member_filter}
+use Rattle.krates_drawing.specs.declared.node.Node.{Node}
+use Rattle.krates_rules.proofs.Members.{Member, mapped_of, member_map, kept_of, member_filter}
 
 -- ---- which they are
 

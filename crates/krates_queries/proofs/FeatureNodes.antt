@@ -19,13 +19,13 @@ use Rattle.krates_rules.specs.Facts.{Id}
 use Rattle.krates_rules.specs.Resolved.{StandsAt}
 use Rattle.krates_queries.specs.GetNode.{IsNumberFor}
 use Rattle.krates_queries.specs.Kept.{AreNodes, IsEnabledIn, feature_order}
-use Rattle.krates_queries.specs.Node.{CratesFirst, IsFeature, IsFeatureAt, crate_features, crate_ids, feature_names}
+use Rattle.krates_drawing.specs.Node.{CratesFirst, IsFeature, IsFeatureAt, crate_features, crate_ids, feature_names}
 use Rattle.krates_queries.specs.NodeOrder.{feature_cmp}
-use Rattle.krates_queries.specs.declared.node.Node.{Node}
-use Rattle.krates_queries.specs.declared.node.Node.TheVariants.{Krate, Feature}
-use Rattle.krates_drawing.proofs.Members.{Member, contains_of, member_of}
+use Rattle.krates_drawing.specs.declared.node.Node.{Node}
+use Rattle.krates_drawing.specs.declared.node.Node.TheVariants.{Krate, Feature}
+use Rattle.krates_rules.proofs.Members.{Member, contains_of, member_of}
 use Rattle.krates_queries.proofs.NodeLemmas.{Rises, rising, none_first, stands_among}
-use Rattle.krates_queries.proofs.OrderedIds.{none_equal}
+use Rattle.krates_rules.proofs.OrderedIds.{none_equal}
 
 -- ---- the order
 

@@ -23,12 +23,12 @@ use Rattle.krates_queries.specs.DirectDependencies.{AreDependencies, home, home_
 use Rattle.krates_queries.specs.DirectDependents.{AreDependents, IsDependent, source_in, sources_into, sources_over, sources_to}
 use Rattle.krates_queries.specs.Drawn.{node_spot}
 use Rattle.krates_queries.specs.Neighbours.{AreInOrder, first_edge}
-use Rattle.krates_queries.specs.declared.node.Node.{Node}
-use Rattle.krates_queries.specs.declared.node.Node.TheVariants.{Krate, Feature}
+use Rattle.krates_drawing.specs.declared.node.Node.{Node}
+use Rattle.krates_drawing.specs.declared.node.Node.TheVariants.{Krate, Feature}
 use Rattle.krates_queries.specs.declared.queries.neighbours.Neighbour.{Neighbour}
 use Rattle.krates_queries.proofs.EdgeNumbers.{edge_at, at_edge, contains_got}
 use Rattle.krates_queries.proofs.NeighbourLemmas.{first_is, first_least, first_there}
-use Rattle.krates_drawing.proofs.Members.{Member, member_of, contains_of, member_append, member_left, member_right, member_map, kept_of, member_filter, spread_of, member_spread}
+use Rattle.krates_rules.proofs.Members.{Member, member_of, contains_of, member_append, member_left, member_right, member_map, kept_of, member_filter, spread_of, member_spread}
 
 -- ---- where an edge leads
 

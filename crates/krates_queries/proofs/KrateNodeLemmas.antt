@@ -4,9 +4,9 @@ use Rattle.std.proofs.lemmas.List.Elements.{All-from_recursion}
 use Rattle.std.specs.List.{AllByRecursion, range_with_len}
 use Rattle.krates_ids.specs.Identity.{Identity}
 use Rattle.krates_queries.specs.KrateNodes.{Match, numbered_crates}
-use Rattle.krates_queries.specs.Node.{crate_ids, crate_values, CratesFirst}
-use Rattle.krates_queries.specs.declared.node.Node.{Node}
-use Rattle.krates_queries.specs.declared.node.Node.TheVariants.{Krate, Feature}
+use Rattle.krates_drawing.specs.Node.{crate_ids, crate_values, CratesFirst}
+use Rattle.krates_drawing.specs.declared.node.Node.{Node}
+use Rattle.krates_drawing.specs.declared.node.Node.TheVariants.{Krate, Feature}
 
 -- their ids are those of the crates among the nodes
 pub same_ids : {N : Type 0} (n : ℕ) (nodes : List (Node N)) → map (λ m. m.id) (numbered_crates n nodes) ≡ crate_ids nodes

@@ -8,7 +8,6 @@ pub mod CrateIds
 pub mod MatchLemmas
 pub mod NodeLemmas
 pub mod NeighbourLemmas
-pub mod OrderedIds
 pub mod PathLemmas
 pub mod ReachedLemmas
 pub mod WhyLemmas

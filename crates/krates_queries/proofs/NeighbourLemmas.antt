@@ -11,7 +11,7 @@ use Rattle.std.specs.Cmp.{IsTotalOrder, nat_cmp_is}
 use Rattle.std.specs.List.{find}
 use Rattle.std.specs.List.Sorted.{IsNonDecreasingBy, IsPartitionPoint}
 use Rattle.std.specs.Ordering.{is_lt, nat_cmp, ordering_then}
-use Rattle.krates_drawing.proofs.Members.{Member, contains_of}
+use Rattle.krates_rules.proofs.Members.{Member, contains_of}
 use Rattle.krates_queries.specs.Neighbours.{AreInOrder, first_edge, neighbour_cmp}
 use Rattle.krates_queries.specs.declared.queries.neighbours.Neighbour.{Neighbour}
 

@@ -15,11 +15,11 @@ use Rattle.krates_ids.specs.Identity.{Identity, id_cmp}
 use Rattle.krates_rules.specs.Facts.{Id}
 use Rattle.krates_rules.specs.Resolved.{id_of, StandsAt}
 use Rattle.krates_queries.specs.Kept.{AreNodes, HasFeatures}
-use Rattle.krates_queries.specs.Node.{crate_ids, crate_values, crate_features, CratesFirst, names_in}
+use Rattle.krates_drawing.specs.Node.{crate_ids, crate_values, crate_features, CratesFirst, names_in}
 use Rattle.krates_queries.specs.NodeOrder.{node_cmp}
-use Rattle.krates_queries.specs.declared.node.Node.{Node}
-use Rattle.krates_queries.specs.declared.node.Node.TheVariants.{Krate, Feature}
-use Rattle.krates_queries.proofs.OrderedIds.{Compares, id_of_equal, equal_of, sorted_weakly, none_equal, one_place, stands_within, stands_same}
+use Rattle.krates_drawing.specs.declared.node.Node.{Node}
+use Rattle.krates_drawing.specs.declared.node.Node.TheVariants.{Krate, Feature}
+use Rattle.krates_rules.proofs.OrderedIds.{Compares, id_of_equal, equal_of, sorted_weakly, none_equal, one_place, stands_within, stands_same}
 
 -- ---- as many values as ids
 

@@ -7,7 +7,7 @@ use Rattle.krates_drawing.specs.Drawing.{Line}
 use Rattle.krates_drawing.specs.Paths.{LeadsWithout, Passes, Reaches, begins, goes_on}
 use Rattle.krates_drawing.specs.Views.{tie_view}
 use Rattle.krates_drawing.specs.declared.edge.Edge.{Edge}
-use Rattle.krates_drawing.proofs.Members.{contains_of, mapped_of, member_any, member_map, member_of, passing_of}
+use Rattle.krates_rules.proofs.Members.{contains_of, mapped_of, member_any, member_map, member_of, passing_of}
 use Rattle.krates_graph.specs.declared.graph.edge.Direction.TheVariants.{Outgoing, Incoming}
 use Rattle.krates_graph.specs.declared.graph.edge.GraphEdge.{GraphEdge}
 use Rattle.krates_rules.specs.declared.kind.DepKind.{DepKind}
@@ -15,7 +15,7 @@ use Rattle.krates_queries.specs.Direct.{HasEdge}
 use Rattle.krates_queries.specs.KratesFiltered.{IsReached, line_view}
 use Rattle.krates_queries.specs.Reached.{IsNext}
 use Rattle.krates_queries.specs.Reaches.{HasPath}
-use Rattle.krates_queries.specs.declared.node.Node.{Node}
+use Rattle.krates_drawing.specs.declared.node.Node.{Node}
 
 -- ---- paths beside paths
 

@@ -13,7 +13,7 @@ use Rattle.krates_graph.specs.declared.graph.edge.Direction.TheVariants.{Outgoin
 use Rattle.krates_graph.specs.declared.graph.edge.GraphEdge.{GraphEdge}
 use Rattle.krates_queries.specs.Reached.{Grows, IsFarEnd, IsFarEndOf, IsNext, far_end}
 use Rattle.krates_queries.proofs.EdgeNumbers.{edge_at, at_edge, got, contains_got}
-use Rattle.krates_drawing.proofs.Members.{member_of, contains_of}
+use Rattle.krates_rules.proofs.Members.{member_of, contains_of}
 
 -- ---- putting numbers
 

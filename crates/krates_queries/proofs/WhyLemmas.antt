@@ -13,10 +13,10 @@ use Rattle.krates_queries.proofs.CrateIds.{crate_id}
 use Rattle.krates_queries.proofs.NodeLemmas.{place_at}
 use Rattle.krates_queries.specs.Explained.{AreExplained, node_says}
 use Rattle.krates_queries.specs.Kept.{AreNodes, KeptCrates, ids_of}
-use Rattle.krates_queries.specs.Node.{CratesFirst, crate_ids}
+use Rattle.krates_drawing.specs.Node.{CratesFirst, crate_ids}
 use Rattle.krates_queries.specs.Why.{IsWhy, node_fact}
-use Rattle.krates_queries.specs.declared.node.Node.{Node}
-use Rattle.krates_queries.specs.declared.node.Node.TheVariants as nodes_are
+use Rattle.krates_drawing.specs.declared.node.Node.{Node}
+use Rattle.krates_drawing.specs.declared.node.Node.TheVariants as nodes_are
 
 -- the fact of a node is what the node says
 says_fact : {N : Type 0} (nodes : List (Node N)) (n : ℕ) (node : Node N) → CratesFirst nodes → slice_get nodes n ≡ Some node → fact_in (crate_ids nodes) (node_says n node) ≡ node_fact (crate_ids nodes) node

@@ -5,8 +5,8 @@ use Rattle.std.specs.Ordering.{nat_cmp}
 use Rattle.krates_graph.specs.declared.graph.edge.GraphEdge.{GraphEdge}
 use Rattle.krates_queries.specs.KrateNodes.{Match, numbered_crates}
 use Rattle.krates_queries.specs.Reaches.{HasPath}
-use Rattle.krates_queries.specs.declared.node.Node.{Node}
-use Rattle.krates_queries.specs.declared.node.Node.TheVariants.{Krate, Feature}
+use Rattle.krates_drawing.specs.declared.node.Node.{Node}
+use Rattle.krates_drawing.specs.declared.node.Node.TheVariants.{Krate, Feature}
 
 -- The crates are, by number, each once, exactly those of the kept ones from which a path of edges leads to `d`.
 pub record AreAllDependents {N E : Type 0} (nodes : List (Node N)) (edges : List (GraphEdge E)) (d : ℕ) (crates : List (Match N)) : Type 0 where

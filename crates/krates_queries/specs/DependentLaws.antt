@@ -7,7 +7,7 @@ use Rattle.krates_queries.specs.Direct.{AreConnected, Joined}
 use Rattle.krates_queries.specs.DirectDependents.{AreDependents}
 use Rattle.krates_queries.specs.KrateNodes.{Match, numbered_crates}
 use Rattle.krates_queries.specs.Reaches.{TellsPath}
-use Rattle.krates_queries.specs.declared.node.Node.{Node}
+use Rattle.krates_drawing.specs.declared.node.Node.{Node}
 
 -- A kept crate is among all dependents of a node exactly if the answer is yes whether it reaches the node.
 abbrev pub DependentsReach : {N E : Type 0} → List (Node N) → List (GraphEdge E) → Type 0

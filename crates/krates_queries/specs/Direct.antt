@@ -1,5 +1,5 @@
 -- Crates that are joined by an edge: which edge it is, and what stands for a crate.
-use Rattle.std.specs.Prelude.{◌≡◌, ◌≤◌, ◌<◌, ◌^◌, ◌↔◌, ℕ, length, Bool, false, ◌==◌, List, Option, Some, None, All, Contains, map, slice_get}
+use Rattle.std.specs.Prelude.{◌≡◌, ◌≤◌, ◌<◌, ◌^◌, ◌↔◌, ℕ, length, Bool, false, List, Option, Some, None, All, Contains, map, slice_get}
 use Rattle.std.specs.List.{filter_map}
 use Rattle.std.specs.List.Sorted.{IsStrictlySortedBy}
 use Rattle.std.specs.Ordering.{nat_cmp}
@@ -8,10 +8,11 @@ use Rattle.krates_drawing.specs.Agreement.{DependsOn, IsOf}
 use Rattle.krates_drawing.specs.Drawing.{FeatureSpot}
 use Rattle.krates_drawing.specs.Stored.{LeadsAlong}
 use Rattle.krates_graph.specs.declared.graph.edge.GraphEdge.{GraphEdge}
+use Rattle.krates_drawing.specs.Node.{is_own_feature}
 use Rattle.krates_ids.specs.Identity.{Identity}
 use Rattle.krates_queries.specs.Drawn.{node_spot}
-use Rattle.krates_queries.specs.declared.node.Node.{Node}
-use Rattle.krates_queries.specs.declared.node.Node.TheVariants.{Krate, Feature}
+use Rattle.krates_drawing.specs.declared.node.Node.{Node}
+use Rattle.krates_drawing.specs.declared.node.Node.TheVariants.{Krate, Feature}
 
 -- ---- crates by number
 
@@ -86,8 +87,7 @@ pub record AreConnected {N E : Type 0} (nodes : List (Node N)) (edges : List (Gr
 -- whether the number is that of a feature of d
 abbrev pub is_feature_in : {N : Type 0} → ℕ → Option (Node N) → Bool
 is_feature_in d None = false
-is_feature_in d (Some (Krate id krate features mapping)) = false
-is_feature_in d (Some (Feature krate_index name)) = krate_index == d
+is_feature_in d (Some node) = is_own_feature d node
 
 abbrev pub is_feature_of : {N : Type 0} → List (Node N) → ℕ → ℕ → Bool
 is_feature_of nodes d n = is_feature_in d (slice_get nodes n)

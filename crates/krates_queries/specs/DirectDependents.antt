@@ -7,7 +7,7 @@ use Rattle.krates_graph.specs.declared.graph.edge.GraphEdge.{GraphEdge}
 use Rattle.krates_graph.specs.Graph.{numbers_at}
 use Rattle.krates_queries.specs.Direct.{Joined, AreJoined, IsLeastEdge, is_feature_of, value_at}
 use Rattle.krates_queries.specs.Drawn.{node_spot}
-use Rattle.krates_queries.specs.declared.node.Node.{Node}
+use Rattle.krates_drawing.specs.declared.node.Node.{Node}
 use Rattle.krates_queries.specs.declared.queries.neighbours.Neighbour.{Neighbour}
 use Rattle.krates_queries.specs.declared.queries.direct_dependents.DirectDependent.{DirectDependent}
 

@@ -11,8 +11,8 @@ use Rattle.krates_selection.specs.Selection.{IsSelection}
 use Rattle.krates_selection.specs.declared.selection.Selection.{Selection}
 use Rattle.krates_rules.specs.Resolved.{HasGraphWith, Resolved, id_of, resolved}
 use Rattle.krates_rules.specs.Setting.{SettingModel}
-use Rattle.krates_queries.specs.declared.node.Node.{Node}
-use Rattle.krates_queries.specs.declared.node.Node.TheVariants.{Krate, Feature}
+use Rattle.krates_drawing.specs.declared.node.Node.{Node}
+use Rattle.krates_drawing.specs.declared.node.Node.TheVariants.{Krate, Feature}
 
 -- the drawn node that a node stands for: a crate with its mapping, or a feature of the crate of a number
 abbrev pub node_spot : {N : Type 0} → Node N → Spot

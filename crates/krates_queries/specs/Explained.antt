@@ -13,11 +13,11 @@ use Rattle.krates_rules.specs.Resolved.{HasGraphWith, resolved}
 use Rattle.krates_rules.specs.Setting.{SettingModel}
 use Rattle.krates_rules.specs.StepParts.{HaveOwnFacts}
 use Rattle.krates_rules.specs.Steps.{EachFollows, StepModel}
-use Rattle.krates_steps.specs.Part.{AreBackward}
+use Rattle.krates_explain.specs.Part.{AreBackward}
 use Rattle.krates_queries.specs.Kept.{KeptCrates}
-use Rattle.krates_queries.specs.Node.{crate_ids}
-use Rattle.krates_queries.specs.declared.node.Node.{Node}
-use Rattle.krates_queries.specs.declared.node.Node.TheVariants.{Krate, Feature}
+use Rattle.krates_drawing.specs.Node.{crate_ids}
+use Rattle.krates_drawing.specs.declared.node.Node.{Node}
+use Rattle.krates_drawing.specs.declared.node.Node.TheVariants.{Krate, Feature}
 
 -- the steps that a build keeps
 abbrev pub steps_of : {N E : Type 0} → KeptCrates N E → List StepModel

@@ -4,7 +4,7 @@ use Rattle.std.specs.List.{filter_map}
 use Rattle.krates_graph.specs.declared.graph.edge.Direction.TheVariants.{Outgoing}
 use Rattle.krates_graph.specs.declared.graph.edge.GraphEdge.{GraphEdge}
 use Rattle.krates_graph.specs.Graph.{numbers_at}
-use Rattle.krates_queries.specs.declared.node.Node.{Node}
+use Rattle.krates_drawing.specs.declared.node.Node.{Node}
 
 -- the node at the end of an edge, with what the edge carries
 abbrev pub target_of : {N E : Type 0} → List (Node N) → Option (GraphEdge E) → Option (Node N × E)

@@ -3,8 +3,8 @@ use Rattle.std.specs.Prelude.{◌≡◌, ℕ, List, Option, Some, None}
 use Rattle.krates_cm.specs.Document.{Text}
 use Rattle.krates_rules.specs.Facts.{Id}
 use Rattle.krates_rules.specs.Resolved.{StandsAt}
-use Rattle.krates_queries.specs.Node.{IsFeatureAt, crate_ids}
-use Rattle.krates_queries.specs.declared.node.Node.{Node}
+use Rattle.krates_drawing.specs.Node.{IsFeatureAt, crate_ids}
+use Rattle.krates_drawing.specs.declared.node.Node.{Node}
 
 -- `n` is the number of the node of the crate of this number, or, if a feature is named, of the feature's node
 abbrev pub IsNumberIn : {N : Type 0} → List (Node N) → ℕ → Option Text → ℕ → Type 0

@@ -13,8 +13,8 @@ use Rattle.krates_ids.specs.Identity.{Identity, id_cmp}
 use Rattle.krates_rules.specs.Facts.{Id}
 use Rattle.krates_rules.specs.Resolved.{StandsAt}
 use Rattle.krates_selection.specs.declared.work.Work.{Work}
-use Rattle.krates_queries.specs.Node.{crate_ids, crate_values, crate_features, CratesFirst, feature_names, names_in}
-use Rattle.krates_queries.specs.declared.node.Node.{Node}
+use Rattle.krates_drawing.specs.Node.{crate_ids, crate_values, crate_features, CratesFirst, feature_names, names_in}
+use Rattle.krates_drawing.specs.declared.node.Node.{Node}
 
 -- the graph, the numbers of the members of the workspace, its path, how much work it was, and why all of that is kept
 pub record KeptCrates (N E : Type 0) : Type 0 where

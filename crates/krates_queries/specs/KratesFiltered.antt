@@ -10,7 +10,7 @@ use Rattle.krates_drawing.specs.declared.edge.Edge.{Edge}
 use Rattle.krates_graph.specs.declared.graph.edge.GraphEdge.{GraphEdge}
 use Rattle.krates_rules.specs.declared.kind.DepKind.{DepKind}
 use Rattle.krates_queries.specs.Direct.{value_at}
-use Rattle.krates_queries.specs.declared.node.Node.{Node}
+use Rattle.krates_drawing.specs.declared.node.Node.{Node}
 
 -- the stored edge, as the definition of paths sees it
 abbrev pub line_view : GraphEdge Edge → Line

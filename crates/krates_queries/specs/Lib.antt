@@ -12,7 +12,6 @@ pub mod KrateNodes
 pub mod KratesFiltered
 pub mod Matches
 pub mod Neighbours
-pub mod Node
 pub mod NodeOrder
 pub mod Reached
 pub mod Reaches

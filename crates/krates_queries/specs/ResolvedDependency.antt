@@ -1,8 +1,8 @@
 -- The crate that a declared dependency means.
 use Rattle.std.specs.Prelude.{ℕ, List, Option, Some, None, slice_get}
 use Rattle.krates_queries.specs.Direct.{value_at}
-use Rattle.krates_queries.specs.declared.node.Node.{Node}
-use Rattle.krates_queries.specs.declared.node.Node.TheVariants.{Krate, Feature}
+use Rattle.krates_drawing.specs.declared.node.Node.{Node}
+use Rattle.krates_drawing.specs.declared.node.Node.TheVariants.{Krate, Feature}
 
 -- the number of that crate, among the entries of a mapping
 abbrev pub entry_in : Option (Option ℕ) → Option ℕ

@@ -15,8 +15,8 @@ use Rattle.krates_rules.specs.StepParts.{HaveOwnFacts, IsUsedLater}
 use Rattle.krates_rules.specs.Steps.{EachFollows, EndsIn, IsAccepted}
 use Rattle.krates_queries.specs.Explained.{steps_of}
 use Rattle.krates_queries.specs.Kept.{KeptCrates, ids_of}
-use Rattle.krates_queries.specs.declared.node.Node.{Node}
-use Rattle.krates_queries.specs.declared.node.Node.TheVariants.{Krate, Feature}
+use Rattle.krates_drawing.specs.declared.node.Node.{Node}
+use Rattle.krates_drawing.specs.declared.node.Node.TheVariants.{Krate, Feature}
 
 -- that the crate of the node is kept, or its feature enabled
 abbrev pub node_fact : {N : Type 0} → List Identity → Node N → Fact

@@ -5,9 +5,9 @@ ghost use Rattle.std.specs.Iterator.{YieldsFirstRef, item_count};
 ghost use Rattle.krates_queries.specs.Direct.{AreConnected};
 ghost use Rattle.krates_queries.specs.Explained.{AreExplained};
 ghost use Rattle.krates_queries.specs.Kept.{AreCrateNumbers, AreFeatures, AreNodes, AreOrdered, ids_of, values_of};
-ghost use Rattle.krates_queries.specs.Node.{CratesFirst, crate_ids};
+ghost use Rattle.krates_drawing.specs.Node.{CratesFirst, crate_ids};
 
-use crate::node::Node;
+use krates_drawing::node::Node;
 use krates_cm::Package;
 use krates_drawing::edge::Edge;
 use krates_explain::Explanation;
@@ -44,7 +44,7 @@ impl<N, E> Model for Krates<N, E> {
     ghost use Rattle.krates_queries.specs.Direct.{AreConnected};
     ghost use Rattle.krates_queries.specs.Explained.{AreExplained};
     ghost use Rattle.krates_queries.specs.Kept.{AreCrateNumbers, AreNodes, KeptCrates};
-    ghost use Rattle.krates_queries.specs.Node.{crate_ids};
+    ghost use Rattle.krates_drawing.specs.Node.{crate_ids};
 
     ghost Value = { KeptCrates N E };
 
@@ -205,7 +205,7 @@ pub struct KratesIter<'a, N> {
 
 impl<'a, N> Model for KratesIter<'a, N> {
     ghost use Rattle.std.specs.Prelude.{List};
-    ghost use Rattle.krates_queries.specs.Node.{crate_values};
+    ghost use Rattle.krates_drawing.specs.Node.{crate_values};
 
     ghost Value = { List N };
 

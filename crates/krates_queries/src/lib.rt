@@ -4,6 +4,5 @@
 pub mod from_package;
 pub mod kept;
 pub mod laws;
-pub mod node;
 pub mod numbers;
 pub mod queries;

@@ -3,10 +3,10 @@
 ghost use Rattle.std.specs.Prelude.{◌≡◌, ◌↔◌, ◌<◌, ℕ, Some, length, option_map, slice_get};
 ghost use Rattle.krates_rules.specs.Resolved.{id_of, StandsAt};
 ghost use Rattle.krates_queries.specs.Kept.{AreNodes};
-ghost use Rattle.krates_queries.specs.Node.{crate_ids, crate_features, names_in};
+ghost use Rattle.krates_drawing.specs.Node.{crate_ids, crate_features, names_in};
 ghost use Rattle.krates_queries.specs.NodeOrder.{node_cmp};
 
-use crate::node::{EnabledFeatures, Node};
+use krates_drawing::node::{EnabledFeatures, Node};
 use krates_ids::{Kid, laws};
 use std::cmp::Ordering;
 

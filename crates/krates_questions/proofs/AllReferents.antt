@@ -16,9 +16,9 @@ use Rattle.krates_rules.specs.Admission.{NoneDoubled}
 use Rattle.krates_rules.specs.Facts.{Id}
 use Rattle.krates_rules.specs.Referent.{AnswersTo, AreReferents, IsReferent, id_order}
 use Rattle.krates_rules.specs.Resolved.{DepAt, HasDep, HasNode, Resolved, id_of}
-use Rattle.krates_lookups.specs.NodeEntry.{AreParts, krate_of}
-use Rattle.krates_lookups.specs.declared.node_entry.NodeEntry.{NodeEntry}
-use Rattle.krates_lookups.specs.declared.node_entry.NodeParts.{NodeParts}
+use Rattle.krates_questions.specs.NodeEntry.{AreParts, krate_of}
+use Rattle.krates_questions.specs.declared.node_entry.NodeEntry.{NodeEntry}
+use Rattle.krates_questions.specs.declared.node_entry.NodeParts.{NodeParts}
 use Rattle.krates_questions.specs.LookedUp.{IsEntryBetween}
 use Rattle.krates_questions.specs.ReferentPlace.{AnswersAs, AnswersAt, AnswersBefore, AreReferentsIn, FindsMore, HasAnswering, IsReferentAt, IsReferentIn, referent_id}
 use Rattle.krates_questions.specs.declared.referent.Referent.{Referent}
@@ -26,8 +26,8 @@ use Rattle.krates_rules.proofs.OnlyOne.{one_dep, place_in}
 use Rattle.krates_rules.proofs.Readings.{ReadsOnce}
 use Rattle.krates_rules.proofs.Standings.{contains_at}
 use Rattle.krates_document.proofs.DistinctIds.{OrderTellsSame, id_of_same}
-use Rattle.krates_document.proofs.FirstPlaces.{seen_at}
-use Rattle.krates_lookups.proofs.NodeParts.{dep_of_child}
+use Rattle.krates_rules.proofs.FirstPlaces.{seen_at}
+use Rattle.krates_questions.proofs.NodeParts.{dep_of_child}
 use Rattle.krates_questions.proofs.DepPlaces.{one_dep_place}
 use Rattle.krates_questions.proofs.LeastReferents.{answers_there, named_there}
 use Rattle.krates_questions.proofs.OneReferent.{one_referent}

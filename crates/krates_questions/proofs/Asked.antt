@@ -8,8 +8,8 @@ use Rattle.krates_ids.specs.Identity.{Identity, Reads}
 use Rattle.krates_rules.specs.Admission.{NoneDoubled, dep_texts}
 use Rattle.krates_rules.specs.DeclaredDependency.{dependency_entry, IsDeclared, IsFirstPlace}
 use Rattle.krates_rules.specs.Facts.{Id, Edge}
-use Rattle.krates_lookups.specs.Lookup.{resolved_view}
-use Rattle.krates_lookups.specs.NodeEntry.{AreParts, IsEntry, IsEntryOf, parent_of, child_of, declared_in, entry_of, edge_for}
+use Rattle.krates_questions.specs.Lookup.{resolved_view}
+use Rattle.krates_questions.specs.NodeEntry.{AreParts, IsEntry, IsEntryOf, parent_of, child_of, declared_in, entry_of, edge_for}
 use Rattle.krates_questions.specs.LookedUp.{ArePartsOf, NoDep, IsEntryBetween, IsDeclaredFor, TellsDeclared}
 use Rattle.krates_rules.specs.Questions.{edge_between, Declares, Stands, IsWanted, questions}
 use Rattle.krates_rules.specs.Resolved.{NodeAt, Resolved, id_of, ReadsAs, HasNode, HasDep, StandsAt}
@@ -18,16 +18,16 @@ use Rattle.krates_questions.specs.RootOrder.{ArePicked, nothing, picked, passed,
 use Rattle.krates_rules.specs.Roots.{IsRoot}
 use Rattle.krates_rules.specs.Rules.{Open}
 use Rattle.krates_rules.specs.Setting.{SettingModel, IsIgnored, Passes}
-use Rattle.krates_lookups.specs.CrateTable.{IsPlaceOf}
-use Rattle.krates_lookups.specs.declared.lookup.Lookup.{Lookup}
-use Rattle.krates_lookups.specs.declared.node_entry.NodeEntry.{NodeEntry}
-use Rattle.krates_lookups.specs.declared.node_entry.NodeParts.{NodeParts}
+use Rattle.krates_questions.specs.CrateTable.{IsPlaceOf}
+use Rattle.krates_questions.specs.declared.lookup.Lookup.{Lookup}
+use Rattle.krates_questions.specs.declared.node_entry.NodeEntry.{NodeEntry}
+use Rattle.krates_questions.specs.declared.node_entry.NodeParts.{NodeParts}
 use Rattle.krates_rules.proofs.Readings.{ReadsOnce, right_of}
 use Rattle.krates_document.proofs.DeclaredOnce.{declared_stands}
 use Rattle.krates_questions.proofs.Entries.{Heeds, wanted}
-use Rattle.krates_document.proofs.FirstPlaces.{seen_at}
-use Rattle.krates_lookups.proofs.Lookups.{one_id}
-use Rattle.krates_lookups.proofs.NodeParts.{entry_here}
+use Rattle.krates_rules.proofs.FirstPlaces.{seen_at}
+use Rattle.krates_questions.proofs.Lookups.{one_id}
+use Rattle.krates_questions.proofs.NodeParts.{entry_here}
 use Rattle.krates_rules.proofs.OnlyOne.{place_in, one_node, one_dep}
 use Rattle.krates_questions.proofs.RootLemmas.{root_member}
 use Rattle.krates_rules.proofs.Standings.{contains_at}

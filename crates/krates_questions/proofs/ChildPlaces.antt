@@ -9,8 +9,8 @@ use Rattle.krates_rules.specs.Admission.{AreDepIds, dep_texts}
 use Rattle.krates_rules.specs.Facts.{Id}
 use Rattle.krates_rules.specs.Resolved.{StandsAt, id_of}
 use Rattle.krates_rules.proofs.Readings.{ReadsOnce, left_of, right_of}
-use Rattle.krates_lookups.specs.CrateTable.{IsPlaceAmong, IsPlaceOf}
-use Rattle.krates_lookups.specs.NameIndex.{AreIdsNamed}
+use Rattle.krates_questions.specs.CrateTable.{IsPlaceAmong, IsPlaceOf}
+use Rattle.krates_questions.specs.NameIndex.{AreIdsNamed}
 use Rattle.krates_questions.proofs.LeastReferents.{AreLookedAt}
 
 -- two readings of the same texts have the same id at a place

@@ -5,11 +5,11 @@ use Rattle.krates_rules.specs.Admission.{NoneDoubled}
 use Rattle.krates_rules.specs.DeclaredDependency.{dependency_entry, IsDeclared, IsUndeclared}
 use Rattle.krates_rules.specs.Facts.{Edge}
 use Rattle.krates_rules.specs.Kind.{kind_of, ignores}
-use Rattle.krates_lookups.specs.Lookup.{TellsMember}
-use Rattle.krates_lookups.specs.NodeEntry.{parent_of, child_of, declared_in, entry_of, IsEntry, edge_for}
+use Rattle.krates_questions.specs.Lookup.{TellsMember}
+use Rattle.krates_questions.specs.NodeEntry.{parent_of, child_of, declared_in, entry_of, IsEntry, edge_for}
 use Rattle.krates_rules.specs.Questions.{ListsEdge, IsDeclaredAt, IsWanted, IsLoose}
 use Rattle.krates_rules.specs.Resolved.{Resolved}
-use Rattle.krates_lookups.specs.declared.node_entry.NodeEntry.{NodeEntry}
+use Rattle.krates_questions.specs.declared.node_entry.NodeEntry.{NodeEntry}
 use Rattle.krates_rules.specs.Setting.{SettingModel, IsIgnored, of_member, of_other, Passes}
 use Rattle.krates_document.proofs.DeclaredOnce.{declared_once, declared_stands}
 use Rattle.krates_rules.proofs.OnlyOne.{one_dep}

@@ -12,17 +12,17 @@ use Rattle.krates_document.specs.declared.named_places.NamedPlace.{NamedPlace}
 use Rattle.krates_ids.specs.Identity.{Identity, Reads, id_cmp}
 use Rattle.krates_rules.specs.Admission.{NoneDoubled, AreDepIds, dep_texts}
 use Rattle.krates_rules.specs.Facts.{Id}
-use Rattle.krates_lookups.specs.NameIndex.{AreDepsOf}
-use Rattle.krates_lookups.specs.NodeEntry.{AreParts}
+use Rattle.krates_questions.specs.NameIndex.{AreDepsOf}
+use Rattle.krates_questions.specs.NodeEntry.{AreParts}
 use Rattle.krates_rules.specs.Referent.{AnswersTo, AnswersIn, IsReferent, by_library, by_name, id_order}
 use Rattle.krates_questions.specs.ReferentPlace.{AnswersAt, AnswersBefore, GoesOn, IsBefore, IsLeastOf, IsReferentAt}
 use Rattle.krates_rules.specs.Resolved.{Resolved, HasDep, id_of}
-use Rattle.krates_lookups.specs.declared.node_entry.NodeParts.{NodeParts}
+use Rattle.krates_questions.specs.declared.node_entry.NodeParts.{NodeParts}
 use Rattle.krates_rules.proofs.Readings.{ReadsOnce, right_of}
 use Rattle.krates_document.proofs.DistinctIds.{OrderTellsSame, same_of}
 use Rattle.krates_document.proofs.LeastFitting.{same_folded, under_other}
-use Rattle.krates_lookups.proofs.NodeParts.{has_dep_here}
-use Rattle.krates_lookups.proofs.RenamedPlaces.{FindsRenamed}
+use Rattle.krates_questions.proofs.NodeParts.{has_dep_here}
+use Rattle.krates_questions.proofs.RenamedPlaces.{FindsRenamed}
 use Rattle.krates_rules.proofs.OnlyOne.{place_in, one_node}
 
 -- ---- the least so far

@@ -11,16 +11,16 @@ use Rattle.krates_rules.specs.Facts.{Id, Edge}
 use Rattle.krates_rules.specs.Questions.{Declares, IsDeclaredAs, IsLeftOut, ListsEdge, edge_between}
 use Rattle.krates_rules.specs.Resolved.{Resolved, HasNode, HasDep, id_of}
 use Rattle.krates_rules.specs.Setting.{SettingModel, IsIgnored, Passes}
-use Rattle.krates_lookups.specs.NodeEntry.{IsEntry, parent_of, child_of, declared_in, entry_of, edge_for}
-use Rattle.krates_lookups.specs.declared.node_entry.NodeEntry.{NodeEntry}
-use Rattle.krates_lookups.specs.declared.node_entry.NodeParts.{NodeParts}
+use Rattle.krates_questions.specs.NodeEntry.{IsEntry, parent_of, child_of, declared_in, entry_of, edge_for}
+use Rattle.krates_questions.specs.declared.node_entry.NodeEntry.{NodeEntry}
+use Rattle.krates_questions.specs.declared.node_entry.NodeParts.{NodeParts}
 use Rattle.krates_questions.specs.LookedUp.{ArePartsOf, NoDep, IsEntryBetween, TellsDeclared}
 use Rattle.krates_questions.specs.Need.{HasChild, ListsKind, IsDeclaredOnly, IsWantedAs, TellsNeed}
 use Rattle.krates_questions.specs.Presence.{IsExcludedOnly}
 use Rattle.krates_questions.specs.declared.dependency_questions.Need.TheVariants as needs
 use Rattle.krates_rules.proofs.Readings.{ReadsOnce, left_of, right_of}
 use Rattle.krates_document.proofs.DeclaredOnce.{declared_once, declared_stands}
-use Rattle.krates_document.proofs.FirstPlaces.{seen_at}
+use Rattle.krates_rules.proofs.FirstPlaces.{seen_at}
 use Rattle.krates_rules.proofs.OnlyOne.{one_dep, one_node, place_in}
 use Rattle.krates_rules.proofs.Standings.{not_included, contains_at}
 use Rattle.krates_questions.proofs.Asked.{declared_told}

@@ -12,15 +12,15 @@ use Rattle.krates_rules.specs.Facts.{Id}
 use Rattle.krates_rules.specs.NamedIds.{IsReadOf}
 use Rattle.krates_rules.specs.Features.{ListsFeature}
 use Rattle.krates_rules.specs.Resolved.{NodeAt, Resolved, id_of, IsMember, HasPackage, HasNode}
-use Rattle.krates_lookups.specs.Lookup.{IsLookup, resolved_view}
+use Rattle.krates_questions.specs.Lookup.{IsLookup, resolved_view}
 use Rattle.krates_questions.specs.RootChoice.{AsksFor, AsksForManifests, HasOneOf}
 use Rattle.krates_rules.specs.Roots.{IsRoot, of_graph, of_workspace, of_manifests, by_setting, without_root, by_manifest, HasManifest}
 use Rattle.krates_rules.specs.Setting.{SettingModel}
-use Rattle.krates_lookups.specs.declared.lookup.Lookup.{Lookup}
+use Rattle.krates_questions.specs.declared.lookup.Lookup.{Lookup}
 use Rattle.krates_rules.proofs.Readings.{ReadsOnce, left_of}
 use Rattle.krates_rules.proofs.OnlyOne.{one_package, one_node}
 use Rattle.krates_rules.proofs.Standings.{contains_at}
-use Rattle.krates_lookups.proofs.ReadIds.{read_at}
+use Rattle.krates_questions.proofs.ReadIds.{read_at}
 
 -- ---- which crates are roots
 

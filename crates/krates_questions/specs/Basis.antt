@@ -1,12 +1,12 @@
 -- What a search is made against, a document and a setting, in words of the document.
 use Rattle.krates_cm.specs.Document.{DependencyModel, Text, dep_kind_info_view}
 use Rattle.krates_ids.specs.declared.error.Error.{Error}
-use Rattle.krates_lookups.specs.Lookup.{resolved_view}
-use Rattle.krates_lookups.specs.NodeEntry.{AreParts, IsEntry, declared_in, edge_of, entry_of}
-use Rattle.krates_lookups.specs.Numbering.{FeatureAt}
-use Rattle.krates_lookups.specs.declared.node_entry.EntryEdge.{EntryEdge}
-use Rattle.krates_lookups.specs.declared.node_entry.NodeEntry.{NodeEntry}
-use Rattle.krates_lookups.specs.declared.node_entry.NodeParts.{NodeParts}
+use Rattle.krates_questions.specs.Lookup.{resolved_view}
+use Rattle.krates_questions.specs.NodeEntry.{AreParts, IsEntry, declared_in, edge_of, entry_of}
+use Rattle.krates_questions.specs.Numbering.{FeatureAt}
+use Rattle.krates_questions.specs.declared.node_entry.EntryEdge.{EntryEdge}
+use Rattle.krates_questions.specs.declared.node_entry.NodeEntry.{NodeEntry}
+use Rattle.krates_questions.specs.declared.node_entry.NodeParts.{NodeParts}
 use Rattle.krates_questions.specs.RootChoice.{AsksFor}
 use Rattle.krates_questions.specs.declared.basis.Basis.{Basis}
 use Rattle.krates_rules.specs.DeclaredDependency.{IsDeclared}

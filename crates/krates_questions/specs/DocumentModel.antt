@@ -4,7 +4,7 @@ use Rattle.krates_cm.specs.Document.{MetadataModel, metadata_view, resolve_view}
 use Rattle.krates_cm.specs.declared.metadata.Metadata.{Metadata}
 use Rattle.krates_cm.specs.declared.resolve.Resolve.{Resolve}
 use Rattle.krates_rules.specs.Resolved.{HasGraphWith, Resolved, resolved}
-use Rattle.krates_lookups.specs.declared.lookup.Lookup.{Lookup}
+use Rattle.krates_questions.specs.declared.lookup.Lookup.{Lookup}
 
 pub record DocumentModel : Type 0 where
   pub metadata : Metadata

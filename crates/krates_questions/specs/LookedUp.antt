@@ -10,10 +10,10 @@ use Rattle.krates_rules.specs.Roots.{IsRoot}
 use Rattle.krates_rules.specs.Setting.{SettingModel}
 use Rattle.krates_questions.specs.DocumentAnswers.{lent_ids}
 use Rattle.krates_questions.specs.RootOrder.{ArePicked}
-use Rattle.krates_lookups.specs.NodeEntry.{AreParts, IsEntry, parent_of, child_of, declared_in, entry_of}
+use Rattle.krates_questions.specs.NodeEntry.{AreParts, IsEntry, parent_of, child_of, declared_in, entry_of}
 use Rattle.krates_rules.specs.Resolved.{Resolved, id_of, NoNode, HasNode, HasDep}
-use Rattle.krates_lookups.specs.declared.node_entry.NodeEntry.{NodeEntry}
-use Rattle.krates_lookups.specs.declared.node_entry.NodeParts.{NodeParts}
+use Rattle.krates_questions.specs.declared.node_entry.NodeEntry.{NodeEntry}
+use Rattle.krates_questions.specs.declared.node_entry.NodeParts.{NodeParts}
 
 -- these are the parts of the crate's node
 pub record ArePartsOf (r : Resolved) (i : Id) (x : NodeParts) : Type 0 where

@@ -7,8 +7,8 @@ use Rattle.krates_ids.specs.Identity.{Identity, id_cmp}
 use Rattle.krates_rules.specs.Resolved.{DepAt, Resolved, id_of}
 use Rattle.krates_rules.specs.Referent.{AnswersTo, AreReferents, IsReferent}
 use Rattle.krates_rules.specs.Facts.{Id}
-use Rattle.krates_lookups.specs.NodeEntry.{krate_of}
-use Rattle.krates_lookups.specs.declared.node_entry.NodeParts.{NodeParts}
+use Rattle.krates_questions.specs.NodeEntry.{krate_of}
+use Rattle.krates_questions.specs.declared.node_entry.NodeParts.{NodeParts}
 use Rattle.krates_questions.specs.declared.referent.Referent.{Referent}
 
 -- the dependency at this place is the least of those that the name means

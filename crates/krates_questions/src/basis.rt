@@ -1,7 +1,7 @@
 //! What a search goes by.
 
 use krates_document::setting::Setting;
-use krates_lookups::lookup::Lookup;
+use crate::lookup::Lookup;
 use std::alloc::Global;
 
 /// What a search goes by: a document, looked up, and a setting.

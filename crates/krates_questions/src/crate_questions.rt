@@ -2,8 +2,8 @@
 
 ghost use Rattle.std.specs.Prelude.{◌↔◌, Contains, IsTrue, map};
 ghost use Rattle.krates_cm.specs.Document.{Text, text_view};
-ghost use Rattle.krates_lookups.specs.FeatureValues.{AreNamed, AreValuesOf};
-ghost use Rattle.krates_lookups.specs.Lookup.{IsLookup, resolved_view};
+ghost use Rattle.krates_questions.specs.FeatureValues.{AreNamed, AreValuesOf};
+ghost use Rattle.krates_questions.specs.Lookup.{IsLookup, resolved_view};
 ghost use Rattle.krates_questions.specs.DocumentModel.{as_resolved};
 ghost use Rattle.krates_questions.specs.Presence.{TellsPresence};
 ghost use Rattle.krates_rules.specs.Features.{ListsFeature};
@@ -16,8 +16,8 @@ use crate::root_choice::{RootChoice, choice_of, is_root};
 use crate::standing::{Standing, standing_of};
 use krates_document::setting::Setting;
 use krates_ids::Kid;
-use krates_lookups::features::{feature_number, feature_values};
-use krates_lookups::lookup::{Lookup, is_member, node_place};
+use crate::features::{feature_number, feature_values};
+use crate::lookup::{Lookup, is_member, node_place};
 
 /// What a document and a setting have for a crate.
 #[derive(Clone, Copy, Debug, PartialEq, Eq)]

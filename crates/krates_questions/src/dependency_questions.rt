@@ -2,8 +2,8 @@
 
 ghost use Rattle.std.specs.Prelude.{◌↔◌, Contains, IfOk, IsTrue, map, true};
 ghost use Rattle.krates_cm.specs.Document.{DepKindInfoModel, dep_kind_info_view};
-ghost use Rattle.krates_lookups.specs.Lookup.{IsLookup, resolved_view};
-ghost use Rattle.krates_lookups.specs.NodeEntry.{IsEntry, edge_for};
+ghost use Rattle.krates_questions.specs.Lookup.{IsLookup, resolved_view};
+ghost use Rattle.krates_questions.specs.NodeEntry.{IsEntry, edge_for};
 ghost use Rattle.krates_questions.specs.Basis.{document_of};
 ghost use Rattle.krates_questions.specs.DocumentModel.{as_resolved};
 ghost use Rattle.krates_questions.specs.DocumentAnswers.{edge_asked};
@@ -21,8 +21,8 @@ use crate::referent::answers_to;
 use krates_cm::{DepKindInfo, Dependency};
 use krates_document::setting::Setting;
 use krates_ids::{Kid, laws};
-use krates_lookups::lookup::Lookup;
-use krates_lookups::node_entry::{NodeEntry, declared_at};
+use crate::lookup::Lookup;
+use crate::node_entry::{NodeEntry, declared_at};
 use std::alloc::{AllocError, Global};
 
 /// What a document and a setting have for a dependency of a crate on another, of one kind and for one target.

@@ -1,13 +1,23 @@
-//! The questions of the rules: what a document answers to each, under a setting, and nothing that searches.
+//! A document that is asked: its crates, nodes and features by number, its dependencies by name, and what it answers to each of the questions
+//! of the rules under a setting. Nothing here searches for what is kept.
 #![tactic(auto)]
 
 pub mod basis;
 pub mod comparisons;
 pub mod crate_questions;
+pub mod crate_table;
 pub mod dependency_questions;
+pub mod feature_table;
+pub mod features;
+pub mod library;
+pub mod lookup;
+pub mod name_index;
+pub mod node_entry;
 pub mod questions;
 pub mod referent;
+pub mod renamed;
 pub mod root_choice;
+pub mod sorted;
 pub mod standing;
 
 pub use crate_questions::Presence;

@@ -6,15 +6,15 @@ ghost use Rattle.krates_cm.specs.Document.{dep_kind_info_view, metadata_view, no
 ghost use Rattle.krates_rules.specs.Admission.{IsAdmitted};
 ghost use Rattle.krates_questions.specs.DocumentModel.{IsDocumentOf, as_resolved};
 ghost use Rattle.krates_document.specs.Ids.{ids_view};
-ghost use Rattle.krates_lookups.specs.Lookup.{IsLookup, resolved_view};
+ghost use Rattle.krates_questions.specs.Lookup.{IsLookup, resolved_view};
 ghost use Rattle.krates_questions.specs.DocumentAnswers.{AreRoots, AreRootsInOrder, IsOpenAs, TellsDeclaredPlace, TellsReferent, TellsReferents, edge_asked};
 ghost use Rattle.krates_questions.specs.LookedUp.{PicksRoots, TellsDeclared, TellsEntry, TellsParts};
 ghost use Rattle.krates_document.specs.NamedPlaces.{places_in};
-ghost use Rattle.krates_lookups.specs.NodeEntry.{AreParts, IsEntry, edge_for};
+ghost use Rattle.krates_questions.specs.NodeEntry.{AreParts, IsEntry, edge_for};
 ghost use Rattle.krates_rules.specs.Questions.{Stands};
 ghost use Rattle.krates_rules.specs.Resolved.{IsMember, StandsAt, id_of};
 ghost use Rattle.krates_questions.specs.RootChoice.{AsksFor};
-ghost use Rattle.krates_lookups.specs.CrateTable.{IsPlaceAmong, IsPlaceOf};
+ghost use Rattle.krates_questions.specs.CrateTable.{IsPlaceAmong, IsPlaceOf};
 
 mod contents;
 
@@ -28,8 +28,8 @@ use krates_document::ids::Ids;
 use krates_document::named_places::{NamedPlace, places_under};
 use krates_document::setting::Setting;
 use krates_ids::{Kid, laws};
-use krates_lookups::lookup::{Lookup, lookup_of, node_place};
-use krates_lookups::node_entry::{
+use crate::lookup::{Lookup, lookup_of, node_place};
+use crate::node_entry::{
     NodeEntry, NodeParts, declared_places, entry_at, is_same_info, parts_of,
 };
 use std::alloc::{AllocError, Global};
@@ -46,7 +46,7 @@ pub struct Document<'a> {
 
 impl<'a> Model for Document<'a> {
     ghost use Rattle.krates_questions.specs.DocumentModel.{DocumentModel, looked_up};
-    ghost use Rattle.krates_lookups.specs.Lookup.{IsLookup};
+    ghost use Rattle.krates_questions.specs.Lookup.{IsLookup};
 
     ghost Value = { DocumentModel };
 

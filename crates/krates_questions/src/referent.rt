@@ -2,18 +2,18 @@
 
 ghost use Rattle.std.specs.Prelude.{◌↔◌, ◌<◌, IfOk, IfSome, IsTrue, OnOk, length, true};
 ghost use Rattle.krates_document.specs.NamedPlaces.{places_in};
-ghost use Rattle.krates_lookups.specs.Lookup.{IsLookup, resolved_view};
-ghost use Rattle.krates_lookups.specs.NodeEntry.{AreParts};
+ghost use Rattle.krates_questions.specs.Lookup.{IsLookup, resolved_view};
+ghost use Rattle.krates_questions.specs.NodeEntry.{AreParts};
 ghost use Rattle.krates_questions.specs.ReferentPlace.{AnswersAs, AnswersBefore, AreReferentsIn, FindsMore, GoesOn, IsBefore, TellsReferent};
 
 use krates_cm::NodeDep;
 use krates_document::dependency_name::is_name_of;
 use krates_document::named_places::{NamedPlace, places_under};
 use krates_ids::{Kid, laws};
-use krates_lookups::library::is_library_rename;
-use krates_lookups::lookup::{Lookup, package_of};
-use krates_lookups::node_entry::NodeParts;
-use krates_lookups::sorted::in_order;
+use crate::library::is_library_rename;
+use crate::lookup::{Lookup, package_of};
+use crate::node_entry::NodeParts;
+use crate::sorted::in_order;
 use std::alloc::{AllocError, Global};
 
 /// A dependency of a node that a name means.

@@ -2,14 +2,14 @@
 
 ghost use Rattle.std.specs.Prelude.{◌↔◌, IsTrue, map};
 ghost use Rattle.krates_cm.specs.Document.{text_view};
-ghost use Rattle.krates_lookups.specs.Lookup.{IsLookup, resolved_view};
+ghost use Rattle.krates_questions.specs.Lookup.{IsLookup, resolved_view};
 ghost use Rattle.krates_rules.specs.Resolved.{id_of, IsMember};
 ghost use Rattle.krates_questions.specs.RootChoice.{IsChoice, AsksFor, HasOneOf};
 ghost use Rattle.krates_rules.specs.Roots.{IsRoot, HasManifest, IsWorkspaceManifest};
 
 use krates_document::setting::Setting;
 use krates_ids::{Kid, laws};
-use krates_lookups::lookup::{Lookup, package_of};
+use crate::lookup::{Lookup, package_of};
 use krates_text::path::{parent, same};
 
 /// Which crates are the roots.

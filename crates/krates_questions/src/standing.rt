@@ -1,8 +1,8 @@
 //! Whether a crate can be kept.
 
 ghost use Rattle.krates_cm.specs.Document.{PackageModel, package_view};
-ghost use Rattle.krates_lookups.specs.Lookup.{IsLookup, IsNumber, IsNumberIn, resolved_view};
-ghost use Rattle.krates_lookups.specs.NodeEntry.{IsEntry, child_of};
+ghost use Rattle.krates_questions.specs.Lookup.{IsLookup, IsNumber, IsNumberIn, resolved_view};
+ghost use Rattle.krates_questions.specs.NodeEntry.{IsEntry, child_of};
 ghost use Rattle.krates_questions.specs.Basis.{document_of};
 ghost use Rattle.krates_questions.specs.Standing.{AreExclusions, IsStanding, TellsExcluded};
 ghost use Rattle.krates_rules.specs.Facts.{Id};
@@ -15,8 +15,8 @@ use crate::basis::Basis;
 use krates_cm::Package;
 use krates_document::setting::Setting;
 use krates_ids::Kid;
-use krates_lookups::lookup::{Lookup, crate_number, node_place_at, package_at, package_place_at};
-use krates_lookups::node_entry::{NodeEntry, child_number};
+use crate::lookup::{Lookup, crate_number, node_place_at, package_at, package_place_at};
+use crate::node_entry::{NodeEntry, child_number};
 use std::alloc::{AllocError, Global};
 
 /// What a document and a setting have for a crate.

@@ -11,8 +11,8 @@ use Rattle.krates_rules.specs.Admission.{NoneDoubled, node_texts}
 use Rattle.krates_rules.specs.Facts.{Id}
 use Rattle.krates_rules.specs.Resolved.{NodeAt, Resolved, id_of}
 use Rattle.krates_resolve.specs.Counting.{HasCountedAll}
-use Rattle.krates_lookups.specs.ListedFeatures.{listed_features}
-use Rattle.krates_lookups.specs.Numbering.{FeatureAt, IsOwn}
+use Rattle.krates_questions.specs.ListedFeatures.{listed_features}
+use Rattle.krates_questions.specs.Numbering.{FeatureAt, IsOwn}
 use Rattle.krates_selection.specs.SelectionOrder.{same_feature}
 use Rattle.krates_rules.specs.Setting.{SettingModel}
 use Rattle.krates_selection.specs.Work.{CountsEach, HasReferences, counted}
@@ -20,15 +20,15 @@ use Rattle.krates_search.specs.declared.found.Found.{Found}
 use Rattle.krates_selection.specs.declared.selection.EnabledFeature.{EnabledFeature}
 use Rattle.krates_selection.specs.declared.work.Work.{Work}
 use Rattle.krates_document.proofs.DistinctIds.{id_of_same}
-use Rattle.krates_document.proofs.FirstPlaces.{seen_at}
+use Rattle.krates_rules.proofs.FirstPlaces.{seen_at}
 use Rattle.krates_rules.proofs.OnlyOne.{one_node_place}
 use Rattle.krates_rules.proofs.Readings.{left_of}
 use Rattle.krates_rules.proofs.Standings.{contains_at}
-use Rattle.krates_lookups.proofs.Distinct.{distinct_from, zip_shuffled}
-use Rattle.krates_lookups.proofs.NodeParts.{node_here}
+use Rattle.krates_rules.proofs.Distinct.{distinct_from, zip_shuffled}
+use Rattle.krates_questions.proofs.NodeParts.{node_here}
 use Rattle.krates_selection.specs.CrateNumbers.{id_at}
 use Rattle.krates_search.specs.KeptFeatures.{AreSorted, IsFeatureOf}
-use Rattle.krates_search.proofs.Elements.{both}
+use Rattle.krates_rules.proofs.Elements.{both}
 use Rattle.krates_search.proofs.KeptFeatures.{same_name}
 use Rattle.krates_resolve.proofs.Selected.{AreAt, EqualityTellsSame}
 

@@ -9,29 +9,29 @@ use Rattle.krates_ids.specs.Identity.{Identity}
 use Rattle.krates_rules.specs.Admission.{NoneDoubled}
 use Rattle.krates_rules.specs.Derivation.{Derivable, follows, Among}
 use Rattle.krates_rules.specs.Facts.{Id, Edge, Fact, Crate, Feature, Kept}
-use Rattle.krates_lookups.specs.FeatureValues.{AreNamed, AreValuesOf}
+use Rattle.krates_questions.specs.FeatureValues.{AreNamed, AreValuesOf}
 use Rattle.krates_search.specs.Found.{HasFound, IsAskedWeakly, IsAskingStep, IsFollowed, IsHeeded, IsValueOfEnabled, IsSound, Advances, AreTried, IsTried, IsAny, MayTry, MayName, MayToggle}
 use Rattle.krates_search.specs.Heeding.{IsAskedAt, IsToggledStronglyAt, IsReferringStep, IsValueStep, MayAsk, MayAskAt, HasEnabledReference}
 use Rattle.krates_rules.specs.Resolved.{DepAt, NodeAt, Resolved, NoNode, id_of}
 use Rattle.krates_search.specs.Links.{IsMarked, HasWaiter}
-use Rattle.krates_lookups.specs.ListedFeatures.{listed_features}
-use Rattle.krates_lookups.specs.Lookup.{IsLookup, resolved_view}
-use Rattle.krates_lookups.specs.NodeEntry.{AreParts, IsEntry, IsEntryOf, parent_of, child_of}
-use Rattle.krates_lookups.specs.Numbering.{FeatureAt}
+use Rattle.krates_questions.specs.ListedFeatures.{listed_features}
+use Rattle.krates_questions.specs.Lookup.{IsLookup, resolved_view}
+use Rattle.krates_questions.specs.NodeEntry.{AreParts, IsEntry, IsEntryOf, parent_of, child_of}
+use Rattle.krates_questions.specs.Numbering.{FeatureAt}
 use Rattle.krates_rules.specs.Questions.{Stands, edge_between, questions}
 use Rattle.krates_rules.specs.Referent.{IsReferent}
 use Rattle.krates_rules.specs.Rules.{Questions, IsAskedFor, feature_crate, named, lost_named, asked, toggled_strongly, lost_asked_package, lost_asked_node, lost_toggled_strongly, toggled_weakly, lost_toggled_weakly}
 use Rattle.krates_rules.specs.Setting.{SettingModel}
 use Rattle.krates_selection.specs.Work.{CountsText, HasReferences, counted}
-use Rattle.krates_lookups.specs.declared.feature_table.ListedFeature.{ListedFeature}
+use Rattle.krates_questions.specs.declared.feature_table.ListedFeature.{ListedFeature}
 use Rattle.krates_questions.proofs.StandingLaws.{derivable_stands}
 use Rattle.krates_search.specs.declared.found.Found.{Found}
 use Rattle.krates_search.specs.declared.links.Links.{Links}
-use Rattle.krates_lookups.specs.declared.lookup.Lookup.{Lookup}
-use Rattle.krates_lookups.specs.declared.node_entry.NodeEntry.{NodeEntry}
-use Rattle.krates_lookups.specs.declared.node_entry.NodeParts.{NodeParts}
+use Rattle.krates_questions.specs.declared.lookup.Lookup.{Lookup}
+use Rattle.krates_questions.specs.declared.node_entry.NodeEntry.{NodeEntry}
+use Rattle.krates_questions.specs.declared.node_entry.NodeParts.{NodeParts}
 use Rattle.krates_rules.proofs.Readings.{ReadsOnce}
-use Rattle.krates_document.proofs.Zips.{zip_next}
+use Rattle.krates_rules.proofs.Zips.{zip_next}
 use Rattle.krates_resolve.proofs.Counted.{counted_more}
 use Rattle.krates_search.proofs.EntriesTried.{entry_tried}
 use Rattle.krates_selection.proofs.ListedFeatures.{listed_at}
@@ -41,8 +41,8 @@ use Rattle.krates_selection.proofs.Steps.{StepsStay}
 use Rattle.krates_selection.specs.Trace.{HasStep}
 use Rattle.krates_search.specs.declared.links.Waiting.{Waiting}
 use Rattle.krates_selection.specs.declared.trace.NumberedStep.{NumberedStep}
-use Rattle.krates_lookups.proofs.Lookups.{one_id}
-use Rattle.krates_lookups.proofs.NodeParts.{dep_of_child, entry_here}
+use Rattle.krates_questions.proofs.Lookups.{one_id}
+use Rattle.krates_questions.proofs.NodeParts.{dep_of_child, entry_here}
 use Rattle.krates_rules.proofs.Standings.{contains_at}
 use Rattle.krates_selection.proofs.Steps.{one_way}
 

@@ -24,7 +24,7 @@ use Rattle.krates_search.specs.declared.found.Found.{Found}
 use Rattle.krates_rules.proofs.Readings.{ReadsOnce, right_of}
 use Rattle.krates_rules.proofs.OnlyOne.{place_in}
 use Rattle.krates_rules.proofs.Standings.{not_included}
-use Rattle.krates_lookups.proofs.Lookups.{one_id}
+use Rattle.krates_questions.proofs.Lookups.{one_id}
 use Rattle.krates_questions.proofs.RootLemmas.{root_member}
 use Rattle.krates_search.proofs.Growing.{rooted_grows}
 

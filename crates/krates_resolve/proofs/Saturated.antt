@@ -12,7 +12,7 @@ use Rattle.krates_rules.specs.Features.{HasReference}
 use Rattle.krates_search.specs.Found.{HasFound, IsSound, Advances, HasRoots, IsExpanded, IsHeeded, IsFollowed, IsAsked, IsTried, IsAny, IsFeatureStep, IsKrateStep, IsToggledIn}
 use Rattle.krates_rules.specs.Resolved.{DepAt, Resolved}
 use Rattle.krates_search.specs.Links.{AreNew, HasLinks}
-use Rattle.krates_lookups.specs.ListedFeatures.{listed_features}
+use Rattle.krates_questions.specs.ListedFeatures.{listed_features}
 use Rattle.krates_questions.specs.Standing.{AreExclusions}
 use Rattle.krates_rules.specs.Questions.{IsDeclaredAs, Stands, IsWanted, questions}
 use Rattle.krates_rules.specs.References.{Demands}

@@ -29,15 +29,15 @@ use Rattle.krates_search.specs.declared.found_toggle.FoundToggle.{FoundToggle}
 use Rattle.krates_selection.specs.declared.selection.Selection.{Selection}
 use Rattle.krates_rules.proofs.Readings.{ReadsOnce}
 use Rattle.krates_document.proofs.DistinctIds.{id_of_same}
-use Rattle.krates_document.proofs.FirstPlaces.{seen_at}
-use Rattle.krates_lookups.proofs.Lookups.{one_id}
-use Rattle.krates_lookups.proofs.FeatureNumbers.{listed_place}
-use Rattle.krates_lookups.proofs.NodeParts.{long_zip, node_here}
-use Rattle.krates_lookups.specs.ListedFeatures.{listed_features}
-use Rattle.krates_lookups.specs.Lookup.{IsLookup, resolved_view}
-use Rattle.krates_lookups.specs.declared.lookup.Lookup.{Lookup}
-use Rattle.krates_lookups.specs.Numbering.{FeatureAt}
-use Rattle.krates_search.proofs.Elements.{contains_image, contains_or, contains_source}
+use Rattle.krates_rules.proofs.FirstPlaces.{seen_at}
+use Rattle.krates_questions.proofs.Lookups.{one_id}
+use Rattle.krates_questions.proofs.FeatureNumbers.{listed_place}
+use Rattle.krates_questions.proofs.NodeParts.{long_zip, node_here}
+use Rattle.krates_questions.specs.ListedFeatures.{listed_features}
+use Rattle.krates_questions.specs.Lookup.{IsLookup, resolved_view}
+use Rattle.krates_questions.specs.declared.lookup.Lookup.{Lookup}
+use Rattle.krates_questions.specs.Numbering.{FeatureAt}
+use Rattle.krates_rules.proofs.Elements.{contains_image, contains_or, contains_source}
 use Rattle.krates_search.proofs.LinkLemmas.{there_is}
 use Rattle.krates_selection.proofs.KeptEnds.{child_kept, crate_of_feature, parent_kept, toggled_kept}
 use Rattle.krates_rules.proofs.OnlyOne.{place_in}

@@ -10,7 +10,7 @@ use Rattle.krates_text.specs.FeatureReference.{Reference, krate, weak, strong, s
 use Rattle.krates_rules.specs.Facts.{Id, Edge}
 use Rattle.krates_search.specs.Found.{IsEnabledBySome, IsToggledIn, HasUsed, IsAny, IsTried, IsFollowed, IsHeeded, IsExpanded, HasRoots, IsSound, Advances}
 use Rattle.krates_rules.specs.Resolved.{NodeAt, Resolved}
-use Rattle.krates_lookups.specs.Numbering.{FeatureAt}
+use Rattle.krates_questions.specs.Numbering.{FeatureAt}
 use Rattle.krates_resolve.specs.Saturation.{AreDone, left_in}
 use Rattle.krates_rules.specs.Setting.{SettingModel}
 use Rattle.krates_search.specs.declared.found.Found.{Found}

@@ -5,7 +5,7 @@ use Rattle.krates_cm.specs.Document.{Text}
 use Rattle.krates_rules.specs.Facts.{Id}
 use Rattle.krates_rules.specs.Resolved.{Resolved}
 use Rattle.krates_rules.specs.Setting.{SettingModel}
-use Rattle.krates_lookups.specs.Numbering.{FeatureAt}
+use Rattle.krates_questions.specs.Numbering.{FeatureAt}
 use Rattle.krates_selection.specs.Work.{HasReferences, counted}
 use Rattle.krates_search.specs.declared.found.Found.{Found}
 use Rattle.krates_selection.specs.declared.work.Work.{Work}

@@ -4,12 +4,12 @@ use Rattle.krates_cm.specs.Document.{DepKindInfoModel, Text}
 use Rattle.krates_resolve.specs.Counting.{AreCounted, NumberHasReferences}
 use Rattle.krates_search.specs.Found.{IsAny, HasRoots, IsAsked, IsFollowed, IsHeeded, IsRooted, IsToggledStrongly, IsValueOfEnabled, IsWaiting}
 use Rattle.krates_search.specs.Heeding.{HasEnabledReference, IsAskedAt, IsToggledStronglyAt, IsWaitingAt, RefersTo, IsReferringStep, IsRequestStep, IsValueStep, MayAsk, MayAskAt}
-use Rattle.krates_lookups.specs.NodeEntry.{krate_of}
+use Rattle.krates_questions.specs.NodeEntry.{krate_of}
 use Rattle.krates_resolve.specs.Saturation.{AreDone, TakesNext}
 use Rattle.krates_selection.specs.Work.{CountsName, CountsText, counted}
 use Rattle.krates_questions.specs.declared.basis.Basis.{Basis}
 use Rattle.krates_search.specs.declared.found.Found.{Found}
-use Rattle.krates_lookups.specs.declared.node_entry.NodeParts.{NodeParts}
+use Rattle.krates_questions.specs.declared.node_entry.NodeParts.{NodeParts}
 use Rattle.krates_selection.specs.declared.trace.Reason.{Reason}
 use Rattle.krates_selection.specs.declared.work.Work.{Work}
 use Rattle.krates_rules.specs.Facts.{Feature, Id}

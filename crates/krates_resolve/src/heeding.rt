@@ -1,6 +1,6 @@
 //! What the references of an enabled feature give.
 
-ghost use Rattle.krates_lookups.specs.NodeEntry.{krate_of};
+ghost use Rattle.krates_questions.specs.NodeEntry.{krate_of};
 ghost use Rattle.krates_search.specs.Basis.{Has, IsRight, Moves};
 ghost use Rattle.krates_resolve.specs.Progress.{CountsNameOf, CountsTextOf, FindsAskedDep, FindsToggledAt, HasAsked, HasAskedDep, HasAskingStep, HasFeatureStep, HasFollowedText, HasHeededTaken, HasReferenceStep, HasToggledAt, HasToggledKept, HasToggledKeptAt, HasValueStep, IsReferredTo, LetsWait, LetsWaitAt, MayAskFor, MayAskForDep, MayFollow, MayFollowText, MayToggleAt, TakenHasReferences};
 ghost use Rattle.krates_questions.specs.Basis.{HasParts, Refuses};
@@ -8,12 +8,12 @@ ghost use Rattle.std.specs.Prelude.{◌≡◌, ◌<◌, Contains, IfErr, IfOk, O
 ghost use Rattle.krates_text.specs.FeatureReference.{krate, strong, weak};
 ghost use Rattle.krates_rules.specs.Facts.{Crate, Feature};
 ghost use Rattle.krates_search.specs.Links.{IsMarked};
-ghost use Rattle.krates_lookups.specs.Lookup.{IsLookup};
+ghost use Rattle.krates_questions.specs.Lookup.{IsLookup};
 
 use krates_graph::agenda::Taken;
 use krates_ids::{Error, laws};
-use krates_lookups::features::feature_values;
-use krates_lookups::node_entry::{NodeParts, child_place, entry_at, parts_of};
+use krates_questions::features::feature_values;
+use krates_questions::node_entry::{NodeParts, child_place, entry_at, parts_of};
 use krates_questions::basis::Basis;
 use krates_questions::referent::referents_of;
 use krates_search::enabling::{KeptNode, NamedFeature, enable, toggle};

@@ -6,7 +6,7 @@ ghost use Rattle.krates_resolve.specs.Progress.{HasEachRoot, HasRooted, HasRoote
 ghost use Rattle.std.specs.Prelude.{All, IfErr, OnOk};
 ghost use Rattle.krates_cm.specs.Document.{Text};
 ghost use Rattle.krates_rules.specs.Facts.{Crate};
-ghost use Rattle.krates_lookups.specs.Lookup.{IsLookup};
+ghost use Rattle.krates_questions.specs.Lookup.{IsLookup};
 ghost use Rattle.krates_rules.specs.Resolved.{id_of};
 
 use krates_graph::agenda::Agenda;

@@ -14,17 +14,17 @@ use Rattle.krates_rules.specs.Facts.{Id, Edge, Fact, Crate, Feature, Kept, Toggl
 use Rattle.krates_search.specs.Found.{HasFound, HasUsed, IsAny, IsUsed, IsSound, Grows, Advances}
 use Rattle.krates_rules.specs.Resolved.{DepAt, NodeAt, Resolved, id_of}
 use Rattle.krates_search.specs.Links.{IsMarked}
-use Rattle.krates_lookups.specs.NodeEntry.{IsEntry, parent_of, child_of, declared_in, entry_of, edge_for}
+use Rattle.krates_questions.specs.NodeEntry.{IsEntry, parent_of, child_of, declared_in, entry_of, edge_for}
 use Rattle.krates_rules.specs.Questions.{IsDeclaredAt, IsWanted, kind_info_of, questions}
 use Rattle.krates_search.specs.FoundEdge.{found_view, IsFoundEdge}
 use Rattle.krates_rules.specs.Setting.{SettingModel}
 use Rattle.krates_selection.specs.Trace.{HasSomeStep}
 use Rattle.krates_search.specs.declared.found.Found.{Found}
 use Rattle.krates_search.specs.declared.links.Links.{Links}
-use Rattle.krates_lookups.specs.declared.node_entry.NodeEntry.{NodeEntry}
+use Rattle.krates_questions.specs.declared.node_entry.NodeEntry.{NodeEntry}
 use Rattle.krates_search.specs.declared.found_edge.FoundEdge.{FoundEdge}
 use Rattle.krates_document.proofs.DeclaredOnce.{declared_once}
-use Rattle.krates_document.proofs.FirstPlaces.{seen_at}
+use Rattle.krates_rules.proofs.FirstPlaces.{seen_at}
 use Rattle.krates_search.proofs.Growing.{used_grows, tried_grows}
 use Rattle.krates_search.proofs.Growth.{seen_from, seen_still, seen_there}
 use Rattle.krates_rules.proofs.OnlyOne.{one_dep}

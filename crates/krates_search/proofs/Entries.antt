@@ -6,12 +6,12 @@ use Rattle.krates_rules.specs.DeclaredDependency.{IsDeclared}
 use Rattle.krates_rules.specs.Derivation.{Derivable, follows, Among}
 use Rattle.krates_rules.specs.Facts.{Edge, Fact, LostPackage, LostNode, Undeclared, Crate, Kept, Lost}
 use Rattle.krates_search.specs.Found.{HasFound, IsTried, MayTry, IsRequired, TakenWhen}
-use Rattle.krates_lookups.specs.NodeEntry.{child_of, declared_in, entry_of, IsEntry, edge_for}
+use Rattle.krates_questions.specs.NodeEntry.{child_of, declared_in, entry_of, IsEntry, edge_for}
 use Rattle.krates_rules.specs.Questions.{Stands, LacksNode, IsWanted, IsLoose, questions, IsLeftOut}
 use Rattle.krates_rules.specs.Resolved.{Resolved, NoPackage}
 use Rattle.krates_rules.specs.Rules.{Questions, required, target, lost_undeclared, lost_required_package, lost_required_node}
 use Rattle.krates_search.specs.declared.found.Found.{Found}
-use Rattle.krates_lookups.specs.declared.node_entry.NodeEntry.{NodeEntry}
+use Rattle.krates_questions.specs.declared.node_entry.NodeEntry.{NodeEntry}
 use Rattle.krates_rules.specs.Setting.{SettingModel, IsIgnored, Passes}
 use Rattle.krates_rules.proofs.Standings.{not_included}
 use Rattle.krates_questions.proofs.Entries.{not_loose, wanted_one}

@@ -5,10 +5,10 @@ use Rattle.krates_rules.specs.Admission.{NoneDoubled}
 use Rattle.krates_rules.specs.Facts.{Id, Edge}
 use Rattle.krates_search.specs.Found.{AreTried, IsTried, IsAny}
 use Rattle.krates_rules.specs.Resolved.{DepAt, Resolved, HasNode, HasDep}
-use Rattle.krates_lookups.specs.NodeEntry.{IsEntry, parent_of, child_of}
+use Rattle.krates_questions.specs.NodeEntry.{IsEntry, parent_of, child_of}
 use Rattle.krates_rules.specs.Setting.{SettingModel}
 use Rattle.krates_search.specs.declared.found.Found.{Found}
-use Rattle.krates_lookups.specs.declared.node_entry.NodeEntry.{NodeEntry}
+use Rattle.krates_questions.specs.declared.node_entry.NodeEntry.{NodeEntry}
 use Rattle.krates_rules.proofs.Readings.{ReadsOnce}
 use Rattle.krates_search.proofs.TriedParts.{between_tried}
 use Rattle.krates_selection.proofs.Steps.{one_way}

@@ -5,22 +5,22 @@ use Rattle.std.specs.List.{AllZip, slice_get}
 use Rattle.krates_cm.specs.Document.{Text, NodeModel, text_view}
 use Rattle.krates_ids.specs.Identity.{Identity, Reads}
 use Rattle.krates_rules.specs.Facts.{Id, Fact, Feature}
-use Rattle.krates_lookups.specs.FeatureTable.{listed_view}
+use Rattle.krates_questions.specs.FeatureTable.{listed_view}
 use Rattle.krates_search.specs.Found.{IsEnabled}
-use Rattle.krates_lookups.specs.ListedFeatures.{listed_features}
+use Rattle.krates_questions.specs.ListedFeatures.{listed_features}
 use Rattle.krates_rules.specs.Resolved.{NodeAt, Resolved, id_of}
-use Rattle.krates_lookups.specs.Lookup.{IsLookup, resolved_view}
-use Rattle.krates_lookups.specs.Numbering.{FeatureAt}
+use Rattle.krates_questions.specs.Lookup.{IsLookup, resolved_view}
+use Rattle.krates_questions.specs.Numbering.{FeatureAt}
 use Rattle.krates_selection.specs.CrateNumbers.{id_at}
 use Rattle.krates_search.specs.KeptFeatures.{HasKeptHome, IsFeatureOf}
 use Rattle.krates_search.specs.KeptNumbers.{IsKeptNode, IsNumberAt}
 use Rattle.krates_selection.specs.Selection.{feature_fact}
-use Rattle.krates_lookups.specs.declared.feature_table.ListedFeature.{ListedFeature}
-use Rattle.krates_lookups.specs.declared.lookup.Lookup.{Lookup}
+use Rattle.krates_questions.specs.declared.feature_table.ListedFeature.{ListedFeature}
+use Rattle.krates_questions.specs.declared.lookup.Lookup.{Lookup}
 use Rattle.krates_selection.specs.declared.selection.EnabledFeature.{EnabledFeature}
 use Rattle.krates_rules.proofs.Readings.{ReadsOnce, left_of, right_of}
-use Rattle.krates_lookups.proofs.FeatureNumbers.{one_feature}
-use Rattle.krates_document.proofs.FirstPlaces.{seen_at}
+use Rattle.krates_questions.proofs.FeatureNumbers.{one_feature}
+use Rattle.krates_rules.proofs.FirstPlaces.{seen_at}
 use Rattle.krates_rules.proofs.OnlyOne.{place_in}
 use Rattle.krates_rules.proofs.Standings.{contains_at}
 

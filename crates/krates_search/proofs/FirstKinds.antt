@@ -10,7 +10,7 @@ use Rattle.std.specs.List.{slice_get}
 use Rattle.std.specs.Ordering.{is_eq}
 use Rattle.krates_cm.specs.Document.{DepKindInfoModel, dep_kind_info_view}
 use Rattle.krates_cm.specs.declared.resolve.DepKindInfo.{DepKindInfo}
-use Rattle.krates_lookups.specs.NodeEntry.{IsFirstInfo}
+use Rattle.krates_questions.specs.NodeEntry.{IsFirstInfo}
 use Rattle.krates_search.specs.Kinds.{AreFirstKinds, IsAmongPlaces, IsFirstKind, kind_cmp, kind_view}
 use Rattle.krates_search.specs.declared.kinds.KindKey.{KindKey}
 use Rattle.krates_search.proofs.KindOrder.{kind_from, kind_to}

@@ -13,7 +13,7 @@ use Rattle.krates_search.specs.Found.{HasFound, HasUsed, IsAny, IsEnabledBySome,
 use Rattle.krates_rules.specs.Resolved.{DepAt, NodeAt, Resolved}
 use Rattle.krates_search.specs.Links.{IsMarked, IsMarkedBy, IsWaiter, NotesAsked, Waits, HasMarked, HasWaiter}
 use Rattle.krates_rules.specs.Questions.{edge_between, questions}
-use Rattle.krates_lookups.specs.Numbering.{FeatureAt, IsOwn}
+use Rattle.krates_questions.specs.Numbering.{FeatureAt, IsOwn}
 use Rattle.krates_search.specs.FoundToggle.{IsFoundToggle, found_toggled}
 use Rattle.krates_rules.specs.Setting.{SettingModel}
 use Rattle.krates_search.specs.declared.found.Found.{Found}
@@ -25,7 +25,7 @@ use Rattle.krates_selection.specs.declared.trace.NumberedStep.{NumberedStep}
 use Rattle.krates_rules.proofs.Readings.{ReadsOnce}
 use Rattle.krates_search.proofs.Growing.{used_grows, tried_grows}
 use Rattle.krates_selection.proofs.Steps.{StepsStay, last_step, one_feature, stays_at, step_derivable, step_stays, trace_put, zip_push, zip_weaker}
-use Rattle.krates_lookups.proofs.Lookups.{one_id}
+use Rattle.krates_questions.proofs.Lookups.{one_id}
 
 -- ---- one more number
 

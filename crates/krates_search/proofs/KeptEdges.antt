@@ -21,7 +21,7 @@ use Rattle.krates_selection.specs.declared.selection.KeptEdge.{KeptEdge}
 use Rattle.krates_rules.proofs.OnlyOne.{one_dep, place_in}
 use Rattle.krates_rules.proofs.Readings.{left_of, right_of}
 use Rattle.krates_rules.proofs.Standings.{contains_at}
-use Rattle.krates_search.proofs.Elements.{both, contains_image, contains_or, contains_source}
+use Rattle.krates_rules.proofs.Elements.{both, contains_image, contains_or, contains_source}
 
 -- ---- edges at one place are one
 

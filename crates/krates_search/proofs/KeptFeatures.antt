@@ -12,7 +12,7 @@ use Rattle.krates_search.specs.KeptFeatures.{AreSorted, IsFeatureOf}
 use Rattle.krates_selection.specs.Selection.{feature_fact}
 use Rattle.krates_selection.specs.SelectionOrder.{feature_cmp, same_feature, same_text}
 use Rattle.krates_selection.specs.declared.selection.EnabledFeature.{EnabledFeature}
-use Rattle.krates_search.proofs.Elements.{both, contains_image, contains_or, contains_source}
+use Rattle.krates_rules.proofs.Elements.{both, contains_image, contains_or, contains_source}
 use Rattle.krates_search.proofs.FeaturesAt.{enabled_told}
 use Rattle.krates_rules.specs.Facts.{Id, Feature}
 use Rattle.krates_rules.specs.Resolved.{Resolved}

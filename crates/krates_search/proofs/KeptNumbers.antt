@@ -3,10 +3,10 @@ use Rattle.std.proofs.Common.{◌≡◌, ◌<◌, ℕ, List, Contains, Option, N
 use Rattle.std.proofs.lemmas.List.{length-map}
 use Rattle.std.proofs.lemmas.Option.{get_or_from_slice_get, slice_get_within}
 use Rattle.std.specs.List.{slice_get}
-use Rattle.krates_lookups.specs.CrateTable.{IsNumberOf}
-use Rattle.krates_lookups.specs.Lookup.{IsLookup, resolved_view}
-use Rattle.krates_lookups.specs.declared.lookup.Lookup.{Lookup}
-use Rattle.krates_lookups.proofs.NodeNumbers.{node_among}
+use Rattle.krates_questions.specs.CrateTable.{IsNumberOf}
+use Rattle.krates_questions.specs.Lookup.{IsLookup, resolved_view}
+use Rattle.krates_questions.specs.declared.lookup.Lookup.{Lookup}
+use Rattle.krates_questions.proofs.NodeNumbers.{node_among}
 use Rattle.krates_selection.specs.CrateNumbers.{id_at, no_id}
 use Rattle.krates_search.specs.KeptNumbers.{AreKeptNumbers, IsKeptNode, IsNumberAt, kids_in}
 use Rattle.krates_search.specs.declared.kept_numbers.KeptNumbers.{KeptNumbers}

@@ -2,8 +2,8 @@
 use Rattle.std.proofs.Common.{◌≡◌, ℕ, refl, ap, ◌∙◌}
 use Rattle.std.specs.List.{slice_get}
 use Rattle.krates_cm.specs.Document.{DependencyModel, DepKindInfoModel, NodeDepModel, node_dep_view}
-use Rattle.krates_lookups.specs.NodeEntry.{IsEntry, child_of, edge_for, parent_of}
-use Rattle.krates_lookups.specs.declared.node_entry.NodeEntry.{NodeEntry}
+use Rattle.krates_questions.specs.NodeEntry.{IsEntry, child_of, edge_for, parent_of}
+use Rattle.krates_questions.specs.declared.node_entry.NodeEntry.{NodeEntry}
 use Rattle.krates_questions.specs.Basis.{document_of}
 use Rattle.krates_questions.specs.declared.basis.Basis.{Basis}
 use Rattle.krates_search.proofs.Finding.{finds_declared, finds_default, for_reason}

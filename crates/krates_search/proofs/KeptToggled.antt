@@ -15,7 +15,7 @@ use Rattle.krates_selection.specs.declared.selection.ToggledFeature.{ToggledFeat
 use Rattle.krates_rules.proofs.OnlyOne.{place_in}
 use Rattle.krates_rules.proofs.Readings.{left_of, right_of}
 use Rattle.krates_rules.proofs.Standings.{contains_at}
-use Rattle.krates_search.proofs.Elements.{both, contains_image, contains_or, contains_source}
+use Rattle.krates_rules.proofs.Elements.{both, contains_image, contains_or, contains_source}
 use Rattle.krates_search.proofs.KeptFeatures.{same_name}
 
 -- whether toggled features are equal

@@ -1,5 +1,4 @@
 pub mod EdgeGrowth
-pub mod Elements
 pub mod Enabled
 pub mod Entries
 pub mod EntriesTried

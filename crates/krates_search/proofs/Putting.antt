@@ -4,7 +4,7 @@ use Rattle.std.specs.Bool.{OnTrue, OnFalse}
 use Rattle.std.specs.Global.{Vec}
 use Rattle.krates_cm.specs.Document.{Text}
 use Rattle.krates_graph.specs.Agenda.{PutNumbers}
-use Rattle.krates_lookups.specs.Numbering.{FeatureAt, IsOwn}
+use Rattle.krates_questions.specs.Numbering.{FeatureAt, IsOwn}
 use Rattle.krates_search.proofs.Growing.{advances_refl, advances_trans}
 use Rattle.krates_search.proofs.Growth.{crate_advances, feature_advances, put_step_has, step_advances}
 use Rattle.krates_search.specs.Found.{Advances, HasFound, IsSound}

@@ -3,9 +3,9 @@ use Rattle.std.proofs.Common.{◌≡◌, ℕ, ◌<◌, ◌≤◌, ◌+◌, List,
 use Rattle.std.proofs.lemmas.Option.{same_Some}
 use Rattle.std.specs.List.{slice_get}
 use Rattle.krates_cm.specs.Document.{DependencyModel, DepKindInfoModel, dep_kind_info_view}
-use Rattle.krates_document.proofs.Seen.{SeenBelow, seen_all, seen_more}
-use Rattle.krates_lookups.specs.NodeEntry.{edge_for}
-use Rattle.krates_lookups.specs.declared.node_entry.NodeEntry.{NodeEntry}
+use Rattle.krates_rules.proofs.Seen.{SeenBelow, seen_all, seen_more}
+use Rattle.krates_questions.specs.NodeEntry.{edge_for}
+use Rattle.krates_questions.specs.declared.node_entry.NodeEntry.{NodeEntry}
 use Rattle.krates_search.specs.Found.{Grows, IsTried}
 use Rattle.krates_search.specs.Kinds.{AreFirstKinds}
 use Rattle.krates_search.specs.declared.found.Found.{Found}

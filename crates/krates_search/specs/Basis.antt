@@ -3,12 +3,12 @@ use Rattle.krates_questions.specs.Basis.{document_of, Derives, IsNodeAt, IsFeatu
 use Rattle.krates_cm.specs.Document.{DependencyModel, NodeDepModel, Text, dependency_view, node_dep_view}
 use Rattle.krates_cm.specs.declared.dependency.Dependency.{Dependency}
 use Rattle.krates_search.specs.Found.{Advances, AreTried, IsEdgeStep, HasFound, HasUsed, IsEnabledBySome, IsExpanded, IsSound, IsToggledIn, IsTried, MayName, MayToggle, MayTry, MayUse}
-use Rattle.krates_lookups.specs.NodeEntry.{child_of, parent_of}
+use Rattle.krates_questions.specs.NodeEntry.{child_of, parent_of}
 use Rattle.krates_selection.specs.Trace.{HasStep, MayFind, Names}
 use Rattle.krates_questions.specs.declared.basis.Basis.{Basis}
 use Rattle.krates_search.specs.declared.enabling.KeptNode.{KeptNode}
 use Rattle.krates_search.specs.declared.found.Found.{Found}
-use Rattle.krates_lookups.specs.declared.node_entry.NodeEntry.{NodeEntry}
+use Rattle.krates_questions.specs.declared.node_entry.NodeEntry.{NodeEntry}
 use Rattle.krates_questions.specs.declared.standing.Standing.{Standing}
 use Rattle.krates_questions.specs.Standing.{IsStanding}
 use Rattle.krates_selection.specs.declared.trace.NumberedStep.{NumberedStep}
@@ -18,7 +18,7 @@ use Rattle.krates_rules.specs.NamedIds.{IsReadOf}
 use Rattle.krates_rules.specs.Questions.{Stands}
 use Rattle.krates_rules.specs.Resolved.{id_of}
 use Rattle.krates_rules.specs.Rules.{default_name}
-use Rattle.krates_lookups.specs.Numbering.{IsOwn}
+use Rattle.krates_questions.specs.Numbering.{IsOwn}
 use Rattle.krates_ids.specs.Identity.{Identity}
 use Rattle.std.specs.Prelude.{◌≡◌, Contains, ℕ, true}
 

@@ -12,8 +12,8 @@ use Rattle.krates_search.specs.Links.{HasLinks, IsMarked, IsMarkedBy, IsWaiter, 
 use Rattle.krates_selection.specs.Trace.{HasSomeStep, HasStep, IsTrace}
 use Rattle.krates_questions.specs.Standing.{AreExclusions}
 use Rattle.krates_rules.specs.Questions.{edge_between, Stands, LacksNode, IsWanted, IsLoose, questions}
-use Rattle.krates_lookups.specs.ListedFeatures.{listed_features}
-use Rattle.krates_lookups.specs.Numbering.{FeatureAt, IsOwn}
+use Rattle.krates_questions.specs.ListedFeatures.{listed_features}
+use Rattle.krates_questions.specs.Numbering.{FeatureAt, IsOwn}
 use Rattle.krates_rules.specs.Referent.{IsReferent}
 use Rattle.krates_rules.specs.Roots.{IsRoot}
 use Rattle.krates_rules.specs.Rules.{default_name}

@@ -1,8 +1,8 @@
 -- The numbers of kept crates by the places of their nodes.
 use Rattle.std.specs.Prelude.{◌≡◌, ℕ, ◌<◌, List, Contains, length, map}
 use Rattle.krates_ids.specs.Identity.{Identity}
-use Rattle.krates_lookups.specs.CrateTable.{AreNumbersOf}
-use Rattle.krates_lookups.specs.declared.lookup.Lookup.{Lookup}
+use Rattle.krates_questions.specs.CrateTable.{AreNumbersOf}
+use Rattle.krates_questions.specs.declared.lookup.Lookup.{Lookup}
 use Rattle.krates_selection.specs.CrateNumbers.{id_at}
 use Rattle.krates_search.specs.declared.kept_numbers.KeptNumbers.{KeptNumbers}
 use Rattle.krates_rules.specs.Facts.{Id}

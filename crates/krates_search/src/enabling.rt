@@ -2,13 +2,13 @@
 
 ghost use Rattle.krates_questions.specs.Basis.{Derives, HasEntry, IsNodeAt, IsWantedAt, Lists, Refuses};
 ghost use Rattle.krates_search.specs.Basis.{Finds, FindsListed, FindsToggled, FindsUsed, Has, HasEnabled, HasEnabledFor, HasKeptStep, HasListed, HasToggledBy, IsNodeOf, IsNumberOf, IsRight, MayEnable, MayEnableFor, MayEnableListed, MayToggleFor, Moves, crate_of};
-ghost use Rattle.krates_lookups.specs.NodeEntry.{child_of, edge_for, edge_of};
+ghost use Rattle.krates_questions.specs.NodeEntry.{child_of, edge_for, edge_of};
 ghost use Rattle.std.specs.Prelude.{◌≡◌, IfErr, IfOk, OnOk};
 ghost use Rattle.krates_cm.specs.Document.{DepKindInfoModel, dependency_view};
 ghost use Rattle.krates_rules.specs.Facts.{Crate, Feature, Kept};
 ghost use Rattle.krates_search.specs.Kinds.{IsFirstOf};
 ghost use Rattle.krates_search.specs.Links.{IsMarked};
-ghost use Rattle.krates_lookups.specs.Lookup.{IsLookup};
+ghost use Rattle.krates_questions.specs.Lookup.{IsLookup};
 ghost use Rattle.krates_rules.specs.Resolved.{id_of};
 ghost use Rattle.krates_rules.specs.Rules.{default_name};
 
@@ -18,8 +18,8 @@ use crate::found_toggle::FoundToggle;
 use crate::tracing::{put_feature, put_krate, put_step};
 use krates_cm::Dependency;
 use krates_ids::{Error, Kid, Lost, laws};
-use krates_lookups::features::feature_number;
-use krates_lookups::node_entry::{EntryEdge, NodeEntry, declared_at};
+use krates_questions::features::feature_number;
+use krates_questions::node_entry::{EntryEdge, NodeEntry, declared_at};
 use krates_questions::basis::Basis;
 use krates_selection::trace::{NumberedFact, NumberedStep, Reason};
 

@@ -2,12 +2,12 @@
 
 ghost use Rattle.krates_questions.specs.Basis.{HasEntry, Refuses};
 ghost use Rattle.krates_search.specs.Basis.{FindsEdge, HasExpandedTaken, HasKrateStep, HasStanding, HasTried, HasTriedEntry, IsRight, MayKeep, Moves};
-ghost use Rattle.krates_lookups.specs.NodeEntry.{HasItsPlaces, IsListedEdge, edge_for, edge_of};
+ghost use Rattle.krates_questions.specs.NodeEntry.{HasItsPlaces, IsListedEdge, edge_for, edge_of};
 ghost use Rattle.std.specs.Prelude.{◌≡◌, ◌<◌, IfErr, IfOk, OnOk, Some, Contains, true};
 ghost use Rattle.krates_cm.specs.Document.{DepKindInfoModel};
 ghost use Rattle.krates_search.specs.Found.{IsAny, TakenWhen};
 ghost use Rattle.krates_search.specs.Kinds.{IsFirstOf};
-ghost use Rattle.krates_lookups.specs.Lookup.{IsLookup};
+ghost use Rattle.krates_questions.specs.Lookup.{IsLookup};
 
 use crate::enabling::{Keeping, keep};
 use crate::found::Found;
@@ -15,7 +15,7 @@ use crate::kinds::{first_kinds, info_at};
 use krates_document::declared_dependency::{Sought, declared_of};
 use krates_graph::agenda::Taken;
 use krates_ids::{Error, Lost, laws};
-use krates_lookups::node_entry::{EntryEdge, NodeEntry, entry_at, parts_of, places_for};
+use krates_questions::node_entry::{EntryEdge, NodeEntry, entry_at, parts_of, places_for};
 use krates_questions::basis::Basis;
 use krates_questions::standing::{Standing, known_standing_of_child};
 use krates_selection::trace::Reason;

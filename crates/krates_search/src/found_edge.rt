@@ -1,14 +1,14 @@
 //! A kept edge, as the search finds it: what it says stays where the document has it.
 
 ghost use Rattle.std.specs.Prelude.{◌≡◌};
-ghost use Rattle.krates_lookups.specs.NodeEntry.{edge_of};
+ghost use Rattle.krates_questions.specs.NodeEntry.{edge_of};
 ghost use Rattle.krates_search.specs.FoundEdge.{found_view};
 ghost use Rattle.krates_search.specs.Kinds.{IsFirstOf};
 
 use crate::kinds::info_at;
 use krates_cm::DepKindInfo;
 use krates_ids::Kid;
-use krates_lookups::node_entry::EntryEdge;
+use krates_questions::node_entry::EntryEdge;
 
 /// A kept edge, by references into the document.
 #[derive(Clone, Copy)]

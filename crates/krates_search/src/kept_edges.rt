@@ -2,7 +2,7 @@
 
 ghost use Rattle.std.specs.Prelude.{All, IfOk};
 ghost use Rattle.std.specs.List.{AllZip};
-ghost use Rattle.krates_lookups.specs.Lookup.{IsLookup, resolved_view};
+ghost use Rattle.krates_questions.specs.Lookup.{IsLookup, resolved_view};
 ghost use Rattle.krates_questions.specs.Basis.{document_of};
 ghost use Rattle.krates_search.specs.FoundEdge.{IsFoundEdge};
 ghost use Rattle.krates_search.specs.KeptEdges.{AreInOrder, HasKeptNodes, IsCopyOf};
@@ -11,8 +11,8 @@ ghost use Rattle.krates_search.specs.KeptNumbers.{AreKeptNumbers, kids_in};
 use crate::found_edge::FoundEdge;
 use crate::kept_numbers::{KeptNumbers, number_at};
 use krates_ids::laws;
-use krates_lookups::lookup::Lookup;
-use krates_lookups::sorted::in_order;
+use krates_questions::lookup::Lookup;
+use krates_questions::sorted::in_order;
 use krates_questions::basis::Basis;
 use krates_selection::selection::KeptEdge;
 use std::alloc::{AllocError, Global};

@@ -1,10 +1,10 @@
 //! The numbers of kept crates: their places among all kept crates, which are in the order of their ids.
 
-ghost use Rattle.krates_lookups.specs.Lookup.{IsLookup, resolved_view};
+ghost use Rattle.krates_questions.specs.Lookup.{IsLookup, resolved_view};
 ghost use Rattle.krates_search.specs.KeptNumbers.{AreKeptNumbers, IsKeptNode, IsNumberAt, kids_in};
 
 use krates_ids::{Kid, laws};
-use krates_lookups::lookup::{Lookup, at_number};
+use krates_questions::lookup::{Lookup, at_number};
 
 /// The kept crates, with their numbers.
 #[derive(Clone, Copy)]

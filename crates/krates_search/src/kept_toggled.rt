@@ -2,15 +2,15 @@
 
 ghost use Rattle.std.specs.Prelude.{All, IfOk};
 ghost use Rattle.std.specs.List.{AllZip};
-ghost use Rattle.krates_lookups.specs.Lookup.{IsLookup, resolved_view};
+ghost use Rattle.krates_questions.specs.Lookup.{IsLookup, resolved_view};
 ghost use Rattle.krates_search.specs.KeptNumbers.{AreKeptNumbers, kids_in};
 ghost use Rattle.krates_search.specs.KeptToggled.{AreToggled, HasKeptCrates, IsToggleCopy};
 
 use crate::found_toggle::FoundToggle;
 use crate::kept_numbers::{KeptNumbers, number_at};
 use krates_ids::laws;
-use krates_lookups::lookup::Lookup;
-use krates_lookups::sorted::in_order;
+use krates_questions::lookup::Lookup;
+use krates_questions::sorted::in_order;
 use krates_selection::selection::ToggledFeature;
 use std::alloc::{AllocError, Global};
 

@@ -3,10 +3,10 @@
 ghost use Rattle.std.specs.Prelude.{◌↔◌, IfOk, IsTrue, OnOk};
 ghost use Rattle.krates_cm.specs.Document.{node_view};
 ghost use Rattle.krates_search.specs.Links.{AreNew, AreNewLinks, HasLink, HasLinks, HasMarked, HasWaiter, IsMarked, NotesAsked, TellsMark, WasAsked};
-ghost use Rattle.krates_lookups.specs.Lookup.{IsLookup, resolved_view};
+ghost use Rattle.krates_questions.specs.Lookup.{IsLookup, resolved_view};
 
 use krates_cm::Node;
-use krates_lookups::lookup::Lookup;
+use krates_questions::lookup::Lookup;
 use std::alloc::{AllocError, Global};
 use std::mem;
 

@@ -9,8 +9,8 @@ use Rattle.std.specs.Cmp.{IsTotalOrder, nat_cmp_is}
 use Rattle.std.specs.List.{AllByRecursion, AllZip, slice_get}
 use Rattle.std.specs.List.Sorted.{IsStrictlySortedBy}
 use Rattle.std.specs.Ordering.{nat_cmp, ordering_reverse}
-use Rattle.krates_document.proofs.Zips.{zip_next}
-use Rattle.krates_lookups.proofs.SeenInOrder.{equal_self}
+use Rattle.krates_rules.proofs.Zips.{zip_next}
+use Rattle.krates_rules.proofs.SeenInOrder.{equal_self}
 
 nat_less : (m n : ℕ) → m < n → nat_cmp m n ≡ Less
 nat_less m n lt = sym (nat_cmp_is m n Less lt)

@@ -4,11 +4,11 @@ use Rattle.std.proofs.lemmas.List.{length-map}
 use Rattle.std.proofs.lemmas.Option.{slice_get-map, slice_get_read}
 use Rattle.std.specs.List.{slice_get}
 use Rattle.krates_cm.specs.Document.{Text, text_view}
-use Rattle.krates_lookups.specs.FeatureTable.{listed_view}
-use Rattle.krates_lookups.specs.ListedFeatures.{listed_features}
-use Rattle.krates_lookups.specs.Lookup.{IsLookup, resolved_view}
-use Rattle.krates_lookups.specs.declared.feature_table.ListedFeature.{ListedFeature}
-use Rattle.krates_lookups.specs.declared.lookup.Lookup.{Lookup}
+use Rattle.krates_questions.specs.FeatureTable.{listed_view}
+use Rattle.krates_questions.specs.ListedFeatures.{listed_features}
+use Rattle.krates_questions.specs.Lookup.{IsLookup, resolved_view}
+use Rattle.krates_questions.specs.declared.feature_table.ListedFeature.{ListedFeature}
+use Rattle.krates_questions.specs.declared.lookup.Lookup.{Lookup}
 use Rattle.krates_rules.proofs.Standings.{contains_at}
 
 pub listed_long : (d : Lookup) → IsLookup d → length (listed_features (resolved_view d)) ≡ length d.features.listed.items

@@ -3,8 +3,8 @@ use Rattle.std.proofs.Common.{◌≡◌, ℕ, zero, suc, List, [], ◌∷◌, �
 use Rattle.std.proofs.lemmas.Option.{same_Some, slice_get_within}
 use Rattle.std.specs.List.{AllZip, slice_get}
 use Rattle.krates_cm.specs.Document.{DepKindInfoModel, NodeDepModel, NodeModel, Text}
-use Rattle.krates_lookups.proofs.Lookups.{one_id}
-use Rattle.krates_lookups.specs.Numbering.{FeatureAt}
+use Rattle.krates_questions.proofs.Lookups.{one_id}
+use Rattle.krates_questions.specs.Numbering.{FeatureAt}
 use Rattle.krates_selection.specs.Trace.{EdgeAt, HasStep, IsShown, IsTrace, MayFind, Names}
 use Rattle.krates_selection.specs.declared.trace.NumberedFact.{NumberedFact}
 use Rattle.krates_selection.specs.declared.trace.NumberedFact.TheVariants as numbered

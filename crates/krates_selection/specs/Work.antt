@@ -8,7 +8,7 @@ use Rattle.krates_rules.specs.Referent.{AreReferents}
 use Rattle.krates_rules.specs.Resolved.{Resolved, HasPackage}
 use Rattle.krates_rules.specs.Setting.{SettingModel}
 use Rattle.krates_text.specs.FeatureReference.{Reference, IsReference, krate, simple, strong, weak}
-use Rattle.krates_lookups.specs.FeatureValues.{values_of}
+use Rattle.krates_questions.specs.FeatureValues.{values_of}
 use Rattle.krates_selection.specs.CrateNumbers.{id_at}
 use Rattle.krates_selection.specs.declared.selection.EnabledFeature.{EnabledFeature}
 use Rattle.krates_selection.specs.declared.work.Work.{Work}

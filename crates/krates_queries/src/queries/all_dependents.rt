@@ -7,7 +7,7 @@ ghost use Rattle.krates_queries.specs.AllDependents.{AreAllDependents, match_at}
 ghost use Rattle.krates_queries.specs.KrateNodes.{match_view};
 
 use crate::kept::Krates;
-use crate::node::Node;
+use krates_drawing::node::Node;
 use crate::queries::krate_nodes::KrateMatch;
 use crate::queries::reached::nodes_put;
 use crate::queries::reaches::leading_to;

@@ -7,7 +7,7 @@ ghost use Rattle.krates_drawing.specs.Views.{listed};
 ghost use Rattle.krates_queries.specs.Direct.{Joined, id_and_value_at, is_feature_of as is_feature, joined_all, joined_by, value_at};
 ghost use Rattle.krates_queries.specs.Neighbours.{AreInOrder, first_edge};
 
-use crate::node::Node;
+use krates_drawing::node::Node;
 use crate::queries::neighbours::{Neighbour, edge_of};
 use krates_graph::graph::{EdgeId, NodeId};
 use krates_ids::Kid;
@@ -31,8 +31,7 @@ pub(crate) fn is_feature_of<N>(nodes: &[Node<N>], krate: NodeId, number: NodeId)
     ensures { result ≡ is_feature nodes.now krate number }
 {
     match nodes.get(number.index()) {
-        Some(Node::Feature { krate_index, .. }) => *krate_index == krate,
-        Some(Node::Krate { .. }) => false,
+        Some(node) => node.is_feature_of(krate),
         None => false,
     }
 }

@@ -7,7 +7,7 @@ ghost use Rattle.krates_graph.specs.declared.graph.edge.Direction.TheVariants.{O
 ghost use Rattle.krates_queries.specs.GetDeps.{deps_of, target_of};
 
 use crate::kept::Krates;
-use crate::node::Node;
+use krates_drawing::node::Node;
 use krates_graph::graph::{Direction, EdgeId, GraphEdge, NodeId};
 use std::marker::Model;
 
@@ -23,7 +23,7 @@ impl<'a, N, E> Model for Deps<'a, N, E> {
     ghost use Rattle.std.specs.Prelude.{◌<◌, All, List, length};
     ghost use Rattle.krates_graph.specs.Graph.{HasEnds};
     ghost use Rattle.krates_queries.specs.GetDeps.{targets_of};
-    ghost use Rattle.krates_queries.specs.declared.node.Node.{Node};
+    ghost use Rattle.krates_drawing.specs.declared.node.Node.{Node};
 
     ghost Value = { List (Node N × E) };
 

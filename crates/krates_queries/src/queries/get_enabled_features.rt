@@ -3,10 +3,10 @@
 ghost use Rattle.std.specs.Prelude.{MatchOption};
 ghost use Rattle.krates_rules.specs.Resolved.{id_of};
 ghost use Rattle.krates_queries.specs.Kept.{HasFeatures, IsNotKept, features_of, ids_of};
-ghost use Rattle.krates_queries.specs.Node.{names_in};
+ghost use Rattle.krates_drawing.specs.Node.{names_in};
 
 use crate::kept::Krates;
-use crate::node::EnabledFeatures;
+use krates_drawing::node::EnabledFeatures;
 use crate::numbers::{features_at, number_of};
 use krates_ids::Kid;
 

@@ -4,11 +4,11 @@ ghost use Rattle.std.specs.Prelude.{◌≡◌, ◌↔◌, ℕ, ⊤, IsSome, Matc
 ghost use Rattle.krates_rules.specs.Resolved.{id_of};
 ghost use Rattle.krates_queries.specs.GetNode.{IsNumberFor, IsNumberIn};
 ghost use Rattle.krates_queries.specs.Kept.{AreNodes, HasEnabled};
-ghost use Rattle.krates_queries.specs.Node.{IsFeatureAt};
+ghost use Rattle.krates_drawing.specs.Node.{IsFeatureAt};
 ghost use Rattle.krates_queries.specs.NodeOrder.{feature_cmp};
 
 use crate::kept::Krates;
-use crate::node::Node;
+use krates_drawing::node::Node;
 use crate::numbers::{number_of, standing_at};
 use krates_graph::graph::NodeId;
 use krates_ids::Kid;

@@ -2,10 +2,10 @@
 
 ghost use Rattle.std.specs.Prelude.{◌≡◌, ◌<◌, Some, length, slice_get};
 ghost use Rattle.krates_queries.specs.Kept.{AreNodes, ids_of, values_of};
-ghost use Rattle.krates_queries.specs.Node.{crate_ids, crate_values};
+ghost use Rattle.krates_drawing.specs.Node.{crate_ids, crate_values};
 
 use crate::kept::Krates;
-use crate::node::Node;
+use krates_drawing::node::Node;
 use crate::numbers::standing_at;
 use krates_graph::graph::NodeId;
 use std::ops::Index;

@@ -7,7 +7,7 @@ ghost use Rattle.krates_queries.specs.Kept.{AreOrdered, ids_of, values_of};
 ghost use Rattle.krates_queries.specs.KrateNodes.{crates_of, match_view};
 
 use crate::kept::Krates;
-use crate::node::Node;
+use krates_drawing::node::Node;
 use krates_graph::graph::NodeId;
 use krates_ids::Kid;
 use std::marker::Model;

@@ -8,7 +8,7 @@ ghost use Rattle.krates_queries.specs.KratesFiltered.{AreReached, IsReached};
 ghost use Rattle.krates_queries.specs.Reached.{Grows};
 
 use crate::kept::Krates;
-use crate::node::Node;
+use krates_drawing::node::Node;
 use crate::queries::direct::krate_at;
 use crate::queries::reached::{WithoutKind, nodes_put, put_reached};
 use krates_drawing::edge::Edge;

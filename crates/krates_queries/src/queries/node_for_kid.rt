@@ -5,7 +5,7 @@ ghost use Rattle.krates_rules.specs.Resolved.{id_of};
 ghost use Rattle.krates_queries.specs.Kept.{IsNodeOf, IsNotKept};
 
 use crate::kept::Krates;
-use crate::node::Node;
+use krates_drawing::node::Node;
 use crate::numbers::{number_of, standing_at};
 use krates_ids::Kid;
 

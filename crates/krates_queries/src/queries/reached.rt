@@ -48,11 +48,7 @@ impl EdgeFilter<Edge> for WithoutKind {
     ghost admits = { λ filter edge. Passes filter.kind (tie_view edge) };
 
     fn passes(&self, weight: &Edge) -> bool {
-        match weight {
-            Edge::Dep { kind: other, .. } => *other != self.kind,
-            Edge::DepFeature { kind: other, .. } => *other != self.kind,
-            Edge::Feature => true,
-        }
+        weight.is_without(self.kind)
     }
 }
 

@@ -5,7 +5,7 @@ ghost use Rattle.krates_queries.specs.Reached.{Grows};
 ghost use Rattle.krates_queries.specs.Reaches.{HasPath, TellsPath};
 
 use crate::kept::Krates;
-use crate::node::Node;
+use krates_drawing::node::Node;
 use crate::queries::reached::{EveryEdge, put_reached};
 use krates_graph::agenda::Agenda;
 use krates_graph::graph::{Direction, Graph, NodeId};

@@ -5,7 +5,7 @@ ghost use Rattle.std.specs.Iterator.{YieldsFirstRef, item_count};
 ghost use Rattle.krates_queries.specs.WorkspaceMembers.{nodes_at};
 
 use crate::kept::Krates;
-use crate::node::Node;
+use krates_drawing::node::Node;
 use crate::numbers::standing_at;
 use krates_graph::graph::NodeId;
 use std::marker::Model;
@@ -37,7 +37,7 @@ pub struct Members<'a, N> {
 impl<'a, N> Model for Members<'a, N> {
     ghost use Rattle.std.specs.Prelude.{◌<◌, All, List, length};
     ghost use Rattle.krates_queries.specs.WorkspaceMembers.{nodes_at};
-    ghost use Rattle.krates_queries.specs.declared.node.Node.{Node};
+    ghost use Rattle.krates_drawing.specs.declared.node.Node.{Node};
 
     ghost Value = { List (Node N) };
 

@@ -2,7 +2,7 @@
 
 ghost use Rattle.std.specs.Prelude.{option_map};
 ghost use Rattle.krates_cm.specs.Document.{node_view, package_view};
-ghost use Rattle.krates_lookups.specs.Lookup.{IsLookup, IsPackageOf, TellsPackage, resolved_view};
+ghost use Rattle.krates_questions.specs.Lookup.{IsLookup, IsPackageOf, TellsPackage, resolved_view};
 ghost use Rattle.krates_questions.specs.Contents.{IsNodeOf, TellsNode};
 ghost use Rattle.krates_questions.specs.DocumentModel.{as_resolved};
 ghost use Rattle.krates_rules.specs.Resolved.{id_of};
@@ -10,7 +10,7 @@ ghost use Rattle.krates_rules.specs.Resolved.{id_of};
 use crate::questions::Document;
 use krates_cm::{Node, Package};
 use krates_ids::Kid;
-use krates_lookups::lookup::{Lookup, node_place, package_of};
+use crate::lookup::{Lookup, node_place, package_of};
 
 impl<'a> Document<'a> {
     /// The package of a crate; none where the document has none. It is found by halves. Time O(log n) in the crates.

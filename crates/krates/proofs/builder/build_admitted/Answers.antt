@@ -10,20 +10,20 @@ use Rattle.krates_drawing.specs.Views.{sheet_view}
 use Rattle.krates_drawing.specs.declared.sheet.Krate.{Krate as SheetKrate}
 use Rattle.krates_explain.specs.declared.kept.KeptStep.{KeptStep}
 use Rattle.krates_ids.specs.Identity.{Identity, id_cmp}
-use Rattle.krates_packages.specs.Division.{IsDivision, sheet_ids}
+use Rattle.krates_drawing.specs.Division.{IsDivision, sheet_ids}
 use Rattle.krates_queries.specs.Kept.{AreNodes}
-use Rattle.krates_packages.specs.Krate.{krate_ids}
+use Rattle.krates_drawing.specs.Krate.{krate_ids}
 use Rattle.krates.specs.declared.builder.Rest.{Rest}
-use Rattle.krates_packages.specs.declared.division.Division.{Division}
+use Rattle.krates_drawing.specs.declared.division.Division.{Division}
 use Rattle.krates.specs.Members.{AreNumbersOf}
-use Rattle.krates_queries.specs.Node.{crate_ids}
+use Rattle.krates_drawing.specs.Node.{crate_ids}
 use Rattle.krates.proofs.BuildLemmas.{package_ids, ids_distinct, resolvable}
 use Rattle.krates.proofs.ConnectedLemmas.{agrees, connects}
 use Rattle.krates.proofs.DrawnLemmas.{builds_sheet, is_built, kept_ids, sheet_stands}
 use Rattle.krates.proofs.ExplainedLemmas.{explained_by, explains}
 use Rattle.krates.proofs.Numbered.{numbered, numbered_graph, undrawn, undrawn_names}
 use Rattle.krates.proofs.MemberLemmas.{crate_numbers, kept_members}
-use Rattle.krates_queries.proofs.OrderedIds.{Compares}
+use Rattle.krates_rules.proofs.OrderedIds.{Compares}
 use Rattle.krates.proofs.builder.build_admitted.Goals as goal
 
 -- these are the fields of the document and of its ids

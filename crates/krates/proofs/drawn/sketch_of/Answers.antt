@@ -5,10 +5,10 @@ use Rattle.krates_document.specs.Ids.{ids_view}
 use Rattle.krates_drawing.specs.Views.{sheet_view}
 use Rattle.krates_questions.specs.DocumentModel.{as_resolved}
 use Rattle.krates_drawing.proofs.DocumentSheets.{none_doubled_in}
-use Rattle.krates_lookups.specs.Lookup.{resolved_view}
+use Rattle.krates_questions.specs.Lookup.{resolved_view}
 use Rattle.krates_selection.specs.Explained.{IsExplained, IsExplainedOf}
 use Rattle.krates_selection.specs.Selection.{IsSelection, IsSelectionOf, RefusesSelection}
-use Rattle.krates_lookups.proofs.ReadIds.{each_read}
+use Rattle.krates_questions.proofs.ReadIds.{each_read}
 use Rattle.krates_rules.specs.NamedIds.{NamesIdsOf, named_ids}
 use Rattle.krates_rules.specs.Questions.{questions}
 use Rattle.krates_rules.specs.Resolved.{Resolved, resolved}

@@ -1,5 +1,5 @@
 use Rattle.std.proofs.Common.{◌≡◌, ◌++◌, drop}
-use Rattle.krates_packages.specs.Krate.{krate_ids}
+use Rattle.krates_drawing.specs.Krate.{krate_ids}
 use Rattle.krates.proofs.explained.explanation_of.Given as goal
 
 -- the ids so far, then those of the rest, are all ids

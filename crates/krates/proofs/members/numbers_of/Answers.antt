@@ -2,10 +2,10 @@ use Rattle.std.proofs.Common.{◌≡◌, ◌<◌, ◌^◌, ◌∙◌, List, leng
 use Rattle.std.proofs.lemmas.List.{take_all}
 use Rattle.krates_ids.specs.Identity.{Identity}
 use Rattle.krates_rules.specs.Resolved.{id_of}
-use Rattle.krates_queries.specs.Node.{crate_ids}
+use Rattle.krates_drawing.specs.Node.{crate_ids}
 use Rattle.krates.specs.Members.{AreNumbersOf}
 use Rattle.krates.proofs.MemberLemmas.{numbers_more, numbers_same}
-use Rattle.krates_queries.proofs.OrderedIds.{stands_within}
+use Rattle.krates_rules.proofs.OrderedIds.{stands_within}
 use Rattle.krates.proofs.members.numbers_of.Goals.{in-Some+in_ok-push, in_default}
 use Rattle.krates.proofs.members.numbers_of.Goals as goal
 

@@ -1,5 +1,5 @@
 use Rattle.std.proofs.Common.{take}
-use Rattle.krates_queries.specs.Node.{crate_ids}
+use Rattle.krates_drawing.specs.Node.{crate_ids}
 use Rattle.krates.specs.Members.{AreNumbersOf}
 use Rattle.krates.proofs.members.numbers_of.Given as goal
 

@@ -3,7 +3,7 @@ use Rattle.std.proofs.lemmas.List.{map-append}
 use Rattle.std.proofs.lemmas.List.Elements.{All-contains}
 use Rattle.std.specs.List.{flat_map}
 use Rattle.krates_cm.specs.declared.package.Package.{Package}
-use Rattle.krates_drawing.proofs.Members.{Member, contains_of}
+use Rattle.krates_rules.proofs.Members.{Member, contains_of}
 use Rattle.krates_drawing.specs.declared.edge.Edge.{Edge}
 use Rattle.krates_queries.specs.Kept.{KeptCrates, ids_of}
 use Rattle.krates_queries.specs.KrateNodes.{Match, crates_of, match_view}

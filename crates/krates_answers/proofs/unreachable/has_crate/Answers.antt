@@ -1,7 +1,7 @@
 use Rattle.std.proofs.Common.{◌≡◌, ◌≤◌, All, length, arith, subst}
 use Rattle.std.proofs.lemmas.List.{take_all}
 use Rattle.std.proofs.lemmas.List.Elements.{All-contains}
-use Rattle.krates_drawing.proofs.Members.{contains_of, mapped_of, member_of}
+use Rattle.krates_rules.proofs.Members.{contains_of, mapped_of, member_of}
 use Rattle.krates_rules.specs.Facts.{Crate}
 use Rattle.krates_rules.specs.Resolved.{id_of}
 use Rattle.krates_rules.specs.StepViews.{fact_view, facts_view}

@@ -1,6 +1,6 @@
 use Rattle.std.proofs.Common.{subst}
 use Rattle.std.proofs.lemmas.Result.{IfOk-weaker}
-use Rattle.krates_queries.specs.Node.{CratesFirst}
+use Rattle.krates_drawing.specs.Node.{CratesFirst}
 use Rattle.krates_build_tests.proofs.Listed.{holds_rebuilt}
 use Rattle.krates_build_tests.proofs.rebuilt.filtered_beside.Goals as goal
 

@@ -4,8 +4,8 @@ use Rattle.krates_rules.specs.StepViews.{fact_view}
 use Rattle.krates_rules.specs.declared.derivation.Fact.{Fact as ToldFact}
 use Rattle.krates_derive.specs.Claim.{document_in, facts_in}
 use Rattle.krates_rules.specs.Facts.{Fact}
-use Rattle.krates_derive.proofs.Places.{contains_read}
-use Rattle.krates_derive.proofs.Seen.{seen_more, each_seen}
+use Rattle.krates_rules.proofs.Elements.{contains_read}
+use Rattle.krates_rules.proofs.Seen.{seen_more, each_seen}
 use Rattle.krates_checkers.proofs.closed.are_facts_in.Goals as goal
 
 pub loop-fact-preserved : goal.loop-fact-preserved

@@ -1,6 +1,6 @@
 use Rattle.krates_derive.specs.Giving.{FactIn}
 use Rattle.krates_rules.specs.StepViews.{fact_view}
-use Rattle.krates_derive.proofs.Seen.{SeenBelow}
+use Rattle.krates_rules.proofs.Seen.{SeenBelow}
 use Rattle.krates_derive.specs.Claim.{document_in, facts_in}
 use Rattle.krates_checkers.proofs.closed.are_facts_in.Given as goal
 

@@ -4,8 +4,8 @@ use Rattle.krates_cm.specs.Document.{Text, text_view}
 use Rattle.krates_derive.specs.Giving.{AskedByIn}
 use Rattle.krates_derive.specs.Claim.{document_in, facts_in}
 use Rattle.krates_rules.specs.Resolved.{id_of}
-use Rattle.krates_derive.proofs.Places.{contains_read}
-use Rattle.krates_derive.proofs.Seen.{seen_more, each_seen}
+use Rattle.krates_rules.proofs.Elements.{contains_read}
+use Rattle.krates_rules.proofs.Seen.{seen_more, each_seen}
 use Rattle.krates_derive.proofs.closing.are_asked_in.Goals as goal
 
 pub loop-value-preserved : goal.loop-value-preserved

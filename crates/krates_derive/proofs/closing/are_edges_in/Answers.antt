@@ -7,7 +7,7 @@ use Rattle.krates_rules.specs.Facts.{Edge}
 use Rattle.krates_rules.specs.Questions.{edge_between}
 use Rattle.krates_rules.specs.Resolved.{id_of}
 use Rattle.krates_derive.proofs.Givings.{edge_listed}
-use Rattle.krates_derive.proofs.Seen.{seen_more, each_seen}
+use Rattle.krates_rules.proofs.Seen.{seen_more, each_seen}
 use Rattle.krates_derive.proofs.closing.are_edges_in.Goals as goal
 
 pub loop-info-preserved : goal.loop-info-preserved

@@ -1,6 +1,6 @@
 use Rattle.krates_cm.specs.Document.{dep_kind_info_view}
 use Rattle.krates_derive.specs.Giving.{EdgeIn}
-use Rattle.krates_derive.proofs.Seen.{SeenBelow}
+use Rattle.krates_rules.proofs.Seen.{SeenBelow}
 use Rattle.krates_derive.specs.Claim.{document_in, facts_in}
 use Rattle.krates_rules.specs.Questions.{edge_between}
 use Rattle.krates_rules.specs.Resolved.{id_of}

@@ -2,7 +2,7 @@ use Rattle.krates_derive.specs.Claim.{facts_in}
 use Rattle.krates_cm.specs.Document.{text_view}
 use Rattle.std.proofs.Common.{Contains}
 use Rattle.krates_rules.specs.Facts.{Feature}
-use Rattle.krates_derive.proofs.Seen.{SeenBelow}
+use Rattle.krates_rules.proofs.Seen.{SeenBelow}
 use Rattle.krates_rules.specs.Resolved.{id_of}
 use Rattle.krates_derive.proofs.closing.are_features_in.Given as goal
 

@@ -1,5 +1,5 @@
 use Rattle.krates_derive.specs.Giving.{RootIn}
-use Rattle.krates_derive.proofs.Seen.{SeenBelow}
+use Rattle.krates_rules.proofs.Seen.{SeenBelow}
 use Rattle.krates_derive.specs.Claim.{document_in, facts_in}
 use Rattle.krates_rules.specs.Resolved.{id_of}
 use Rattle.krates_derive.proofs.closing.are_roots_in.Given as goal

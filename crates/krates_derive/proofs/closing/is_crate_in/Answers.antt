@@ -7,7 +7,7 @@ use Rattle.krates_rules.specs.Facts.{Id}
 use Rattle.krates_rules.specs.Questions.{edge_between}
 use Rattle.krates_rules.specs.Resolved.{id_of}
 use Rattle.krates_derive.proofs.Givings.{edge_of_child}
-use Rattle.krates_derive.proofs.Seen.{seen_more, each_seen}
+use Rattle.krates_rules.proofs.Seen.{seen_more, each_seen}
 use Rattle.krates_derive.proofs.closing.is_crate_in.Goals as goal
 
 pub loop-child-preserved : goal.loop-child-preserved

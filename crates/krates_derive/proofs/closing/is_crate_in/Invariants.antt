@@ -2,7 +2,7 @@ use Rattle.krates_cm.specs.Document.{DepKindInfoModel}
 use Rattle.krates_rules.specs.Questions.{edge_between}
 use Rattle.krates_derive.specs.Giving.{EdgeIn}
 use Rattle.std.proofs.Common.{false}
-use Rattle.krates_derive.proofs.Seen.{SeenBelow}
+use Rattle.krates_rules.proofs.Seen.{SeenBelow}
 use Rattle.krates_derive.specs.Claim.{document_in, facts_in}
 use Rattle.krates_rules.specs.Resolved.{id_of}
 use Rattle.krates_derive.proofs.closing.is_crate_in.Given as goal

@@ -6,8 +6,8 @@ use Rattle.krates_questions.specs.declared.referent.Referent.{Referent}
 use Rattle.krates_rules.specs.Facts.{Id}
 use Rattle.krates_rules.specs.Referent.{AreReferents}
 use Rattle.krates_rules.specs.Resolved.{id_of}
-use Rattle.krates_derive.proofs.Places.{contains_read}
-use Rattle.krates_derive.proofs.Seen.{seen_more, each_seen}
+use Rattle.krates_rules.proofs.Elements.{contains_read}
+use Rattle.krates_rules.proofs.Seen.{seen_more, each_seen}
 use Rattle.krates_derive.proofs.closing.is_dep_in.Goals as goal
 
 pub loop-referent-preserved : goal.loop-referent-preserved

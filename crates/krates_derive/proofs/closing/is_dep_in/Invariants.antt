@@ -1,5 +1,5 @@
 use Rattle.krates_derive.specs.Giving.{MeantIn}
-use Rattle.krates_derive.proofs.Seen.{SeenBelow}
+use Rattle.krates_rules.proofs.Seen.{SeenBelow}
 use Rattle.krates_derive.specs.Claim.{document_in, facts_in}
 use Rattle.krates_questions.specs.ReferentPlace.{referent_id}
 use Rattle.krates_questions.specs.declared.referent.Referent.{Referent}

@@ -2,7 +2,7 @@ use Rattle.krates_cm.specs.Document.{text_view}
 use Rattle.krates_derive.specs.Basis.{document_of}
 use Rattle.krates_rules.specs.Resolved.{id_of}
 use Rattle.krates_derive.specs.Referring.{AsksBy}
-use Rattle.krates_derive.proofs.Seen.{SeenBelow}
+use Rattle.krates_rules.proofs.Seen.{SeenBelow}
 use Rattle.krates_derive.proofs.referring.asks_among.Given as goal
 
 -- no value so far asks for edges to this child

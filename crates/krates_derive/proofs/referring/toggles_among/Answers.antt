@@ -4,8 +4,8 @@ use Rattle.krates_cm.specs.Document.{Text, text_view}
 use Rattle.krates_derive.specs.Basis.{document_of}
 use Rattle.krates_rules.specs.Resolved.{id_of}
 use Rattle.krates_derive.specs.Referring.{TogglesBy}
-use Rattle.krates_derive.proofs.Places.{contains_read}
-use Rattle.krates_derive.proofs.Seen.{each_seen, seen_more}
+use Rattle.krates_rules.proofs.Elements.{contains_read}
+use Rattle.krates_rules.proofs.Seen.{each_seen, seen_more}
 use Rattle.krates_derive.proofs.referring.toggles_among.Goals as goal
 
 pub loop-value-preserved : goal.loop-value-preserved

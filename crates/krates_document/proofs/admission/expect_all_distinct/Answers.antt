@@ -4,7 +4,7 @@ use Rattle.std.specs.Global.{Vec}
 use Rattle.krates_ids.specs.Identity.{Identity}
 use Rattle.krates_document.specs.AdmissionSteps.{AreDistinct, DoubledRefusal}
 use Rattle.krates_document.proofs.AdmissionLemmas.{twice_in}
-use Rattle.krates_document.proofs.Zips.{each_next, each_all, one_seen}
+use Rattle.krates_rules.proofs.Zips.{each_next, each_all, one_seen}
 use Rattle.krates_document.proofs.admission.expect_all_distinct.Goals as goal
 
 pub loop-kids-preserved : goal.loop-kids-preserved

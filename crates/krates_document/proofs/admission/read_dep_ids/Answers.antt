@@ -7,7 +7,7 @@ use Rattle.krates_cm.specs.declared.resolve.NodeDep.{NodeDep}
 use Rattle.krates_ids.specs.Identity.{Reads}
 use Rattle.krates_rules.specs.Admission.{HasThisVersion}
 use Rattle.krates_document.proofs.AdmissionLemmas.{bad_dep}
-use Rattle.krates_document.proofs.Zips.{zip_next, zip_all, zip_push, one_seen}
+use Rattle.krates_rules.proofs.Zips.{zip_next, zip_all, zip_push, one_seen}
 use Rattle.krates_document.proofs.admission.read_dep_ids.Goals as goal
 
 pub returns-in_err-kid-clause-refused : goal.returns-in_err-kid-clause-refused

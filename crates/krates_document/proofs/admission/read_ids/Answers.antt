@@ -1,6 +1,6 @@
 use Rattle.std.proofs.Common.{arith}
 use Rattle.krates_ids.specs.Identity.{Reads}
-use Rattle.krates_document.proofs.Zips.{zip_next, zip_all}
+use Rattle.krates_rules.proofs.Zips.{zip_next, zip_all}
 use Rattle.krates_document.proofs.admission.read_ids.Goals as goal
 
 pub loop-item-preserved : goal.loop-item-preserved

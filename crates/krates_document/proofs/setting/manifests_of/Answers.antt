@@ -3,7 +3,7 @@ use Rattle.std.proofs.lemmas.List.{map-append}
 use Rattle.std.specs.Borrow.{Bor}
 use Rattle.krates_cm.specs.Document.{Text, text_view}
 use Rattle.krates_rules.specs.Setting.{IsManifestOf}
-use Rattle.krates_document.proofs.Zips.{zip_read, zip_all}
+use Rattle.krates_rules.proofs.Zips.{zip_read, zip_all}
 use Rattle.krates_document.proofs.setting.manifests_of.Goals as goal
 
 pub loop-path-preserved : goal.loop-path-preserved

@@ -5,8 +5,8 @@ use Rattle.krates_explain.proofs.ToldParts.{chosen_low, use_these}
 use Rattle.krates_explain.specs.Explanation.{explained_steps, uses_in}
 use Rattle.krates_explain.specs.declared.kept.KeptStep.{KeptStep}
 use Rattle.krates_rules.specs.declared.uses.Uses.{Uses}
-use Rattle.krates_steps.specs.Part.{AreBackward, SameNumber}
-use Rattle.krates_steps.specs.Picked.{UseThese}
+use Rattle.krates_explain.specs.Part.{AreBackward, SameNumber}
+use Rattle.krates_explain.specs.Picked.{UseThese}
 use Rattle.krates_explain.proofs.derivation.derivation_of.Goals as goal
 
 pub part_for-requires-clause-backward : goal.part_for-requires-clause-backward

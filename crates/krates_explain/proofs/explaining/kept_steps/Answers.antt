@@ -12,14 +12,14 @@ use Rattle.krates_explain.specs.Tables.{AreStepsOf, IsKeyOf, numbered_facts}
 use Rattle.krates_explain.specs.declared.kept.KeptStep.{KeptStep}
 use Rattle.krates_explain.specs.declared.key.FactKey.{FactKey}
 use Rattle.krates_explain.specs.declared.keys.Tables.{Tables}
-use Rattle.krates_lookups.specs.CrateTable.{AreNumbersOf}
-use Rattle.krates_lookups.proofs.SeenInOrder.{sorted_same}
+use Rattle.krates_questions.specs.CrateTable.{AreNumbersOf}
+use Rattle.krates_rules.proofs.SeenInOrder.{sorted_same}
 use Rattle.krates_questions.specs.Basis.{document_of, rules_of}
 use Rattle.krates_ids.specs.Identity.{Identity, id_cmp}
 use Rattle.krates_selection.specs.declared.trace.NumberedStep.{NumberedStep}
 use Rattle.krates_rules.specs.Referent.{id_order}
 use Rattle.krates_rules.specs.Resolved.{id_of}
-use Rattle.krates_steps.specs.Part.{AreBackward, SameFact}
+use Rattle.krates_explain.specs.Part.{AreBackward, SameFact}
 use Rattle.krates_explain.proofs.explaining.kept_steps.Goals as goal
 
 pub numbers_of-requires : goal.numbers_of-requires

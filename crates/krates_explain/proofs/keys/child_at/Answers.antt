@@ -2,7 +2,7 @@ use Rattle.std.proofs.Common.{◌∙◌, subst, sym}
 use Rattle.std.proofs.lemmas.Option.{same_Some}
 use Rattle.krates_explain.proofs.KeptNumbers.{child_number, number_within}
 use Rattle.krates_explain.specs.Tables.{IsChildAt}
-use Rattle.krates_lookups.proofs.NodeNumbers.{dep_number_within, dep_numbered, dep_numbers_within}
+use Rattle.krates_questions.proofs.NodeNumbers.{dep_number_within, dep_numbered, dep_numbers_within}
 use Rattle.krates_explain.proofs.keys.child_at.Goals as goal
 
 pub index-requires : goal.index-requires

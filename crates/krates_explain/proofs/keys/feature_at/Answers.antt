@@ -2,7 +2,7 @@ use Rattle.std.proofs.Common.{◌<◌, length, subst}
 use Rattle.krates_explain.proofs.KeptNumbers.{listed_there}
 use Rattle.krates_explain.proofs.KeyedFacts.{feature_is}
 use Rattle.krates_explain.specs.Tables.{document_in}
-use Rattle.krates_lookups.proofs.FeatureNumbers.{number_within}
+use Rattle.krates_questions.proofs.FeatureNumbers.{number_within}
 use Rattle.krates_selection.proofs.ListedFeatures.{listed_long}
 use Rattle.krates_explain.proofs.keys.feature_at.Goals as goal
 

@@ -2,7 +2,7 @@ use Rattle.std.proofs.Common.{◌<◌, ◌∙◌, ℕ, IfSome, List, Option, len
 use Rattle.std.proofs.lemmas.List.{length-set}
 use Rattle.krates_explain.specs.Keys.{key_view}
 use Rattle.krates_explain.proofs.FactPlaces.{IsNumberFor, IsPlaceBelow, all_numbered, home_answers, low_home, no_places_yet, none_numbered, number_there, numbers_more, places_more}
-use Rattle.krates_lookups.proofs.NodeParts.{within_vec}
+use Rattle.krates_questions.proofs.NodeParts.{within_vec}
 use Rattle.krates_explain.proofs.numbering.numbers_of.Goals as goal
 
 pub loop-place-init : goal.loop-place-init

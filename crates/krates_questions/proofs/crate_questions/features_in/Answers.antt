@@ -3,7 +3,7 @@ use Rattle.std.specs.Global.{Global}
 use Rattle.krates_cm.specs.Document.{text_view}
 use Rattle.krates_rules.specs.Features.{ListsFeature}
 use Rattle.krates_rules.specs.Resolved.{id_of}
-use Rattle.krates_lookups.specs.Lookup.{resolved_view}
+use Rattle.krates_questions.specs.Lookup.{resolved_view}
 use Rattle.krates_questions.proofs.RootLemmas.{listed_names}
 use Rattle.krates_questions.proofs.crate_questions.features_in.Goals as goal
 

@@ -1,7 +1,7 @@
 use Rattle.krates_rules.specs.Resolved.{id_of}
 use Rattle.std.proofs.Common.{refl}
-use Rattle.krates_lookups.specs.Lookup.{resolved_view}
-use Rattle.krates_lookups.proofs.FeatureNumbers.{listed_at}
+use Rattle.krates_questions.specs.Lookup.{resolved_view}
+use Rattle.krates_questions.proofs.FeatureNumbers.{listed_at}
 use Rattle.krates_questions.proofs.crate_questions.is_listed_at.Goals as goal
 
 pub returns-in-Some : goal.returns-in-Some

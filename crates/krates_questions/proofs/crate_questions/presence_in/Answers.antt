@@ -1,4 +1,4 @@
-use Rattle.krates_lookups.specs.Lookup.{resolved_view}
+use Rattle.krates_questions.specs.Lookup.{resolved_view}
 use Rattle.krates_rules.specs.Resolved.{id_of}
 use Rattle.krates_questions.proofs.Needs.{presence_told}
 use Rattle.krates_questions.proofs.crate_questions.presence_in.Goals as goal

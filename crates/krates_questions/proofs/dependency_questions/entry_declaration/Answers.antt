@@ -1,6 +1,6 @@
 use Rattle.std.proofs.Common.{None}
 use Rattle.krates_cm.specs.Document.{dep_kind_info_view}
-use Rattle.krates_lookups.specs.Lookup.{resolved_view}
+use Rattle.krates_questions.specs.Lookup.{resolved_view}
 use Rattle.krates_questions.proofs.Asked.{declared_told}
 use Rattle.krates_questions.proofs.Needs.{declaration_here, declared_below}
 use Rattle.krates_questions.proofs.dependency_questions.entry_declaration.Goals as goal

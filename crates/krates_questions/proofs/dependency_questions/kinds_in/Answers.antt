@@ -2,7 +2,7 @@ use Rattle.std.proofs.Common.{◌↔◌, List, subst, sym, map, Contains, arith}
 use Rattle.krates_cm.specs.Document.{dep_kind_info_view}
 use Rattle.krates_cm.specs.declared.resolve.DepKindInfo.{DepKindInfo}
 use Rattle.krates_rules.specs.Resolved.{id_of}
-use Rattle.krates_lookups.specs.Lookup.{resolved_view}
+use Rattle.krates_questions.specs.Lookup.{resolved_view}
 use Rattle.krates_questions.specs.Need.{ListsKind}
 use Rattle.krates_questions.proofs.Needs.{kinds_told}
 use Rattle.krates_questions.proofs.dependency_questions.kinds_in.Goals as goal

@@ -1,5 +1,5 @@
 use Rattle.std.proofs.Common.{Bool, false, sym, subst, ◌↔◌, IsTrue}
-use Rattle.krates_lookups.specs.Lookup.{resolved_view}
+use Rattle.krates_questions.specs.Lookup.{resolved_view}
 use Rattle.krates_rules.specs.Referent.{IsReferent}
 use Rattle.krates_rules.specs.Resolved.{id_of}
 use Rattle.krates_questions.proofs.OneReferent.{one_referent}

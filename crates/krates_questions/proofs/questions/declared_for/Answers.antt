@@ -1,4 +1,4 @@
-use Rattle.krates_lookups.specs.NodeEntry.{declared_in}
+use Rattle.krates_questions.specs.NodeEntry.{declared_in}
 use Rattle.krates_questions.proofs.questions.declared_for.Goals as goal
 
 pub declared_of-requires-clause-places : goal.declared_of-requires-clause-places

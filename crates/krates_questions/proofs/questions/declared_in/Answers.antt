@@ -2,7 +2,7 @@ use Rattle.std.proofs.Common.{ℕ, MatchOption}
 use Rattle.krates_cm.specs.Document.{DependencyModel, dep_kind_info_view}
 use Rattle.krates_rules.specs.Questions.{Declares}
 use Rattle.krates_rules.specs.Facts.{Edge}
-use Rattle.krates_lookups.specs.Lookup.{resolved_view}
+use Rattle.krates_questions.specs.Lookup.{resolved_view}
 use Rattle.krates_rules.specs.Resolved.{id_of}
 use Rattle.krates_questions.proofs.Asked.{between, declared_told, undeclared_without}
 use Rattle.krates_questions.proofs.questions.declared_in.Goals as goal

@@ -1,8 +1,8 @@
 use Rattle.std.proofs.Common.{sym}
 use Rattle.std.proofs.lemmas.Option.{slice_get_within}
-use Rattle.krates_lookups.specs.Lookup.{resolved_view}
+use Rattle.krates_questions.specs.Lookup.{resolved_view}
 use Rattle.krates_rules.specs.Resolved.{id_of}
-use Rattle.krates_lookups.proofs.NodeParts.{deps_long, own_long}
+use Rattle.krates_questions.proofs.NodeParts.{deps_long, own_long}
 use Rattle.krates_questions.proofs.Asked.{no_dep_told, entry_told}
 use Rattle.krates_questions.proofs.questions.entry_between.Goals as goal
 

@@ -1,7 +1,7 @@
 use Rattle.std.proofs.Common.{None, sym, ◌∙◌}
 use Rattle.krates_cm.specs.Document.{dep_kind_info_view}
-use Rattle.krates_lookups.specs.Lookup.{resolved_view}
-use Rattle.krates_lookups.specs.NodeEntry.{edge_for}
+use Rattle.krates_questions.specs.Lookup.{resolved_view}
+use Rattle.krates_questions.specs.NodeEntry.{edge_for}
 use Rattle.krates_questions.proofs.Asked.{declared_told, open_told, closed_ignored, closed_barred, closed_undeclared}
 use Rattle.krates_questions.proofs.Entries.{is_ignored, not_ignored}
 use Rattle.krates_questions.proofs.questions.is_entry_open.Goals as goal

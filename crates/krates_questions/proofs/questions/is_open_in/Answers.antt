@@ -1,5 +1,5 @@
 use Rattle.krates_cm.specs.Document.{dep_kind_info_view}
-use Rattle.krates_lookups.specs.Lookup.{resolved_view}
+use Rattle.krates_questions.specs.Lookup.{resolved_view}
 use Rattle.krates_rules.specs.Resolved.{id_of}
 use Rattle.krates_questions.proofs.Asked.{closed_without}
 use Rattle.krates_questions.proofs.questions.is_open_in.Goals as goal

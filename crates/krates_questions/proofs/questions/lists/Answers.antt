@@ -1,6 +1,6 @@
 use Rattle.std.proofs.Common.{◌≡◌, arith, refl}
 use Rattle.krates_cm.specs.Document.{DepKindInfoModel, dep_kind_info_view}
-use Rattle.krates_document.proofs.Seen.{each_seen}
+use Rattle.krates_rules.proofs.Seen.{each_seen}
 use Rattle.krates_questions.proofs.questions.lists.Goals as goal
 
 pub returns : goal.returns

@@ -1,5 +1,5 @@
 use Rattle.std.proofs.lemmas.Option.{slice_get_within}
-use Rattle.krates_lookups.specs.Lookup.{resolved_view}
+use Rattle.krates_questions.specs.Lookup.{resolved_view}
 use Rattle.krates_rules.specs.Resolved.{id_of}
 use Rattle.krates_questions.proofs.Asked.{parts_told}
 use Rattle.krates_questions.proofs.questions.parts_for.Goals as goal

@@ -1,5 +1,5 @@
 use Rattle.std.proofs.Common.{ℕ, arith, refl}
-use Rattle.krates_document.proofs.Seen.{each_seen}
+use Rattle.krates_rules.proofs.Seen.{each_seen}
 use Rattle.krates_document.specs.declared.named_places.NamedPlace.{NamedPlace}
 use Rattle.krates_rules.specs.Resolved.{StandsAt, id_of}
 use Rattle.krates_questions.proofs.questions.place_among.Goals as goal

@@ -3,11 +3,11 @@ use Rattle.krates_cm.specs.Document.{Text}
 use Rattle.krates_document.specs.Ids.{ids_view}
 use Rattle.krates_document.specs.NamedPlaces.{AreInOrder, StandsUnder, no_target, places_in}
 use Rattle.krates_document.specs.declared.named_places.NamedPlace.{NamedPlace}
-use Rattle.krates_lookups.specs.Lookup.{resolved_view}
-use Rattle.krates_lookups.specs.NameIndex.{AreIdsNamed}
+use Rattle.krates_questions.specs.Lookup.{resolved_view}
+use Rattle.krates_questions.specs.NameIndex.{AreIdsNamed}
 use Rattle.krates_rules.specs.Admission.{AreDepIds}
 use Rattle.krates_rules.proofs.Readings.{right_of}
-use Rattle.krates_lookups.proofs.ListPlaces.{names_at, names_within}
+use Rattle.krates_questions.proofs.ListPlaces.{names_at, names_within}
 use Rattle.krates_questions.proofs.ChildPlaces.{place_named}
 use Rattle.krates_questions.proofs.LeastReferents.{AreLookedAt}
 use Rattle.krates_questions.proofs.questions.place_of_child.Goals as goal

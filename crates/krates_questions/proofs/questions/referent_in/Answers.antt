@@ -2,10 +2,10 @@ use Rattle.std.proofs.Common.{false, sym, ◌∙◌, subst}
 use Rattle.std.proofs.lemmas.Option.{slice_get_within, same_Some}
 use Rattle.krates_ids.specs.Identity.{Identity}
 use Rattle.krates_rules.specs.Facts.{Id}
-use Rattle.krates_lookups.specs.Lookup.{resolved_view}
+use Rattle.krates_questions.specs.Lookup.{resolved_view}
 use Rattle.krates_rules.specs.Referent.{IsReferent}
 use Rattle.krates_rules.specs.Resolved.{id_of}
-use Rattle.krates_lookups.proofs.NodeParts.{deps_long, own_long}
+use Rattle.krates_questions.proofs.NodeParts.{deps_long, own_long}
 use Rattle.krates_questions.proofs.questions.referent_in.Goals as goal
 
 pub returns-in_default : goal.returns-in_default

@@ -1,7 +1,7 @@
 use Rattle.std.proofs.Common.{◌+◌, Bor, List, map, sym, ap, ◌∙◌, subst, arith}
 use Rattle.std.proofs.lemmas.List.{take_all}
 use Rattle.krates_ids.specs.Identity.{Identity}
-use Rattle.krates_lookups.specs.Lookup.{resolved_view}
+use Rattle.krates_questions.specs.Lookup.{resolved_view}
 use Rattle.krates_rules.specs.Resolved.{id_of}
 use Rattle.krates_questions.specs.RootOrder.{ArePicked, nothing}
 use Rattle.krates_rules.specs.Roots.{IsRoot}

@@ -1,4 +1,4 @@
-use Rattle.krates_lookups.specs.Lookup.{resolved_view}
+use Rattle.krates_questions.specs.Lookup.{resolved_view}
 use Rattle.krates_rules.specs.Roots.{IsRoot}
 use Rattle.krates_questions.proofs.Asked.{HasThoseOf}
 use Rattle.krates_questions.proofs.questions.root_members.Given as goal

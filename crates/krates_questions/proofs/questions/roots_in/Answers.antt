@@ -1,7 +1,7 @@
 use Rattle.std.proofs.Common.{List, All, map, true, false, sym, subst}
 use Rattle.std.proofs.lemmas.Result.{IfOk-weaker}
 use Rattle.krates_ids.specs.Identity.{Identity}
-use Rattle.krates_lookups.specs.Lookup.{resolved_view}
+use Rattle.krates_questions.specs.Lookup.{resolved_view}
 use Rattle.krates_rules.specs.Resolved.{id_of, IsMember}
 use Rattle.krates_questions.specs.RootOrder.{ArePicked, alone}
 use Rattle.krates_rules.specs.Roots.{IsRoot}

@@ -1,4 +1,4 @@
-use Rattle.krates_lookups.specs.Lookup.{resolved_view}
+use Rattle.krates_questions.specs.Lookup.{resolved_view}
 use Rattle.krates_rules.specs.Resolved.{id_of}
 use Rattle.krates_rules.proofs.Standings.{not_included}
 use Rattle.krates_questions.proofs.questions.stands.Goals as goal

@@ -1,7 +1,7 @@
 use Rattle.std.proofs.Common.{◌≡◌, ◌↔◌, IsTrue, rules, tests}
 use Rattle.krates_cm.specs.Document.{package_view, node_dep_view}
 use Rattle.krates_rules.specs.DependencyName.{IsNameOf}
-use Rattle.krates_lookups.specs.Lookup.{resolved_view}
+use Rattle.krates_questions.specs.Lookup.{resolved_view}
 use Rattle.krates_rules.specs.Referent.{IsLibraryRename}
 use Rattle.krates_rules.specs.Resolved.{id_of}
 use Rattle.krates_questions.proofs.Referents.{answers_told, not_answering}

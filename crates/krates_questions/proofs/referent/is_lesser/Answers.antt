@@ -1,8 +1,8 @@
 use Rattle.std.proofs.Common.{◌<◌, ℕ, get_or, subst}
 use Rattle.std.proofs.lemmas.Option.{slice_get-get_or}
 use Rattle.krates_cm.specs.Document.{node_dep_view}
-use Rattle.krates_lookups.specs.Lookup.{resolved_view}
-use Rattle.krates_lookups.proofs.NodeParts.{deps_long, dep_seen}
+use Rattle.krates_questions.specs.Lookup.{resolved_view}
+use Rattle.krates_questions.proofs.NodeParts.{deps_long, dep_seen}
 use Rattle.krates_questions.proofs.LeastReferents.{answers_here, not_here, past_here}
 use Rattle.krates_questions.proofs.referent.is_lesser.Goals as goal
 

@@ -1,4 +1,4 @@
-use Rattle.krates_lookups.specs.Lookup.{resolved_view}
+use Rattle.krates_questions.specs.Lookup.{resolved_view}
 use Rattle.krates_questions.proofs.LeastReferents.{all_gone, gone_by, gone_none, gone_put}
 use Rattle.krates_questions.proofs.referent.least_of.Goals.{then-is_lesser, else-is_lesser}
 use Rattle.krates_questions.proofs.referent.least_of.Goals as goal

@@ -1,4 +1,4 @@
-use Rattle.krates_lookups.specs.Lookup.{resolved_view}
+use Rattle.krates_questions.specs.Lookup.{resolved_view}
 use Rattle.krates_questions.proofs.LeastReferents.{GoneOver}
 use Rattle.krates_questions.proofs.referent.least_of.Given as goal
 

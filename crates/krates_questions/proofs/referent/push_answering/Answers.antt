@@ -1,6 +1,6 @@
 use Rattle.std.proofs.Common.{refl, rules}
 use Rattle.std.proofs.lemmas.Option.{slice_get-get_or, slice_get_within}
-use Rattle.krates_lookups.specs.Lookup.{resolved_view}
+use Rattle.krates_questions.specs.Lookup.{resolved_view}
 use Rattle.krates_questions.proofs.AllReferents.{gone_by, gone_put, none_gone}
 use Rattle.krates_questions.proofs.referent.push_answering.Goals.{then-is_lesser+in_ok-push, else-is_lesser}
 use Rattle.krates_questions.proofs.referent.push_answering.Goals as goal

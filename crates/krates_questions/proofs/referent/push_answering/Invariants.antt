@@ -1,4 +1,4 @@
-use Rattle.krates_lookups.specs.Lookup.{resolved_view}
+use Rattle.krates_questions.specs.Lookup.{resolved_view}
 use Rattle.krates_questions.proofs.AllReferents.{HasGone}
 use Rattle.krates_questions.proofs.referent.push_answering.Given as goal
 

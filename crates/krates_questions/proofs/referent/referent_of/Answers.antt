@@ -2,12 +2,12 @@ use Rattle.std.proofs.Common.{List, [], sym, subst}
 use Rattle.krates_document.specs.Ids.{ids_view}
 use Rattle.krates_document.specs.NamedPlaces.{AreInOrder, StandsUnder, no_target, places_in}
 use Rattle.krates_document.specs.declared.named_places.NamedPlace.{NamedPlace}
-use Rattle.krates_lookups.specs.Lookup.{resolved_view}
-use Rattle.krates_lookups.specs.NameIndex.{AreDepsOf}
+use Rattle.krates_questions.specs.Lookup.{resolved_view}
+use Rattle.krates_questions.specs.NameIndex.{AreDepsOf}
 use Rattle.krates_rules.specs.Admission.{AreDepIds}
 use Rattle.krates_rules.proofs.Readings.{right_of}
-use Rattle.krates_lookups.proofs.ListPlaces.{names_at, names_within}
-use Rattle.krates_lookups.proofs.RenamedPlaces.{renamed_at, renamed_within}
+use Rattle.krates_questions.proofs.ListPlaces.{names_at, names_within}
+use Rattle.krates_questions.proofs.RenamedPlaces.{renamed_at, renamed_within}
 use Rattle.krates_questions.proofs.LeastReferents.{AreLookedAt, least_within, none_of_none, referent_told}
 use Rattle.krates_questions.proofs.referent.referent_of.Goals as goal
 

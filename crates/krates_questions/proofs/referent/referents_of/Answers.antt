@@ -1,7 +1,7 @@
 use Rattle.std.proofs.Common.{Bool, sym, subst, rules}
 use Rattle.std.proofs.lemmas.Option.{slice_get-get_or, slice_get_within}
 use Rattle.std.proofs.lemmas.Result.{IfOk-weaker}
-use Rattle.krates_lookups.specs.Lookup.{resolved_view}
+use Rattle.krates_questions.specs.Lookup.{resolved_view}
 use Rattle.krates_questions.specs.ReferentPlace.{AreReferentsIn}
 use Rattle.krates_questions.proofs.AllReferents.{none_in, one_in}
 use Rattle.krates_questions.proofs.referent.referents_of.Goals.{in-Some+in_ok-push, in_default}

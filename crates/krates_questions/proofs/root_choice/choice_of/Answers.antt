@@ -3,7 +3,7 @@ use Rattle.std.proofs.lemmas.List.{nil_from_length}
 use Rattle.krates_cm.specs.Document.{text_view}
 use Rattle.krates_ids.specs.Identity.{Identity}
 use Rattle.krates_rules.specs.Admission.{IsRootId}
-use Rattle.krates_lookups.specs.Lookup.{resolved_view}
+use Rattle.krates_questions.specs.Lookup.{resolved_view}
 use Rattle.krates_questions.proofs.RootLemmas.{graph_root}
 use Rattle.krates_questions.proofs.root_choice.choice_of.Goals as goal
 

@@ -1,5 +1,5 @@
 use Rattle.krates_cm.specs.Document.{package_view}
-use Rattle.krates_lookups.specs.Lookup.{resolved_view}
+use Rattle.krates_questions.specs.Lookup.{resolved_view}
 use Rattle.krates_rules.specs.Resolved.{id_of}
 use Rattle.krates_questions.proofs.RootLemmas.{manifest_here}
 use Rattle.krates_questions.proofs.root_choice.has_manifest.Goals as goal

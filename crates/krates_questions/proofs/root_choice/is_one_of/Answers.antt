@@ -1,7 +1,7 @@
 use Rattle.std.proofs.Common.{◌≡◌, arith, refl}
 use Rattle.krates_cm.specs.Document.{Text, text_view}
 use Rattle.krates_text.specs.Path.{components}
-use Rattle.krates_document.proofs.Seen.{each_seen}
+use Rattle.krates_rules.proofs.Seen.{each_seen}
 use Rattle.krates_questions.proofs.root_choice.is_one_of.Goals as goal
 
 pub returns : goal.returns

@@ -2,7 +2,7 @@ use Rattle.std.proofs.Common.{◌≡◌, String}
 use Rattle.std.specs.declared.alloc.Global.{Global}
 use Rattle.krates_cm.specs.Document.{text_view}
 use Rattle.krates_text.specs.Path.{components}
-use Rattle.krates_document.proofs.Seen.{SeenBelow}
+use Rattle.krates_rules.proofs.Seen.{SeenBelow}
 use Rattle.krates_questions.proofs.root_choice.is_one_of.Given as goal
 
 -- no path so far has the same components

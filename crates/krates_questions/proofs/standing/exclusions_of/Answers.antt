@@ -1,6 +1,6 @@
 use Rattle.std.proofs.Common.{arith}
 use Rattle.krates_cm.specs.Document.{package_view}
-use Rattle.krates_document.proofs.Zips.{zip_all, zip_next}
+use Rattle.krates_rules.proofs.Zips.{zip_all, zip_next}
 use Rattle.krates_questions.specs.Standing.{TellsExcluded}
 use Rattle.krates_questions.proofs.standing.exclusions_of.Goals as goal
 

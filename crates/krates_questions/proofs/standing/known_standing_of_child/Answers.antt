@@ -1,4 +1,4 @@
-use Rattle.krates_lookups.specs.NodeEntry.{child_of}
+use Rattle.krates_questions.specs.NodeEntry.{child_of}
 use Rattle.krates_questions.proofs.standing.known_standing_of_child.Goals as goal
 
 pub standing_among-requires-clause-number : goal.standing_among-requires-clause-number

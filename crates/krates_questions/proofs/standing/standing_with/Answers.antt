@@ -1,4 +1,4 @@
-use Rattle.krates_lookups.specs.Lookup.{resolved_view}
+use Rattle.krates_questions.specs.Lookup.{resolved_view}
 use Rattle.krates_rules.proofs.Standings.{lacks_node, stands_at}
 use Rattle.krates_questions.proofs.standing.standing_with.Goals as goal
 

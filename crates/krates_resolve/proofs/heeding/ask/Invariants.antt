@@ -1,9 +1,9 @@
-use Rattle.krates_lookups.specs.Lookup.{resolved_view}
-use Rattle.krates_lookups.specs.NodeEntry.{krate_of}
+use Rattle.krates_questions.specs.Lookup.{resolved_view}
+use Rattle.krates_questions.specs.NodeEntry.{krate_of}
 use Rattle.krates_questions.specs.declared.referent.Referent.{Referent}
 use Rattle.krates_search.specs.Found.{Advances}
 use Rattle.krates_search.specs.Heeding.{IsAskedAt}
-use Rattle.krates_document.proofs.Seen.{SeenBelow}
+use Rattle.krates_rules.proofs.Seen.{SeenBelow}
 use Rattle.krates_resolve.proofs.heeding.ask.Given as goal
 
 -- the edges to each referent so far have been tried

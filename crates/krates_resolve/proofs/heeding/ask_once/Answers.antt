@@ -2,13 +2,13 @@ use Rattle.std.proofs.Common.{get_or, sym, ap, subst}
 use Rattle.std.proofs.lemmas.Result.{on_ok_weaker}
 use Rattle.krates_rules.specs.Facts.{Id}
 use Rattle.krates_search.specs.Found.{IsAny, MayTry}
-use Rattle.krates_lookups.specs.Lookup.{resolved_view}
-use Rattle.krates_lookups.specs.NodeEntry.{child_of}
+use Rattle.krates_questions.specs.Lookup.{resolved_view}
+use Rattle.krates_questions.specs.NodeEntry.{child_of}
 use Rattle.krates_rules.specs.Questions.{edge_between}
 use Rattle.krates_rules.specs.Resolved.{DepAt, id_of}
 use Rattle.krates_search.specs.Basis.{FindsEdge}
 use Rattle.krates_resolve.proofs.Heedings.{child_dep, dep_of_entry, tried_at}
-use Rattle.krates_lookups.proofs.NodeParts.{deps_long, entry_here, own_long}
+use Rattle.krates_questions.proofs.NodeParts.{deps_long, entry_here, own_long}
 use Rattle.krates_resolve.proofs.heeding.ask_once.Goals as goal
 
 pub is_asked-requires : goal.is_asked-requires

@@ -2,7 +2,7 @@ use Rattle.std.proofs.Common.{refl, subst}
 use Rattle.std.proofs.lemmas.Result.{IfOk-weaker, on_ok_weaker}
 use Rattle.krates_cm.specs.Document.{Text}
 use Rattle.krates_text.specs.FeatureReference.{IsReference, krate, strong, weak, simple}
-use Rattle.krates_lookups.specs.Lookup.{resolved_view}
+use Rattle.krates_questions.specs.Lookup.{resolved_view}
 use Rattle.krates_rules.specs.Resolved.{id_of}
 use Rattle.krates_rules.specs.Facts.{Feature}
 use Rattle.krates_search.proofs.Finding.{finds_named, for_reason}

@@ -4,17 +4,17 @@ use Rattle.krates_text.specs.FeatureReference.{Reference, IsReference}
 use Rattle.krates_rules.specs.Facts.{Id, Crate, Feature}
 use Rattle.krates_search.specs.Found.{IsFollowed, IsHeeded, IsValueOfEnabled}
 use Rattle.krates_search.specs.Heeding.{IsValueStep}
-use Rattle.krates_lookups.specs.Lookup.{resolved_view}
-use Rattle.krates_lookups.specs.Numbering.{FeatureAt}
+use Rattle.krates_questions.specs.Lookup.{resolved_view}
+use Rattle.krates_questions.specs.Numbering.{FeatureAt}
 use Rattle.std.specs.List.{sum}
 use Rattle.krates_selection.specs.Work.{CountsText, HasReferences}
 use Rattle.krates_rules.specs.Resolved.{id_of}
 use Rattle.krates_search.proofs.Growing.{advances_refl, advances_trans, followed_grows}
-use Rattle.krates_lookups.proofs.FeatureNumbers.{listed_place}
+use Rattle.krates_questions.proofs.FeatureNumbers.{listed_place}
 use Rattle.krates_resolve.proofs.Heedings.{listed_here, listed_found, one_feature, value_of_enabled, value_of_step, heeded_here, none_counted, one_counted, references_here}
 use Rattle.krates_selection.proofs.ListedFeatures.{value_at}
-use Rattle.krates_document.proofs.Seen.{seen_more, each_seen}
-use Rattle.krates_document.proofs.Zips.{zip_all}
+use Rattle.krates_rules.proofs.Seen.{seen_more, each_seen}
+use Rattle.krates_rules.proofs.Zips.{zip_all}
 use Rattle.krates_resolve.proofs.heeding.heed.Goals as goal
 
 pub parts_of-parts-requires-clause-within : goal.parts_of-parts-requires-clause-within

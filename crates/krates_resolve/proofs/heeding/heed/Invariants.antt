@@ -1,9 +1,9 @@
 use Rattle.std.proofs.Common.{String, Global, string_bytes}
 use Rattle.krates_text.specs.FeatureReference.{Reference, IsReference}
 use Rattle.krates_search.specs.Found.{Advances, IsFollowed}
-use Rattle.krates_lookups.specs.Lookup.{resolved_view}
+use Rattle.krates_questions.specs.Lookup.{resolved_view}
 use Rattle.krates_rules.specs.Resolved.{id_of}
-use Rattle.krates_document.proofs.Seen.{SeenBelow}
+use Rattle.krates_rules.proofs.Seen.{SeenBelow}
 use Rattle.krates_resolve.proofs.Heedings.{CountsSoFar}
 use Rattle.krates_resolve.proofs.heeding.heed.Given as goal
 

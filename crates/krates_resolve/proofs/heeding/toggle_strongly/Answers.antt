@@ -1,9 +1,9 @@
 use Rattle.std.proofs.Common.{get_or}
-use Rattle.krates_lookups.specs.Lookup.{resolved_view}
-use Rattle.krates_lookups.specs.NodeEntry.{krate_of}
+use Rattle.krates_questions.specs.Lookup.{resolved_view}
+use Rattle.krates_questions.specs.NodeEntry.{krate_of}
 use Rattle.krates_questions.specs.ReferentPlace.{referent_id}
 use Rattle.krates_questions.specs.declared.referent.Referent.{Referent}
-use Rattle.krates_document.proofs.Seen.{seen_more}
+use Rattle.krates_rules.proofs.Seen.{seen_more}
 use Rattle.krates_text.specs.FeatureReference.{strong}
 use Rattle.krates_search.specs.Heeding.{IsAskedAt, IsToggledStronglyAt}
 use Rattle.krates_search.proofs.Growing.{advances_trans, asked_at_grows, strongly_at_grows}

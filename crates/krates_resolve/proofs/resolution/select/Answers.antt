@@ -10,9 +10,9 @@ use Rattle.krates_rules.specs.NamedIds.{NamesIdsOf, NamesReadIds, named_ids}
 use Rattle.krates_rules.specs.Questions.{questions}
 use Rattle.krates_rules.specs.Resolved.{Resolved, resolved}
 use Rattle.krates_rules.specs.SelectionRefusals.{SelectionRefusal}
-use Rattle.krates_lookups.specs.Lookup.{IsOf, resolved_view}
-use Rattle.krates_lookups.specs.declared.lookup.Lookup.{Lookup}
-use Rattle.krates_lookups.proofs.ReadIds.{each_read}
+use Rattle.krates_questions.specs.Lookup.{IsOf, resolved_view}
+use Rattle.krates_questions.specs.declared.lookup.Lookup.{Lookup}
+use Rattle.krates_questions.proofs.ReadIds.{each_read}
 use Rattle.krates_selection.specs.Explained.{IsExplained, IsExplainedOf}
 use Rattle.krates_selection.specs.Selection.{IsSelection, IsSelectionOf, RefusesSelection}
 use Rattle.krates_selection.specs.declared.selection.Selection.{Selection}

@@ -1,8 +1,8 @@
 use Rattle.std.proofs.Common.{ℕ, ◌<◌, List, length, subst, sym}
-use Rattle.krates_lookups.specs.Lookup.{resolved_view}
+use Rattle.krates_questions.specs.Lookup.{resolved_view}
 use Rattle.krates_selection.specs.Trace.{HasSomeStep, IsTrace}
 use Rattle.krates_selection.specs.declared.trace.NumberedStep.{NumberedStep}
-use Rattle.krates_search.proofs.Elements.{has_element}
+use Rattle.krates_rules.proofs.Elements.{has_element}
 use Rattle.krates_resolve.proofs.resolution.select_in.Goals as goal
 
 pub selection_of-requires-clause-some : goal.selection_of-requires-clause-some

@@ -1,10 +1,10 @@
 use Rattle.std.proofs.Common.{◌<◌, ℕ, List, length, map, All, refl, sym, ap, ◌∙◌, subst}
-use Rattle.krates_lookups.proofs.SeenInOrder.{sorted_same}
+use Rattle.krates_rules.proofs.SeenInOrder.{sorted_same}
 use Rattle.krates_ids.specs.Identity.{Identity, id_cmp}
 use Rattle.krates_rules.specs.Referent.{id_order}
 use Rattle.krates_rules.specs.Resolved.{id_of}
-use Rattle.krates_lookups.specs.CrateTable.{AreNumbered}
-use Rattle.krates_lookups.specs.Lookup.{resolved_view}
+use Rattle.krates_questions.specs.CrateTable.{AreNumbered}
+use Rattle.krates_questions.specs.Lookup.{resolved_view}
 use Rattle.krates_search.specs.KeptEdges.{AreInOrder}
 use Rattle.krates_search.specs.KeptFeatures.{AreSorted}
 use Rattle.krates_search.specs.KeptToggled.{AreToggled}
@@ -12,7 +12,7 @@ use Rattle.krates_search.specs.declared.found_edge.FoundEdge.{FoundEdge}
 use Rattle.krates_search.specs.declared.found_toggle.FoundToggle.{FoundToggle}
 use Rattle.krates_selection.specs.declared.selection.Selection.{Selection}
 use Rattle.krates_resolve.proofs.CountedSelection.{IsCountedWhole, counts_each}
-use Rattle.krates_lookups.proofs.NodeParts.{nodes_long}
+use Rattle.krates_questions.proofs.NodeParts.{nodes_long}
 use Rattle.krates_resolve.proofs.Selected.{IsInOrder, edges_kept, features_kept, selected, toggles_kept, whole_of}
 use Rattle.krates_resolve.proofs.resolution.selection_of.Goals as goal
 

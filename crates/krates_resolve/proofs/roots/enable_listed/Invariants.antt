@@ -1,9 +1,9 @@
 use Rattle.std.proofs.Common.{String, Global, string_bytes}
 use Rattle.krates_rules.specs.Facts.{Feature}
 use Rattle.krates_search.specs.Found.{Advances, HasFound}
-use Rattle.krates_lookups.specs.Lookup.{resolved_view}
+use Rattle.krates_questions.specs.Lookup.{resolved_view}
 use Rattle.krates_rules.specs.Resolved.{id_of}
-use Rattle.krates_document.proofs.Seen.{SeenBelow}
+use Rattle.krates_rules.proofs.Seen.{SeenBelow}
 use Rattle.krates_resolve.proofs.roots.enable_listed.Given as goal
 
 -- each feature so far is enabled

@@ -1,11 +1,11 @@
 use Rattle.std.proofs.Common.{refl, arith}
 use Rattle.krates_ids.specs.Identity.{Identity}
 use Rattle.krates_search.specs.Found.{IsRooted}
-use Rattle.krates_lookups.specs.Lookup.{resolved_view}
+use Rattle.krates_questions.specs.Lookup.{resolved_view}
 use Rattle.krates_rules.specs.Resolved.{id_of}
 use Rattle.krates_rules.specs.Roots.{IsRoot}
 use Rattle.krates_search.proofs.Growing.{advances_refl, advances_trans, rooted_grows}
-use Rattle.krates_document.proofs.Seen.{seen_more, seen_all}
+use Rattle.krates_rules.proofs.Seen.{seen_more, seen_all}
 use Rattle.krates_resolve.proofs.roots.put_members.Goals as goal
 
 pub loop-member-init : goal.loop-member-init

@@ -1,10 +1,10 @@
 use Rattle.krates_ids.specs.Identity.{Identity}
 use Rattle.krates_resolve.specs.Progress.{HasRootedEach}
 use Rattle.krates_search.specs.Found.{Advances, IsRooted}
-use Rattle.krates_lookups.specs.Lookup.{resolved_view}
+use Rattle.krates_questions.specs.Lookup.{resolved_view}
 use Rattle.krates_rules.specs.Resolved.{id_of}
 use Rattle.krates_rules.specs.Roots.{IsRoot}
-use Rattle.krates_document.proofs.Seen.{SeenBelow}
+use Rattle.krates_rules.proofs.Seen.{SeenBelow}
 use Rattle.krates_resolve.proofs.roots.put_members.Given as goal
 
 -- each member so far that is a root was found, and all that was put is rooted

@@ -1,4 +1,4 @@
-use Rattle.krates_lookups.specs.Lookup.{resolved_view}
+use Rattle.krates_questions.specs.Lookup.{resolved_view}
 use Rattle.krates_rules.specs.Resolved.{id_of}
 use Rattle.krates_resolve.proofs.Rooted.{root_package_lost, root_node_lost, left_out_rooted}
 use Rattle.krates_resolve.proofs.roots.put_root.Goals as goal

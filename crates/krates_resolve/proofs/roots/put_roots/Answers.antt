@@ -4,7 +4,7 @@ use Rattle.std.proofs.lemmas.Result.{on_ok_weaker}
 use Rattle.krates_cm.specs.Document.{node_view}
 use Rattle.krates_ids.specs.Identity.{Identity}
 use Rattle.krates_search.specs.Found.{IsRooted}
-use Rattle.krates_lookups.specs.Lookup.{resolved_view}
+use Rattle.krates_questions.specs.Lookup.{resolved_view}
 use Rattle.krates_rules.specs.NamedIds.{IsReadOf}
 use Rattle.krates_rules.specs.Resolved.{id_of, IsMember}
 use Rattle.krates_rules.specs.Roots.{IsRoot}

@@ -5,8 +5,8 @@ use Rattle.krates_cm.specs.Document.{Text, node_view, package_view}
 use Rattle.krates_cm.specs.declared.package.Package.{Package}
 use Rattle.krates_questions.specs.Standing.{TellsExcluded}
 use Rattle.krates_graph.specs.Agenda.{PutNumbers}
-use Rattle.krates_lookups.specs.FeatureTable.{listed_view}
-use Rattle.krates_lookups.specs.Lookup.{resolved_view}
+use Rattle.krates_questions.specs.FeatureTable.{listed_view}
+use Rattle.krates_questions.specs.Lookup.{resolved_view}
 use Rattle.krates_resolve.proofs.Saturated.{sound_start}
 use Rattle.krates_resolve.proofs.saturation.nothing_found.Goals as goal
 

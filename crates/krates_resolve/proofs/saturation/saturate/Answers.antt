@@ -1,5 +1,5 @@
 use Rattle.std.proofs.Common.{◌∙◌}
-use Rattle.krates_lookups.specs.Lookup.{resolved_view}
+use Rattle.krates_questions.specs.Lookup.{resolved_view}
 use Rattle.krates_resolve.proofs.Saturated.{saturated, done_start}
 use Rattle.krates_resolve.proofs.Counted.{counted_end, counted_start}
 use Rattle.krates_resolve.proofs.saturation.saturate.Goals as goal

@@ -1,5 +1,5 @@
 use Rattle.krates_resolve.specs.Counting.{AreCounted}
-use Rattle.krates_lookups.specs.Lookup.{resolved_view}
+use Rattle.krates_questions.specs.Lookup.{resolved_view}
 use Rattle.krates_resolve.specs.Saturation.{AreDone, left_in}
 use Rattle.krates_resolve.proofs.saturation.saturate.Given as goal
 

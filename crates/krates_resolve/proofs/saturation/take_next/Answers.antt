@@ -1,8 +1,8 @@
 use Rattle.std.proofs.Common.{◌≡◌, ◌+◌, ◌-◌, ◌≤◌, length, refl, sym, ap, ◌∙◌, subst, arith}
 use Rattle.krates_graph.specs.Agenda.{PutNumbers}
-use Rattle.krates_lookups.proofs.NodeParts.{within_vec}
+use Rattle.krates_questions.proofs.NodeParts.{within_vec}
 use Rattle.krates_search.specs.Found.{IsSound, Advances, IsFeatureStep, IsKrateStep}
-use Rattle.krates_lookups.specs.Lookup.{resolved_view}
+use Rattle.krates_questions.specs.Lookup.{resolved_view}
 use Rattle.krates_resolve.specs.Saturation.{AreDone}
 use Rattle.krates_search.specs.declared.found.Found.{Found}
 use Rattle.krates_resolve.proofs.TakenSteps.{taken_step, taken_within}

@@ -1,7 +1,7 @@
-use Rattle.krates_lookups.specs.Lookup.{resolved_view}
+use Rattle.krates_questions.specs.Lookup.{resolved_view}
 use Rattle.krates_rules.specs.Resolved.{id_of}
 use Rattle.krates_search.proofs.Enabled.{named_here}
-use Rattle.krates_lookups.proofs.FeatureNumbers.{listed_at}
+use Rattle.krates_questions.proofs.FeatureNumbers.{listed_at}
 use Rattle.krates_search.proofs.enabling.enable.Goals as goal
 
 pub put_feature-requires-clause-may : goal.put_feature-requires-clause-may

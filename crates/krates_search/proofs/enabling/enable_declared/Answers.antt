@@ -4,13 +4,13 @@ use Rattle.krates_rules.specs.Facts.{Crate, Feature}
 use Rattle.krates_rules.specs.Rules.{default_name}
 use Rattle.krates_search.specs.Basis.{FindsListed}
 use Rattle.krates_search.specs.Found.{Advances, HasUsed, IsEnabledBySome, MayName}
-use Rattle.krates_lookups.specs.Lookup.{resolved_view}
+use Rattle.krates_questions.specs.Lookup.{resolved_view}
 use Rattle.krates_rules.specs.Resolved.{id_of}
 use Rattle.krates_search.specs.declared.found.Found.{Found}
 use Rattle.krates_selection.proofs.ListedFeatures.{value_at}
 use Rattle.krates_selection.proofs.Steps.{finds_more}
 use Rattle.krates_search.proofs.Growing.{advances_refl, advances_trans, named_grows}
-use Rattle.krates_document.proofs.Seen.{seen_more, each_seen}
+use Rattle.krates_rules.proofs.Seen.{seen_more, each_seen}
 use Rattle.krates_search.proofs.enabling.enable_declared.Goals as goal
 use Rattle.krates_search.proofs.enabling.enable_declared.Goals.{then-dependency+in_ok-enable_default, else-dependency}
 

@@ -1,9 +1,9 @@
 use Rattle.std.proofs.Common.{◌≡◌, String, Global}
 use Rattle.krates_cm.specs.Document.{text_view}
 use Rattle.krates_search.specs.Found.{Advances, IsEnabledBySome}
-use Rattle.krates_lookups.specs.Lookup.{resolved_view}
+use Rattle.krates_questions.specs.Lookup.{resolved_view}
 use Rattle.krates_rules.specs.Resolved.{id_of}
-use Rattle.krates_document.proofs.Seen.{SeenBelow}
+use Rattle.krates_rules.proofs.Seen.{SeenBelow}
 use Rattle.krates_search.proofs.enabling.enable_declared.Given as goal
 
 -- the features so far are enabled

@@ -1,8 +1,8 @@
-use Rattle.krates_lookups.specs.Lookup.{resolved_view}
+use Rattle.krates_questions.specs.Lookup.{resolved_view}
 use Rattle.krates_rules.specs.Resolved.{id_of}
 use Rattle.krates_rules.specs.Rules.{default_name}
 use Rattle.krates_search.proofs.Enabled.{not_lacking}
-use Rattle.krates_lookups.proofs.FeatureNumbers.{listed_at}
+use Rattle.krates_questions.proofs.FeatureNumbers.{listed_at}
 use Rattle.krates_search.proofs.enabling.enable_default.Goals as goal
 
 pub returns-in_default-clause-enabled : goal.returns-in_default-clause-enabled

@@ -6,8 +6,8 @@ use Rattle.krates_rules.specs.Resolved.{NodeAt}
 use Rattle.krates_search.specs.Found.{HasFound, HasUsed, MayUse}
 use Rattle.krates_search.specs.Kinds.{IsFirstOf}
 use Rattle.krates_selection.specs.Trace.{HasSomeStep}
-use Rattle.krates_lookups.specs.Lookup.{resolved_view}
-use Rattle.krates_lookups.specs.NodeEntry.{parent_of, child_of, declared_in, entry_of, edge_for}
+use Rattle.krates_questions.specs.Lookup.{resolved_view}
+use Rattle.krates_questions.specs.NodeEntry.{parent_of, child_of, declared_in, entry_of, edge_for}
 use Rattle.krates_document.proofs.DeclaredOnce.{declared_stands}
 use Rattle.krates_search.proofs.EdgeGrowth.{edge_advances, edge_kept, placed_here, declared_seen, declared_within, used_once, marked_once}
 use Rattle.krates_search.proofs.Finding.{finds_target, for_reason}

@@ -8,17 +8,17 @@ use Rattle.krates_search.specs.Found.{HasFound, IsEdgeStep, IsToggledIn, MayTogg
 use Rattle.krates_rules.specs.Resolved.{DepAt}
 use Rattle.krates_selection.specs.Trace.{by_two}
 use Rattle.krates_search.specs.Links.{HasMarked, IsMarked}
-use Rattle.krates_lookups.specs.Lookup.{resolved_view}
-use Rattle.krates_lookups.specs.NodeEntry.{parent_of, child_of}
+use Rattle.krates_questions.specs.Lookup.{resolved_view}
+use Rattle.krates_questions.specs.NodeEntry.{parent_of, child_of}
 use Rattle.krates_rules.specs.Questions.{edge_between, questions}
 use Rattle.krates_search.specs.declared.links.Links.{Links}
 use Rattle.krates_search.specs.declared.links.Waiting.{Waiting}
 use Rattle.krates_search.proofs.Finding.{finds_woken, for_reason}
 use Rattle.krates_search.proofs.Growing.{advances_refl, advances_trans, toggled_grows}
 use Rattle.krates_search.proofs.Growth.{mark_sound, mark_grows, with_links}
-use Rattle.krates_search.proofs.Elements.{contains_or}
+use Rattle.krates_rules.proofs.Elements.{contains_or}
 use Rattle.krates_selection.proofs.Steps.{finds_more}
-use Rattle.krates_document.proofs.Seen.{seen_more}
+use Rattle.krates_rules.proofs.Seen.{seen_more}
 use Rattle.krates_search.proofs.Waking.{may_wake}
 use Rattle.krates_selection.proofs.Steps.{one_way}
 use Rattle.krates_search.proofs.enabling.wake.Goals as goal

@@ -1,11 +1,11 @@
 use Rattle.std.proofs.Common.{◌≡◌}
 use Rattle.krates_search.specs.Found.{Advances, IsToggledIn}
 use Rattle.krates_search.specs.Links.{HasMarked}
-use Rattle.krates_lookups.specs.Lookup.{resolved_view}
-use Rattle.krates_lookups.specs.NodeEntry.{parent_of, child_of}
+use Rattle.krates_questions.specs.Lookup.{resolved_view}
+use Rattle.krates_questions.specs.NodeEntry.{parent_of, child_of}
 use Rattle.krates_search.specs.declared.links.Links.{Links}
 use Rattle.krates_search.specs.declared.links.Waiting.{Waiting}
-use Rattle.krates_document.proofs.Seen.{SeenBelow}
+use Rattle.krates_rules.proofs.Seen.{SeenBelow}
 use Rattle.krates_search.proofs.Growth.{with_links}
 use Rattle.krates_search.proofs.enabling.wake.Given as goal
 

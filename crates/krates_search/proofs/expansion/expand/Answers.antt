@@ -6,15 +6,15 @@ use Rattle.krates_rules.specs.Derivation.{Derivable}
 use Rattle.krates_rules.specs.Facts.{Crate, Kept}
 use Rattle.krates_search.specs.Found.{AreTried, HasFound, IsExpanded, IsRequired}
 use Rattle.krates_rules.specs.Resolved.{NodeAt, id_of}
-use Rattle.krates_lookups.specs.Lookup.{resolved_view}
-use Rattle.krates_lookups.specs.NodeEntry.{child_of, edge_for}
+use Rattle.krates_questions.specs.Lookup.{resolved_view}
+use Rattle.krates_questions.specs.NodeEntry.{child_of, edge_for}
 use Rattle.krates_rules.specs.Questions.{questions}
 use Rattle.krates_search.proofs.Entries.{crate_may_try}
 use Rattle.krates_selection.specs.Trace.{HasStep}
 use Rattle.krates_search.proofs.Finding.{finds_required, for_reason}
 use Rattle.krates_search.proofs.Growing.{advances_trans}
-use Rattle.krates_lookups.proofs.Lookups.{one_id}
-use Rattle.krates_lookups.proofs.NodeParts.{deps_long, entry_here, own_long}
+use Rattle.krates_questions.proofs.Lookups.{one_id}
+use Rattle.krates_questions.proofs.NodeParts.{deps_long, entry_here, own_long}
 use Rattle.krates_search.proofs.TriedParts.{tried_more, tried_whole, expanded_here}
 use Rattle.krates_search.proofs.expansion.expand.Goals as goal
 

@@ -1,7 +1,7 @@
 use Rattle.std.proofs.Common.{map}
 use Rattle.krates_cm.specs.Document.{node_dep_view}
 use Rattle.krates_search.specs.Found.{Advances}
-use Rattle.krates_lookups.specs.Lookup.{resolved_view}
+use Rattle.krates_questions.specs.Lookup.{resolved_view}
 use Rattle.krates_rules.specs.Resolved.{id_of}
 use Rattle.krates_search.proofs.TriedParts.{TriedBelow}
 use Rattle.krates_search.proofs.expansion.expand.Given as goal

@@ -2,9 +2,9 @@ use Rattle.std.proofs.Common.{sym, ◌∙◌, subst, true, false, inl, inr}
 use Rattle.krates_cm.specs.Document.{dep_kind_info_view}
 use Rattle.krates_search.specs.Basis.{HasStanding}
 use Rattle.krates_search.specs.Found.{IsAny, TakenWhen}
-use Rattle.krates_lookups.specs.Lookup.{resolved_view}
-use Rattle.krates_lookups.specs.NodeEntry.{edge_for}
-use Rattle.krates_lookups.proofs.Declared.{optional_declared}
+use Rattle.krates_questions.specs.Lookup.{resolved_view}
+use Rattle.krates_questions.specs.NodeEntry.{edge_for}
+use Rattle.krates_questions.proofs.Declared.{optional_declared}
 use Rattle.krates_questions.proofs.Entries.{heeds, is_ignored, loose, wanted}
 use Rattle.krates_search.proofs.Entries.{taken_here, ignored_tried, optional_tried, barred_tried, left_out_tried, kept_tried}
 use Rattle.krates_search.proofs.expansion.expand_edge.Goals.{else-not-trial-via-then-not-trial+else-entry-declared, else-not-trial-via-else-not-trial}

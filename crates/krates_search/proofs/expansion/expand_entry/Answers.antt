@@ -6,13 +6,13 @@ use Rattle.krates_rules.specs.Facts.{Kept}
 use Rattle.krates_rules.proofs.Standings.{contains_at}
 use Rattle.krates_search.specs.Found.{IsAny, TakenWhen}
 use Rattle.krates_search.specs.Kinds.{AreFirstKinds}
-use Rattle.krates_lookups.specs.Lookup.{resolved_view}
-use Rattle.krates_lookups.specs.NodeEntry.{child_of, declared_in, edge_for, parent_of}
+use Rattle.krates_questions.specs.Lookup.{resolved_view}
+use Rattle.krates_questions.specs.NodeEntry.{child_of, declared_in, edge_for, parent_of}
 use Rattle.krates_search.proofs.FirstKinds.{first_info, first_within, info_there}
 use Rattle.krates_search.proofs.Growing.{advances_refl, advances_trans}
 use Rattle.krates_search.proofs.Growth.{asked_advances, with_links}
 use Rattle.krates_search.proofs.EntriesTried.{noted_tried}
-use Rattle.krates_search.proofs.Elements.{both, contains_or}
+use Rattle.krates_rules.proofs.Elements.{both, contains_or}
 use Rattle.krates_selection.proofs.Steps.{finds_more}
 use Rattle.krates_search.proofs.TriedKinds.{kinds_in, kinds_more, kinds_whole}
 use Rattle.krates_search.proofs.expansion.expand_entry.Goals as goal

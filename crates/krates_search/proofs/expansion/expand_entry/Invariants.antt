@@ -1,6 +1,6 @@
 use Rattle.std.proofs.Common.{◌≡◌, true}
 use Rattle.krates_search.specs.Found.{Advances, IsAny, TakenWhen}
-use Rattle.krates_lookups.specs.Lookup.{resolved_view}
+use Rattle.krates_questions.specs.Lookup.{resolved_view}
 use Rattle.krates_search.proofs.TriedKinds.{TriedKinds}
 use Rattle.krates_search.proofs.expansion.expand_entry.Given as goal
 

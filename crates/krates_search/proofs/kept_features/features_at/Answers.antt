@@ -2,7 +2,7 @@ use Rattle.std.proofs.Common.{◌≡◌, ◌+◌, ◌<◌, ◌∷◌, [], ◌++�
 use Rattle.std.proofs.lemmas.List.{get_or_default}
 use Rattle.std.specs.List.{AllZip}
 use Rattle.krates_cm.specs.Document.{text_view}
-use Rattle.krates_lookups.specs.Lookup.{resolved_view}
+use Rattle.krates_questions.specs.Lookup.{resolved_view}
 use Rattle.krates_search.specs.KeptFeatures.{IsFeatureOf}
 use Rattle.krates_search.specs.KeptNumbers.{kids_in}
 use Rattle.krates_selection.specs.declared.selection.EnabledFeature.{EnabledFeature}

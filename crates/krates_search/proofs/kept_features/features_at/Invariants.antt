@@ -1,6 +1,6 @@
 use Rattle.std.proofs.Common.{take}
 use Rattle.std.specs.List.{AllZip}
-use Rattle.krates_lookups.specs.Lookup.{resolved_view}
+use Rattle.krates_questions.specs.Lookup.{resolved_view}
 use Rattle.krates_search.specs.KeptFeatures.{IsFeatureOf}
 use Rattle.krates_search.specs.KeptNumbers.{kids_in}
 use Rattle.krates_search.proofs.kept_features.features_at.Given as goal

@@ -1,4 +1,4 @@
-use Rattle.krates_lookups.specs.Lookup.{resolved_view}
+use Rattle.krates_questions.specs.Lookup.{resolved_view}
 use Rattle.krates_search.specs.KeptNumbers.{kids_in}
 use Rattle.krates_search.proofs.KeptFeatures.{features_sorted}
 use Rattle.krates_search.proofs.kept_features.kept_features.Goals as goal

@@ -1,6 +1,6 @@
 use Rattle.std.proofs.Common.{◌∙◌, subst, sym}
 use Rattle.std.proofs.lemmas.Option.{same_Some}
-use Rattle.krates_lookups.specs.Lookup.{resolved_view}
+use Rattle.krates_questions.specs.Lookup.{resolved_view}
 use Rattle.krates_search.specs.KeptNumbers.{IsNumberAt, kids_in}
 use Rattle.krates_search.proofs.KeptNumbers.{kept_number, kept_within}
 use Rattle.krates_search.proofs.kept_numbers.number_at.Goals as goal

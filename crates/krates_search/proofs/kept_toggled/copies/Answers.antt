@@ -1,6 +1,6 @@
 use Rattle.std.proofs.Common.{◌+◌, sym, subst, take, arith}
 use Rattle.std.specs.List.{AllZip}
-use Rattle.krates_lookups.specs.Lookup.{resolved_view}
+use Rattle.krates_questions.specs.Lookup.{resolved_view}
 use Rattle.krates_search.specs.KeptNumbers.{kids_in}
 use Rattle.krates_search.specs.KeptToggled.{HasKeptCrates, IsToggleCopy}
 use Rattle.krates_selection.proofs.ByNumber.{all_item, zip_more, zip_whole}

@@ -2,8 +2,8 @@ use Rattle.std.proofs.Common.{ℕ, ◌<◌, ◌∙◌, Contains, sym, subst}
 use Rattle.std.proofs.lemmas.List.Elements.{Contains-push}
 use Rattle.std.proofs.lemmas.Option.{slice_get_within}
 use Rattle.krates_graph.specs.Agenda.{PutNumbers}
-use Rattle.krates_lookups.specs.ListedFeatures.{listed_features}
-use Rattle.krates_lookups.specs.Lookup.{resolved_view}
+use Rattle.krates_questions.specs.ListedFeatures.{listed_features}
+use Rattle.krates_questions.specs.Lookup.{resolved_view}
 use Rattle.krates_search.proofs.Putting.{feature_put, feature_stays, on_false, on_true, put_there}
 use Rattle.krates_search.proofs.tracing.put_feature.Goals as goal
 

@@ -1,5 +1,5 @@
 use Rattle.std.proofs.Common.{ℕ, sym, ◌∙◌, subst}
-use Rattle.krates_lookups.specs.Lookup.{resolved_view}
+use Rattle.krates_questions.specs.Lookup.{resolved_view}
 use Rattle.krates_search.proofs.Growth.{put_step_has, step_advances}
 use Rattle.krates_selection.specs.Trace.{HasStep}
 use Rattle.krates_search.proofs.tracing.put_step.Goals as goal

@@ -2,7 +2,7 @@ use Rattle.std.proofs.Common.{sym, subst, arith}
 use Rattle.krates_cm.specs.Document.{package_view}
 use Rattle.krates_ids.specs.PackageSpecification.{SpecFits, spec_view}
 use Rattle.krates_rules.specs.Setting.{SettingModel, IsExcluded}
-use Rattle.krates_document.proofs.Seen.{each_seen}
+use Rattle.krates_rules.proofs.Seen.{each_seen}
 use Rattle.krates_document.proofs.setting.Setting.excludes.Goals as goal
 
 pub returns : goal.returns

@@ -1,7 +1,7 @@
 use Rattle.krates_cm.specs.Document.{package_view}
 use Rattle.krates_ids.specs.PackageSpecification.{SpecFits, spec_view}
 use Rattle.krates_ids.specs.declared.pkgspec.PkgSpec.{PkgSpec}
-use Rattle.krates_document.proofs.Seen.{SeenBelow}
+use Rattle.krates_rules.proofs.Seen.{SeenBelow}
 use Rattle.krates_document.proofs.setting.Setting.excludes.Given as goal
 
 -- no specification so far fits

@@ -4,7 +4,7 @@ use Rattle.std.specs.List.{filter_map}
 use Rattle.krates_queries.specs.AllDependents.{AreAllDependents, match_at}
 use Rattle.krates_queries.specs.KrateNodes.{Match}
 use Rattle.krates_queries.specs.Reaches.{HasPath}
-use Rattle.krates_queries.specs.declared.node.Node.{Node}
+use Rattle.krates_drawing.specs.declared.node.Node.{Node}
 use Rattle.krates_queries.proofs.AllDependentsLemmas.{are_all_dependents}
 use Rattle.krates_queries.proofs.kept.Krates.all_dependents.Goals as goal
 

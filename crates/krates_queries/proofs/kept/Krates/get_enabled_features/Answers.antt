@@ -1,5 +1,5 @@
 use Rattle.std.proofs.Common.{◌≡◌, refl}
-use Rattle.krates_queries.specs.Node.{names_in}
+use Rattle.krates_drawing.specs.Node.{names_in}
 use Rattle.krates_queries.proofs.NodeLemmas.{features_told}
 use Rattle.krates_queries.proofs.kept.Krates.get_enabled_features.Goals as goal
 

@@ -1,6 +1,6 @@
 use Rattle.std.proofs.Common.{◌<◌, ◌∙◌, All, List, ap, length, map, subst, sym}
 use Rattle.krates_queries.specs.KrateNodes.{Match, numbered_crates}
-use Rattle.krates_queries.specs.Node.{CratesFirst, crate_ids}
+use Rattle.krates_drawing.specs.Node.{CratesFirst, crate_ids}
 use Rattle.krates_queries.proofs.KrateNodeLemmas.{all_below, as_many_matches, in_a_row, same_ids, same_values}
 use Rattle.krates_queries.proofs.kept.Krates.krate_nodes.Goals as goal
 

@@ -1,7 +1,7 @@
 use Rattle.std.proofs.Common.{◌≡◌, ◌<◌, ◌^◌, ◌∙◌, ℕ, Some, length, arith, refl, sym, ap}
 use Rattle.krates_rules.specs.Resolved.{id_of, StandsAt}
-use Rattle.krates_queries.specs.Node.{crate_ids}
-use Rattle.krates_queries.proofs.OrderedIds.{stands_within}
+use Rattle.krates_drawing.specs.Node.{crate_ids}
+use Rattle.krates_rules.proofs.OrderedIds.{stands_within}
 use Rattle.krates_queries.proofs.kept.Krates.nid_for_kid.Goals as goal
 
 pub overflow_cast-number : goal.overflow_cast-number

@@ -1,5 +1,5 @@
 use Rattle.std.proofs.Common.{◌≡◌, ℕ, length}
-use Rattle.krates_queries.specs.Node.{crate_values}
+use Rattle.krates_drawing.specs.Node.{crate_values}
 use Rattle.krates_queries.proofs.kept.KratesIterIterator.next.Given as goal
 
 abbrev pub invariant-loop-first : goal.invariant-loop-first

@@ -1,7 +1,7 @@
 use Rattle.std.proofs.Common.{rules, ◌≡◌, ℕ, Some, ap}
 use Rattle.std.proofs.lemmas.Fn.{always_returns_same}
 use Rattle.krates_queries.specs.NodeOrder.{feature_cmp}
-use Rattle.krates_queries.specs.declared.node.Node.{Node}
+use Rattle.krates_drawing.specs.declared.node.Node.{Node}
 use Rattle.krates_queries.proofs.FeatureNodes.{feature_found, no_feature}
 use Rattle.krates_queries.proofs.queries.get_node.feature_number.Goals as goal
 

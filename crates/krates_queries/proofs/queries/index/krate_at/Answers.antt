@@ -1,8 +1,8 @@
 use Rattle.std.proofs.Common.{◌≡◌, ◌∙◌, Some, None, List, slice_get, length, arith, refl, sym, ap}
 use Rattle.std.proofs.lemmas.Option.{slice_get-get_or}
 use Rattle.krates_ids.specs.Identity.{Identity, empty_identity}
-use Rattle.krates_queries.specs.Node.{crate_ids}
-use Rattle.krates_queries.specs.declared.node.Node.TheVariants.{Krate, Feature}
+use Rattle.krates_drawing.specs.Node.{crate_ids}
+use Rattle.krates_drawing.specs.declared.node.Node.TheVariants.{Krate, Feature}
 use Rattle.krates_queries.proofs.NodeLemmas.{crates_within, no_place, value_at}
 use Rattle.krates_queries.proofs.queries.index.krate_at.Goals as goal
 

@@ -3,7 +3,7 @@ use Rattle.std.proofs.lemmas.List.Elements.{All-weaker}
 use Rattle.std.proofs.lemmas.Result.{IfOk-weaker}
 use Rattle.std.specs.List.{filter_map}
 use Rattle.krates_queries.specs.Direct.{value_at}
-use Rattle.krates_queries.specs.Node.{crate_ids}
+use Rattle.krates_drawing.specs.Node.{crate_ids}
 use Rattle.krates_queries.proofs.CrateIds.{as_few_crates}
 use Rattle.krates_queries.proofs.queries.krates_filtered.Krates+N+Edge.krates_filtered.Goals as goal
 

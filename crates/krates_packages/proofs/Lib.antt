@@ -1,3 +1,0 @@
-pub mod DivisionLemmas
-pub mod MappedLists
-pub mod SearchedKrates

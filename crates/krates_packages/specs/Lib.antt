@@ -1,3 +1,0 @@
-pub mod Division
-pub mod Krate
-pub mod Listed

@@ -1,0 +1,20 @@
+use Rattle.std.proofs.Common.{◌<◌, ℕ, List, Option, IfSome, is_some, length, map, sym, ap, ◌∙◌, subst}
+use Rattle.krates_questions.specs.CrateTable.{at_number}
+use Rattle.krates_questions.specs.Lookup.{TellsMember, resolved_view}
+use Rattle.krates_rules.specs.Resolved.{id_of}
+use Rattle.krates_questions.proofs.Lookups.{member_answer}
+use Rattle.krates_questions.proofs.NumberedPlaces.{index_answer, index_within}
+use Rattle.krates_questions.proofs.lookup.is_member_at.Goals as goal
+
+pub at_number-requires : goal.at_number-requires
+at_number-requires c =
+    let d = c.args.lookup.now in
+    let n = c.requires.number in
+    subst (λ (ps : List (Option ℕ)). IfSome c.args.number (λ m. m < length ps)) (sym c.deref.ensures.value) (index_within (map id_of d.table.ids.items) d.ids.now.members.items d.table.members.items n.0 c.args.number c.requires.lookup.table.members n.1)
+
+pub returns : goal.returns
+returns c i h =
+    let d = c.args.lookup.now in
+    let is = c.is_some.ensures ∙ ap is_some (c.at_number.ensures ∙ ap (λ (ps : List (Option ℕ)). at_number ps c.args.number) c.deref.ensures.value) in
+    let place = index_answer (map id_of d.table.ids.items) d.ids.now.members.items d.table.members.items i c.args.number c.requires.lookup.table.members h in
+    subst (TellsMember (resolved_view d) i) (sym is) (member_answer (resolved_view d) d.ids.now.members.items i (at_number d.table.members.items c.args.number) c.one_reading.ensures.once c.requires.lookup.ids.members place)

@@ -1,0 +1,75 @@
+//! The features that nodes list, by number.
+
+ghost use Rattle.std.specs.Prelude.{◌≡◌, IfOk, OnOk, map};
+ghost use Rattle.krates_cm.specs.Document.{node_view};
+ghost use Rattle.krates_questions.specs.FeatureTable.{AreNumbered, ListsMore, listed_in, listed_view};
+ghost use Rattle.krates_questions.specs.ListedFeatures.{features_from};
+
+use krates_cm::Node;
+use std::alloc::{AllocError, Global};
+use std::collections::BTreeMap;
+
+/// A feature that a node lists.
+#[derive(Clone, Copy, PartialEq, Eq, PartialOrd, Ord)]
+pub struct ListedFeature<'a> {
+    /// The place of the node.
+    pub place: usize,
+    /// The name of the feature.
+    pub name: &'a str,
+}
+
+/// The features that nodes list, in the order of the document: the number of each is its place in the list.
+#[derive(Drop)]
+pub struct FeatureTable<'a> {
+    /// The features by number.
+    pub listed: Vec<ListedFeature<'a>>,
+    /// A number of each feature.
+    pub numbers: BTreeMap<ListedFeature<'a>, usize>,
+}
+
+/// The features that these nodes list.
+pub(crate) fn feature_table<'a>(
+    alloc: Global,
+    nodes: &'a [Node],
+) -> Result<FeatureTable<'a>, AllocError>
+    ensures listed { IfOk result (λ table. listed_in table ≡ features_from 0 (map node_view nodes.now)) }
+    ensures numbered { IfOk result AreNumbered }
+{
+    let listed = listed_features(alloc, nodes)?;
+    let mut numbers = BTreeMap::new(alloc);
+    for (number, feature) in listed.iter().enumerate() {
+        drop(numbers.insert(*feature, number)?);
+    }
+    Ok(FeatureTable { listed, numbers })
+}
+
+/// The features that these nodes list, in order.
+fn listed_features<'a>(
+    alloc: Global,
+    nodes: &'a [Node],
+) -> Result<Vec<ListedFeature<'a>>, AllocError>
+    ensures { IfOk result (λ all. map listed_view all.items ≡ features_from 0 (map node_view nodes.now)) }
+{
+    let mut listed = Vec::new(alloc);
+    for (place, node) in nodes.iter().enumerate() {
+        list_features(place, &node.features, &mut listed)?;
+    }
+    Ok(listed)
+}
+
+/// Adds the features of the node at this place.
+fn list_features<'a>(
+    place: usize,
+    features: &'a [String],
+    listed: &mut Vec<ListedFeature<'a>>,
+) -> Result<(), AllocError>
+    ensures { OnOk result (ListsMore listed.old.items listed.new.items place features.now) }
+{
+    for feature in features {
+        listed.push(ListedFeature {
+            place,
+            name: feature.as_str(),
+        })?;
+    }
+    Ok(())
+}

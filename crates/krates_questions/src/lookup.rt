@@ -1,0 +1,155 @@
+//! The document, looked up by id.
+
+ghost use Rattle.std.specs.Prelude.{◌≡◌, ◌<◌, IfOk, IfSome, length};
+ghost use Rattle.krates_cm.specs.Document.{metadata_view, resolve_view};
+ghost use Rattle.krates_rules.specs.Admission.{AreIdsOf, NoneDoubled};
+ghost use Rattle.krates_document.specs.Ids.{ids_view};
+ghost use Rattle.krates_questions.specs.CrateTable.{at_number};
+ghost use Rattle.krates_questions.specs.Lookup.{IsLookup, IsNodePlace, IsNumber, IsNumberIn, IsOf, IsPackagePlace, TellsMember, TellsPackage, resolved_view};
+ghost use Rattle.krates_rules.specs.Facts.{Id};
+ghost use Rattle.krates_rules.specs.Resolved.{id_of};
+
+use crate::crate_table::{CrateTable, crate_table, number_of};
+use crate::feature_table::{FeatureTable, feature_table};
+use crate::name_index::{NameIndex, name_index};
+use crate::renamed::{Libraries, renamed_by_name};
+use krates_cm::{Metadata, Package, Resolve};
+use krates_document::ids::Ids;
+use krates_document::named_places::NamedPlace;
+use krates_ids::{Kid, laws};
+use std::alloc::{AllocError, Global};
+
+/// A document with its ids, its crates by number, its features by number, and its dependencies by name.
+#[derive(Drop)]
+pub struct Lookup<'a> {
+    /// The document.
+    pub metadata: &'a Metadata,
+    /// Its resolved graph.
+    pub resolve: &'a Resolve,
+    /// The ids that were read of it, place by place.
+    pub ids: &'a Ids,
+    /// Its crates, by number.
+    pub table: CrateTable,
+    /// The features that its nodes list, by number.
+    pub features: FeatureTable<'a>,
+    /// Its dependencies, by name.
+    pub names: NameIndex<'a>,
+    /// The dependencies of each node whose own name is that of their package's library, by the names of their packages.
+    pub renamed: Vec<Vec<NamedPlace<'a>>>,
+}
+
+/// The document, ready to be looked up. The only error is running out of memory. Time O(n log n) for n crates,
+/// features and dependencies.
+pub fn lookup_of<'a>(
+    alloc: Global,
+    metadata: &'a Metadata,
+    resolve: &'a Resolve,
+    ids: &'a Ids,
+) -> Result<Lookup<'a>, AllocError>
+    requires read { AreIdsOf (metadata_view metadata.now) (resolve_view resolve.now) (ids_view ids.now) }
+    requires distinct { NoneDoubled (metadata_view metadata.now) (resolve_view resolve.now) }
+    ensures lookup { IfOk result (λ d. IsLookup d) }
+    ensures of_these { IfOk result (IsOf metadata.now resolve.now ids.now) }
+{
+    let table = crate_table(alloc, ids)?;
+    let features = feature_table(alloc, &resolve.nodes)?;
+    let names = name_index(alloc, &metadata.packages, &resolve.nodes, &ids.deps)?;
+    let libraries = Libraries {
+        packages: &metadata.packages,
+        table: &table,
+    };
+    let renamed = renamed_by_name(alloc, &libraries, &resolve.nodes, &ids.deps)?;
+    Ok(Lookup {
+        metadata,
+        resolve,
+        ids,
+        table,
+        features,
+        names,
+        renamed,
+    })
+}
+
+/// The package with the id. None where the document has none. Time O(log n) in the crates.
+pub fn package_of<'a>(lookup: &Lookup<'a>, id: &Kid) -> Option<&'a Package>
+    requires { IsLookup lookup.now }
+    ensures { TellsPackage (resolved_view lookup.now) (id_of id.now) result }
+{
+    package_at(lookup, crate_number(lookup, id))
+}
+
+/// The place of the node with the id. None where the graph has none. Time O(log n) in the crates.
+pub fn node_place(lookup: &Lookup<'_>, id: &Kid) -> Option<usize>
+    requires { IsLookup lookup.now }
+    ensures { IsNodePlace (resolved_view lookup.now) (id_of id.now) result }
+{
+    node_place_at(lookup, crate_number(lookup, id))
+}
+
+/// Whether the crate is a member of the workspace. Time O(log n) in the crates.
+pub fn is_member(lookup: &Lookup<'_>, id: &Kid) -> bool
+    requires { IsLookup lookup.now }
+    ensures { TellsMember (resolved_view lookup.now) (id_of id.now) result }
+{
+    is_member_at(lookup, crate_number(lookup, id))
+}
+
+/// The number of the crate with the id. None where it has neither package nor node and is no member. Time O(log n) in the
+/// crates.
+pub fn crate_number(lookup: &Lookup<'_>, id: &Kid) -> Option<usize>
+    requires { IsLookup lookup.now }
+    ensures { IsNumberIn lookup.now (id_of id.now) result }
+{
+    number_of(&lookup.table.ids, id)
+}
+
+/// What a table has at a number; none where there is no number. Time: O(1).
+pub fn at_number(places: &[Option<usize>], number: Option<usize>) -> Option<usize>
+    requires { IfSome number (λ n. n < length places.now) }
+    ensures { result ≡ at_number places.now number }
+{
+    match number {
+        Some(number) => places[number],
+        None => None,
+    }
+}
+
+/// The place of the package of the crate with the number. None where it has none. Time O(1).
+pub fn package_place_at(lookup: &Lookup<'_>, number: Option<usize>) -> Option<usize>
+    requires lookup { IsLookup lookup.now }
+    requires number { IsNumber lookup.now number }
+    ensures { (i : Id) → IsNumberIn lookup.now i number → IsPackagePlace (resolved_view lookup.now) i result }
+{
+    laws::one_reading();
+    at_number(&lookup.table.packages, number)
+}
+
+/// The package of the crate with the number. None where it has none. Time O(1).
+pub fn package_at<'a>(lookup: &Lookup<'a>, number: Option<usize>) -> Option<&'a Package>
+    requires lookup { IsLookup lookup.now }
+    requires number { IsNumber lookup.now number }
+    ensures { (i : Id) → IsNumberIn lookup.now i number → TellsPackage (resolved_view lookup.now) i result }
+{
+    let place = package_place_at(lookup, number)?;
+    Some(&lookup.metadata.packages[place])
+}
+
+/// The place of the node of the crate with the number. None where it has none. Time O(1).
+pub fn node_place_at(lookup: &Lookup<'_>, number: Option<usize>) -> Option<usize>
+    requires lookup { IsLookup lookup.now }
+    requires number { IsNumber lookup.now number }
+    ensures { (i : Id) → IsNumberIn lookup.now i number → IsNodePlace (resolved_view lookup.now) i result }
+{
+    laws::one_reading();
+    at_number(&lookup.table.nodes, number)
+}
+
+/// Whether the crate with the number is a member of the workspace.
+pub(crate) fn is_member_at(lookup: &Lookup<'_>, number: Option<usize>) -> bool
+    requires lookup { IsLookup lookup.now }
+    requires number { IsNumber lookup.now number }
+    ensures { (i : Id) → IsNumberIn lookup.now i number → TellsMember (resolved_view lookup.now) i result }
+{
+    laws::one_reading();
+    at_number(&lookup.table.members, number).is_some()
+}

@@ -1,5 +1,0 @@
-pub mod Choice
-pub mod First
-pub mod Needed
-pub mod Part
-pub mod Picked
