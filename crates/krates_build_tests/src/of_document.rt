@@ -1,6 +1,6 @@
 //! Questions to the document of a line, and to what is selected of it.
 
-use crate::setters::setting_of;
+use crate::setting::setting_of;
 use krates_cm::Metadata;
 use krates_ids::Error;
 use krates_resolve::{Selection, Setting, admit, select};

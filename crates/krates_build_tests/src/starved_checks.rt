@@ -1,7 +1,7 @@
 //! The two checkers, with an index.
 
-use crate::documents::boxed;
-use crate::ids::answer;
+use crate::starved_documents::boxed;
+use crate::starved_ids::answer;
 use krates::derive::{CheckError, Derivation, Fact, Step, check, check_closed};
 use krates::index::CachingIndex;
 use krates::{Builder, Metadata};

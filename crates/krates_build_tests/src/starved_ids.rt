@@ -1,7 +1,7 @@
 //! Ids, and the correction of a package by an index.
 
-use crate::commands::parts;
-use crate::documents::boxed;
+use crate::starved_commands::parts;
+use crate::starved_documents::boxed;
 use krates_cm::{Metadata, PackageId};
 use krates_ids::{
     CachingIndex, FeaturesMap, IdError, IndexAnswer, IndexKrate, IndexKrateVersion, Kid,

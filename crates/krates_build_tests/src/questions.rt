@@ -4,7 +4,7 @@
 //! sections.
 
 use crate::asked::{Edge, edge_of};
-use crate::setters::setting_of;
+use crate::setting::setting_of;
 use krates_cm::{Dependency, Metadata};
 use krates_ids::{Error, Kid};
 use krates_questions::Need;

@@ -1,7 +1,7 @@
 //! The questions to the graph that make a list.
 
-use crate::builds::FEATURES;
-use crate::documents::are_a_and_b;
+use crate::starved_builds::FEATURES;
+use crate::starved_documents::are_a_and_b;
 use krates::{Builder, DepKind, Krates, NodeId, NoneFilter};
 use krates_samples::documents::metadata;
 use krates_samples::starving::{Call, answered, starved};

@@ -1,6 +1,6 @@
 //! What a document and a setting answer to the questions of the rules, asked one by one.
 
-use crate::setters::setting_of;
+use crate::setting::setting_of;
 use krates_cm::{DepKindInfo, Metadata, Package};
 use krates_ids::Kid;
 use krates_resolve::{Document, Setting, admit};

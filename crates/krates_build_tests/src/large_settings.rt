@@ -3,7 +3,7 @@
 ghost use Rattle.std.specs.Prelude.{◌≡◌, OnOk};
 
 use crate::builds_by_cargo::Count;
-use crate::commands::parts;
+use crate::starved_commands::parts;
 use crate::large::built;
 use krates::cm::{Features, MetadataCommand};
 use krates::index::{CachingIndex, IndexAnswer, IndexKrate, IndexKrateVersion};

@@ -2,7 +2,7 @@
 
 ghost use Rattle.std.specs.Prelude.{⊤};
 
-use crate::ids::answer;
+use crate::starved_ids::answer;
 use krates::index::{BuildIndexCache, IndexAnswer, PackageNames};
 use krates::{Builder, Error, Krates, Metadata, OnFilter, Package};
 use krates_samples::documents::metadata;

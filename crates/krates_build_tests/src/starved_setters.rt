@@ -1,7 +1,7 @@
 //! The builder's setters that append, each called on a builder on which it was called before.
 
-use crate::checks::push_step;
-use crate::documents::boxed;
+use crate::starved_checks::push_step;
+use crate::starved_documents::boxed;
 use krates::derive::{Derivation, Fact, check};
 use krates::{Builder, DepKind, PkgSpec, Target};
 use krates_samples::documents::kid_of;
