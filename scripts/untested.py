@@ -17,9 +17,8 @@ import re
 import sys
 
 ROOT = pathlib.Path(__file__).resolve().parent.parent
-# What only tests use; parts of lists of steps, of which no public answer is made yet; and what programs do on their machine, which the cases
-# of the programs show.
-LEFT_OUT = ("krates_samples", "krates_stand_in", "krates_steps", "krates_host")
+# What only tests use, and what programs do on their machine, which the cases of the programs show.
+LEFT_OUT = ("krates_samples", "krates_stand_in", "krates_host")
 
 # The files whose public functions are laws.
 LAWS = ("laws.rt", "comparisons.rt")
@@ -59,7 +58,7 @@ SHOWN_BY = {
         " Links::let_wait kept_edges kept_features kept_toggled"
     ).split(),
     # the graph of a build: its sheet, nodes and edges, and how they are stored
-    "build_with_metadata": "count_of given_by meanings_by draw_nodes plan store_arrows in_order Krates::new divide report".split(),
+    "build_with_metadata": "count_of given_by meanings_by draw_nodes plan store_arrows in_order Krates::new divide handed_over".split(),
     # the steps that a build keeps, and those of them that lead to a node
     "facts": ("kept_steps", "Document::lookup"),
     "why": ("derivation_of", "step_of"),
@@ -69,7 +68,7 @@ SHOWN_BY = {
     "hand_over": ("Refusal::status",),
     # what a word of `cargo krates` answers is made of values, which its text and its JSON show
     "Reporter::answer": (
-        "fitting duplicates lacking lost_dependencies materials is_unreachable push_graph Links::dependents Links::dependencies Links::of Links::leads"
+        "fitting duplicates lacking lost_dependencies materials is_unreachable Links::dependents Links::dependencies Links::of Links::leads"
         " Links::tree Builds::use_of Builds::uses Packages::one Packages::any Bill::of Changed::between Difference::between Duplicates::of"
         " licences Tree::of_dependencies Tree::of_dependents Features::of"
     ).split(),

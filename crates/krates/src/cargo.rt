@@ -10,9 +10,9 @@ ghost use Rattle.krates.specs.Indexed.{IsAskable, Sees};
 
 use crate::builder::Builder;
 use krates_cargo::MetadataCommand;
+use krates_drawing::filter::OnFilter;
 use krates_drawing::store::FromEdge;
 use krates_ids::{BuildIndexCache, Error};
-use krates_drawing::filter::OnFilter;
 use krates_queries::from_package::FromPackage;
 use krates_queries::kept::Krates;
 use std::process::Processes;

@@ -27,14 +27,14 @@ pub use indexed::IndexSource;
 pub use krates_cargo::{Cmd, LockOptions};
 pub use krates_cm::{Metadata, Package, PackageId};
 pub use krates_drawing::edge::Edge;
+pub use krates_drawing::node::{EnabledFeatures, Node};
 pub use krates_drawing::store::FromEdge;
+pub use krates_drawing::{FilterFn, NoneFilter, OnFilter};
 pub use krates_graph::graph::{EdgeId, NodeId};
 pub use krates_graph::{agenda, graph};
 pub use krates_ids::{Error, IdError, Kid, Lost, PkgSpec};
-pub use krates_drawing::{FilterFn, NoneFilter, OnFilter};
 pub use krates_queries::from_package::{FromPackage, KrateDetails};
 pub use krates_queries::kept::{Krates, KratesIter};
-pub use krates_drawing::node::{EnabledFeatures, Node};
 pub use krates_queries::queries::{
     Deps, DirectDependency, DirectDependent, KrateMatch, KrateNodes, Matches, Members,
 };

@@ -6,9 +6,9 @@ ghost use Rattle.krates_queries.specs.Kept.{AreNodes};
 ghost use Rattle.krates.specs.Members.{AreNumbersOf};
 ghost use Rattle.krates_drawing.specs.Node.{crate_ids};
 
+use krates_drawing::node::Node;
 use krates_graph::graph::NodeId;
 use krates_ids::Kid;
-use krates_drawing::node::Node;
 use krates_queries::numbers::number_of;
 use std::alloc::{AllocError, Global};
 

@@ -8,12 +8,12 @@ ghost use Rattle.std.specs.List.{AllZip, zip};
 ghost use Rattle.krates.specs.MadeNodes.{CountRefusal, IsMade, crate_node, feature_in, feature_node, mapping_in, nodes_in};
 
 use krates_cm::Package;
+use krates_drawing::krate::Krate;
+use krates_drawing::node::{EnabledFeatures, Node};
 use krates_drawing::nodes::Spot;
 use krates_graph::graph::{Graph, GraphError, NodeId};
 use krates_ids::Error;
-use krates_drawing::krate::Krate;
 use krates_queries::from_package::FromPackage;
-use krates_drawing::node::{EnabledFeatures, Node};
 use std::alloc::{AllocError, Global};
 
 /// An enabled feature, as it was drawn.

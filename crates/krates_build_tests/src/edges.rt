@@ -82,6 +82,46 @@ const DIRECT: &[Row] = &[
     ("a b b&dev|b / nodes a b&normal&dev|b", " 0>1 by 0 1<0 by 0"),
 ];
 
+/// The nodes that are features of the second one, and behind a bar the edges that are no dependency for development.
+struct Own;
+
+impl Told<Package> for Own {
+    fn push(text: &mut String, krates: &Krates, _line: &str) -> Result<(), Fail> {
+        for (number, node) in krates.graph().raw_nodes().iter().enumerate() {
+            if node.is_feature_of(NodeId::new(1)) {
+                write!(text, "{number} ")?;
+            }
+        }
+        text.push_str("|")?;
+        for (number, edge) in krates.graph().raw_edges().iter().enumerate() {
+            if edge.weight.is_without(DepKind::Dev) {
+                write!(text, " {number}")?;
+            }
+        }
+        Ok(())
+    }
+}
+
+const OWN: &[Row] = &[
+    // the crate's feature, and an edge of another kind into it, and one from it
+    (
+        "a b!&with=default|b;default= / nodes a b|b;default",
+        "2 | 0 1",
+    ),
+    // the feature of another crate isn't its own; a feature leads to what it toggles by no dependency
+    (
+        "a b?;b=dep:b w=b?/j|b;j= / nodes a b;b w|b;j",
+        "4 | 0 1 2 3 4 5",
+    ),
+    // of two dependencies on one crate the second is for development
+    ("a b b&dev|b / nodes a b&normal&dev|b", "| 0"),
+    // a dependency on a feature for development
+    (
+        "a b!&dev&with=default|b;default= / nodes a b|b;default",
+        "2 | 1",
+    ),
+];
+
 /// Adds a mark and the word of an id.
 fn push_kid(text: &mut String, mark: &str, kid: &Kid) -> Result<(), AllocError> {
     push_marked(text, mark, word_of(kid.repr()))
@@ -230,6 +270,7 @@ const FILTERED: &[Row] = &[
 #[test]
 fn answers_along_edges(rt: HostRuntime) -> Result<(), Fail> {
     hold::<OfGraph<Direct>>(rt.alloc(), DIRECT)?;
+    hold::<OfGraph<Own>>(rt.alloc(), OWN)?;
     hold::<OfGraph<Kids>>(rt.alloc(), KIDS)?;
     hold::<OfGraph<Ends>>(rt.alloc(), ENDS)?;
     hold::<OfGraph<Filtered>>(rt.alloc(), FILTERED)

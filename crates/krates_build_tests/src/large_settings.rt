@@ -3,8 +3,8 @@
 ghost use Rattle.std.specs.Prelude.{◌≡◌, OnOk};
 
 use crate::builds_by_cargo::Count;
-use crate::starved_commands::parts;
 use crate::large::built;
+use crate::starved_commands::parts;
 use krates::cm::{Features, MetadataCommand};
 use krates::index::{CachingIndex, IndexAnswer, IndexKrate, IndexKrateVersion};
 use krates::semver::Version;

@@ -1,8 +1,8 @@
 //! The examples of the README and the guide, which the gate compares with this file, and what they answer.
 
 use crate::lists::{Ask, Given, OfLine};
-use krates::derive::{CheckError, Derivation, Fact, Step, check, check_closed};
 use krates::cm::MetadataCommand;
+use krates::derive::{CheckError, Derivation, Fact, Step, check, check_closed};
 use krates::{Builder, Cmd, Error, Kid, Krates, Metadata, NoneFilter};
 use krates_samples::documents::kid_of;
 use krates_samples::table::{Row, hold};

@@ -10,8 +10,8 @@ ghost use Rattle.krates_drawing.specs.Division.{IsDivision, has_same, is_selecte
 ghost use Rattle.krates_drawing.specs.Krate.{paired};
 
 use crate::krate::Krate;
-use krates_cm::Package;
 use crate::sheet;
+use krates_cm::Package;
 use krates_ids::{Kid, laws};
 use std::alloc::{AllocError, Global};
 

@@ -7,10 +7,12 @@ ghost use Rattle.krates_rules.specs.StepViews.{facts_view, steps_view};
 ghost use Rattle.krates_explain.specs.Picked.{ArePicked};
 
 use crate::kept::{Explanation, KeptStep};
+use crate::laws;
+use crate::part::Part;
+use crate::shortening::part_for;
 use crate::telling::{told, used};
 use krates_ids::Kid;
 use krates_rules::{Derivation, Fact, Step, Uses};
-use crate::{Part, laws, part_for};
 use std::alloc::{AllocError, Global};
 
 /// The derivation of the fact of the step with this number: of all steps those on which it stands, and itself at the end.

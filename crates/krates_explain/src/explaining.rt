@@ -10,16 +10,18 @@ ghost use Rattle.krates_questions.specs.Basis.{Derives, document_of};
 ghost use Rattle.krates_selection.specs.Trace.{IsTrace};
 ghost use Rattle.krates_rules.specs.Facts.{Crate, Id};
 
+use crate::firsts::first_steps;
 use crate::kept::KeptStep;
 use crate::key::{FactKey, fact_of};
 use crate::keys::{Tables, keys_of};
+use crate::laws as step_laws;
 use crate::numbering::numbers_of;
+use crate::part::Part;
 use krates_ids::{Kid, laws};
-use krates_questions::crate_table::numbers_of as crate_numbers_of;
 use krates_questions::basis::Basis;
+use krates_questions::crate_table::numbers_of as crate_numbers_of;
 use krates_rules::Uses;
 use krates_selection::NumberedStep;
-use crate::{Part, first_steps, laws as step_laws};
 use std::alloc::{AllocError, Global};
 
 /// The steps of a selection, with its crates by number: of each fact the first step, which uses the first steps of its premises.

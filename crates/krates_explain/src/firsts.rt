@@ -13,7 +13,7 @@ use std::alloc::{AllocError, Global};
 /// step that it uses there is the first with the same fact.
 ///
 /// The only error is running out of memory. Time: O(n).
-pub fn first_steps(
+pub(crate) fn first_steps(
     alloc: Global,
     steps: &[Uses],
     facts: &[usize],

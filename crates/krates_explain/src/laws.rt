@@ -6,7 +6,7 @@ use krates_rules::laws;
 
 /// The steps of a part that ends in a step follow if those of the whole list do; no fact stands twice in it if none does in the
 /// whole list; it ends in the step's fact; and each other step is used by a later one.
-pub fn parts()
+pub(crate) fn parts()
     ensures follow { PartsFollow }
     ensures own { PartsHaveOwnFacts }
     ensures end { PartsEnd }
@@ -16,7 +16,7 @@ pub fn parts()
 }
 
 /// The first steps of each fact follow if those of the whole list do, and no fact stands twice among them.
-pub fn firsts()
+pub(crate) fn firsts()
     ensures follow { FirstsFollow }
     ensures own { FirstsHaveOwnFacts }
 {

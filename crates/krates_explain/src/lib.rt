@@ -7,20 +7,17 @@
 mod choosing;
 mod derivation;
 mod explaining;
-pub mod firsts;
+mod firsts;
 pub mod kept;
 mod key;
 mod keys;
-pub mod laws;
+mod laws;
 mod marking;
 mod numbering;
-pub mod part;
-pub mod shortening;
+mod part;
+mod shortening;
 mod telling;
 
 pub use derivation::{derivation_of, facts_of};
 pub use explaining::kept_steps;
-pub use firsts::first_steps;
 pub use kept::{Explanation, KeptFact, KeptStep, Subject, step_of};
-pub use part::Part;
-pub use shortening::part_for;

@@ -14,7 +14,7 @@ use std::alloc::{AllocError, Global};
 /// the order of the list. Each but the last is used by a later one.
 ///
 /// The only error is running out of memory. Time: O(n).
-pub fn part_for(alloc: Global, steps: &[Uses], last: usize) -> Result<Part, AllocError>
+pub(crate) fn part_for(alloc: Global, steps: &[Uses], last: usize) -> Result<Part, AllocError>
     requires backward { AreBackward steps.now }
     requires within { last < length steps.now }
     ensures part { IfOk result (λ part. IsPartBy SameNumber steps.now part.chosen.items part.uses.items) }

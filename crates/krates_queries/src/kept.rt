@@ -7,9 +7,9 @@ ghost use Rattle.krates_queries.specs.Explained.{AreExplained};
 ghost use Rattle.krates_queries.specs.Kept.{AreCrateNumbers, AreFeatures, AreNodes, AreOrdered, ids_of, values_of};
 ghost use Rattle.krates_drawing.specs.Node.{CratesFirst, crate_ids};
 
-use krates_drawing::node::Node;
 use krates_cm::Package;
 use krates_drawing::edge::Edge;
+use krates_drawing::node::Node;
 use krates_explain::Explanation;
 use krates_graph::graph::{Graph, NodeId};
 use krates_selection::Work;

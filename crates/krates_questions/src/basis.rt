@@ -1,7 +1,7 @@
 //! What a search goes by.
 
-use krates_document::setting::Setting;
 use crate::lookup::Lookup;
+use krates_document::setting::Setting;
 use std::alloc::Global;
 
 /// What a search goes by: a document, looked up, and a setting.

@@ -11,13 +11,13 @@ ghost use Rattle.krates_rules.specs.Questions.{Stands};
 ghost use Rattle.krates_rules.specs.Resolved.{NodeAt, id_of};
 ghost use Rattle.krates_rules.specs.Roots.{IsRoot};
 
+use crate::features::{feature_number, feature_values};
+use crate::lookup::{Lookup, is_member, node_place};
 use crate::questions::{Document, is_same};
 use crate::root_choice::{RootChoice, choice_of, is_root};
 use crate::standing::{Standing, standing_of};
 use krates_document::setting::Setting;
 use krates_ids::Kid;
-use crate::features::{feature_number, feature_values};
-use crate::lookup::{Lookup, is_member, node_place};
 
 /// What a document and a setting have for a crate.
 #[derive(Clone, Copy, Debug, PartialEq, Eq)]

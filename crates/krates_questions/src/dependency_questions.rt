@@ -14,6 +14,8 @@ ghost use Rattle.krates_rules.specs.Referent.{IsReferent};
 ghost use Rattle.krates_rules.specs.Resolved.{id_of};
 
 use crate::basis::Basis;
+use crate::lookup::Lookup;
+use crate::node_entry::{NodeEntry, declared_at};
 use crate::questions::{
     Document, declared_for, entry_between, is_same, lists, parts_for, referent_in,
 };
@@ -21,8 +23,6 @@ use crate::referent::answers_to;
 use krates_cm::{DepKindInfo, Dependency};
 use krates_document::setting::Setting;
 use krates_ids::{Kid, laws};
-use crate::lookup::Lookup;
-use crate::node_entry::{NodeEntry, declared_at};
 use std::alloc::{AllocError, Global};
 
 /// What a document and a setting have for a dependency of a crate on another, of one kind and for one target.

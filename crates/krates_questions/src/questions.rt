@@ -19,6 +19,8 @@ ghost use Rattle.krates_questions.specs.CrateTable.{IsPlaceAmong, IsPlaceOf};
 mod contents;
 
 use crate::basis::Basis;
+use crate::lookup::{Lookup, lookup_of, node_place};
+use crate::node_entry::{NodeEntry, NodeParts, declared_places, entry_at, is_same_info, parts_of};
 use crate::referent::{Referent, referent_of, referents_of};
 use crate::root_choice::{RootChoice, choice_of, is_root};
 use crate::standing::{Standing, standing_of};
@@ -28,10 +30,6 @@ use krates_document::ids::Ids;
 use krates_document::named_places::{NamedPlace, places_under};
 use krates_document::setting::Setting;
 use krates_ids::{Kid, laws};
-use crate::lookup::{Lookup, lookup_of, node_place};
-use crate::node_entry::{
-    NodeEntry, NodeParts, declared_places, entry_at, is_same_info, parts_of,
-};
 use std::alloc::{AllocError, Global};
 use std::marker::Model;
 

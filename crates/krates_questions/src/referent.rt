@@ -6,14 +6,14 @@ ghost use Rattle.krates_questions.specs.Lookup.{IsLookup, resolved_view};
 ghost use Rattle.krates_questions.specs.NodeEntry.{AreParts};
 ghost use Rattle.krates_questions.specs.ReferentPlace.{AnswersAs, AnswersBefore, AreReferentsIn, FindsMore, GoesOn, IsBefore, TellsReferent};
 
-use krates_cm::NodeDep;
-use krates_document::dependency_name::is_name_of;
-use krates_document::named_places::{NamedPlace, places_under};
-use krates_ids::{Kid, laws};
 use crate::library::is_library_rename;
 use crate::lookup::{Lookup, package_of};
 use crate::node_entry::NodeParts;
 use crate::sorted::in_order;
+use krates_cm::NodeDep;
+use krates_document::dependency_name::is_name_of;
+use krates_document::named_places::{NamedPlace, places_under};
+use krates_ids::{Kid, laws};
 use std::alloc::{AllocError, Global};
 
 /// A dependency of a node that a name means.

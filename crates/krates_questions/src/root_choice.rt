@@ -7,9 +7,9 @@ ghost use Rattle.krates_rules.specs.Resolved.{id_of, IsMember};
 ghost use Rattle.krates_questions.specs.RootChoice.{IsChoice, AsksFor, HasOneOf};
 ghost use Rattle.krates_rules.specs.Roots.{IsRoot, HasManifest, IsWorkspaceManifest};
 
+use crate::lookup::{Lookup, package_of};
 use krates_document::setting::Setting;
 use krates_ids::{Kid, laws};
-use crate::lookup::{Lookup, package_of};
 use krates_text::path::{parent, same};
 
 /// Which crates are the roots.

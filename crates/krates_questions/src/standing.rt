@@ -12,11 +12,11 @@ ghost use Rattle.std.specs.List.{AllZip};
 ghost use Rattle.std.specs.Prelude.{IfOk, map};
 
 use crate::basis::Basis;
+use crate::lookup::{Lookup, crate_number, node_place_at, package_at, package_place_at};
+use crate::node_entry::{NodeEntry, child_number};
 use krates_cm::Package;
 use krates_document::setting::Setting;
 use krates_ids::Kid;
-use crate::lookup::{Lookup, crate_number, node_place_at, package_at, package_place_at};
-use crate::node_entry::{NodeEntry, child_number};
 use std::alloc::{AllocError, Global};
 
 /// What a document and a setting have for a crate.

@@ -7,6 +7,7 @@ pub mod builds;
 pub mod certainty;
 pub mod crate_name;
 pub mod difference;
+mod dump;
 pub mod duplicates;
 mod krate_json;
 pub mod licences;

@@ -4,6 +4,7 @@ use crate::bill::Bill;
 use crate::builds::{builds, built};
 use crate::certainty::Certainty;
 use crate::difference::Difference;
+use crate::dump::{push_answers, push_graph};
 use crate::duplicates::Duplicates;
 use crate::licences::Licences;
 use crate::list::List;
@@ -19,7 +20,6 @@ use krates_answers::naming::{Meant, Packages};
 use krates_answers::unreachable::is_unreachable;
 use krates_answers::uses::Builds;
 use krates_certificate::{Certificate, Part};
-use krates_dump::{push_answers, push_graph};
 use krates_words::{Asked, Word};
 use std::alloc::{AllocError, Global};
 

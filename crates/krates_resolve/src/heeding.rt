@@ -12,9 +12,9 @@ ghost use Rattle.krates_questions.specs.Lookup.{IsLookup};
 
 use krates_graph::agenda::Taken;
 use krates_ids::{Error, laws};
+use krates_questions::basis::Basis;
 use krates_questions::features::feature_values;
 use krates_questions::node_entry::{NodeParts, child_place, entry_at, parts_of};
-use krates_questions::basis::Basis;
 use krates_questions::referent::referents_of;
 use krates_search::enabling::{KeptNode, NamedFeature, enable, toggle};
 use krates_search::expansion::expand_entry;

@@ -18,9 +18,9 @@ use crate::found_toggle::FoundToggle;
 use crate::tracing::{put_feature, put_krate, put_step};
 use krates_cm::Dependency;
 use krates_ids::{Error, Kid, Lost, laws};
+use krates_questions::basis::Basis;
 use krates_questions::features::feature_number;
 use krates_questions::node_entry::{EntryEdge, NodeEntry, declared_at};
-use krates_questions::basis::Basis;
 use krates_selection::trace::{NumberedFact, NumberedStep, Reason};
 
 /// The node of a kept crate.

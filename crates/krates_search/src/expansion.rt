@@ -15,8 +15,8 @@ use crate::kinds::{first_kinds, info_at};
 use krates_document::declared_dependency::{Sought, declared_of};
 use krates_graph::agenda::Taken;
 use krates_ids::{Error, Lost, laws};
-use krates_questions::node_entry::{EntryEdge, NodeEntry, entry_at, parts_of, places_for};
 use krates_questions::basis::Basis;
+use krates_questions::node_entry::{EntryEdge, NodeEntry, entry_at, parts_of, places_for};
 use krates_questions::standing::{Standing, known_standing_of_child};
 use krates_selection::trace::Reason;
 

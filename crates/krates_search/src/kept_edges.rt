@@ -11,9 +11,9 @@ ghost use Rattle.krates_search.specs.KeptNumbers.{AreKeptNumbers, kids_in};
 use crate::found_edge::FoundEdge;
 use crate::kept_numbers::{KeptNumbers, number_at};
 use krates_ids::laws;
+use krates_questions::basis::Basis;
 use krates_questions::lookup::Lookup;
 use krates_questions::sorted::in_order;
-use krates_questions::basis::Basis;
 use krates_selection::selection::KeptEdge;
 use std::alloc::{AllocError, Global};
 

@@ -7,10 +7,10 @@ ghost use Rattle.krates_queries.specs.AllDependents.{AreAllDependents, match_at}
 ghost use Rattle.krates_queries.specs.KrateNodes.{match_view};
 
 use crate::kept::Krates;
-use krates_drawing::node::Node;
 use crate::queries::krate_nodes::KrateMatch;
 use crate::queries::reached::nodes_put;
 use crate::queries::reaches::leading_to;
+use krates_drawing::node::Node;
 use krates_graph::graph::NodeId;
 use std::alloc::{AllocError, Global};
 

@@ -7,8 +7,8 @@ ghost use Rattle.krates_drawing.specs.Views.{listed};
 ghost use Rattle.krates_queries.specs.Direct.{Joined, id_and_value_at, is_feature_of as is_feature, joined_all, joined_by, value_at};
 ghost use Rattle.krates_queries.specs.Neighbours.{AreInOrder, first_edge};
 
-use krates_drawing::node::Node;
 use crate::queries::neighbours::{Neighbour, edge_of};
+use krates_drawing::node::Node;
 use krates_graph::graph::{EdgeId, NodeId};
 use krates_ids::Kid;
 use std::alloc::{AllocError, Global};

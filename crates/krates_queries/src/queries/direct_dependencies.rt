@@ -5,9 +5,9 @@ ghost use Rattle.krates_drawing.specs.Views.{listed};
 ghost use Rattle.krates_queries.specs.DirectDependencies.{AreDependencies, dependency_view, home, named_by, numbers_in, target_in, targets_from};
 
 use crate::kept::Krates;
-use krates_drawing::node::Node;
 use crate::queries::direct::{FromJoined, in_order, joined};
 use crate::queries::neighbours::{Neighbour, ordered};
+use krates_drawing::node::Node;
 use krates_graph::graph::{Direction, EdgeId, Graph, NodeId};
 use krates_ids::Kid;
 use std::alloc::{AllocError, Global};

@@ -4,9 +4,9 @@ ghost use Rattle.std.specs.Prelude.{◌≡◌, ◌++◌, IfOk, OnOk, map};
 ghost use Rattle.krates_queries.specs.DirectDependents.{AreDependents, dependent_view, sources_into, sources_over, sources_to};
 
 use crate::kept::Krates;
-use krates_drawing::node::Node;
 use crate::queries::direct::{FromJoined, in_order, is_feature_of, joined};
 use crate::queries::neighbours::{Neighbour, ordered};
+use krates_drawing::node::Node;
 use krates_graph::graph::{Direction, EdgeId, Graph, NodeId};
 use krates_ids::Kid;
 use std::alloc::{AllocError, Global};

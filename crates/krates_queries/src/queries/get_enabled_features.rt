@@ -6,8 +6,8 @@ ghost use Rattle.krates_queries.specs.Kept.{HasFeatures, IsNotKept, features_of,
 ghost use Rattle.krates_drawing.specs.Node.{names_in};
 
 use crate::kept::Krates;
-use krates_drawing::node::EnabledFeatures;
 use crate::numbers::{features_at, number_of};
+use krates_drawing::node::EnabledFeatures;
 use krates_ids::Kid;
 
 impl<N, E> Krates<N, E> {

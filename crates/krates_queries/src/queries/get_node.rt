@@ -8,8 +8,8 @@ ghost use Rattle.krates_drawing.specs.Node.{IsFeatureAt};
 ghost use Rattle.krates_queries.specs.NodeOrder.{feature_cmp};
 
 use crate::kept::Krates;
-use krates_drawing::node::Node;
 use crate::numbers::{number_of, standing_at};
+use krates_drawing::node::Node;
 use krates_graph::graph::NodeId;
 use krates_ids::Kid;
 use std::cmp::Ordering;

@@ -5,8 +5,8 @@ ghost use Rattle.krates_queries.specs.Kept.{AreNodes, ids_of, values_of};
 ghost use Rattle.krates_drawing.specs.Node.{crate_ids, crate_values};
 
 use crate::kept::Krates;
-use krates_drawing::node::Node;
 use crate::numbers::standing_at;
+use krates_drawing::node::Node;
 use krates_graph::graph::NodeId;
 use std::ops::Index;
 

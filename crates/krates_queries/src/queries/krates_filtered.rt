@@ -8,10 +8,10 @@ ghost use Rattle.krates_queries.specs.KratesFiltered.{AreReached, IsReached};
 ghost use Rattle.krates_queries.specs.Reached.{Grows};
 
 use crate::kept::Krates;
-use krates_drawing::node::Node;
 use crate::queries::direct::krate_at;
 use crate::queries::reached::{WithoutKind, nodes_put, put_reached};
 use krates_drawing::edge::Edge;
+use krates_drawing::node::Node;
 use krates_graph::agenda::Agenda;
 use krates_graph::graph::{Direction, Graph, NodeId};
 use krates_rules::DepKind;

@@ -5,8 +5,8 @@ ghost use Rattle.krates_rules.specs.Resolved.{id_of};
 ghost use Rattle.krates_queries.specs.Kept.{IsNodeOf, IsNotKept};
 
 use crate::kept::Krates;
-use krates_drawing::node::Node;
 use crate::numbers::{number_of, standing_at};
+use krates_drawing::node::Node;
 use krates_ids::Kid;
 
 impl<N, E> Krates<N, E> {

@@ -5,8 +5,8 @@ ghost use Rattle.krates_queries.specs.Reached.{Grows};
 ghost use Rattle.krates_queries.specs.Reaches.{HasPath, TellsPath};
 
 use crate::kept::Krates;
-use krates_drawing::node::Node;
 use crate::queries::reached::{EveryEdge, put_reached};
+use krates_drawing::node::Node;
 use krates_graph::agenda::Agenda;
 use krates_graph::graph::{Direction, Graph, NodeId};
 use std::alloc::{AllocError, Global};

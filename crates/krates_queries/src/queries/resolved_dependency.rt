@@ -4,8 +4,8 @@ ghost use Rattle.std.specs.Prelude.{◌≡◌, Some, option_map};
 ghost use Rattle.krates_queries.specs.ResolvedDependency.{number_in, resolved_at};
 
 use crate::kept::Krates;
-use krates_drawing::node::Node;
 use crate::queries::direct::krate_at;
+use krates_drawing::node::Node;
 use krates_graph::graph::NodeId;
 
 /// The number that a node has at a place of its mapping.

@@ -6,8 +6,8 @@ ghost use Rattle.krates_queries.specs.Explained.{node_says};
 ghost use Rattle.krates_queries.specs.Why.{TellsWhy};
 
 use crate::kept::Krates;
-use krates_drawing::node::Node;
 use crate::numbers::node_at;
+use krates_drawing::node::Node;
 use krates_explain::{Subject, derivation_of, step_of};
 use krates_graph::graph::NodeId;
 use krates_rules::Derivation;

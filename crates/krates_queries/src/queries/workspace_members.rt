@@ -5,8 +5,8 @@ ghost use Rattle.std.specs.Iterator.{YieldsFirstRef, item_count};
 ghost use Rattle.krates_queries.specs.WorkspaceMembers.{nodes_at};
 
 use crate::kept::Krates;
-use krates_drawing::node::Node;
 use crate::numbers::standing_at;
+use krates_drawing::node::Node;
 use krates_graph::graph::NodeId;
 use std::marker::Model;
 

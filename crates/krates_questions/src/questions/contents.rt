@@ -7,10 +7,10 @@ ghost use Rattle.krates_questions.specs.Contents.{IsNodeOf, TellsNode};
 ghost use Rattle.krates_questions.specs.DocumentModel.{as_resolved};
 ghost use Rattle.krates_rules.specs.Resolved.{id_of};
 
+use crate::lookup::{Lookup, node_place, package_of};
 use crate::questions::Document;
 use krates_cm::{Node, Package};
 use krates_ids::Kid;
-use crate::lookup::{Lookup, node_place, package_of};
 
 impl<'a> Document<'a> {
     /// The package of a crate; none where the document has none. It is found by halves. Time O(log n) in the crates.

@@ -1,7 +1,7 @@
 //! The lines of a graph: `node N crate ID`, `node N feature ID/NAME`, `map CRATE PLACE CRATE` for each place of a mapping that names
 //! a crate, and `edge N SOURCE TARGET` with what the edge is: `dep` or `depfeature`, its kind and its target or `-`, or `feature`.
 
-use crate::lines::push_start;
+use crate::dump::lines::push_start;
 use krates::graph::{Graph, GraphEdge};
 use krates::{DepKind, Edge, Node, NodeId, Package};
 use std::alloc::AllocError;
@@ -100,7 +100,7 @@ fn push_edges(lines: &mut String, edges: &[GraphEdge<Edge>]) -> Result<(), Alloc
 }
 
 /// Adds the lines of a graph.
-pub fn push_graph(
+pub(crate) fn push_graph(
     lines: &mut String,
     graph: &Graph<Node<Package>, Edge>,
 ) -> Result<(), AllocError> {

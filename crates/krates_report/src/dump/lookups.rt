@@ -1,6 +1,6 @@
 //! What the queries of a graph answer to ids and names.
 
-use crate::drawing::push_node;
+use crate::dump::drawing::push_node;
 use krates::semver::VersionReq;
 use krates::{EnabledFeatures, Kid, Krates, Matches, Node, Package, PackageId};
 use std::alloc::{AllocError, Global};

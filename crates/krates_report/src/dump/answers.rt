@@ -1,8 +1,8 @@
 //! What the queries of a graph answer, a line for each item, with what was asked before it: of the whole graph, and of each node.
 
-use crate::drawing::{push_edge, push_node};
-use crate::lines::push_line;
-use crate::lookups::{push_features, push_ids, push_names};
+use crate::dump::drawing::{push_edge, push_node};
+use crate::dump::lines::push_line;
+use crate::dump::lookups::{push_features, push_ids, push_names};
 use krates::{DepKind, Krates, NodeId, PackageId};
 use std::alloc::{AllocError, Global};
 
@@ -139,7 +139,7 @@ fn push_whole(lines: &mut String, krates: &Krates) -> Result<(), AllocError> {
 }
 
 /// Adds what all queries answer, where the packages of the document have these ids.
-pub fn push_answers(
+pub(crate) fn push_answers(
     alloc: Global,
     lines: &mut String,
     krates: &Krates,
