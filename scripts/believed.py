@@ -194,7 +194,7 @@ def lists_fields(definition):
 def is_drawn(definition):
     """Whether the definition speaks of the drawn graph alone, or of the selection that is drawn."""
     place = definition.file.path.relative_to(ROOT)
-    crates = ("krates_drawing", "krates_graph", "krates_lookups", "krates_questions", "krates_selection")
+    crates = ("krates_drawing", "krates_graph", "krates_questions", "krates_selection")
     return place.parts[1] in crates or (place.parts[1], place.stem) in (("krates", "Node"), ("krates", "Drawn"))
 
 

@@ -10,7 +10,7 @@
 #     none.graph     no option
 #     linux.graph    --target x86_64-unknown-linux-gnu
 #
-# The lines are those that crates/krates_dump/src/drawing.rt explains. A file that isn't there is passed over. Where a build
+# The lines are those that crates/krates_report/src/dump/drawing.rt explains. A file that isn't there is passed over. Where a build
 # is refused, the lines that are expected are 'refused (status 1)' and the reason.
 #
 # The program is crates/cargo_krates/out/cargo_krates, which `rt run` in that folder builds, or $CARGO_KRATES.

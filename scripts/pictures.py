@@ -26,11 +26,11 @@ ROOMS = {
     "texts and the document": ("#e8f1fb", ["krates_text", "krates_json", "krates_cm", "krates_cm_json", "krates_ids"]),
     "the command": ("#f3eefb", ["krates_cargo"]),
     "what is believed": ("#fdf3d8", ["krates_rules"]),
-    "questions and search": ("#e9f7ec", ["krates_document", "krates_lookups", "krates_questions", "krates_selection", "krates_search", "krates_resolve"]),
+    "questions and search": ("#e9f7ec", ["krates_document", "krates_questions", "krates_selection", "krates_search", "krates_resolve"]),
     "the graph": ("#e6f6f6", ["krates_graph", "krates_drawing", "krates_queries"]),
-    "why": ("#f1f0e4", ["krates_steps", "krates_explain"]),
+    "why": ("#f1f0e4", ["krates_explain"]),
     "checkers without a search": ("#fdeaea", ["krates_derive", "krates_checkers", "krates_certificate", "krates_verdict", "krates_check"]),
-    "for callers": ("#eceff1", ["krates_packages", "krates", "krates_cli", "krates_list", "krates_answers", "krates_words", "krates_dump", "krates_report", "krates_host", "cargo_krates", "krates_foreign", "krates_c"]),
+    "for callers": ("#eceff1", ["krates", "krates_cli", "krates_list", "krates_answers", "krates_words", "krates_report", "krates_host", "cargo_krates", "krates_foreign", "krates_c"]),
 }
 
 
