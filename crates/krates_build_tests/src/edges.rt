@@ -103,22 +103,22 @@ impl Told<Package> for Own {
 }
 
 const OWN: &[Row] = &[
-    // the crate's feature, and an edge of another kind into it, and one from it
+    // a dependency on a feature, which is toggled too, and which leads to its crate
     (
         "a b!&with=default|b;default= / nodes a b|b;default",
-        "2 | 0 1",
+        "2 | 0 1 2",
     ),
     // the feature of another crate isn't its own; a feature leads to what it toggles by no dependency
     (
         "a b?;b=dep:b w=b?/j|b;j= / nodes a b;b w|b;j",
-        "4 | 0 1 2 3 4 5",
+        "4 | 0 1 2 3 4 5 6",
     ),
     // of two dependencies on one crate the second is for development
     ("a b b&dev|b / nodes a b&normal&dev|b", "| 0"),
-    // a dependency on a feature for development
+    // the first again, for development
     (
         "a b!&dev&with=default|b;default= / nodes a b|b;default",
-        "2 | 1",
+        "2 | 1 2",
     ),
 ];
 
