@@ -37,7 +37,7 @@ use krates_explain::{KeptStep, kept_steps};
 use krates_graph::graph::Graph;
 use krates_ids::Error;
 use krates_queries::from_package::FromPackage;
-use krates_questions::basis::Basis;
+use krates_questions::context::Context;
 use krates_resolve::{Document, EnabledFeature, Ids, Selection, Setting, Work, select_in};
 use std::alloc::{AllocError, Global};
 
@@ -83,12 +83,12 @@ fn steps_of(
     ensures { IfOk result (λ steps. AreStepsOf (as_resolved document.now) setting.now
         selection.now.krates.items selection.now.steps.items steps.items) }
 {
-    let basis = Basis {
+    let context = Context {
         alloc,
         lookup: document.lookup(),
         setting,
     };
-    kept_steps(&basis, &selection.krates, &selection.steps)
+    kept_steps(&context, &selection.krates, &selection.steps)
 }
 
 /// The enabled features of a sheet.

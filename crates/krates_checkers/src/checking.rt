@@ -2,7 +2,7 @@
 
 ghost use Rattle.std.specs.Prelude.{◌↔◌, ◌<◌, ◌∷◌, [], IfErr, IfOk, IsTrue, OnOk, Some, length};
 ghost use Rattle.krates_cm.specs.Document.{metadata_view};
-ghost use Rattle.krates_derive.specs.Basis.{rules_of};
+ghost use Rattle.krates_derive.specs.Context.{rules_of};
 ghost use Rattle.krates_checkers.specs.Refusals.{IsCheckRefused, IsClosedRefused, IsRefusedThrough, IsStepFault, IsUnread};
 ghost use Rattle.krates_checkers.specs.SeenThrough.{SeesThrough, answer_of};
 ghost use Rattle.krates_checkers.specs.Using.{using};
@@ -18,7 +18,7 @@ use crate::check_error::CheckError;
 use crate::closed::is_closed;
 use crate::seen_through::seen_through;
 use krates_cm::Metadata;
-use krates_derive::basis::Basis;
+use krates_derive::context::Context;
 use krates_derive::following::{from_nothing, from_one, from_two};
 use krates_document::{Ids, Setting, admit};
 use krates_ids::{CachingIndex, Error};
@@ -157,12 +157,12 @@ fn check_admitted(
         return Err(CheckError::Empty);
     }
     let document = Document::new(alloc, metadata, ids)?;
-    let basis = Basis {
+    let context = Context {
         alloc,
         document: &document,
         setting,
     };
-    check_steps(&basis, &derivation.steps)
+    check_steps(&context, &derivation.steps)
 }
 
 /// Checks a list of facts for a document as it is.
@@ -215,12 +215,12 @@ fn is_closed_admitted(
         IfOk result (λ b. Answers m setting.now (λ q. IsTrue b ↔ IsClosed q fs)) }
 {
     let document = Document::new(alloc, metadata, ids)?;
-    let basis = Basis {
+    let context = Context {
         alloc,
         document: &document,
         setting,
     };
-    is_closed(&basis, facts)
+    is_closed(&context, facts)
 }
 
 /// The ids of a document that is admitted.
@@ -236,12 +236,12 @@ fn ids_of(alloc: Global, metadata: &Metadata) -> Result<Ids, CheckError>
 }
 
 /// Checks each step.
-fn check_steps<'a>(basis: &Basis<'a, '_>, steps: &'a [Step]) -> Result<(), CheckError>
-    ensures follows { OnOk result (EachFollows (rules_of basis.now) (steps_view steps.now)) }
-    ensures refused { IfErr result (IsStepFault (rules_of basis.now) (steps_view steps.now)) }
+fn check_steps<'a>(context: &Context<'a, '_>, steps: &'a [Step]) -> Result<(), CheckError>
+    ensures follows { OnOk result (EachFollows (rules_of context.now) (steps_view steps.now)) }
+    ensures refused { IfErr result (IsStepFault (rules_of context.now) (steps_view steps.now)) }
 {
     for (number, step) in steps.iter().enumerate() {
-        if !follows(basis, steps, number, step)? {
+        if !follows(context, steps, number, step)? {
             return Err(CheckError::Step(number));
         }
     }
@@ -250,27 +250,27 @@ fn check_steps<'a>(basis: &Basis<'a, '_>, steps: &'a [Step]) -> Result<(), Check
 
 /// Whether a step follows from the steps that it uses, all before it.
 fn follows<'a>(
-    basis: &Basis<'a, '_>,
+    context: &Context<'a, '_>,
     steps: &'a [Step],
     number: usize,
     step: &'a Step,
 ) -> Result<bool, AllocError>
     requires { number < length steps.now }
     ensures { IfOk result
-        (λ b. IsTrue b ↔ StepFollows (rules_of basis.now) (steps_view steps.now) number
+        (λ b. IsTrue b ↔ StepFollows (rules_of context.now) (steps_view steps.now) number
         (step_view step.now)) }
 {
     match step.uses.as_slice() {
-        [] => Ok(from_nothing(basis, step.rule, &step.fact)),
-        [used] => follows_one(basis, steps, number, step, *used),
-        [first, second] => Ok(follows_two(basis, steps, number, step, (*first, *second))),
+        [] => Ok(from_nothing(context, step.rule, &step.fact)),
+        [used] => follows_one(context, steps, number, step, *used),
+        [first, second] => Ok(follows_two(context, steps, number, step, (*first, *second))),
         _ => Ok(false),
     }
 }
 
 /// Whether a step follows if it uses this step and no other.
 fn follows_one<'a>(
-    basis: &Basis<'a, '_>,
+    context: &Context<'a, '_>,
     steps: &'a [Step],
     number: usize,
     step: &'a Step,
@@ -278,25 +278,25 @@ fn follows_one<'a>(
 ) -> Result<bool, AllocError>
     requires { number < length steps.now }
     ensures { IfOk result
-        (λ b. IsTrue b ↔ StepFollows (rules_of basis.now) (steps_view steps.now) number
+        (λ b. IsTrue b ↔ StepFollows (rules_of context.now) (steps_view steps.now) number
         (using step.now (used ∷ []))) }
 {
     if used >= number {
         return Ok(false);
     }
-    from_one(basis, step.rule, &steps[used].fact, &step.fact)
+    from_one(context, step.rule, &steps[used].fact, &step.fact)
 }
 
 /// Whether a step follows if it uses these two steps and no other.
 fn follows_two<'a>(
-    basis: &Basis<'a, '_>,
+    context: &Context<'a, '_>,
     steps: &'a [Step],
     number: usize,
     step: &'a Step,
     used: (usize, usize),
 ) -> bool
     requires { number < length steps.now }
-    ensures { IsTrue result ↔ StepFollows (rules_of basis.now) (steps_view steps.now) number
+    ensures { IsTrue result ↔ StepFollows (rules_of context.now) (steps_view steps.now) number
         (using step.now (used.0 ∷ used.1 ∷ [])) }
 {
     let (first, second) = used;
@@ -304,7 +304,7 @@ fn follows_two<'a>(
         return false;
     }
     from_two(
-        basis,
+        context,
         step.rule,
         &steps[first].fact,
         &steps[second].fact,

@@ -4,17 +4,17 @@
 //! is asked with the feature, for the edges in the list.
 
 ghost use Rattle.std.specs.Prelude.{◌↔◌, IfOk, IsTrue};
-ghost use Rattle.krates_derive.specs.Basis.{rules_of};
+ghost use Rattle.krates_derive.specs.Context.{rules_of};
 ghost use Rattle.krates_derive.specs.Claim.{document_in, facts_in};
 ghost use Rattle.krates_derive.specs.Giving.{AllIn, FactIn, FeatureIn};
 ghost use Rattle.krates_rules.specs.Derivation.{IsClosed};
 ghost use Rattle.krates_rules.specs.Resolved.{id_of};
 ghost use Rattle.krates_rules.specs.StepViews.{fact_view, facts_view};
 
-use krates_derive::basis::Basis;
 use krates_derive::closing::{
     Claim, are_asked_in, are_roots_in, are_simple_in, are_toggling_in, is_crate_in, is_kept_in,
 };
+use krates_derive::context::Context;
 use krates_derive::fact_set::FactSet;
 use krates_derive::told::ToldEdge;
 use krates_ids::Kid;
@@ -22,15 +22,18 @@ use krates_rules::Fact;
 use std::alloc::AllocError;
 
 /// Whether a list is closed.
-pub(crate) fn is_closed<'a>(basis: &Basis<'a, '_>, facts: &'a [Fact]) -> Result<bool, AllocError>
-    ensures { IfOk result (λ b. IsTrue b ↔ IsClosed (rules_of basis.now) (facts_view facts.now)) }
+pub(crate) fn is_closed<'a>(
+    context: &Context<'a, '_>,
+    facts: &'a [Fact],
+) -> Result<bool, AllocError>
+    ensures { IfOk result (λ b. IsTrue b ↔ IsClosed (rules_of context.now) (facts_view facts.now)) }
 {
-    let set = FactSet::of(basis.alloc, facts)?;
-    let roots = basis.document.roots(basis.alloc, basis.setting)?;
+    let set = FactSet::of(context.alloc, facts)?;
+    let roots = context.document.roots(context.alloc, context.setting)?;
     let claim = Claim {
-        alloc: basis.alloc,
-        document: basis.document,
-        setting: basis.setting,
+        alloc: context.alloc,
+        document: context.document,
+        setting: context.setting,
         facts: &set,
     };
     if !are_roots_in(&claim, &roots) {

@@ -1,5 +1,5 @@
-pub mod Basis
 pub mod Claim
+pub mod Context
 pub mod FactKey
 pub mod FactSet
 pub mod Following

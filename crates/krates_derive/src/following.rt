@@ -2,7 +2,7 @@
 
 ghost use Rattle.std.specs.Prelude.{◌≡◌, ◌↔◌, ◌∷◌, [], Contains, IfOk, IsTrue, map};
 ghost use Rattle.krates_cm.specs.Document.{dependency_view, text_view};
-ghost use Rattle.krates_derive.specs.Basis.{document_of, rules_of};
+ghost use Rattle.krates_derive.specs.Context.{document_of, rules_of};
 ghost use Rattle.krates_derive.specs.Following.{AsksDefault, AsksFeature, AsksForFeature, IsAskedBy, IsChildWith, IsNamedBy, IsRooted, IsRootedFeature, MayKeep, MustKeep, TogglesOver};
 ghost use Rattle.krates_derive.specs.Told.{told_edge, told_feature, told_toggle, told_fact};
 ghost use Rattle.krates_questions.specs.DocumentModel.{as_resolved};
@@ -12,7 +12,7 @@ ghost use Rattle.krates_rules.specs.Resolved.{id_of};
 ghost use Rattle.krates_rules.specs.Rules.{Rule};
 ghost use Rattle.krates_rules.specs.StepViews.{fact_view};
 
-use crate::basis::Basis;
+use crate::context::Context;
 use crate::referring::{asks, names, toggles};
 use crate::told::{Told, ToldEdge, ToldFeature, ToldToggle, info_of, is_same, lent};
 use krates_cm::Dependency;
@@ -49,28 +49,28 @@ pub(crate) fn declaration_of<'a>(
 }
 
 /// Whether an edge may be kept.
-fn may_keep<'a>(basis: &Basis<'a, '_>, edge: &ToldEdge<'a>) -> Result<bool, AllocError>
+fn may_keep<'a>(context: &Context<'a, '_>, edge: &ToldEdge<'a>) -> Result<bool, AllocError>
     ensures { IfOk result
-        (λ b. IsTrue b ↔ MayKeep (document_of basis.now) basis.now.setting.now (told_edge edge.now)) }
+        (λ b. IsTrue b ↔ MayKeep (document_of context.now) context.now.setting.now (told_edge edge.now)) }
 {
-    match need_of(basis.alloc, basis.document, basis.setting, edge)? {
-        Need::Wanted(_) => Ok(basis.document.stands(basis.setting, edge.child)),
+    match need_of(context.alloc, context.document, context.setting, edge)? {
+        Need::Wanted(_) => Ok(context.document.stands(context.setting, edge.child)),
         Need::Undeclared => Ok(false),
         Need::Nothing => Ok(false),
     }
 }
 
 /// Whether an edge has to be kept if its parent is.
-fn must_keep<'a>(basis: &Basis<'a, '_>, edge: &ToldEdge<'a>) -> Result<bool, AllocError>
+fn must_keep<'a>(context: &Context<'a, '_>, edge: &ToldEdge<'a>) -> Result<bool, AllocError>
     ensures { IfOk result
-        (λ b. IsTrue b ↔ MustKeep (document_of basis.now) basis.now.setting.now (told_edge edge.now)) }
+        (λ b. IsTrue b ↔ MustKeep (document_of context.now) context.now.setting.now (told_edge edge.now)) }
 {
-    match need_of(basis.alloc, basis.document, basis.setting, edge)? {
+    match need_of(context.alloc, context.document, context.setting, edge)? {
         Need::Wanted(dependency) => {
             if dependency.optional {
                 return Ok(false);
             }
-            Ok(basis.document.stands(basis.setting, edge.child))
+            Ok(context.document.stands(context.setting, edge.child))
         }
         Need::Undeclared => Ok(false),
         Need::Nothing => Ok(false),
@@ -121,27 +121,27 @@ fn has_text(texts: &[String], text: &str) -> bool
 // ---- the rows
 
 /// Whether a crate is a root that stands.
-fn is_rooted<'a>(basis: &Basis<'a, '_>, rule: u8, krate: &'a Kid) -> bool
-    ensures { IsTrue result ↔ IsRooted (document_of basis.now) basis.now.setting.now rule (id_of krate.now) }
+fn is_rooted<'a>(context: &Context<'a, '_>, rule: u8, krate: &'a Kid) -> bool
+    ensures { IsTrue result ↔ IsRooted (document_of context.now) context.now.setting.now rule (id_of krate.now) }
 {
     if rule != 1 {
         return false;
     }
-    if !basis.document.is_root(basis.setting, krate) {
+    if !context.document.is_root(context.setting, krate) {
         return false;
     }
-    basis.document.stands(basis.setting, krate)
+    context.document.stands(context.setting, krate)
 }
 
 /// Whether a crate is a root that stands and lists a feature.
-fn is_rooted_feature<'a>(basis: &Basis<'a, '_>, rule: u8, krate: &'a Kid, name: &'a str) -> bool
-    ensures { IsTrue result ↔ IsRootedFeature (document_of basis.now) basis.now.setting.now rule
+fn is_rooted_feature<'a>(context: &Context<'a, '_>, rule: u8, krate: &'a Kid, name: &'a str) -> bool
+    ensures { IsTrue result ↔ IsRootedFeature (document_of context.now) context.now.setting.now rule
         (id_of krate.now) name.now }
 {
-    if !is_rooted(basis, rule, krate) {
+    if !is_rooted(context, rule, krate) {
         return false;
     }
-    basis.document.lists(krate, name)
+    context.document.lists(krate, name)
 }
 
 /// Whether the rule has the number, and the crates are the same.
@@ -179,51 +179,51 @@ fn is_named<'a>(
 
 /// Whether a feature of a crate asks for an edge.
 fn is_asked<'a>(
-    basis: &Basis<'a, '_>,
+    context: &Context<'a, '_>,
     rule: u8,
     feature: &ToldFeature<'a>,
     edge: &ToldEdge<'a>,
 ) -> bool
     ensures { let f = feature.now in
-        IsTrue result ↔ IsAskedBy (document_of basis.now) basis.now.setting.now rule (id_of f.krate.now) f.name.now (told_edge edge.now) }
+        IsTrue result ↔ IsAskedBy (document_of context.now) context.now.setting.now rule (id_of f.krate.now) f.name.now (told_edge edge.now) }
 {
     rule == 4
         && is_same(feature.krate, edge.parent)
-        && asks(basis, edge.parent, feature.name, edge.child)
+        && asks(context, edge.parent, feature.name, edge.child)
 }
 
 /// Whether an edge follows from a feature.
 fn is_kept_by_feature<'a>(
-    basis: &Basis<'a, '_>,
+    context: &Context<'a, '_>,
     rule: u8,
     feature: &ToldFeature<'a>,
     edge: &ToldEdge<'a>,
 ) -> Result<bool, AllocError>
     ensures { IfOk result
-        (λ b. IsTrue b ↔ Rule (rules_of basis.now) rule (told_feature feature.now ∷ [])
+        (λ b. IsTrue b ↔ Rule (rules_of context.now) rule (told_feature feature.now ∷ [])
         (Kept (told_edge edge.now))) }
 {
-    if !is_asked(basis, rule, feature, edge) {
+    if !is_asked(context, rule, feature, edge) {
         return Ok(false);
     }
-    may_keep(basis, edge)
+    may_keep(context, edge)
 }
 
 /// Whether an edge follows from its parent.
 fn is_kept_by_crate<'a>(
-    basis: &Basis<'a, '_>,
+    context: &Context<'a, '_>,
     rule: u8,
     krate: &Kid,
     edge: &ToldEdge<'a>,
 ) -> Result<bool, AllocError>
     ensures { IfOk result
-        (λ b. IsTrue b ↔ Rule (rules_of basis.now) rule (Crate (id_of krate.now) ∷ [])
+        (λ b. IsTrue b ↔ Rule (rules_of context.now) rule (Crate (id_of krate.now) ∷ [])
         (Kept (told_edge edge.now))) }
 {
     if !is_same_by(rule, 5, krate, edge.parent) {
         return Ok(false);
     }
-    must_keep(basis, edge)
+    must_keep(context, edge)
 }
 
 /// Whether a crate is the child of an edge and lists a feature.
@@ -241,31 +241,31 @@ fn is_child<'a>(
 
 /// Whether a feature follows from an edge.
 fn is_declared<'a>(
-    basis: &Basis<'a, '_>,
+    context: &Context<'a, '_>,
     rule: u8,
     edge: &ToldEdge<'a>,
     feature: &ToldFeature<'a>,
 ) -> Result<bool, AllocError>
     ensures { IfOk result
-        (λ b. IsTrue b ↔ Rule (rules_of basis.now) rule (Kept (told_edge edge.now) ∷ [])
+        (λ b. IsTrue b ↔ Rule (rules_of context.now) rule (Kept (told_edge edge.now) ∷ [])
         (told_feature feature.now)) }
 {
-    if !is_child(basis.document, rule, edge, feature) {
+    if !is_child(context.document, rule, edge, feature) {
         return Ok(false);
     }
-    asks_for_feature(basis.document, edge, feature.name)
+    asks_for_feature(context.document, edge, feature.name)
 }
 
 /// Whether a feature is toggled over an edge, by weak references or by strong ones.
 fn toggles_over<'a>(
-    basis: &Basis<'a, '_>,
+    context: &Context<'a, '_>,
     weakly: bool,
     feature: &ToldFeature<'a>,
     edge: &ToldEdge<'a>,
     toggle: &ToldToggle<'a>,
 ) -> bool
-    ensures { let r = document_of basis.now in
-        let s = basis.now.setting.now in
+    ensures { let r = document_of context.now in
+        let s = context.now.setting.now in
         let f = feature.now in
         let t = toggle.now in
         IsTrue result ↔ TogglesOver r s weakly (id_of f.krate.now) f.name.now (told_edge edge.now) (id_of t.by.now) (id_of t.krate.now) t.name.now }
@@ -281,10 +281,10 @@ fn toggles_over<'a>(
         krate: edge.child,
         name: toggle.name,
     };
-    if !toggles(basis, weakly, &by, &toggled) {
+    if !toggles(context, weakly, &by, &toggled) {
         return false;
     }
-    basis.document.lists(edge.child, toggle.name)
+    context.document.lists(edge.child, toggle.name)
 }
 
 /// Whether the edge goes from the crate, which toggles, to that whose feature is toggled.
@@ -300,20 +300,20 @@ fn is_between(krate: &Kid, edge: &ToldEdge<'_>, toggle: &ToldToggle<'_>) -> bool
 
 /// Whether a toggled feature follows from a feature and an edge.
 fn is_toggled<'a>(
-    basis: &Basis<'a, '_>,
+    context: &Context<'a, '_>,
     rule: u8,
     feature: &ToldFeature<'a>,
     edge: &ToldEdge<'a>,
     toggle: &ToldToggle<'a>,
 ) -> bool
     ensures { let premises = told_feature feature.now ∷ Kept (told_edge edge.now) ∷ [] in
-        IsTrue result ↔ Rule (rules_of basis.now) rule premises (told_toggle toggle.now) }
+        IsTrue result ↔ Rule (rules_of context.now) rule premises (told_toggle toggle.now) }
 {
     if rule == 4 {
-        return toggles_over(basis, false, feature, edge, toggle);
+        return toggles_over(context, false, feature, edge, toggle);
     }
     if rule == 7 {
-        return toggles_over(basis, true, feature, edge, toggle);
+        return toggles_over(context, true, feature, edge, toggle);
     }
     false
 }
@@ -321,12 +321,12 @@ fn is_toggled<'a>(
 // ---- by the number of premises
 
 /// Whether a fact follows by the rule from nothing.
-pub fn from_nothing<'a>(basis: &Basis<'a, '_>, rule: u8, fact: &'a Fact) -> bool
-    ensures { IsTrue result ↔ Rule (rules_of basis.now) rule [] (fact_view fact.now) }
+pub fn from_nothing<'a>(context: &Context<'a, '_>, rule: u8, fact: &'a Fact) -> bool
+    ensures { IsTrue result ↔ Rule (rules_of context.now) rule [] (fact_view fact.now) }
 {
     match lent(fact) {
-        Told::Crate(krate) => is_rooted(basis, rule, krate),
-        Told::Feature(feature) => is_rooted_feature(basis, rule, feature.krate, feature.name),
+        Told::Crate(krate) => is_rooted(context, rule, krate),
+        Told::Feature(feature) => is_rooted_feature(context, rule, feature.krate, feature.name),
         Told::Kept(_) => false,
         Told::Toggled(_) => false,
     }
@@ -334,55 +334,55 @@ pub fn from_nothing<'a>(basis: &Basis<'a, '_>, rule: u8, fact: &'a Fact) -> bool
 
 /// Whether a fact follows by the rule from a crate.
 fn from_crate<'a>(
-    basis: &Basis<'a, '_>,
+    context: &Context<'a, '_>,
     rule: u8,
     krate: &Kid,
     fact: &Told<'a>,
 ) -> Result<bool, AllocError>
     ensures { IfOk result
-        (λ b. IsTrue b ↔ Rule (rules_of basis.now) rule (Crate (id_of krate.now) ∷ []) (told_fact fact.now)) }
+        (λ b. IsTrue b ↔ Rule (rules_of context.now) rule (Crate (id_of krate.now) ∷ []) (told_fact fact.now)) }
 {
     match fact {
         Told::Crate(_) => Ok(false),
         Told::Feature(_) => Ok(false),
-        Told::Kept(edge) => is_kept_by_crate(basis, rule, krate, edge),
+        Told::Kept(edge) => is_kept_by_crate(context, rule, krate, edge),
         Told::Toggled(_) => Ok(false),
     }
 }
 
 /// Whether a fact follows by the rule from a feature.
 fn from_feature<'a>(
-    basis: &Basis<'a, '_>,
+    context: &Context<'a, '_>,
     rule: u8,
     feature: &ToldFeature<'a>,
     fact: &Told<'a>,
 ) -> Result<bool, AllocError>
     ensures { IfOk result
-        (λ b. IsTrue b ↔ Rule (rules_of basis.now) rule (told_feature feature.now ∷ [])
+        (λ b. IsTrue b ↔ Rule (rules_of context.now) rule (told_feature feature.now ∷ [])
         (told_fact fact.now)) }
 {
     match fact {
         Told::Crate(other) => Ok(is_same_by(rule, 2, feature.krate, other)),
-        Told::Feature(other) => Ok(is_named(basis.document, rule, feature, other)),
-        Told::Kept(edge) => is_kept_by_feature(basis, rule, feature, edge),
+        Told::Feature(other) => Ok(is_named(context.document, rule, feature, other)),
+        Told::Kept(edge) => is_kept_by_feature(context, rule, feature, edge),
         Told::Toggled(_) => Ok(false),
     }
 }
 
 /// Whether a fact follows by the rule from an edge.
 fn from_edge<'a>(
-    basis: &Basis<'a, '_>,
+    context: &Context<'a, '_>,
     rule: u8,
     edge: &ToldEdge<'a>,
     fact: &Told<'a>,
 ) -> Result<bool, AllocError>
     ensures { IfOk result
-        (λ b. IsTrue b ↔ Rule (rules_of basis.now) rule (Kept (told_edge edge.now) ∷ [])
+        (λ b. IsTrue b ↔ Rule (rules_of context.now) rule (Kept (told_edge edge.now) ∷ [])
         (told_fact fact.now)) }
 {
     match fact {
         Told::Crate(krate) => Ok(is_same_by(rule, 5, edge.child, krate)),
-        Told::Feature(feature) => is_declared(basis, rule, edge, feature),
+        Told::Feature(feature) => is_declared(context, rule, edge, feature),
         Told::Kept(_) => Ok(false),
         Told::Toggled(_) => Ok(false),
     }
@@ -390,12 +390,12 @@ fn from_edge<'a>(
 
 /// Whether a fact follows by the rule from a toggled feature.
 fn from_toggle<'a>(
-    basis: &Basis<'a, '_>,
+    context: &Context<'a, '_>,
     rule: u8,
     toggle: &ToldToggle<'a>,
     fact: &Told<'a>,
 ) -> bool
-    ensures { IsTrue result ↔ Rule (rules_of basis.now) rule (told_toggle toggle.now ∷ [])
+    ensures { IsTrue result ↔ Rule (rules_of context.now) rule (told_toggle toggle.now ∷ [])
         (told_fact fact.now) }
 {
     match fact {
@@ -408,56 +408,56 @@ fn from_toggle<'a>(
 
 /// Whether a fact follows by the rule from another.
 pub fn from_one<'a>(
-    basis: &Basis<'a, '_>,
+    context: &Context<'a, '_>,
     rule: u8,
     premise: &'a Fact,
     fact: &'a Fact,
 ) -> Result<bool, AllocError>
     ensures { IfOk result
-        (λ b. IsTrue b ↔ Rule (rules_of basis.now) rule (fact_view premise.now ∷ []) (fact_view fact.now)) }
+        (λ b. IsTrue b ↔ Rule (rules_of context.now) rule (fact_view premise.now ∷ []) (fact_view fact.now)) }
 {
     let given = lent(fact);
     match lent(premise) {
-        Told::Crate(krate) => from_crate(basis, rule, krate, &given),
-        Told::Feature(feature) => from_feature(basis, rule, &feature, &given),
-        Told::Kept(edge) => from_edge(basis, rule, &edge, &given),
-        Told::Toggled(toggle) => Ok(from_toggle(basis, rule, &toggle, &given)),
+        Told::Crate(krate) => from_crate(context, rule, krate, &given),
+        Told::Feature(feature) => from_feature(context, rule, &feature, &given),
+        Told::Kept(edge) => from_edge(context, rule, &edge, &given),
+        Told::Toggled(toggle) => Ok(from_toggle(context, rule, &toggle, &given)),
     }
 }
 
 /// Whether a toggled feature follows by the rule from a feature and another fact.
 fn toggle_from_feature<'a>(
-    basis: &Basis<'a, '_>,
+    context: &Context<'a, '_>,
     rule: u8,
     feature: &ToldFeature<'a>,
     second: &Told<'a>,
     toggle: &ToldToggle<'a>,
 ) -> bool
     ensures { let premises = told_feature feature.now ∷ told_fact second.now ∷ [] in
-        IsTrue result ↔ Rule (rules_of basis.now) rule premises (told_toggle toggle.now) }
+        IsTrue result ↔ Rule (rules_of context.now) rule premises (told_toggle toggle.now) }
 {
     match second {
         Told::Crate(_) => false,
         Told::Feature(_) => false,
-        Told::Kept(edge) => is_toggled(basis, rule, feature, edge, toggle),
+        Told::Kept(edge) => is_toggled(context, rule, feature, edge, toggle),
         Told::Toggled(_) => false,
     }
 }
 
 /// Whether a toggled feature follows by the rule from two facts.
 fn toggle_from_two<'a>(
-    basis: &Basis<'a, '_>,
+    context: &Context<'a, '_>,
     rule: u8,
     first: &Told<'a>,
     second: &Told<'a>,
     toggle: &ToldToggle<'a>,
 ) -> bool
     ensures { let premises = told_fact first.now ∷ told_fact second.now ∷ [] in
-        IsTrue result ↔ Rule (rules_of basis.now) rule premises (told_toggle toggle.now) }
+        IsTrue result ↔ Rule (rules_of context.now) rule premises (told_toggle toggle.now) }
 {
     match first {
         Told::Crate(_) => false,
-        Told::Feature(feature) => toggle_from_feature(basis, rule, feature, second, toggle),
+        Told::Feature(feature) => toggle_from_feature(context, rule, feature, second, toggle),
         Told::Kept(_) => false,
         Told::Toggled(_) => false,
     }
@@ -465,21 +465,21 @@ fn toggle_from_two<'a>(
 
 /// Whether a fact follows by the rule from two others.
 pub fn from_two<'a>(
-    basis: &Basis<'a, '_>,
+    context: &Context<'a, '_>,
     rule: u8,
     first: &'a Fact,
     second: &'a Fact,
     fact: &'a Fact,
 ) -> bool
     ensures { let premises = fact_view first.now ∷ fact_view second.now ∷ [] in
-        IsTrue result ↔ Rule (rules_of basis.now) rule premises (fact_view fact.now) }
+        IsTrue result ↔ Rule (rules_of context.now) rule premises (fact_view fact.now) }
 {
     match lent(fact) {
         Told::Crate(_) => false,
         Told::Feature(_) => false,
         Told::Kept(_) => false,
         Told::Toggled(toggle) => {
-            toggle_from_two(basis, rule, &lent(first), &lent(second), &toggle)
+            toggle_from_two(context, rule, &lent(first), &lent(second), &toggle)
         }
     }
 }

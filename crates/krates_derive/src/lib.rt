@@ -2,8 +2,8 @@
 //! trusted: each question goes to the document.
 #![tactic(auto)]
 
-pub mod basis;
 pub mod closing;
+pub mod context;
 mod fact_key;
 pub mod fact_set;
 pub mod following;

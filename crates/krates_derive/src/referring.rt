@@ -2,7 +2,7 @@
 
 ghost use Rattle.std.specs.Prelude.{◌↔◌, IsTrue, map};
 ghost use Rattle.krates_cm.specs.Document.{text_view};
-ghost use Rattle.krates_derive.specs.Basis.{document_of};
+ghost use Rattle.krates_derive.specs.Context.{document_of};
 ghost use Rattle.krates_derive.specs.Following.{IsToggleOf};
 ghost use Rattle.krates_derive.specs.Referring.{Asks, AsksAmong, AsksBy, HasSimple, Toggles, TogglesAmong, TogglesBy};
 ghost use Rattle.krates_questions.specs.DocumentModel.{as_resolved};
@@ -10,7 +10,7 @@ ghost use Rattle.krates_rules.specs.Features.{HasReference};
 ghost use Rattle.krates_rules.specs.Resolved.{id_of};
 ghost use Rattle.krates_text.specs.FeatureReference.{IsReference, simple};
 
-use crate::basis::Basis;
+use crate::context::Context;
 use crate::told::ToldFeature;
 use krates_ids::Kid;
 use krates_questions::Document;
@@ -60,20 +60,30 @@ fn is_simple(text: &str, name: &str) -> bool
 }
 
 /// Whether a feature of a crate asks for the edges to another crate.
-pub(crate) fn asks<'a>(basis: &Basis<'a, '_>, krate: &'a Kid, feature: &str, child: &Kid) -> bool
+pub(crate) fn asks<'a>(
+    context: &Context<'a, '_>,
+    krate: &'a Kid,
+    feature: &str,
+    child: &Kid,
+) -> bool
     ensures { IsTrue result
-        ↔ Asks (document_of basis.now) basis.now.setting.now (id_of krate.now) feature.now (id_of child.now) }
+        ↔ Asks (document_of context.now) context.now.setting.now (id_of krate.now) feature.now (id_of child.now) }
 {
-    asks_among(basis, krate, basis.document.values(krate, feature), child)
+    asks_among(
+        context,
+        krate,
+        context.document.values(krate, feature),
+        child,
+    )
 }
 
 /// Whether one of the references asks for the edges to another crate.
-fn asks_among<'a>(basis: &Basis<'a, '_>, krate: &'a Kid, values: &[String], child: &Kid) -> bool
+fn asks_among<'a>(context: &Context<'a, '_>, krate: &'a Kid, values: &[String], child: &Kid) -> bool
     ensures { let texts = map text_view values.now in
-        IsTrue result ↔ AsksAmong (document_of basis.now) basis.now.setting.now (id_of krate.now) texts (id_of child.now) }
+        IsTrue result ↔ AsksAmong (document_of context.now) context.now.setting.now (id_of krate.now) texts (id_of child.now) }
 {
     for value in values {
-        if asks_by(basis, krate, value.as_str(), child) {
+        if asks_by(context, krate, value.as_str(), child) {
             return true;
         }
     }
@@ -81,54 +91,54 @@ fn asks_among<'a>(basis: &Basis<'a, '_>, krate: &'a Kid, values: &[String], chil
 }
 
 /// Whether the reference asks for the edges to another crate.
-fn asks_by<'a>(basis: &Basis<'a, '_>, krate: &'a Kid, text: &str, child: &Kid) -> bool
-    ensures { IsTrue result ↔ AsksBy (document_of basis.now) basis.now.setting.now (id_of krate.now) text.now
+fn asks_by<'a>(context: &Context<'a, '_>, krate: &'a Kid, text: &str, child: &Kid) -> bool
+    ensures { IsTrue result ↔ AsksBy (document_of context.now) context.now.setting.now (id_of krate.now) text.now
         (id_of child.now) }
 {
     laws::one_reference();
     match ParsedFeature::from(text).feat() {
         Feature::Simple(_) => false,
-        Feature::Krate(name) => basis.document.means(basis.setting, krate, name, child),
-        Feature::Strong { krate: name, .. } => basis
+        Feature::Krate(name) => context.document.means(context.setting, krate, name, child),
+        Feature::Strong { krate: name, .. } => context
             .document
-            .means(basis.setting, krate, name, child),
+            .means(context.setting, krate, name, child),
         Feature::Weak { .. } => false,
     }
 }
 
 /// Whether a feature of a crate refers to a feature of another crate, weakly or strongly.
 pub(crate) fn toggles<'a>(
-    basis: &Basis<'a, '_>,
+    context: &Context<'a, '_>,
     weakly: bool,
     feature: &ToldFeature<'a>,
     toggled: &ToldFeature<'a>,
 ) -> bool
-    ensures { let r = document_of basis.now in
-        let s = basis.now.setting.now in
+    ensures { let r = document_of context.now in
+        let s = context.now.setting.now in
         let f = feature.now in
         let g = toggled.now in
         IsTrue result ↔ Toggles r s (id_of f.krate.now) weakly f.name.now (id_of g.krate.now) g.name.now }
 {
-    let values = basis.document.values(feature.krate, feature.name);
-    toggles_among(basis, weakly, feature.krate, values, toggled)
+    let values = context.document.values(feature.krate, feature.name);
+    toggles_among(context, weakly, feature.krate, values, toggled)
 }
 
 /// Whether one of the references is to a feature of another crate, weakly or strongly.
 fn toggles_among<'a>(
-    basis: &Basis<'a, '_>,
+    context: &Context<'a, '_>,
     weakly: bool,
     krate: &'a Kid,
     values: &[String],
     toggled: &ToldFeature<'a>,
 ) -> bool
     ensures { let texts = map text_view values.now in
-        let r = document_of basis.now in
-        let s = basis.now.setting.now in
+        let r = document_of context.now in
+        let s = context.now.setting.now in
         let g = toggled.now in
         IsTrue result ↔ TogglesAmong r s (id_of krate.now) weakly texts (id_of g.krate.now) g.name.now }
 {
     for value in values {
-        if toggles_by(basis, weakly, krate, value.as_str(), toggled) {
+        if toggles_by(context, weakly, krate, value.as_str(), toggled) {
             return true;
         }
     }
@@ -137,14 +147,14 @@ fn toggles_among<'a>(
 
 /// Whether the reference is to a feature of another crate, weakly or strongly.
 fn toggles_by<'a>(
-    basis: &Basis<'a, '_>,
+    context: &Context<'a, '_>,
     weakly: bool,
     krate: &'a Kid,
     text: &str,
     toggled: &ToldFeature<'a>,
 ) -> bool
-    ensures { let r = document_of basis.now in
-        let s = basis.now.setting.now in
+    ensures { let r = document_of context.now in
+        let s = context.now.setting.now in
         let g = toggled.now in
         IsTrue result ↔ TogglesBy r s (id_of krate.now) weakly text.now (id_of g.krate.now) g.name.now }
 {
@@ -157,7 +167,7 @@ fn toggles_by<'a>(
             feature,
         } => {
             is_toggle(
-                basis,
+                context,
                 !weakly,
                 krate,
                 &NamedFeature { dep, feature },
@@ -169,7 +179,7 @@ fn toggles_by<'a>(
             feature,
         } => {
             is_toggle(
-                basis,
+                context,
                 weakly,
                 krate,
                 &NamedFeature { dep, feature },
@@ -182,20 +192,20 @@ fn toggles_by<'a>(
 /// Whether a reference of the right form is to this feature of a crate: the name of the dependency means the crate, and the
 /// names of the features are the same.
 fn is_toggle<'a>(
-    basis: &Basis<'a, '_>,
+    context: &Context<'a, '_>,
     is_form: bool,
     krate: &'a Kid,
     named: &NamedFeature<'_>,
     toggled: &ToldFeature<'a>,
 ) -> bool
-    ensures { let r = document_of basis.now in
-        let s = basis.now.setting.now in
+    ensures { let r = document_of context.now in
+        let s = context.now.setting.now in
         let g = toggled.now in
         IsTrue result ↔ IsToggleOf r s is_form (id_of krate.now) named.now.dep.now named.now.feature.now (id_of g.krate.now) g.name.now }
 {
     is_form
         && named.feature == toggled.name
-        && basis
+        && context
             .document
-            .means(basis.setting, krate, named.dep, toggled.krate)
+            .means(context.setting, krate, named.dep, toggled.krate)
 }

@@ -22,7 +22,7 @@ use Rattle.krates_drawing.specs.SheetOrder.{has_child, has_krate, is_by}
 use Rattle.krates_drawing.specs.Views.{kids_of, krate_view, link_view, no_krate}
 use Rattle.krates_drawing.specs.declared.sheet.Krate.{Krate}
 use Rattle.krates_drawing.specs.declared.sheet.Link.{Link}
-use Rattle.krates_drawing.proofs.Halves.{searched}
+use Rattle.krates_drawing.proofs.EqualRanges.{searched}
 use Rattle.krates_drawing.proofs.Tests.{any_seen, equal_ids, equal_order, filter_seen, has_by, has_parent, ids_total, place_seen}
 
 abbrev pub AreInOrder : List Krate → Type 0

@@ -14,7 +14,7 @@ use Rattle.krates_drawing.specs.Views.{kids_of, named_view}
 use Rattle.krates_drawing.specs.declared.sheet.Krate.{Krate}
 use Rattle.krates_drawing.specs.declared.sheet.Named.{Named}
 use Rattle.krates_drawing.proofs.CratePlaces.{AreInOrder, same_ids}
-use Rattle.krates_drawing.proofs.Halves.{place_in, searched}
+use Rattle.krates_drawing.proofs.EqualRanges.{place_in, searched}
 use Rattle.krates_drawing.proofs.Tests.{equal_named, feature_key, features_in_order, named_cmp, named_total, place_seen}
 
 -- a feature is looked for by number and name

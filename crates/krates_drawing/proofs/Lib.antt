@@ -10,11 +10,11 @@ pub mod DivisionLemmas
 pub mod DocumentSheets
 pub mod Drawn
 pub mod Entries
+pub mod EqualRanges
 pub mod FeatureLines
 pub mod FeaturePlaces
 pub mod FewerLines
 pub mod Gathering
-pub mod Halves
 pub mod HeldTexts
 pub mod Holding
 pub mod Ignoring

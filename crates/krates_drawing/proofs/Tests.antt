@@ -20,7 +20,7 @@ use Rattle.krates_drawing.specs.Drawing.{id_eq, place_of}
 use Rattle.krates_drawing.specs.SheetOrder.{AreByChild, AreByKrate, has_child, has_krate}
 use Rattle.krates_drawing.specs.declared.sheet.Link.{Link}
 use Rattle.krates_drawing.specs.declared.sheet.Named.{Named}
-use Rattle.krates_drawing.proofs.Halves.{IsCut, below_later, cut_is, rises_weakly, stands_in}
+use Rattle.krates_drawing.proofs.EqualRanges.{IsCut, below_later, cut_is, rises_weakly, stands_in}
 
 -- ---- tests
 

@@ -9,10 +9,10 @@ ghost use Rattle.krates_drawing.specs.SheetOrder.{AreByChild, HaveEnds, IsFirstT
 ghost use Rattle.krates_drawing.specs.Views.{kids_in, krate_at, link_view, sheet_view, Draws, IsFew};
 
 use crate::edge::{Arrow, Edge};
+use crate::equal_ranges::{links_to, toggled_by, toggled_in};
 use crate::numbers::{crate_number, feature_number};
 use crate::origin::{Home, home_at};
 use crate::sheet::{Link, Sheet};
-use crate::stretches::{links_to, toggled_by, toggled_in};
 use krates_graph::graph::NodeId;
 use krates_rules::DepKind;
 use krates_selection::ToggledFeature;

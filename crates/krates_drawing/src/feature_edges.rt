@@ -9,10 +9,10 @@ ghost use Rattle.krates_drawing.specs.SheetOrder.{AreByChild, HaveEnds, IsOrdere
 ghost use Rattle.krates_drawing.specs.Views.{kids_in, link_view, meaning_view, named_view, sheet_view, Draws, IsFew};
 
 use crate::edge::{Arrow, Edge};
+use crate::equal_ranges::leads_to;
 use crate::numbers::{crate_number, feature_number, number_at, place_of_crate};
 use crate::origin::{Home, Origin, first_home, home_of};
 use crate::sheet::{Link, Meaning, Named, Sheet};
-use crate::stretches::leads_to;
 use krates_ids::Kid;
 use std::alloc::AllocError;
 

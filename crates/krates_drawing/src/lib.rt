@@ -7,6 +7,7 @@ mod crate_edges;
 pub mod division;
 pub mod edge;
 mod edge_count;
+mod equal_ranges;
 mod feature_edges;
 pub mod filter;
 pub mod gather;
@@ -21,7 +22,6 @@ mod origin;
 pub mod plan;
 pub mod sheet;
 pub mod store;
-mod stretches;
 mod text_set;
 pub mod told;
 

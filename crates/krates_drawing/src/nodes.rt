@@ -6,9 +6,9 @@ ghost use Rattle.krates_drawing.specs.Drawing.{crate_spot, feature_spot, mapped,
 ghost use Rattle.krates_drawing.specs.SheetOrder.{AreByChild, HaveEnds, IsClaimed, IsOrdered};
 ghost use Rattle.krates_drawing.specs.Views.{IsFew, kids_in, krate_at, link_view, spot_view, sheet_view};
 
+use crate::equal_ranges::links_from;
 use crate::numbers::crate_number;
 use crate::sheet::{Link, Sheet};
-use crate::stretches::links_from;
 use krates_graph::graph::NodeId;
 use krates_ids::Kid;
 use std::alloc::{AllocError, Global};

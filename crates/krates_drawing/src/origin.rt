@@ -3,8 +3,8 @@ ghost use Rattle.std.specs.Prelude.{◌≡◌, ◌<◌, [], MatchOption, length}
 ghost use Rattle.krates_drawing.specs.Home.{IsHome};
 ghost use Rattle.krates_drawing.specs.SheetOrder.{IsOrdered};
 
+use crate::equal_ranges::links_from;
 use crate::sheet::{Link, Sheet};
-use crate::stretches::links_from;
 use krates_graph::graph::NodeId;
 
 /// A crate, with the kept edges from it, by child.

@@ -6,7 +6,7 @@ ghost use Rattle.krates_explain.specs.Chosen.{AreChosen};
 ghost use Rattle.krates_explain.specs.Tables.{AreStepsOf, IsKeptIn};
 ghost use Rattle.krates_ids.specs.Identity.{id_cmp};
 ghost use Rattle.krates_questions.specs.Lookup.{IsLookup};
-ghost use Rattle.krates_questions.specs.Basis.{Derives, document_of};
+ghost use Rattle.krates_questions.specs.Context.{Derives, document_of};
 ghost use Rattle.krates_selection.specs.Trace.{IsTrace};
 ghost use Rattle.krates_rules.specs.Facts.{Crate, Id};
 
@@ -18,7 +18,7 @@ use crate::laws as step_laws;
 use crate::numbering::numbers_of;
 use crate::part::Part;
 use krates_ids::{Kid, laws};
-use krates_questions::basis::Basis;
+use krates_questions::context::Context;
 use krates_questions::crate_table::numbers_of as crate_numbers_of;
 use krates_rules::Uses;
 use krates_selection::NumberedStep;
@@ -28,31 +28,31 @@ use std::alloc::{AllocError, Global};
 ///
 /// The only error is want of memory. Time: O(n log n) for n steps.
 pub fn kept_steps<'a>(
-    basis: &Basis<'a, '_>,
+    context: &Context<'a, '_>,
     krates: &[Kid],
     steps: &[NumberedStep],
 ) -> Result<Vec<KeptStep>, AllocError>
-    requires lookup { IsLookup basis.now.lookup.now }
+    requires lookup { IsLookup context.now.lookup.now }
     requires ascending { IsStrictlySortedBy id_cmp krates.now }
-    requires trace { IsTrace (document_of basis.now) basis.now.setting.now steps.now }
-    requires crates { (i : Id) → Derives basis.now (Crate i) → IsKeptIn krates.now i }
-    ensures { IfOk result (λ kept. AreStepsOf (document_of basis.now) basis.now.setting.now krates.now
+    requires trace { IsTrace (document_of context.now) context.now.setting.now steps.now }
+    requires crates { (i : Id) → Derives context.now (Crate i) → IsKeptIn krates.now i }
+    ensures { IfOk result (λ kept. AreStepsOf (document_of context.now) context.now.setting.now krates.now
         steps.now kept.items) }
 {
     laws::one_reading();
     laws::comparison();
     step_laws::firsts();
-    let krate_numbers = crate_numbers_of(basis.alloc, krates, &basis.lookup.table.ids)?;
+    let krate_numbers = crate_numbers_of(context.alloc, krates, &context.lookup.table.ids)?;
     let tables = Tables {
-        lookup: basis.lookup,
+        lookup: context.lookup,
         krates,
         numbers: &krate_numbers,
     };
-    let keys = keys_of(basis.alloc, &tables, steps)?;
-    let numbers = numbers_of(basis.alloc, krates.len(), &keys)?;
-    let uses = uses_of(basis.alloc, steps)?;
-    let part = first_steps(basis.alloc, &uses, &numbers, keys.len())?;
-    chosen(basis.alloc, &keys, steps, &part)
+    let keys = keys_of(context.alloc, &tables, steps)?;
+    let numbers = numbers_of(context.alloc, krates.len(), &keys)?;
+    let uses = uses_of(context.alloc, steps)?;
+    let part = first_steps(context.alloc, &uses, &numbers, keys.len())?;
+    chosen(context.alloc, &keys, steps, &part)
 }
 
 /// What each step uses.

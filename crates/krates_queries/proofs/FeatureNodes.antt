@@ -13,7 +13,7 @@ use Rattle.std.specs.Ordering.{MatchOrdering, is_eq, nat_cmp, ordering_index, or
 use Rattle.std.specs.Prelude.{String, MatchOption, IsSome, ⊤}
 use Rattle.std.specs.declared.alloc.Global.{Global}
 use Rattle.krates_cm.specs.Document.{Text, text_view}
-use Rattle.krates_drawing.proofs.Halves.{weakly}
+use Rattle.krates_drawing.proofs.EqualRanges.{weakly}
 use Rattle.krates_ids.specs.Identity.{Identity}
 use Rattle.krates_rules.specs.Facts.{Id}
 use Rattle.krates_rules.specs.Resolved.{StandsAt}

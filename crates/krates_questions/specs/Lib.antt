@@ -1,5 +1,5 @@
-pub mod Basis
 pub mod Contents
+pub mod Context
 pub mod CrateTable
 pub mod DocumentAnswers
 pub mod DocumentModel

@@ -4,7 +4,7 @@ ghost use Rattle.std.specs.Prelude.{◌↔◌, Contains, IfOk, IsTrue, map, true
 ghost use Rattle.krates_cm.specs.Document.{DepKindInfoModel, dep_kind_info_view};
 ghost use Rattle.krates_questions.specs.Lookup.{IsLookup, resolved_view};
 ghost use Rattle.krates_questions.specs.NodeEntry.{IsEntry, edge_for};
-ghost use Rattle.krates_questions.specs.Basis.{document_of};
+ghost use Rattle.krates_questions.specs.Context.{document_of};
 ghost use Rattle.krates_questions.specs.DocumentModel.{as_resolved};
 ghost use Rattle.krates_questions.specs.DocumentAnswers.{edge_asked};
 ghost use Rattle.krates_questions.specs.Need.{HasChild, ListsKind, TellsDeclaration, TellsNeed};
@@ -13,7 +13,7 @@ ghost use Rattle.krates_rules.specs.Questions.{edge_between};
 ghost use Rattle.krates_rules.specs.Referent.{IsReferent};
 ghost use Rattle.krates_rules.specs.Resolved.{id_of};
 
-use crate::basis::Basis;
+use crate::context::Context;
 use crate::lookup::Lookup;
 use crate::node_entry::{NodeEntry, declared_at};
 use crate::questions::{
@@ -82,12 +82,12 @@ impl<'a> Document<'a> {
             (dep_kind_info_view info.now) in
             IfOk result (TellsNeed (as_resolved self.now) setting.now edge) }
     {
-        let basis = Basis {
+        let context = Context {
             alloc,
             lookup: &self.lookup,
             setting,
         };
-        need_in(&basis, parent, child, info)
+        need_in(&context, parent, child, info)
     }
 
     /// As what a dependency of a crate on another is declared, of one kind and for one target, whatever the setting; none where
@@ -161,17 +161,17 @@ fn answers_in<'a>(lookup: &Lookup<'a>, krate: &Kid, name: &str, child: &Kid) -> 
 
 /// What there is for an edge between two crates.
 fn need_in<'a>(
-    basis: &Basis<'a, '_>,
+    context: &Context<'a, '_>,
     parent: &Kid,
     child: &Kid,
     info: &DepKindInfo,
 ) -> Result<Need<'a>, AllocError>
-    requires { IsLookup basis.now.lookup.now }
+    requires { IsLookup context.now.lookup.now }
     ensures { let edge = edge_asked parent.now child.now info.now in
-        IfOk result (TellsNeed (document_of basis.now) basis.now.setting.now edge) }
+        IfOk result (TellsNeed (document_of context.now) context.now.setting.now edge) }
 {
-    match entry_between(basis.lookup, parent, child) {
-        Some(entry) => entry_need(basis.alloc, basis.lookup, basis.setting, &entry, info),
+    match entry_between(context.lookup, parent, child) {
+        Some(entry) => entry_need(context.alloc, context.lookup, context.setting, &entry, info),
         None => Ok(Need::Nothing),
     }
 }

@@ -2,8 +2,8 @@
 //! of the rules under a setting. Nothing here searches for what is kept.
 #![tactic(auto)]
 
-pub mod basis;
 pub mod comparisons;
+pub mod context;
 pub mod crate_questions;
 pub mod crate_table;
 pub mod dependency_questions;

@@ -1,7 +1,7 @@
 //! What the rules of resolution ask of a document, asked one by one.
 
 ghost use Rattle.std.specs.Prelude.{◌≡◌, ◌↔◌, ◌∷◌, [], All, Contains, IfOk, IsTrue, map};
-ghost use Rattle.krates_questions.specs.Basis.{document_of};
+ghost use Rattle.krates_questions.specs.Context.{document_of};
 ghost use Rattle.krates_cm.specs.Document.{dep_kind_info_view, metadata_view, node_dep_view};
 ghost use Rattle.krates_rules.specs.Admission.{IsAdmitted};
 ghost use Rattle.krates_questions.specs.DocumentModel.{IsDocumentOf, as_resolved};
@@ -18,7 +18,7 @@ ghost use Rattle.krates_questions.specs.CrateTable.{IsPlaceAmong, IsPlaceOf};
 
 mod contents;
 
-use crate::basis::Basis;
+use crate::context::Context;
 use crate::lookup::{Lookup, lookup_of, node_place};
 use crate::node_entry::{NodeEntry, NodeParts, declared_places, entry_at, is_same_info, parts_of};
 use crate::referent::{Referent, referent_of, referents_of};
@@ -161,12 +161,12 @@ impl<'a> Document<'a> {
         ensures { let edge = edge_asked parent.now child.now info.now in
             IfOk result (λ b. IsTrue b ↔ IsOpenAs (as_resolved self.now) setting.now edge) }
     {
-        let basis = Basis {
+        let context = Context {
             alloc,
             lookup: &self.lookup,
             setting,
         };
-        is_open_in(&basis, parent, child, info)
+        is_open_in(&context, parent, child, info)
     }
 }
 
@@ -376,17 +376,17 @@ pub(crate) fn lists(dep: &NodeDep, info: &DepKindInfo) -> bool
 
 /// Whether an edge between two crates may be kept.
 fn is_open_in<'a>(
-    basis: &Basis<'a, '_>,
+    context: &Context<'a, '_>,
     parent: &Kid,
     child: &Kid,
     info: &DepKindInfo,
 ) -> Result<bool, AllocError>
-    requires { IsLookup basis.now.lookup.now }
+    requires { IsLookup context.now.lookup.now }
     ensures { let edge = edge_asked parent.now child.now info.now in
-        IfOk result (λ b. IsTrue b ↔ IsOpenAs (document_of basis.now) basis.now.setting.now edge) }
+        IfOk result (λ b. IsTrue b ↔ IsOpenAs (document_of context.now) context.now.setting.now edge) }
 {
-    match entry_between(basis.lookup, parent, child) {
-        Some(entry) => is_entry_open(basis.alloc, basis.lookup, basis.setting, &entry, info),
+    match entry_between(context.lookup, parent, child) {
+        Some(entry) => is_entry_open(context.alloc, context.lookup, context.setting, &entry, info),
         None => Ok(false),
     }
 }

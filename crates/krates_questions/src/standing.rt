@@ -3,7 +3,7 @@
 ghost use Rattle.krates_cm.specs.Document.{PackageModel, package_view};
 ghost use Rattle.krates_questions.specs.Lookup.{IsLookup, IsNumber, IsNumberIn, resolved_view};
 ghost use Rattle.krates_questions.specs.NodeEntry.{IsEntry, child_of};
-ghost use Rattle.krates_questions.specs.Basis.{document_of};
+ghost use Rattle.krates_questions.specs.Context.{document_of};
 ghost use Rattle.krates_questions.specs.Standing.{AreExclusions, IsStanding, TellsExcluded};
 ghost use Rattle.krates_rules.specs.Facts.{Id};
 ghost use Rattle.krates_rules.specs.Resolved.{HasPackage, id_of};
@@ -11,7 +11,7 @@ ghost use Rattle.krates_rules.specs.Setting.{SettingModel};
 ghost use Rattle.std.specs.List.{AllZip};
 ghost use Rattle.std.specs.Prelude.{IfOk, map};
 
-use crate::basis::Basis;
+use crate::context::Context;
 use crate::lookup::{Lookup, crate_number, node_place_at, package_at, package_place_at};
 use crate::node_entry::{NodeEntry, child_number};
 use krates_cm::Package;
@@ -63,40 +63,40 @@ pub fn exclusions_of(
 }
 
 /// Whether a crate can be kept, where it is known which packages are excluded. Time O(log n) in the crates.
-pub fn known_standing(basis: &Basis<'_, '_>, excluded: &[bool], id: &Kid) -> Standing
-    requires lookup { IsLookup basis.now.lookup.now }
-    requires excluded { AreExclusions (document_of basis.now) basis.now.setting.now excluded.now }
-    ensures { IsStanding (document_of basis.now) basis.now.setting.now (id_of id.now) result }
+pub fn known_standing(context: &Context<'_, '_>, excluded: &[bool], id: &Kid) -> Standing
+    requires lookup { IsLookup context.now.lookup.now }
+    requires excluded { AreExclusions (document_of context.now) context.now.setting.now excluded.now }
+    ensures { IsStanding (document_of context.now) context.now.setting.now (id_of id.now) result }
 {
-    standing_among(basis, excluded, crate_number(basis.lookup, id))
+    standing_among(context, excluded, crate_number(context.lookup, id))
 }
 
 /// Whether the crate that a dependency leads to can be kept, where it is known which packages are excluded. Time O(1).
 pub fn known_standing_of_child(
-    basis: &Basis<'_, '_>,
+    context: &Context<'_, '_>,
     excluded: &[bool],
     entry: &NodeEntry<'_>,
 ) -> Standing
-    requires lookup { IsLookup basis.now.lookup.now }
-    requires excluded { AreExclusions (document_of basis.now) basis.now.setting.now excluded.now }
-    requires entry { IsEntry (document_of basis.now) entry.now }
-    ensures { IsStanding (document_of basis.now) basis.now.setting.now (child_of entry.now) result }
+    requires lookup { IsLookup context.now.lookup.now }
+    requires excluded { AreExclusions (document_of context.now) context.now.setting.now excluded.now }
+    requires entry { IsEntry (document_of context.now) entry.now }
+    ensures { IsStanding (document_of context.now) context.now.setting.now (child_of entry.now) result }
 {
-    standing_among(basis, excluded, child_number(basis.lookup, entry))
+    standing_among(context, excluded, child_number(context.lookup, entry))
 }
 
 /// Whether the crate with the number can be kept, where it is known which packages are excluded.
-fn standing_among(basis: &Basis<'_, '_>, excluded: &[bool], number: Option<usize>) -> Standing
-    requires lookup { IsLookup basis.now.lookup.now }
-    requires excluded { AreExclusions (document_of basis.now) basis.now.setting.now excluded.now }
-    requires number { IsNumber basis.now.lookup.now number }
-    ensures { (i : Id) → IsNumberIn basis.now.lookup.now i number
-        → IsStanding (document_of basis.now) basis.now.setting.now i result }
+fn standing_among(context: &Context<'_, '_>, excluded: &[bool], number: Option<usize>) -> Standing
+    requires lookup { IsLookup context.now.lookup.now }
+    requires excluded { AreExclusions (document_of context.now) context.now.setting.now excluded.now }
+    requires number { IsNumber context.now.lookup.now number }
+    ensures { (i : Id) → IsNumberIn context.now.lookup.now i number
+        → IsStanding (document_of context.now) context.now.setting.now i result }
 {
-    let Some(place) = package_place_at(basis.lookup, number) else {
+    let Some(place) = package_place_at(context.lookup, number) else {
         return Standing::NoPackage;
     };
-    standing_with(basis.lookup, excluded[place], number)
+    standing_with(context.lookup, excluded[place], number)
 }
 
 /// Whether the crate with the number can be kept, which has a package that is excluded or isn't.

@@ -10,9 +10,9 @@ use Rattle.krates_rules.specs.Resolved.{Resolved}
 use Rattle.krates_rules.specs.Setting.{SettingModel}
 use Rattle.krates_resolve.specs.Counting.{AreCounted, HasCountedAll, HaveTakenReferences, NumberHasReferences}
 use Rattle.krates_selection.specs.Work.{IsFresh}
-use Rattle.krates_search.specs.Found.{Grows}
+use Rattle.krates_search.specs.SearchState.{Grows}
 use Rattle.krates_selection.specs.Work.{counted}
-use Rattle.krates_search.specs.declared.found.Found.{Found}
+use Rattle.krates_search.specs.declared.search_state.SearchState.{SearchState}
 use Rattle.krates_selection.specs.declared.work.Work.{Work}
 use Rattle.krates_resolve.proofs.Taken.{taken_to}
 
@@ -45,7 +45,7 @@ stood xs ys n k p stays within lt at =
     old ∙ sym (stays k (get_or xs k 0) old) ∙ at
 
 -- the features taken so far have as many references after more has been found
-references_stay : (r : Resolved) (s : SettingModel) (x z : Found) (n m : ℕ) → Grows r (taken_to x m x.features.taken) z → x.features.taken ≤ length x.features.put → HaveTakenReferences r s x n → HaveTakenReferences r s z n
+references_stay : (r : Resolved) (s : SettingModel) (x z : SearchState) (n m : ℕ) → Grows r (taken_to x m x.features.taken) z → x.features.taken ≤ length x.features.put → HaveTakenReferences r s x n → HaveTakenReferences r s z n
 references_stay r s x z n m g within h = record {
   counts = h.counts;
   long = h.long ∙ sym g.features_taken;
@@ -54,7 +54,7 @@ references_stay r s x z n m g within h = record {
   total = h.total;
 }
 
-pub crate_counted : (r : Resolved) (s : SettingModel) (x z : Found) (w v : Work) → AreCounted r s x w → Grows r (taken_to x (x.krates.taken + 1) x.features.taken) z → x.features.taken ≤ length x.features.put
+pub crate_counted : (r : Resolved) (s : SettingModel) (x z : SearchState) (w v : Work) → AreCounted r s x w → Grows r (taken_to x (x.krates.taken + 1) x.features.taken) z → x.features.taken ≤ length x.features.put
     → v ≡ record w { krates = counted (w.krates + 1) } → AreCounted r s z v
 crate_counted r s x z w v all g within is = record {
   krates = ap (λ (o : Work). o.krates) is ∙ ap (λ (k : ℕ). counted (k + 1)) all.krates ∙ counted_more x.krates.taken 1 ∙ ap counted (sym g.krates_taken);
@@ -80,7 +80,7 @@ before_end (x ∷ xs) y zero p at lt = at
 before_end (x ∷ xs) y (suc k) p at lt = before_end xs y k p at (omega (arith, lt))
 
 -- the references of one more feature
-references_more : (r : Resolved) (s : SettingModel) (x z : Found) (n m t : ℕ) → Grows r (taken_to x x.krates.taken (x.features.taken + 1)) z → x.features.taken ≤ length x.features.put → slice_get x.features.put x.features.taken ≡ Some t
+references_more : (r : Resolved) (s : SettingModel) (x z : SearchState) (n m t : ℕ) → Grows r (taken_to x x.krates.taken (x.features.taken + 1)) z → x.features.taken ≤ length x.features.put → slice_get x.features.put x.features.taken ≡ Some t
     → NumberHasReferences r s t m → HaveTakenReferences r s x n → HaveTakenReferences r s z (n + m)
 references_more r s x z n m t g within at here h = record {
   counts = h.counts ++ m ∷ [];
@@ -97,7 +97,7 @@ references_more r s x z n m t g within at here h = record {
   total = ap (λ (j : ℕ). j + m) h.total ∙ sym (sum_by_push (λ (j : ℕ). j) h.counts m);
 }
 
-pub feature_counted : (r : Resolved) (s : SettingModel) (x z : Found) (w v : Work) (t m k : ℕ) → AreCounted r s x w → Grows r (taken_to x x.krates.taken (x.features.taken + 1)) z → x.features.taken ≤ length x.features.put
+pub feature_counted : (r : Resolved) (s : SettingModel) (x z : SearchState) (w v : Work) (t m k : ℕ) → AreCounted r s x w → Grows r (taken_to x x.krates.taken (x.features.taken + 1)) z → x.features.taken ≤ length x.features.put
     → slice_get x.features.put x.features.taken ≡ Some t → NumberHasReferences r s t m → v.krates ≡ w.krates → v.features ≡ counted (w.features + 1) → k ≡ counted m → v.references ≡ counted (w.references + k) → AreCounted r s z v
 feature_counted r s x z w v t m k all g within at here krates features is references = record {
   krates = krates ∙ all.krates ∙ ap counted (sym g.krates_taken);
@@ -111,7 +111,7 @@ feature_counted r s x z w v t m k all g within at here krates features is refere
 
 -- ---- at the start and at the end
 
-pub counted_start : (r : Resolved) (s : SettingModel) (x : Found) (w : Work) → IsFresh w → x.krates.taken ≡ 0 → x.features.taken ≡ 0 → AreCounted r s x w
+pub counted_start : (r : Resolved) (s : SettingModel) (x : SearchState) (w : Work) → IsFresh w → x.krates.taken ≡ 0 → x.features.taken ≡ 0 → AreCounted r s x w
 counted_start r s x w fresh krates features = record {
   krates = ap (λ (o : Work). o.krates) fresh ∙ ap counted (sym krates);
   features = ap (λ (o : Work). o.features) fresh ∙ ap counted (sym features);
@@ -125,6 +125,6 @@ counted_start r s x w fresh krates features = record {
     none_there : (k m : ℕ) → slice_get [] k ≡ Some m → ⊥
     none_there k m at = cc
 
-pub counted_end : (r : Resolved) (s : SettingModel) (x : Found) (w : Work) → AreCounted r s x w → x.krates.taken ≤ length x.krates.put → x.features.taken ≤ length x.features.put → length x.krates.put ≤ x.krates.taken
+pub counted_end : (r : Resolved) (s : SettingModel) (x : SearchState) (w : Work) → AreCounted r s x w → x.krates.taken ≤ length x.krates.put → x.features.taken ≤ length x.features.put → length x.krates.put ≤ x.krates.taken
     → length x.features.put ≤ x.features.taken → HasCountedAll r s x w
 counted_end r s x w all krates features no_krate no_feature = record { counted = all; krates = omega (arith, krates, no_krate); features = omega (arith, features, no_feature) }

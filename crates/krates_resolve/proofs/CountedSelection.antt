@@ -16,7 +16,7 @@ use Rattle.krates_questions.specs.Numbering.{FeatureAt, IsOwn}
 use Rattle.krates_selection.specs.SelectionOrder.{same_feature}
 use Rattle.krates_rules.specs.Setting.{SettingModel}
 use Rattle.krates_selection.specs.Work.{CountsEach, HasReferences, counted}
-use Rattle.krates_search.specs.declared.found.Found.{Found}
+use Rattle.krates_search.specs.declared.search_state.SearchState.{SearchState}
 use Rattle.krates_selection.specs.declared.selection.EnabledFeature.{EnabledFeature}
 use Rattle.krates_selection.specs.declared.work.Work.{Work}
 use Rattle.krates_document.proofs.DistinctIds.{id_of_same}
@@ -99,7 +99,7 @@ numbers_long r kids (n ∷ ns) [] z = absurd z
 numbers_long r kids (n ∷ ns) (x ∷ xs) z = ap suc (numbers_long r kids ns xs z.1)
 
 -- what was found, and counted
-pub record IsCountedWhole (r : Resolved) (s : SettingModel) (ids : List Identity) (found : Found) (put kids : List Identity) (work : Work) : Type 0 where
+pub record IsCountedWhole (r : Resolved) (s : SettingModel) (ids : List Identity) (found : SearchState) (put kids : List Identity) (work : Work) : Type 0 where
   pub none_doubled : NoneDoubled r.metadata r.graph
   pub reads : AllZip Reads (node_texts r.graph) ids
   pub krates : AreAt ids found.krates.put put
@@ -109,7 +109,7 @@ pub record IsCountedWhole (r : Resolved) (s : SettingModel) (ids : List Identity
   pub own : (n : ℕ) → Contains found.features.put n → IsOwn r n
   pub counted : HasCountedAll r s found work
 
-pub counts_each : EqualityTellsSame → (r : Resolved) (s : SettingModel) (ids : List Identity) (found : Found) (put kids : List Identity) (features : List EnabledFeature) (work : Work) → IsCountedWhole r s ids found put kids work
+pub counts_each : EqualityTellsSame → (r : Resolved) (s : SettingModel) (ids : List Identity) (found : SearchState) (put kids : List Identity) (features : List EnabledFeature) (work : Work) → IsCountedWhole r s ids found put kids work
     → AreSorted r kids found.features.put features → CountsEach r s kids features work
 counts_each tells r s ids found put kids features work whole sorted =
     let refers : EnabledFeature → ℕ → Type 0 = λ f k. HasReferences r s (id_at kids f.krate) (text_view f.name) k in

@@ -1,6 +1,6 @@
 pub mod Counted
 pub mod CountedSelection
-pub mod Heedings
+pub mod ReferenceLemmas
 pub mod Referred
 pub mod Rooted
 pub mod Saturated

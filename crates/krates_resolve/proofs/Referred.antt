@@ -16,10 +16,10 @@ use Rattle.krates_questions.specs.declared.node_entry.NodeParts.{NodeParts}
 use Rattle.krates_questions.specs.ReferentPlace.{AreReferentsIn, referent_id}
 use Rattle.krates_questions.specs.declared.referent.Referent.{Referent}
 use Rattle.krates_questions.proofs.DepPlaces.{one_dep_place}
-use Rattle.krates_search.specs.Found.{IsAsked, IsToggledStrongly, IsWaiting, WaitsOrIsToggled}
-use Rattle.krates_search.specs.Heeding.{IsAskedAt, IsToggledStronglyAt, IsWaitingAt}
+use Rattle.krates_search.specs.SearchState.{IsAsked, IsToggledStrongly, IsWaiting, WaitsOrIsToggled}
+use Rattle.krates_search.specs.References.{IsAskedAt, IsToggledStronglyAt, IsWaitingAt}
 use Rattle.krates_selection.specs.Work.{CountsName}
-use Rattle.krates_search.specs.declared.found.Found.{Found}
+use Rattle.krates_search.specs.declared.search_state.SearchState.{SearchState}
 
 -- a crate that is meant is in the list
 meant_among : (xs : List Referent) (c : Id) → Contains (map referent_id xs) c → (x : Referent) × Contains xs x × (referent_id x ≡ c)
@@ -45,21 +45,21 @@ pub referent_within : (r : Resolved) (s : SettingModel) (parts : NodeParts) (nam
 referent_within r s parts name xs x h among = slice_get_within parts.children.now x.place x.id.now (h.each x among).at
 
 -- all edges to what the name means have been tried
-pub asked_each : (r : Resolved) (s : SettingModel) (f : Found) (parts : NodeParts) (name : Text) (xs : List Referent) → AreReferentsIn r s.all_named parts name xs
+pub asked_each : (r : Resolved) (s : SettingModel) (f : SearchState) (parts : NodeParts) (name : Text) (xs : List Referent) → AreReferentsIn r s.all_named parts name xs
     → ((x : Referent) → Contains xs x → IsAskedAt r s f (krate_of parts) parts.place x.place) → IsAsked r s f (krate_of parts) name
 asked_each r s f parts name xs h each e same referent =
     let w = meant_among xs e.child ((h.are.exactly e.child).1 referent) in
     each w.0 w.1 e same (subst (λ (i : Id). DepAt r (krate_of parts) i parts.place w.0.place) w.2 (h.each w.0 w.1).dep)
 
 -- toggled strongly: the feature of each crate to which an edge may be kept
-pub strongly_each : (r : Resolved) (s : SettingModel) (f : Found) (parts : NodeParts) (name g : Text) (xs : List Referent) → AreReferentsIn r s.all_named parts name xs
+pub strongly_each : (r : Resolved) (s : SettingModel) (f : SearchState) (parts : NodeParts) (name g : Text) (xs : List Referent) → AreReferentsIn r s.all_named parts name xs
     → ((x : Referent) → Contains xs x → IsToggledStronglyAt r s f (krate_of parts) parts.place x.place g) → IsToggledStrongly r s f (krate_of parts) name g
 strongly_each r s f parts name g xs h each e d same referent w stands =
     let m = meant_among xs e.child ((h.are.exactly e.child).1 referent) in
     each m.0 m.1 e d same (subst (λ (i : Id). DepAt r (krate_of parts) i parts.place m.0.place) m.2 (h.each m.0 m.1).dep) w stands
 
 -- weakly: the feature of each crate waits or is toggled
-pub waiting_each : (r : Resolved) (s : SettingModel) (f : Found) (parts : NodeParts) (name g : Text) (xs : List Referent) → NoneDoubled r.metadata r.graph → AreReferentsIn r s.all_named parts name xs
+pub waiting_each : (r : Resolved) (s : SettingModel) (f : SearchState) (parts : NodeParts) (name g : Text) (xs : List Referent) → NoneDoubled r.metadata r.graph → AreReferentsIn r s.all_named parts name xs
     → ((x : Referent) → Contains xs x → IsWaitingAt r f (krate_of parts) parts.place x.place g) → IsWaiting r s f (krate_of parts) name g
 waiting_each r s f parts name g xs none h each child place index referent there =
     let m = meant_among xs child ((h.are.exactly child).1 referent) in

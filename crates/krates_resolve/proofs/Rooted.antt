@@ -11,16 +11,16 @@ use Rattle.krates_rules.specs.Derivation.{Derivable, follows, Among}
 use Rattle.krates_rules.specs.Facts.{Id, Fact, LostPackage, LostNode, Crate, Feature, Lost}
 use Rattle.krates_rules.specs.Features.{ListsFeature}
 use Rattle.krates_resolve.specs.Progress.{HasRooted, HasRootedEach}
-use Rattle.krates_search.specs.Found.{Grows, HasFound, IsRooted, HasRoots, MayName}
+use Rattle.krates_search.specs.SearchState.{Grows, HasFound, IsRooted, HasRoots, MayName}
 use Rattle.krates_rules.specs.Resolved.{NodeAt, Resolved, id_of, NoPackage}
 use Rattle.krates_rules.specs.Questions.{Stands, LacksNode, questions, IsLeftOut}
-use Rattle.krates_questions.specs.Basis.{document_of}
+use Rattle.krates_questions.specs.Context.{document_of}
 use Rattle.krates_questions.specs.RootChoice.{AsksFor}
-use Rattle.krates_questions.specs.declared.basis.Basis.{Basis}
+use Rattle.krates_questions.specs.declared.context.Context.{Context}
 use Rattle.krates_rules.specs.Roots.{IsRoot}
 use Rattle.krates_rules.specs.Rules.{Questions, root_crate, root_feature, lost_root_package, lost_root_node}
 use Rattle.krates_rules.specs.Setting.{SettingModel}
-use Rattle.krates_search.specs.declared.found.Found.{Found}
+use Rattle.krates_search.specs.declared.search_state.SearchState.{SearchState}
 use Rattle.krates_rules.proofs.Readings.{ReadsOnce, right_of}
 use Rattle.krates_rules.proofs.OnlyOne.{place_in}
 use Rattle.krates_rules.proofs.Standings.{not_included}
@@ -28,7 +28,7 @@ use Rattle.krates_questions.proofs.Lookups.{one_id}
 use Rattle.krates_questions.proofs.RootLemmas.{root_member}
 use Rattle.krates_search.proofs.Growing.{rooted_grows}
 
-pub members_rooted : ReadsOnce → (r : Resolved) (s : SettingModel) (x : Found) (all : Bool) (members : List Identity) → AsksFor r s all → AllZip Reads r.metadata.workspace_members members
+pub members_rooted : ReadsOnce → (r : Resolved) (s : SettingModel) (x : SearchState) (all : Bool) (members : List Identity) → AsksFor r s all → AllZip Reads r.metadata.workspace_members members
     → All (λ m. IsRoot r s (id_of m) → IsRooted r s x (id_of m)) members → HasRoots r s x
 members_rooted once r s x all members asks z rooted i is =
     let m = root_member r s all i asks is in
@@ -57,7 +57,7 @@ unfolding questions
 root_enables r s i root stands f lists = follows (root_feature {p = i} {f = f} root stands lists) (nothing (questions r s))
 
 -- all that a root gives whose crate stands
-pub rooted_here : (r : Resolved) (s : SettingModel) (x : Found) (i : Id) → Stands r s i → HasFound r x (Crate i) → ((f : Text) → ListsFeature r i f → HasFound r x (Feature i f)) → IsRooted r s x i
+pub rooted_here : (r : Resolved) (s : SettingModel) (x : SearchState) (i : Id) → Stands r s i → HasFound r x (Crate i) → ((f : Text) → ListsFeature r i f → HasFound r x (Feature i f)) → IsRooted r s x i
 rooted_here r s x i stands found enabled = record {
   kept = λ there. found;
   enabled = λ there f lists. enabled f lists;
@@ -66,7 +66,7 @@ rooted_here r s x i stands found enabled = record {
 }
 
 -- an excluded root gives nothing
-pub left_out_rooted : (r : Resolved) (s : SettingModel) (x : Found) (i : Id) → NoneDoubled r.metadata r.graph → IsLeftOut r s i → IsRooted r s x i
+pub left_out_rooted : (r : Resolved) (s : SettingModel) (x : SearchState) (i : Id) → NoneDoubled r.metadata r.graph → IsLeftOut r s i → IsRooted r s x i
 left_out_rooted r s x i none out = record {
   kept = λ there. absurd (not_included r s i none out there.included);
   enabled = λ there f lists. absurd (not_included r s i none out there.included);
@@ -84,7 +84,7 @@ listed_may r s i f none lists enabled = record {
 -- ---- roots that were put
 
 -- none was put yet
-pub none_rooted : (b : Basis) (x : Found) (places : PutNumbers) (size : ℕ) → places ≡ record { size = size; put = []; taken = 0 } → size ≡ length (document_of b).graph.nodes → HasRootedEach b x places
+pub none_rooted : (b : Context) (x : SearchState) (places : PutNumbers) (size : ℕ) → places ≡ record { size = size; put = []; taken = 0 } → size ≡ length (document_of b).graph.nodes → HasRootedEach b x places
 none_rooted b x places size is long = record {
   size = ap (λ (a : PutNumbers). a.size) is ∙ long;
   each = λ place krate among node. absurd (none_there place (subst (λ (a : PutNumbers). Contains a.put place) is among));
@@ -94,15 +94,15 @@ none_rooted b x places size is long = record {
     none_there place (k, lt, same) = absurd (omega (arith, lt))
 
 -- what was put stays
-pub each_grows : (b : Basis) (x y : Found) (places : PutNumbers) → Grows (document_of b) x y → HasRootedEach b x places → HasRootedEach b y places
+pub each_grows : (b : Context) (x y : SearchState) (places : PutNumbers) → Grows (document_of b) x y → HasRootedEach b x places → HasRootedEach b y places
 each_grows b x y places g h = record { size = h.size; each = λ place krate among node. rooted_grows (document_of b) b.setting.now x y krate g (h.each place krate among node) }
 
 -- no more was put
-pub each_stays : (b : Basis) (x : Found) (old new : PutNumbers) → new ≡ old → HasRootedEach b x old → HasRootedEach b x new
+pub each_stays : (b : Context) (x : SearchState) (old new : PutNumbers) → new ≡ old → HasRootedEach b x old → HasRootedEach b x new
 each_stays b x old new same h = subst (HasRootedEach b x) (sym same) h
 
 -- a root was put, and all that it gives
-pub each_put : ReadsOnce → (b : Basis) (x : Found) (old new : PutNumbers) (place : ℕ) (krate : Id) → new ≡ record old { put = old.put ++ place ∷ [] } → NodeAt (document_of b) krate place → HasRooted b x krate → HasRootedEach b x old → HasRootedEach b x new
+pub each_put : ReadsOnce → (b : Context) (x : SearchState) (old new : PutNumbers) (place : ℕ) (krate : Id) → new ≡ record old { put = old.put ++ place ∷ [] } → NodeAt (document_of b) krate place → HasRooted b x krate → HasRootedEach b x old → HasRootedEach b x new
 each_put once b x old new place krate is node rooted h = record {
   size = ap (λ (a : PutNumbers). a.size) is ∙ h.size;
   each = λ p other among there. elim (Contains-push_cases old.put place p (subst (λ (a : PutNumbers). Contains a.put p) is among)) [

@@ -9,7 +9,7 @@ use Rattle.krates_rules.specs.Admission.{NoneDoubled}
 use Rattle.krates_rules.specs.Derivation.{Among, Derivable, follows}
 use Rattle.krates_rules.specs.Facts.{Id, Edge, Fact, Crate, Feature, Kept, Toggled, Lost}
 use Rattle.krates_rules.specs.Features.{HasReference}
-use Rattle.krates_search.specs.Found.{HasFound, IsSound, Advances, HasRoots, IsExpanded, IsHeeded, IsFollowed, IsAsked, IsTried, IsAny, IsFeatureStep, IsKrateStep, IsToggledIn}
+use Rattle.krates_search.specs.SearchState.{HasFound, IsSound, Advances, HasRoots, IsExpanded, HasFollowedAll, IsFollowed, IsAsked, IsTried, IsAny, IsFeatureStep, IsKrateStep, IsToggledIn}
 use Rattle.krates_rules.specs.Resolved.{DepAt, Resolved}
 use Rattle.krates_search.specs.Links.{AreNew, HasLinks}
 use Rattle.krates_questions.specs.ListedFeatures.{listed_features}
@@ -25,7 +25,7 @@ use Rattle.krates_search.specs.FoundToggle.{found_toggled}
 use Rattle.krates_rules.specs.Setting.{SettingModel}
 use Rattle.krates_rules.specs.Steps.{StepModel}
 use Rattle.krates_selection.specs.Trace.{IsTrace}
-use Rattle.krates_search.specs.declared.found.Found.{Found}
+use Rattle.krates_search.specs.declared.search_state.SearchState.{SearchState}
 use Rattle.krates_search.specs.declared.found_edge.FoundEdge.{FoundEdge}
 use Rattle.krates_search.specs.declared.found_toggle.FoundToggle.{FoundToggle}
 use Rattle.krates_rules.proofs.DerivationLaws.{closed_under}
@@ -97,7 +97,7 @@ stands_in r s e o =
 -- ---- what a feature gives whose references were followed
 
 -- a reference asks for the dependency that it names
-asked_in : (r : Resolved) (s : SettingModel) (x : Found) (p : Id) (name : Text) (reference : Reference) → IsFollowed r s x p reference → Demands reference name → IsAsked r s x p name
+asked_in : (r : Resolved) (s : SettingModel) (x : SearchState) (p : Id) (name : Text) (reference : Reference) → IsFollowed r s x p reference → Demands reference name → IsAsked r s x p name
 asked_in r s x p name (simple f) h asks = absurd asks
 asked_in r s x p name (krate c) h asks = subst (IsAsked r s x p) (sym asks) h
 asked_in r s x p name (strong c f) h asks = subst (IsAsked r s x p) (sym asks) h.0
@@ -106,62 +106,62 @@ asked_in r s x p name (weak c f) h asks = absurd asks
 -- ---- when all has been taken
 
 -- the roots were found, each crate found has been expanded, and the references of each feature followed
-record IsDone (r : Resolved) (s : SettingModel) (x : Found) : Type 0 where
+record IsDone (r : Resolved) (s : SettingModel) (x : SearchState) : Type 0 where
   pub sound : IsSound r s x
   pub roots : HasRoots r s x
   pub expanded : (i : Id) → HasFound r x (Crate i) → IsExpanded r s x i
-  pub heeded : (i : Id) (f : Text) → HasFound r x (Feature i f) → IsHeeded r s x i f
+  pub followed_all : (i : Id) (f : Text) → HasFound r x (Feature i f) → HasFollowedAll r s x i f
 
-is_done : (r : Resolved) (s : SettingModel) (x : Found) → AreDone r s x → length x.krates.put ≤ x.krates.taken → length x.features.put ≤ x.features.taken → IsDone r s x
+is_done : (r : Resolved) (s : SettingModel) (x : SearchState) → AreDone r s x → length x.krates.put ≤ x.krates.taken → length x.features.put ≤ x.features.taken → IsDone r s x
 is_done r s x done krates features = record {
   sound = done.sound;
   roots = done.roots;
   expanded = λ i put.
       let at = place_in x.krates.put put.place put.among in
       done.expanded at.0 put.place i (omega (arith, krates, slice_get_within x.krates.put at.0 put.place at.1)) at.1 put.node;
-  heeded = λ i f put.
+  followed_all = λ i f put.
       let at = place_in x.features.put put.number put.among in
-      done.heeded at.0 put.number i f (omega (arith, features, slice_get_within x.features.put at.0 put.number at.1)) at.1 put.at;
+      done.followed_all at.0 put.number i f (omega (arith, features, slice_get_within x.features.put at.0 put.number at.1)) at.1 put.at;
 }
 
 -- an edge that a reference asks for has been tried
-tried_there : (r : Resolved) (s : SettingModel) (x : Found) (e : Edge) (f : Text) → IsDone r s x → IsAskedFor (questions r s) f e → HasFound r x (Feature e.parent f) → IsTried r s x e IsAny
+tried_there : (r : Resolved) (s : SettingModel) (x : SearchState) (e : Edge) (f : Text) → IsDone r s x → IsAskedFor (questions r s) f e → HasFound r x (Feature e.parent f) → IsTried r s x e IsAny
 unfolding questions
-tried_there r s x e f done a found = asked_in r s x e.parent a.dep a.reference (done.heeded e.parent f found a.reference a.refers) a.asks e refl a.referent
+tried_there r s x e f done a found = asked_in r s x e.parent a.dep a.reference (done.followed_all e.parent f found a.reference a.refers) a.asks e refl a.referent
 
 -- a strong reference over a kept edge toggles its feature
-strongly_there : (r : Resolved) (s : SettingModel) (x : Found) (e : Edge) (f g c : Text) → IsDone r s x → HasReference r e.parent f (strong c g) → IsReferent r s.all_named e.parent c e.child
+strongly_there : (r : Resolved) (s : SettingModel) (x : SearchState) (e : Edge) (f g c : Text) → IsDone r s x → HasReference r e.parent f (strong c g) → IsReferent r s.all_named e.parent c e.child
     → HasFound r x (Feature e.parent f) → HasFound r x (Kept e) → IsToggledIn r x e.parent e.child g
 strongly_there r s x e f g c done refers referent found kept =
     let o = kept_open r s e (done.sound.derivable (Kept e) kept) in
-    (done.heeded e.parent f found (strong c g) refers).1 e o.dependency refl referent o.wanted o.stands
+    (done.followed_all e.parent f found (strong c g) refers).1 e o.dependency refl referent o.wanted o.stands
 
 -- and so does a weak one
-weakly_there : (r : Resolved) (s : SettingModel) (x : Found) (e : Edge) (f g c : Text) → IsDone r s x → HasReference r e.parent f (weak c g) → IsReferent r s.all_named e.parent c e.child
+weakly_there : (r : Resolved) (s : SettingModel) (x : SearchState) (e : Edge) (f g c : Text) → IsDone r s x → HasReference r e.parent f (weak c g) → IsReferent r s.all_named e.parent c e.child
     → HasFound r x (Feature e.parent f) → HasFound r x (Kept e) → IsToggledIn r x e.parent e.child g
 weakly_there r s x e f g c done refers referent found kept =
     let at = stands_in r s e (kept_open r s e (done.sound.derivable (Kept e) kept)) in
-    elim (done.heeded e.parent f found (weak c g) refers e.child at.place at.index referent at.dep) [
+    elim (done.followed_all e.parent f found (weak c g) refers e.child at.place at.index referent at.dep) [
       | inl waits ↦ absurd (done.sound.woken at.place at.index g (done.sound.marked e at.place at.index kept at.dep) waits)
       | inr is ↦ is
     ]
 
 -- a kept edge is wanted as the dependency that it is declared as
-wanted_as : (r : Resolved) (s : SettingModel) (x : Found) (e : Edge) (d : DependencyModel) → NoneDoubled r.metadata r.graph → IsDone r s x → HasFound r x (Kept e) → IsDeclaredAs r e d → IsWanted r s e d
+wanted_as : (r : Resolved) (s : SettingModel) (x : SearchState) (e : Edge) (d : DependencyModel) → NoneDoubled r.metadata r.graph → IsDone r s x → HasFound r x (Kept e) → IsDeclaredAs r e d → IsWanted r s e d
 wanted_as r s x e d distinct done kept said =
     let o = kept_open r s e (done.sound.derivable (Kept e) kept) in
     subst (IsWanted r s e) (declared_as_once r e o.dependency d distinct (as_declared r s e o.dependency o.wanted) said) o.wanted
 
 -- what was found is closed under each rule
-rule_closed : (r : Resolved) (s : SettingModel) (x : Found) → NoneDoubled r.metadata r.graph → IsDone r s x → {n : ℕ} {ps : List Fact} {f : Fact} → Rule (questions r s) n ps f → ((g : Fact) → Among g ps → HasFound r x g) → HasFound r x f
+rule_closed : (r : Resolved) (s : SettingModel) (x : SearchState) → NoneDoubled r.metadata r.graph → IsDone r s x → {n : ℕ} {ps : List Fact} {f : Fact} → Rule (questions r s) n ps f → ((g : Fact) → Among g ps → HasFound r x g) → HasFound r x f
 unfolding questions
 rule_closed r s x distinct done (root_crate {p} root stands) h = (done.roots p root).kept stands
 rule_closed r s x distinct done (root_feature {p} {f} root stands lists) h = (done.roots p root).enabled stands f lists
 rule_closed r s x distinct done (lost_root_package {p} root none) h = (done.roots p root).has_package none
 rule_closed r s x distinct done (lost_root_node {p} root none) h = (done.roots p root).has_node none
 rule_closed r s x distinct done (feature_crate {p} {f}) h = done.sound.enabled p f (h (Feature p f) (inl refl))
-rule_closed r s x distinct done (named {p} {f} {g} refers lists) h = (done.heeded p f (h (Feature p f) (inl refl)) (simple g) refers).enabled lists
-rule_closed r s x distinct done (lost_named {p} {f} {g} refers lacks) h = (done.heeded p f (h (Feature p f) (inl refl)) (simple g) refers).listed lacks
+rule_closed r s x distinct done (named {p} {f} {g} refers lists) h = (done.followed_all p f (h (Feature p f) (inl refl)) (simple g) refers).enabled lists
+rule_closed r s x distinct done (lost_named {p} {f} {g} refers lacks) h = (done.followed_all p f (h (Feature p f) (inl refl)) (simple g) refers).listed lacks
 rule_closed r s x distinct done (asked {e} {f} {d} a o) h = (tried_there r s x e f done a (h (Feature e.parent f) (inl refl))).kept d o.wanted tt o.stands
 rule_closed r s x distinct done (toggled_strongly {e} {f} {g} {c} refers referent lists) h =
     (strongly_there r s x e f g c done refers referent (h (Feature e.parent f) (inl refl)) (h (Kept e) (inr (inl refl)))).toggled lists
@@ -184,7 +184,7 @@ rule_closed r s x distinct done (lost_toggled_weakly {e} {f} {g} {c} refers refe
     (weakly_there r s x e f g c done refers referent (h (Feature e.parent f) (inl refl)) (h (Kept e) (inr (inl refl)))).listed lacks
 
 -- what was found is exactly what is derivable
-pub saturated : (r : Resolved) (s : SettingModel) (x : Found) → NoneDoubled r.metadata r.graph → AreDone r s x → length x.krates.put ≤ x.krates.taken → length x.features.put ≤ x.features.taken → (f : Fact) → Derivable (questions r s) f ↔ HasFound r x f
+pub saturated : (r : Resolved) (s : SettingModel) (x : SearchState) → NoneDoubled r.metadata r.graph → AreDone r s x → length x.krates.put ≤ x.krates.taken → length x.features.put ≤ x.features.taken → (f : Fact) → Derivable (questions r s) f ↔ HasFound r x f
 saturated r s x distinct all krates features f =
     let done = is_done r s x all krates features in
     (λ d. closed_under (questions r s) (HasFound r x) (λ n ps g rule h. rule_closed r s x distinct done rule h) d, λ h. done.sound.derivable f h)
@@ -195,7 +195,7 @@ no_element : {A : Type 0} (x : A) → Contains [] x → ⊥
 no_element x (k, lt, is) = omega (arith, lt)
 
 -- nothing has been found yet
-pub record IsEmpty (x : Found) : Type 0 where
+pub record IsEmpty (x : SearchState) : Type 0 where
   pub krates : x.krates.put ≡ []
   pub features : x.features.put ≡ []
   pub edges : x.edges.items ≡ []
@@ -204,7 +204,7 @@ pub record IsEmpty (x : Found) : Type 0 where
   pub krate_steps : x.krate_steps.items ≡ []
   pub feature_steps : x.feature_steps.items ≡ []
 
-nothing_found : (r : Resolved) (x : Found) → IsEmpty x → (f : Fact) → HasFound r x f → ⊥
+nothing_found : (r : Resolved) (x : SearchState) → IsEmpty x → (f : Fact) → HasFound r x f → ⊥
 nothing_found r x none (Crate i) h = no_element h.place (subst (λ (ps : List ℕ). Contains ps h.place) none.krates h.among)
 nothing_found r x none (Feature i f) h = no_element h.number (subst (λ (ns : List ℕ). Contains ns h.number) none.features h.among)
 nothing_found r x none (Kept e) h = no_element e (subst (λ (es : List FoundEdge). Contains (map found_view es) e) none.edges h)
@@ -217,7 +217,7 @@ no_step k y at = cc
 empty_zip : (R : ℕ → ℕ → Type 0) (xs ys : List ℕ) → xs ≡ [] → ys ≡ [] → AllZip R xs ys
 empty_zip R xs ys a b = subst (λ (us : List ℕ). AllZip R us ys) (sym a) (subst (AllZip R []) (sym b) tt)
 
-pub sound_start : (r : Resolved) (s : SettingModel) (x : Found) → AreExclusions r s x.excluded.items → x.krates.size ≡ length r.graph.nodes → x.features.size ≡ length (listed_features r) → HasLinks r x.links → AreNew x.links → IsEmpty x → IsSound r s x
+pub sound_start : (r : Resolved) (s : SettingModel) (x : SearchState) → AreExclusions r s x.excluded.items → x.krates.size ≡ length r.graph.nodes → x.features.size ≡ length (listed_features r) → HasLinks r x.links → AreNew x.links → IsEmpty x → IsSound r s x
 sound_start r s x excluded krates features links new none = record {
   excluded = excluded;
   krates_size = krates;
@@ -248,7 +248,7 @@ sound_start r s x excluded krates features links new none = record {
 }
 
 -- when the roots have been put, nothing has been taken yet
-pub done_start : (r : Resolved) (s : SettingModel) (x z : Found) → x.krates.taken ≡ 0 → x.features.taken ≡ 0 → Advances r s x z → HasRoots r s z → AreDone r s z
+pub done_start : (r : Resolved) (s : SettingModel) (x z : SearchState) → x.krates.taken ≡ 0 → x.features.taken ≡ 0 → Advances r s x z → HasRoots r s z → AreDone r s z
 done_start r s x z krates features a roots =
     let no_krate : z.krates.taken ≡ 0 = a.grows.krates_taken ∙ krates in
     let no_feature : z.features.taken ≡ 0 = a.grows.features_taken ∙ features in
@@ -256,7 +256,7 @@ done_start r s x z krates features a roots =
       sound = a.sound;
       roots = roots;
       expanded = λ k place i lt. absurd (omega (arith, lt, no_krate));
-      heeded = λ k number i f lt. absurd (omega (arith, lt, no_feature));
+      followed_all = λ k number i f lt. absurd (omega (arith, lt, no_feature));
       krates_within = omega (arith, no_krate);
       features_within = omega (arith, no_feature);
     }

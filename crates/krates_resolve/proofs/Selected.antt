@@ -14,7 +14,7 @@ use Rattle.krates_rules.specs.Questions.{questions}
 use Rattle.krates_rules.specs.Resolved.{Resolved, id_of}
 use Rattle.krates_rules.specs.Setting.{SettingModel}
 use Rattle.krates_selection.specs.CrateNumbers.{id_at}
-use Rattle.krates_search.specs.Found.{HasFound}
+use Rattle.krates_search.specs.SearchState.{HasFound}
 use Rattle.krates_search.specs.FoundEdge.{IsFoundEdge, found_view}
 use Rattle.krates_search.specs.FoundToggle.{IsFoundToggle, found_toggled}
 use Rattle.krates_search.specs.KeptEdges.{AreInOrder, HasKeptNodes}
@@ -23,7 +23,7 @@ use Rattle.krates_search.specs.KeptNumbers.{IsKept}
 use Rattle.krates_search.specs.KeptToggled.{AreToggled, HasKeptCrates}
 use Rattle.krates_selection.specs.Selection.{edge_view, crate_fact, edge_fact, feature_fact, toggled_fact, facts_of, IsSelection}
 use Rattle.krates_selection.specs.Work.{CountsEach}
-use Rattle.krates_search.specs.declared.found.Found.{Found}
+use Rattle.krates_search.specs.declared.search_state.SearchState.{SearchState}
 use Rattle.krates_search.specs.declared.found_edge.FoundEdge.{FoundEdge}
 use Rattle.krates_search.specs.declared.found_toggle.FoundToggle.{FoundToggle}
 use Rattle.krates_selection.specs.declared.selection.Selection.{Selection}
@@ -83,7 +83,7 @@ pub record IsOrdered {A : Type 0} (eq : A → A → Bool) (old new : List A) : T
   pub kept : (x : A) → Contains old x → (y : A) × Contains new y × (eq x y ≡ true)
 
 -- what was found is exactly what is derivable, and these are the ids of its crates, and these ids in order
-pub record IsWhole (r : Resolved) (s : SettingModel) (ids : List Identity) (found : Found) (put kids : List Identity) : Type 0 where
+pub record IsWhole (r : Resolved) (s : SettingModel) (ids : List Identity) (found : SearchState) (put kids : List Identity) : Type 0 where
   pub none_doubled : NoneDoubled r.metadata r.graph
   pub reads : AllZip Reads (node_texts r.graph) ids
   pub exact : (f : Fact) → Derivable (questions r s) f ↔ HasFound r found f
@@ -93,7 +93,7 @@ pub record IsWhole (r : Resolved) (s : SettingModel) (ids : List Identity) (foun
   pub rise : IsStrictlySortedBy id_cmp kids
 
 -- as the search's result is read
-pub whole_of : (look : Lookup) (s : SettingModel) (found : Found) (nodes : List Identity) (places : List ℕ) (put kids : List Identity) → IsLookup look → ((f : Fact) → Derivable (questions (resolved_view look) s) f ↔ HasFound (resolved_view look) found f)
+pub whole_of : (look : Lookup) (s : SettingModel) (found : SearchState) (nodes : List Identity) (places : List ℕ) (put kids : List Identity) → IsLookup look → ((f : Fact) → Derivable (questions (resolved_view look) s) f ↔ HasFound (resolved_view look) found f)
     → nodes ≡ look.ids.now.nodes.items → places ≡ found.krates.put → AreAt nodes places put → 0 < length found.krates.put → IsOrdered same_id put kids → IsStrictlySortedBy id_cmp kids
     → IsWhole (resolved_view look) s look.ids.now.nodes.items found put kids
 whole_of look s found nodes places put kids h exact read taken at some ordered rise = record {
@@ -107,7 +107,7 @@ whole_of look s found nodes places put kids h exact read taken at some ordered r
 }
 
 -- a derivable crate is kept
-crate_kept : ReadsOnce → EqualityTellsSame → (r : Resolved) (s : SettingModel) (ids : List Identity) (found : Found) (put kids : List Identity) → IsWhole r s ids found put kids → (i : Id) → Derivable (questions r s) (Crate i) → IsKept kids i
+crate_kept : ReadsOnce → EqualityTellsSame → (r : Resolved) (s : SettingModel) (ids : List Identity) (found : SearchState) (put kids : List Identity) → IsWhole r s ids found put kids → (i : Id) → Derivable (questions r s) (Crate i) → IsKept kids i
 crate_kept once tells r s ids found put kids whole i d =
     let there = (whole.exact (Crate i)).0 d in
     let k = kid_at ids found.krates.put put there.place whole.krates there.among in
@@ -116,7 +116,7 @@ crate_kept once tells r s ids found put kids whole i d =
     subst (Contains (map id_of kids)) id (contains_image id_of kids y.0 y.1)
 
 -- and so are the crates of what was found
-ends_kept : ReadsOnce → EqualityTellsSame → (r : Resolved) (s : SettingModel) (ids : List Identity) (found : Found) (put kids : List Identity) → IsWhole r s ids found put kids → (e : FoundEdge) → Contains found.edges.items e → IsFoundEdge r s e
+ends_kept : ReadsOnce → EqualityTellsSame → (r : Resolved) (s : SettingModel) (ids : List Identity) (found : SearchState) (put kids : List Identity) → IsWhole r s ids found put kids → (e : FoundEdge) → Contains found.edges.items e → IsFoundEdge r s e
     → HasKeptNodes r kids e
 ends_kept once tells r s ids found put kids whole e c is =
     let d = (whole.exact (Kept (found_view e))).1 (contains_image found_view found.edges.items e c) in
@@ -127,7 +127,7 @@ ends_kept once tells r s ids found put kids whole e c is =
       child_kept = crate_kept once tells r s ids found put kids whole (id_of e.child.now) (child_kept q (found_view e) d);
     }
 
-toggle_kept : ReadsOnce → EqualityTellsSame → (r : Resolved) (s : SettingModel) (ids : List Identity) (found : Found) (put kids : List Identity) → IsWhole r s ids found put kids → (t : FoundToggle) → Contains found.toggled.items t → IsFoundToggle r t
+toggle_kept : ReadsOnce → EqualityTellsSame → (r : Resolved) (s : SettingModel) (ids : List Identity) (found : SearchState) (put kids : List Identity) → IsWhole r s ids found put kids → (t : FoundToggle) → Contains found.toggled.items t → IsFoundToggle r t
     → HasKeptCrates r kids t
 toggle_kept once tells r s ids found put kids whole t c is =
     let d = (whole.exact (found_toggled t)).1 (contains_image found_toggled found.toggled.items t c) in
@@ -138,7 +138,7 @@ toggle_kept once tells r s ids found put kids whole t c is =
       krate_kept = crate_kept once tells r s ids found put kids whole (id_of t.krate.now) k.1;
     }
 
-feature_kept : ReadsOnce → EqualityTellsSame → (r : Resolved) (s : SettingModel) (ids : List Identity) (found : Found) (put kids : List Identity) → IsWhole r s ids found put kids → (n : ℕ) → Contains found.features.put n → n < length (listed_features r)
+feature_kept : ReadsOnce → EqualityTellsSame → (r : Resolved) (s : SettingModel) (ids : List Identity) (found : SearchState) (put kids : List Identity) → IsWhole r s ids found put kids → (n : ℕ) → Contains found.features.put n → n < length (listed_features r)
     → HasKeptHome r kids n
 feature_kept once tells r s ids found put kids whole n c lt =
     let listed = there_is (listed_features r) n lt in
@@ -154,19 +154,19 @@ feature_kept once tells r s ids found put kids whole n c lt =
     record { krate = id_of kid.0; name = name; at = at; kept = kept }
 
 -- all of them, by the names that the search's result has where it is read
-pub edges_kept : ReadsOnce → EqualityTellsSame → (r : Resolved) (s : SettingModel) (ids : List Identity) (found : Found) (put kids : List Identity) → IsWhole r s ids found put kids → All (IsFoundEdge r s) found.edges.items
+pub edges_kept : ReadsOnce → EqualityTellsSame → (r : Resolved) (s : SettingModel) (ids : List Identity) (found : SearchState) (put kids : List Identity) → IsWhole r s ids found put kids → All (IsFoundEdge r s) found.edges.items
     → (ks : List Identity) (es : List FoundEdge) → ks ≡ kids → es ≡ found.edges.items → All (HasKeptNodes r ks) es
 edges_kept once tells r s ids found put kids whole right ks es same is =
     subst (All (HasKeptNodes r ks)) (sym is) (subst (λ (js : List Identity). All (HasKeptNodes r js) found.edges.items) (sym same) (λ k d lt.
     ends_kept once tells r s ids found put kids whole (get_or found.edges.items k d) (contains_or found.edges.items k d lt) (right k d lt)))
 
-pub toggles_kept : ReadsOnce → EqualityTellsSame → (r : Resolved) (s : SettingModel) (ids : List Identity) (found : Found) (put kids : List Identity) → IsWhole r s ids found put kids → All (IsFoundToggle r) found.toggled.items
+pub toggles_kept : ReadsOnce → EqualityTellsSame → (r : Resolved) (s : SettingModel) (ids : List Identity) (found : SearchState) (put kids : List Identity) → IsWhole r s ids found put kids → All (IsFoundToggle r) found.toggled.items
     → (ks : List Identity) (ts : List FoundToggle) → ks ≡ kids → ts ≡ found.toggled.items → All (HasKeptCrates r ks) ts
 toggles_kept once tells r s ids found put kids whole right ks ts same is =
     subst (All (HasKeptCrates r ks)) (sym is) (subst (λ (js : List Identity). All (HasKeptCrates r js) found.toggled.items) (sym same) (λ k d lt.
     toggle_kept once tells r s ids found put kids whole (get_or found.toggled.items k d) (contains_or found.toggled.items k d lt) (right k d lt)))
 
-pub features_kept : ReadsOnce → EqualityTellsSame → (r : Resolved) (s : SettingModel) (ids : List Identity) (found : Found) (put kids : List Identity) → IsWhole r s ids found put kids → All (λ n. n < length (listed_features r)) found.features.put
+pub features_kept : ReadsOnce → EqualityTellsSame → (r : Resolved) (s : SettingModel) (ids : List Identity) (found : SearchState) (put kids : List Identity) → IsWhole r s ids found put kids → All (λ n. n < length (listed_features r)) found.features.put
     → (ks : List Identity) (ns : List ℕ) → ks ≡ kids → ns ≡ found.features.put → All (HasKeptHome r ks) ns
 features_kept once tells r s ids found put kids whole below ks ns same is =
     subst (All (HasKeptHome r ks)) (sym is) (subst (λ (js : List Identity). All (HasKeptHome r js) found.features.put) (sym same) (λ k d lt.
@@ -175,12 +175,12 @@ features_kept once tells r s ids found put kids whole below ks ns same is =
 -- ---- the facts of a selection
 
 -- the selection has all that was found, in order
-pub record IsInOrder (r : Resolved) (s : SettingModel) (found : Found) (x : Selection) : Type 0 where
+pub record IsInOrder (r : Resolved) (s : SettingModel) (found : SearchState) (x : Selection) : Type 0 where
   pub edges : AreInOrder r s x.krates.items found.edges.items x.edges.items
   pub features : AreSorted r x.krates.items found.features.put x.features.items
   pub toggled : AreToggled x.krates.items found.toggled.items x.toggled.items
 
-pub selected : ReadsOnce → EqualityTellsSame → (r : Resolved) (s : SettingModel) (ids : List Identity) (found : Found) (put : List Identity) (x : Selection) → IsWhole r s ids found put x.krates.items → IsInOrder r s found x
+pub selected : ReadsOnce → EqualityTellsSame → (r : Resolved) (s : SettingModel) (ids : List Identity) (found : SearchState) (put : List Identity) (x : Selection) → IsWhole r s ids found put x.krates.items → IsInOrder r s found x
     → CountsEach r s x.krates.items x.features.items x.work → IsSelection r s x
 selected once tells r s ids found put x whole order counts = record {
   facts = λ f. (forth f, back f);

@@ -8,37 +8,37 @@ use Rattle.krates_graph.specs.Agenda.{PutNumbers, IsOrderly}
 use Rattle.krates_cm.specs.Document.{Text, DependencyModel}
 use Rattle.krates_text.specs.FeatureReference.{Reference, krate, weak, strong, simple}
 use Rattle.krates_rules.specs.Facts.{Id, Edge}
-use Rattle.krates_search.specs.Found.{IsEnabledBySome, IsToggledIn, HasUsed, IsAny, IsTried, IsFollowed, IsHeeded, IsExpanded, HasRoots, IsSound, Advances}
+use Rattle.krates_search.specs.SearchState.{IsEnabledBySome, IsToggledIn, HasUsed, IsAny, IsTried, IsFollowed, HasFollowedAll, IsExpanded, HasRoots, IsSound, Advances}
 use Rattle.krates_rules.specs.Resolved.{NodeAt, Resolved}
 use Rattle.krates_questions.specs.Numbering.{FeatureAt}
 use Rattle.krates_resolve.specs.Saturation.{AreDone, left_in}
 use Rattle.krates_rules.specs.Setting.{SettingModel}
-use Rattle.krates_search.specs.declared.found.Found.{Found}
-use Rattle.krates_search.proofs.Growing.{expanded_grows, heeded_grows, roots_grow}
+use Rattle.krates_search.specs.declared.search_state.SearchState.{SearchState}
+use Rattle.krates_search.proofs.Growing.{expanded_grows, followed_all_grows, roots_grow}
 use Rattle.krates_rules.proofs.Standings.{contains_at}
 
 -- ---- what was found doesn't depend on how many were taken
 
 -- the same was found, and this many crates and features were taken
-abbrev pub taken_to : Found → ℕ → ℕ → Found
+abbrev pub taken_to : SearchState → ℕ → ℕ → SearchState
 taken_to x n m = record { krates = record x.krates { taken = n }; features = record x.features { taken = m }; edges = x.edges; toggled = x.toggled; trace = x.trace; krate_steps = x.krate_steps; feature_steps = x.feature_steps; links = x.links; excluded = x.excluded }
 
-named_taken : (r : Resolved) (x : Found) (n m : ℕ) (i : Id) (f : Text) → IsEnabledBySome r x i f → IsEnabledBySome r (taken_to x n m) i f
+named_taken : (r : Resolved) (x : SearchState) (n m : ℕ) (i : Id) (f : Text) → IsEnabledBySome r x i f → IsEnabledBySome r (taken_to x n m) i f
 named_taken r x n m i f h = record { enabled = h.enabled; listed = h.listed }
 
-toggled_taken : (r : Resolved) (x : Found) (n m : ℕ) (p c : Id) (f : Text) → IsToggledIn r x p c f → IsToggledIn r (taken_to x n m) p c f
+toggled_taken : (r : Resolved) (x : SearchState) (n m : ℕ) (p c : Id) (f : Text) → IsToggledIn r x p c f → IsToggledIn r (taken_to x n m) p c f
 toggled_taken r x n m p c f h = record { toggled = h.toggled; listed = h.listed }
 
-used_taken : (r : Resolved) (x : Found) (n m : ℕ) (d : DependencyModel) (c : Id) → HasUsed r x d c → HasUsed r (taken_to x n m) d c
+used_taken : (r : Resolved) (x : SearchState) (n m : ℕ) (d : DependencyModel) (c : Id) → HasUsed r x d c → HasUsed r (taken_to x n m) d c
 used_taken r x n m d c h = record { declared = λ g among. named_taken r x n m c g (h.declared g among); by_default = h.by_default }
 
-tried_taken : (r : Resolved) (s : SettingModel) (x : Found) (n m : ℕ) (e : Edge) (taken : DependencyModel → Type 0) → IsTried r s x e taken → IsTried r s (taken_to x n m) e taken
+tried_taken : (r : Resolved) (s : SettingModel) (x : SearchState) (n m : ℕ) (e : Edge) (taken : DependencyModel → Type 0) → IsTried r s x e taken → IsTried r s (taken_to x n m) e taken
 tried_taken r s x n m e taken h = record { kept = h.kept; has_package = h.has_package; has_node = h.has_node; declared = h.declared }
 
-expanded_taken : (r : Resolved) (s : SettingModel) (x : Found) (n m : ℕ) (i : Id) → IsExpanded r s x i → IsExpanded r s (taken_to x n m) i
+expanded_taken : (r : Resolved) (s : SettingModel) (x : SearchState) (n m : ℕ) (i : Id) → IsExpanded r s x i → IsExpanded r s (taken_to x n m) i
 expanded_taken r s x n m i h e same = tried_taken r s x n m e _ (h e same)
 
-followed_taken : (r : Resolved) (s : SettingModel) (x : Found) (n m : ℕ) (p : Id) (reference : Reference) → IsFollowed r s x p reference → IsFollowed r s (taken_to x n m) p reference
+followed_taken : (r : Resolved) (s : SettingModel) (x : SearchState) (n m : ℕ) (p : Id) (reference : Reference) → IsFollowed r s x p reference → IsFollowed r s (taken_to x n m) p reference
 followed_taken r s x n m p (simple f) h = named_taken r x n m p f h
 followed_taken r s x n m p (krate name) h = λ e same referent. tried_taken r s x n m e _ (h e same referent)
 followed_taken r s x n m p (strong name f) h = (
@@ -50,13 +50,13 @@ followed_taken r s x n m p (weak name f) h = λ child place index referent dep. 
   | inr is ↦ inr (toggled_taken r x n m p child f is)
 ]
 
-heeded_taken : (r : Resolved) (s : SettingModel) (x : Found) (n m : ℕ) (i : Id) (f : Text) → IsHeeded r s x i f → IsHeeded r s (taken_to x n m) i f
-heeded_taken r s x n m i f h reference has = followed_taken r s x n m i reference (h reference has)
+followed_all_taken : (r : Resolved) (s : SettingModel) (x : SearchState) (n m : ℕ) (i : Id) (f : Text) → HasFollowedAll r s x i f → HasFollowedAll r s (taken_to x n m) i f
+followed_all_taken r s x n m i f h reference has = followed_taken r s x n m i reference (h reference has)
 
-roots_taken : (r : Resolved) (s : SettingModel) (x : Found) (n m : ℕ) → HasRoots r s x → HasRoots r s (taken_to x n m)
+roots_taken : (r : Resolved) (s : SettingModel) (x : SearchState) (n m : ℕ) → HasRoots r s x → HasRoots r s (taken_to x n m)
 roots_taken r s x n m h i root = let y = h i root in record { kept = y.kept; enabled = y.enabled; has_package = y.has_package; has_node = y.has_node }
 
-pub sound_taken : (r : Resolved) (s : SettingModel) (x : Found) (n m : ℕ) → IsSound r s x → IsSound r s (taken_to x n m)
+pub sound_taken : (r : Resolved) (s : SettingModel) (x : SearchState) (n m : ℕ) → IsSound r s x → IsSound r s (taken_to x n m)
 sound_taken r s x n m h = record {
   excluded = h.excluded;
   krates_size = h.krates_size;
@@ -100,10 +100,10 @@ pub unchanged : (a b : PutNumbers) (n : ℕ) → b ≡ record a { taken = n } �
 unchanged a b n e same = e ∙ ap (λ (k : ℕ). record a { taken = k }) same
 
 -- what has been found, with other agendas
-abbrev pub with_agendas : Found → PutNumbers → PutNumbers → Found
+abbrev pub with_agendas : SearchState → PutNumbers → PutNumbers → SearchState
 with_agendas x a b = record { krates = a; features = b; edges = x.edges; toggled = x.toggled; trace = x.trace; krate_steps = x.krate_steps; feature_steps = x.feature_steps; links = x.links; excluded = x.excluded }
 
-pub same_agendas : (x : Found) (a b c d : PutNumbers) → a ≡ c → b ≡ d → with_agendas x a b ≡ with_agendas x c d
+pub same_agendas : (x : SearchState) (a b c d : PutNumbers) → a ≡ c → b ≡ d → with_agendas x a b ≡ with_agendas x c d
 same_agendas x a b c d e h = ap (λ (n : PutNumbers). with_agendas x n b) e ∙ ap (λ (n : PutNumbers). with_agendas x c n) h
 
 -- ---- lists of numbers that grow
@@ -150,7 +150,7 @@ none_left xs n none = elim (cases_lt n (length xs)) [
 -- ---- one is taken
 
 -- the crate that was taken has been expanded, as were those before it
-pub crate_done : (r : Resolved) (s : SettingModel) (x z : Found) (t : ℕ) → AreDone r s x → Advances r s (taken_to x (x.krates.taken + 1) x.features.taken) z → length x.krates.put ≤ x.krates.size
+pub crate_done : (r : Resolved) (s : SettingModel) (x z : SearchState) (t : ℕ) → AreDone r s x → Advances r s (taken_to x (x.krates.taken + 1) x.features.taken) z → length x.krates.put ≤ x.krates.size
     → slice_get x.krates.put x.krates.taken ≡ Some t → ((i : Id) → NodeAt r i t → IsExpanded r s z i) → AreDone r s z × (left_in z < left_in x)
 crate_done r s x z t done a room at now =
     let n = x.krates.taken + 1 in
@@ -170,9 +170,9 @@ crate_done r s x z t done a room at now =
         expanded = λ k place i lt there node.
             below_more x.krates.put z.krates.put x.krates.taken t (λ p. (j : Id) → NodeAt r j p → IsExpanded r s x j) (λ p. (j : Id) → NodeAt r j p → IsExpanded r s z j) g.krates at
             (λ k p lt o j n. done.expanded k p j lt o n) (λ p o j node. expanded_grows r s y z j g (expanded_taken r s x n m j (o j node))) now k place (omega (arith, lt, count)) there i node;
-        heeded = λ k number i f lt there is.
-            below_same x.features.put z.features.put m (λ p. (j : Id) (h : Text) → FeatureAt r j h p → IsHeeded r s x j h) (λ p. (j : Id) (h : Text) → FeatureAt r j h p → IsHeeded r s z j h) g.features done.features_within
-            (λ k p lt o j h is. done.heeded k p j h lt o is) (λ p o j h is. heeded_grows r s y z j h g (heeded_taken r s x n m j h (o j h is))) k number (omega (arith, lt, same)) there i f is;
+        followed_all = λ k number i f lt there is.
+            below_same x.features.put z.features.put m (λ p. (j : Id) (h : Text) → FeatureAt r j h p → HasFollowedAll r s x j h) (λ p. (j : Id) (h : Text) → FeatureAt r j h p → HasFollowedAll r s z j h) g.features done.features_within
+            (λ k p lt o j h is. done.followed_all k p j h lt o is) (λ p o j h is. followed_all_grows r s y z j h g (followed_all_taken r s x n m j h (o j h is))) k number (omega (arith, lt, same)) there i f is;
         krates_within = omega (arith, long, count);
         features_within = omega (arith, features_long, same);
       },
@@ -180,8 +180,8 @@ crate_done r s x z t done a room at now =
     )
 
 -- the references of the feature that was taken have been followed, as were those of the features before it
-pub feature_done : (r : Resolved) (s : SettingModel) (x z : Found) (t : ℕ) → AreDone r s x → Advances r s (taken_to x x.krates.taken (x.features.taken + 1)) z → length x.features.put ≤ x.features.size
-    → slice_get x.features.put x.features.taken ≡ Some t → ((i : Id) (f : Text) → FeatureAt r i f t → IsHeeded r s z i f) → AreDone r s z × (left_in z < left_in x)
+pub feature_done : (r : Resolved) (s : SettingModel) (x z : SearchState) (t : ℕ) → AreDone r s x → Advances r s (taken_to x x.krates.taken (x.features.taken + 1)) z → length x.features.put ≤ x.features.size
+    → slice_get x.features.put x.features.taken ≡ Some t → ((i : Id) (f : Text) → FeatureAt r i f t → HasFollowedAll r s z i f) → AreDone r s z × (left_in z < left_in x)
 feature_done r s x z t done a room at now =
     let n = x.krates.taken in
     let m = x.features.taken + 1 in
@@ -200,9 +200,9 @@ feature_done r s x z t done a room at now =
         expanded = λ k place i lt there node.
             below_same x.krates.put z.krates.put n (λ p. (j : Id) → NodeAt r j p → IsExpanded r s x j) (λ p. (j : Id) → NodeAt r j p → IsExpanded r s z j) g.krates done.krates_within
             (λ k p lt o j n. done.expanded k p j lt o n) (λ p o j node. expanded_grows r s y z j g (expanded_taken r s x n m j (o j node))) k place (omega (arith, lt, same)) there i node;
-        heeded = λ k number i f lt there is.
-            below_more x.features.put z.features.put x.features.taken t (λ p. (j : Id) (h : Text) → FeatureAt r j h p → IsHeeded r s x j h) (λ p. (j : Id) (h : Text) → FeatureAt r j h p → IsHeeded r s z j h) g.features at
-            (λ k p lt o j h is. done.heeded k p j h lt o is) (λ p o j h is. heeded_grows r s y z j h g (heeded_taken r s x n m j h (o j h is))) now k number (omega (arith, lt, count)) there i f is;
+        followed_all = λ k number i f lt there is.
+            below_more x.features.put z.features.put x.features.taken t (λ p. (j : Id) (h : Text) → FeatureAt r j h p → HasFollowedAll r s x j h) (λ p. (j : Id) (h : Text) → FeatureAt r j h p → HasFollowedAll r s z j h) g.features at
+            (λ k p lt o j h is. done.followed_all k p j h lt o is) (λ p o j h is. followed_all_grows r s y z j h g (followed_all_taken r s x n m j h (o j h is))) now k number (omega (arith, lt, count)) there i f is;
         krates_within = omega (arith, krates_long, same);
         features_within = omega (arith, long, count);
       },
@@ -210,6 +210,6 @@ feature_done r s x z t done a room at now =
     )
 
 -- none is left to take
-pub none_done : (r : Resolved) (s : SettingModel) (x : Found) → AreDone r s x → slice_get x.krates.put x.krates.taken ≡ None → slice_get x.features.put x.features.taken ≡ None
+pub none_done : (r : Resolved) (s : SettingModel) (x : SearchState) → AreDone r s x → slice_get x.krates.put x.krates.taken ≡ None → slice_get x.features.put x.features.taken ≡ None
     → (length x.krates.put ≤ x.krates.taken) × (length x.features.put ≤ x.features.taken)
 none_done r s x done krates features = (none_left x.krates.put x.krates.taken krates, none_left x.features.put x.features.taken features)

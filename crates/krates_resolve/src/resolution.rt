@@ -7,9 +7,9 @@ ghost use Rattle.krates_rules.specs.Admission.{IsAdmitted};
 ghost use Rattle.krates_selection.specs.Explained.{IsExplained, IsExplainedOf};
 ghost use Rattle.krates_document.specs.Ids.{ids_view};
 ghost use Rattle.krates_questions.specs.Lookup.{IsLookup, resolved_view};
-ghost use Rattle.krates_questions.specs.Basis.{document_of};
+ghost use Rattle.krates_questions.specs.Context.{document_of};
 ghost use Rattle.krates_resolve.specs.Counting.{HasCountedAll};
-ghost use Rattle.krates_search.specs.Found.{IsSound};
+ghost use Rattle.krates_search.specs.SearchState.{IsSound};
 ghost use Rattle.krates_resolve.specs.Saturation.{HasExactly};
 ghost use Rattle.krates_selection.specs.Selection.{IsSelection, IsSelectionOf, RefusesSelection};
 ghost use Rattle.krates_rules.specs.NamedIds.{NamesIdsOf, NamesReadIds};
@@ -21,15 +21,15 @@ use krates_cm::Metadata;
 use krates_document::ids::Ids;
 use krates_document::setting::Setting;
 use krates_ids::{Error, Kid, laws};
-use krates_questions::basis::Basis;
+use krates_questions::context::Context;
 use krates_questions::crate_table::numbers_of;
 use krates_questions::lookup::{Lookup, lookup_of};
 use krates_questions::sorted::in_order;
-use krates_search::found::Found;
 use krates_search::kept_edges::kept_edges;
 use krates_search::kept_features::kept_features;
 use krates_search::kept_numbers::KeptNumbers;
 use krates_search::kept_toggled::kept_toggled;
+use krates_search::search_state::SearchState;
 use krates_selection::selection::Selection;
 use krates_selection::trace::NumberedStep;
 use krates_selection::work::Work;
@@ -81,40 +81,40 @@ pub fn select_in<'a>(
     if found.krates.numbers().is_empty() {
         return Err(Error::NoRootKrates);
     }
-    let basis = Basis {
+    let context = Context {
         alloc,
         lookup,
         setting,
     };
-    let mut selection = selection_of(&basis, &found, work)?;
+    let mut selection = selection_of(&context, &found, work)?;
     selection.steps = trace_of(found);
     Ok(selection)
 }
 
 /// What was found, with the work that it was, in the order of the ids: a selection that has no steps yet.
 fn selection_of<'a>(
-    basis: &Basis<'a, '_>,
-    found: &Found<'a>,
+    context: &Context<'a, '_>,
+    found: &SearchState<'a>,
     work: Work,
 ) -> Result<Selection, AllocError>
-    requires lookup { IsLookup basis.now.lookup.now }
-    requires exact { HasExactly (document_of basis.now) basis.now.setting.now found.now }
-    requires sound { IsSound (document_of basis.now) basis.now.setting.now found.now }
-    requires counted { HasCountedAll (document_of basis.now) basis.now.setting.now found.now work }
+    requires lookup { IsLookup context.now.lookup.now }
+    requires exact { HasExactly (document_of context.now) context.now.setting.now found.now }
+    requires sound { IsSound (document_of context.now) context.now.setting.now found.now }
+    requires counted { HasCountedAll (document_of context.now) context.now.setting.now found.now work }
     requires some { 0 < length found.now.krates.put }
-    ensures { IfOk result (IsSelection (document_of basis.now) basis.now.setting.now) }
+    ensures { IfOk result (IsSelection (document_of context.now) context.now.setting.now) }
 {
     laws::one_reading();
     laws::comparison();
-    let alloc = basis.alloc;
-    let lookup = basis.lookup;
+    let alloc = context.alloc;
+    let lookup = context.lookup;
     let krates = in_order(kids_at(alloc, &lookup.ids.nodes, found.krates.numbers())?)?;
     let of_nodes = numbers_of(alloc, &krates, &lookup.ids.nodes)?;
     let numbers = KeptNumbers {
         krates: &krates,
         of_nodes: &of_nodes,
     };
-    let edges = kept_edges(basis, &numbers, &found.edges)?;
+    let edges = kept_edges(context, &numbers, &found.edges)?;
     let features = kept_features(alloc, lookup, &numbers, found.features.numbers())?;
     let toggled = kept_toggled(alloc, lookup, &numbers, &found.toggled)?;
     Ok(Selection {
@@ -128,7 +128,7 @@ fn selection_of<'a>(
 }
 
 /// The steps by which all was found, in no more room than they need, since they are kept as long as the graph.
-fn trace_of(found: Found<'_>) -> Vec<NumberedStep>
+fn trace_of(found: SearchState<'_>) -> Vec<NumberedStep>
     ensures { result.items ≡ found.entry.trace.items }
 {
     let mut steps = found.trace;

@@ -1,28 +1,28 @@
 //! All that is kept of a document.
 
 ghost use Rattle.krates_resolve.specs.Progress.{HasCounted, HasDone, TakesOne};
-ghost use Rattle.krates_questions.specs.Basis.{Refuses};
+ghost use Rattle.krates_questions.specs.Context.{Refuses};
 ghost use Rattle.std.specs.Prelude.{◌≡◌, IfErr, IfOk, OnOk};
 ghost use Rattle.krates_resolve.specs.Counting.{HasCountedAll};
 ghost use Rattle.krates_selection.specs.Work.{IsFresh};
-ghost use Rattle.krates_search.specs.Found.{IsSound};
+ghost use Rattle.krates_search.specs.SearchState.{IsSound};
 ghost use Rattle.krates_resolve.specs.Saturation.{HasExactly};
 ghost use Rattle.krates_questions.specs.Lookup.{IsLookup, resolved_view};
 ghost use Rattle.krates_rules.specs.NamedIds.{NamesIdsOf};
 ghost use Rattle.krates_rules.specs.Questions.{questions};
 ghost use Rattle.krates_rules.specs.SelectionRefusals.{SelectionRefusal};
 
-use crate::heeding::heed;
+use crate::references::follow_references;
 use crate::roots::put_roots;
 use krates_document::setting::Setting;
 use krates_graph::agenda::Agenda;
 use krates_ids::Error;
-use krates_questions::basis::Basis;
+use krates_questions::context::Context;
 use krates_questions::lookup::Lookup;
 use krates_questions::standing::exclusions_of;
 use krates_search::expansion::expand;
-use krates_search::found::Found;
 use krates_search::links::links_of;
+use krates_search::search_state::SearchState;
 use krates_selection::work::Work;
 use std::alloc::{AllocError, Global};
 
@@ -36,7 +36,7 @@ pub(crate) fn saturate<'a>(
     lookup: &Lookup<'a>,
     setting: &Setting,
     work: &mut Work,
-) -> Result<Found<'a>, Error>
+) -> Result<SearchState<'a>, Error>
     requires lookup { IsLookup lookup.now }
     requires fresh { IsFresh work.old }
     ensures exact { IfOk result (HasExactly (resolved_view lookup.now) setting.now) }
@@ -47,13 +47,13 @@ pub(crate) fn saturate<'a>(
     ensures named { IfErr result (NamesIdsOf (resolved_view lookup.now)) }
 {
     let mut found = nothing_found(alloc, lookup, setting)?;
-    let basis = Basis {
+    let context = Context {
         alloc,
         lookup,
         setting,
     };
-    put_roots(&basis, &mut found)?;
-    while take_next(&basis, &mut found, work)? {}
+    put_roots(&context, &mut found)?;
+    while take_next(&context, &mut found, work)? {}
     Ok(found)
 }
 
@@ -62,7 +62,7 @@ fn nothing_found<'a>(
     alloc: Global,
     lookup: &Lookup<'a>,
     setting: &Setting,
-) -> Result<Found<'a>, AllocError>
+) -> Result<SearchState<'a>, AllocError>
     requires { IsLookup lookup.now }
     ensures sound { IfOk result (IsSound (resolved_view lookup.now) setting.now) }
     ensures krates { IfOk result (λ found. found.krates.taken ≡ 0) }
@@ -72,7 +72,7 @@ fn nothing_found<'a>(
     let features = Agenda::new(alloc, lookup.features.listed.len())?;
     let links = links_of(alloc, lookup)?;
     let excluded = exclusions_of(alloc, &lookup.metadata.packages, setting)?;
-    Ok(Found {
+    Ok(SearchState {
         krates,
         features,
         edges: Vec::new(alloc),
@@ -88,20 +88,20 @@ fn nothing_found<'a>(
 /// Takes the next crate and expands it, or else the next feature and follows its references, and counts that. Answers whether
 /// there was one.
 fn take_next<'a>(
-    basis: &Basis<'a, '_>,
-    found: &mut Found<'a>,
+    context: &Context<'a, '_>,
+    found: &mut SearchState<'a>,
     work: &mut Work,
 ) -> Result<bool, Error>
-    requires lookup { IsLookup basis.now.lookup.now }
-    requires done { HasDone basis.now found.old }
-    requires counted { HasCounted basis.now found.old work.old }
-    ensures taken { IfOk result (λ more. TakesOne basis.now found.old found.new more) }
-    ensures counted { OnOk result (HasCounted basis.now found.new work.new) }
-    ensures refused { IfErr result (Refuses basis.now) }
+    requires lookup { IsLookup context.now.lookup.now }
+    requires done { HasDone context.now found.old }
+    requires counted { HasCounted context.now found.old work.old }
+    ensures taken { IfOk result (λ more. TakesOne context.now found.old found.new more) }
+    ensures counted { OnOk result (HasCounted context.now found.new work.new) }
+    ensures refused { IfErr result (Refuses context.now) }
 {
     if let Some(taken) = found.krates.take() {
         let step = found.krate_steps[found.krates.taken() - 1];
-        expand(basis, taken, step, found)?;
+        expand(context, taken, step, found)?;
         work.count_krate();
         return Ok(true);
     }
@@ -109,7 +109,7 @@ fn take_next<'a>(
         return Ok(false);
     };
     let step = found.feature_steps[found.features.taken() - 1];
-    let references = heed(basis, taken, step, found)?;
+    let references = follow_references(context, taken, step, found)?;
     work.count_feature(references);
     Ok(true)
 }

@@ -11,7 +11,7 @@ use Rattle.krates_rules.specs.Admission.{NoneDoubled}
 use Rattle.krates_rules.specs.DeclaredDependency.{dependency_entry, FirstAt, IsDeclared}
 use Rattle.krates_rules.specs.Derivation.{Derivable}
 use Rattle.krates_rules.specs.Facts.{Id, Edge, Fact, Crate, Feature, Kept, Toggled, Lost}
-use Rattle.krates_search.specs.Found.{HasFound, HasUsed, IsAny, IsUsed, IsSound, Grows, Advances}
+use Rattle.krates_search.specs.SearchState.{HasFound, HasUsed, IsAny, IsUsed, IsSound, Grows, Advances}
 use Rattle.krates_rules.specs.Resolved.{DepAt, NodeAt, Resolved, id_of}
 use Rattle.krates_search.specs.Links.{IsMarked}
 use Rattle.krates_questions.specs.NodeEntry.{IsEntry, parent_of, child_of, declared_in, entry_of, edge_for}
@@ -19,7 +19,7 @@ use Rattle.krates_rules.specs.Questions.{IsDeclaredAt, IsWanted, kind_info_of, q
 use Rattle.krates_search.specs.FoundEdge.{found_view, IsFoundEdge}
 use Rattle.krates_rules.specs.Setting.{SettingModel}
 use Rattle.krates_selection.specs.Trace.{HasSomeStep}
-use Rattle.krates_search.specs.declared.found.Found.{Found}
+use Rattle.krates_search.specs.declared.search_state.SearchState.{SearchState}
 use Rattle.krates_search.specs.declared.links.Links.{Links}
 use Rattle.krates_questions.specs.declared.node_entry.NodeEntry.{NodeEntry}
 use Rattle.krates_search.specs.declared.found_edge.FoundEdge.{FoundEdge}
@@ -31,10 +31,10 @@ use Rattle.krates_rules.proofs.OnlyOne.{one_dep}
 use Rattle.krates_questions.proofs.DepPlaces.{one_dep_place}
 use Rattle.krates_search.proofs.Waking.{wanted_once}
 
-abbrev WithEdges : Found → Vec FoundEdge → Found
+abbrev WithEdges : SearchState → Vec FoundEdge → SearchState
 WithEdges x v = record x { edges = v }
 
-edge_found : (r : Resolved) (x : Found) (v : Vec FoundEdge) (e : FoundEdge) (f : Fact) → v.items ≡ x.edges.items ++ e ∷ [] → HasFound r x f → HasFound r (WithEdges x v) f
+edge_found : (r : Resolved) (x : SearchState) (v : Vec FoundEdge) (e : FoundEdge) (f : Fact) → v.items ≡ x.edges.items ++ e ∷ [] → HasFound r x f → HasFound r (WithEdges x v) f
 edge_found r x v e (Kept y) more h = seen_still found_view x.edges.items v.items e y more h
 edge_found r x v e (Crate i) more h = h
 edge_found r x v e (Feature i g) more h = h
@@ -42,7 +42,7 @@ edge_found r x v e (Toggled i j g) more h = h
 edge_found r x v e (Lost c) more h = h
 
 -- what holds of each fact found before, and of the edge that is added, holds of each fact found now
-edge_each : (P : Fact → Type 0) → (r : Resolved) (x : Found) (v : Vec FoundEdge) (e : FoundEdge) (f : Fact) → ((g : Fact) → HasFound r x g → P g) → v.items ≡ x.edges.items ++ e ∷ [] → P (Kept (found_view e)) → HasFound r (WithEdges x v) f → P f
+edge_each : (P : Fact → Type 0) → (r : Resolved) (x : SearchState) (v : Vec FoundEdge) (e : FoundEdge) (f : Fact) → ((g : Fact) → HasFound r x g → P g) → v.items ≡ x.edges.items ++ e ∷ [] → P (Kept (found_view e)) → HasFound r (WithEdges x v) f → P f
 edge_each P r x v e (Kept y) old more d h = elim (seen_from found_view x.edges.items v.items e y more h) [
   | inl o ↦ old (Kept y) o
   | inr is ↦ subst (λ (z : Edge). P (Kept z)) is d
@@ -53,7 +53,7 @@ edge_each P r x v e (Toggled i j g) old more d h = old (Toggled i j g) h
 edge_each P r x v e (Lost c) old more d h = absurd h
 
 -- what holds of each old edge, and of the edge that is added, holds of each new one
-each_edge : (x : Found) (v : Vec FoundEdge) (e : FoundEdge) (P : Edge → Type 0) → v.items ≡ x.edges.items ++ e ∷ [] → ((y : Edge) → Contains (map found_view x.edges.items) y → P y) → P (found_view e)
+each_edge : (x : SearchState) (v : Vec FoundEdge) (e : FoundEdge) (P : Edge → Type 0) → v.items ≡ x.edges.items ++ e ∷ [] → ((y : Edge) → Contains (map found_view x.edges.items) y → P y) → P (found_view e)
     → (y : Edge) → Contains (map found_view v.items) y → P y
 each_edge x v e P more old here y h = elim (seen_from found_view x.edges.items v.items e y more h) [
   | inl o ↦ old y o
@@ -61,11 +61,11 @@ each_edge x v e P more old here y h = elim (seen_from found_view x.edges.items v
 ]
 
 -- the edge that is added
-pub edge_kept : (x : Found) (v : Vec FoundEdge) (e : FoundEdge) (edge : Edge) → v.items ≡ x.edges.items ++ e ∷ [] → found_view e ≡ edge → Contains (map found_view v.items) edge
+pub edge_kept : (x : SearchState) (v : Vec FoundEdge) (e : FoundEdge) (edge : Edge) → v.items ≡ x.edges.items ++ e ∷ [] → found_view e ≡ edge → Contains (map found_view v.items) edge
 edge_kept x v e edge more is = subst (Contains (map found_view v.items)) is (seen_there found_view x.edges.items v.items e more)
 
 -- an edge whose child is kept with all that the edge needs, and whose dependency is marked
-pub edge_advances : (r : Resolved) (s : SettingModel) (x : Found) (v : Vec FoundEdge) (e : FoundEdge) (edge : Edge) → IsSound r s x → v.items ≡ x.edges.items ++ e ∷ [] → found_view e ≡ edge → IsFoundEdge r s e
+pub edge_advances : (r : Resolved) (s : SettingModel) (x : SearchState) (v : Vec FoundEdge) (e : FoundEdge) (edge : Edge) → IsSound r s x → v.items ≡ x.edges.items ++ e ∷ [] → found_view e ≡ edge → IsFoundEdge r s e
     → HasFound r x (Crate edge.child) → IsUsed r s x edge → ((place index : ℕ) → DepAt r edge.parent edge.child place index → IsMarked x.links place index) → Derivable (questions r s) (Kept edge)
     → HasSomeStep r x.trace.items (Kept edge) → Advances r s x (record x { edges = v }) × HasFound r (record x { edges = v }) (Kept edge)
 edge_advances r s x v e edge sound more is placed reached used marked d step =
@@ -144,7 +144,7 @@ pub declared_within : (ds : List Dependency) (place : ℕ) (d : DependencyModel)
 declared_within ds place d at = (seen_at dependency_view ds place d at).1
 
 -- an edge that is wanted as only one dependency is used as that one
-pub used_once : (r : Resolved) (s : SettingModel) (f : Found) (e : Edge) (d : DependencyModel) → NoneDoubled r.metadata r.graph → IsWanted r s e d → HasUsed r f d e.child → IsUsed r s f e
+pub used_once : (r : Resolved) (s : SettingModel) (f : SearchState) (e : Edge) (d : DependencyModel) → NoneDoubled r.metadata r.graph → IsWanted r s e d → HasUsed r f d e.child → IsUsed r s f e
 used_once r s f e d none w used b v = subst (λ (y : DependencyModel). HasUsed r f y e.child) (wanted_once r s e d b none w v) used
 
 -- the mark of an entry is the mark of the dependency between its crates

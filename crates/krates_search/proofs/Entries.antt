@@ -5,12 +5,12 @@ use Rattle.krates_rules.specs.Admission.{NoneDoubled}
 use Rattle.krates_rules.specs.DeclaredDependency.{IsDeclared}
 use Rattle.krates_rules.specs.Derivation.{Derivable, follows, Among}
 use Rattle.krates_rules.specs.Facts.{Edge, Fact, LostPackage, LostNode, Undeclared, Crate, Kept, Lost}
-use Rattle.krates_search.specs.Found.{HasFound, IsTried, MayTry, IsRequired, TakenWhen}
+use Rattle.krates_search.specs.SearchState.{HasFound, IsTried, MayTry, IsRequired, TakenWhen}
 use Rattle.krates_questions.specs.NodeEntry.{child_of, declared_in, entry_of, IsEntry, edge_for}
 use Rattle.krates_rules.specs.Questions.{Stands, LacksNode, IsWanted, IsLoose, questions, IsLeftOut}
 use Rattle.krates_rules.specs.Resolved.{Resolved, NoPackage}
 use Rattle.krates_rules.specs.Rules.{Questions, required, target, lost_undeclared, lost_required_package, lost_required_node}
-use Rattle.krates_search.specs.declared.found.Found.{Found}
+use Rattle.krates_search.specs.declared.search_state.SearchState.{SearchState}
 use Rattle.krates_questions.specs.declared.node_entry.NodeEntry.{NodeEntry}
 use Rattle.krates_rules.specs.Setting.{SettingModel, IsIgnored, Passes}
 use Rattle.krates_rules.proofs.Standings.{not_included}
@@ -24,7 +24,7 @@ taken_here true d h = tt
 taken_here false d (inl e) = absurd cc
 taken_here false d (inr e) = e
 
-pub ignored_tried : (r : Resolved) (s : SettingModel) (f : Found) (e : Edge) (taken : DependencyModel → Type 0) → IsIgnored r s e → IsTried r s f e taken
+pub ignored_tried : (r : Resolved) (s : SettingModel) (f : SearchState) (e : Edge) (taken : DependencyModel → Type 0) → IsIgnored r s e → IsTried r s f e taken
 ignored_tried r s f e taken ignored = record {
   kept = λ d w is_taken stands. absurd (w.declared.not_ignored ignored);
   declared = λ loose. loose.not_ignored ignored;
@@ -32,7 +32,7 @@ ignored_tried r s f e taken ignored = record {
   has_node = λ d w is_taken lost. w.declared.not_ignored ignored;
 }
 
-pub barred_tried : (r : Resolved) (s : SettingModel) (f : Found) (x : NodeEntry) (k : DepKindInfoModel) (taken : DependencyModel → Type 0) (place : ℕ) (d : DependencyModel) → NoneDoubled r.metadata r.graph → IsEntry r x
+pub barred_tried : (r : Resolved) (s : SettingModel) (f : SearchState) (x : NodeEntry) (k : DepKindInfoModel) (taken : DependencyModel → Type 0) (place : ℕ) (d : DependencyModel) → NoneDoubled r.metadata r.graph → IsEntry r x
     → IsDeclared (declared_in x) (entry_of x) k place d → (Passes s k.target → ⊥) → IsTried r s f (edge_for x k) taken
 barred_tried r s f x k taken place d none h first barred = record {
   kept = λ e w is_taken stands. absurd (barred w.passes);
@@ -41,7 +41,7 @@ barred_tried r s f x k taken place d none h first barred = record {
   has_node = λ e w is_taken lost. barred w.passes;
 }
 
-pub left_out_tried : (r : Resolved) (s : SettingModel) (f : Found) (x : NodeEntry) (k : DepKindInfoModel) (taken : DependencyModel → Type 0) (place : ℕ) (d : DependencyModel) → NoneDoubled r.metadata r.graph → IsEntry r x
+pub left_out_tried : (r : Resolved) (s : SettingModel) (f : SearchState) (x : NodeEntry) (k : DepKindInfoModel) (taken : DependencyModel → Type 0) (place : ℕ) (d : DependencyModel) → NoneDoubled r.metadata r.graph → IsEntry r x
     → IsDeclared (declared_in x) (entry_of x) k place d → IsLeftOut r s (child_of x) → IsTried r s f (edge_for x k) taken
 left_out_tried r s f x k taken place d none h first out = record {
   kept = λ e w is_taken stands. absurd (not_included r s (child_of x) none out stands.included);
@@ -51,7 +51,7 @@ left_out_tried r s f x k taken place d none h first out = record {
 }
 
 -- an optional dependency that isn't asked for
-pub optional_tried : (r : Resolved) (s : SettingModel) (f : Found) (x : NodeEntry) (k : DepKindInfoModel) (asked : Bool) (place : ℕ) (d : DependencyModel) → NoneDoubled r.metadata r.graph → IsEntry r x
+pub optional_tried : (r : Resolved) (s : SettingModel) (f : SearchState) (x : NodeEntry) (k : DepKindInfoModel) (asked : Bool) (place : ℕ) (d : DependencyModel) → NoneDoubled r.metadata r.graph → IsEntry r x
     → IsDeclared (declared_in x) (entry_of x) k place d → asked ≡ false → d.optional ≡ true → IsTried r s f (edge_for x k) (TakenWhen asked)
 optional_tried r s f x k true place d none h first not_asked is_optional = absurd cc
 optional_tried r s f x k false place d none h first not_asked is_optional =
@@ -63,7 +63,7 @@ optional_tried r s f x k false place d none h first not_asked is_optional =
       has_node = λ e w is_required lost. never e w is_required;
     }
 
-pub kept_tried : (r : Resolved) (s : SettingModel) (f : Found) (x : NodeEntry) (k : DepKindInfoModel) (taken : DependencyModel → Type 0) (place : ℕ) (d : DependencyModel) → NoneDoubled r.metadata r.graph → IsEntry r x
+pub kept_tried : (r : Resolved) (s : SettingModel) (f : SearchState) (x : NodeEntry) (k : DepKindInfoModel) (taken : DependencyModel → Type 0) (place : ℕ) (d : DependencyModel) → NoneDoubled r.metadata r.graph → IsEntry r x
     → IsDeclared (declared_in x) (entry_of x) k place d → Stands r s (child_of x) → HasFound r f (Kept (edge_for x k)) → IsTried r s f (edge_for x k) taken
 kept_tried r s f x k taken place d none h first stands found = record {
   kept = λ e w is_taken there. found;

@@ -3,18 +3,18 @@ use Rattle.std.proofs.Common.{◌≡◌, subst}
 use Rattle.krates_cm.specs.Document.{node_dep_view}
 use Rattle.krates_rules.specs.Admission.{NoneDoubled}
 use Rattle.krates_rules.specs.Facts.{Id, Edge}
-use Rattle.krates_search.specs.Found.{AreTried, IsTried, IsAny}
+use Rattle.krates_search.specs.SearchState.{AreTried, IsTried, IsAny}
 use Rattle.krates_rules.specs.Resolved.{DepAt, Resolved, HasNode, HasDep}
 use Rattle.krates_questions.specs.NodeEntry.{IsEntry, parent_of, child_of}
 use Rattle.krates_rules.specs.Setting.{SettingModel}
-use Rattle.krates_search.specs.declared.found.Found.{Found}
+use Rattle.krates_search.specs.declared.search_state.SearchState.{SearchState}
 use Rattle.krates_questions.specs.declared.node_entry.NodeEntry.{NodeEntry}
 use Rattle.krates_rules.proofs.Readings.{ReadsOnce}
 use Rattle.krates_search.proofs.TriedParts.{between_tried}
 use Rattle.krates_selection.proofs.Steps.{one_way}
 
 -- each edge of the entry's dependency has been tried
-pub entry_tried : (r : Resolved) (s : SettingModel) (x : Found) (y : NodeEntry) (e : Edge) → NoneDoubled r.metadata r.graph → IsEntry r y → parent_of y ≡ e.parent → child_of y ≡ e.child
+pub entry_tried : (r : Resolved) (s : SettingModel) (x : SearchState) (y : NodeEntry) (e : Edge) → NoneDoubled r.metadata r.graph → IsEntry r y → parent_of y ≡ e.parent → child_of y ≡ e.child
     → AreTried r s x (parent_of y) (child_of y) (node_dep_view y.dep.now) IsAny → IsTried r s x e IsAny
 entry_tried r s x y e none at parent child tried =
     let dep = node_dep_view y.dep.now in
@@ -24,7 +24,7 @@ entry_tried r s x y e none at parent child tried =
     between_tried r s x e at.node dep IsAny none has_node has_dep each
 
 -- so each edge at the entry's places has been
-pub noted_tried : ReadsOnce → (r : Resolved) (s : SettingModel) (x : Found) (y : NodeEntry) → NoneDoubled r.metadata r.graph → IsEntry r y → AreTried r s x (parent_of y) (child_of y) (node_dep_view y.dep.now) IsAny
+pub noted_tried : ReadsOnce → (r : Resolved) (s : SettingModel) (x : SearchState) (y : NodeEntry) → NoneDoubled r.metadata r.graph → IsEntry r y → AreTried r s x (parent_of y) (child_of y) (node_dep_view y.dep.now) IsAny
     → (e : Edge) → DepAt r e.parent e.child y.place y.index → IsTried r s x e IsAny
 noted_tried once r s x y none is tried e there =
     let same = one_way once r (parent_of y) (child_of y) e.parent e.child y.place y.index is.at there in

@@ -6,7 +6,7 @@ use Rattle.krates_cm.specs.Document.{Text, NodeModel, text_view}
 use Rattle.krates_ids.specs.Identity.{Identity, Reads}
 use Rattle.krates_rules.specs.Facts.{Id, Fact, Feature}
 use Rattle.krates_questions.specs.FeatureTable.{listed_view}
-use Rattle.krates_search.specs.Found.{IsEnabled}
+use Rattle.krates_search.specs.SearchState.{IsEnabled}
 use Rattle.krates_questions.specs.ListedFeatures.{listed_features}
 use Rattle.krates_rules.specs.Resolved.{NodeAt, Resolved, id_of}
 use Rattle.krates_questions.specs.Lookup.{IsLookup, resolved_view}

@@ -2,8 +2,8 @@
 use Rattle.std.proofs.Common.{◌≡◌, ℕ, List, [], ◌∷◌, Contains, sym, subst, true, false}
 use Rattle.krates_cm.specs.Document.{DependencyModel, DepKindInfoModel, Text}
 use Rattle.krates_search.proofs.Waking.{as_declared}
-use Rattle.krates_search.specs.Found.{IsAskingStep}
-use Rattle.krates_search.specs.Heeding.{IsReferringStep, IsRequestStep}
+use Rattle.krates_search.specs.SearchState.{IsAskingStep}
+use Rattle.krates_search.specs.References.{IsReferringStep, IsRequestStep}
 use Rattle.krates_selection.specs.Trace.{HasStep, MayFind, by_nothing, by_one, by_two}
 use Rattle.krates_selection.specs.declared.trace.NumberedStep.{NumberedStep}
 use Rattle.krates_selection.specs.declared.trace.Reason.{Reason}

@@ -9,14 +9,14 @@ use Rattle.krates_cm.specs.Document.{Text, DependencyModel, DepKindInfoModel}
 use Rattle.krates_graph.specs.Agenda.{PutNumbers}
 use Rattle.krates_rules.specs.Derivation.{Derivable}
 use Rattle.krates_rules.specs.Facts.{Id, Edge, Fact, Crate, Feature, Kept, Toggled, Lost}
-use Rattle.krates_search.specs.Found.{HasFound, HasUsed, IsAny, IsEnabledBySome, IsToggledIn, IsTried, IsAskedWeakly, IsAskingStep, IsEdgeStep, IsFeatureStep, IsKrateStep, IsSound, Grows, Advances, HasPut, before, now}
+use Rattle.krates_search.specs.SearchState.{HasFound, HasUsed, IsAny, IsEnabledBySome, IsToggledIn, IsTried, IsAskedWeakly, IsAskingStep, IsEdgeStep, IsFeatureStep, IsKrateStep, IsSound, Grows, Advances, HasPut, before, now}
 use Rattle.krates_rules.specs.Resolved.{DepAt, NodeAt, Resolved}
 use Rattle.krates_search.specs.Links.{IsMarked, IsMarkedBy, IsWaiter, NotesAsked, Waits, HasMarked, HasWaiter}
 use Rattle.krates_rules.specs.Questions.{edge_between, questions}
 use Rattle.krates_questions.specs.Numbering.{FeatureAt, IsOwn}
 use Rattle.krates_search.specs.FoundToggle.{IsFoundToggle, found_toggled}
 use Rattle.krates_rules.specs.Setting.{SettingModel}
-use Rattle.krates_search.specs.declared.found.Found.{Found}
+use Rattle.krates_search.specs.declared.search_state.SearchState.{SearchState}
 use Rattle.krates_selection.specs.Trace.{HasSomeStep, HasStep, IsTrace, MayFind, Names}
 use Rattle.krates_search.specs.declared.links.Links.{Links}
 use Rattle.krates_search.specs.declared.links.Waiting.{Waiting}
@@ -56,10 +56,10 @@ has_put old new place false c a u = before c u
 
 -- ---- one more crate
 
-abbrev WithKrates : Found → PutNumbers → Vec ℕ → Found
+abbrev WithKrates : SearchState → PutNumbers → Vec ℕ → SearchState
 WithKrates x a v = record x { krates = a; krate_steps = v }
 
-crate_found : (r : Resolved) (x : Found) (a : PutNumbers) (v : Vec ℕ) (place : ℕ) (f : Fact) → HasPut x.krates a place → HasFound r x f → HasFound r (WithKrates x a v) f
+crate_found : (r : Resolved) (x : SearchState) (a : PutNumbers) (v : Vec ℕ) (place : ℕ) (f : Fact) → HasPut x.krates a place → HasFound r x f → HasFound r (WithKrates x a v) f
 crate_found r x a v place (Crate i) p h = record { place = h.place; among = put_keeps x.krates a place h.place p h.among; node = h.node }
 crate_found r x a v place (Kept e) p h = h
 crate_found r x a v place (Feature i g) p h = h
@@ -67,7 +67,7 @@ crate_found r x a v place (Toggled i j g) p h = h
 crate_found r x a v place (Lost c) p h = h
 
 -- what holds of each fact found before, and of the crate that is put, holds of each fact found now
-crate_each : (P : Fact → Type 0) → ReadsOnce → (r : Resolved) (x : Found) (a : PutNumbers) (v : Vec ℕ) (place : ℕ) (i : Id) (f : Fact) → ((g : Fact) → HasFound r x g → P g) → HasPut x.krates a place → NodeAt r i place
+crate_each : (P : Fact → Type 0) → ReadsOnce → (r : Resolved) (x : SearchState) (a : PutNumbers) (v : Vec ℕ) (place : ℕ) (i : Id) (f : Fact) → ((g : Fact) → HasFound r x g → P g) → HasPut x.krates a place → NodeAt r i place
     → P (Crate i) → HasFound r (WithKrates x a v) f → P f
 crate_each P once r x a v place i (Crate j) old p n d h = elim (put_from x.krates a place h.place p h.among) [
   | inl c ↦ old (Crate j) (record { place = h.place; among = c; node = h.node })
@@ -78,7 +78,7 @@ crate_each P once r x a v place i (Feature j g) old p n d h = old (Feature j g) 
 crate_each P once r x a v place i (Toggled j k g) old p n d h = old (Toggled j k g) h
 crate_each P once r x a v place i (Lost c) old p n d h = absurd h
 
-crate_grows : (r : Resolved) (x : Found) (a : PutNumbers) (v : Vec ℕ) (place : ℕ) → HasPut x.krates a place → Grows r x (WithKrates x a v)
+crate_grows : (r : Resolved) (x : SearchState) (a : PutNumbers) (v : Vec ℕ) (place : ℕ) → HasPut x.krates a place → Grows r x (WithKrates x a v)
 crate_grows r x a v place p = record {
   found = λ f h. crate_found r x a v place f p h;
   steps = λ n f h. h;
@@ -90,7 +90,7 @@ crate_grows r x a v place p = record {
 }
 
 -- the crate of a node is put, with its step
-pub crate_advances : ReadsOnce → (r : Resolved) (s : SettingModel) (x : Found) (a : PutNumbers) (v : Vec ℕ) (place n : ℕ) (i : Id) → IsSound r s x → a ≡ record x.krates { put = x.krates.put ++ place ∷ [] } → v.items ≡ x.krate_steps.items ++ n ∷ []
+pub crate_advances : ReadsOnce → (r : Resolved) (s : SettingModel) (x : SearchState) (a : PutNumbers) (v : Vec ℕ) (place n : ℕ) (i : Id) → IsSound r s x → a ≡ record x.krates { put = x.krates.put ++ place ∷ [] } → v.items ≡ x.krate_steps.items ++ n ∷ []
     → NodeAt r i place → HasStep r x.trace.items n (Crate i) → Advances r s x (record x { krates = a; krate_steps = v })
 crate_advances once r s x a v place n i sound is more at step =
     let p : HasPut x.krates a place = now is in
@@ -132,10 +132,10 @@ crate_advances once r s x a v place n i sound is more at step =
 
 -- ---- one more feature
 
-abbrev WithFeatures : Found → PutNumbers → Vec ℕ → Found
+abbrev WithFeatures : SearchState → PutNumbers → Vec ℕ → SearchState
 WithFeatures x a v = record x { features = a; feature_steps = v }
 
-feature_found : (r : Resolved) (x : Found) (a : PutNumbers) (v : Vec ℕ) (number : ℕ) (f : Fact) → HasPut x.features a number → HasFound r x f → HasFound r (WithFeatures x a v) f
+feature_found : (r : Resolved) (x : SearchState) (a : PutNumbers) (v : Vec ℕ) (number : ℕ) (f : Fact) → HasPut x.features a number → HasFound r x f → HasFound r (WithFeatures x a v) f
 feature_found r x a v number (Feature i g) p h = record { number = h.number; among = put_keeps x.features a number h.number p h.among; at = h.at }
 feature_found r x a v number (Crate i) p h = h
 feature_found r x a v number (Kept e) p h = h
@@ -143,7 +143,7 @@ feature_found r x a v number (Toggled i j g) p h = h
 feature_found r x a v number (Lost c) p h = h
 
 -- a feature now is one from before, or the one that is put
-feature_from : ReadsOnce → (r : Resolved) (x : Found) (a : PutNumbers) (v : Vec ℕ) (number : ℕ) (i j : Id) (f g : Text) → HasPut x.features a number → FeatureAt r i f number
+feature_from : ReadsOnce → (r : Resolved) (x : SearchState) (a : PutNumbers) (v : Vec ℕ) (number : ℕ) (i j : Id) (f g : Text) → HasPut x.features a number → FeatureAt r i f number
     → HasFound r (WithFeatures x a v) (Feature j g) → HasFound r x (Feature j g) ⊎ ((i ≡ j) × (f ≡ g))
 feature_from once r x a v number i j f g p at h = elim (put_from x.features a number h.number p h.among) [
   | inl c ↦ inl (record { number = h.number; among = c; at = h.at })
@@ -151,7 +151,7 @@ feature_from once r x a v number i j f g p at h = elim (put_from x.features a nu
 ]
 
 -- what holds of each fact found before, and of the feature that is put, holds of each fact found now
-feature_each : (P : Fact → Type 0) → ReadsOnce → (r : Resolved) (x : Found) (a : PutNumbers) (v : Vec ℕ) (number : ℕ) (i : Id) (f : Text) (y : Fact) → ((g : Fact) → HasFound r x g → P g) → HasPut x.features a number → FeatureAt r i f number
+feature_each : (P : Fact → Type 0) → ReadsOnce → (r : Resolved) (x : SearchState) (a : PutNumbers) (v : Vec ℕ) (number : ℕ) (i : Id) (f : Text) (y : Fact) → ((g : Fact) → HasFound r x g → P g) → HasPut x.features a number → FeatureAt r i f number
     → P (Feature i f) → HasFound r (WithFeatures x a v) y → P y
 feature_each P once r x a v number i f (Feature j g) old p at d h = elim (feature_from once r x a v number i j f g p at h) [
   | inl o ↦ old (Feature j g) o
@@ -162,7 +162,7 @@ feature_each P once r x a v number i f (Kept e) old p at d h = old (Kept e) h
 feature_each P once r x a v number i f (Toggled j k g) old p at d h = old (Toggled j k g) h
 feature_each P once r x a v number i f (Lost c) old p at d h = absurd h
 
-feature_grows : (r : Resolved) (x : Found) (a : PutNumbers) (v : Vec ℕ) (number : ℕ) → HasPut x.features a number → Grows r x (WithFeatures x a v)
+feature_grows : (r : Resolved) (x : SearchState) (a : PutNumbers) (v : Vec ℕ) (number : ℕ) → HasPut x.features a number → Grows r x (WithFeatures x a v)
 feature_grows r x a v number p = record {
   found = λ f h. feature_found r x a v number f p h;
   steps = λ n f h. h;
@@ -174,7 +174,7 @@ feature_grows r x a v number p = record {
 }
 
 -- the feature of a kept crate is put, with its step
-pub feature_advances : ReadsOnce → (r : Resolved) (s : SettingModel) (x : Found) (a : PutNumbers) (v : Vec ℕ) (number n : ℕ) (i : Id) (f : Text) → IsSound r s x → a ≡ record x.features { put = x.features.put ++ number ∷ [] }
+pub feature_advances : ReadsOnce → (r : Resolved) (s : SettingModel) (x : SearchState) (a : PutNumbers) (v : Vec ℕ) (number n : ℕ) (i : Id) (f : Text) → IsSound r s x → a ≡ record x.features { put = x.features.put ++ number ∷ [] }
     → v.items ≡ x.feature_steps.items ++ n ∷ [] → FeatureAt r i f number → IsOwn r number → HasFound r x (Crate i) → HasStep r x.trace.items n (Feature i f) → Advances r s x (record x { features = a; feature_steps = v })
 feature_advances once r s x a v number n i f sound is more at own kept step =
     let p : HasPut x.features a number = now is in
@@ -234,10 +234,10 @@ seen_still f xs ys x y more h = subst (λ zs. Contains zs y) (sym (ap (map f) mo
 pub seen_there : {A B : Type 0} (f : A → B) (xs ys : List A) (x : A) → ys ≡ xs ++ x ∷ [] → Contains (map f ys) (f x)
 seen_there f xs ys x more = subst (λ zs. Contains zs (f x)) (sym (ap (map f) more ∙ map-append f xs (x ∷ []))) (Contains-push (map f xs) (f x))
 
-abbrev WithToggled : Found → Vec FoundToggle → Found
+abbrev WithToggled : SearchState → Vec FoundToggle → SearchState
 WithToggled x v = record x { toggled = v }
 
-toggled_found : (r : Resolved) (x : Found) (v : Vec FoundToggle) (t : FoundToggle) (f : Fact) → v.items ≡ x.toggled.items ++ t ∷ [] → HasFound r x f → HasFound r (WithToggled x v) f
+toggled_found : (r : Resolved) (x : SearchState) (v : Vec FoundToggle) (t : FoundToggle) (f : Fact) → v.items ≡ x.toggled.items ++ t ∷ [] → HasFound r x f → HasFound r (WithToggled x v) f
 toggled_found r x v t (Toggled i j g) more h = seen_still found_toggled x.toggled.items v.items t (Toggled i j g) more h
 toggled_found r x v t (Crate i) more h = h
 toggled_found r x v t (Kept e) more h = h
@@ -245,7 +245,7 @@ toggled_found r x v t (Feature i g) more h = h
 toggled_found r x v t (Lost c) more h = h
 
 -- what holds of each fact found before, and of the toggled feature that is added, holds of each fact found now
-toggled_each : (P : Fact → Type 0) → (r : Resolved) (x : Found) (v : Vec FoundToggle) (t : FoundToggle) (f : Fact) → ((g : Fact) → HasFound r x g → P g) → v.items ≡ x.toggled.items ++ t ∷ [] → P (found_toggled t)
+toggled_each : (P : Fact → Type 0) → (r : Resolved) (x : SearchState) (v : Vec FoundToggle) (t : FoundToggle) (f : Fact) → ((g : Fact) → HasFound r x g → P g) → v.items ≡ x.toggled.items ++ t ∷ [] → P (found_toggled t)
     → HasFound r (WithToggled x v) f → P f
 toggled_each P r x v t (Toggled i j g) old more d h = elim (seen_from found_toggled x.toggled.items v.items t (Toggled i j g) more h) [
   | inl o ↦ old (Toggled i j g) o
@@ -262,7 +262,7 @@ enabled_by (Toggled i j g) = Feature j g
 enabled_by f = f
 
 -- a toggled feature is added, which is enabled
-pub toggled_advances : (r : Resolved) (s : SettingModel) (x : Found) (v : Vec FoundToggle) (t : FoundToggle) (p c : Id) (g : Text) → IsSound r s x → v.items ≡ x.toggled.items ++ t ∷ [] → found_toggled t ≡ Toggled p c g
+pub toggled_advances : (r : Resolved) (s : SettingModel) (x : SearchState) (v : Vec FoundToggle) (t : FoundToggle) (p c : Id) (g : Text) → IsSound r s x → v.items ≡ x.toggled.items ++ t ∷ [] → found_toggled t ≡ Toggled p c g
     → IsFoundToggle r t → HasFound r x (Feature c g) → Derivable (questions r s) (Toggled p c g) → HasSomeStep r x.trace.items (Toggled p c g) → Advances r s x (record x { toggled = v }) × HasFound r (record x { toggled = v }) (Toggled p c g)
 toggled_advances r s x v t p c g sound more is nodes enabled d step =
     let y = WithToggled x v in
@@ -306,25 +306,25 @@ dep_there : (r : Resolved) (p c : Id) (k i place index : ℕ) → k ≡ place �
 dep_there r p c k i place index a b at = subst (λ (m : ℕ). DepAt r p c m index) a (subst (DepAt r p c k) b at)
 
 -- what was found, with other links
-abbrev pub with_links : Found → Links → Found
+abbrev pub with_links : SearchState → Links → SearchState
 with_links x l =
     record { krates = x.krates; features = x.features; edges = x.edges; toggled = x.toggled; trace = x.trace; krate_steps = x.krate_steps; feature_steps = x.feature_steps; links = l; excluded = x.excluded }
 
-links_found : (r : Resolved) (x : Found) (l : Links) (f : Fact) → HasFound r x f → HasFound r (with_links x l) f
+links_found : (r : Resolved) (x : SearchState) (l : Links) (f : Fact) → HasFound r x f → HasFound r (with_links x l) f
 links_found r x l (Crate i) h = h
 links_found r x l (Kept e) h = h
 links_found r x l (Feature i g) h = h
 links_found r x l (Toggled i j g) h = h
 links_found r x l (Lost c) h = h
 
-links_back : (r : Resolved) (x : Found) (l : Links) (f : Fact) → HasFound r (with_links x l) f → HasFound r x f
+links_back : (r : Resolved) (x : SearchState) (l : Links) (f : Fact) → HasFound r (with_links x l) f → HasFound r x f
 links_back r x l (Crate i) h = h
 links_back r x l (Kept e) h = h
 links_back r x l (Feature i g) h = h
 links_back r x l (Toggled i j g) h = h
 links_back r x l (Lost c) h = h
 
-links_grow : (r : Resolved) (x : Found) (l : Links) → ((k i : ℕ) (w : Waiting) → IsWaiter x.links k i w → IsWaiter l k i w) → Grows r x (with_links x l)
+links_grow : (r : Resolved) (x : SearchState) (l : Links) → ((k i : ℕ) (w : Waiting) → IsWaiter x.links k i w → IsWaiter l k i w) → Grows r x (with_links x l)
 links_grow r x l waits = record { found = links_found r x l; steps = λ n f h. h; waits = λ p c k i g at h. inl (record { waiter = h.waiter; waits = waits k i h.waiter h.waits; named = h.named }); krates = λ k n h. h; features = λ k n h. h; krates_taken = refl; features_taken = refl }
 
 -- a mark of the other links, by the same step
@@ -334,11 +334,11 @@ same_mark a b k i f m = (m.0, f m.0 m.1)
 -- ---- one more step
 
 -- a step that follows is appended
-pub step_advances : ReadsOnce → (r : Resolved) (s : SettingModel) (x : Found) (v : Vec NumberedStep) (step : NumberedStep) (f : Fact) → IsSound r s x → v.items ≡ x.trace.items ++ step ∷ [] → Names r step.fact f
+pub step_advances : ReadsOnce → (r : Resolved) (s : SettingModel) (x : SearchState) (v : Vec NumberedStep) (step : NumberedStep) (f : Fact) → IsSound r s x → v.items ≡ x.trace.items ++ step ∷ [] → Names r step.fact f
     → MayFind r s x.trace.items step.reason f → Advances r s x (record x { trace = v })
 step_advances once r s x v step f sound more names finds =
     let stay : StepsStay r x.trace.items v.items = λ n g h. subst (λ (steps : List NumberedStep). HasStep r steps n g) (sym more) (step_stays r x.trace.items step n g h) in
-    let y : Found = record x { trace = v } in
+    let y : SearchState = record x { trace = v } in
     let grown : Grows r x y = record { found = λ g h. h; steps = stay; waits = λ b k m n z at h. inl h; krates = λ k n h. h; features = λ k n h. h; krates_taken = refl; features_taken = refl } in
     record {
       sound = record {
@@ -381,7 +381,7 @@ put_step_has r trace v step f more names = subst (λ (steps : List NumberedStep)
 -- ---- one more feature that waits
 
 -- the name of a feature that an enabled feature asks for weakly, by its step, through a dependency without a mark
-pub waiter_advances : (r : Resolved) (s : SettingModel) (x : Found) (l : Links) (place index : ℕ) (w : Waiting) → IsSound r s x → HasWaiter x.links l place index w
+pub waiter_advances : (r : Resolved) (s : SettingModel) (x : SearchState) (l : Links) (place index : ℕ) (w : Waiting) → IsSound r s x → HasWaiter x.links l place index w
     → ((p child : Id) → DepAt r p child place index → IsAskedWeakly r s p child w.name.now) → ((p child : Id) → DepAt r p child place index → IsAskingStep r s x.trace.items p child w.name.now w.step)
     → (IsMarked x.links place index → ⊥) → Advances r s x (with_links x l)
 waiter_advances r s x l place index w sound more asked step unmarked =
@@ -431,7 +431,7 @@ waiter_advances r s x l place index w sound more asked step unmarked =
 
 -- ---- the edges by a dependency have been asked for
 
-pub asked_advances : (r : Resolved) (s : SettingModel) (x : Found) (l : Links) (place index : ℕ) → IsSound r s x → NotesAsked x.links l place index
+pub asked_advances : (r : Resolved) (s : SettingModel) (x : SearchState) (l : Links) (place index : ℕ) → IsSound r s x → NotesAsked x.links l place index
     → ((e : Edge) → DepAt r e.parent e.child place index → IsTried r s x e IsAny) → Advances r s x (with_links x l)
 asked_advances r s x l place index sound more now_tried =
     let y = with_links x l in
@@ -475,17 +475,17 @@ asked_advances r s x l place index sound more now_tried =
 
 -- ---- one more mark
 
-named_linked : (r : Resolved) (x : Found) (l : Links) (i : Id) (f : Text) → IsEnabledBySome r x i f → IsEnabledBySome r (with_links x l) i f
+named_linked : (r : Resolved) (x : SearchState) (l : Links) (i : Id) (f : Text) → IsEnabledBySome r x i f → IsEnabledBySome r (with_links x l) i f
 named_linked r x l i f h = record { enabled = h.enabled; listed = h.listed }
 
-used_linked : (r : Resolved) (x : Found) (l : Links) (d : DependencyModel) (c : Id) → HasUsed r x d c → HasUsed r (with_links x l) d c
+used_linked : (r : Resolved) (x : SearchState) (l : Links) (d : DependencyModel) (c : Id) → HasUsed r x d c → HasUsed r (with_links x l) d c
 used_linked r x l d c h = record { declared = λ g among. named_linked r x l c g (h.declared g among); by_default = h.by_default }
 
-tried_linked : (r : Resolved) (s : SettingModel) (x : Found) (l : Links) (e : Edge) (taken : DependencyModel → Type 0) → IsTried r s x e taken → IsTried r s (with_links x l) e taken
+tried_linked : (r : Resolved) (s : SettingModel) (x : SearchState) (l : Links) (e : Edge) (taken : DependencyModel → Type 0) → IsTried r s x e taken → IsTried r s (with_links x l) e taken
 tried_linked r s x l e taken h = record { kept = h.kept; has_package = h.has_package; has_node = h.has_node; declared = h.declared }
 
 -- a dependency is marked with the step of an edge whose child is kept
-pub mark_sound : (r : Resolved) (s : SettingModel) (x : Found) (l : Links) (place index n : ℕ) (waiters : List Waiting) → IsSound r s x → HasMarked x.links l place index n waiters
+pub mark_sound : (r : Resolved) (s : SettingModel) (x : SearchState) (l : Links) (place index n : ℕ) (waiters : List Waiting) → IsSound r s x → HasMarked x.links l place index n waiters
     → ((p child : Id) → DepAt r p child place index → HasFound r x (Crate child))
     → ((p child : Id) → DepAt r p child place index → (k : DepKindInfoModel) × Derivable (questions r s) (Kept (edge_between p child k)))
     → ((p child : Id) → DepAt r p child place index → IsEdgeStep r x.trace.items p child n)
@@ -534,7 +534,7 @@ mark_sound r s x l place index n waiters sound more arrived kept step =
     }
 
 -- the mark loses nothing if the features that waited have been toggled since
-pub mark_grows : (r : Resolved) (x : Found) (l : Links) (z : Found) (place index n : ℕ) (waiters : List Waiting) → HasMarked x.links l place index n waiters → Grows r (with_links x l) z
+pub mark_grows : (r : Resolved) (x : SearchState) (l : Links) (z : SearchState) (place index n : ℕ) (waiters : List Waiting) → HasMarked x.links l place index n waiters → Grows r (with_links x l) z
     → ((p child : Id) (w : Waiting) → DepAt r p child place index → Contains waiters w → IsToggledIn r z p child w.name.now) → Grows r x z
 mark_grows r x l z place index n waiters more g toggled = record {
   found = λ f h. g.found f (links_found r x l f h);

@@ -7,7 +7,7 @@ use Rattle.std.specs.declared.alloc.Global.{Global}
 use Rattle.krates_cm.specs.Document.{Text, text_view}
 use Rattle.krates_ids.specs.Identity.{Identity}
 use Rattle.krates_selection.specs.CrateNumbers.{id_at}
-use Rattle.krates_search.specs.Found.{IsEnabled}
+use Rattle.krates_search.specs.SearchState.{IsEnabled}
 use Rattle.krates_search.specs.KeptFeatures.{AreSorted, IsFeatureOf}
 use Rattle.krates_selection.specs.Selection.{feature_fact}
 use Rattle.krates_selection.specs.SelectionOrder.{feature_cmp, same_feature, same_text}

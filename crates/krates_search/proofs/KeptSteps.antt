@@ -4,12 +4,12 @@ use Rattle.std.specs.List.{slice_get}
 use Rattle.krates_cm.specs.Document.{DependencyModel, DepKindInfoModel, NodeDepModel, node_dep_view}
 use Rattle.krates_questions.specs.NodeEntry.{IsEntry, child_of, edge_for, parent_of}
 use Rattle.krates_questions.specs.declared.node_entry.NodeEntry.{NodeEntry}
-use Rattle.krates_questions.specs.Basis.{document_of}
-use Rattle.krates_questions.specs.declared.basis.Basis.{Basis}
+use Rattle.krates_questions.specs.Context.{document_of}
+use Rattle.krates_questions.specs.declared.context.Context.{Context}
 use Rattle.krates_search.proofs.Finding.{finds_declared, finds_default, for_reason}
-use Rattle.krates_search.specs.Basis.{FindsUsed}
+use Rattle.krates_search.specs.Context.{FindsUsed}
 use Rattle.krates_selection.specs.Trace.{HasStep, Names, by_one}
-use Rattle.krates_search.specs.declared.found.Found.{Found}
+use Rattle.krates_search.specs.declared.search_state.SearchState.{SearchState}
 use Rattle.krates_selection.specs.declared.trace.NumberedFact.TheVariants as numbered
 use Rattle.krates_selection.specs.declared.trace.Reason.{Reason}
 use Rattle.krates_rules.proofs.OnlyOne.{one_dep}
@@ -32,7 +32,7 @@ entry_edge r x k kind none is first =
     record { edge = edge_for x k; at = record { dep = at; here = ap (λ (d : NodeDepModel). slice_get d.dep_kinds kind) same ∙ first.here }; is = refl }
 
 -- what the declared dependency of a kept edge asks for follows from the step of the edge
-pub finds_used : (b : Basis) (x : Found) (reason : Reason) (n : ℕ) (e : Edge) (d : DependencyModel) → reason ≡ by_one 6 n → HasStep (document_of b) x.trace.items n (Kept e) → IsWanted (document_of b) b.setting.now e d → FindsUsed b x reason d e.child
+pub finds_used : (b : Context) (x : SearchState) (reason : Reason) (n : ℕ) (e : Edge) (d : DependencyModel) → reason ≡ by_one 6 n → HasStep (document_of b) x.trace.items n (Kept e) → IsWanted (document_of b) b.setting.now e d → FindsUsed b x reason d e.child
 finds_used b x reason n e d is has wanted =
     let r = document_of b in
     let s = b.setting.now in

@@ -7,20 +7,20 @@ use Rattle.krates_cm.specs.Document.{DependencyModel, NodeModel, NodeDepModel}
 use Rattle.krates_ids.specs.Identity.{Identity, Reads}
 use Rattle.krates_rules.specs.Admission.{NoneDoubled, AreDepIds, dep_texts}
 use Rattle.krates_rules.specs.Facts.{Id, Edge}
-use Rattle.krates_search.specs.Found.{IsTried, AreTried, IsExpanded, Grows, IsRequired}
+use Rattle.krates_search.specs.SearchState.{IsTried, AreTried, IsExpanded, Grows, IsRequired}
 use Rattle.krates_rules.specs.Resolved.{Resolved, id_of, HasNode, HasDep}
 use Rattle.krates_rules.specs.Questions.{edge_between, ListsEdge, kind_info_of}
-use Rattle.krates_search.specs.declared.found.Found.{Found}
+use Rattle.krates_search.specs.declared.search_state.SearchState.{SearchState}
 use Rattle.krates_rules.specs.Setting.{SettingModel}
 use Rattle.krates_rules.proofs.Readings.{ReadsOnce, right_of}
 use Rattle.krates_search.proofs.Growing.{tried_grows}
 use Rattle.krates_rules.proofs.OnlyOne.{place_in, one_node, one_dep}
 
 -- the edges of the dependencies so far have been tried
-abbrev pub TriedBelow : Resolved → SettingModel → Found → Id → List NodeDepModel → List Identity → ℕ → Type 0
+abbrev pub TriedBelow : Resolved → SettingModel → SearchState → Id → List NodeDepModel → List Identity → ℕ → Type 0
 TriedBelow r s x parent ds ids end = (k : ℕ) (d : NodeDepModel) (i : Identity) → k < end → slice_get ds k ≡ Some d → slice_get ids k ≡ Some i → AreTried r s x parent (id_of i) d IsRequired
 
-pub tried_more : (r : Resolved) (s : SettingModel) (x y : Found) (parent : Id) (ds : List NodeDepModel) (ids : List Identity) (at : ℕ) (d : NodeDepModel) (i : Identity) → Grows r x y → slice_get ds at ≡ Some d
+pub tried_more : (r : Resolved) (s : SettingModel) (x y : SearchState) (parent : Id) (ds : List NodeDepModel) (ids : List Identity) (at : ℕ) (d : NodeDepModel) (i : Identity) → Grows r x y → slice_get ds at ≡ Some d
     → slice_get ids at ≡ Some i → TriedBelow r s x parent ds ids at → AreTried r s y parent (id_of i) d IsRequired → TriedBelow r s y parent ds ids (at + 1)
 tried_more r s x y parent ds ids at d i g here id_here h now k e j below there id_there = elim (cases_lt k at) [
   | inl lower ↦ (λ info c. tried_grows r s x y (edge_between parent (id_of j) info) IsRequired g (h k e j lower there id_there info c))
@@ -32,7 +32,7 @@ tried_more r s x y parent ds ids at d i g here id_here h now k e j below there i
 ]
 
 -- an edge has been tried if it has been for each dependency that lists it
-tried_by_listed : (r : Resolved) (s : SettingModel) (x : Found) (e : Edge) (taken : DependencyModel → Type 0) → ((dep : NodeDepModel) → ListsEdge r e dep → IsTried r s x e taken) → IsTried r s x e taken
+tried_by_listed : (r : Resolved) (s : SettingModel) (x : SearchState) (e : Edge) (taken : DependencyModel → Type 0) → ((dep : NodeDepModel) → ListsEdge r e dep → IsTried r s x e taken) → IsTried r s x e taken
 tried_by_listed r s x e taken tried = record {
   kept = λ d w is_taken stands. (tried w.declared.declares.dep w.declared.declares.lists).kept d w is_taken stands;
   declared = λ loose. (tried loose.dep loose.lists).declared loose;
@@ -41,7 +41,7 @@ tried_by_listed r s x e taken tried = record {
 }
 
 -- an edge that the node lists is one of those that were tried
-listed_tried : ReadsOnce → (r : Resolved) (s : SettingModel) (x : Found) (e : Edge) (n : NodeModel) (ids : List Identity) (dep : NodeDepModel) → NoneDoubled r.metadata r.graph → HasNode r e.parent n → AreDepIds n ids
+listed_tried : ReadsOnce → (r : Resolved) (s : SettingModel) (x : SearchState) (e : Edge) (n : NodeModel) (ids : List Identity) (dep : NodeDepModel) → NoneDoubled r.metadata r.graph → HasNode r e.parent n → AreDepIds n ids
     → TriedBelow r s x e.parent n.deps ids (length ids) → ListsEdge r e dep → IsTried r s x e IsRequired
 listed_tried once r s x e n ids dep none has z all l =
     let same = one_node r e.parent l.node n none l.has_node has in
@@ -54,7 +54,7 @@ listed_tried once r s x e n ids dep none has z all l =
     subst (λ (c : Id). IsTried r s x (edge_between e.parent c (kind_info_of e)) IsRequired) child tried
 
 -- so all edges of the crate have been tried
-pub expanded_here : ReadsOnce → (r : Resolved) (s : SettingModel) (x : Found) (i : Id) (n : NodeModel) (ids : List Identity) → NoneDoubled r.metadata r.graph → HasNode r i n → AreDepIds n ids
+pub expanded_here : ReadsOnce → (r : Resolved) (s : SettingModel) (x : SearchState) (i : Id) (n : NodeModel) (ids : List Identity) → NoneDoubled r.metadata r.graph → HasNode r i n → AreDepIds n ids
     → TriedBelow r s x i n.deps ids (length ids) → IsExpanded r s x i
 expanded_here once r s x i n ids none has z all e same =
     let node = subst (λ (p : Id). HasNode r p n) (sym same) has in
@@ -62,14 +62,14 @@ expanded_here once r s x i n ids none has z all e same =
     tried_by_listed r s x e IsRequired (λ dep l. listed_tried once r s x e n ids dep none node z each l)
 
 -- each edge between two crates has been tried if those by the dependency between them have
-pub between_tried : (r : Resolved) (s : SettingModel) (x : Found) (e : Edge) (n : NodeModel) (dep : NodeDepModel) (taken : DependencyModel → Type 0) → NoneDoubled r.metadata r.graph → HasNode r e.parent n
+pub between_tried : (r : Resolved) (s : SettingModel) (x : SearchState) (e : Edge) (n : NodeModel) (dep : NodeDepModel) (taken : DependencyModel → Type 0) → NoneDoubled r.metadata r.graph → HasNode r e.parent n
     → HasDep n e.child dep → AreTried r s x e.parent e.child dep taken → IsTried r s x e taken
 between_tried r s x e n dep taken none has there tried = tried_by_listed r s x e taken (λ d l.
     let same = one_dep r e.parent e.child l.node n d dep none l.has_node has l.has_dep there in
     tried (kind_info_of e) (subst (λ (m : NodeDepModel). Contains m.dep_kinds (kind_info_of e)) same l.has_kind))
 
 -- all dependencies have been gone over
-pub tried_whole : (r : Resolved) (s : SettingModel) (x : Found) (parent : Id) (ds es : List NodeDepModel) (ids : List Identity) (end : ℕ) → es ≡ ds → length ids ≤ end → TriedBelow r s x parent ds ids end
+pub tried_whole : (r : Resolved) (s : SettingModel) (x : SearchState) (parent : Id) (ds es : List NodeDepModel) (ids : List Identity) (end : ℕ) → es ≡ ds → length ids ≤ end → TriedBelow r s x parent ds ids end
     → TriedBelow r s x parent es ids (length ids)
 tried_whole r s x parent ds es ids end same le h =
     subst (λ (ms : List NodeDepModel). TriedBelow r s x parent ms ids (length ids)) (sym same) (λ k d i lt. h k d i (omega arith))

@@ -5,7 +5,7 @@ use Rattle.krates_rules.specs.Admission.{NoneDoubled}
 use Rattle.krates_rules.specs.DeclaredDependency.{dependency_entry, IsDeclared}
 use Rattle.krates_rules.specs.Derivation.{Derivable, Among, follows}
 use Rattle.krates_rules.specs.Facts.{Id, Edge, Fact, Feature, Kept, Toggled}
-use Rattle.krates_search.specs.Found.{IsAskedWeakly, MayName, MayToggle, MayUse}
+use Rattle.krates_search.specs.SearchState.{IsAskedWeakly, MayName, MayToggle, MayUse}
 use Rattle.krates_rules.specs.Resolved.{Resolved}
 use Rattle.krates_rules.specs.Questions.{edge_between, IsDeclaredAs, IsWanted, kind_info_of, questions}
 use Rattle.krates_rules.specs.Rules.{Questions, declared, by_default, lost_declared, toggled_weakly, toggled_feature, lost_toggled_weakly}

@@ -1,4 +1,4 @@
--- Found edges as a selection has them: with the numbers of their crates, and in order.
+-- SearchState edges as a selection has them: with the numbers of their crates, and in order.
 use Rattle.std.specs.Prelude.{◌≡◌, ◌↔◌, List, All, Contains, length, map}
 use Rattle.std.specs.List.Sorted.{IsStrictlySortedBy}
 use Rattle.krates_ids.specs.Identity.{Identity}

@@ -6,7 +6,7 @@ use Rattle.krates_cm.specs.Document.{Text, text_view}
 use Rattle.krates_ids.specs.Identity.{Identity}
 use Rattle.krates_questions.specs.Numbering.{FeatureAt}
 use Rattle.krates_selection.specs.CrateNumbers.{HasHome, id_at}
-use Rattle.krates_search.specs.Found.{IsEnabled}
+use Rattle.krates_search.specs.SearchState.{IsEnabled}
 use Rattle.krates_search.specs.KeptNumbers.{IsKept}
 use Rattle.krates_selection.specs.Selection.{feature_fact}
 use Rattle.krates_selection.specs.SelectionOrder.{feature_cmp, same_feature}

@@ -1,11 +1,11 @@
-pub mod Basis
-pub mod Found
+pub mod Context
 pub mod FoundEdge
 pub mod FoundToggle
-pub mod Heeding
 pub mod KeptEdges
 pub mod KeptFeatures
 pub mod KeptNumbers
 pub mod KeptToggled
 pub mod Kinds
 pub mod Links
+pub mod References
+pub mod SearchState

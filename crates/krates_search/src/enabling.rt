@@ -1,7 +1,7 @@
 //! What is enabled and kept: features, toggled features and edges.
 
-ghost use Rattle.krates_questions.specs.Basis.{Derives, HasEntry, IsNodeAt, IsWantedAt, Lists, Refuses};
-ghost use Rattle.krates_search.specs.Basis.{Finds, FindsListed, FindsToggled, FindsUsed, Has, HasEnabled, HasEnabledFor, HasKeptStep, HasListed, HasToggledBy, IsNodeOf, IsNumberOf, IsRight, MayEnable, MayEnableFor, MayEnableListed, MayToggleFor, Moves, crate_of};
+ghost use Rattle.krates_questions.specs.Context.{Derives, HasEntry, IsNodeAt, IsWantedAt, Lists, Refuses};
+ghost use Rattle.krates_search.specs.Context.{Finds, FindsListed, FindsToggled, FindsUsed, Has, HasEnabled, HasEnabledFor, HasKeptStep, HasListed, HasToggledBy, IsNodeOf, IsNumberOf, IsRight, MayEnable, MayEnableFor, MayEnableListed, MayToggleFor, Moves, crate_of};
 ghost use Rattle.krates_questions.specs.NodeEntry.{child_of, edge_for, edge_of};
 ghost use Rattle.std.specs.Prelude.{◌≡◌, IfErr, IfOk, OnOk};
 ghost use Rattle.krates_cm.specs.Document.{DepKindInfoModel, dependency_view};
@@ -12,13 +12,13 @@ ghost use Rattle.krates_questions.specs.Lookup.{IsLookup};
 ghost use Rattle.krates_rules.specs.Resolved.{id_of};
 ghost use Rattle.krates_rules.specs.Rules.{default_name};
 
-use crate::found::Found;
 use crate::found_edge::found_edge;
 use crate::found_toggle::FoundToggle;
+use crate::search_state::SearchState;
 use crate::tracing::{put_feature, put_krate, put_step};
 use krates_cm::Dependency;
 use krates_ids::{Error, Kid, Lost, laws};
-use krates_questions::basis::Basis;
+use krates_questions::context::Context;
 use krates_questions::features::feature_number;
 use krates_questions::node_entry::{EntryEdge, NodeEntry, declared_at};
 use krates_selection::trace::{NumberedFact, NumberedStep, Reason};
@@ -56,99 +56,99 @@ pub(crate) struct Keeping {
 
 /// Enables a feature of a kept crate, which has to list it.
 pub fn enable<'a>(
-    basis: &Basis<'a, '_>,
+    context: &Context<'a, '_>,
     node: KeptNode<'a>,
     feature: NamedFeature<'a>,
-    found: &mut Found<'a>,
+    found: &mut SearchState<'a>,
 ) -> Result<(), Error>
-    requires lookup { IsLookup basis.now.lookup.now }
-    requires node { IsNodeOf basis.now node }
-    requires sound { IsRight basis.now found.old }
-    requires kept { Has basis.now found.old (Crate (crate_of node)) }
-    requires may { MayEnable basis.now (crate_of node) feature.name.now }
-    requires step { FindsListed basis.now found.old feature.reason (crate_of node) feature.name.now }
-    ensures advanced { OnOk result (Moves basis.now found.old found.new) }
-    ensures listed { OnOk result (Lists basis.now (crate_of node.entry) feature.entry.name.now) }
-    ensures named { OnOk result (HasEnabled basis.now found.new (crate_of node.entry) feature.entry.name.now) }
+    requires lookup { IsLookup context.now.lookup.now }
+    requires node { IsNodeOf context.now node }
+    requires sound { IsRight context.now found.old }
+    requires kept { Has context.now found.old (Crate (crate_of node)) }
+    requires may { MayEnable context.now (crate_of node) feature.name.now }
+    requires step { FindsListed context.now found.old feature.reason (crate_of node) feature.name.now }
+    ensures advanced { OnOk result (Moves context.now found.old found.new) }
+    ensures listed { OnOk result (Lists context.now (crate_of node.entry) feature.entry.name.now) }
+    ensures named { OnOk result (HasEnabled context.now found.new (crate_of node.entry) feature.entry.name.now) }
     ensures same_links { OnOk result (found.new.links ≡ found.old.links) }
-    ensures refused { IfErr result (Refuses basis.now) }
+    ensures refused { IfErr result (Refuses context.now) }
 {
-    let number = listed_number(basis, node, feature.name)?;
-    put_feature(basis, number, feature.reason, found)?;
+    let number = listed_number(context, node, feature.name)?;
+    put_feature(context, number, feature.reason, found)?;
     Ok(())
 }
 
 /// The number of a feature of a kept crate, which has to list it.
 fn listed_number<'a>(
-    basis: &Basis<'a, '_>,
+    context: &Context<'a, '_>,
     node: KeptNode<'a>,
     name: &'a str,
 ) -> Result<usize, Error>
-    requires lookup { IsLookup basis.now.lookup.now }
-    requires node { IsNodeOf basis.now node }
-    requires may { MayEnable basis.now (crate_of node) name.now }
-    ensures number { IfOk result (IsNumberOf basis.now (crate_of node.entry) name.now) }
-    ensures refused { IfErr result (Refuses basis.now) }
+    requires lookup { IsLookup context.now.lookup.now }
+    requires node { IsNodeOf context.now node }
+    requires may { MayEnable context.now (crate_of node) name.now }
+    ensures number { IfOk result (IsNumberOf context.now (crate_of node.entry) name.now) }
+    ensures refused { IfErr result (Refuses context.now) }
 {
     laws::one_reading();
-    match feature_number(basis.lookup, node.place, name) {
+    match feature_number(context.lookup, node.place, name) {
         Some(number) => Ok(number),
         None => Err(Error::Lost(Lost::Feature {
             krate: node.id.clone()?,
-            name: String::from_str(basis.alloc, name)?,
+            name: String::from_str(context.alloc, name)?,
         })),
     }
 }
 
 /// Enables the default feature of a kept crate, where it lists it.
 fn enable_default<'a>(
-    basis: &Basis<'a, '_>,
+    context: &Context<'a, '_>,
     node: KeptNode<'a>,
     reason: Reason,
-    found: &mut Found<'a>,
+    found: &mut SearchState<'a>,
 ) -> Result<(), Error>
-    requires lookup { IsLookup basis.now.lookup.now }
-    requires node { IsNodeOf basis.now node }
-    requires sound { IsRight basis.now found.old }
-    requires kept { Has basis.now found.old (Crate (crate_of node)) }
-    requires may { MayEnableListed basis.now (crate_of node) default_name }
-    requires step { FindsListed basis.now found.old reason (crate_of node) default_name }
-    ensures advanced { OnOk result (Moves basis.now found.old found.new) }
-    ensures enabled { OnOk result (HasListed basis.now found.new (crate_of node.entry) default_name) }
+    requires lookup { IsLookup context.now.lookup.now }
+    requires node { IsNodeOf context.now node }
+    requires sound { IsRight context.now found.old }
+    requires kept { Has context.now found.old (Crate (crate_of node)) }
+    requires may { MayEnableListed context.now (crate_of node) default_name }
+    requires step { FindsListed context.now found.old reason (crate_of node) default_name }
+    ensures advanced { OnOk result (Moves context.now found.old found.new) }
+    ensures enabled { OnOk result (HasListed context.now found.new (crate_of node.entry) default_name) }
     ensures same_links { OnOk result (found.new.links ≡ found.old.links) }
-    ensures refused { IfErr result (Refuses basis.now) }
+    ensures refused { IfErr result (Refuses context.now) }
 {
     laws::one_reading();
-    let Some(number) = feature_number(basis.lookup, node.place, "default") else {
+    let Some(number) = feature_number(context.lookup, node.place, "default") else {
         return Ok(());
     };
-    put_feature(basis, number, reason, found)?;
+    put_feature(context, number, reason, found)?;
     Ok(())
 }
 
 /// Toggles a feature of a kept crate by another crate: notes by whom, and enables it.
 pub fn toggle<'a>(
-    basis: &Basis<'a, '_>,
+    context: &Context<'a, '_>,
     by: KeptNode<'a>,
     node: KeptNode<'a>,
     feature: NamedFeature<'a>,
-    found: &mut Found<'a>,
+    found: &mut SearchState<'a>,
 ) -> Result<(), Error>
-    requires lookup { IsLookup basis.now.lookup.now }
-    requires by { IsNodeOf basis.now by }
-    requires node { IsNodeOf basis.now node }
-    requires sound { IsRight basis.now found.old }
-    requires kept { Has basis.now found.old (Crate (crate_of node)) }
-    requires may { MayToggleFor basis.now (crate_of by) (crate_of node) feature.name.now }
-    requires step { FindsToggled basis.now found.old feature.reason (crate_of by) (crate_of node)
+    requires lookup { IsLookup context.now.lookup.now }
+    requires by { IsNodeOf context.now by }
+    requires node { IsNodeOf context.now node }
+    requires sound { IsRight context.now found.old }
+    requires kept { Has context.now found.old (Crate (crate_of node)) }
+    requires may { MayToggleFor context.now (crate_of by) (crate_of node) feature.name.now }
+    requires step { FindsToggled context.now found.old feature.reason (crate_of by) (crate_of node)
         feature.name.now }
-    ensures advanced { OnOk result (Moves basis.now found.old found.new) }
-    ensures toggled { OnOk result (HasToggledBy basis.now found.new by.entry node.entry feature.entry.name.now) }
+    ensures advanced { OnOk result (Moves context.now found.old found.new) }
+    ensures toggled { OnOk result (HasToggledBy context.now found.new by.entry node.entry feature.entry.name.now) }
     ensures same_links { OnOk result (found.new.links ≡ found.old.links) }
-    ensures refused { IfErr result (Refuses basis.now) }
+    ensures refused { IfErr result (Refuses context.now) }
 {
     laws::one_reading();
-    let number = listed_number(basis, node, feature.name)?;
+    let number = listed_number(context, node, feature.name)?;
     let step = NumberedStep {
         fact: NumberedFact::Toggled {
             place: by.place,
@@ -156,8 +156,8 @@ pub fn toggle<'a>(
         },
         reason: feature.reason,
     };
-    let toggled = put_step(basis, step, found)?;
-    put_feature(basis, number, Reason::by_one(7, toggled), found)?;
+    let toggled = put_step(context, step, found)?;
+    put_feature(context, number, Reason::by_one(7, toggled), found)?;
     found.toggled.push(FoundToggle {
         by: by.id,
         krate: node.id,
@@ -170,55 +170,55 @@ pub fn toggle<'a>(
 
 /// Enables what a declared dependency asks of its crate: the features that it lists, and the default one where it uses defaults.
 fn enable_declared<'a>(
-    basis: &Basis<'a, '_>,
+    context: &Context<'a, '_>,
     dependency: &'a Dependency,
     node: KeptNode<'a>,
     reason: Reason,
-    found: &mut Found<'a>,
+    found: &mut SearchState<'a>,
 ) -> Result<(), Error>
-    requires lookup { IsLookup basis.now.lookup.now }
-    requires node { IsNodeOf basis.now node }
-    requires sound { IsRight basis.now found.old }
-    requires kept { Has basis.now found.old (Crate (crate_of node)) }
-    requires may { MayEnableFor basis.now (dependency_view dependency.now) (crate_of node) }
-    requires step { FindsUsed basis.now found.old reason (dependency_view dependency.now) (crate_of node) }
-    ensures advanced { OnOk result (Moves basis.now found.old found.new) }
-    ensures used { OnOk result (HasEnabledFor basis.now found.new dependency.now node.entry) }
+    requires lookup { IsLookup context.now.lookup.now }
+    requires node { IsNodeOf context.now node }
+    requires sound { IsRight context.now found.old }
+    requires kept { Has context.now found.old (Crate (crate_of node)) }
+    requires may { MayEnableFor context.now (dependency_view dependency.now) (crate_of node) }
+    requires step { FindsUsed context.now found.old reason (dependency_view dependency.now) (crate_of node) }
+    ensures advanced { OnOk result (Moves context.now found.old found.new) }
+    ensures used { OnOk result (HasEnabledFor context.now found.new dependency.now node.entry) }
     ensures same_links { OnOk result (found.new.links ≡ found.old.links) }
-    ensures refused { IfErr result (Refuses basis.now) }
+    ensures refused { IfErr result (Refuses context.now) }
 {
     for name in &dependency.features {
         let feature = NamedFeature {
             name: name.as_str(),
             reason,
         };
-        enable(basis, node, feature, found)?;
+        enable(context, node, feature, found)?;
     }
     if dependency.uses_default_features {
-        enable_default(basis, node, reason, found)?;
+        enable_default(context, node, reason, found)?;
     }
     Ok(())
 }
 
 /// Marks this dependency with the step that keeps an edge by it, and toggles its features that waited for that.
 fn wake<'a>(
-    basis: &Basis<'a, '_>,
+    context: &Context<'a, '_>,
     entry: &NodeEntry<'a>,
     node: KeptNode<'a>,
     step: usize,
-    found: &mut Found<'a>,
+    found: &mut SearchState<'a>,
 ) -> Result<(), Error>
-    requires lookup { IsLookup basis.now.lookup.now }
-    requires entry { HasEntry basis.now entry.now }
-    requires node { IsNodeOf basis.now node }
+    requires lookup { IsLookup context.now.lookup.now }
+    requires entry { HasEntry context.now entry.now }
+    requires node { IsNodeOf context.now node }
     requires of_child { crate_of node ≡ child_of entry.now }
-    requires sound { IsRight basis.now found.old }
-    requires kept { Has basis.now found.old (Crate (child_of entry.now)) }
-    requires may { (k : DepKindInfoModel) × Derives basis.now (Kept (edge_for entry.now k)) }
-    requires step { HasKeptStep basis.now found.old step entry.now }
-    ensures advanced { OnOk result (Moves basis.now found.old found.new) }
+    requires sound { IsRight context.now found.old }
+    requires kept { Has context.now found.old (Crate (child_of entry.now)) }
+    requires may { (k : DepKindInfoModel) × Derives context.now (Kept (edge_for entry.now k)) }
+    requires step { HasKeptStep context.now found.old step entry.now }
+    ensures advanced { OnOk result (Moves context.now found.old found.new) }
     ensures marked { OnOk result (IsMarked found.new.links entry.now.place entry.now.index) }
-    ensures refused { IfErr result (Refuses basis.now) }
+    ensures refused { IfErr result (Refuses context.now) }
 {
     laws::one_reading();
     if found.links.is_kept(entry.place, entry.index) {
@@ -226,7 +226,7 @@ fn wake<'a>(
     }
     let waiters = found
         .links
-        .mark(basis.alloc, entry.place, entry.index, step);
+        .mark(context.alloc, entry.place, entry.index, step);
     let by = KeptNode {
         id: entry.parent,
         place: entry.place,
@@ -236,7 +236,7 @@ fn wake<'a>(
             name: waiter.name,
             reason: Reason::by_two(7, waiter.step, step),
         };
-        toggle(basis, by, node, feature, found)?;
+        toggle(context, by, node, feature, found)?;
     }
     Ok(())
 }
@@ -245,22 +245,22 @@ fn wake<'a>(
 ///
 /// What follows from the edge is put before the edge itself, so that no edge ever stands without what it gives.
 pub(crate) fn keep<'a>(
-    basis: &Basis<'a, '_>,
+    context: &Context<'a, '_>,
     edge: &EntryEdge<'a, '_>,
     keeping: Keeping,
-    found: &mut Found<'a>,
+    found: &mut SearchState<'a>,
 ) -> Result<(), Error>
-    requires lookup { IsLookup basis.now.lookup.now }
-    requires entry { HasEntry basis.now edge.now.entry.now }
+    requires lookup { IsLookup context.now.lookup.now }
+    requires entry { HasEntry context.now edge.now.entry.now }
     requires first { IsFirstOf edge.now keeping.kind }
-    requires node { IsNodeAt basis.now (child_of edge.now.entry.now) keeping.node }
-    requires sound { IsRight basis.now found.old }
-    requires wanted { IsWantedAt basis.now edge.now keeping.declared }
-    requires may { Derives basis.now (Kept (edge_of edge.now)) }
-    requires step { Finds basis.now found.old keeping.reason (Kept (edge_of edge.now)) }
-    ensures advanced { OnOk result (Moves basis.now found.old found.new) }
-    ensures kept { OnOk result (Has basis.now found.new (Kept (edge_of edge.now))) }
-    ensures refused { IfErr result (Refuses basis.now) }
+    requires node { IsNodeAt context.now (child_of edge.now.entry.now) keeping.node }
+    requires sound { IsRight context.now found.old }
+    requires wanted { IsWantedAt context.now edge.now keeping.declared }
+    requires may { Derives context.now (Kept (edge_of edge.now)) }
+    requires step { Finds context.now found.old keeping.reason (Kept (edge_of edge.now)) }
+    ensures advanced { OnOk result (Moves context.now found.old found.new) }
+    ensures kept { OnOk result (Has context.now found.new (Kept (edge_of edge.now))) }
+    ensures refused { IfErr result (Refuses context.now) }
 {
     laws::one_reading();
     let entry = edge.entry;
@@ -273,15 +273,15 @@ pub(crate) fn keep<'a>(
         },
         reason: keeping.reason,
     };
-    let number = put_step(basis, step, found)?;
-    put_krate(basis, keeping.node, Reason::by_one(5, number), found)?;
+    let number = put_step(context, step, found)?;
+    put_krate(context, keeping.node, Reason::by_one(5, number), found)?;
     let node = KeptNode {
         id: entry.child,
         place: keeping.node,
     };
     let dependency = declared_at(entry, keeping.declared);
-    enable_declared(basis, dependency, node, Reason::by_one(6, number), found)?;
-    wake(basis, entry, node, number, found)?;
+    enable_declared(context, dependency, node, Reason::by_one(6, number), found)?;
+    wake(context, entry, node, number, found)?;
     found.edges.push(kept)?;
     Ok(())
 }

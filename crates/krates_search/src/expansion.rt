@@ -1,21 +1,21 @@
 //! What the rules give from each kept crate.
 
-ghost use Rattle.krates_questions.specs.Basis.{HasEntry, Refuses};
-ghost use Rattle.krates_search.specs.Basis.{FindsEdge, HasExpandedTaken, HasKrateStep, HasStanding, HasTried, HasTriedEntry, IsRight, MayKeep, Moves};
+ghost use Rattle.krates_questions.specs.Context.{HasEntry, Refuses};
+ghost use Rattle.krates_search.specs.Context.{FindsEdge, HasExpandedTaken, HasKrateStep, HasStanding, HasTried, HasTriedEntry, IsRight, MayKeep, Moves};
 ghost use Rattle.krates_questions.specs.NodeEntry.{HasItsPlaces, IsListedEdge, edge_for, edge_of};
 ghost use Rattle.std.specs.Prelude.{◌≡◌, ◌<◌, IfErr, IfOk, OnOk, Some, Contains, true};
 ghost use Rattle.krates_cm.specs.Document.{DepKindInfoModel};
-ghost use Rattle.krates_search.specs.Found.{IsAny, TakenWhen};
+ghost use Rattle.krates_search.specs.SearchState.{IsAny, TakenWhen};
 ghost use Rattle.krates_search.specs.Kinds.{IsFirstOf};
 ghost use Rattle.krates_questions.specs.Lookup.{IsLookup};
 
 use crate::enabling::{Keeping, keep};
-use crate::found::Found;
 use crate::kinds::{first_kinds, info_at};
+use crate::search_state::SearchState;
 use krates_document::declared_dependency::{Sought, declared_of};
 use krates_graph::agenda::Taken;
 use krates_ids::{Error, Lost, laws};
-use krates_questions::basis::Basis;
+use krates_questions::context::Context;
 use krates_questions::node_entry::{EntryEdge, NodeEntry, entry_at, parts_of, places_for};
 use krates_questions::standing::{Standing, known_standing_of_child};
 use krates_selection::trace::Reason;
@@ -24,25 +24,25 @@ use krates_selection::trace::Reason;
 ///
 /// It is handed the crate as it was taken, so that each is expanded once, and the step by which the crate was found.
 pub fn expand<'a>(
-    basis: &Basis<'a, '_>,
+    context: &Context<'a, '_>,
     taken: Taken,
     step: usize,
-    found: &mut Found<'a>,
+    found: &mut SearchState<'a>,
 ) -> Result<(), Error>
-    requires lookup { IsLookup basis.now.lookup.now }
-    requires sound { IsRight basis.now found.old }
+    requires lookup { IsLookup context.now.lookup.now }
+    requires sound { IsRight context.now found.old }
     requires put { Contains found.old.krates.put taken }
     requires within { taken < found.old.krates.size }
-    requires step { HasKrateStep basis.now found.old step taken }
-    ensures advanced { OnOk result (Moves basis.now found.old found.new) }
-    ensures expanded { OnOk result (HasExpandedTaken basis.now found.new taken) }
-    ensures refused { IfErr result (Refuses basis.now) }
+    requires step { HasKrateStep context.now found.old step taken }
+    ensures advanced { OnOk result (Moves context.now found.old found.new) }
+    ensures expanded { OnOk result (HasExpandedTaken context.now found.new taken) }
+    ensures refused { IfErr result (Refuses context.now) }
 {
     laws::one_reading();
-    let parts = parts_of(basis.lookup, taken.number());
+    let parts = parts_of(context.lookup, taken.number());
     for index in 0..parts.children.len() {
         let entry = entry_at(&parts, index);
-        expand_entry(basis, &entry, false, Reason::by_one(5, step), found)?;
+        expand_entry(context, &entry, false, Reason::by_one(5, step), found)?;
     }
     Ok(())
 }
@@ -65,27 +65,27 @@ struct Trial {
 /// A kind and target that stands several times is tried once, and what there is for the crate is asked once. Where no edge was passed over,
 /// it is noted that all of them have been asked for.
 pub fn expand_entry<'a>(
-    basis: &Basis<'a, '_>,
+    context: &Context<'a, '_>,
     entry: &NodeEntry<'a>,
     asked: bool,
     reason: Reason,
-    found: &mut Found<'a>,
+    found: &mut SearchState<'a>,
 ) -> Result<(), Error>
-    requires lookup { IsLookup basis.now.lookup.now }
-    requires entry { HasEntry basis.now entry.now }
-    requires sound { IsRight basis.now found.old }
-    requires may { (k : DepKindInfoModel) → MayKeep basis.now (edge_for entry.now k) (TakenWhen asked) }
+    requires lookup { IsLookup context.now.lookup.now }
+    requires entry { HasEntry context.now entry.now }
+    requires sound { IsRight context.now found.old }
+    requires may { (k : DepKindInfoModel) → MayKeep context.now (edge_for entry.now k) (TakenWhen asked) }
     requires step { (k : DepKindInfoModel)
-        → FindsEdge basis.now found.old reason (edge_for entry.now k) (TakenWhen asked) }
-    ensures advanced { OnOk result (Moves basis.now found.old found.new) }
-    ensures tried { OnOk result (HasTriedEntry basis.now found.new entry.now (TakenWhen asked)) }
-    ensures refused { IfErr result (Refuses basis.now) }
+        → FindsEdge context.now found.old reason (edge_for entry.now k) (TakenWhen asked) }
+    ensures advanced { OnOk result (Moves context.now found.old found.new) }
+    ensures tried { OnOk result (HasTriedEntry context.now found.new entry.now (TakenWhen asked)) }
+    ensures refused { IfErr result (Refuses context.now) }
 {
     laws::one_reading();
-    let places = places_for(basis.lookup, entry);
-    let standing = known_standing_of_child(basis, &found.excluded, entry);
+    let places = places_for(context.lookup, entry);
+    let standing = known_standing_of_child(context, &found.excluded, entry);
     let infos = entry.dep.dep_kinds.as_slice();
-    let kinds = first_kinds(basis.alloc, infos)?;
+    let kinds = first_kinds(context.alloc, infos)?;
     let mut whole = true;
     for kind in kinds.as_slice() {
         let edge = EntryEdge {
@@ -99,7 +99,7 @@ pub fn expand_entry<'a>(
             standing,
             asked,
         };
-        let tried = expand_edge(basis, &edge, &trial, found)?;
+        let tried = expand_edge(context, &edge, &trial, found)?;
         whole &= tried;
     }
     if !whole {
@@ -113,29 +113,29 @@ pub fn expand_entry<'a>(
 ///
 /// It answers whether the same was done as where the edge is asked for: not if it was passed over as optional.
 fn expand_edge<'a>(
-    basis: &Basis<'a, '_>,
+    context: &Context<'a, '_>,
     edge: &EntryEdge<'a, '_>,
     trial: &Trial,
-    found: &mut Found<'a>,
+    found: &mut SearchState<'a>,
 ) -> Result<bool, Error>
-    requires lookup { IsLookup basis.now.lookup.now }
-    requires entry { HasEntry basis.now edge.now.entry.now }
+    requires lookup { IsLookup context.now.lookup.now }
+    requires entry { HasEntry context.now edge.now.entry.now }
     requires places { HasItsPlaces edge.now }
     requires listed { IsListedEdge edge.now }
     requires first { IsFirstOf edge.now trial.now.kind }
-    requires standing { HasStanding basis.now edge.now.entry.now trial.now.standing }
-    requires sound { IsRight basis.now found.old }
-    requires may { MayKeep basis.now (edge_of edge.now) (TakenWhen trial.now.asked) }
-    requires step { FindsEdge basis.now found.old trial.now.reason (edge_of edge.now)
+    requires standing { HasStanding context.now edge.now.entry.now trial.now.standing }
+    requires sound { IsRight context.now found.old }
+    requires may { MayKeep context.now (edge_of edge.now) (TakenWhen trial.now.asked) }
+    requires step { FindsEdge context.now found.old trial.now.reason (edge_of edge.now)
         (TakenWhen trial.now.asked) }
-    ensures advanced { OnOk result (Moves basis.now found.old found.new) }
-    ensures tried { OnOk result (HasTried basis.now found.new (edge_of edge.now) (TakenWhen trial.now.asked)) }
-    ensures whole { IfOk result (λ whole. whole ≡ true → HasTried basis.now found.new (edge_of edge.now) IsAny) }
-    ensures refused { IfErr result (Refuses basis.now) }
+    ensures advanced { OnOk result (Moves context.now found.old found.new) }
+    ensures tried { OnOk result (HasTried context.now found.new (edge_of edge.now) (TakenWhen trial.now.asked)) }
+    ensures whole { IfOk result (λ whole. whole ≡ true → HasTried context.now found.new (edge_of edge.now) IsAny) }
+    ensures refused { IfErr result (Refuses context.now) }
 {
     let entry = edge.entry;
     let info = edge.info;
-    if basis.setting.ignores(info.kind, entry.is_member) {
+    if context.setting.ignores(info.kind, entry.is_member) {
         return Ok(true);
     }
     let sought = Sought {
@@ -153,7 +153,7 @@ fn expand_edge<'a>(
     if !trial.asked && entry.declared[declared].optional {
         return Ok(false);
     }
-    let passes = basis.setting.passes(basis.alloc, &info.target)?;
+    let passes = context.setting.passes(context.alloc, &info.target)?;
     if !passes {
         return Ok(true);
     }
@@ -168,7 +168,7 @@ fn expand_edge<'a>(
                 node,
                 reason: trial.reason,
             };
-            keep(basis, edge, keeping, found)?;
+            keep(context, edge, keeping, found)?;
             Ok(true)
         }
     }

@@ -3,7 +3,7 @@
 ghost use Rattle.std.specs.Prelude.{All, IfOk};
 ghost use Rattle.std.specs.List.{AllZip};
 ghost use Rattle.krates_questions.specs.Lookup.{IsLookup, resolved_view};
-ghost use Rattle.krates_questions.specs.Basis.{document_of};
+ghost use Rattle.krates_questions.specs.Context.{document_of};
 ghost use Rattle.krates_search.specs.FoundEdge.{IsFoundEdge};
 ghost use Rattle.krates_search.specs.KeptEdges.{AreInOrder, HasKeptNodes, IsCopyOf};
 ghost use Rattle.krates_search.specs.KeptNumbers.{AreKeptNumbers, kids_in};
@@ -11,7 +11,7 @@ ghost use Rattle.krates_search.specs.KeptNumbers.{AreKeptNumbers, kids_in};
 use crate::found_edge::FoundEdge;
 use crate::kept_numbers::{KeptNumbers, number_at};
 use krates_ids::laws;
-use krates_questions::basis::Basis;
+use krates_questions::context::Context;
 use krates_questions::lookup::Lookup;
 use krates_questions::sorted::in_order;
 use krates_selection::selection::KeptEdge;
@@ -21,19 +21,19 @@ use std::alloc::{AllocError, Global};
 ///
 /// Time: O(n log n).
 pub fn kept_edges(
-    basis: &Basis<'_, '_>,
+    context: &Context<'_, '_>,
     numbers: &KeptNumbers<'_>,
     found: &[FoundEdge<'_>],
 ) -> Result<Vec<KeptEdge>, AllocError>
-    requires lookup { IsLookup basis.now.lookup.now }
-    requires numbers { AreKeptNumbers basis.now.lookup.now numbers.now }
-    requires found { All (IsFoundEdge (document_of basis.now) basis.now.setting.now) found.now }
-    requires kept { All (HasKeptNodes (document_of basis.now) (kids_in numbers.now)) found.now }
-    ensures { IfOk result (λ kept. AreInOrder (document_of basis.now) basis.now.setting.now
+    requires lookup { IsLookup context.now.lookup.now }
+    requires numbers { AreKeptNumbers context.now.lookup.now numbers.now }
+    requires found { All (IsFoundEdge (document_of context.now) context.now.setting.now) found.now }
+    requires kept { All (HasKeptNodes (document_of context.now) (kids_in numbers.now)) found.now }
+    ensures { IfOk result (λ kept. AreInOrder (document_of context.now) context.now.setting.now
         (kids_in numbers.now) found.now kept.items) }
 {
     laws::comparison();
-    let kept = copies(basis.alloc, basis.lookup, numbers, found)?;
+    let kept = copies(context.alloc, context.lookup, numbers, found)?;
     let sorted = in_order(kept)?;
     Ok(sorted)
 }

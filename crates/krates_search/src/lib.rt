@@ -6,7 +6,6 @@
 
 pub mod enabling;
 pub mod expansion;
-pub mod found;
 pub mod found_edge;
 pub mod found_toggle;
 pub mod kept_edges;
@@ -15,4 +14,5 @@ pub mod kept_numbers;
 pub mod kept_toggled;
 mod kinds;
 pub mod links;
+pub mod search_state;
 pub mod tracing;

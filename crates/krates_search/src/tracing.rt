@@ -1,25 +1,25 @@
 //! What is found is put with the step by which it is found.
 
 ghost use Rattle.krates_questions.specs.Lookup.{IsLookup};
-ghost use Rattle.krates_search.specs.Basis.{HasPutStep, IsRight, MayPutFeature, MayPutKrate, MayPutStep, Moves};
+ghost use Rattle.krates_search.specs.Context.{HasPutStep, IsRight, MayPutFeature, MayPutKrate, MayPutStep, Moves};
 ghost use Rattle.std.specs.Prelude.{◌≡◌, Contains, IfOk, OnOk};
 
-use crate::found::Found;
+use crate::search_state::SearchState;
 use krates_ids::laws;
-use krates_questions::basis::Basis;
+use krates_questions::context::Context;
 use krates_selection::trace::{NumberedFact, NumberedStep, Reason};
 use std::alloc::AllocError;
 
 /// Puts a step behind the others, and answers its number.
 pub(crate) fn put_step<'a>(
-    basis: &Basis<'a, '_>,
+    context: &Context<'a, '_>,
     step: NumberedStep,
-    found: &mut Found<'a>,
+    found: &mut SearchState<'a>,
 ) -> Result<usize, AllocError>
-    requires sound { IsRight basis.now found.old }
-    requires may { MayPutStep basis.now found.old step }
-    ensures advanced { OnOk result (Moves basis.now found.old found.new) }
-    ensures put { IfOk result (HasPutStep basis.now found.new step) }
+    requires sound { IsRight context.now found.old }
+    requires may { MayPutStep context.now found.old step }
+    ensures advanced { OnOk result (Moves context.now found.old found.new) }
+    ensures put { IfOk result (HasPutStep context.now found.new step) }
     ensures same_links { OnOk result (found.new.links ≡ found.old.links) }
 {
     laws::one_reading();
@@ -30,14 +30,14 @@ pub(crate) fn put_step<'a>(
 
 /// Puts the crate of the node at a place, and its step, unless it was put before.
 pub fn put_krate<'a>(
-    basis: &Basis<'a, '_>,
+    context: &Context<'a, '_>,
     place: usize,
     reason: Reason,
-    found: &mut Found<'a>,
+    found: &mut SearchState<'a>,
 ) -> Result<(), AllocError>
-    requires sound { IsRight basis.now found.old }
-    requires may { MayPutKrate basis.now found.old place reason }
-    ensures advanced { OnOk result (Moves basis.now found.old found.new) }
+    requires sound { IsRight context.now found.old }
+    requires may { MayPutKrate context.now found.old place reason }
+    ensures advanced { OnOk result (Moves context.now found.old found.new) }
     ensures put { OnOk result (Contains found.new.krates.put place) }
     ensures same_links { OnOk result (found.new.links ≡ found.old.links) }
 {
@@ -55,14 +55,14 @@ pub fn put_krate<'a>(
 
 /// Puts the feature of a number, and its step, unless it was put before.
 pub(crate) fn put_feature<'a>(
-    basis: &Basis<'a, '_>,
+    context: &Context<'a, '_>,
     number: usize,
     reason: Reason,
-    found: &mut Found<'a>,
+    found: &mut SearchState<'a>,
 ) -> Result<(), AllocError>
-    requires sound { IsRight basis.now found.old }
-    requires may { MayPutFeature basis.now found.old number reason }
-    ensures advanced { OnOk result (Moves basis.now found.old found.new) }
+    requires sound { IsRight context.now found.old }
+    requires may { MayPutFeature context.now found.old number reason }
+    ensures advanced { OnOk result (Moves context.now found.old found.new) }
     ensures put { OnOk result (Contains found.new.features.put number) }
     ensures same_links { OnOk result (found.new.links ≡ found.old.links) }
 {

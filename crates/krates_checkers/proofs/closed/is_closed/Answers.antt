@@ -1,6 +1,6 @@
 use Rattle.std.proofs.Common.{List, Bor, ap, sym, subst}
 use Rattle.std.proofs.lemmas.Result.{IfOk-weaker}
-use Rattle.krates_derive.specs.Basis.{document_of}
+use Rattle.krates_derive.specs.Context.{document_of}
 use Rattle.krates_derive.specs.Giving.{AllIn, TheseRootsIn}
 use Rattle.krates_rules.specs.StepViews.{facts_view}
 use Rattle.krates_ids.specs.Identity.{Identity}
@@ -13,8 +13,8 @@ pub returns-then-not-are_roots_in : goal.returns-then-not-are_roots_in
 returns-then-not-are_roots_in c = (
   λ t. absurd cc,
   λ closed. absurd (
-      let r = document_of c.args.basis.now in
-      let s = c.args.basis.now.setting.now in
+      let r = document_of c.args.context.now in
+      let s = c.args.context.now.setting.now in
       let w = (closed_told r s c.args.facts.now).1 closed in
       let rooted = subst (λ (ks : List (Bor Identity)). TheseRootsIn r s (facts_view c.args.facts.now) (lent_ids ks)) (sym c.deref.ensures.value) (λ i h. w.0 i ((c.in_ok-roots.ensures.each i).1 h)) in
       cc (c.are_roots_in.ensures.1 (subst (λ (fs : List Fact). TheseRootsIn r s fs (lent_ids c.deref.result.now)) (sym (ap facts_view c.in_ok-set.ensures)) rooted), c.if-not-are_roots_in.true)),
@@ -22,8 +22,8 @@ returns-then-not-are_roots_in c = (
 
 pub returns : goal.returns
 returns c =
-    let r = document_of c.args.basis.now in
-    let s = c.args.basis.now.setting.now in
+    let r = document_of c.args.context.now in
+    let s = c.args.context.now.setting.now in
     let xs = c.args.facts.now in
     let here = subst (λ (fs : List Fact). TheseRootsIn r s fs (lent_ids c.deref.result.now)) (ap facts_view c.in_ok-set.ensures) (c.are_roots_in.ensures.0 c.if-not-are_roots_in.false) in
     let rooted = subst (λ (ks : List (Bor Identity)). TheseRootsIn r s (facts_view xs) (lent_ids ks)) c.deref.ensures.value here in

@@ -14,7 +14,7 @@ use Rattle.krates_explain.specs.declared.key.FactKey.{FactKey}
 use Rattle.krates_explain.specs.declared.keys.Tables.{Tables}
 use Rattle.krates_questions.specs.CrateTable.{AreNumbersOf}
 use Rattle.krates_rules.proofs.SeenInOrder.{sorted_same}
-use Rattle.krates_questions.specs.Basis.{document_of, rules_of}
+use Rattle.krates_questions.specs.Context.{document_of, rules_of}
 use Rattle.krates_ids.specs.Identity.{Identity, id_cmp}
 use Rattle.krates_selection.specs.declared.trace.NumberedStep.{NumberedStep}
 use Rattle.krates_rules.specs.Referent.{id_order}
@@ -33,18 +33,18 @@ keys_of-requires-clause-tables c =
     record {
       lookup = c.requires.lookup;
       ascending = sorted_same id_cmp id_order id_of (λ a b. refl) kids c.requires.ascending;
-      numbers = subst (AreNumbersOf (map id_of kids) c.args.basis.now.lookup.now.table.ids.items) (sym c.deref-2.ensures.value) among;
+      numbers = subst (AreNumbersOf (map id_of kids) c.args.context.now.lookup.now.table.ids.items) (sym c.deref-2.ensures.value) among;
     }
 
 pub keys_of-requires-clause-kept : goal.keys_of-requires-clause-kept
 keys_of-requires-clause-kept c =
-    let t : Tables = record { lookup = c.args.basis.now.lookup; krates = c.args.krates; numbers = c.deref-2.result } in
-    kept_facts t c.args.basis.now.setting.now c.args.steps.now c.requires.trace c.requires.crates
+    let t : Tables = record { lookup = c.args.context.now.lookup; krates = c.args.krates; numbers = c.deref-2.result } in
+    kept_facts t c.args.context.now.setting.now c.args.steps.now c.requires.trace c.requires.crates
 
 pub numbers_of-requires-2 : goal.numbers_of-requires-2
 numbers_of-requires-2 c =
     let steps = c.args.steps.now in
-    let t : Tables = record { lookup = c.args.basis.now.lookup; krates = c.args.krates; numbers = c.deref-2.result } in
+    let t : Tables = record { lookup = c.args.context.now.lookup; krates = c.args.krates; numbers = c.deref-2.result } in
     let low = homes_low t (numbered_facts steps) c.in_ok-keys.keys.items c.in_ok-keys.ensures in
     subst (λ (ks : List FactKey). All (λ f. home f < length c.args.krates.now) (map key_view ks)) (sym c.deref-3.ensures.value) low
 
@@ -52,12 +52,12 @@ pub first_steps-requires-clause-backward : goal.first_steps-requires-clause-back
 first_steps-requires-clause-backward c =
     let steps = c.args.steps.now in
     let same : c.deref-4.result.now ≡ uses_of steps = c.deref-4.ensures.value ∙ c.in_ok-uses.ensures in
-    subst AreBackward (sym same) (follow_backward (rules_of c.args.basis.now) c.requires.trace.steps (uses_of steps) (shown_uses (document_of c.args.basis.now) steps c.requires.trace.steps c.requires.trace.shown) c.requires.trace.follows)
+    subst AreBackward (sym same) (follow_backward (rules_of c.args.context.now) c.requires.trace.steps (uses_of steps) (shown_uses (document_of c.args.context.now) steps c.requires.trace.steps c.requires.trace.shown) c.requires.trace.follows)
 
 pub first_steps-requires-clause-long : goal.first_steps-requires-clause-long
 first_steps-requires-clause-long c =
     let steps = c.args.steps.now in
-    let t : Tables = record { lookup = c.args.basis.now.lookup; krates = c.args.krates; numbers = c.deref-2.result } in
+    let t : Tables = record { lookup = c.args.context.now.lookup; krates = c.args.krates; numbers = c.deref-2.result } in
     let same : c.deref-4.result.now ≡ uses_of steps = c.deref-4.ensures.value ∙ c.in_ok-uses.ensures in
     let keys = zip_long (IsKeyOf t) (numbered_facts steps) c.in_ok-keys.keys.items c.in_ok-keys.ensures in
     ap length c.deref-5.ensures.value ∙ c.in_ok-numbers.ensures.long ∙ length-map c.deref-3.result.now key_view ∙ ap length c.deref-3.ensures.value ∙ keys ∙ length-map steps (λ (x : NumberedStep). x.fact)
@@ -66,7 +66,7 @@ first_steps-requires-clause-long c =
 pub chosen-requires-clause-long : goal.chosen-requires-clause-long
 chosen-requires-clause-long c =
     let steps = c.args.steps.now in
-    let t : Tables = record { lookup = c.args.basis.now.lookup; krates = c.args.krates; numbers = c.deref-2.result } in
+    let t : Tables = record { lookup = c.args.context.now.lookup; krates = c.args.krates; numbers = c.deref-2.result } in
     let keys = zip_long (IsKeyOf t) (numbered_facts steps) c.in_ok-keys.keys.items c.in_ok-keys.ensures in
     ap length c.deref-6.ensures.value ∙ keys ∙ length-map steps (λ (x : NumberedStep). x.fact)
 
@@ -79,7 +79,7 @@ chosen-requires-clause-within c =
 
 pub returns : goal.returns
 returns c =
-    let b = c.args.basis.now in
+    let b = c.args.context.now in
     let steps = c.args.steps.now in
     let t : Tables = record { lookup = b.lookup; krates = c.args.krates; numbers = c.deref-2.result } in
     let chosen = c.in_ok-part.part.chosen.items in

@@ -1,6 +1,6 @@
 use Rattle.std.proofs.lemmas.Result.{IfOk-weaker}
 use Rattle.krates_cm.specs.Document.{dep_kind_info_view}
-use Rattle.krates_questions.specs.Basis.{document_of}
+use Rattle.krates_questions.specs.Context.{document_of}
 use Rattle.krates_questions.specs.Need.{TellsNeed}
 use Rattle.krates_rules.specs.Resolved.{id_of}
 use Rattle.krates_questions.proofs.Asked.{between}
@@ -9,9 +9,9 @@ use Rattle.krates_questions.proofs.dependency_questions.need_in.Goals as goal
 
 pub returns-in-Some : goal.returns-in-Some
 returns-in-Some c =
-    let r = document_of c.args.basis.now in
+    let r = document_of c.args.context.now in
     IfOk-weaker c.entry_need.result _ _ (λ answer told.
-    between (λ e. TellsNeed r c.args.basis.now.setting.now e answer) r (id_of c.args.parent.now) (id_of c.args.child.now) c.in-Some.entry (dep_kind_info_view c.args.info.now) c.in-Some.ensures told) c.entry_need.ensures
+    between (λ e. TellsNeed r c.args.context.now.setting.now e answer) r (id_of c.args.parent.now) (id_of c.args.child.now) c.in-Some.entry (dep_kind_info_view c.args.info.now) c.in-Some.ensures told) c.entry_need.ensures
 
 pub returns-in-None : goal.returns-in-None
-returns-in-None c = absent_need (document_of c.args.basis.now) c.args.basis.now.setting.now (id_of c.args.parent.now) (id_of c.args.child.now) (dep_kind_info_view c.args.info.now) c.in-None.ensures
+returns-in-None c = absent_need (document_of c.args.context.now) c.args.context.now.setting.now (id_of c.args.parent.now) (id_of c.args.child.now) (dep_kind_info_view c.args.info.now) c.in-None.ensures

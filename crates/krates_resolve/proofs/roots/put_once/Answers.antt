@@ -4,10 +4,10 @@ use Rattle.std.proofs.lemmas.Result.{on_ok_weaker}
 use Rattle.krates_rules.specs.Facts.{Crate}
 use Rattle.krates_questions.specs.Lookup.{resolved_view}
 use Rattle.krates_rules.specs.Resolved.{id_of}
-use Rattle.krates_search.specs.Found.{HasFound}
+use Rattle.krates_search.specs.SearchState.{HasFound}
 use Rattle.krates_search.proofs.Finding.{finds_root, for_reason}
 use Rattle.krates_search.proofs.Growing.{advances_refl, advances_trans}
-use Rattle.krates_resolve.proofs.Heedings.{on_ok_both}
+use Rattle.krates_resolve.proofs.ReferenceLemmas.{on_ok_both}
 use Rattle.krates_search.proofs.Putting.{on_false, on_true}
 use Rattle.krates_resolve.proofs.Rooted.{each_grows, each_put, each_stays, root_enables, rooted_here}
 use Rattle.krates_resolve.proofs.roots.put_once.Goals as goal
@@ -16,22 +16,22 @@ pub put-requires : goal.put-requires
 put-requires c =
     let at = c.requires.node.at in
     let node = c.args.node in
-    subst (λ (n : ℕ). node.place < n) (sym c.requires.each.size) (slice_get_within (resolved_view c.args.basis.now.lookup.now).graph.nodes node.place at.node at.at)
+    subst (λ (n : ℕ). node.place < n) (sym c.requires.each.size) (slice_get_within (resolved_view c.args.context.now.lookup.now).graph.nodes node.place at.node at.at)
 
 pub returns-then-not-put-clause-advanced : goal.returns-then-not-put-clause-advanced
-returns-then-not-put-clause-advanced c = advances_refl (resolved_view c.args.basis.now.lookup.now) c.args.basis.now.setting.now c.args.found.now c.requires.sound
+returns-then-not-put-clause-advanced c = advances_refl (resolved_view c.args.context.now.lookup.now) c.args.context.now.setting.now c.args.found.now c.requires.sound
 
 pub returns-then-not-put-clause-rooted : goal.returns-then-not-put-clause-rooted
 returns-then-not-put-clause-rooted c =
     c.requires.each.each c.args.node.place (id_of c.args.node.id.now) (on_false c.put.result c.if-not-put.true c.put.ensures.old) c.requires.node.at
 
 pub returns-then-not-put-clause-each : goal.returns-then-not-put-clause-each
-returns-then-not-put-clause-each c = each_stays c.args.basis.now c.args.found.now c.args.places.now c.put.new.self (on_false c.put.result c.if-not-put.true c.put.ensures.unchanged) c.requires.each
+returns-then-not-put-clause-each c = each_stays c.args.context.now c.args.found.now c.args.places.now c.put.new.self (on_false c.put.result c.if-not-put.true c.put.ensures.unchanged) c.requires.each
 
 pub put_krate-requires-clause-may : goal.put_krate-requires-clause-may
 put_krate-requires-clause-may c =
-    let r = resolved_view c.args.basis.now.lookup.now in
-    let s = c.args.basis.now.setting.now in
+    let r = resolved_view c.args.context.now.lookup.now in
+    let s = c.args.context.now.setting.now in
     let i = id_of c.args.node.id.now in
     let trace = c.args.found.now.trace.items in
     record { krate = i; node = c.requires.node.at; finds = for_reason r s trace _ _ (Crate i) c.by_nothing.ensures (finds_root r s trace i c.requires.root.0 c.requires.root.1) }
@@ -43,27 +43,27 @@ pub enable_listed-requires-clause-kept : goal.enable_listed-requires-clause-kept
 enable_listed-requires-clause-kept c = record { place = c.args.node.place; among = c.in_ok-put_krate.ensures.put; node = c.requires.node.at }
 
 pub enable_listed-requires-clause-may : goal.enable_listed-requires-clause-may
-enable_listed-requires-clause-may c = root_enables (resolved_view c.args.basis.now.lookup.now) c.args.basis.now.setting.now (id_of c.args.node.id.now) c.requires.root.0 c.requires.root.1
+enable_listed-requires-clause-may c = root_enables (resolved_view c.args.context.now.lookup.now) c.args.context.now.setting.now (id_of c.args.node.id.now) c.requires.root.0 c.requires.root.1
 
 pub returns-clause-advanced : goal.returns-clause-advanced
 returns-clause-advanced c =
-    let r = resolved_view c.args.basis.now.lookup.now in
-    let s = c.args.basis.now.setting.now in
+    let r = resolved_view c.args.context.now.lookup.now in
+    let s = c.args.context.now.setting.now in
     on_ok_weaker c.enable_listed.result (λ a. advances_trans r s c.args.found.now c.put_krate.new.found c.enable_listed.new.found c.in_ok-put_krate.ensures.advanced a) c.enable_listed.ensures.advanced
 
 pub returns-clause-rooted : goal.returns-clause-rooted
 returns-clause-rooted c =
-    let r = resolved_view c.args.basis.now.lookup.now in
-    let s = c.args.basis.now.setting.now in
+    let r = resolved_view c.args.context.now.lookup.now in
+    let s = c.args.context.now.setting.now in
     let i = id_of c.args.node.id.now in
     let kept : HasFound r c.put_krate.new.found (Crate i) = record { place = c.args.node.place; among = c.in_ok-put_krate.ensures.put; node = c.requires.node.at } in
     on_ok_both c.enable_listed.result (λ a enabled. rooted_here r s c.enable_listed.new.found i c.requires.root.1 (a.grows.found (Crate i) kept) enabled) c.enable_listed.ensures.advanced c.enable_listed.ensures.enabled
 
 pub returns-clause-each : goal.returns-clause-each
 returns-clause-each c =
-    let r = resolved_view c.args.basis.now.lookup.now in
-    let s = c.args.basis.now.setting.now in
-    let b = c.args.basis.now in
+    let r = resolved_view c.args.context.now.lookup.now in
+    let s = c.args.context.now.setting.now in
+    let b = c.args.context.now in
     let i = id_of c.args.node.id.now in
     let x = c.args.found.now in
     let y = c.put_krate.new.found in

@@ -2,11 +2,11 @@ use Rattle.std.proofs.Common.{String, Global, Contains, map, refl, sym, ◌∙�
 use Rattle.krates_cm.specs.Document.{Text, text_view, dependency_view}
 use Rattle.krates_rules.specs.Facts.{Crate, Feature}
 use Rattle.krates_rules.specs.Rules.{default_name}
-use Rattle.krates_search.specs.Basis.{FindsListed}
-use Rattle.krates_search.specs.Found.{Advances, HasUsed, IsEnabledBySome, MayName}
+use Rattle.krates_search.specs.Context.{FindsListed}
+use Rattle.krates_search.specs.SearchState.{Advances, HasUsed, IsEnabledBySome, MayName}
 use Rattle.krates_questions.specs.Lookup.{resolved_view}
 use Rattle.krates_rules.specs.Resolved.{id_of}
-use Rattle.krates_search.specs.declared.found.Found.{Found}
+use Rattle.krates_search.specs.declared.search_state.SearchState.{SearchState}
 use Rattle.krates_selection.proofs.ListedFeatures.{value_at}
 use Rattle.krates_selection.proofs.Steps.{finds_more}
 use Rattle.krates_search.proofs.Growing.{advances_refl, advances_trans, named_grows}
@@ -15,7 +15,7 @@ use Rattle.krates_search.proofs.enabling.enable_declared.Goals as goal
 use Rattle.krates_search.proofs.enabling.enable_declared.Goals.{then-dependency+in_ok-enable_default, else-dependency}
 
 pub loop-name-init : goal.loop-name-init
-loop-name-init c = (advances_refl (resolved_view c.args.basis.now.lookup.now) c.args.basis.now.setting.now c.args.found.now c.requires.sound, λ k d lt. absurd (omega (arith, lt)), refl)
+loop-name-init c = (advances_refl (resolved_view c.args.context.now.lookup.now) c.args.context.now.setting.now c.args.found.now c.requires.sound, λ k d lt. absurd (omega (arith, lt)), refl)
 
 pub enable-requires-clause-sound : goal.enable-requires-clause-sound
 enable-requires-clause-sound c = c.loop-name.invariant.0.sound
@@ -25,8 +25,8 @@ enable-requires-clause-kept c = c.loop-name.invariant.0.grows.found (Crate (id_o
 
 pub enable-requires-clause-may : goal.enable-requires-clause-may
 enable-requires-clause-may c =
-    let r = resolved_view c.args.basis.now.lookup.now in
-    let s = c.args.basis.now.setting.now in
+    let r = resolved_view c.args.context.now.lookup.now in
+    let s = c.args.context.now.setting.now in
     let i = id_of c.args.node.id.now in
     let g = string_bytes c.name-item.result in
     let among = subst (λ ts. Contains (map text_view ts) g) c.deref-name-items.ensures.value (value_at c.deref-name-items.result.now c.loop-name.name-index c.name-item.result c.loop-name-test.true c.name-item.is) in
@@ -34,19 +34,19 @@ enable-requires-clause-may c =
 
 pub enable-requires-clause-step : goal.enable-requires-clause-step
 enable-requires-clause-step c lists =
-    let r = resolved_view c.args.basis.now.lookup.now in
-    let s = c.args.basis.now.setting.now in
+    let r = resolved_view c.args.context.now.lookup.now in
+    let s = c.args.context.now.setting.now in
     let i = id_of c.args.node.id.now in
     let g = string_bytes c.name-item.result in
     let old = c.args.found.now in
     let among = subst (λ ts. Contains (map text_view ts) g) c.deref-name-items.ensures.value (value_at c.deref-name-items.result.now c.loop-name.name-index c.name-item.result c.loop-name-test.true c.name-item.is) in
-    let here = subst (λ (t : Text). FindsListed c.args.basis.now old c.args.reason i t) (sym c.as_str.ensures.value) (c.requires.step.declared g among) in
+    let here = subst (λ (t : Text). FindsListed c.args.context.now old c.args.reason i t) (sym c.as_str.ensures.value) (c.requires.step.declared g among) in
     finds_more r s old.trace.items c.loop-name.found.trace.items c.args.reason (Feature i c.as_str.result.now) c.loop-name.invariant.0.grows.steps (here lists)
 
 pub loop-name-preserved : goal.loop-name-preserved
 loop-name-preserved c =
-    let r = resolved_view c.args.basis.now.lookup.now in
-    let s = c.args.basis.now.setting.now in
+    let r = resolved_view c.args.context.now.lookup.now in
+    let s = c.args.context.now.setting.now in
     let i = id_of c.args.node.id.now in
     let x = c.loop-name.found in
     let y = c.enable.new.found in
@@ -67,13 +67,13 @@ enable_default-requires-clause-kept c = c.loop-name.invariant.0.grows.found (Cra
 pub enable_default-requires-clause-step : goal.enable_default-requires-clause-step
 enable_default-requires-clause-step c lists =
     let old = c.args.found.now in
-    finds_more (resolved_view c.args.basis.now.lookup.now) c.args.basis.now.setting.now old.trace.items c.loop-name.found.trace.items c.args.reason (Feature (id_of c.args.node.id.now) default_name) c.loop-name.invariant.0.grows.steps
+    finds_more (resolved_view c.args.context.now.lookup.now) c.args.context.now.setting.now old.trace.items c.loop-name.found.trace.items c.args.reason (Feature (id_of c.args.node.id.now) default_name) c.loop-name.invariant.0.grows.steps
     (c.requires.step.by_default c.if-dependency.true lists)
 
 pub returns-clause-advanced : goal.returns-clause-advanced
 returns-clause-advanced c =
-    let r = resolved_view c.args.basis.now.lookup.now in
-    let s = c.args.basis.now.setting.now in
+    let r = resolved_view c.args.context.now.lookup.now in
+    let s = c.args.context.now.setting.now in
     let x = c.loop-name.found in
     let inv = c.loop-name.invariant in
     elim c.if-dependency.branch [
@@ -83,7 +83,7 @@ returns-clause-advanced c =
 
 pub returns-clause-used : goal.returns-clause-used
 returns-clause-used c =
-    let r = resolved_view c.args.basis.now.lookup.now in
+    let r = resolved_view c.args.context.now.lookup.now in
     let i = id_of c.args.node.id.now in
     let d = dependency_view c.args.dependency.now in
     let x = c.loop-name.found in
@@ -94,8 +94,8 @@ returns-clause-used c =
       | then-dependency+in_ok-enable_default w ↦ (
           let y = w.enable_default.new.found in
           let step = w.in_ok-enable_default.ensures in
-          subst (λ (z : Found). HasUsed r z d i) (sym w.found-is) (record { declared = λ g among. named_grows r x y i g step.advanced.grows (named g among); by_default = λ uses lists. step.enabled lists }))
-      | else-dependency w ↦ subst (λ (z : Found). HasUsed r z d i) (sym w.found-is) (record { declared = named; by_default = λ uses lists. absurd (cc (uses, w.if-dependency.false)) })
+          subst (λ (z : SearchState). HasUsed r z d i) (sym w.found-is) (record { declared = λ g among. named_grows r x y i g step.advanced.grows (named g among); by_default = λ uses lists. step.enabled lists }))
+      | else-dependency w ↦ subst (λ (z : SearchState). HasUsed r z d i) (sym w.found-is) (record { declared = named; by_default = λ uses lists. absurd (cc (uses, w.if-dependency.false)) })
     ]
 
 pub returns-clause-same_links : goal.returns-clause-same_links

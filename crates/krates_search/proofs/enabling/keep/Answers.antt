@@ -1,9 +1,9 @@
 use Rattle.std.proofs.Common.{sym, subst}
 use Rattle.krates_cm.specs.Document.{DependencyModel, dep_kind_info_view}
 use Rattle.krates_rules.specs.Facts.{Crate, Kept}
-use Rattle.krates_search.specs.Basis.{FindsUsed}
+use Rattle.krates_search.specs.Context.{FindsUsed}
 use Rattle.krates_rules.specs.Resolved.{NodeAt}
-use Rattle.krates_search.specs.Found.{HasFound, HasUsed, MayUse}
+use Rattle.krates_search.specs.SearchState.{HasFound, HasUsed, MayUse}
 use Rattle.krates_search.specs.Kinds.{IsFirstOf}
 use Rattle.krates_selection.specs.Trace.{HasSomeStep}
 use Rattle.krates_questions.specs.Lookup.{resolved_view}
@@ -20,15 +20,15 @@ pub put_step-requires-clause-may : goal.put_step-requires-clause-may
 put_step-requires-clause-may c =
     let x = c.args.edge.now.entry.now in
     let k = dep_kind_info_view c.args.edge.now.info.now in
-    record { fact = Kept (edge_for x k); names = entry_edge (resolved_view c.args.basis.now.lookup.now) x k c.args.keeping.kind c.requires.lookup.distinct c.requires.entry c.requires.first; finds = c.requires.step }
+    record { fact = Kept (edge_for x k); names = entry_edge (resolved_view c.args.context.now.lookup.now) x k c.args.keeping.kind c.requires.lookup.distinct c.requires.entry c.requires.first; finds = c.requires.step }
 
 pub put_krate-requires-clause-sound : goal.put_krate-requires-clause-sound
 put_krate-requires-clause-sound c = c.in_ok-number.ensures.advanced.sound
 
 pub put_krate-requires-clause-may : goal.put_krate-requires-clause-may
 put_krate-requires-clause-may c =
-    let r = resolved_view c.args.basis.now.lookup.now in
-    let s = c.args.basis.now.setting.now in
+    let r = resolved_view c.args.context.now.lookup.now in
+    let s = c.args.context.now.setting.now in
     let x = c.args.edge.now.entry.now in
     let k = dep_kind_info_view c.args.edge.now.info.now in
     let y = c.put_step.new.found in
@@ -57,8 +57,8 @@ enable_declared-requires-clause-kept c = record { place = c.args.keeping.node; a
 
 pub enable_declared-requires-clause-may : goal.enable_declared-requires-clause-may
 enable_declared-requires-clause-may c =
-    let r = resolved_view c.args.basis.now.lookup.now in
-    let s = c.args.basis.now.setting.now in
+    let r = resolved_view c.args.context.now.lookup.now in
+    let s = c.args.context.now.setting.now in
     let x = c.args.edge.now.entry.now in
     let k = dep_kind_info_view c.args.edge.now.info.now in
     let d = c.requires.wanted in
@@ -67,8 +67,8 @@ enable_declared-requires-clause-may c =
 
 pub enable_declared-requires-clause-step : goal.enable_declared-requires-clause-step
 enable_declared-requires-clause-step c =
-    let r = resolved_view c.args.basis.now.lookup.now in
-    let b = c.args.basis.now in
+    let r = resolved_view c.args.context.now.lookup.now in
+    let b = c.args.context.now in
     let x = c.args.edge.now.entry.now in
     let k = dep_kind_info_view c.args.edge.now.info.now in
     let d = c.requires.wanted in
@@ -87,7 +87,7 @@ wake-requires-clause-kept c = c.in_ok-enable_declared.ensures.advanced.grows.fou
 
 pub wake-requires-clause-step : goal.wake-requires-clause-step
 wake-requires-clause-step c =
-    let r = resolved_view c.args.basis.now.lookup.now in
+    let r = resolved_view c.args.context.now.lookup.now in
     let x = c.args.edge.now.entry.now in
     let k = dep_kind_info_view c.args.edge.now.info.now in
     let e = edge_for x k in
@@ -97,8 +97,8 @@ wake-requires-clause-step c =
 
 pub returns-clause-advanced : goal.returns-clause-advanced
 returns-clause-advanced c =
-    let r = resolved_view c.args.basis.now.lookup.now in
-    let s = c.args.basis.now.setting.now in
+    let r = resolved_view c.args.context.now.lookup.now in
+    let s = c.args.context.now.setting.now in
     let x = c.args.edge.now.entry.now in
     let k = dep_kind_info_view c.args.edge.now.info.now in
     let e = edge_for x k in

@@ -2,7 +2,7 @@ use Rattle.std.proofs.Common.{◌≡◌, ◌∙◌, refl}
 use Rattle.krates_rules.specs.Facts.{Crate, Feature, Toggled}
 use Rattle.krates_questions.specs.Lookup.{resolved_view}
 use Rattle.krates_rules.specs.Resolved.{id_of}
-use Rattle.krates_search.specs.Found.{HasFound}
+use Rattle.krates_search.specs.SearchState.{HasFound}
 use Rattle.krates_search.specs.FoundToggle.{found_toggled}
 use Rattle.krates_selection.specs.Trace.{HasSomeStep}
 use Rattle.krates_search.specs.declared.found_toggle.FoundToggle.{FoundToggle}
@@ -15,7 +15,7 @@ use Rattle.krates_search.proofs.Waking.{may_name}
 use Rattle.krates_search.proofs.enabling.toggle.Goals as goal
 
 pub listed_number-requires-clause-may : goal.listed_number-requires-clause-may
-listed_number-requires-clause-may c = may_name (resolved_view c.args.basis.now.lookup.now) c.args.basis.now.setting.now (id_of c.args.by.id.now) (id_of c.args.node.id.now) c.args.feature.name.now c.requires.may
+listed_number-requires-clause-may c = may_name (resolved_view c.args.context.now.lookup.now) c.args.context.now.setting.now (id_of c.args.by.id.now) (id_of c.args.node.id.now) c.args.feature.name.now c.requires.may
 
 pub put_step-requires-clause-may : goal.put_step-requires-clause-may
 put_step-requires-clause-may c =
@@ -26,13 +26,13 @@ put_step-requires-clause-may c =
     record {
       fact = Toggled p i g;
       names = record { by = p; krate = i; name = g; node = c.requires.by.at; at = at; is = refl };
-      finds = c.requires.step (listed_at (resolved_view c.args.basis.now.lookup.now) i g c.in_ok-number.number at);
+      finds = c.requires.step (listed_at (resolved_view c.args.context.now.lookup.now) i g c.in_ok-number.number at);
     }
 
 pub put_feature-requires-clause-may : goal.put_feature-requires-clause-may
 put_feature-requires-clause-may c =
-    let r = resolved_view c.args.basis.now.lookup.now in
-    let s = c.args.basis.now.setting.now in
+    let r = resolved_view c.args.context.now.lookup.now in
+    let s = c.args.context.now.setting.now in
     let p = id_of c.args.by.id.now in
     let i = id_of c.args.node.id.now in
     let g = c.args.feature.name.now in
@@ -49,8 +49,8 @@ put_feature-requires-clause-may c =
 
 pub returns-clause-advanced : goal.returns-clause-advanced
 returns-clause-advanced c =
-    let r = resolved_view c.args.basis.now.lookup.now in
-    let s = c.args.basis.now.setting.now in
+    let r = resolved_view c.args.context.now.lookup.now in
+    let s = c.args.context.now.setting.now in
     let p = id_of c.args.by.id.now in
     let i = id_of c.args.node.id.now in
     let g = c.args.feature.name.now in
@@ -71,8 +71,8 @@ returns-clause-advanced c =
 
 pub returns-clause-toggled : goal.returns-clause-toggled
 returns-clause-toggled c =
-    let r = resolved_view c.args.basis.now.lookup.now in
-    let s = c.args.basis.now.setting.now in
+    let r = resolved_view c.args.context.now.lookup.now in
+    let s = c.args.context.now.setting.now in
     let p = id_of c.args.by.id.now in
     let i = id_of c.args.node.id.now in
     let g = c.args.feature.name.now in

@@ -3,8 +3,8 @@ use Rattle.std.proofs.lemmas.List.{get_or_default}
 use Rattle.krates_cm.specs.Document.{DepKindInfoModel}
 use Rattle.krates_rules.specs.Derivation.{Derivable}
 use Rattle.krates_rules.specs.Facts.{Id, Crate, Kept, Toggled}
-use Rattle.krates_search.specs.Basis.{FindsToggled}
-use Rattle.krates_search.specs.Found.{HasFound, IsEdgeStep, IsToggledIn, MayToggle}
+use Rattle.krates_search.specs.Context.{FindsToggled}
+use Rattle.krates_search.specs.SearchState.{HasFound, IsEdgeStep, IsToggledIn, MayToggle}
 use Rattle.krates_rules.specs.Resolved.{DepAt}
 use Rattle.krates_selection.specs.Trace.{by_two}
 use Rattle.krates_search.specs.Links.{HasMarked, IsMarked}
@@ -31,8 +31,8 @@ mark-waiters-requires c = c.requires.sound.has_links (parent_of c.args.entry.now
 
 pub loop-waiter-init : goal.loop-waiter-init
 loop-waiter-init c =
-    let r = resolved_view c.args.basis.now.lookup.now in
-    let s = c.args.basis.now.setting.now in
+    let r = resolved_view c.args.context.now.lookup.now in
+    let s = c.args.context.now.setting.now in
     let e = c.args.entry.now in
     let x = c.args.found.now in
     let n = c.args.step in
@@ -55,12 +55,12 @@ toggle-requires-clause-sound c = c.loop-waiter.invariant.2.sound
 pub toggle-requires-clause-kept : goal.toggle-requires-clause-kept
 toggle-requires-clause-kept c =
     let x = c.loop-waiter.found in
-    subst (λ (i : Id). HasFound (resolved_view c.args.basis.now.lookup.now) x (Crate i)) (sym c.requires.of_child) (c.loop-waiter.invariant.2.grows.found (Crate (child_of c.args.entry.now)) c.requires.kept)
+    subst (λ (i : Id). HasFound (resolved_view c.args.context.now.lookup.now) x (Crate i)) (sym c.requires.of_child) (c.loop-waiter.invariant.2.grows.found (Crate (child_of c.args.entry.now)) c.requires.kept)
 
 pub toggle-requires-clause-may : goal.toggle-requires-clause-may
 toggle-requires-clause-may c =
-    let r = resolved_view c.args.basis.now.lookup.now in
-    let s = c.args.basis.now.setting.now in
+    let r = resolved_view c.args.context.now.lookup.now in
+    let s = c.args.context.now.setting.now in
     let x = c.args.entry.now in
     let items = c.as_slice-waiter-items.result.now in
     let none : Waiting = record { name = record { ref_ptr = (0, 0); now = [] }; step = 0 } in
@@ -71,8 +71,8 @@ toggle-requires-clause-may c =
 
 pub toggle-requires-clause-step : goal.toggle-requires-clause-step
 toggle-requires-clause-step c =
-    let r = resolved_view c.args.basis.now.lookup.now in
-    let s = c.args.basis.now.setting.now in
+    let r = resolved_view c.args.context.now.lookup.now in
+    let s = c.args.context.now.setting.now in
     let x = c.args.entry.now in
     let p = parent_of x in
     let i = child_of x in
@@ -85,15 +85,15 @@ toggle-requires-clause-step c =
     let asking = c.requires.sound.numbered.waiting p i x.place x.index w c.requires.entry.at waits in
     let old = c.args.found.now.trace.items in
     let now = c.loop-waiter.found.trace.items in
-    let here : FindsToggled c.args.basis.now c.loop-waiter.found c.by_two.result p i g = λ lists.
+    let here : FindsToggled c.args.context.now c.loop-waiter.found c.by_two.result p i g = λ lists.
     for_reason r s now _ _ (Toggled p i g) c.by_two.ensures
     (finds_more r s old now (by_two 7 w.step n) (Toggled p i g) c.loop-waiter.invariant.2.grows.steps (finds_woken r s old w.step n p i c.requires.step.0 g asking c.requires.step.1 lists)) in
-    subst (λ (j : Id). FindsToggled c.args.basis.now c.loop-waiter.found c.by_two.result p j g) (sym c.requires.of_child) here
+    subst (λ (j : Id). FindsToggled c.args.context.now c.loop-waiter.found c.by_two.result p j g) (sym c.requires.of_child) here
 
 pub loop-waiter-preserved : goal.loop-waiter-preserved
 loop-waiter-preserved c =
-    let r = resolved_view c.args.basis.now.lookup.now in
-    let s = c.args.basis.now.setting.now in
+    let r = resolved_view c.args.context.now.lookup.now in
+    let s = c.args.context.now.setting.now in
     let e = c.args.entry.now in
     let x = c.loop-waiter.found in
     let y = c.toggle.new.found in
@@ -113,8 +113,8 @@ loop-waiter-preserved c =
 
 pub returns-clause-advanced : goal.returns-clause-advanced
 returns-clause-advanced c =
-    let r = resolved_view c.args.basis.now.lookup.now in
-    let s = c.args.basis.now.setting.now in
+    let r = resolved_view c.args.context.now.lookup.now in
+    let s = c.args.context.now.setting.now in
     let e = c.args.entry.now in
     let x = c.loop-waiter.found in
     let inv = c.loop-waiter.invariant in

@@ -4,7 +4,7 @@ use Rattle.krates_cm.specs.Document.{node_dep_view}
 use Rattle.krates_ids.specs.Identity.{Identity}
 use Rattle.krates_rules.specs.Derivation.{Derivable}
 use Rattle.krates_rules.specs.Facts.{Crate, Kept}
-use Rattle.krates_search.specs.Found.{AreTried, HasFound, IsExpanded, IsRequired}
+use Rattle.krates_search.specs.SearchState.{AreTried, HasFound, IsExpanded, IsRequired}
 use Rattle.krates_rules.specs.Resolved.{NodeAt, id_of}
 use Rattle.krates_questions.specs.Lookup.{resolved_view}
 use Rattle.krates_questions.specs.NodeEntry.{child_of, edge_for}
@@ -19,19 +19,19 @@ use Rattle.krates_search.proofs.TriedParts.{tried_more, tried_whole, expanded_he
 use Rattle.krates_search.proofs.expansion.expand.Goals as goal
 
 pub entry_at-entry-requires-clause-lengths : goal.entry_at-entry-requires-clause-lengths
-entry_at-entry-requires-clause-lengths c = sym (deps_long (resolved_view c.args.basis.now.lookup.now) c.number.result c.parts_of-parts.result c.parts_of-parts.ensures)
+entry_at-entry-requires-clause-lengths c = sym (deps_long (resolved_view c.args.context.now.lookup.now) c.number.result c.parts_of-parts.result c.parts_of-parts.ensures)
 
 pub entry_at-entry-requires-clause-versions : goal.entry_at-entry-requires-clause-versions
-entry_at-entry-requires-clause-versions c = own_long (resolved_view c.args.basis.now.lookup.now) c.number.result c.parts_of-parts.result c.parts_of-parts.ensures
+entry_at-entry-requires-clause-versions c = own_long (resolved_view c.args.context.now.lookup.now) c.number.result c.parts_of-parts.result c.parts_of-parts.ensures
 
 pub expand_entry-requires-clause-entry : goal.expand_entry-requires-clause-entry
 expand_entry-requires-clause-entry c =
-    entry_here (resolved_view c.args.basis.now.lookup.now) c.number.result c.parts_of-parts.result c.loop-index.index c.entry_at-entry.result c.parts_of-parts.ensures c.entry_at-entry.ensures
+    entry_here (resolved_view c.args.context.now.lookup.now) c.number.result c.parts_of-parts.result c.loop-index.index c.entry_at-entry.result c.parts_of-parts.ensures c.entry_at-entry.ensures
 
 pub expand_entry-requires-clause-may : goal.expand_entry-requires-clause-may
 expand_entry-requires-clause-may c k =
-    let r = resolved_view c.args.basis.now.lookup.now in
-    let s = c.args.basis.now.setting.now in
+    let r = resolved_view c.args.context.now.lookup.now in
+    let s = c.args.context.now.setting.now in
     let parent = c.parts_of-parts.result.parent.now in
     let put = c.args.found.now.krates.put in
     let kept : HasFound r c.args.found.now (Crate (id_of parent)) = record {
@@ -44,8 +44,8 @@ expand_entry-requires-clause-may c k =
 
 pub expand_entry-requires-clause-step : goal.expand_entry-requires-clause-step
 expand_entry-requires-clause-step c k d wanted is_required stands =
-    let r = resolved_view c.args.basis.now.lookup.now in
-    let s = c.args.basis.now.setting.now in
+    let r = resolved_view c.args.context.now.lookup.now in
+    let s = c.args.context.now.setting.now in
     let parent = c.parts_of-parts.result.parent.now in
     let trace = c.loop-index.found.trace.items in
     let e = edge_for c.entry_at-entry.result k in
@@ -56,8 +56,8 @@ expand_entry-requires-clause-step c k d wanted is_required stands =
 
 pub loop-index-preserved : goal.loop-index-preserved
 loop-index-preserved c =
-    let r = resolved_view c.args.basis.now.lookup.now in
-    let s = c.args.basis.now.setting.now in
+    let r = resolved_view c.args.context.now.lookup.now in
+    let s = c.args.context.now.setting.now in
     let parts = c.parts_of-parts.result in
     let entry = c.entry_at-entry.result in
     let x = c.loop-index.found in
@@ -74,8 +74,8 @@ loop-index-preserved c =
 
 pub returns-clause-expanded : goal.returns-clause-expanded
 returns-clause-expanded c krate at =
-    let r = resolved_view c.args.basis.now.lookup.now in
-    let s = c.args.basis.now.setting.now in
+    let r = resolved_view c.args.context.now.lookup.now in
+    let s = c.args.context.now.setting.now in
     let once = c.one_reading.ensures.once in
     let p = c.parts_of-parts.ensures in
     let parts = c.parts_of-parts.result in

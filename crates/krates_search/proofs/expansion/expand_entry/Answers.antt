@@ -4,7 +4,7 @@ use Rattle.krates_cm.specs.Document.{dep_kind_info_view}
 use Rattle.krates_cm.specs.declared.resolve.DepKindInfo.{DepKindInfo}
 use Rattle.krates_rules.specs.Facts.{Kept}
 use Rattle.krates_rules.proofs.Standings.{contains_at}
-use Rattle.krates_search.specs.Found.{IsAny, TakenWhen}
+use Rattle.krates_search.specs.SearchState.{IsAny, TakenWhen}
 use Rattle.krates_search.specs.Kinds.{AreFirstKinds}
 use Rattle.krates_questions.specs.Lookup.{resolved_view}
 use Rattle.krates_questions.specs.NodeEntry.{child_of, declared_in, edge_for, parent_of}
@@ -18,7 +18,7 @@ use Rattle.krates_search.proofs.TriedKinds.{kinds_in, kinds_more, kinds_whole}
 use Rattle.krates_search.proofs.expansion.expand_entry.Goals as goal
 
 pub loop-kind-init : goal.loop-kind-init
-loop-kind-init c = (advances_refl (resolved_view c.args.basis.now.lookup.now) c.args.basis.now.setting.now c.args.found.now c.requires.sound, λ k d lt. absurd (omega (arith, lt)), λ so k d lt. absurd (omega (arith, lt)))
+loop-kind-init c = (advances_refl (resolved_view c.args.context.now.lookup.now) c.args.context.now.setting.now c.args.found.now c.requires.sound, λ k d lt. absurd (omega (arith, lt)), λ so k d lt. absurd (omega (arith, lt)))
 
 -- the place that was taken
 kinds_there : (kinds items : List ℕ) (i : ℕ) → items ≡ kinds → i < length items → Contains kinds (get_or items i 0)
@@ -70,13 +70,13 @@ expand_edge-requires-clause-may c = c.requires.may (dep_kind_info_view c.info_at
 pub expand_edge-requires-clause-step : goal.expand_edge-requires-clause-step
 expand_edge-requires-clause-step c d wanted taken stands =
     let k = dep_kind_info_view c.info_at.result.now in
-    finds_more (resolved_view c.args.basis.now.lookup.now) c.args.basis.now.setting.now c.args.found.now.trace.items c.loop-kind.found.trace.items c.args.reason (Kept (edge_for c.args.entry.now k)) c.loop-kind.invariant.0.grows.steps
+    finds_more (resolved_view c.args.context.now.lookup.now) c.args.context.now.setting.now c.args.found.now.trace.items c.loop-kind.found.trace.items c.args.reason (Kept (edge_for c.args.entry.now k)) c.loop-kind.invariant.0.grows.steps
     (c.requires.step k d wanted taken stands)
 
 pub loop-kind-preserved : goal.loop-kind-preserved
 loop-kind-preserved c =
-    let r = resolved_view c.args.basis.now.lookup.now in
-    let s = c.args.basis.now.setting.now in
+    let r = resolved_view c.args.context.now.lookup.now in
+    let s = c.args.context.now.setting.now in
     let entry = c.args.entry.now in
     let x = c.loop-kind.found in
     let y = c.expand_edge.new.found in
@@ -103,8 +103,8 @@ returns-then-not-whole-clause-advanced c = c.loop-kind.invariant.0
 
 pub returns-then-not-whole-clause-tried : goal.returns-then-not-whole-clause-tried
 returns-then-not-whole-clause-tried c =
-    let r = resolved_view c.args.basis.now.lookup.now in
-    let s = c.args.basis.now.setting.now in
+    let r = resolved_view c.args.context.now.lookup.now in
+    let s = c.args.context.now.setting.now in
     let entry = c.args.entry.now in
     let kinds = c.in_ok-kinds.kinds.items in
     let first = same_infos c.as_slice-infos.result.now entry.dep.now.dep_kinds.items kinds c.as_slice-infos.ensures.value c.in_ok-kinds.ensures in
@@ -117,8 +117,8 @@ note_asked-requires c =
 
 pub returns-clause-advanced : goal.returns-clause-advanced
 returns-clause-advanced c =
-    let r = resolved_view c.args.basis.now.lookup.now in
-    let s = c.args.basis.now.setting.now in
+    let r = resolved_view c.args.context.now.lookup.now in
+    let s = c.args.context.now.setting.now in
     let entry = c.args.entry.now in
     let x = c.loop-kind.found in
     let l = c.note_asked.new.self in
@@ -131,8 +131,8 @@ returns-clause-advanced c =
 
 pub returns-clause-tried : goal.returns-clause-tried
 returns-clause-tried c k among =
-    let r = resolved_view c.args.basis.now.lookup.now in
-    let s = c.args.basis.now.setting.now in
+    let r = resolved_view c.args.context.now.lookup.now in
+    let s = c.args.context.now.setting.now in
     let entry = c.args.entry.now in
     let kinds = c.in_ok-kinds.kinds.items in
     let first = same_infos c.as_slice-infos.result.now entry.dep.now.dep_kinds.items kinds c.as_slice-infos.ensures.value c.in_ok-kinds.ensures in

@@ -1,5 +1,5 @@
 use Rattle.std.proofs.Common.{◌≡◌, true}
-use Rattle.krates_search.specs.Found.{Advances, IsAny, TakenWhen}
+use Rattle.krates_search.specs.SearchState.{Advances, IsAny, TakenWhen}
 use Rattle.krates_questions.specs.Lookup.{resolved_view}
 use Rattle.krates_search.proofs.TriedKinds.{TriedKinds}
 use Rattle.krates_search.proofs.expansion.expand_entry.Given as goal
@@ -7,6 +7,6 @@ use Rattle.krates_search.proofs.expansion.expand_entry.Given as goal
 -- each edge so far has been tried, and where none was passed over, as one that is asked for
 abbrev pub invariant-loop-kind : goal.invariant-loop-kind
 invariant-loop-kind l =
-    Advances (resolved_view l.basis.lookup.now) l.basis.setting.now l.fn.found l.found
-    × TriedKinds (resolved_view l.basis.lookup.now) l.basis.setting.now l.found l.entry (TakenWhen l.asked) l.kind-items l.kind-index
-    × (l.whole ≡ true → TriedKinds (resolved_view l.basis.lookup.now) l.basis.setting.now l.found l.entry IsAny l.kind-items l.kind-index)
+    Advances (resolved_view l.context.lookup.now) l.context.setting.now l.fn.found l.found
+    × TriedKinds (resolved_view l.context.lookup.now) l.context.setting.now l.found l.entry (TakenWhen l.asked) l.kind-items l.kind-index
+    × (l.whole ≡ true → TriedKinds (resolved_view l.context.lookup.now) l.context.setting.now l.found l.entry IsAny l.kind-items l.kind-index)

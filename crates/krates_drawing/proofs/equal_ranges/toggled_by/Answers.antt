@@ -1,0 +1,30 @@
+use Rattle.std.proofs.Common.{length, map, rules, ap, subst, sym, ◌∙◌}
+use Rattle.std.proofs.lemmas.Fn.{always_returns_same}
+use Rattle.std.proofs.lemmas.List.Elements.{All-filter}
+use Rattle.std.specs.List.{All}
+use Rattle.std.specs.Ordering.{is_eq, is_lt, nat_cmp}
+use Rattle.krates_selection.specs.CrateNumbers.{HasCrates}
+use Rattle.krates_selection.specs.declared.selection.ToggledFeature.{ToggledFeature}
+use Rattle.krates_drawing.specs.Sheet.{toggle_of}
+use Rattle.krates_drawing.specs.Views.{kids_in}
+use Rattle.krates_drawing.proofs.CratePlaces.{seen_by}
+use Rattle.krates_drawing.proofs.EqualRanges.{cut}
+use Rattle.krates_drawing.proofs.Tests.{cut_by, cut_by_krate, has_by, toggled_by_crate}
+use Rattle.krates_drawing.proofs.equal_ranges.toggled_by.Goals as goal
+
+pub returns : goal.returns
+returns c =
+    let t = c.args.sheet.now in
+    let o = c.requires.ordered in
+    let xs = t.toggled.items in
+    let p = c.args.by in
+    let low = c.partition_point-below.ensures.partitioned (λ (t : ToggledFeature). is_lt (nat_cmp t.by p)) (always_returns_same _ _ _ (λ a r q called. search rules)) in
+    let high = c.partition_point-count.ensures.partitioned (λ (t : ToggledFeature). is_eq (nat_cmp t.by p)) (always_returns_same _ _ _ (λ a r q called. search rules)) in
+    let found = cut (λ (t : ToggledFeature). nat_cmp t.by p) xs c.deref.result.now c.deref-2.result.now c.split_at.result.1.now c.split_at-2.result.0.now c.partition_point-below.result c.partition_point-count.result
+    c.deref.ensures.value c.deref-2.ensures.value c.split_at.ensures.back c.split_at-2.ensures.front (toggled_by_crate xs p o.toggled) low high in
+    let is = cut_by xs c.split_at-2.result.0.now p found in
+    record {
+      toggled = ap (map (toggle_of (kids_in t))) is ∙ sym (seen_by t.krates.items p xs o.krates c.requires.within o.toggled_crates);
+      by_krate = cut_by_krate xs c.split_at-2.result.0.now p o.toggled found;
+      crates = subst (All (HasCrates (length t.krates.items))) (sym is) (All-filter (has_by p) (HasCrates (length t.krates.items)) xs o.toggled_crates);
+    }

@@ -1,0 +1,17 @@
+use Rattle.std.proofs.Common.{refl, rules}
+use Rattle.std.proofs.lemmas.Fn.{always_returns_same}
+use Rattle.std.specs.Ordering.{is_eq, is_lt, nat_cmp}
+use Rattle.krates_selection.specs.declared.selection.ToggledFeature.{ToggledFeature}
+use Rattle.krates_drawing.proofs.EqualRanges.{cut}
+use Rattle.krates_drawing.proofs.Tests.{cut_krate, toggled_by_krate}
+use Rattle.krates_drawing.proofs.equal_ranges.toggled_in.Goals as goal
+
+pub returns : goal.returns
+returns c =
+    let xs = c.args.mine.now in
+    let q = c.args.krate in
+    let low = c.partition_point-below.ensures.partitioned (λ (t : ToggledFeature). is_lt (nat_cmp t.krate q)) (always_returns_same _ _ _ (λ a r k called. search rules)) in
+    let high = c.partition_point-count.ensures.partitioned (λ (t : ToggledFeature). is_eq (nat_cmp t.krate q)) (always_returns_same _ _ _ (λ a r k called. search rules)) in
+    let found = cut (λ (t : ToggledFeature). nat_cmp t.krate q) xs xs xs c.split_at.result.1.now c.split_at-2.result.0.now c.partition_point-below.result c.partition_point-count.result
+    refl refl c.split_at.ensures.back c.split_at-2.ensures.front (toggled_by_krate xs q c.requires) low high in
+    cut_krate xs c.split_at-2.result.0.now q found

@@ -1,0 +1,70 @@
+//! Stretches of the lists of a sheet, found by halves.
+ghost use Rattle.std.specs.Prelude.{◌≡◌, ◌<◌, filter, length};
+ghost use Rattle.std.specs.List.{list_any};
+ghost use Rattle.krates_drawing.specs.Home.{AreLinksFrom, AreToggledBy};
+ghost use Rattle.krates_drawing.specs.SheetOrder.{AreByChild, AreByKrate, IsOrdered, has_child, has_krate};
+
+use crate::sheet::{Link, Sheet};
+use krates_selection::ToggledFeature;
+
+/// The kept edges from a crate, by child.
+pub(crate) fn links_from(sheet: &Sheet, parent: usize) -> &[Link]
+    requires ordered { IsOrdered sheet.now }
+    requires within { parent < length sheet.now.krates.items }
+    ensures { AreLinksFrom sheet.now parent result.now }
+{
+    let below = sheet
+        .links
+        .partition_point(|link| link.edge.parent.cmp(&parent).is_lt());
+    let (_, rest) = sheet.links.split_at(below);
+    let count = rest.partition_point(|link| link.edge.parent.cmp(&parent).is_eq());
+    let (mine, _) = rest.split_at(count);
+    mine
+}
+
+/// Those of the edges from a crate that lead to another.
+pub(crate) fn links_to(mine: &[Link], child: usize) -> &[Link]
+    requires { AreByChild mine.now }
+    ensures { result.now ≡ filter (has_child child) mine.now }
+{
+    let below = mine.partition_point(|link| link.edge.child.cmp(&child).is_lt());
+    let (_, rest) = mine.split_at(below);
+    let count = rest.partition_point(|link| link.edge.child.cmp(&child).is_eq());
+    let (there, _) = rest.split_at(count);
+    there
+}
+
+/// Whether one of the edges from a crate leads to another.
+pub(crate) fn leads_to(mine: &[Link], child: usize) -> bool
+    requires { AreByChild mine.now }
+    ensures { result ≡ list_any (has_child child) mine.now }
+{
+    !links_to(mine, child).is_empty()
+}
+
+/// The features that a crate toggles, grouped by the crate that they belong to.
+pub(crate) fn toggled_by(sheet: &Sheet, by: usize) -> &[ToggledFeature]
+    requires ordered { IsOrdered sheet.now }
+    requires within { by < length sheet.now.krates.items }
+    ensures { AreToggledBy sheet.now by result.now }
+{
+    let below = sheet
+        .toggled
+        .partition_point(|toggled| toggled.by.cmp(&by).is_lt());
+    let (_, rest) = sheet.toggled.split_at(below);
+    let count = rest.partition_point(|toggled| toggled.by.cmp(&by).is_eq());
+    let (mine, _) = rest.split_at(count);
+    mine
+}
+
+/// Those of the features that a crate toggles that are another's, by name.
+pub(crate) fn toggled_in(mine: &[ToggledFeature], krate: usize) -> &[ToggledFeature]
+    requires { AreByKrate mine.now }
+    ensures { result.now ≡ filter (has_krate krate) mine.now }
+{
+    let below = mine.partition_point(|toggled| toggled.krate.cmp(&krate).is_lt());
+    let (_, rest) = mine.split_at(below);
+    let count = rest.partition_point(|toggled| toggled.krate.cmp(&krate).is_eq());
+    let (there, _) = rest.split_at(count);
+    there
+}

@@ -1,0 +1,177 @@
+-- What a search is made against, a document and a setting, and what is said of its state.
+use Rattle.krates_questions.specs.Context.{document_of, Derives, IsNodeAt, IsFeatureAt, Lists, Wants}
+use Rattle.krates_cm.specs.Document.{DependencyModel, NodeDepModel, Text, dependency_view, node_dep_view}
+use Rattle.krates_cm.specs.declared.dependency.Dependency.{Dependency}
+use Rattle.krates_search.specs.SearchState.{Advances, AreTried, IsEdgeStep, HasFound, HasUsed, IsEnabledBySome, IsExpanded, IsSound, IsToggledIn, IsTried, MayName, MayToggle, MayTry, MayUse}
+use Rattle.krates_questions.specs.NodeEntry.{child_of, parent_of}
+use Rattle.krates_selection.specs.Trace.{HasStep, MayFind, Names}
+use Rattle.krates_questions.specs.declared.context.Context.{Context}
+use Rattle.krates_search.specs.declared.enabling.KeptNode.{KeptNode}
+use Rattle.krates_search.specs.declared.search_state.SearchState.{SearchState}
+use Rattle.krates_questions.specs.declared.node_entry.NodeEntry.{NodeEntry}
+use Rattle.krates_questions.specs.declared.standing.Standing.{Standing}
+use Rattle.krates_questions.specs.Standing.{IsStanding}
+use Rattle.krates_selection.specs.declared.trace.NumberedStep.{NumberedStep}
+use Rattle.krates_selection.specs.declared.trace.Reason.{Reason}
+use Rattle.krates_rules.specs.Facts.{Crate, Edge, Fact, Feature, Id, Kept, Toggled}
+use Rattle.krates_rules.specs.NamedIds.{IsReadOf}
+use Rattle.krates_rules.specs.Questions.{Stands}
+use Rattle.krates_rules.specs.Resolved.{id_of}
+use Rattle.krates_rules.specs.Rules.{default_name}
+use Rattle.krates_questions.specs.Numbering.{IsOwn}
+use Rattle.krates_ids.specs.Identity.{Identity}
+use Rattle.std.specs.Prelude.{◌≡◌, Contains, ℕ, true}
+
+-- the crate of a node
+abbrev pub crate_of : KeptNode → Id
+crate_of node = id_of node.id.now
+
+-- all that has been found is right
+abbrev pub IsRight : Context → SearchState → Type 0
+IsRight b = IsSound (document_of b) b.setting.now
+
+-- more has been found, and is right
+abbrev pub Moves : Context → SearchState → SearchState → Type 0
+Moves b = Advances (document_of b) b.setting.now
+
+-- the fact has been found
+abbrev pub Has : Context → SearchState → Fact → Type 0
+Has b = HasFound (document_of b)
+
+-- the edge may be kept as a dependency that is taken
+abbrev pub MayKeep : Context → Edge → (DependencyModel → Type 0) → Type 0
+MayKeep b = MayTry (document_of b) b.setting.now
+
+-- the feature may be enabled
+abbrev pub MayEnable : Context → Id → Text → Type 0
+MayEnable b = MayName (document_of b) b.setting.now
+
+-- the feature may be toggled
+abbrev pub MayToggleFor : Context → Id → Id → Text → Type 0
+MayToggleFor b = MayToggle (document_of b) b.setting.now
+
+-- what the declared dependency asks for may be enabled
+abbrev pub MayEnableFor : Context → DependencyModel → Id → Type 0
+MayEnableFor b = MayUse (document_of b) b.setting.now
+
+-- the feature is enabled
+abbrev pub HasEnabled : Context → SearchState → Id → Text → Type 0
+HasEnabled b = IsEnabledBySome (document_of b)
+
+-- the feature is toggled
+abbrev pub HasToggled : Context → SearchState → Id → Id → Text → Type 0
+HasToggled b = IsToggledIn (document_of b)
+
+-- what the declared dependency asks for is enabled
+abbrev pub HasEnabledFor : Context → SearchState → Dependency → KeptNode → Type 0
+HasEnabledFor b x dependency node = HasUsed (document_of b) x (dependency_view dependency) (crate_of node)
+
+-- the edge has been tried
+abbrev pub HasTried : Context → SearchState → Edge → (DependencyModel → Type 0) → Type 0
+HasTried b = IsTried (document_of b) b.setting.now
+
+-- each edge by the dependency has been tried
+abbrev pub HasTriedEach : Context → SearchState → Id → Id → NodeDepModel → (DependencyModel → Type 0) → Type 0
+HasTriedEach b = AreTried (document_of b) b.setting.now
+
+-- the crate has been expanded
+abbrev pub HasExpanded : Context → SearchState → Id → Type 0
+HasExpanded b = IsExpanded (document_of b) b.setting.now
+
+-- a feature may be enabled, or is, where the crate lists it
+abbrev pub MayEnableListed : Context → Id → Text → Type 0
+MayEnableListed b i f = Lists b i f → Derives b (Feature i f)
+
+abbrev pub HasListed : Context → SearchState → Id → Text → Type 0
+HasListed b x i f = Lists b i f → Has b x (Feature i f)
+
+-- the crate or feature that was taken has been expanded or followed
+abbrev pub HasExpandedTaken : Context → SearchState → ℕ → Type 0
+HasExpandedTaken b x taken = (krate : Id) → IsNodeAt b krate taken → HasExpanded b x krate
+
+-- each edge of an entry has been tried
+abbrev pub HasTriedEntry : Context → SearchState → NodeEntry → (DependencyModel → Type 0) → Type 0
+HasTriedEntry b x entry = HasTriedEach b x (parent_of entry) (child_of entry) (node_dep_view entry.dep.now)
+
+-- the answer is true of the crate that the dependency leads to
+abbrev pub HasStanding : Context → NodeEntry → Standing → Type 0
+HasStanding b entry = IsStanding (document_of b) b.setting.now (child_of entry)
+
+-- the id is read of the document
+abbrev pub IsRead : Context → Identity → Type 0
+IsRead b = IsReadOf (document_of b)
+
+-- the node of a kept crate stands at its place, and its id is read of the document
+pub record IsNodeOf (b : Context) (node : KeptNode) : Type 0 where
+  pub at : IsNodeAt b (crate_of node) node.place
+  pub read : IsRead b node.id.now
+
+-- the feature of the node's crate is toggled by that one
+abbrev pub HasToggledBy : Context → SearchState → KeptNode → KeptNode → Text → Type 0
+HasToggledBy b x by node = HasToggled b x (crate_of by) (crate_of node)
+
+-- ---- steps
+
+-- the step with this number has the fact
+abbrev pub HasStepOf : Context → SearchState → ℕ → Fact → Type 0
+HasStepOf b x = HasStep (document_of b) x.trace.items
+
+-- for this reason the fact follows from the steps
+abbrev pub Finds : Context → SearchState → Reason → Fact → Type 0
+Finds b x = MayFind (document_of b) b.setting.now x.trace.items
+
+-- so does the feature, if the crate lists it
+abbrev pub FindsListed : Context → SearchState → Reason → Id → Text → Type 0
+FindsListed b x reason i f = Lists b i f → Finds b x reason (Feature i f)
+
+-- it also follows that the feature is toggled
+abbrev pub FindsToggled : Context → SearchState → Reason → Id → Id → Text → Type 0
+FindsToggled b x reason p c g = Lists b c g → Finds b x reason (Toggled p c g)
+
+-- so does each feature that the declared dependency asks for
+pub record FindsUsed (b : Context) (x : SearchState) (reason : Reason) (d : DependencyModel) (child : Id) : Type 0 where
+  pub declared : (g : Text) → Contains d.features g → FindsListed b x reason child g
+  pub by_default : d.uses_default_features ≡ true → FindsListed b x reason child default_name
+
+-- so does the edge, if it is wanted as a dependency that is taken and its child stands
+abbrev pub FindsEdge : Context → SearchState → Reason → Edge → (DependencyModel → Type 0) → Type 0
+FindsEdge b x reason e taken =
+    (d : DependencyModel) → Wants b e d → taken d → Stands (document_of b) b.setting.now e.child → Finds b x reason (Kept e)
+
+-- the step is that of the crate, or of the feature, that was taken
+abbrev pub HasKrateStep : Context → SearchState → ℕ → ℕ → Type 0
+HasKrateStep b x step taken = (krate : Id) → IsNodeAt b krate taken → HasStepOf b x step (Crate krate)
+
+-- the step is that of an edge of the entry
+abbrev pub HasKeptStep : Context → SearchState → ℕ → NodeEntry → Type 0
+HasKeptStep b x step entry = IsEdgeStep (document_of b) x.trace.items (parent_of entry) (child_of entry) step
+
+-- ---- what is put with its step
+
+-- the number is the own number of the crate's feature
+abbrev pub IsNumberOf : Context → Id → Text → ℕ → Type 0
+IsNumberOf b i f number = IsFeatureAt b i f number × IsOwn (document_of b) number
+
+-- the fact of the step follows
+pub record MayPutStep (b : Context) (x : SearchState) (step : NumberedStep) : Type 0 where
+  pub fact : Fact
+  pub names : Names (document_of b) step.fact fact
+  pub finds : Finds b x step.reason fact
+
+-- the step has this number, whatever its fact is
+abbrev pub HasPutStep : Context → SearchState → NumberedStep → ℕ → Type 0
+HasPutStep b x step number = (f : Fact) → Names (document_of b) step.fact f → HasStepOf b x number f
+
+-- a crate stands at the place that follows
+pub record MayPutKrate (b : Context) (x : SearchState) (place : ℕ) (reason : Reason) : Type 0 where
+  pub krate : Id
+  pub node : IsNodeAt b krate place
+  pub finds : Finds b x reason (Crate krate)
+
+-- a feature of a kept crate has the number that follows
+pub record MayPutFeature (b : Context) (x : SearchState) (number : ℕ) (reason : Reason) : Type 0 where
+  pub krate : Id
+  pub name : Text
+  pub number_of : IsNumberOf b krate name number
+  pub kept : Has b x (Crate krate)
+  pub finds : Finds b x reason (Feature krate name)
