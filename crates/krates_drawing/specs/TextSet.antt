@@ -1,4 +1,4 @@
--- A list of texts in which one is found by halves.
+-- A list of texts in which one is found by binary search.
 use Rattle.std.specs.BTreeSet.{BTreeSet, contains}
 use Rattle.std.specs.Borrow.{Bor}
 use Rattle.std.specs.Cmp.Lexicographic.{slice_cmp}

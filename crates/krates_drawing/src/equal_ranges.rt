@@ -1,4 +1,4 @@
-//! Stretches of the lists of a sheet, found by halves.
+//! Ranges of equal elements in the lists of a sheet, found by binary search.
 ghost use Rattle.std.specs.Prelude.{◌≡◌, ◌<◌, filter, length};
 ghost use Rattle.std.specs.List.{list_any};
 ghost use Rattle.krates_drawing.specs.Home.{AreLinksFrom, AreToggledBy};

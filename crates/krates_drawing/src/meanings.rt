@@ -132,7 +132,7 @@ fn push_few(node: &Node, features: &[String], given: &mut Vec<String>) -> Result
     Ok(())
 }
 
-/// Those of the features that are listed, each looked for by halves.
+/// Those of the features that are listed, each looked for by binary search.
 fn push_many<'a>(
     listed: &TextSet<'a>,
     features: &'a [String],

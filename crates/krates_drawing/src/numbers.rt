@@ -1,4 +1,4 @@
-//! The numbers of nodes: their places among the crates, then among the features. What isn't a number is found by halves.
+//! The numbers of nodes: their places among the crates, then among the features. What isn't a number is found by binary search.
 ghost use Rattle.std.specs.Prelude.{◌≡◌, ◌<◌, ◌≤◌, length, map};
 ghost use Rattle.std.specs.Cmp.Lexicographic.{slice_cmp};
 ghost use Rattle.std.specs.List.Sorted.{IsStrictlySortedBy};

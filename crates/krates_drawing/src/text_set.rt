@@ -1,4 +1,4 @@
-//! A list of texts in which one is found by halves.
+//! A list of texts in which one is found by binary search.
 
 ghost use Rattle.std.specs.Prelude.{◌≡◌, IfOk, map};
 ghost use Rattle.krates_cm.specs.Document.{text_view};

@@ -35,7 +35,7 @@ use std::marker::Model;
 
 /// A document that was admitted, ready to be asked what the rules of resolution ask of it.
 ///
-/// A crate is named by its id, and found by halves. One that isn't of the document has no dependency, and is no root. The roots
+/// A crate is named by its id, and found by binary search. One that isn't of the document has no dependency, and is no root. The roots
 /// take one walk over the members.
 #[derive(Drop)]
 pub struct Document<'a> {
@@ -213,7 +213,7 @@ pub(crate) fn parts_for<'a>(lookup: &Lookup<'a>, krate: &Kid) -> Option<NodePart
     Some(parts_of(lookup, place))
 }
 
-/// The place of a node's dependency on a crate: of those whose package has its name, which are found by halves, that with its id.
+/// The place of a node's dependency on a crate: of those whose package has its name, which are found by binary search, that with its id.
 fn place_of_child<'a>(lookup: &Lookup<'a>, parts: &NodeParts<'a>, child: &Kid) -> Option<usize>
     requires lookup { IsLookup lookup.now }
     requires parts { AreParts (resolved_view lookup.now) parts.now.place parts.now }

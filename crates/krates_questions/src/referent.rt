@@ -28,7 +28,7 @@ pub struct Referent<'a> {
 /// All that a name means in a reference of a crate, in the order of ids: the dependencies of its node that answer to it, as
 /// `referent_of` has it, or the least of them alone.
 ///
-/// Only those are looked at that may answer, which are found by halves. The only error is running out of memory.
+/// Only those are looked at that may answer, which are found by binary search. The only error is running out of memory.
 /// Time: O(log n + k log k) for n dependencies, of which k have the name.
 pub fn referents_of<'a>(
     alloc: Global,
@@ -103,7 +103,7 @@ fn push_answering<'a>(
 /// (Cargo Book, "Features" and "cargo metadata", `resolve`).
 ///
 /// Only those are looked at that have the name as their own, or as that of a package whose library they are named as. They are
-/// found by halves.
+/// found by binary search.
 ///
 /// Time: O(log n + k) for n dependencies, of which k have the name.
 pub fn referent_of<'a>(lookup: &Lookup<'a>, parts: &NodeParts<'a>, name: &str) -> Option<usize>

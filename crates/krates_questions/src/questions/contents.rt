@@ -13,7 +13,7 @@ use krates_cm::{Node, Package};
 use krates_ids::Kid;
 
 impl<'a> Document<'a> {
-    /// The package of a crate; none where the document has none. It is found by halves. Time O(log n) in the crates.
+    /// The package of a crate; none where the document has none. It is found by binary search. Time O(log n) in the crates.
     pub fn package_of(&self, krate: &Kid) -> Option<&'a Package>
         ensures { IsPackageOf (as_resolved self.now) (id_of krate.now) (option_map
             (λ pkg. package_view pkg.now) result) }
@@ -21,7 +21,7 @@ impl<'a> Document<'a> {
         package_in(&self.lookup, krate)
     }
 
-    /// The node of a crate; none where the graph has none. It is found by halves. Time O(log n) in the crates.
+    /// The node of a crate; none where the graph has none. It is found by binary search. Time O(log n) in the crates.
     pub fn node_of(&self, krate: &Kid) -> Option<&'a Node>
         ensures { IsNodeOf (as_resolved self.now) (id_of krate.now) (option_map
             (λ node. node_view node.now) result) }
