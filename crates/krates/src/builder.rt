@@ -354,8 +354,8 @@ fn build_admitted<N: FromPackage + Drop, E: FromEdge + Drop, F: OnFilter>(
     let count = kept.len();
     let explanation = explanation_of(alloc, &kept, steps)?;
     let graph = graph_of(alloc, limits, sheet, kept)?;
-    let members = members_of(alloc, graph.raw_nodes(), &members);
-    let members = handed_over(members, others, filter)?;
+    let found = members_of(alloc, graph.raw_nodes(), &members);
+    let members = handed_over(found, others, filter)?;
     let findings = Findings { work, explanation };
     Ok(Krates::new(graph, count, members, workspace_root, findings))
 }

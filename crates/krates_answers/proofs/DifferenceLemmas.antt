@@ -12,12 +12,13 @@ use Rattle.krates_ids.specs.Identity.{Identity}
 use Rattle.krates_queries.proofs.AllDependentsLemmas.{there_crate}
 use Rattle.krates_queries.specs.AllDependents.{match_in}
 use Rattle.krates_queries.specs.Direct.{Joined, id_and_value_at, id_and_value_in}
-use Rattle.krates_queries.specs.DirectDependents.{AreDependents, dependent_view}
+use Rattle.krates_queries.specs.Direct.{joined_view}
+use Rattle.krates_queries.specs.DirectDependents.{AreDependents}
 use Rattle.krates_queries.specs.Kept.{KeptCrates, ids_of}
 use Rattle.krates_queries.specs.KrateNodes.{Match, crates_of, numbered_crates}
 use Rattle.krates_drawing.specs.declared.node.Node.{Node}
 use Rattle.krates_drawing.specs.declared.node.Node.TheVariants.{Krate, Feature}
-use Rattle.krates_queries.specs.declared.queries.direct_dependents.DirectDependent.{DirectDependent}
+use Rattle.krates_queries.specs.declared.queries.direct.JoinedKrate.{JoinedKrate}
 use Rattle.krates_answers.specs.Difference.{IsLost, IsMissing, Pair, pair_of, pairs_with}
 use Rattle.krates_answers.specs.Links.{Needs}
 use Rattle.krates_answers.specs.Those.{AddsThose, AreThose}
@@ -42,10 +43,10 @@ crates_ascend k (Feature krate_index name ∷ nodes) = crates_ascend (suc k) nod
 
 -- ---- the dependents of a crate
 
-abbrev parent_view : {N : Type 0} → DirectDependent N → Match N
+abbrev parent_view : {N : Type 0} → JoinedKrate N → Match N
 parent_view d = record { number = d.node_id; id = d.kid.now; krate = d.krate.now }
 
-same_numbers : {N : Type 0} (ds : List (DirectDependent N)) → map (λ (c : Match N). c.number) (map parent_view ds) ≡ map (λ (j : Joined N). j.node) (map dependent_view ds)
+same_numbers : {N : Type 0} (ds : List (JoinedKrate N)) → map (λ (c : Match N). c.number) (map parent_view ds) ≡ map (λ (j : Joined N). j.node) (map joined_view ds)
 same_numbers [] = refl
 same_numbers (d ∷ ds) = ap (λ ns. d.node_id ∷ ns) (same_numbers ds)
 
@@ -57,22 +58,22 @@ match_of {N} n (Some (Krate i k features mapping)) id krate e =
 match_of n (Some (Feature krate_index name)) id krate e = absurd (none-some (id, krate) e)
 
 -- each is one of the kept crates
-parent_kept : {N : Type 0} (nodes : List (Node N)) (ds : List (DirectDependent N)) → All (λ (j : Joined N). id_and_value_at nodes j.node ≡ Some (j.id, j.krate)) (map dependent_view ds)
+parent_kept : {N : Type 0} (nodes : List (Node N)) (ds : List (JoinedKrate N)) → All (λ (j : Joined N). id_and_value_at nodes j.node ≡ Some (j.id, j.krate)) (map joined_view ds)
     → (c : Match N) → Member (map parent_view ds) c → Member (numbered_crates 0 nodes) c
 parent_kept {N} nodes ds all c m =
     let w = mapped_of parent_view ds c m in
-    let j = dependent_view w.from in
-    let listed = contains_of (map dependent_view ds) j (member_map dependent_view ds w.from w.member) in
-    let there = All-contains (λ (x : Joined N). id_and_value_at nodes x.node ≡ Some (x.id, x.krate)) (map dependent_view ds) j all listed in
+    let j = joined_view w.from in
+    let listed = contains_of (map joined_view ds) j (member_map joined_view ds w.from w.member) in
+    let there = All-contains (λ (x : Joined N). id_and_value_at nodes x.node ≡ Some (x.id, x.krate)) (map joined_view ds) j all listed in
     subst (Member (numbered_crates 0 nodes)) w.is (there_crate nodes j.node (parent_view w.from) (match_of j.node (slice_get nodes j.node) j.id j.krate there))
 
 -- they are those of the kept crates that need it
-those_parents : {N E : Type 0} (k : KeptCrates N E) (d : ℕ) (ds : List (DirectDependent N)) → d < length (ids_of k) → AreDependents k.graph.nodes k.graph.edges d (map dependent_view ds)
+those_parents : {N E : Type 0} (k : KeptCrates N E) (d : ℕ) (ds : List (JoinedKrate N)) → d < length (ids_of k) → AreDependents k.graph.nodes k.graph.edges d (map joined_view ds)
     → AreThose (λ (c : Match N). Needs k c.number d) (crates_of k) (map parent_view ds)
 those_parents {N} k d ds lt are =
     let number : Match N → ℕ = λ c. c.number in
     let parents = map parent_view ds in
-    let numbers = map (λ (j : Joined N). j.node) (map dependent_view ds) in
+    let numbers = map (λ (j : Joined N). j.node) (map joined_view ds) in
     let same : map number parents ≡ numbers = same_numbers ds in
     AreThose-from_part number (λ c. Needs k c.number d) (crates_of k) parents (record {
       all_ascend = crates_ascend 0 k.graph.nodes;
@@ -86,13 +87,13 @@ those_parents {N} k d ds lt are =
 
 -- ---- what is lost so far
 
-same_pairs : {N : Type 0} (child : Match N) (ds : List (DirectDependent N)) → pairs_with child (map parent_view ds) ≡ map (pair_of child) ds
+same_pairs : {N : Type 0} (child : Match N) (ds : List (JoinedKrate N)) → pairs_with child (map parent_view ds) ≡ map (pair_of child) ds
 same_pairs child [] = refl
 same_pairs child (d ∷ ds) = ap (λ pairs. pair_of child d ∷ pairs) (same_pairs child ds)
 
 -- the pairs of one more child
-pub one_more_lost : {N E : Type 0} (here there : KeptCrates N E) (child : Match N) (ds : List (DirectDependent N)) (done : List (Match N)) (old new : List (Pair N))
-    → child.number < length (ids_of here) → AreDependents here.graph.nodes here.graph.edges child.number (map dependent_view ds)
+pub one_more_lost : {N E : Type 0} (here there : KeptCrates N E) (child : Match N) (ds : List (JoinedKrate N)) (done : List (Match N)) (old new : List (Pair N))
+    → child.number < length (ids_of here) → AreDependents here.graph.nodes here.graph.edges child.number (map joined_view ds)
     → AddsThose (IsMissing there) (map (pair_of child) ds) old new
     → AreThose (IsLost here there) (flat_map (λ c. pairs_with c (crates_of here)) done) old
     → AreThose (IsLost here there) (flat_map (λ c. pairs_with c (crates_of here)) (done ++ child ∷ [])) new

@@ -4,7 +4,7 @@ use Rattle.std.specs.List.{flat_map}
 use Rattle.krates_cm.specs.declared.package.Package.{Package}
 use Rattle.krates_queries.specs.Kept.{KeptCrates, IsNotKept, ids_of}
 use Rattle.krates_queries.specs.KrateNodes.{Match, crates_of, match_view}
-use Rattle.krates_queries.specs.declared.queries.direct_dependents.DirectDependent.{DirectDependent}
+use Rattle.krates_queries.specs.declared.queries.direct.JoinedKrate.{JoinedKrate}
 use Rattle.krates_rules.specs.Facts.{Id}
 use Rattle.krates_rules.specs.Resolved.{StandsAt, id_of}
 use Rattle.krates_answers.specs.Links.{Needs}
@@ -56,5 +56,5 @@ AreLost here there found = AreThose (IsLost here there) (pairs_of here) found
 -- ---- steps
 
 -- a crate that depends directly on another, before that one
-abbrev pub pair_of : {N : Type 0} → Match N → DirectDependent N → Pair N
+abbrev pub pair_of : {N : Type 0} → Match N → JoinedKrate N → Pair N
 pair_of child d = record { parent = record { number = d.node_id; id = d.kid.now; krate = d.krate.now }; child = child }

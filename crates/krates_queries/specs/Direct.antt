@@ -11,6 +11,7 @@ use Rattle.krates_graph.specs.declared.graph.edge.GraphEdge.{GraphEdge}
 use Rattle.krates_drawing.specs.Node.{is_own_feature}
 use Rattle.krates_ids.specs.Identity.{Identity}
 use Rattle.krates_queries.specs.Drawn.{node_spot}
+use Rattle.krates_queries.specs.declared.queries.direct.JoinedKrate.{JoinedKrate}
 use Rattle.krates_drawing.specs.declared.node.Node.{Node}
 use Rattle.krates_drawing.specs.declared.node.Node.TheVariants.{Krate, Feature}
 
@@ -44,6 +45,9 @@ pub record Joined (N : Type 0) : Type 0 where
   pub krate : N
   pub node : ℕ
   pub edge : ℕ
+
+abbrev pub joined_view : {N : Type 0} → JoinedKrate N → Joined N
+joined_view d = record { id = d.kid.now; krate = d.krate.now; node = d.node_id; edge = d.edge_id }
 
 -- The edge of this number is the least of those that lead from number p to number d or to a feature of d.
 pub record IsLeastEdge {N E : Type 0} (nodes : List (Node N)) (edges : List (GraphEdge E)) (p d k : ℕ) : Type 0 where

@@ -10,15 +10,11 @@ use Rattle.krates_queries.specs.Drawn.{node_spot}
 use Rattle.krates_drawing.specs.declared.node.Node.{Node}
 use Rattle.krates_drawing.specs.declared.node.Node.TheVariants.{Krate, Feature}
 use Rattle.krates_queries.specs.declared.queries.neighbours.Neighbour.{Neighbour}
-use Rattle.krates_queries.specs.declared.queries.direct_dependencies.DirectDependency.{DirectDependency}
 
 -- These are the crates that the mapping of p names, each with the least edge from p to it or to a feature of it. A feature has no
 -- mapping, so there are none.
 abbrev pub AreDependencies : {N E : Type 0} → List (Node N) → List (GraphEdge E) → ℕ → List (Joined N) → Type 0
 AreDependencies nodes edges p joined = AreJoined nodes (DependsOn (map node_spot nodes) p) (IsLeastEdge nodes edges p) joined
-
-abbrev pub dependency_view : {N : Type 0} → DirectDependency N → Joined N
-dependency_view d = record { id = d.kid.now; krate = d.krate.now; node = d.node_id; edge = d.edge_id }
 
 -- ---- steps
 

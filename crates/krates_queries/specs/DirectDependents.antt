@@ -9,7 +9,6 @@ use Rattle.krates_queries.specs.Direct.{Joined, AreJoined, IsLeastEdge, is_featu
 use Rattle.krates_queries.specs.Drawn.{node_spot}
 use Rattle.krates_drawing.specs.declared.node.Node.{Node}
 use Rattle.krates_queries.specs.declared.queries.neighbours.Neighbour.{Neighbour}
-use Rattle.krates_queries.specs.declared.queries.direct_dependents.DirectDependent.{DirectDependent}
 
 -- Number `p` is that of a crate, and an edge leads from it to `d` or to a feature of `d`. A feature has no features, so for one only
 -- edges to the feature itself count.
@@ -21,9 +20,6 @@ pub record IsDependent {N E : Type 0} (nodes : List (Node N)) (edges : List (Gra
 -- these are those crates, each with the least of such edges
 abbrev pub AreDependents : {N E : Type 0} → List (Node N) → List (GraphEdge E) → ℕ → List (Joined N) → Type 0
 AreDependents nodes edges d joined = AreJoined nodes (IsDependent nodes edges d) (λ p. IsLeastEdge nodes edges p d) joined
-
-abbrev pub dependent_view : {N : Type 0} → DirectDependent N → Joined N
-dependent_view d = record { id = d.kid.now; krate = d.krate.now; node = d.node_id; edge = d.edge_id }
 
 -- ---- steps
 

@@ -29,9 +29,19 @@ const EDGES: [&str; 7] = [
 pub(crate) fn command_line<'w>(alloc: Global) -> Result<Command<'w>, AllocError> {
     let mut command = program(alloc)?;
     for word in &WORDS {
-        command = command.subcommand(word.subcommand(alloc)?)?;
+        command = with_word(alloc, command, word)?;
     }
     Ok(command)
+}
+
+/// With a word.
+fn with_word<'w>(
+    alloc: Global,
+    command: Command<'w>,
+    word: &KnownWord,
+) -> Result<Command<'w>, AllocError> {
+    let word = word.subcommand(alloc)?;
+    command.subcommand(word)
 }
 
 /// The command without words.
@@ -53,11 +63,11 @@ fn program<'w>(alloc: Global) -> Result<Command<'w>, AllocError> {
 impl KnownWord {
     /// The word as a command of its own.
     fn subcommand<'w>(&self, alloc: Global) -> Result<Command<'w>, AllocError> {
-        let command = self.with_names(alloc, self.named(alloc)?)?;
+        let command = self.named(alloc)?;
+        let command = self.with_names(alloc, command)?;
         let command = self.with_form(alloc, command)?;
         let command = with_choice(alloc, command)?;
-        let command = with_options(alloc, command, "What cargo is told", &OF_CARGO)?;
-        command.arg(input(alloc)?)
+        with_cargo(alloc, command)
     }
 
     /// A command with its names.
@@ -114,6 +124,13 @@ fn document<'w>(alloc: Global) -> Arg<'w> {
         .help("The other document, as --metadata takes it")
         .required(true)
         .action(ArgAction::Set)
+}
+
+/// With the options that cargo is told, or the document in place of cargo's.
+fn with_cargo<'w>(alloc: Global, command: Command<'w>) -> Result<Command<'w>, AllocError> {
+    let command = with_options(alloc, command, "What cargo is told", &OF_CARGO)?;
+    let input = input(alloc)?;
+    command.arg(input)
 }
 
 /// The document in place of cargo's, which leaves cargo nothing to be told.

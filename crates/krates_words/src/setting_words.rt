@@ -67,10 +67,17 @@ fn kinds(alloc: Global, ignored: &[DepKind]) -> Result<Vec<String>, AllocError>
 {
     let mut words = Vec::new(alloc);
     for kind in ignored {
-        let name = name_of(*kind);
-        words.push(format!(in alloc; "--ignore-kind={name}")?)?;
+        words.push(ignored_kind(alloc, *kind)?)?;
     }
     Ok(words)
+}
+
+/// A kind that is ignored.
+fn ignored_kind(alloc: Global, kind: DepKind) -> Result<String, AllocError>
+    ensures { IfOk result (λ word. text_view word ≡ kind_word kind) }
+{
+    let name = name_of(kind);
+    format!(in alloc; "--ignore-kind={name}")
 }
 
 /// What is left out.
@@ -79,9 +86,16 @@ fn exclusions(alloc: Global, specs: &[PkgSpec]) -> Result<Vec<String>, AllocErro
 {
     let mut words = Vec::new(alloc);
     for spec in specs {
-        words.push(format!(in alloc; "--exclude={spec}")?)?;
+        words.push(excluded(alloc, spec)?)?;
     }
     Ok(words)
+}
+
+/// A specification of what is left out.
+fn excluded(alloc: Global, spec: &PkgSpec) -> Result<String, AllocError>
+    ensures { IfOk result (λ word. text_view word ≡ exclusion_word spec.now) }
+{
+    format!(in alloc; "--exclude={spec}")
 }
 
 /// The triples of the targets.

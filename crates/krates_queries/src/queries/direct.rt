@@ -4,7 +4,7 @@ ghost use Rattle.std.specs.Prelude.{◌≡◌, ◌++◌, ◌↔◌, ℕ, Contain
 ghost use Rattle.std.specs.List.Sorted.{IsStrictlySortedBy};
 ghost use Rattle.std.specs.Ordering.{nat_cmp};
 ghost use Rattle.krates_drawing.specs.Views.{listed};
-ghost use Rattle.krates_queries.specs.Direct.{Joined, id_and_value_at, is_feature_of as is_feature, joined_all, joined_by, value_at};
+ghost use Rattle.krates_queries.specs.Direct.{id_and_value_at, is_feature_of as is_feature, joined_all, joined_by, joined_view, value_at};
 ghost use Rattle.krates_queries.specs.Neighbours.{AreInOrder, first_edge};
 
 use crate::queries::neighbours::{Neighbour, edge_of};
@@ -36,28 +36,28 @@ pub(crate) fn is_feature_of<N>(nodes: &[Node<N>], krate: NodeId, number: NodeId)
     }
 }
 
-/// A crate that an edge joins to a node, as a query returns it.
-pub(crate) trait FromJoined<'a, N> {
-    /// The crate with its id, its number, and that of the edge.
-    ghost joined: { Self → Joined N };
-
-    /// The answer for a crate with its id, its number, and that of an edge.
-    fn from_joined(krate: &'a N, kid: &'a Kid, node_id: NodeId, edge_id: EdgeId) -> Self
-    where
-        Self: Sized,
-        ensures { joined result
-            ≡ record { id = kid.now; krate = krate.now; node = node_id; edge = edge_id } };
+/// A crate that an edge joins to a node: one on which it depends directly, or one that depends on it.
+#[derive(Debug, Drop)]
+pub struct JoinedKrate<'a, N> {
+    /// What stands for the package of the crate.
+    pub krate: &'a N,
+    /// The id of the crate.
+    pub kid: &'a Kid,
+    /// The number of the crate.
+    pub node_id: NodeId,
+    /// The least edge between the node, or a feature of what is depended on, and the crate.
+    pub edge_id: EdgeId,
 }
 
 /// Adds the crate of a number, with the first edge by which it is a neighbour; nothing if it isn't one.
-fn push_joined<'a, N, J: FromJoined<'a, N> + Drop>(
+fn push_joined<'a, N>(
     nodes: &'a [Node<N>],
     neighbours: &[Neighbour],
     number: NodeId,
-    found: &mut Vec<J>,
+    found: &mut Vec<JoinedKrate<'a, N>>,
 ) -> Result<(), AllocError>
     requires { AreInOrder neighbours.now }
-    ensures { OnOk result (map J.joined found.new.items ≡ map J.joined found.old.items
+    ensures { OnOk result (map joined_view found.new.items ≡ map joined_view found.old.items
         ++ listed (joined_by number (id_and_value_at nodes.now number) (first_edge neighbours.now number))) }
 {
     let Some((kid, krate)) = krate_at(nodes, number) else {
@@ -66,21 +66,28 @@ fn push_joined<'a, N, J: FromJoined<'a, N> + Drop>(
     let Some(edge_id) = edge_of(neighbours, number) else {
         return Ok(());
     };
-    match found.push(J::from_joined(krate, kid, number, edge_id)) {
+    let joined = JoinedKrate {
+        krate,
+        kid,
+        node_id: number,
+        edge_id,
+    };
+    // What `?` makes of the refusal would have to own references.
+    match found.push(joined) {
         Ok(()) => Ok(()),
         Err(_) => Err(AllocError),
     }
 }
 
 /// The crates of these numbers that are neighbours, each with the first edge by which it is one.
-pub(crate) fn joined<'a, N, J: FromJoined<'a, N> + Drop>(
+pub(crate) fn joined<'a, N>(
     alloc: Global,
     nodes: &'a [Node<N>],
     neighbours: &[Neighbour],
     numbers: &[NodeId],
-) -> Result<Vec<J>, AllocError>
+) -> Result<Vec<JoinedKrate<'a, N>>, AllocError>
     requires { AreInOrder neighbours.now }
-    ensures { IfOk result (λ found. map J.joined found.items
+    ensures { IfOk result (λ found. map joined_view found.items
         ≡ joined_all (id_and_value_at nodes.now) (first_edge neighbours.now) numbers.now) }
 {
     let mut found = Vec::new(alloc);

@@ -2,28 +2,18 @@
 
 ghost use Rattle.std.specs.Prelude.{◌≡◌, ◌++◌, ◌<◌, IfOk, OnOk, Some, length, map, slice_get};
 ghost use Rattle.krates_drawing.specs.Views.{listed};
-ghost use Rattle.krates_queries.specs.DirectDependencies.{AreDependencies, dependency_view, home, named_by, numbers_in, target_in, targets_from};
+ghost use Rattle.krates_queries.specs.DirectDependencies.{AreDependencies, home, named_by, numbers_in, target_in, targets_from};
+ghost use Rattle.krates_queries.specs.Direct.{joined_view};
 
 use crate::kept::Krates;
-use crate::queries::direct::{FromJoined, in_order, joined};
+use crate::queries::direct::{JoinedKrate, in_order, joined};
 use crate::queries::neighbours::{Neighbour, ordered};
 use krates_drawing::node::Node;
 use krates_graph::graph::{Direction, EdgeId, Graph, NodeId};
-use krates_ids::Kid;
 use std::alloc::{AllocError, Global};
 
-/// A crate on which another depends directly.
-#[derive(Debug, Drop)]
-pub struct DirectDependency<'a, N> {
-    /// What stands for the package of the crate.
-    pub krate: &'a N,
-    /// The id of the crate.
-    pub kid: &'a Kid,
-    /// The number of the crate.
-    pub node_id: NodeId,
-    /// The least edge from the other to the crate or to a feature of it.
-    pub edge_id: EdgeId,
-}
+/// A crate on which another depends directly, with the least edge from the other to it or to a feature of it.
+pub type DirectDependency<'a, N> = JoinedKrate<'a, N>;
 
 /// The numbers that a mapping names.
 fn numbers_of(alloc: Global, mapping: &[Option<NodeId>]) -> Result<Vec<NodeId>, AllocError>
@@ -45,24 +35,6 @@ fn named<N>(alloc: Global, node: &Node<N>) -> Result<Vec<NodeId>, AllocError>
     match node {
         Node::Krate { dep_mapping, .. } => numbers_of(alloc, dep_mapping),
         Node::Feature { .. } => Ok(Vec::new(alloc)),
-    }
-}
-
-impl<'a, N> FromJoined<'a, N> for DirectDependency<'a, N> {
-    ghost joined = { dependency_view };
-
-    fn from_joined(
-        krate: &'a N,
-        kid: &'a Kid,
-        node_id: NodeId,
-        edge_id: EdgeId,
-    ) -> DirectDependency<'a, N> {
-        DirectDependency {
-            krate,
-            kid,
-            node_id,
-            edge_id,
-        }
     }
 }
 
@@ -128,7 +100,7 @@ impl<N, E> Krates<N, E> {
     ) -> Result<Vec<DirectDependency<'_, N>>, AllocError>
         requires stands { node < length self.now.graph.nodes }
         ensures { IfOk result (λ found. AreDependencies self.now.graph.nodes self.now.graph.edges node
-            (map dependency_view found.items)) }
+            (map joined_view found.items)) }
     {
         let alloc = self.alloc();
         let graph = self.graph();

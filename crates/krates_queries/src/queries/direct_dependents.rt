@@ -1,46 +1,18 @@
 //! The crates that depend directly on a node.
 
 ghost use Rattle.std.specs.Prelude.{◌≡◌, ◌++◌, IfOk, OnOk, map};
-ghost use Rattle.krates_queries.specs.DirectDependents.{AreDependents, dependent_view, sources_into, sources_over, sources_to};
+ghost use Rattle.krates_queries.specs.DirectDependents.{AreDependents, sources_into, sources_over, sources_to};
+ghost use Rattle.krates_queries.specs.Direct.{joined_view};
 
 use crate::kept::Krates;
-use crate::queries::direct::{FromJoined, in_order, is_feature_of, joined};
+use crate::queries::direct::{JoinedKrate, in_order, is_feature_of, joined};
 use crate::queries::neighbours::{Neighbour, ordered};
 use krates_drawing::node::Node;
 use krates_graph::graph::{Direction, EdgeId, Graph, NodeId};
-use krates_ids::Kid;
 use std::alloc::{AllocError, Global};
 
-/// A crate that depends directly on another, or on a feature of it.
-#[derive(Debug, Drop)]
-pub struct DirectDependent<'a, N> {
-    /// What stands for the package of the crate.
-    pub krate: &'a N,
-    /// The id of the crate.
-    pub kid: &'a Kid,
-    /// The number of the crate.
-    pub node_id: NodeId,
-    /// The least edge from the crate to the other or to a feature of it.
-    pub edge_id: EdgeId,
-}
-
-impl<'a, N> FromJoined<'a, N> for DirectDependent<'a, N> {
-    ghost joined = { dependent_view };
-
-    fn from_joined(
-        krate: &'a N,
-        kid: &'a Kid,
-        node_id: NodeId,
-        edge_id: EdgeId,
-    ) -> DirectDependent<'a, N> {
-        DirectDependent {
-            krate,
-            kid,
-            node_id,
-            edge_id,
-        }
-    }
-}
+/// A crate that depends directly on another, or on a feature of it, with the least edge from it to the other or to a feature of the other.
+pub type DirectDependent<'a, N> = JoinedKrate<'a, N>;
 
 /// Adds the sources of the edges to a node.
 fn push_sources<N, E>(
@@ -124,7 +96,7 @@ impl<N, E> Krates<N, E> {
     /// Time: O(n log n), where n counts the edges to the node and to its features.
     pub fn direct_dependents(&self, node: NodeId) -> Result<Vec<DirectDependent<'_, N>>, AllocError>
         ensures { IfOk result (λ found. AreDependents self.now.graph.nodes self.now.graph.edges node
-            (map dependent_view found.items)) }
+            (map joined_view found.items)) }
     {
         let alloc = self.alloc();
         let graph = self.graph();
