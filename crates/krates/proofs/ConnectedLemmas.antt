@@ -1,8 +1,8 @@
 -- The stored graph of a sheet is connected like the drawn one, and the direct queries agree on it.
-use Rattle.std.proofs.Common.{◌≡◌, ◌↔◌, ℕ, zero, suc, ◌<◌, ◌^◌, List, [], ◌∷◌, length, map, Option, Some, None, option_map, Contains, slice_get, refl, sym, ap, ◌∙◌, subst, arith}
+use Rattle.std.proofs.Common.{◌≡◌, ◌↔◌, ℕ, zero, suc, ◌<◌, ◌^◌, List, [], ◌∷◌, length, map, Option, Some, None, option_map, slice_get, refl, sym, ap, ◌∙◌, subst}
 use Rattle.std.proofs.lemmas.Option.{slice_get-map, same_Some}
 use Rattle.std.specs.List.{AllZip}
-use Rattle.krates_cm.specs.Document.{MetadataModel, ResolveModel}
+use Rattle.krates_cm.specs.Document.{MetadataModel}
 use Rattle.krates_drawing.specs.Agreement.{DependsOn, LeadsTo, DependenciesAgree, OneEach}
 use Rattle.krates_drawing.specs.Connected as drawn
 use Rattle.krates_drawing.specs.Drawing.{CrateSpot, crate_number, lines, spots}

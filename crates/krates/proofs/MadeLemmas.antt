@@ -5,7 +5,7 @@ use Rattle.std.specs.Global.{Vec}
 use Rattle.std.specs.List.{AllZip, zip}
 use Rattle.std.specs.Prelude.{String}
 use Rattle.std.specs.declared.alloc.Global.{Global}
-use Rattle.krates_cm.specs.Document.{Text, text_view}
+use Rattle.krates_cm.specs.Document.{text_view}
 use Rattle.krates_cm.specs.declared.package.Package.{Package}
 use Rattle.krates_drawing.specs.Drawing as model
 use Rattle.krates_drawing.specs.Drawing.{crate_spot, feature_spot, mapping, spots}

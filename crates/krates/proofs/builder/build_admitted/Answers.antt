@@ -1,7 +1,8 @@
-use Rattle.std.proofs.Common.{◌≡◌, ap, ◌∙◌, subst, List, sym}
+use Rattle.std.proofs.Common.{◌≡◌, ℕ, ap, ◌∙◌, subst, List, Result, Ok, IfOk, sym}
 use Rattle.std.proofs.lemmas.Result.{err_from_is_err_and}
 use Rattle.std.specs.Global.{Vec}
-use Rattle.std.specs.List.Sorted.{IsStrictlySortedBy}
+use Rattle.std.specs.List.{FoldsTo}
+use Rattle.std.specs.List.Sorted.{IsStrictlyIncreasing, IsStrictlySortedBy}
 use Rattle.krates_cm.specs.Document.{metadata_view}
 use Rattle.krates_cm.specs.declared.metadata.Metadata.{Metadata}
 use Rattle.krates_document.specs.Ids.{ids_view}
@@ -12,7 +13,7 @@ use Rattle.krates_explain.specs.declared.kept.KeptStep.{KeptStep}
 use Rattle.krates_ids.specs.Identity.{Identity, id_cmp}
 use Rattle.krates_drawing.specs.Division.{IsDivision, sheet_ids}
 use Rattle.krates_queries.specs.Kept.{AreNodes}
-use Rattle.krates_drawing.specs.Krate.{krate_ids}
+use Rattle.krates_drawing.specs.Krate.{krate_ids, krate_packages}
 use Rattle.krates.specs.declared.builder.Rest.{Rest}
 use Rattle.krates_drawing.specs.declared.division.Division.{Division}
 use Rattle.krates.specs.Members.{AreNumbersOf}
@@ -35,6 +36,10 @@ divided_of : (m : Metadata) (ids : Ids) (rest : Rest) (krates ks : List SheetKra
     → IsDivision rest.packages.items (sheet_ids ks) d → IsDivision m.packages.items (sheet_ids krates) d
 divided_of m ids rest krates ks d is same h =
     subst (λ (ks : List SheetKrate). IsDivision m.packages.items (sheet_ids ks) d) same (subst (λ (p : Rest). IsDivision p.packages.items (sheet_ids ks) d) is h)
+
+-- what holds of what was made holds of it as it is handed on
+handed : {A E : Type 0} (P : A → Type 0) (made : Result A E) (x : A) → Ok x ≡ made → IfOk made P → P x
+handed P made x same h = subst (λ (r : Result _ _). IfOk r P) (sym same) h
 
 pub divide-requires-clause-read : goal.divide-requires-clause-read
 divide-requires-clause-read g c = rw (c.rest_of-rest.ensures) (package_ids c.args.metadata (ids_view c.args.ids) c.requires.admitted)
@@ -73,8 +78,8 @@ graph_of-requires-clause-ordered g c = c.in_ok-sketch.ensures.sketched.ordered
 pub graph_of-requires-clause-stand : goal.graph_of-requires-clause-stand
 graph_of-requires-clause-stand g c = sheet_stands c.ends_stand.ensures (metadata_view c.args.metadata) c.args.setting.now (sheet_view c.in_ok-sketch.sketch.sheet) c.in_ok-sketch.ensures.sketched.sheet
 
-pub members_of-requires : goal.members_of-requires
-members_of-requires g c =
+pub members_of-found-requires : goal.members_of-found-requires
+members_of-found-requires g c =
     let o : Compares = record { total = c.comparison.ensures.total; tells = c.comparison.ensures.order } in
     let division = c.in_ok-division.division in
     let graph = c.in_ok-graph.ensures.graph in
@@ -100,9 +105,12 @@ new-requires-clause-nodes g c =
 
 pub new-requires-clause-members : goal.new-requires-clause-members
 new-requires-clause-members g c =
-    let numbers = c.in_ok-members.members.items in
-    let there = subst (λ ns. AreNumbersOf (crate_ids ns) c.deref-3.result.now numbers) c.raw_nodes.ensures.nodes c.in_ok-members.ensures.exactly in
-    crate_numbers c.in_ok-graph.graph.nodes c.deref-3.result.now numbers c.in_ok-members.ensures.ascending there
+    let those = c.in_ok-members.members in
+    let numbers = those.items in
+    let ascending = handed (λ (v : Vec ℕ). IsStrictlyIncreasing v.items) c.members_of-found.result those c.in_ok-members.ensures.same c.members_of-found.ensures.ascending in
+    let exactly = handed (λ (v : Vec ℕ). AreNumbersOf (crate_ids c.raw_nodes.result.now) c.deref-3.result.now v.items) c.members_of-found.result those c.in_ok-members.ensures.same c.members_of-found.ensures.exactly in
+    let there = subst (λ ns. AreNumbersOf (crate_ids ns) c.deref-3.result.now numbers) c.raw_nodes.ensures.nodes exactly in
+    crate_numbers c.in_ok-graph.graph.nodes c.deref-3.result.now numbers ascending there
 
 pub new-requires-clause-connected : goal.new-requires-clause-connected
 new-requires-clause-connected g c =
@@ -130,16 +138,20 @@ returns-clause-built g c =
     let division = c.in_ok-division.division in
     let divided = divided_of c.args.metadata c.args.ids c.rest_of-rest.result c.in_ok-sketch.sketch.sheet.krates.items c.deref.result.now division c.rest_of-rest.ensures c.deref.ensures.value c.in_ok-division.ensures in
     let b = builds_sheet c.one_reading.ensures.once c.args.metadata c.args.setting.now c.in_ok-sketch.sketch.sheet division c.in_ok-sketch.ensures.sketched.sheet divided in
-    let numbers = c.in_ok-members.members.items in
-    let there = subst (λ ns. AreNumbersOf (crate_ids ns) c.deref-3.result.now numbers) c.raw_nodes.ensures.nodes c.in_ok-members.ensures.exactly in
+    let those = c.in_ok-members.members in
+    let numbers = those.items in
+    let ascending = handed (λ (v : Vec ℕ). IsStrictlyIncreasing v.items) c.members_of-found.result those c.in_ok-members.ensures.same c.members_of-found.ensures.ascending in
+    let exactly = handed (λ (v : Vec ℕ). AreNumbersOf (crate_ids c.raw_nodes.result.now) c.deref-3.result.now v.items) c.members_of-found.result those c.in_ok-members.ensures.same c.members_of-found.ensures.exactly in
+    let there = subst (λ ns. AreNumbersOf (crate_ids ns) c.deref-3.result.now numbers) c.raw_nodes.ensures.nodes exactly in
     let listed = subst (λ (is : List Identity). AreNumbersOf (crate_ids c.in_ok-graph.graph.nodes) is numbers) (c.deref-3.ensures.value ∙ ap (λ (p : Rest). p.members.items) c.rest_of-rest.ensures) there in
-    let members = kept_members c.one_reading.ensures.once (metadata_view c.args.metadata) (ids_view c.args.ids) (crate_ids c.in_ok-graph.graph.nodes) numbers c.requires.admitted c.in_ok-members.ensures.ascending listed in
+    let members = kept_members c.one_reading.ensures.once (metadata_view c.args.metadata) (ids_view c.args.ids) (crate_ids c.in_ok-graph.graph.nodes) numbers c.requires.admitted ascending listed in
     let agree = agrees g.E.FromEdge.made_from_edge (metadata_view c.args.metadata) c.args.setting.now (sheet_view c.in_ok-sketch.sketch.sheet) c.in_ok-graph.graph (ids_view c.args.ids) c.connected.ensures c.dependencies_agree.ensures c.requires.admitted
     c.in_ok-sketch.ensures.sketched.sheet c.in_ok-graph.ensures.graph.drawing c.in_ok-graph.ensures.graph.first in
     let o : Compares = record { total = c.comparison.ensures.total; tells = c.comparison.ensures.order } in
     let kids = c.in_ok-explanation.ensures.ids ∙ ap krate_ids c.deref-2.ensures.value in
     let explained = explained_by o c.args.metadata c.args.setting.now division c.in_ok-sketch.ensures.sketched.selection c.in_ok-explanation.explanation c.in_ok-sketch.sketch.steps.items b c.in_ok-sketch.ensures.sketched.selected kids
     (ap (λ (v : Vec KeptStep). v.items) c.in_ok-explanation.ensures.steps) c.in_ok-sketch.ensures.sketched.steps in
-    rw (c.new.ensures, c.in_ok-sketch.ensures.sketched.work, c.rest_of-rest.ensures) (is_built g.F.OnFilter.filters g.N.FromPackage.made_from g.E.FromEdge.made_from_edge c.args.metadata c.args.setting.now c.in_ok-sketch.sketch.sheet division c.in_ok-graph.graph numbers c.args.filter.now c.report.new.filter c.in_ok-sketch.ensures.sketched.selection
-    c.in_ok-sketch.ensures.sketched.sheet b c.in_ok-graph.ensures.graph c.report.ensures.run c.in_ok-sketch.ensures.sketched.selected
+    let run = handed (λ _. FoldsTo g.F.OnFilter.filters c.args.filter.now (krate_packages division.others.items) c.handed_over.new.filter) c.members_of-found.result those c.in_ok-members.ensures.same c.in_ok-members.ensures.run in
+    rw (c.new.ensures, c.in_ok-sketch.ensures.sketched.work, c.rest_of-rest.ensures) (is_built g.F.OnFilter.filters g.N.FromPackage.made_from g.E.FromEdge.made_from_edge c.args.metadata c.args.setting.now c.in_ok-sketch.sketch.sheet division c.in_ok-graph.graph numbers c.args.filter.now c.handed_over.new.filter c.in_ok-sketch.ensures.sketched.selection
+    c.in_ok-sketch.ensures.sketched.sheet b c.in_ok-graph.ensures.graph run c.in_ok-sketch.ensures.sketched.selected
     (resolvable (metadata_view c.args.metadata) (ids_view c.args.ids) c.requires.admitted) (numbered g.E.FromEdge.made_from_edge (sheet_view c.in_ok-sketch.sketch.sheet) c.in_ok-graph.graph c.in_ok-graph.ensures.graph.drawing c.in_ok-graph.ensures.within c.in_ok-graph.ensures.limits) members agree c.in_ok-explanation.explanation explained)

@@ -1,6 +1,5 @@
-use Rattle.std.proofs.Common.{◌≡◌, ◌∙◌, ◌+◌, ◌∷◌, ◌++◌, [], length, sym, ap, rules}
+use Rattle.std.proofs.Common.{◌≡◌, ◌∙◌, ◌+◌, ◌∷◌, ◌++◌, [], sym, ap, rules}
 use Rattle.std.proofs.lemmas.List.{length_push}
-use Rattle.std.specs.List.{AllZip}
 use Rattle.krates.specs.MadeNodes.{IsMade}
 use Rattle.krates.proofs.MadeLemmas.{zip_push}
 use Rattle.krates.proofs.nodes.store_crates.Goals as goal

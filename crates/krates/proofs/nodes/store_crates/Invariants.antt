@@ -1,4 +1,4 @@
-use Rattle.std.proofs.Common.{◌≡◌, ◌≤◌, length}
+use Rattle.std.proofs.Common.{◌≡◌, length}
 use Rattle.std.specs.List.{AllZip}
 use Rattle.krates.specs.MadeNodes.{IsMade}
 use Rattle.krates.proofs.nodes.store_crates.Given as goal
