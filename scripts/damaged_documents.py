@@ -14,7 +14,6 @@ the status is 0 where every run ended as it has to, and 1 otherwise.
 """
 import collections
 import concurrent.futures
-import gzip
 import json
 import os
 import pathlib
@@ -23,6 +22,8 @@ import re
 import subprocess
 import sys
 import tempfile
+
+from krates_sources import documents
 
 STEP = 997
 SECONDS = 60
@@ -51,13 +52,6 @@ ODD_IDS = [
 OTHER_VALUES = [None, True, 0, -1, 1.5, 1e300, "", "x", [], [None], {}, {"": 0}, [[[]]]]
 
 
-def documents(folder):
-    """The texts of the documents, each with its name."""
-    for path in sorted(pathlib.Path(folder).glob("*/metadata.json*")):
-        raw = path.read_bytes()
-        yield path.parent.name, gzip.decompress(raw) if path.suffix == ".gz" else raw
-
-
 def places(value, path=()):
     """The way to each value below one."""
     children = value.items() if isinstance(value, dict) else enumerate(value) if isinstance(value, list) else ()
@@ -83,10 +77,10 @@ def remove(holder, key):
 def damaged(texts, count):
     """A name of the damage, and the damaged text, as many as are asked for."""
     chance = random.Random(2026)
-    cuts = [("cut", text[:end]) for _, text in texts for end in range(0, len(text), STEP)]
+    cuts = [("cut", text[:end]) for text in texts for end in range(0, len(text), STEP)]
     chance.shuffle(cuts)
     yield from cuts[: count // 4]
-    values = [json.loads(text) for _, text in texts]
+    values = [json.loads(text) for text in texts]
     ways = [list(places(value)) for value in values]
     keys = [[way for way in some if isinstance(way[-1], str)] for some in ways]
     ids = [[way for way in some if "id" in way[-1:] or "pkg" in way[-1:] or way[-2:-1] in (("dependencies",), ("workspace_members",))]
@@ -126,7 +120,7 @@ def main():
         sys.exit("usage: scripts/damaged_documents.py FOLDER [COUNT]")
     here = pathlib.Path(__file__).resolve().parent
     program = os.environ.get("KRATES_LIST", str(here.parent / "crates/krates_list/out/krates_list"))
-    texts = list(documents(sys.argv[1]))
+    texts = [text for _, text in documents(sys.argv[1])]
     if not texts or not os.access(program, os.X_OK):
         sys.exit("there is no document, or no program: run 'rt run < stdin' in crates/krates_list")
     kept = tempfile.mkdtemp(prefix="damaged-")

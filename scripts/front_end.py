@@ -13,6 +13,8 @@ import shutil
 import subprocess
 import sys
 
+from krates_sources import below, crates
+
 # What a line of crates.txt doesn't name and the compiler wants for each crate.
 ALWAYS = ["std"]
 
@@ -23,22 +25,6 @@ def kit():
     if not found:
         sys.exit("rt isn't on the path")
     return pathlib.Path(found).resolve().parent.parent
-
-
-def crates(root):
-    """The crates of the repository, each with the libraries that its line names."""
-    lines = [line.split("#")[0] for line in (root / "crates.txt").read_text(encoding="utf-8").splitlines()]
-    pairs = [line.split(":") for line in lines if ":" in line]
-    return {name.split()[0]: rest.split() for name, rest in pairs}
-
-
-def below(known, name):
-    """The libraries of the repository below a crate, each after those that it uses."""
-    found = []
-    for one in known[name]:
-        if one in known:
-            found += [it for it in below(known, one) + [one] if it not in found]
-    return found
 
 
 def words(root, name, tests, only):

@@ -1,15 +1,12 @@
-#!/usr/bin/env python3
-"""Says which links of the documents lead nowhere: to a file that isn't there, or to a heading that its page lacks.
+"""Says which links of the pages lead nowhere: to a file that isn't there, or to a heading that its page lacks.
 
-    scripts/links.py
-
-Links to other sites aren't looked at. The status is 0 where every link leads somewhere.
+Links to other sites aren't looked at.
 """
-import pathlib
 import re
 import sys
 
-ROOT = pathlib.Path(__file__).resolve().parent.parent
+from krates_sources import ROOT
+
 LINK = re.compile(r"\[[^\]]*\]\(([^)\s]+)\)")
 FENCE = re.compile(r"^```.*?^```", re.M | re.S)
 HEADING = re.compile(r"^#+ (.*)$", re.M)
@@ -21,13 +18,19 @@ def anchor(heading):
     return re.sub(r"[^\w\- ]", "", words).replace(" ", "-")
 
 
+def without_code(page):
+    """The text of a page without its blocks of code."""
+    return FENCE.sub("", page.read_text(encoding="utf-8"))
+
+
 def anchors(page):
-    return {anchor(heading) for heading in HEADING.findall(FENCE.sub("", page.read_text()))}
+    """The anchors of a page's headings."""
+    return {anchor(heading) for heading in HEADING.findall(without_code(page))}
 
 
 def dead(page):
     """The links of a page that lead nowhere."""
-    for link in LINK.findall(FENCE.sub("", page.read_text())):
+    for link in LINK.findall(without_code(page)):
         if "://" in link:
             continue
         name, _, part = link.partition("#")
@@ -38,13 +41,10 @@ def dead(page):
             yield link
 
 
-def main():
+def check():
+    """Whether every link leads somewhere; prints those that don't."""
     pages = sorted(ROOT.glob("*.md")) + sorted((ROOT / "docs").glob("*.md"))
     found = [f"{page.relative_to(ROOT)}: {link}" for page in pages for link in dead(page)]
     for line in found:
         print(line, file=sys.stderr)
-    return 1 if found else 0
-
-
-if __name__ == "__main__":
-    sys.exit(main())
+    return not found

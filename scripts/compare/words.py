@@ -1,65 +1,64 @@
-#!/usr/bin/env python3
 """Checks what the words of cargo-krates answer against a plain reading of the document and of the drawn graph.
 
-    scripts/check_words.py FOLDER
+Of each document, without an option and for Linux, the word `graph` is read back, and from its lines and the document
+this module says what the other words have to answer, with --json: the crates, the tree of the members, the tree above
+each crate, the names with several crates, the licences, what is shipped (by the lists of builds that ignore kinds),
+the bill of materials, the enabled features, and the difference from the document before. Of each package that isn't
+kept `unreachable` has to say yes, of each that is no.
 
-A document is FOLDER/NAME/metadata.json, which may be compressed, as metadata.json.gz. Of each, without an option and with
---target x86_64-unknown-linux-gnu, the word `graph` is read back, and from its lines and the document this script says what the
-other words have to answer, with --json: the crates, the tree of the members, the tree above each crate, the names with several
-crates, the licences, what is shipped (by the lists of builds that ignore kinds), the bill of materials, the enabled features, and the
-difference from the same document under the other setting. Of each package that isn't kept `unreachable` has to say yes, of each that is no.
-
-The program is crates/cargo_krates/out/cargo_krates, which `rt run` in that folder builds, or $CARGO_KRATES. Of a document with more than
-200 crates only the first twelve are asked about one by one. The status is 0 where nothing differs and something was compared, and 1 otherwise.
+Of a document with more than 200 crates only the first twelve are asked about one by one.
 """
 import concurrent.futures
-import gzip
 import json
 import os
 import pathlib
-import subprocess
-import sys
+import tempfile
 import urllib.parse
 
-from check_queries import Graph
-
-ROOT = pathlib.Path(__file__).resolve().parent.parent
-PROGRAM = os.environ.get("CARGO_KRATES", str(ROOT / "crates" / "cargo_krates" / "out" / "cargo_krates"))
-SETTINGS = {"none": [], "linux": ["--target", "x86_64-unknown-linux-gnu"]}
+from compare.graph import Graph
+from compare.programs import SETTINGS, printed
+from krates_sources import documents
 
 
-def run(text, *words, statuses=(0,)):
+def answer(text, words, statuses=(0,)):
     """What the program prints of a document."""
-    ran = subprocess.run([PROGRAM, *words, "--metadata", "-"], input=text, capture_output=True)
-    assert ran.returncode in statuses, (words, ran.returncode, ran.stderr.decode())
-    return ran.stdout.decode()
+    return printed("cargo_krates", [*words, "--metadata", "-"], text, statuses)
 
 
 class Reading:
     """A document under a setting, as the drawn graph and the packages tell it."""
 
     def __init__(self, text, options):
+        """Reads the document, and the graph that the program draws of it."""
         self.text, self.options = text, options
         self.document = json.loads(text)
         self.packages = {package["id"]: package for package in self.document["packages"]}
-        self.graph = Graph(run(text, "graph", *options).splitlines())
+        self.graph = Graph(answer(text, ["graph", *options]).splitlines())
         self.crates = self.graph.crates
-        home = lambda node: node if node < len(self.crates) else self.graph.features[node][0]
-        edges = [(source, home(target)) for source, target, _ in self.graph.edges if source < len(self.crates)]
-        self.needs = {number: sorted({to for of, to in edges if of == number}) for number in range(len(self.crates))}
-        self.needed_by = {number: sorted({of for of, to in edges if to == number}) for number in range(len(self.crates))}
+        edges = [(source, self.home(target)) for source, target, _ in self.graph.edges if source < len(self.crates)]
+        numbers = range(len(self.crates))
+        self.needs = {number: sorted({to for of, to in edges if of == number}) for number in numbers}
+        self.needed_by = {number: sorted({of for of, to in edges if to == number}) for number in numbers}
+
+    def home(self, node):
+        """The crate that a node is, or is a feature of."""
+        return node if node < len(self.crates) else self.graph.features[node][0]
 
     def ask(self, *words, statuses=(0,)):
-        return json.loads(run(self.text, *words, "--json", *self.options, statuses=statuses))
+        """What the program answers to the words, as values."""
+        return json.loads(answer(self.text, [*words, "--json", *self.options], statuses))
 
     def crate(self, number):
+        """What tells a crate in an answer."""
         package = self.packages[self.crates[number]]
-        return {"id": package["id"], "name": package["name"], "version": package["version"], "source": package["source"]}
+        return {key: package[key] for key in ("id", "name", "version", "source")}
 
     def all_crates(self):
+        """All kept crates."""
         return [self.crate(number) for number in range(len(self.crates))]
 
     def members(self):
+        """The numbers of the kept members."""
         return [number for number, krate in enumerate(self.crates) if krate in self.document["workspace_members"]]
 
     def tree(self, roots, leads):
@@ -75,17 +74,19 @@ class Reading:
         return lines
 
     def grouped(self, key):
+        """The numbers of the crates by what the key says of their packages, in its order."""
         groups = {}
         for number in range(len(self.crates)):
             groups.setdefault(key(self.packages[self.crates[number]]), []).append(number)
         return sorted(groups.items(), key=lambda item: item[0].encode())
 
     def duplicates(self):
+        """The names that several crates have."""
         return [
             {
                 "name": name,
                 "crates": [
-                    {"crate": self.crate(number), "dependents": [self.crates[other] for other in self.needed_by[number]]}
+                    {"crate": self.crate(number), "dependents": [self.crates[one] for one in self.needed_by[number]]}
                     for number in numbers
                 ],
             }
@@ -94,12 +95,14 @@ class Reading:
         ]
 
     def licences(self):
+        """The crates by their licence."""
         groups = self.grouped(lambda package: package["license"] or package["license_file"] or "")
-        return [{"licence": text or None, "crates": [self.crate(number) for number in numbers]} for text, numbers in groups]
+        return [{"licence": text or None, "crates": list(map(self.crate, numbers))} for text, numbers in groups]
 
     def kept_without(self, *kinds):
+        """The ids that a build keeps which ignores these kinds."""
         words = [word for kind in kinds for word in ("--ignore-kind", kind)]
-        return set(run(self.text, "list", "--ids", *words, *self.options).splitlines())
+        return set(answer(self.text, ["list", "--ids", *words, *self.options]).splitlines())
 
     def uses(self):
         """What each crate is used for."""
@@ -107,13 +110,18 @@ class Reading:
         return ["shipped" if krate in shipped else "build" if krate in without_dev else "dev" for krate in self.crates]
 
     def crates_by_use(self):
-        uses = self.uses()
-        return {word: [self.crate(number) for number, use in enumerate(uses) if use == word] for word in ("shipped", "build", "dev")}
+        """The crates by what they are used for."""
+        found = {"shipped": [], "build": [], "dev": []}
+        for number, use in enumerate(self.uses()):
+            found[use].append(self.crate(number))
+        return found
 
     def features(self, number):
+        """The names of a crate's enabled features."""
         return sorted((name for krate, name in self.graph.features.values() if krate == number), key=str.encode)
 
     def bill(self):
+        """The bill of materials."""
         uses = self.uses()
         return {
             "$schema": "http://cyclonedx.org/schema/bom-1.5.schema.json",
@@ -128,9 +136,13 @@ class Reading:
         }
 
 
+def quote(text):
+    """A text as a part of a url."""
+    return urllib.parse.quote(text, safe="-._~")
+
+
 def purl(package):
     """The package url, with where a package is from that isn't from crates.io."""
-    quote = lambda text: urllib.parse.quote(text, safe="-._~")
     url, source = f"pkg:cargo/{package['name']}@{quote(package['version'])}", package["source"]
     if source is None:
         return url + "?download_url=" + quote("file://" + package["manifest_path"].rsplit("/", 1)[0])
@@ -141,6 +153,7 @@ def purl(package):
 
 
 def component(package, use):
+    """A package in the bill of materials."""
     kinds = {kind for target in package["targets"] for kind in target["kind"]}
     made = {
         "type": "application" if "bin" in kinds and not kinds & {"lib", "proc-macro"} else "library",
@@ -170,21 +183,27 @@ def identity(text):
 def difference(first, second):
     """What one reading has and another lacks; crates are told by what their ids say."""
     def lacking(one, other):
+        """The crates of one reading that the other lacks."""
         there = set(map(identity, other.crates))
         return [one.crate(number) for number, krate in enumerate(one.crates) if identity(krate) not in there]
 
     def pairs(one):
+        """The dependencies of a reading, as two ids each."""
         return [(one.crates[of], one.crates[to]) for to in range(len(one.crates)) for of in one.needed_by[to]]
 
     def lost(one, other):
+        """The dependencies of one reading that the other lacks."""
         there = {(identity(of), identity(to)) for of, to in pairs(other)}
         return [{"from": of, "to": to} for of, to in pairs(one) if (identity(of), identity(to)) not in there]
 
+    def versions(crates, name):
+        """The versions of the crates of a name."""
+        return [crate["version"] for crate in crates if crate["name"] == name]
+
     removed, added = lacking(first, second), lacking(second, first)
-    names = {crate["name"] for crate in removed} & {crate["name"] for crate in added}
-    versions = lambda crates, name: [crate["version"] for crate in crates if crate["name"] == name]
+    names = sorted({crate["name"] for crate in removed} & {crate["name"] for crate in added}, key=str.encode)
     return {
-        "changed": [{"name": name, "from": versions(removed, name), "to": versions(added, name)} for name in sorted(names, key=str.encode)],
+        "changed": [{"name": name, "from": versions(removed, name), "to": versions(added, name)} for name in names],
         "removed": removed,
         "added": added,
         "removed_dependencies": lost(first, second),
@@ -224,39 +243,27 @@ def differences(reading):
     return count, wrong
 
 
-def texts(folder):
-    for path in sorted(folder.glob("*/metadata.json*")):
-        yield path, gzip.decompress(path.read_bytes()) if path.suffix == ".gz" else path.read_bytes()
+def is_difference(first, other_text, other):
+    """Whether the difference from another document is told as it has to be."""
+    with tempfile.TemporaryDirectory() as folder:
+        path = pathlib.Path(folder, "other.json")
+        path.write_bytes(other_text)
+        return first.ask("diff", str(path)) == difference(first, other)
 
 
-def compared_with(first, other_text, other, path):
-    """Whether the difference from another document is as it has to be."""
-    path.write_bytes(other_text)
-    told = first.ask("diff", str(path))
-    return told == difference(first, other)
-
-
-def main(words):
-    if len(words) != 1 or not pathlib.Path(words[0]).is_dir():
-        print(__doc__, file=sys.stderr)
-        return 2
+def compare(folder):
+    """Compares the answers about each document; whether nothing differs and something was compared."""
     total, wrong, before = 0, 0, None
-    scratch = pathlib.Path(os.environ.get("TMPDIR", "/tmp")) / f"check_words.{os.getpid()}.json"
-    for path, text in texts(pathlib.Path(words[0])):
+    for path, text in documents(folder):
         for name, options in SETTINGS.items():
             reading = Reading(text, options)
             count, failed = differences(reading)
             if before and name == "none":
                 count += 1
-                failed += [] if compared_with(reading, before[0], before[1], scratch) else [("diff", str(before[2]))]
+                failed += [] if is_difference(reading, *before[:2]) else [("diff", str(before[2]))]
             total, wrong = total + count, wrong + len(failed)
             for one in failed[:5]:
                 print(f"{path.parent.name}, {name}: {' '.join(one)}")
             before = (text, reading, path) if name == "none" else before
-    scratch.unlink(missing_ok=True)
     print(f"{total - wrong} the same, {wrong} different")
-    return 0 if total and not wrong else 1
-
-
-if __name__ == "__main__":
-    sys.exit(main(sys.argv[1:]))
+    return total > 0 and wrong == 0

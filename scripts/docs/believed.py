@@ -1,23 +1,20 @@
-#!/usr/bin/env python3
-"""Lists the definitions that the contract of `build_with_metadata` reaches: all that a reader has to believe of the headline.
+"""Lists the definitions that the contract of `build_with_metadata` reaches: all that a reader has to believe of the
+headline.
 
-    scripts/believed.py           writes docs/HEADLINE.md
-    scripts/believed.py --check   says whether docs/HEADLINE.md is what it would write
-
-The definitions of the standard library and of the ported crates are left out: they are not this repository's.
+Writes them to docs/HEADLINE.md, or says whether the page is what it would write. The definitions of the standard
+library and of the ported crates are left out: they are not this repository's.
 """
-import pathlib
 import re
-import sys
 
-ROOT = pathlib.Path(__file__).resolve().parent.parent
+from krates_sources import ROOT
+
 PAGE = ROOT / "docs" / "HEADLINE.md"
 SOURCE = "crates/krates/src/builder.rt"
 FUNCTION = "build_with_metadata"
 
 HEAD = """# The headline, and all that has to be believed of it
 
-Written by `scripts/believed.py` from the contract of `Builder::build_with_metadata`
+Written by `scripts/docs.py believed` from the contract of `Builder::build_with_metadata`
 ([builder.rt](../{source})), and compared with it by each run of the gate. The proofs need not be read: they are checked.
 What has to be read, to know what is proved, are the contract and the {count} definitions that it reaches: {lines} lines in {files} files.
 
@@ -68,6 +65,7 @@ class Definition:
     """A definition of a file: its name, the sentence above it, its lines, the words in it."""
 
     def __init__(self, file, name, remark, text):
+        """Finds the words; what stands behind `--` is a remark."""
         self.file, self.name, self.remark, self.text = file, name, remark, text
         self.words = set(WORD.findall("\n".join(line.split("--")[0] for line in text.split("\n"))))
 
@@ -76,6 +74,7 @@ class File:
     """A file of definitions: its imports by the word that they bring, and its definitions by name."""
 
     def __init__(self, path):
+        """Reads the file: its title is the remark at its top."""
         self.path = path
         text = path.read_text(encoding="utf-8")
         self.title = " ".join(re.match(r"(?:-- ?[^\n]*\n)*", text)[0].replace("-- ", "").replace("--", "").split())
@@ -132,6 +131,7 @@ def definitions_of(file, paragraph):
 
 
 def read(path, files={}):
+    """The file of a path, which is read once."""
     if path not in files:
         files[path] = File(path)
     return files[path]
@@ -170,6 +170,7 @@ def reached():
     order, seen = [], set()
 
     def visit(definition):
+        """Adds a definition behind those that it uses, once."""
         key = (definition.file.path, definition.name)
         if key in seen:
             return
@@ -184,10 +185,12 @@ def reached():
 
 
 def lines_of(definitions):
+    """How many lines the definitions have."""
     return sum(len(definition.text.split("\n")) for definition in definitions)
 
 
 def lists_fields(definition):
+    """Whether the definition only lists the fields of a value, as clauses see them."""
     return definition.name.endswith(("_view", "Model"))
 
 
@@ -199,6 +202,7 @@ def is_drawn(definition):
 
 
 def page():
+    """The text of the page."""
     clauses, order = reached()
     files = []
     for definition in order:
@@ -222,16 +226,14 @@ def page():
     return "\n".join(out)
 
 
-def main():
-    text = page()
-    if "--check" in sys.argv[1:]:
-        if PAGE.exists() and PAGE.read_text(encoding="utf-8") == text:
-            return 0
-        print("docs/HEADLINE.md is not what scripts/believed.py writes")
-        return 1
-    PAGE.write_text(text, encoding="utf-8")
-    return 0
+def check():
+    """Whether the page is what would be written; says so where it isn't."""
+    is_so = PAGE.exists() and PAGE.read_text(encoding="utf-8") == page()
+    if not is_so:
+        print("docs/HEADLINE.md is not what scripts/docs.py believed writes")
+    return is_so
 
 
-if __name__ == "__main__":
-    sys.exit(main())
+def write():
+    """Writes the page."""
+    PAGE.write_text(page(), encoding="utf-8")

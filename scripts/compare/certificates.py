@@ -1,34 +1,27 @@
-#!/usr/bin/env python3
 """Writes certificates of documents, and checks them and damaged ones by the program that checks certificates alone.
 
-    scripts/check_certificates.py FOLDER [COUNT]
+Of each document, without an option and under `--edges no-dev` for Linux, `cargo-krates certify` writes the closed
+list of all that is kept, that of a package that isn't, and a derivation of each kept crate, of at most twelve. Each
+has to hold, with the crates and steps that it has. Then in each one fact or step is taken away, exchanged for the
+next one, or added, and it is checked with another document and under the other setting: each of these has to be
+refused, a step at a place at or behind the change; but by another document only where what it says isn't so there. At
+last COUNT damaged certificates, 1,000 where none is given and the same in every run: texts that are cut off, and
+values that are gone, of another type, doubled under their key, or exchanged. None of them may be a yes, and each has
+to end with status 1, nothing on standard output and one line on standard error.
 
-A document is FOLDER/NAME/metadata.json, which may be compressed, as metadata.json.gz. Of each, without an option and under
-`--edges no-dev --target x86_64-unknown-linux-gnu`, `cargo-krates certify` writes the closed list of all that is kept, that of a package that
-isn't, and a derivation of each kept crate, of at most twelve. Each has to hold, with the crates and steps that it has. Then in each one fact or
-step is taken away, exchanged for the next one, or added, and it is checked with another document and under the other setting: each of these
-has to be refused, a step at a place at or behind the change; but by another document only where what it says isn't so there. At last COUNT damaged certificates, 1,000 where none is given and the same
-in every run: texts that are cut off, and values that are gone, of another type, doubled under their key, or exchanged. None of them may be
-a yes, and each has to end with status 1, nothing on standard output and one line on standard error.
-
-The programs are crates/cargo_krates/out/cargo_krates and crates/krates_check/out/krates_check, which `rt run` in these folders builds, or
-$CARGO_KRATES and $KRATES_CHECK. Each run that ends otherwise is told. The status is 0 where none did and something was checked, and 1 otherwise.
+Each run that ends otherwise is told.
 """
 import copy
-import gzip
 import json
-import os
 import pathlib
 import random
 import re
-import subprocess
-import sys
 import tempfile
 
-ROOT = pathlib.Path(__file__).resolve().parent.parent
-MAKER = os.environ.get("CARGO_KRATES", str(ROOT / "crates/cargo_krates/out/cargo_krates"))
-CHECKER = os.environ.get("KRATES_CHECK", str(ROOT / "crates/krates_check/out/krates_check"))
-SETTINGS = [[], ["--edges", "no-dev", "--target", "x86_64-unknown-linux-gnu"]]
+from compare.programs import LINUX, printed, run
+from krates_sources import documents
+
+SETTINGS = [[], ["--edges", "no-dev", *LINUX]]
 CRATES = 12
 REFUSED = re.compile(r"error: (step (\d+) does not follow|something follows from the facts and isn't among them)\n")
 
@@ -37,35 +30,33 @@ class Tally:
     """How many runs ended as they have to, by what was done to the certificate, and which didn't."""
 
     def __init__(self):
+        """Nothing has ended."""
         self.counts, self.wrong = {}, []
 
     def add(self, kind, is_right, told):
+        """Adds a run, and what is told of it where it is wrong."""
         self.counts[kind] = self.counts.get(kind, 0) + 1
         if not is_right:
             self.wrong.append(f"{kind}: {told}")
 
 
-def documents(folder, place):
-    """The name and the file of each document, written out where it is compressed."""
-    for path in sorted(pathlib.Path(folder).glob("*/metadata.json*")):
-        raw = path.read_bytes()
-        file = pathlib.Path(place) / f"{path.parent.name}.json"
-        file.write_bytes(gzip.decompress(raw) if path.suffix == ".gz" else raw)
+def written(folder, place):
+    """The name and the file of each document, which is written to a place."""
+    for path, text in documents(folder):
+        file = pathlib.Path(place, f"{path.parent.name}.json")
+        file.write_bytes(text)
         yield path.parent.name, file
 
 
 def made(file, options, *words):
     """What the first program prints."""
-    ran = subprocess.run([MAKER, *words, *options, "--metadata", str(file)], capture_output=True, text=True)
-    assert ran.returncode == 0, (words, ran.stderr)
-    return ran.stdout
+    return printed("cargo_krates", [*words, *options, "--metadata", str(file)])
 
 
 def checked(file, options, certificate):
     """How the checker ends: its status, standard output and standard error."""
     text = certificate if isinstance(certificate, bytes) else json.dumps(certificate).encode()
-    ran = subprocess.run([CHECKER, *options, "--metadata", str(file)], input=text, capture_output=True)
-    return ran.returncode, ran.stdout.decode(), ran.stderr.decode()
+    return run("krates_check", [*options, "--metadata", str(file)], text)
 
 
 def parts(certificate):
@@ -74,6 +65,7 @@ def parts(certificate):
 
 
 def number(count, word):
+    """The count with the word, of which there may be several."""
     return f"{count} {word}" if count == 1 else f"{count} {word}s"
 
 
@@ -111,19 +103,19 @@ def certificates(file, options):
 
 
 def changed(certificate, rng):
-    """The certificate with one part taken away, exchanged for the next, or added: what was done, the first place that it touches, the certificate."""
+    """The certificate with one part taken away, exchanged or added: what was done, the first place touched, and it."""
     count = len(parts(certificate))
     other = copy.deepcopy(parts(certificate)[0])
     if certificate["kind"] == "closed":
         place = rng.randrange(count)
-        for kind, change in ("taken away", lambda p: p.pop(place)), ("exchanged", lambda p: p.__setitem__(place, p[place - 1])):
-            if kind == "taken away" or p_differ(certificate, place):
-                yield kind, place, edited(certificate, change)
+        yield "taken away", place, edited(certificate, lambda p: p.pop(place))
+        if p_differ(certificate, place):
+            yield "exchanged", place, edited(certificate, lambda p: p.__setitem__(place, p[place - 1]))
         return
     if count > 1:
         place = rng.randrange(count - 1)
         yield "taken away", place, edited(certificate, lambda p: p.pop(place))
-        yield "exchanged", place, edited(certificate, lambda p: p.__setitem__(slice(place, place + 2), [p[place + 1], p[place]]))
+        yield "exchanged", place, edited(certificate, lambda p: p.insert(place, p.pop(place + 1)))
     other["rule"] = 2
     yield "added", count, edited(certificate, lambda p: p.append(other))
 
@@ -134,6 +126,7 @@ def p_differ(certificate, place):
 
 
 def edited(certificate, change):
+    """A copy of the certificate whose parts are changed so."""
     made = copy.deepcopy(certificate)
     change(parts(made))
     return made
@@ -202,27 +195,32 @@ def check_damage(tally, whole, count, rng):
         tally.add("damaged", is_right, f"{name} {options}: {status} {out}{said}{text[:2000]!r}")
 
 
-def main():
+def check_document(tally, files, at, whole, rng):
+    """Checks the certificates of a document and what is made of them; adds those that aren't long to the whole ones."""
+    name, file = files[at]
+    for number, options in enumerate(SETTINGS):
+        for certificate in certificates(file, options):
+            ended = checked(file, options, certificate)
+            tally.add("whole", ended == (0, wanted(certificate), ""), f"{name} {options}: {ended}")
+            ended = checked(file, SETTINGS[1 - number], certificate)
+            tally.add("other setting", ended[0] == 1 and "of another setting" in ended[2], f"{name}: {ended}")
+            check_other(tally, files[at - 1][1], options, certificate)
+            check_changes(tally, name, file, options, certificate, rng)
+            if len(json.dumps(certificate)) < 200_000:
+                whole.append((name, file, options, certificate))
+
+
+def compare(folder, count=1000):
+    """Checks certificates of each document, and damaged ones; whether all ended as they have to, and there was one."""
     rng, tally, whole = random.Random(1), Tally(), []
     with tempfile.TemporaryDirectory() as place:
-        files = list(documents(sys.argv[1], place))
-        for at, (name, file) in enumerate(files):
-            for number, options in enumerate(SETTINGS):
-                for certificate in certificates(file, options):
-                    ended = checked(file, options, certificate)
-                    tally.add("whole", ended == (0, wanted(certificate), ""), f"{name} {options}: {ended}")
-                    ended = checked(file, SETTINGS[1 - number], certificate)
-                    tally.add("other setting", ended[0] == 1 and "of another setting" in ended[2], f"{name}: {ended}")
-                    check_other(tally, files[at - 1][1], options, certificate)
-                    check_changes(tally, name, file, options, certificate, rng)
-                    if len(json.dumps(certificate)) < 200_000:
-                        whole.append((name, file, options, certificate))
-        check_damage(tally, whole, int(sys.argv[2]) if len(sys.argv) > 2 else 1000, rng)
+        files = list(written(folder, place))
+        for at in range(len(files)):
+            check_document(tally, files, at, whole, rng)
+        if whole:
+            check_damage(tally, whole, count, rng)
     for line in tally.wrong[:20]:
         print(line[:3000])
-    print(", ".join(f"{kind}: {count}" for kind, count in tally.counts.items()), f"; {len(tally.wrong)} ended otherwise")
-    return 1 if tally.wrong or not tally.counts.get("whole") else 0
-
-
-if __name__ == "__main__":
-    sys.exit(main())
+    counts = ", ".join(f"{kind}: {count}" for kind, count in tally.counts.items())
+    print(f"{counts} ; {len(tally.wrong)} ended otherwise")
+    return not tally.wrong and "whole" in tally.counts

@@ -1,18 +1,16 @@
-#!/usr/bin/env python3
-"""Draws the pictures of docs/pictures, by Graphviz's `dot`.
+"""Draws the pictures of docs/pictures, by Graphviz's `dot`, or says whether each is of what stands.
 
-    scripts/pictures.py           writes them
-    scripts/pictures.py --check   says whether each picture is of what stands: of crates.txt, and of the lists in this script
+What stands are crates.txt and the lists of this module.
 
-A reader needs neither this script nor Graphviz, and neither does --check: the pictures are committed, and each ends with the checksum of the
-text that it was drawn from.
+A reader needs neither this module nor Graphviz, and neither does the check: the pictures are committed, and each ends
+with the checksum of the text that it was drawn from.
 """
 import hashlib
-import pathlib
 import subprocess
 import sys
 
-ROOT = pathlib.Path(__file__).resolve().parent.parent
+from krates_sources import ROOT, crates
+
 FOLDER = ROOT / "docs" / "pictures"
 
 STYLE = """
@@ -26,22 +24,22 @@ ROOMS = {
     "texts and the document": ("#e8f1fb", ["krates_text", "krates_json", "krates_cm", "krates_cm_json", "krates_ids"]),
     "the command": ("#f3eefb", ["krates_cargo"]),
     "what is believed": ("#fdf3d8", ["krates_rules"]),
-    "questions and search": ("#e9f7ec", ["krates_document", "krates_questions", "krates_selection", "krates_search", "krates_resolve"]),
+    "questions and search": (
+        "#e9f7ec", ["krates_document", "krates_questions", "krates_selection", "krates_search", "krates_resolve"],
+    ),
     "the graph": ("#e6f6f6", ["krates_graph", "krates_drawing", "krates_queries"]),
     "why": ("#f1f0e4", ["krates_explain"]),
-    "checkers without a search": ("#fdeaea", ["krates_derive", "krates_checkers", "krates_certificate", "krates_verdict", "krates_check"]),
-    "for callers": ("#eceff1", ["krates", "krates_cli", "krates_list", "krates_answers", "krates_words", "krates_report", "krates_host", "cargo_krates", "krates_foreign", "krates_c"]),
+    "checkers without a search": (
+        "#fdeaea", ["krates_derive", "krates_checkers", "krates_certificate", "krates_verdict", "krates_check"],
+    ),
+    "for callers": (
+        "#eceff1",
+        [
+            "krates", "krates_cli", "krates_list", "krates_answers", "krates_words", "krates_report", "krates_host",
+            "cargo_krates", "krates_foreign", "krates_c",
+        ],
+    ),
 }
-
-
-def crates():
-    """Each crate of this repository with the crates of it on which it stands."""
-    texts = [line.split("#")[0] for line in (ROOT / "crates.txt").read_text().splitlines()]
-    lines = [line.split(":") for line in texts if line.strip()]
-    # behind the name may stand what is made of the crate
-    lines = [(head.split()[0], rest.split()) for head, rest in lines]
-    names = {name for name, _ in lines}
-    return {name: [below for below in rest if below in names] for name, rest in lines}
 
 
 def shown(name):
@@ -67,7 +65,9 @@ def direct(stands_on, name):
 
 
 def crates_picture():
-    stands_on = {name: below for name, below in crates().items() if shown(name)}
+    """The text of the picture of the crates."""
+    known = crates()
+    stands_on = {name: [one for one in rest if one in known] for name, rest in known.items() if shown(name)}
     colour = {name: fill for fill, names in ROOMS.values() for name in names}
     lines = ["digraph crates {", STYLE, "    rankdir=TB; ranksep=0.45; nodesep=0.3;"]
     for name in stands_on:
@@ -75,7 +75,8 @@ def crates_picture():
     for name in stands_on:
         lines.extend(f"    {name} -> {below};" for below in direct(stands_on, name))
     rows = "".join(
-        f'<tr><td bgcolor="{fill}" width="18"> </td><td align="left">{room}</td></tr>' for room, (fill, _) in ROOMS.items()
+        f'<tr><td bgcolor="{fill}" width="18"> </td><td align="left">{room}</td></tr>'
+        for room, (fill, _) in ROOMS.items()
     )
     arrow = '<tr><td>→</td><td align="left">stands on; what it reaches by others is left out</td></tr>'
     legend = f'<table border="0" cellborder="0" cellspacing="3">{rows}{arrow}</table>'
@@ -98,7 +99,8 @@ EXAMPLE_FACTS = [
 EXAMPLE_NODES = ["0: a", "1: b", "2: feature b of a", "3: feature w of a", "4: feature j of b"]
 
 EXAMPLE_EDGES = [
-    (0, 1, "Dep"), (0, 4, "Feature"), (2, 0, "Feature"), (2, 1, "Feature"), (3, 0, "Feature"), (3, 4, "Feature"), (4, 1, "Feature"),
+    (0, 1, "Dep"), (0, 4, "Feature"), (2, 0, "Feature"), (2, 1, "Feature"), (3, 0, "Feature"), (3, 4, "Feature"),
+    (4, 1, "Feature"),
 ]
 
 EXAMPLE_DOCUMENT = (
@@ -108,16 +110,19 @@ EXAMPLE_DOCUMENT = (
 
 
 def example_picture():
+    """The text of the picture of the small document."""
     lines = ["digraph example {", STYLE, "    rankdir=TB; compound=true; ranksep=0.5;"]
     lines.append('    subgraph cluster_document { label="the document"; color="#c5ccd3"; style=rounded;')
     lines.append(f'        document [shape=note, style=filled, fillcolor="#e8f1fb", label="{EXAMPLE_DOCUMENT}"]; }}')
-    lines.append('    subgraph cluster_facts { label="what has a derivation, each by a rule"; color="#c5ccd3"; style=rounded;')
+    title = "what has a derivation, each by a rule"
+    lines.append(f'    subgraph cluster_facts {{ label="{title}"; color="#c5ccd3"; style=rounded;')
     for name, text, rule, _ in EXAMPLE_FACTS:
         lines.append(f'        {name} [fillcolor="#fdf3d8", label="{text}\\nrule {rule}"];')
     lines.append("    }")
     for name, _, _, uses in EXAMPLE_FACTS:
         lines.extend(f"    {use} -> {name};" for use in uses)
-    lines.append('    subgraph cluster_graph { label="the graph that is drawn, by number"; color="#c5ccd3"; style=rounded;')
+    title = "the graph that is drawn, by number"
+    lines.append(f'    subgraph cluster_graph {{ label="{title}"; color="#c5ccd3"; style=rounded;')
     for number, text in enumerate(EXAMPLE_NODES):
         fill = "#e9f7ec" if "feature" not in text else "#e6f6f6"
         lines.append(f'        node_{number} [shape=ellipse, style=filled, fillcolor="{fill}", label="{text}"];')
@@ -143,10 +148,11 @@ LAYERS = [
     ("shown", "what shows that the contracts say enough", [
         ("rows", "worked examples\\ncrates ending in _tests"),
         ("edits", "wrong bodies that the prover refuses\\nmust-fail/, wrong-bodies/"),
-        ("corpus", "real documents, lists and graphs\\nscripts/compare_*.sh"),
+        ("corpus", "real documents, lists and graphs\\nscripts/compare.py"),
     ]),
     ("trusted", "trusted", [
-        ("kit", "the toolchain and its logic, the C library,\\nthe statements of serde_json, json, fast_float,\\nsemver and percent_encoding"),
+        ("kit", "the toolchain and its logic, the C library,\\nthe statements of serde_json, json, fast_float,"
+                "\\nsemver and percent_encoding"),
     ]),
 ]
 
@@ -163,6 +169,7 @@ BETWEEN_LAYERS = [
 
 
 def proof_picture():
+    """The text of the picture of what is read, checked, shown and trusted."""
     lines = ["digraph proof {", STYLE, "    rankdir=TB; ranksep=0.6; nodesep=0.4;"]
     fills = {"read": "#fdf3d8", "checked": "#e9f7ec", "shown": "#e8f1fb", "trusted": "#fdeaea"}
     for name, title, boxes in LAYERS:
@@ -186,10 +193,12 @@ def mark(text):
 
 def is_stale(name, text):
     """Whether a picture, or the text that is committed beside it, is of something else."""
-    return (FOLDER / f"{name}.dot").read_text() != text or not (FOLDER / f"{name}.svg").read_text().endswith(mark(text))
+    source, picture = (FOLDER / f"{name}.{kind}" for kind in ("dot", "svg"))
+    return source.read_text() != text or not picture.read_text().endswith(mark(text))
 
 
 def draw(name, text):
+    """Draws a picture, with the text that it is drawn from beside it."""
     source, picture = FOLDER / f"{name}.dot", FOLDER / f"{name}.svg"
     source.write_text(text)
     subprocess.run(["dot", "-Tsvg", "-o", str(picture), str(source)], check=True)
@@ -197,20 +206,16 @@ def draw(name, text):
         file.write(mark(text))
 
 
-def main(words):
+def check():
+    """Whether each picture is of what stands; prints those that aren't."""
+    stale = [name for name, text in PICTURES.items() if is_stale(name, text() + "\n")]
+    for name in stale:
+        print(f"docs/pictures/{name}.svg isn't of what stands: run scripts/docs.py pictures", file=sys.stderr)
+    return not stale
+
+
+def write():
+    """Draws all pictures."""
     FOLDER.mkdir(exist_ok=True)
-    if words == ["--check"]:
-        stale = [name for name, text in PICTURES.items() if is_stale(name, text() + "\n")]
-        for name in stale:
-            print(f"docs/pictures/{name}.svg isn't of what stands: run scripts/pictures.py", file=sys.stderr)
-        return 1 if stale else 0
-    if words:
-        print(__doc__, file=sys.stderr)
-        return 2
     for name, text in PICTURES.items():
         draw(name, text() + "\n")
-    return 0
-
-
-if __name__ == "__main__":
-    sys.exit(main(sys.argv[1:]))

@@ -1,24 +1,21 @@
-#!/usr/bin/env python3
-"""Says whether the examples of the README and of the guide are code that the gate runs, and whether they compile as they stand.
+"""Says whether the examples of the README and the guide are code that the gate runs, and whether they compile.
 
-    scripts/readme.py             compares them with the sources
-    scripts/readme.py --compile   compiles each block alone
+Each block of Rattle's code in README.md and in docs/GUIDE.md has to stand, line by line, in a file readme.rt of a
+crate of worked examples: in one piece, but for what it imports, which the file has to import too, and for lines of
+comment.
 
-Each block of Rattle's code in README.md and in docs/GUIDE.md has to stand, line by line, in a file readme.rt of a crate of worked
-examples: in one piece, but for what it imports, which the file has to import too, and for lines of comment.
+To compile them, each block is a module of its own, word by word, of a crate of tests in a copy of the working tree,
+which `rt try` compiles; nothing is proved. It takes a minute.
 
-With --compile, each block is a module of its own, word by word, of a crate of tests in a copy of the working tree, which `rt try`
-compiles; nothing is proved. It takes a minute.
-
-The status is 0 where each block is so, and each page has one.
+All is well where each block is so, and each page has one.
 """
 import pathlib
 import re
 import subprocess
-import sys
 import tempfile
 
-ROOT = pathlib.Path(__file__).resolve().parent.parent
+from krates_sources import ROOT, copy_tree
+
 PAGES = ("README.md", "docs/GUIDE.md")
 FILES = ("crates/*_tests/src/readme.rt",)
 
@@ -89,48 +86,40 @@ def compare(examples, page):
     return bool(examples) and not missing
 
 
-def copy_tree(folder):
-    """Copies what git knows or would add into a folder."""
-    listed = ["git", "ls-files", "-z", "--cached", "--others", "--exclude-standard"]
-    known = subprocess.run(listed, cwd=ROOT, check=True, stdout=subprocess.PIPE).stdout.decode().split("\0")
-    for name in filter(None, known):
-        if (ROOT / name).is_file():
-            (folder / name).parent.mkdir(parents=True, exist_ok=True)
-            (folder / name).write_bytes((ROOT / name).read_bytes())
+def pages():
+    """The blocks of each page."""
+    return {page: blocks((ROOT / page).read_text(encoding="utf-8")) for page in PAGES}
 
 
-def compile_all(pages):
-    """Whether the blocks of the pages compile, each as a module; prints what the compiler says of them, where they don't."""
+def check():
+    """Whether each block of each page stands in a source, and each page has one."""
+    return all([compare(examples, page) for page, examples in pages().items()])
+
+
+def write_crate(folder):
+    """Makes the crate whose modules are the blocks, in a copy of the tree: its folder, and how many blocks it has."""
+    source = folder / "crates" / NAME / "src"
+    source.mkdir(parents=True)
+    modules = []
+    for page, examples in pages().items():
+        for number, block in enumerate(examples, 1):
+            modules.append(f"{pathlib.Path(page).stem.lower()}_{number}")
+            (source / f"{modules[-1]}.rt").write_text(block, encoding="utf-8")
+    (source / "lib.rt").write_text(HEAD + "".join(f"mod {module};\n" for module in modules), encoding="utf-8")
+    with open(folder / "crates.txt", "a", encoding="utf-8") as file:
+        file.write(f"{NAME}: {USES}\n")
+    return source.parent, len(modules)
+
+
+def compile_all():
+    """Whether the blocks of the pages compile, each as a module; prints what the compiler says where they don't."""
     with tempfile.TemporaryDirectory(prefix="pages-") as name:
-        folder = pathlib.Path(name)
-        copy_tree(folder)
-        source = folder / "crates" / NAME / "src"
-        source.mkdir(parents=True)
-        modules = []
-        for page, examples in pages.items():
-            for number, block in enumerate(examples, 1):
-                modules.append(f"{pathlib.Path(page).stem.lower()}_{number}")
-                (source / f"{modules[-1]}.rt").write_text(block, encoding="utf-8")
-        (source / "lib.rt").write_text(HEAD + "".join(f"mod {module};\n" for module in modules), encoding="utf-8")
-        with open(folder / "crates.txt", "a", encoding="utf-8") as file:
-            file.write(f"{NAME}: {USES}\n")
-        how = {"cwd": source.parent, "stdin": subprocess.DEVNULL, "stdout": subprocess.PIPE, "stderr": subprocess.STDOUT}
+        copy_tree(pathlib.Path(name))
+        crate, count = write_crate(pathlib.Path(name))
+        how = {"cwd": crate, "stdin": subprocess.DEVNULL, "stdout": subprocess.PIPE, "stderr": subprocess.STDOUT}
         ran = subprocess.run(["rt", "try", "--test"], encoding="utf-8", errors="replace", **how)
     if ran.returncode:
         print(ran.stdout, end="")
     else:
-        print(f"{len(modules)} blocks compile as they stand")
+        print(f"{count} blocks compile as they stand")
     return ran.returncode == 0
-
-
-def main(words):
-    if words not in ([], ["--compile"]):
-        print(__doc__, file=sys.stderr)
-        return 2
-    pages = {page: blocks((ROOT / page).read_text(encoding="utf-8")) for page in PAGES}
-    if words:
-        return 0 if compile_all(pages) else 1
-    return 0 if all([compare(examples, page) for page, examples in pages.items()]) else 1
-
-
-sys.exit(main(sys.argv[1:]))

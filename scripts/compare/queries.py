@@ -1,71 +1,15 @@
-#!/usr/bin/env python3
 """Checks what the queries answer against a plain reading of the graph that was printed.
 
-    scripts/check_queries.py FOLDER
-
-A document is FOLDER/NAME/metadata.json, which may be compressed, as metadata.json.gz. Each is read by cargo-krates with the
-word `graph` and with the word `queries`, without an option and with --target x86_64-unknown-linux-gnu: the one prints the graph, the other
-what each query answers, of every node, of every id of the document, of every feature and of every name. From the lines of the graph,
-and of the document its members, names and versions, this script makes the lines that are expected, each by the sentence that says what
-the query means, and compares.
-
-The program is crates/cargo_krates/out/cargo_krates, which `rt run` in that folder builds, or $CARGO_KRATES.
-The status is 0 where nothing differs and something was compared, and 1 otherwise.
+Each document is read by cargo-krates with the word `graph` and with the word `queries`, without an option and for
+Linux: the one prints the graph, the other what each query answers, of every node, of every id of the document, of
+every feature and of every name. From the lines of the graph, and of the document its members, names and versions,
+this module makes the lines that are expected, each by the sentence that says what the query means, and compares.
 """
-import gzip
 import json
-import os
-import pathlib
-import subprocess
-import sys
 
-ROOT = pathlib.Path(__file__).resolve().parent.parent
-PROGRAM = os.environ.get("CARGO_KRATES", str(ROOT / "crates" / "cargo_krates" / "out" / "cargo_krates"))
-SETTINGS = {"none": [], "linux": ["--target", "x86_64-unknown-linux-gnu"]}
-
-
-class Graph:
-    """The lines of a graph: what each node is, what each mapping names, and from where to where each edge leads."""
-
-    def __init__(self, lines):
-        self.crates, self.features, self.mapping, self.edges = [], {}, {}, []
-        for line in lines:
-            word, rest = line.split(" ", 1)
-            if word == "node":
-                self.add_node(*rest.split(" ", 2))
-            elif word == "map":
-                krate, place, target = map(int, rest.split(" "))
-                self.mapping.setdefault(krate, {})[place] = target
-            else:
-                _, source, target, what = rest.split(" ", 3)
-                self.edges.append((int(source), int(target), what))
-
-    def add_node(self, number, what, text):
-        assert int(number) == len(self.crates) + len(self.features), "nodes are numbered from 0"
-        if what == "crate":
-            self.crates.append(text)
-        else:
-            owner = [krate for krate in self.crates if text.startswith(krate + "/") and "/" not in text[len(krate) + 1:]]
-            self.features[int(number)] = (self.crates.index(owner[0]), text[len(owner[0]) + 1:])
-
-    def count(self):
-        return len(self.crates) + len(self.features)
-
-    def label(self, number):
-        if number < len(self.crates):
-            return f"crate {self.crates[number]}"
-        krate, name = self.features[number]
-        return f"feature {self.crates[krate]}/{name}"
-
-    def leads_into(self, edge, node):
-        """Whether an edge leads to a node or to a feature of it."""
-        target = self.edges[edge][1]
-        return target == node or (target in self.features and self.features[target][0] == node)
-
-
-def kind_of(what):
-    """The kind that an edge has; none for what a feature leads to."""
-    return None if what == "feature" else what.split(" ")[1]
+from compare.graph import Graph, kind_of
+from compare.programs import SETTINGS, printed
+from krates_sources import documents
 
 
 def by_source(graph):
@@ -102,10 +46,12 @@ def leading_to(sources, node):
 
 
 def node_lines(graph, node, own_edges, sources):
+    """What is answered to each node."""
     for source, edge in dependents(graph, node):
         yield f"dependent {node} {source} {edge} {graph.crates[source]}"
     above = leading_to(sources, node)
-    yield from (f"above {node} {krate} {graph.crates[krate]}" for krate in sorted(above) if krate < len(graph.crates))
+    crates_above = [krate for krate in sorted(above) if krate < len(graph.crates)]
+    yield from (f"above {node} {krate} {graph.crates[krate]}" for krate in crates_above)
     if 0 in above:
         yield f"reached {node}"
     for target, edge in dependencies(graph, own_edges, node):
@@ -163,14 +109,15 @@ def version_of(text):
 
 
 def fits(wanted, version):
-    """Whether a version fits the requirement that is these three numbers: none before a release; the first that isn't zero of
-    them stays, and nothing below it comes."""
+    """Whether a version fits the requirement that is these three numbers: none before a release; the first of them that
+    isn't zero stays, and nothing below it comes."""
     numbers, is_before = version
     fixed = next((place for place, number in enumerate(wanted) if number), 2)
     return not is_before and numbers >= wanted and numbers[:fixed + 1] == wanted[:fixed + 1]
 
 
 def name_lines(graph, packages):
+    """What is found by each kept crate's name, and of these what fits its version."""
     for krate in graph.crates:
         name, wanted = packages[krate]["name"], version_of(packages[krate]["version"])[0]
         alike = [(number, other) for number, other in enumerate(graph.crates) if packages[other]["name"] == name]
@@ -203,33 +150,21 @@ def expected(graph, document):
     yield from name_lines(graph, packages)
 
 
-def printed(text, word, options):
-    """The lines that a word prints of a document."""
-    words = [PROGRAM, word, "--metadata", "-", *options]
-    return subprocess.run(words, input=text, capture_output=True, check=True).stdout.decode().splitlines()
-
-
 def differences(text, options):
     """How many answers there are, and the first few that differ, as they are expected and as they are printed."""
-    answers = printed(text, "queries", options)
-    wanted = list(expected(Graph(printed(text, "graph", options)), json.loads(text)))
+    words = ["--metadata", "-", *options]
+    graph, answers = (printed("cargo_krates", [word, *words], text).splitlines() for word in ("graph", "queries"))
+    wanted = list(expected(Graph(graph), json.loads(text)))
     pairs = [(line, other) for line, other in zip(wanted, answers) if line != other]
     if len(wanted) != len(answers):
         pairs.append((f"{len(wanted)} lines", f"{len(answers)} lines"))
     return len(wanted), pairs[:5]
 
 
-def texts(folder):
-    for path in sorted(folder.glob("*/metadata.json*")):
-        yield path, gzip.decompress(path.read_bytes()) if path.suffix == ".gz" else path.read_bytes()
-
-
-def main(words):
-    if len(words) != 1 or not pathlib.Path(words[0]).is_dir():
-        print(__doc__, file=sys.stderr)
-        return 2
+def compare(folder):
+    """Compares the answers about each document; whether nothing differs and something was compared."""
     same = different = total = 0
-    for path, text in texts(pathlib.Path(words[0])):
+    for path, text in documents(folder):
         for name, options in SETTINGS.items():
             count, pairs = differences(text, options)
             total += count
@@ -237,8 +172,4 @@ def main(words):
             for wanted, answer in pairs:
                 print(f"{path.parent.name}, {name}: expected {wanted!r}, printed {answer!r}")
     print(f"{same} the same, {different} different; {total} answers")
-    return 0 if same and not different else 1
-
-
-if __name__ == "__main__":
-    sys.exit(main(sys.argv[1:]))
+    return same > 0 and different == 0

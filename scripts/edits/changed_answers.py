@@ -1,24 +1,17 @@
-#!/usr/bin/env python3
 """Changes an answer of each table of worked examples, and tells what its test says to that.
 
-    scripts/changed_answers.py [--compiled] CRATE..
+A table is a list of rows in a constant of a crate whose name ends in `_tests`, and the last part of a row is its
+answer. In a copy of the working tree each table gets a copy whose first row has another answer, and the test that
+walks it a copy that walks that one, with the functions between them. scripts/try_crate.sh runs them without a proof,
+or `rt test` does, which proves them first. Libraries that are built here needn't be built again.
 
-A table is a list of rows in a constant of a crate whose name ends in `_tests`, and the last part of a row is its answer. In a copy of
-the working tree each table gets a copy whose first row has another answer, and the test that walks it a copy that walks that one, with
-the functions between them. scripts/try_crate.sh runs them without a proof; with --compiled `rt test` does, which proves them first and takes ten
-minutes. Libraries that are built here needn't be built again.
-
-Prints each table with what its test says, which has to name the row, and each table that isn't tried, since its rows have no answer or
-no test walks it. The status is 0 where every test failed that walks a changed table, and there was one.
+Prints each table with what its test says, which has to name the row, and each table that isn't tried, since its rows
+have no answer or no test walks it. Every test has to fail that walks a changed table, and there has to be one.
 """
-import pathlib
 import re
-import shutil
 import subprocess
-import sys
-import tempfile
 
-ROOT = pathlib.Path(__file__).resolve().parent.parent
+from krates_sources import ROOT, copy_libraries, files
 
 TABLE = re.compile(r"^(?:pub(?:\(\w+\))? )?const (\w+): (&\[[^=]*\]) =\s*(?=&\[)", re.MULTILINE)
 FUNCTION = re.compile(r"^(?:pub(?:\(\w+\))? )?fn (\w+)", re.MULTILINE)
@@ -54,7 +47,7 @@ def closed(text, at):
 
 
 def parts(text):
-    """Returns what stands between the commas that no bracket holds, each part with its end, which is before its comma."""
+    """Returns what stands between the commas that no bracket holds, each part with its end, before its comma."""
     found, first, at = [], 0, 0
     while at < len(text):
         end = behind(text, at)
@@ -68,6 +61,7 @@ def parts(text):
 
 
 def without_comments(text):
+    """Returns the text without its lines of comment."""
     return re.sub(r"^\s*//.*\n", "", text.lstrip("\n"), flags=re.MULTILINE).strip()
 
 
@@ -125,27 +119,21 @@ def copies(text):
     return added, found, left
 
 
-def copy_tree(room):
-    """Copies what git knows or would add, and the libraries that are built."""
-    words = ["git", "ls-files", "-z", "--cached", "--others", "--exclude-standard"]
-    for name in subprocess.run(words, cwd=ROOT, check=True, capture_output=True, text=True).stdout.split("\0"):
-        if name and (ROOT / name).is_file():
-            (room / name).parent.mkdir(parents=True, exist_ok=True)
-            shutil.copy2(ROOT / name, room / name)
-    for library in ROOT.glob("crates/*/out/rlib"):
-        shutil.copytree(library, room / library.relative_to(ROOT))
-
-
-def tried(crate, room, is_compiled):
-    """Changes the tables of a crate, runs its tests, and tells what they say. Returns whether each changed one failed, and there was one."""
+def change(source):
+    """Changes the tables of a crate: the tables by the tests that walk them, and the tables that aren't tried."""
     found, left = {}, []
-    source = room / "crates" / crate / "src"
-    for file in sorted(source.rglob("*.rt")):
+    for file in files(source):
         added, here, untried = copies(file.read_text())
         file.write_text(file.read_text() + added)
         module = "::".join(file.relative_to(source).with_suffix("").parts)
         found.update({f"{module}::{test}": f"{module} {table}" for test, table in here.items()})
         left += [f"{module} {table}" for table in untried]
+    return found, left
+
+
+def is_refused(crate, room, is_compiled):
+    """Changes the tables of a crate and tells what its tests say; whether all that walk one failed, and any did."""
+    found, left = change(room / "crates" / crate / "src")
     how = {"cwd": room / "crates" / crate, "capture_output": True, "text": True, "errors": "replace"}
     if is_compiled:
         subprocess.run(["rt", "fmt"], **how, check=True)
@@ -161,14 +149,12 @@ def tried(crate, room, is_compiled):
     return failed == len(found) > 0
 
 
-def main(words):
-    crates = [it for it in words if it != "--compiled"]
-    with tempfile.TemporaryDirectory() as folder:
-        room = pathlib.Path(folder)
-        copy_tree(room)
-        results = [tried(it, room, "--compiled" in words) for it in crates]
-    return 0 if results and all(results) else 1
+def are_refused(room, crates, is_compiled=False):
+    """Whether every test of the crates that walks a changed table fails, and there is one in each crate."""
+    copy_libraries(room)
+    return all([is_refused(crate, room, is_compiled) for crate in crates])
 
 
-if __name__ == "__main__":
-    sys.exit(main(sys.argv[1:]))
+def are_refused_compiled(room, crates):
+    """The same, where the tests are proved, and run as they are compiled."""
+    return are_refused(room, crates, True)

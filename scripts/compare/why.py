@@ -1,34 +1,25 @@
-#!/usr/bin/env python3
 """Checks what krates-list says of why a crate is kept, by a reading of the rules of its own.
 
-    scripts/check_why.py FOLDER
+For each package that the program keeps of a document the steps of `--why ID` are read back, and each is looked at
+beside the document: it is numbered in turn and uses earlier steps, their facts have the form that its rule asks for,
+and what the rule asks of the document is so: that a crate is a root, a feature is listed, a reference stands in the
+manifest and its name means the crate, a dependency is declared, optional or not. No fact stands twice, each step but
+the last is used by a later one, and the last says that the package is kept. For each package that isn't kept the
+program has to refuse, and to write nothing.
 
-A document is FOLDER/NAME/metadata.json, which may be compressed, as metadata.json.gz. For each package that the program keeps of it
-the steps of `--why ID` are read back, and each is looked at beside the document: it is numbered in turn and uses earlier
-steps, their facts have the form that its rule asks for, and what the rule asks of the document is so: that a crate is a root, a feature is
-listed, a reference stands in the manifest and its name means the crate, a dependency is declared, optional or not. No fact stands twice, each
-step but the last is used by a later one, and the last says that the package is kept. For each package that isn't kept the program has
-to refuse, and to write nothing.
-
-Only the run without another option is looked at. Of the declared dependencies that fit an edge by kind, target, name and version one has
-to make the step right; which of several is meant isn't asked. Whether a target text passes isn't either.
-
-The program is crates/krates_list/out/krates_list, which `rt run` in that folder builds, or $KRATES_LIST.
-The status is 0 where every step is right and there was one, and 1 otherwise.
+Only the run without another option is looked at. Of the declared dependencies that fit an edge by kind, target, name
+and version one has to make the step right; which of several is meant isn't asked. Whether a target text passes isn't
+either.
 """
 import collections
 import concurrent.futures
-import gzip
 import json
 import os
-import pathlib
 import re
-import subprocess
-import sys
 import urllib.parse
 
-ROOT = pathlib.Path(__file__).resolve().parent.parent
-PROGRAM = os.environ.get("KRATES_LIST", str(ROOT / "crates" / "krates_list" / "out" / "krates_list"))
+from compare.programs import run
+from krates_sources import documents
 
 LINE = re.compile(r"(\d+) rule (\d+): (.*?)(?: from (\d+(?:, \d+)*))?")
 KEPT = re.compile(r"(.*?) -> (.*?)(?: \((build|dev)\))?(?: '(.*)')?")
@@ -84,12 +75,13 @@ def numbers(version):
 
 
 def fits(requirement, version):
-    """Whether a version fits a requirement; one with a mark fits wherever its numbers do, since such are seldom and none hangs on them."""
+    """Whether a version fits; one with a mark fits wherever its numbers do: such are seldom, and none hangs on them."""
     found = numbers(version)[0]
     return all(fits_one(part.strip(), version, found) for part in requirement.split(",") if part.strip() != "*")
 
 
 def fits_one(comparator, version, found):
+    """Whether a version, whose three numbers are found, fits one part of a requirement."""
     sign, text = re.fullmatch(r"(=|>=|<=|>|<|~|\^|) ?(.*)", comparator).groups()
     wanted = [int(part) for part in re.split(r"[-+]", text)[0].split(".") if part not in "*xX"]
     front = found[: len(wanted)]
@@ -112,6 +104,7 @@ class Document:
     """What a document says, by the parts of ids."""
 
     def __init__(self, text):
+        """Reads the document."""
         metadata = json.loads(text)
         self.packages = {parts_of(package["id"]): package for package in metadata["packages"]}
         self.printed = {printed(package["id"]): parts_of(package["id"]) for package in metadata["packages"]}
@@ -120,13 +113,15 @@ class Document:
         self.roots = {parts_of(id) for id in ([root] if root else metadata["workspace_members"])}
 
     def stands(self, krate):
+        """Whether a crate has a package and a node."""
         return krate in self.packages and krate in self.nodes
 
     def lists(self, krate, feature):
+        """Whether the node of a crate lists a feature."""
         return self.stands(krate) and feature in self.nodes[krate].get("features", [])
 
     def references(self, krate, feature):
-        """The references of a feature: the dependency's name, whether it is weak, and the feature; or the feature of the same crate."""
+        """The references of a feature: the dependency's name or none, whether it is weak, and the feature it names."""
         for text in self.packages[krate]["features"].get(feature, []):
             if text.startswith("dep:"):
                 yield text[4:], False, None
@@ -141,17 +136,17 @@ class Document:
 
     def referent(self, krate, name):
         """The first dependency, by id, that answers to the name."""
-        answering = [
-            parts_of(dep["pkg"]) for dep in self.nodes[krate]["deps"] if is_same_name(dep["name"], name) or self.is_renamed(dep, name)
-        ]
-        return min(answering, default=None)
+        deps = self.nodes[krate]["deps"]
+        answering = [dep for dep in deps if is_same_name(dep["name"], name) or self.is_renamed(dep, name)]
+        return min((parts_of(dep["pkg"]) for dep in answering), default=None)
 
     def is_renamed(self, dep, name):
         """Whether the dependency is known by the name of its library, which is another than its package's."""
         child = parts_of(dep["pkg"])
         targets = self.packages[child]["targets"] if child in self.packages else []
         library = next((target["name"] for target in targets if "lib" in target["kind"]), None)
-        return child[0] == name and library is not None and not is_same_name(library, child[0]) and dep["name"] == library
+        is_another = library is not None and not is_same_name(library, child[0])
+        return child[0] == name and is_another and dep["name"] == library
 
     def declared(self, edge):
         """The declared dependencies that fit an edge which the graph lists."""
@@ -160,9 +155,11 @@ class Document:
         for dep in self.nodes[edge.parent]["deps"]:
             listed = [(info["kind"] or "normal", info["target"]) for info in dep["dep_kinds"]]
             if parts_of(dep["pkg"]) == edge.child and (edge.kind, edge.cfg) in listed:
-                yield from (known for known in self.packages[edge.parent]["dependencies"] if self.is_declared(known, dep, edge))
+                declared = self.packages[edge.parent]["dependencies"]
+                yield from (known for known in declared if self.is_declared(known, dep, edge))
 
     def is_declared(self, known, dep, edge):
+        """Whether a declared dependency is the one of an edge that the graph lists with this name."""
         name = known.get("rename") or known["name"]
         return (
             ((known["kind"] or "normal"), known["target"]) == (edge.kind, edge.cfg)
@@ -178,7 +175,7 @@ class Document:
             and edge.child == fact.child
             and self.lists(fact.child, fact.name)
             and any(
-                weak == is_weak and of == fact.name and name is not None and self.referent(feature.krate, name) == fact.child
+                (weak, of) == (is_weak, fact.name) and name and self.referent(feature.krate, name) == fact.child
                 for name, weak, of in self.references(feature.krate, feature.name)
             )
         )
@@ -255,15 +252,10 @@ def fault_of(document, text, krate):
     return None if used == set(range(len(facts) - 1)) else "a step isn't used"
 
 
-def run(text, words):
-    ran = subprocess.run([PROGRAM, *words], input=text, capture_output=True, text=True, check=False)
-    return ran.returncode, ran.stdout, ran.stderr
-
-
 def checked(document, text, line):
     """The number of steps that explain a listed package, none for one that isn't kept; and what is wrong."""
     mark, id = line.split(" ", 1)
-    status, steps, told = run(text, ["--why", id])
+    status, steps, told = run("krates_list", ["--why", id], text)
     if mark == "+":
         fault = fault_of(document, steps, parts_of(id)) if status == 0 else told
         return steps.count("\n"), fault
@@ -271,16 +263,12 @@ def checked(document, text, line):
     return 0, None if is_refused else f"status {status}: {told}{steps}"
 
 
-def main():
-    if len(sys.argv) != 2 or not os.path.exists(PROGRAM):
-        print("usage: scripts/check_why.py FOLDER, where the program was built", file=sys.stderr)
-        return 2
+def compare(folder):
+    """Looks at the steps for each package of each document; whether every step is right and there was one."""
     steps = faults = 0
-    for path in sorted(pathlib.Path(sys.argv[1]).glob("*/metadata.json*")):
-        raw = path.read_bytes()
-        text = (gzip.decompress(raw) if path.suffix == ".gz" else raw).decode()
+    for path, text in documents(folder):
         document = Document(text)
-        lines = run(text, [])[1].splitlines()
+        lines = run("krates_list", [], text)[1].splitlines()
         with concurrent.futures.ThreadPoolExecutor(os.cpu_count()) as pool:
             answers = list(pool.map(lambda line: checked(document, text, line), lines))
         for line, (_, fault) in zip(lines, answers):
@@ -290,7 +278,4 @@ def main():
         print(f"{path.parent.name}: {len(lines)} packages, {count} steps")
         steps, faults = steps + count, faults + sum(fault is not None for _, fault in answers)
     print(f"{steps} steps, {faults} faults")
-    return 0 if steps and not faults else 1
-
-
-sys.exit(main())
+    return steps > 0 and faults == 0

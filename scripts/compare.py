@@ -1,0 +1,62 @@
+#!/usr/bin/env python3
+"""Compares what the programs answer about documents with what is expected, or with another reading of them.
+
+    scripts/compare.py WORD [FOLDER]
+    scripts/compare.py certificates [FOLDER [COUNT]]
+
+A document is FOLDER/NAME/metadata.json, which may be compressed, as metadata.json.gz. Where no folder is given, the
+documents are the two small ones of scripts/documents. The word is one of these:
+
+    lists          the lines of krates-list with the files NAME/*.list that stand beside a document
+    graphs         the graphs that cargo-krates draws with the files NAME/*.graph
+    queries        what each query answers with a plain reading of the drawn graph
+    why            the steps that say why krates-list keeps a crate with a reading of the rules
+    words          the answers of cargo-krates to its words with a plain reading of the document and the drawn graph
+    written        what is read of a document that was read and written with what was read of it at first
+    certificates   the certificates that cargo-krates writes, and COUNT damaged ones (1,000 where none is given), with
+                   what krates-check says of them
+
+The module of the word, in scripts/compare, says more. The programs are those that `rt run` builds in
+crates/krates_list, crates/cargo_krates and crates/krates_check, or $KRATES_LIST, $CARGO_KRATES and $KRATES_CHECK;
+`written` makes its own.
+
+The status is 0 where nothing differs and something was compared, 1 where not, and 2 where a program isn't there.
+"""
+import pathlib
+import sys
+
+from compare import certificates, expected, queries, why, words, written
+from compare.programs import is_there, program
+from krates_sources import ROOT
+
+# What each word does, and the crates whose programs it asks.
+WORDS = {
+    "lists": (expected.lists, ["krates_list"]),
+    "graphs": (expected.graphs, ["cargo_krates"]),
+    "queries": (queries.compare, ["cargo_krates"]),
+    "why": (why.compare, ["krates_list"]),
+    "words": (words.compare, ["cargo_krates"]),
+    "written": (written.compare, []),
+    "certificates": (certificates.compare, ["cargo_krates", "krates_check"]),
+}
+
+
+def main(given):
+    """Does what the words ask; the status."""
+    word, rest = (given or [""])[0], given[1:]
+    folder = pathlib.Path(rest[0]) if rest else ROOT / "scripts" / "documents"
+    counts = [int(count) for count in rest[1:] if count.isdecimal()]
+    is_short = len(rest) < 2 or (word == "certificates" and len(rest) == 2 and counts)
+    if word not in WORDS or not is_short or not folder.is_dir():
+        print(__doc__, file=sys.stderr)
+        return 2
+    compare, crates = WORDS[word]
+    for crate in crates:
+        if not is_there(crate):
+            print(f"there is no program {program(crate)}: run 'rt run < stdin' in crates/{crate}", file=sys.stderr)
+            return 2
+    return 0 if compare(folder, *counts) else 1
+
+
+if __name__ == "__main__":
+    sys.exit(main(sys.argv[1:]))

@@ -1,0 +1,1 @@
+"""The comparisons of scripts/compare.py, a module for each of its words or two, and what they share."""

@@ -1,0 +1,33 @@
+"""The programs that are asked, and the settings under which they are."""
+import os
+import subprocess
+
+from krates_sources import ROOT
+
+LINUX = ["--target", "x86_64-unknown-linux-gnu"]
+SETTINGS = {"none": [], "linux": LINUX}
+
+
+def program(crate):
+    """The program of a crate: that of the variable which is called like it, or what `rt run` builds in its folder."""
+    return os.environ.get(crate.upper(), str(ROOT / "crates" / crate / "out" / crate))
+
+
+def is_there(crate):
+    """Whether the program of a crate can be run."""
+    return os.access(program(crate), os.X_OK)
+
+
+def run(crate, words, text=b""):
+    """How the program of a crate ends on this standard input: its status, standard output and standard error."""
+    ran = subprocess.run([program(crate), *words], input=text, capture_output=True, check=False)
+    # a run that a signal ends has the status that a shell gives it
+    status = ran.returncode if ran.returncode >= 0 else 128 - ran.returncode
+    return status, *(it.decode(errors="backslashreplace") for it in (ran.stdout, ran.stderr))
+
+
+def printed(crate, words, text=b"", statuses=(0,)):
+    """What the program of a crate prints, which has to end with one of these statuses."""
+    status, out, said = run(crate, words, text)
+    assert status in statuses, (words, status, said)
+    return out

@@ -1,0 +1,48 @@
+#!/usr/bin/env python3
+"""Checks the pages, and writes those that are made from the sources.
+
+    scripts/docs.py WORD [--check]
+    scripts/docs.py readme --compile
+
+The word is one of these. With --check nothing is written; it may be left out where a word only checks.
+
+    believed    writes docs/HEADLINE.md, the definitions that the contract of the headline reaches; the check says
+                whether the page is what it would write
+    readme      says whether the examples of README.md and docs/GUIDE.md stand in code that the gate runs, or with
+                --compile whether each of them compiles as it stands, in a minute
+    contracts   lists the public calls that docs/CONTRACTS.md has no line for
+    untested    lists the public calls that no worked example shows
+    links       lists the links of the pages that lead nowhere
+    pictures    draws docs/pictures, by Graphviz's `dot`; the check, which needs no Graphviz, says whether each
+                picture is of what stands
+    all         makes every check, as the gate does
+
+The module of the word, in scripts/docs, says more. The status is 0 where a page is written, or nothing is wrong with
+what is checked, and 1 otherwise.
+"""
+import sys
+
+from docs import believed, contracts, links, pictures, readme, untested
+
+MODULES = {it.__name__.rpartition(".")[2]: it for it in (believed, readme, contracts, untested, links, pictures)}
+
+
+def main(words):
+    """Does what the words ask; the status."""
+    word, rest = (words or [""])[0], words[1:]
+    if word == "all" and rest in ([], ["--check"]):
+        return 0 if all([module.check() for module in MODULES.values()]) else 1
+    module = MODULES.get(word)
+    if module and rest == ["--compile"] and hasattr(module, "compile_all"):
+        return 0 if module.compile_all() else 1
+    if not module or rest not in ([], ["--check"]):
+        print(__doc__, file=sys.stderr)
+        return 2
+    if rest or not hasattr(module, "write"):
+        return 0 if module.check() else 1
+    module.write()
+    return 0
+
+
+if __name__ == "__main__":
+    sys.exit(main(sys.argv[1:]))

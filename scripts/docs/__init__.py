@@ -1,0 +1,1 @@
+"""The checks of the pages, one module for each word of scripts/docs.py."""

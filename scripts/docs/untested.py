@@ -1,0 +1,113 @@
+"""Lists the public calls that no worked example shows.
+
+Looked for are the public calls of the library crates, as `krates_sources.public_calls` has them. A test is code in a
+crate whose name ends in `_tests`. A method is named by `.name(` or `Type::name`, a function of a type by
+`Type::name`, and any other function by `name(`. So a method counts as tested where another type's method of that name
+is called: what is listed is untested, and what isn't may be. Laws are left out: they answer nothing that a test could
+compare.
+
+A call that only the crates above are to make may be shown by another instead: SHOWN_BY has that one, which a test
+names, for each such call. An entry that isn't needed any more is told.
+"""
+import re
+
+from krates_sources import ROOT, libraries, public_calls
+
+# What only tests use, and what programs do on their machine, which the cases of the programs show.
+LEFT_OUT = ("krates_samples", "krates_stand_in", "krates_host")
+
+# The files whose public functions are laws.
+LAWS = ("laws.rt", "comparisons.rt")
+
+# The calls that the crates above make for their own answers, by the call whose worked examples show them. A body that
+# always gave up would be seen there.
+SHOWN_BY = {
+    # the line that a command reads of what cargo wrote
+    "MetadataCommand::json_line": ("first_object_line",),
+    # what a setting has is asked of the setting
+    "ignores": ("IgnoredKinds::with", "IgnoredKinds::has"),
+    # a checker with an index looks at the corrected document, and asks what each fact of a list gives
+    "check_closed": (
+        "corrected Document::means are_roots_in is_crate_in is_kept_in are_simple_in are_toggling_in are_asked_in"
+        " FactSet::of FactSet::has_crate FactSet::has_feature"
+    ).split(),
+    # one step is asked by the number of its premises
+    "check": ("from_nothing", "from_one", "from_two"),
+    # as what an edge is declared: by name, version and source
+    "Document::declared": (
+        "version_of declared_of is_name_of folded_order named_places places_under declared_at declared_places"
+        " places_for entry_at parts_of is_same_info"
+    ).split(),
+    # a document that is asked looks its crates, features and names up
+    "Document::new": (
+        "lookup_of node_place child_place crate_number at_number package_place_at package_at node_place_at child_number"
+    ).split(),
+    "Document::is_root": ("is_member",),
+    "Document::lists": ("feature_number",),
+    "Document::values": ("feature_values",),
+    "Document::referent": ("referent_of", "is_library_rename"),
+    "Document::referents": ("referents_of",),
+    "Document::roots": ("choice_of",),
+    "Document::presence": ("standing_of",),
+    # a selection is made in look-ups of the document
+    "select": (
+        "select_in numbers_of exclusions_of known_standing known_standing_of_child Work::new Work::count_krate"
+        " Work::count_feature Reason::by_nothing Reason::by_one Reason::by_two put_krate enable toggle"
+        " expand expand_entry links_of Links::kept Links::is_asked Links::let_wait kept_edges kept_features"
+        " kept_toggled"
+    ).split(),
+    # the graph of a build: its sheet, nodes and edges, and how they are stored
+    "build_with_metadata": (
+        "count_of given_by meanings_by draw_nodes plan store_arrows in_order Krates::new divide handed_over"
+    ).split(),
+    # the steps that a build keeps, and those of them that lead to a node
+    "facts": ("kept_steps", "Document::lookup"),
+    "why": ("derivation_of", "step_of"),
+    # what is read as a document is listed, and what is read as a certificate is judged
+    "run": ("listing_of", "Subject::judge", "Subject::judge_bytes"),
+    # a refusal is handed over with its status
+    "hand_over": ("Refusal::status",),
+    # what a word of `cargo krates` answers is made of values, which its text and its JSON show
+    "Reporter::answer": (
+        "fitting duplicates lacking lost_dependencies materials is_unreachable Links::dependents Links::dependencies"
+        " Links::of Links::leads Links::tree Builds::use_of Builds::uses Packages::one Packages::any Bill::of"
+        " Changed::between Difference::between Duplicates::of licences Tree::of_dependencies Tree::of_dependents"
+        " Features::of"
+    ).split(),
+}
+
+
+def is_named(owner, name, is_method, tests):
+    """Whether the tests name a call of this name, of the type that has it, if any."""
+    if owner is None:
+        return bool(re.search(rf"\b{name}(?:::<[^(]*>)?\(", tests))
+    of_type = rf"\b{owner}(?:::<[^(]*>)?::{name}\b"
+    return bool(re.search(of_type, tests) or (is_method and re.search(rf"\.{name}(?:::<[^(]*>)?\(", tests)))
+
+
+def untested(tests):
+    """The public calls that no test names, each with its place."""
+    for source in libraries(LEFT_OUT):
+        for call in public_calls(source):
+            is_law = call.path.name in LAWS
+            if not is_law and not is_named(call.owner, call.name, call.is_method, tests):
+                name = f"{call.owner}::{call.name}" if call.owner else call.name
+                yield f"{call.path.relative_to(ROOT)}:{call.line}", name
+
+
+def check():
+    """Whether each public call is shown, and each entry of SHOWN_BY needed; prints what isn't."""
+    tests = "\n".join(path.read_text(encoding="utf-8") for path in sorted(ROOT.glob("crates/*_tests/src/*.rt")))
+    shown = {call for some in SHOWN_BY.values() for call in some}
+    found = list(untested(tests))
+    listed = [f"{place}: {call}" for place, call in found if call not in shown]
+    for by in SHOWN_BY:
+        owner, _, name = by.rpartition("::")
+        if not is_named(owner or None, name, True, tests):
+            listed.append(f"scripts/docs/untested.py: no test names {by}, which is to show others")
+    for call in sorted(shown - {call for _, call in found}):
+        listed.append(f"scripts/docs/untested.py: {call} is tested, or gone")
+    for line in listed:
+        print(line)
+    print(f"{len(listed)} calls that no worked example shows; {len(shown)} are shown by those of another call")
+    return not listed

@@ -1,0 +1,54 @@
+#!/usr/bin/env python3
+"""Tries edits in a copy of the working tree, each of which the proof, the compiler or a test has to refuse.
+
+    scripts/edits.py wrong-bodies [CRATE..]
+    scripts/edits.py must-not-compile [CRATE..]
+    scripts/edits.py changed-answers [--compiled] CRATE..
+
+Where the crates may be left out, all are tried without them.
+
+    wrong-bodies       the edits in crates/CRATE/must-fail and crates/CRATE/wrong-bodies, which the proof has to refuse
+    must-not-compile   the edits in crates/CRATE/must-not-compile, which the compiler has to refuse; it takes a minute
+                       of processor time
+    changed-answers    another answer in each table of worked examples, which its test has to refuse; the tests run
+                       without a proof, or with --compiled by `rt test`, which proves them first and takes ten minutes
+
+The module of the word, in scripts/edits, says more. The status is 0 where every edit was refused, and there was one,
+and 1 otherwise.
+"""
+import pathlib
+import sys
+import tempfile
+
+from edits import changed_answers, must_not_compile, wrong_bodies
+from krates_sources import copy_tree, crates
+
+WORDS = {
+    "wrong-bodies": wrong_bodies.are_refused,
+    "must-not-compile": must_not_compile.are_refused,
+    "changed-answers": changed_answers.are_refused,
+    "changed-answers --compiled": changed_answers.are_refused_compiled,
+}
+
+
+def main(given):
+    """Does what the words ask; the status."""
+    word, names = (given or [""])[0], given[1:]
+    if word == "changed-answers":
+        word += " --compiled" * ("--compiled" in names)
+        names = [name for name in names if name != "--compiled"]
+    is_without_names = word.startswith("changed-answers") and not names
+    if word not in WORDS or is_without_names or any(name.startswith("-") for name in names):
+        print(__doc__, file=sys.stderr)
+        return 2
+    for name in names:
+        if name not in crates():
+            sys.exit(f"{name}: crates.txt lists no such crate")
+    with tempfile.TemporaryDirectory() as folder:
+        room = pathlib.Path(folder)
+        copy_tree(room)
+        return 0 if WORDS[word](room, names or list(crates())) else 1
+
+
+if __name__ == "__main__":
+    sys.exit(main(sys.argv[1:]))
