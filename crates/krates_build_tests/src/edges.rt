@@ -103,7 +103,7 @@ impl Told<Package> for Own {
 }
 
 const OWN: &[Row] = &[
-    // a dependency on a feature, which is toggled too, and which leads to its crate
+    // a dependency that asks for a feature twice, as the default one and by name, and the feature, which leads to its crate
     (
         "a b!&with=default|b;default= / nodes a b|b;default",
         "2 | 0 1 2",
@@ -117,8 +117,8 @@ const OWN: &[Row] = &[
     ("a b b&dev|b / nodes a b&normal&dev|b", "| 0"),
     // the first again, for development
     (
-        "a b!&dev&with=default|b;default= / nodes a b|b;default",
-        "2 | 1 2",
+        "a b!&dev&with=default|b;default= / nodes a b&dev|b;default",
+        "2 | 2",
     ),
 ];
 
