@@ -27,7 +27,7 @@ import sys
 
 from compare import certificates, expected, queries, why, words, written
 from compare.programs import is_there, program
-from krates_sources import ROOT
+from krates_sources import ROOT, wrong_words
 
 # What each word does, and the crates whose programs it asks.
 WORDS = {
@@ -47,9 +47,12 @@ def main(given):
     folder = pathlib.Path(rest[0]) if rest else ROOT / "scripts" / "documents"
     counts = [int(count) for count in rest[1:] if count.isdecimal()]
     is_short = len(rest) < 2 or (word == "certificates" and len(rest) == 2 and counts)
-    if word not in WORDS or not is_short or not folder.is_dir():
-        print(__doc__, file=sys.stderr)
-        return 2
+    if word not in WORDS:
+        return wrong_words(__doc__, f"no such word: {word}" if word else "a word is missing")
+    if not is_short:
+        return wrong_words(__doc__, f"too many words, or no count: {' '.join(rest[1:])}")
+    if not folder.is_dir():
+        return wrong_words(__doc__, f"no such folder: {folder}")
     compare, crates = WORDS[word]
     for crate in crates:
         if not is_there(crate):

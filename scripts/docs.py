@@ -23,6 +23,7 @@ what is checked, and 1 otherwise.
 import sys
 
 from docs import believed, contracts, links, pictures, readme, untested
+from krates_sources import wrong_words
 
 MODULES = {it.__name__.rpartition(".")[2]: it for it in (believed, readme, contracts, untested, links, pictures)}
 
@@ -35,9 +36,10 @@ def main(words):
     module = MODULES.get(word)
     if module and rest == ["--compile"] and hasattr(module, "compile_all"):
         return 0 if module.compile_all() else 1
-    if not module or rest not in ([], ["--check"]):
-        print(__doc__, file=sys.stderr)
-        return 2
+    if word != "all" and not module:
+        return wrong_words(__doc__, f"no such word: {word}" if word else "a word is missing")
+    if rest not in ([], ["--check"]):
+        return wrong_words(__doc__, f"what {word} doesn't take: {' '.join(rest)}")
     if rest or not hasattr(module, "write"):
         return 0 if module.check() else 1
     module.write()

@@ -21,7 +21,7 @@ import sys
 import tempfile
 
 from edits import changed_answers, must_not_compile, wrong_bodies
-from krates_sources import copy_tree, crates
+from krates_sources import copy_tree, crates, wrong_words
 
 WORDS = {
     "wrong-bodies": wrong_bodies.are_refused,
@@ -37,10 +37,12 @@ def main(given):
     if word == "changed-answers":
         word += " --compiled" * ("--compiled" in names)
         names = [name for name in names if name != "--compiled"]
-    is_without_names = word.startswith("changed-answers") and not names
-    if word not in WORDS or is_without_names or any(name.startswith("-") for name in names):
-        print(__doc__, file=sys.stderr)
-        return 2
+    if word not in WORDS:
+        return wrong_words(__doc__, f"no such word: {word}" if word else "a word is missing")
+    if word.startswith("changed-answers") and not names:
+        return wrong_words(__doc__, "a crate is missing")
+    if options := [name for name in names if name.startswith("-")]:
+        return wrong_words(__doc__, f"no such option: {options[0]}")
     for name in names:
         if name not in crates():
             sys.exit(f"{name}: crates.txt lists no such crate")

@@ -7,6 +7,7 @@ import pathlib
 import re
 import shutil
 import subprocess
+import sys
 from dataclasses import dataclass
 
 ROOT = pathlib.Path(__file__).resolve().parent.parent
@@ -16,6 +17,12 @@ CALL = re.compile(r"^( *)pub (?:(?:const|unsafe) )*fn (\w+)")
 OF_A_VALUE = re.compile(r" *pub [\w ]*fn \w+(?:<[^(]*>)?\(\s*&?(?:'\w+ )?(?:mut )?self\b")
 GIVEN_AGAIN = re.compile(r"\bpub use ([^;]*);")
 PRIVATE = re.compile(r"^mod (\w+);", re.MULTILINE)
+
+
+def wrong_words(usage, cause):
+    """Says what is wrong with the words of a command, and how it is used; the status of that."""
+    print(f"{cause}\n\n{usage.strip()}", file=sys.stderr)
+    return 2
 
 
 def crates(root=ROOT):
