@@ -14,7 +14,7 @@ from krates_sources import copy_libraries, copy_tree, crates, documents
 
 # The program, and the crates that it uses.
 NAME = "compare_written"
-USED = ("krates_text", "krates_json", "krates_cm", "krates_cm_json")
+USED = ("krates_text", "krates_cm", "krates_cm_json")
 SOURCE = """//! Whether a document that is written is read as it was.
 #![tactic(auto)]
 

@@ -21,7 +21,7 @@ STYLE = """
 
 # What a crate is for, by which it is coloured.
 ROOMS = {
-    "texts and the document": ("#e8f1fb", ["krates_text", "krates_json", "krates_cm", "krates_cm_json", "krates_ids"]),
+    "texts and the document": ("#e8f1fb", ["krates_text", "krates_cm", "krates_cm_json", "krates_ids"]),
     "the command": ("#f3eefb", ["krates_cargo"]),
     "what is believed": ("#fdf3d8", ["krates_rules"]),
     "questions and search": (

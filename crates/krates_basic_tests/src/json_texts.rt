@@ -1,7 +1,7 @@
 //! JSON texts that are read in place, and what each is as a value of `serde_json`.
 
 use json::Scratch;
-use krates_json::{JsonRef, Owned, Parsed};
+use krates_cm_json::{JsonRef, Owned, Parsed};
 use krates_samples::table::{Question, Row, hold};
 use serde_json::Value;
 use std::alloc::{AllocError, Global};

@@ -6,8 +6,7 @@ use krates_cm::{
     DepKindInfo, Dependency, Metadata, Node, NodeDep, Package, PackageId, ReadError, Resolve,
     Source, Target,
 };
-use krates_cm_json::FromValue;
-use krates_json::{Borrowed, JsonRef, Parsed};
+use krates_cm_json::{Borrowed, FromValue, JsonRef, Parsed};
 use krates_samples::table::{Question, Row, compare, hold};
 use serde_json::Value;
 use std::alloc::{AllocError, Global};

@@ -9,7 +9,7 @@ use crate::part::Part;
 use crate::read::facts as reading;
 use crate::read::fields::field;
 use crate::write::facts as writing;
-use krates_json::JsonRef;
+use krates_cm_json::JsonRef;
 use krates_rules::Fact;
 use serde_json::Value;
 use std::alloc::{AllocError, Global};

@@ -6,7 +6,7 @@ ghost use Rattle.serde_json.specs.View.{view as data_of};
 ghost use Rattle.krates_certificate.specs.Refusals.{Fault, Gives};
 
 use crate::certificate_error::CertificateError;
-use krates_json::{JsonRef, Owned};
+use krates_cm_json::{JsonRef, Owned};
 use serde_json::Value;
 use std::alloc::{AllocError, Global};
 

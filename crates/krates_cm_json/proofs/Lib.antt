@@ -1,10 +1,13 @@
 pub mod DocumentAgain
+pub mod EntryLemmas
 pub mod ExactFaults
 pub mod ItemReading
 pub mod ListReading
 pub mod MapReading
+pub mod RangeLemmas
 pub mod ReadAgain
 pub mod ReadBefore
+pub mod ReadableLemmas
 pub mod VersionsAgain
 pub mod WrittenFields
 pub mod WrittenLists

@@ -1,9 +1,12 @@
+pub mod Entries
 pub mod Faults
 pub mod Fields
 pub mod Objects
 pub mod Parsing
+pub mod Readable
 pub mod Reading
 pub mod RoundTrip
 pub mod Tables
 pub mod Texts
+pub mod Views
 pub mod WrittenTables

@@ -6,9 +6,9 @@ ghost use Rattle.krates_cm_json.specs.Parsing.{IsDocument, IsNoDocument, IsRefus
 ghost use Rattle.krates_cm_json.specs.Tables.{metadata};
 
 use crate::read::from_value::FromValue;
+use crate::{JsonRef, Parsed};
 use json::Scratch;
 use krates_cm::{Error, Metadata, ReadError};
-use krates_json::{JsonRef, Parsed};
 use serde_json::Value;
 use std::alloc::{AllocError, Global};
 

@@ -8,7 +8,7 @@ ghost use Rattle.krates_certificate.specs.Told.{fact_told};
 
 use crate::certificate_error::CertificateError;
 use crate::read::fields::{field, id, kind};
-use krates_json::JsonRef;
+use krates_cm_json::JsonRef;
 use krates_rules::Fact;
 use std::alloc::Global;
 

@@ -9,9 +9,8 @@ ghost use Rattle.krates_certificate.specs.Told.{kind_name};
 use crate::certificate_error::CertificateError;
 use crate::part::Part;
 use krates_cm::{PackageId, ReadError};
-use krates_cm_json::FromValue;
+use krates_cm_json::{FromValue, JsonRef};
 use krates_ids::{IdError, Kid};
-use krates_json::JsonRef;
 use krates_rules::DepKind;
 use std::alloc::Global;
 

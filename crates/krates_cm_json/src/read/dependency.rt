@@ -4,10 +4,10 @@ ghost use Rattle.krates_cm.specs.Document.{DependencyModel, dependency_view};
 ghost use Rattle.krates_cm.specs.declared.dependency.DependencyKind.{DependencyKind};
 ghost use Rattle.krates_cm_json.specs.Tables.{dependency, dependency_kind};
 
+use crate::JsonRef;
 use crate::read::fields::{expect_object, optional, or_default, required};
 use crate::read::from_value::FromValue;
 use krates_cm::{Dependency, DependencyKind, ReadError};
-use krates_json::JsonRef;
 use std::alloc::Global;
 
 /// Null is the normal kind.

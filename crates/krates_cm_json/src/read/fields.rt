@@ -5,9 +5,9 @@ ghost use Rattle.serde_json.specs.Data.{null};
 ghost use Rattle.serde_json.specs.View.{view as data_of};
 ghost use Rattle.krates_cm_json.specs.Reading.{Gives, object, required, or_default, optional, list, any};
 
+use crate::JsonRef;
 use crate::read::from_value::FromValue;
 use krates_cm::ReadError;
-use krates_json::JsonRef;
 use serde_json::Value;
 use std::alloc::Global;
 

@@ -5,8 +5,8 @@ ghost use Rattle.serde_json.specs.Data.{Data};
 ghost use Rattle.serde_json.specs.View.{view as data_of};
 ghost use Rattle.krates_cm_json.specs.Reading.{Reading, Gives};
 
+use crate::{JsonRef, Owned};
 use krates_cm::ReadError;
-use krates_json::{JsonRef, Owned};
 use serde_json::Value;
 use std::alloc::Global;
 

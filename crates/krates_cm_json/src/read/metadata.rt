@@ -5,10 +5,10 @@ ghost use Rattle.krates_cm.specs.Document.{Text, default_members_view, MetadataM
 ghost use Rattle.krates_cm_json.specs.Reading.{text, list, present};
 ghost use Rattle.krates_cm_json.specs.Tables.{metadata};
 
+use crate::JsonRef;
 use crate::read::fields::{any_or_null, expect_object, optional, or_default, required};
 use crate::read::from_value::FromValue;
 use krates_cm::{Metadata, ReadError, WorkspaceDefaultMembers};
-use krates_json::JsonRef;
 use std::alloc::Global;
 
 /// Null isn't allowed.

@@ -5,6 +5,7 @@ ghost use Rattle.krates_cm.specs.PackageParts.{AboutModel, about_view, SettingsM
 ghost use Rattle.krates_cm_json.specs.Reading.{text};
 ghost use Rattle.krates_cm_json.specs.Tables.{about, settings, package_reader};
 
+use crate::JsonRef;
 use crate::read::fields::{
     any_or_null, expect_object, list_or_empty, optional, or_default, required,
 };
@@ -12,7 +13,6 @@ use crate::read::from_value::FromValue;
 use crate::read::versions::RustVersion;
 use krates_cm::package_parts::{About, Settings};
 use krates_cm::{Edition, Package, ReadError, Source};
-use krates_json::JsonRef;
 use semver::Version;
 use serde_json::Value;
 use std::alloc::Global;

@@ -3,10 +3,10 @@
 ghost use Rattle.krates_cm.specs.Document.{DepKindInfoModel, dep_kind_info_view, NodeDepModel, node_dep_view, NodeModel, node_view, ResolveModel, resolve_view};
 ghost use Rattle.krates_cm_json.specs.Tables.{dep_kind_info, node_dep, node, resolve};
 
+use crate::JsonRef;
 use crate::read::fields::{expect_object, list_or_empty, optional, or_default, required};
 use crate::read::from_value::FromValue;
 use krates_cm::{DepKindInfo, DependencyKind, Node, NodeDep, ReadError, Resolve};
-use krates_json::JsonRef;
 use std::alloc::Global;
 
 impl FromValue for DepKindInfo {

@@ -6,10 +6,10 @@ ghost use Rattle.krates_cm.specs.declared.target.CrateType.{CrateType};
 ghost use Rattle.krates_cm.specs.declared.target.Edition.{Edition};
 ghost use Rattle.krates_cm_json.specs.Tables.{target, target_kind, crate_type, edition};
 
+use crate::JsonRef;
 use crate::read::fields::{expect_object, list_or_empty, or_default, required};
 use crate::read::from_value::FromValue;
 use krates_cm::{CrateType, Edition, ReadError, Target, TargetKind};
-use krates_json::JsonRef;
 use std::alloc::Global;
 
 impl FromValue for TargetKind {

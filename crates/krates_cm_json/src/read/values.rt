@@ -3,13 +3,13 @@
 ghost use Rattle.std.specs.Prelude.{ℕ, List, Bool, Option, string_bytes, map, option_map};
 ghost use Rattle.serde_json.specs.Data.{Data};
 ghost use Rattle.serde_json.specs.View.{view as data_of};
-ghost use Rattle.krates_json.specs.Entries.{entries_data};
+ghost use Rattle.krates_cm_json.specs.Entries.{entries_data};
 ghost use Rattle.krates_cm.specs.Document.{Text, id_view};
 ghost use Rattle.krates_cm_json.specs.Reading.{Gives, text, boolean, whole, any, nullable, list, map_of, map_items};
 
+use crate::JsonRef;
 use crate::read::from_value::FromValue;
 use krates_cm::{PackageId, ReadError};
-use krates_json::JsonRef;
 use serde_json::Value;
 use std::alloc::Global;
 use std::collections::BTreeMap;

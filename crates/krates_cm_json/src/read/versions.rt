@@ -6,9 +6,9 @@ ghost use Rattle.krates_cm.specs.Document.{VersionModel, RequirementModel, requi
 ghost use Rattle.krates_cm.specs.Names.{has_extra, with_patch};
 ghost use Rattle.krates_cm_json.specs.Tables.{version, requirement, rust_version};
 
+use crate::JsonRef;
 use crate::read::from_value::FromValue;
 use krates_cm::ReadError;
-use krates_json::JsonRef;
 use semver::{Version, VersionReq};
 use std::alloc::{AllocError, Global};
 

@@ -1,7 +1,7 @@
 use Rattle.std.proofs.Common.{◌≡◌, ℕ, List, ◌∷◌, ◌++◌, [], Bor, ap, rules, ◌∙◌, sym, subst, append_assoc, string_bytes, inr}
 use Rattle.std.specs.List.Sorted.{IsStrictlySortedBy}
 use Rattle.std.specs.Map.{keys_of}
-use Rattle.krates_json.specs.Entries.{entries_data, name_cmp}
+use Rattle.krates_cm_json.specs.Entries.{entries_data, name_cmp}
 use Rattle.krates_cm_json.proofs.MapReading.{inserted, entry_read, keys_pushed}
 use Rattle.krates_cm_json.proofs.read.values.map_from.Goals as goal
 

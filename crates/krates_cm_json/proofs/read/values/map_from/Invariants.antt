@@ -1,5 +1,5 @@
 use Rattle.std.proofs.Common.{◌≡◌, ℕ, List, ◌++◌, Bor, map, string_bytes}
-use Rattle.krates_json.specs.Entries.{entries_data}
+use Rattle.krates_cm_json.specs.Entries.{entries_data}
 use Rattle.krates_cm_json.specs.Faults.{Fault}
 use Rattle.krates_cm_json.specs.Reading.{map_items}
 use Rattle.krates_cm_json.proofs.ListReading.{with_front}
