@@ -2,7 +2,7 @@
 use Rattle.std.specs.Prelude.{◌≡◌, List, Option, String, Vec, map}
 use Rattle.std.specs.Borrow.{Bor}
 use Rattle.std.specs.declared.alloc.Global.{Global}
-use Rattle.krates_document.specs.Setters.{with_exclusions, with_targets}
+use Rattle.krates_document.specs.SettingChanges.{with_exclusions, with_targets}
 use Rattle.krates_ids.specs.PackageSpecification.{spec_view}
 use Rattle.krates_ids.specs.declared.pkgspec.PkgSpec.{PkgSpec}
 use Rattle.krates_rules.specs.Setting.{SettingModel, AsksForPaths}

@@ -6,8 +6,8 @@
 
 ghost use Rattle.std.specs.Prelude.{IfErr, OnOk};
 ghost use Rattle.krates_cm.specs.Document.{metadata_view};
-ghost use Rattle.krates_checkers.specs.Refusals.{IsCheckRefused, IsClosedRefused, IsRefusedThrough};
-ghost use Rattle.krates_checkers.specs.SeenThrough.{SeesThrough, answer_of};
+ghost use Rattle.krates_checkers.specs.CheckRefusals.{IsCheckRefused, IsClosedRefused, IsRefusedThrough};
+ghost use Rattle.krates_checkers.specs.CheckedDocument.{HoldsOfChecked, answer_of};
 ghost use Rattle.krates_rules.specs.Checks.{IsAcceptedFor, IsClosedFor};
 ghost use Rattle.krates_rules.specs.StepViews.{facts_view, steps_view};
 
@@ -40,7 +40,7 @@ pub fn check(
     index: Option<&CachingIndex>,
     derivation: &Derivation,
 ) -> Result<(), CheckError>
-    ensures accepted { OnOk result (SeesThrough (answer_of index.entry) (metadata_view metadata.now)
+    ensures accepted { OnOk result (HoldsOfChecked (answer_of index.entry) (metadata_view metadata.now)
         (λ m. IsAcceptedFor m builder.now.setting (steps_view derivation.now.steps.items))) }
     ensures refused { IfErr result (IsRefusedThrough (answer_of index.entry) (metadata_view metadata.now)
         (λ m. IsCheckRefused m builder.now.setting (steps_view derivation.now.steps.items))) }
@@ -70,7 +70,7 @@ pub fn check_closed(
     index: Option<&CachingIndex>,
     facts: &[Fact],
 ) -> Result<(), CheckError>
-    ensures closed { OnOk result (SeesThrough (answer_of index.entry) (metadata_view metadata.now)
+    ensures closed { OnOk result (HoldsOfChecked (answer_of index.entry) (metadata_view metadata.now)
         (λ m. IsClosedFor m builder.now.setting (facts_view facts.now))) }
     ensures refused { IfErr result (IsRefusedThrough (answer_of index.entry) (metadata_view metadata.now)
         (λ m. IsClosedRefused m builder.now.setting (facts_view facts.now))) }

@@ -1,6 +1,6 @@
 -- What a closed list of facts that lacks a crate says of the crate.
 use Rattle.std.proofs.Common.{List, None, subst}
-use Rattle.krates_checkers.specs.SeenThrough.{SeesThrough}
+use Rattle.krates_checkers.specs.CheckedDocument.{HoldsOfChecked}
 use Rattle.krates_cm.specs.Document.{MetadataModel}
 use Rattle.krates_rules.specs.Checks.{AreComplete, IsClosedFor}
 use Rattle.krates_rules.specs.Facts.{Crate, Fact, Id}
@@ -9,7 +9,7 @@ use Rattle.krates_rules.specs.Setting.{SettingModel}
 use Rattle.krates_answers.specs.Unreachable.{IsUnreachable, LackCrate}
 
 -- what holds of the document that is checked holds of the given one, where there is no index
-pub as_it_is : (m : MetadataModel) (P : MetadataModel → Type 0) → SeesThrough None m P → P m
+pub as_it_is : (m : MetadataModel) (P : MetadataModel → Type 0) → HoldsOfChecked None m P → P m
 as_it_is m P w = subst P w.is_seen w.holds
 
 -- no derivation leads to the crate

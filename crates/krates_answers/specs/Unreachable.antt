@@ -1,6 +1,6 @@
 -- That a crate can't be kept, whatever the search did.
 use Rattle.std.specs.Prelude.{Bool, true, false, List, Contains}
-use Rattle.krates_checkers.specs.Refusals.{IsClosedRefused}
+use Rattle.krates_checkers.specs.CheckRefusals.{IsClosedRefused}
 use Rattle.krates_checkers.specs.declared.check_error.CheckError.{CheckError}
 use Rattle.krates_cm.specs.Document.{MetadataModel}
 use Rattle.krates_rules.specs.Checks.{Answers, IsClosedFor}

@@ -1,5 +1,5 @@
 pub mod Command
-pub mod Features
+pub mod FeatureChoice
 pub mod Options
 pub mod Output
 pub mod Running

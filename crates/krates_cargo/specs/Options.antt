@@ -82,7 +82,7 @@ LacksParent (Some manifest) = HasNoParent manifest
 -- the command that says what is set, and nothing else
 pub record IsCommandOf (o : OptionsModel) (c : CommandModel) : Type 0 where
   pub names : List Text
-  pub in_order : IsInOrder o.features names
+  pub sorted_names : IsInOrder o.features names
   pub directory : Option Text
   pub is_directory : IsDirectory o directory
   pub is : c ≡ record plain_command {

@@ -8,7 +8,7 @@ ghost use Rattle.krates_cm.specs.Document.{metadata_view, text_view, texts_view}
 ghost use Rattle.krates_cm.specs.declared.error.Error.TheVariants as errors;
 ghost use Rattle.krates_cm_json.specs.Parsing.{IsDocument, IsRefusal};
 ghost use Rattle.krates_cargo.specs.Command.{plain_command, words};
-ghost use Rattle.krates_cargo.specs.Features.{features_view};
+ghost use Rattle.krates_cargo.specs.FeatureChoice.{features_view};
 ghost use Rattle.krates_cargo.specs.Setters.{IsChosen, IsNotChosen, RestsCommand, choosing, with_variable};
 
 use crate::words::{push_all, push_flag, push_listed, push_valued, push_word};

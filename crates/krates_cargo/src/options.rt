@@ -287,7 +287,7 @@ impl Cmd {
         ensures { IfOk result (λ options. AreOptions self.now (texts_view options)) }
     {
         let alloc = self.alloc;
-        let names = in_order(alloc, &self.features)?;
+        let names = sorted_names(alloc, &self.features)?;
         let mut options = Vec::new(alloc);
         push_flag(
             alloc,
@@ -306,7 +306,7 @@ impl Cmd {
 }
 
 /// The names in the order of their bytes, each once.
-fn in_order(alloc: Global, names: &[String]) -> Result<Vec<String>, AllocError>
+fn sorted_names(alloc: Global, names: &[String]) -> Result<Vec<String>, AllocError>
     ensures { IfOk result (λ sorted. IsInOrder (map text_view names.now) (texts_view sorted)) }
 {
     let mut sorted = Vec::new(alloc);

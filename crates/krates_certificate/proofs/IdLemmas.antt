@@ -7,7 +7,7 @@ use Rattle.krates_cm.specs.Document.{Text, id_view}
 use Rattle.krates_cm.specs.declared.package_id.PackageId.{PackageId}
 use Rattle.krates_text.specs.Cuts.{Lacks}
 use Rattle.krates_ids.specs.Identity.{Identity, Reads, no_opaque_form, no_stable_form, bad_escape, IsSameId, same_id, IsNameOfPiece, is_git}
-use Rattle.krates_ids.specs.Refusals.{IsRefusal}
+use Rattle.krates_ids.specs.IdRefusals.{IsRefusal}
 use Rattle.krates_ids.specs.Separators.{blank, hash_sign, opening, closing}
 use Rattle.krates_ids.specs.declared.id_error.IdError.{IdError}
 use Rattle.krates_ids.specs.declared.id_error.IdError.TheVariants as errors

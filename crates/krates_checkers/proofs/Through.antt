@@ -6,16 +6,16 @@ use Rattle.krates_ids.specs.Correction.{IndexModel, index_view}
 use Rattle.krates_ids.specs.declared.index.IndexAnswer.{IndexAnswer}
 use Rattle.krates_document.specs.CorrectedDocument.{IsCorrectedDocument}
 use Rattle.krates_document.proofs.CorrectedDocument.{views_corrected, rest_kept}
-use Rattle.krates_checkers.specs.Refusals.{IsRefusedThrough}
-use Rattle.krates_checkers.specs.SeenThrough.{IsCorrectedBy, IsSeenThrough, SeesThrough}
+use Rattle.krates_checkers.specs.CheckRefusals.{IsRefusedThrough}
+use Rattle.krates_checkers.specs.CheckedDocument.{IsCorrectedBy, IsCheckedDocument, HoldsOfChecked}
 use Rattle.krates_checkers.specs.declared.check_error.CheckError.{CheckError}
 use Rattle.krates_checkers.specs.declared.check_error.CheckError.TheVariants as refusals
 
-pub sees : (index : Option IndexModel) (m seen : MetadataModel) (P : MetadataModel → Type 0) → IsSeenThrough index m seen → P seen → SeesThrough index m P
+pub sees : (index : Option IndexModel) (m seen : MetadataModel) (P : MetadataModel → Type 0) → IsCheckedDocument index m seen → P seen → HoldsOfChecked index m P
 sees index m seen P is h = record { seen = seen; is_seen = is; holds = h }
 
 -- a refusal of the document that is checked
-pub refused_through : (index : Option IndexModel) (m seen : MetadataModel) (R : MetadataModel → CheckError → Type 0) (e : CheckError) → IsSeenThrough index m seen → R seen e → IsRefusedThrough index m R e
+pub refused_through : (index : Option IndexModel) (m seen : MetadataModel) (R : MetadataModel → CheckError → Type 0) (e : CheckError) → IsCheckedDocument index m seen → R seen e → IsRefusedThrough index m R e
 refused_through index m seen R refusals.Document is h = sees index m seen (λ x. R x refusals.Document) is h
 refused_through index m seen R refusals.Empty is h = sees index m seen (λ x. R x refusals.Empty) is h
 refused_through index m seen R (refusals.Step number) is h = sees index m seen (λ x. R x (refusals.Step number)) is h

@@ -1,3 +1,3 @@
-pub mod Refusals
-pub mod SeenThrough
+pub mod CheckRefusals
+pub mod CheckedDocument
 pub mod Using

@@ -3,8 +3,8 @@
 ghost use Rattle.std.specs.Prelude.{◌↔◌, ◌<◌, ◌∷◌, [], IfErr, IfOk, IsTrue, OnOk, Some, length};
 ghost use Rattle.krates_cm.specs.Document.{metadata_view};
 ghost use Rattle.krates_derive.specs.Context.{rules_of};
-ghost use Rattle.krates_checkers.specs.Refusals.{IsCheckRefused, IsClosedRefused, IsRefusedThrough, IsStepFault, IsUnread};
-ghost use Rattle.krates_checkers.specs.SeenThrough.{SeesThrough, answer_of};
+ghost use Rattle.krates_checkers.specs.CheckRefusals.{IsCheckRefused, IsClosedRefused, IsRefusedThrough, IsStepFault, IsUnread};
+ghost use Rattle.krates_checkers.specs.CheckedDocument.{HoldsOfChecked, answer_of};
 ghost use Rattle.krates_checkers.specs.Using.{using};
 ghost use Rattle.krates_document.specs.Ids.{ids_view};
 ghost use Rattle.krates_ids.specs.Correction.{index_view};
@@ -16,7 +16,7 @@ ghost use Rattle.krates_rules.specs.Steps.{EachFollows, StepFollows};
 
 use crate::check_error::CheckError;
 use crate::closed::is_closed;
-use crate::seen_through::seen_through;
+use crate::corrected_copy::corrected_copy;
 use krates_cm::Metadata;
 use krates_derive::context::Context;
 use krates_derive::following::{from_nothing, from_one, from_two};
@@ -44,7 +44,7 @@ pub fn check(
     index: Option<&CachingIndex>,
     derivation: &Derivation,
 ) -> Result<(), CheckError>
-    ensures accepted { OnOk result (SeesThrough (answer_of index.entry) (metadata_view metadata.now)
+    ensures accepted { OnOk result (HoldsOfChecked (answer_of index.entry) (metadata_view metadata.now)
         (λ m. IsAcceptedFor m setting.now (steps_view derivation.now.steps.items))) }
     ensures refused { IfErr result (IsRefusedThrough (answer_of index.entry) (metadata_view metadata.now)
         (λ m. IsCheckRefused m setting.now (steps_view derivation.now.steps.items))) }
@@ -72,7 +72,7 @@ pub fn check_closed(
     index: Option<&CachingIndex>,
     facts: &[Fact],
 ) -> Result<(), CheckError>
-    ensures closed { OnOk result (SeesThrough (answer_of index.entry) (metadata_view metadata.now)
+    ensures closed { OnOk result (HoldsOfChecked (answer_of index.entry) (metadata_view metadata.now)
         (λ m. IsClosedFor m setting.now (facts_view facts.now))) }
     ensures refused { IfErr result (IsRefusedThrough (answer_of index.entry) (metadata_view metadata.now)
         (λ m. IsClosedRefused m setting.now (facts_view facts.now))) }
@@ -91,14 +91,14 @@ fn check_corrected(
     index: &CachingIndex,
     derivation: &Derivation,
 ) -> Result<(), CheckError>
-    ensures accepted { OnOk result (SeesThrough (Some (index_view index.now.answer))
+    ensures accepted { OnOk result (HoldsOfChecked (Some (index_view index.now.answer))
         (metadata_view metadata.now)
         (λ m. IsAcceptedFor m setting.now (steps_view derivation.now.steps.items))) }
     ensures refused { IfErr result (IsRefusedThrough (Some (index_view index.now.answer))
         (metadata_view metadata.now)
         (λ m. IsCheckRefused m setting.now (steps_view derivation.now.steps.items))) }
 {
-    let seen = seen_through(alloc, index, metadata)?;
+    let seen = corrected_copy(alloc, index, metadata)?;
     let told = check_seen(alloc, &seen, setting, derivation);
     seen.let_go();
     told
@@ -112,12 +112,12 @@ fn check_closed_corrected(
     index: &CachingIndex,
     facts: &[Fact],
 ) -> Result<(), CheckError>
-    ensures closed { OnOk result (SeesThrough (Some (index_view index.now.answer))
+    ensures closed { OnOk result (HoldsOfChecked (Some (index_view index.now.answer))
         (metadata_view metadata.now) (λ m. IsClosedFor m setting.now (facts_view facts.now))) }
     ensures refused { IfErr result (IsRefusedThrough (Some (index_view index.now.answer))
         (metadata_view metadata.now) (λ m. IsClosedRefused m setting.now (facts_view facts.now))) }
 {
-    let seen = seen_through(alloc, index, metadata)?;
+    let seen = corrected_copy(alloc, index, metadata)?;
     let told = check_closed_seen(alloc, &seen, setting, facts);
     seen.let_go();
     told
@@ -135,7 +135,7 @@ fn check_seen(
     ensures refused { IfErr result (IsCheckRefused (metadata_view metadata.now) setting.now
         (steps_view derivation.now.steps.items)) }
 {
-    let ids = ids_of(alloc, metadata)?;
+    let ids = admitted_ids(alloc, metadata)?;
     check_admitted(alloc, metadata, &ids, setting, derivation)
 }
 
@@ -177,7 +177,7 @@ fn check_closed_seen(
     ensures refused { IfErr result (IsClosedRefused (metadata_view metadata.now) setting.now
         (facts_view facts.now)) }
 {
-    let ids = ids_of(alloc, metadata)?;
+    let ids = admitted_ids(alloc, metadata)?;
     check_closed_admitted(alloc, metadata, &ids, setting, facts)
 }
 
@@ -224,7 +224,7 @@ fn is_closed_admitted(
 }
 
 /// The ids of a document that is admitted.
-fn ids_of(alloc: Global, metadata: &Metadata) -> Result<Ids, CheckError>
+fn admitted_ids(alloc: Global, metadata: &Metadata) -> Result<Ids, CheckError>
     ensures admitted { IfOk result (λ ids. IsAdmitted (metadata_view metadata.now) (ids_view ids)) }
     ensures refused { IfErr result (IsUnread (metadata_view metadata.now)) }
 {

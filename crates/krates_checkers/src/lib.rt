@@ -4,7 +4,7 @@
 pub mod check_error;
 pub mod checking;
 mod closed;
-mod seen_through;
+mod corrected_copy;
 
 pub use check_error::CheckError;
 pub use checking::{check, check_closed};

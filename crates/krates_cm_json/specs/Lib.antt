@@ -1,6 +1,7 @@
 pub mod Entries
 pub mod Faults
 pub mod Fields
+pub mod JsonViews
 pub mod Objects
 pub mod Parsing
 pub mod Readable
@@ -8,5 +9,4 @@ pub mod Reading
 pub mod RoundTrip
 pub mod Tables
 pub mod Texts
-pub mod Views
 pub mod WrittenTables

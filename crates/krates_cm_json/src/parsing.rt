@@ -2,7 +2,7 @@
 
 ghost use Rattle.std.specs.Prelude.{◌≡◌, IfOk, option_map};
 ghost use Rattle.serde_json.specs.Read.{read};
-ghost use Rattle.krates_cm_json.specs.Views.{parsed_data, borrowed_data};
+ghost use Rattle.krates_cm_json.specs.JsonViews.{parsed_data, borrowed_data};
 
 use crate::borrowed::Borrowed;
 use crate::parsed::Parsed;

@@ -1,8 +1,8 @@
-pub mod Claim
+pub mod ClosureCheck
 pub mod Context
 pub mod FactKey
+pub mod FactRef
 pub mod FactSet
 pub mod Following
 pub mod Giving
 pub mod Referring
-pub mod Told

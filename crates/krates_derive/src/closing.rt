@@ -4,16 +4,16 @@
 
 ghost use Rattle.std.specs.Prelude.{◌↔◌, IfOk, IsTrue, map};
 ghost use Rattle.krates_cm.specs.Document.{dependency_view, text_view};
-ghost use Rattle.krates_derive.specs.Claim.{document_in, facts_in};
+ghost use Rattle.krates_derive.specs.ClosureCheck.{document_in, facts_in};
 ghost use Rattle.krates_derive.specs.Giving.{AskedAmongIn, AskedByIn, ChildIn, CrateIn, DefaultIn, DepIn, EdgeIn, EdgesIn, EdgesToIn, FeaturesIn, IsTaken, KeptIn, MeantIn, NamedIn, NamesIn, RootIn, SimpleAmongIn, SimpleIn, StockIn, TheseRootsIn, ToggledIn, TogglingAmongIn, TogglingIn, UsedIn};
-ghost use Rattle.krates_derive.specs.Told.{told_edge};
+ghost use Rattle.krates_derive.specs.FactRef.{edge_of_ref};
 ghost use Rattle.krates_questions.specs.DocumentAnswers.{lent_ids};
 ghost use Rattle.krates_rules.specs.Resolved.{id_of};
 
 use crate::fact_key::{FactKey, Pair, edge_key};
+use crate::fact_ref::{EdgeRef, edge_for};
 use crate::fact_set::FactSet;
 use crate::following::{declaration_of, need_of};
-use crate::told::{ToldEdge, edge_for};
 use krates_cm::Dependency;
 use krates_document::Setting;
 use krates_ids::Kid;
@@ -23,7 +23,7 @@ use std::alloc::{AllocError, Global};
 
 /// What the check of a list of facts is made against: a document, a setting, and the list.
 #[derive(Clone, Copy)]
-pub struct Claim<'a, 's> {
+pub struct ClosureCheck<'a, 's> {
     /// What memory comes from.
     pub alloc: Global,
     /// The document.
@@ -37,13 +37,13 @@ pub struct Claim<'a, 's> {
 // ---- roots
 
 /// Whether all that these roots give stands in the list.
-pub fn are_roots_in<'a>(claim: &Claim<'a, '_>, roots: &[&'a Kid]) -> bool
+pub fn are_roots_in<'a>(check: &ClosureCheck<'a, '_>, roots: &[&'a Kid]) -> bool
     ensures { IsTrue result
-        ↔ TheseRootsIn (document_in claim.now) claim.now.setting.now (facts_in claim.now)
+        ↔ TheseRootsIn (document_in check.now) check.now.setting.now (facts_in check.now)
         (lent_ids roots.now) }
 {
     for root in roots {
-        if !is_root_in(claim, root) {
+        if !is_root_in(check, root) {
             return false;
         }
     }
@@ -51,12 +51,12 @@ pub fn are_roots_in<'a>(claim: &Claim<'a, '_>, roots: &[&'a Kid]) -> bool
 }
 
 /// Whether all that a root gives stands in the list.
-fn is_root_in<'a>(claim: &Claim<'a, '_>, krate: &'a Kid) -> bool
+fn is_root_in<'a>(check: &ClosureCheck<'a, '_>, krate: &'a Kid) -> bool
     ensures { IsTrue result
-        ↔ RootIn (document_in claim.now) claim.now.setting.now (facts_in claim.now) (id_of krate.now) }
+        ↔ RootIn (document_in check.now) check.now.setting.now (facts_in check.now) (id_of krate.now) }
 {
-    match claim.document.presence(claim.setting, krate) {
-        Presence::Stands => is_stock_in(claim, krate),
+    match check.document.presence(check.setting, krate) {
+        Presence::Stands => is_stock_in(check, krate),
         Presence::NoPackage => false,
         Presence::NoNode => false,
         Presence::Excluded => true,
@@ -64,18 +64,18 @@ fn is_root_in<'a>(claim: &Claim<'a, '_>, krate: &'a Kid) -> bool
 }
 
 /// Whether a root that stands is in the list with its features.
-fn is_stock_in<'a>(claim: &Claim<'a, '_>, krate: &'a Kid) -> bool
-    ensures { IsTrue result ↔ StockIn (document_in claim.now) (facts_in claim.now) (id_of krate.now) }
+fn is_stock_in<'a>(check: &ClosureCheck<'a, '_>, krate: &'a Kid) -> bool
+    ensures { IsTrue result ↔ StockIn (document_in check.now) (facts_in check.now) (id_of krate.now) }
 {
-    claim.facts.has(&FactKey::Crate(krate)) && are_features_in(claim, krate)
+    check.facts.has(&FactKey::Crate(krate)) && are_features_in(check, krate)
 }
 
 /// Whether the features of a root stand in the list.
-fn are_features_in<'a>(claim: &Claim<'a, '_>, krate: &'a Kid) -> bool
-    ensures { IsTrue result ↔ FeaturesIn (document_in claim.now) (facts_in claim.now) (id_of krate.now) }
+fn are_features_in<'a>(check: &ClosureCheck<'a, '_>, krate: &'a Kid) -> bool
+    ensures { IsTrue result ↔ FeaturesIn (document_in check.now) (facts_in check.now) (id_of krate.now) }
 {
-    for name in claim.document.features(krate) {
-        if !claim.facts.has(&FactKey::Feature(krate, name.as_str())) {
+    for name in check.document.features(krate) {
+        if !check.facts.has(&FactKey::Feature(krate, name.as_str())) {
             return false;
         }
     }
@@ -85,13 +85,13 @@ fn are_features_in<'a>(claim: &Claim<'a, '_>, krate: &'a Kid) -> bool
 // ---- facts
 
 /// Whether all that a crate gives by its edges stands in the list.
-pub fn is_crate_in<'a>(claim: &Claim<'a, '_>, krate: &'a Kid) -> Result<bool, AllocError>
+pub fn is_crate_in<'a>(check: &ClosureCheck<'a, '_>, krate: &'a Kid) -> Result<bool, AllocError>
     ensures { IfOk result
-        (λ b. IsTrue b ↔ CrateIn (document_in claim.now) claim.now.setting.now (facts_in claim.now)
+        (λ b. IsTrue b ↔ CrateIn (document_in check.now) check.now.setting.now (facts_in check.now)
         (id_of krate.now)) }
 {
-    for child in claim.document.children(krate) {
-        if !are_edges_in(claim, krate, child, false)? {
+    for child in check.document.children(krate) {
+        if !are_edges_in(check, krate, child, false)? {
             return Ok(false);
         }
     }
@@ -99,15 +99,15 @@ pub fn is_crate_in<'a>(claim: &Claim<'a, '_>, krate: &'a Kid) -> Result<bool, Al
 }
 
 /// Whether all that an edge of the list gives stands in it.
-pub fn is_kept_in<'a>(claim: &Claim<'a, '_>, edge: &ToldEdge<'a>) -> Result<bool, AllocError>
+pub fn is_kept_in<'a>(check: &ClosureCheck<'a, '_>, edge: &EdgeRef<'a>) -> Result<bool, AllocError>
     ensures { IfOk result
-        (λ b. IsTrue b ↔ KeptIn (document_in claim.now) (facts_in claim.now) (told_edge edge.now)) }
+        (λ b. IsTrue b ↔ KeptIn (document_in check.now) (facts_in check.now) (edge_of_ref edge.now)) }
 {
-    if !claim.facts.has(&FactKey::Crate(edge.child)) {
+    if !check.facts.has(&FactKey::Crate(edge.child)) {
         return Ok(false);
     }
-    match declaration_of(claim.document, edge)? {
-        Some(dependency) => Ok(is_used_in(claim, edge.child, dependency)),
+    match declaration_of(check.document, edge)? {
+        Some(dependency) => Ok(is_used_in(check, edge.child, dependency)),
         None => Ok(true),
     }
 }
@@ -116,18 +116,18 @@ pub fn is_kept_in<'a>(claim: &Claim<'a, '_>, edge: &ToldEdge<'a>) -> Result<bool
 
 /// Whether all that the edges from one crate to another give stands in the list.
 fn are_edges_in<'a>(
-    claim: &Claim<'a, '_>,
+    check: &ClosureCheck<'a, '_>,
     krate: &'a Kid,
     child: &'a Kid,
     asked: bool,
 ) -> Result<bool, AllocError>
     ensures { IfOk result
-        (λ b. IsTrue b ↔ EdgesIn (document_in claim.now) claim.now.setting.now (facts_in claim.now)
+        (λ b. IsTrue b ↔ EdgesIn (document_in check.now) check.now.setting.now (facts_in check.now)
         (id_of krate.now) (id_of child.now) asked) }
 {
-    for info in claim.document.kinds(krate, child) {
+    for info in check.document.kinds(krate, child) {
         let edge = edge_for(krate, child, info);
-        if !is_edge_in(claim, &edge, asked)? {
+        if !is_edge_in(check, &edge, asked)? {
             return Ok(false);
         }
     }
@@ -136,20 +136,20 @@ fn are_edges_in<'a>(
 
 /// Whether all that an edge gives stands in the list, if a feature asks for it or its parent needs it.
 fn is_edge_in<'a>(
-    claim: &Claim<'a, '_>,
-    edge: &ToldEdge<'a>,
+    check: &ClosureCheck<'a, '_>,
+    edge: &EdgeRef<'a>,
     asked: bool,
 ) -> Result<bool, AllocError>
     ensures { IfOk result
-        (λ b. IsTrue b ↔ EdgeIn (document_in claim.now) claim.now.setting.now (facts_in claim.now)
-        (told_edge edge.now) asked) }
+        (λ b. IsTrue b ↔ EdgeIn (document_in check.now) check.now.setting.now (facts_in check.now)
+        (edge_of_ref edge.now) asked) }
 {
-    match need_of(claim.alloc, claim.document, claim.setting, edge)? {
+    match need_of(check.alloc, check.document, check.setting, edge)? {
         Need::Nothing => Ok(true),
         Need::Undeclared => Ok(asked),
         Need::Wanted(dependency) => {
             if is_taken(asked, dependency) {
-                return Ok(is_child_in(claim, edge));
+                return Ok(is_child_in(check, edge));
             }
             Ok(true)
         }
@@ -164,12 +164,12 @@ fn is_taken(asked: bool, dependency: &Dependency) -> bool
 }
 
 /// Whether a wanted edge stands in the list if its child stands, and nothing is lost.
-fn is_child_in<'a>(claim: &Claim<'a, '_>, edge: &ToldEdge<'a>) -> bool
+fn is_child_in<'a>(check: &ClosureCheck<'a, '_>, edge: &EdgeRef<'a>) -> bool
     ensures { IsTrue result
-        ↔ ChildIn (document_in claim.now) claim.now.setting.now (facts_in claim.now) (told_edge edge.now) }
+        ↔ ChildIn (document_in check.now) check.now.setting.now (facts_in check.now) (edge_of_ref edge.now) }
 {
-    match claim.document.presence(claim.setting, edge.child) {
-        Presence::Stands => claim.facts.has(&FactKey::Kept(edge_key(edge))),
+    match check.document.presence(check.setting, edge.child) {
+        Presence::Stands => check.facts.has(&FactKey::Kept(edge_key(edge))),
         Presence::NoPackage => false,
         Presence::NoNode => false,
         Presence::Excluded => true,
@@ -178,16 +178,16 @@ fn is_child_in<'a>(claim: &Claim<'a, '_>, edge: &ToldEdge<'a>) -> bool
 
 /// Whether all edges that the references of a feature ask for stand in the list.
 pub fn are_asked_in<'a>(
-    claim: &Claim<'a, '_>,
+    check: &ClosureCheck<'a, '_>,
     krate: &'a Kid,
     values: &'a [String],
 ) -> Result<bool, AllocError>
     ensures { let texts = map text_view values.now in
         IfOk result (λ b. IsTrue b
-        ↔ AskedAmongIn (document_in claim.now) claim.now.setting.now (facts_in claim.now) (id_of krate.now) texts) }
+        ↔ AskedAmongIn (document_in check.now) check.now.setting.now (facts_in check.now) (id_of krate.now) texts) }
 {
     for value in values {
-        if !is_asked_in(claim, krate, value.as_str())? {
+        if !is_asked_in(check, krate, value.as_str())? {
             return Ok(false);
         }
     }
@@ -195,31 +195,39 @@ pub fn are_asked_in<'a>(
 }
 
 /// Whether all edges that a reference of a feature asks for stand in the list.
-fn is_asked_in<'a>(claim: &Claim<'a, '_>, krate: &'a Kid, text: &'a str) -> Result<bool, AllocError>
+fn is_asked_in<'a>(
+    check: &ClosureCheck<'a, '_>,
+    krate: &'a Kid,
+    text: &'a str,
+) -> Result<bool, AllocError>
     ensures { IfOk result
-        (λ b. IsTrue b ↔ AskedByIn (document_in claim.now) claim.now.setting.now (facts_in claim.now)
+        (λ b. IsTrue b ↔ AskedByIn (document_in check.now) check.now.setting.now (facts_in check.now)
         (id_of krate.now) text.now) }
 {
     laws::one_reference();
     match features::ParsedFeature::from(text).feat() {
         features::Feature::Simple(_) => Ok(true),
-        features::Feature::Krate(dep) => are_edges_to_in(claim, krate, dep),
-        features::Feature::Strong { krate: dep, .. } => are_edges_to_in(claim, krate, dep),
+        features::Feature::Krate(dep) => are_edges_to_in(check, krate, dep),
+        features::Feature::Strong { krate: dep, .. } => are_edges_to_in(check, krate, dep),
         features::Feature::Weak { .. } => Ok(true),
     }
 }
 
 /// Whether all edges to what a name means stand in the list.
-fn are_edges_to_in<'a>(claim: &Claim<'a, '_>, krate: &'a Kid, dep: &str) -> Result<bool, AllocError>
+fn are_edges_to_in<'a>(
+    check: &ClosureCheck<'a, '_>,
+    krate: &'a Kid,
+    dep: &str,
+) -> Result<bool, AllocError>
     ensures { IfOk result
-        (λ b. IsTrue b ↔ EdgesToIn (document_in claim.now) claim.now.setting.now (facts_in claim.now)
+        (λ b. IsTrue b ↔ EdgesToIn (document_in check.now) check.now.setting.now (facts_in check.now)
         (id_of krate.now) dep.now) }
 {
-    let referents = claim
+    let referents = check
         .document
-        .referents(claim.alloc, claim.setting, krate, dep)?;
+        .referents(check.alloc, check.setting, krate, dep)?;
     for referent in &referents {
-        if !are_edges_in(claim, krate, referent.id, true)? {
+        if !are_edges_in(check, krate, referent.id, true)? {
             return Ok(false);
         }
     }
@@ -229,12 +237,12 @@ fn are_edges_to_in<'a>(claim: &Claim<'a, '_>, krate: &'a Kid, dep: &str) -> Resu
 // ---- references
 
 /// Whether the feature of the same crate that each reference names stands in the list.
-pub fn are_simple_in<'a>(claim: &Claim<'a, '_>, krate: &'a Kid, values: &'a [String]) -> bool
+pub fn are_simple_in<'a>(check: &ClosureCheck<'a, '_>, krate: &'a Kid, values: &'a [String]) -> bool
     ensures { let texts = map text_view values.now in
-        IsTrue result ↔ SimpleAmongIn (document_in claim.now) (facts_in claim.now) (id_of krate.now) texts }
+        IsTrue result ↔ SimpleAmongIn (document_in check.now) (facts_in check.now) (id_of krate.now) texts }
 {
     for value in values {
-        if !is_simple_in(claim, krate, value.as_str()) {
+        if !is_simple_in(check, krate, value.as_str()) {
             return false;
         }
     }
@@ -242,13 +250,13 @@ pub fn are_simple_in<'a>(claim: &Claim<'a, '_>, krate: &'a Kid, values: &'a [Str
 }
 
 /// Whether the feature of the same crate that a reference names stands in the list.
-fn is_simple_in<'a>(claim: &Claim<'a, '_>, krate: &'a Kid, text: &'a str) -> bool
+fn is_simple_in<'a>(check: &ClosureCheck<'a, '_>, krate: &'a Kid, text: &'a str) -> bool
     ensures { IsTrue result
-        ↔ SimpleIn (document_in claim.now) (facts_in claim.now) (id_of krate.now) text.now }
+        ↔ SimpleIn (document_in check.now) (facts_in check.now) (id_of krate.now) text.now }
 {
     laws::one_reference();
     match features::ParsedFeature::from(text).feat() {
-        features::Feature::Simple(name) => is_named_in(claim, krate, name),
+        features::Feature::Simple(name) => is_named_in(check, krate, name),
         features::Feature::Krate(_) => true,
         features::Feature::Strong { .. } => true,
         features::Feature::Weak { .. } => true,
@@ -257,16 +265,16 @@ fn is_simple_in<'a>(claim: &Claim<'a, '_>, krate: &'a Kid, text: &'a str) -> boo
 
 /// Whether what each reference of a feature toggles, with an edge of the list, stands in the list.
 pub fn are_toggling_in<'a>(
-    claim: &Claim<'a, '_>,
+    check: &ClosureCheck<'a, '_>,
     krate: &'a Kid,
     values: &'a [String],
 ) -> Result<bool, AllocError>
     ensures { let texts = map text_view values.now in
         IfOk result (λ b. IsTrue b
-        ↔ TogglingAmongIn (document_in claim.now) claim.now.setting.now (facts_in claim.now) (id_of krate.now) texts) }
+        ↔ TogglingAmongIn (document_in check.now) check.now.setting.now (facts_in check.now) (id_of krate.now) texts) }
 {
     for value in values {
-        if !is_toggling_in(claim, krate, value.as_str())? {
+        if !is_toggling_in(check, krate, value.as_str())? {
             return Ok(false);
         }
     }
@@ -275,12 +283,12 @@ pub fn are_toggling_in<'a>(
 
 /// Whether what a reference of a feature toggles, with an edge of the list, stands in the list.
 fn is_toggling_in<'a>(
-    claim: &Claim<'a, '_>,
+    check: &ClosureCheck<'a, '_>,
     krate: &'a Kid,
     text: &'a str,
 ) -> Result<bool, AllocError>
     ensures { IfOk result
-        (λ b. IsTrue b ↔ TogglingIn (document_in claim.now) claim.now.setting.now (facts_in claim.now)
+        (λ b. IsTrue b ↔ TogglingIn (document_in check.now) check.now.setting.now (facts_in check.now)
         (id_of krate.now) text.now) }
 {
     laws::one_reference();
@@ -290,30 +298,30 @@ fn is_toggling_in<'a>(
         features::Feature::Strong {
             krate: dep,
             feature,
-        } => is_dep_in(claim, krate, dep, feature),
+        } => is_dep_in(check, krate, dep, feature),
         features::Feature::Weak {
             krate: dep,
             feature,
-        } => is_dep_in(claim, krate, dep, feature),
+        } => is_dep_in(check, krate, dep, feature),
     }
 }
 
 /// Whether a feature of what a name means is toggled, if the list has an edge there.
 fn is_dep_in<'a>(
-    claim: &Claim<'a, '_>,
+    check: &ClosureCheck<'a, '_>,
     krate: &'a Kid,
     dep: &str,
     name: &'a str,
 ) -> Result<bool, AllocError>
     ensures { IfOk result
-        (λ b. IsTrue b ↔ DepIn (document_in claim.now) claim.now.setting.now (facts_in claim.now)
+        (λ b. IsTrue b ↔ DepIn (document_in check.now) check.now.setting.now (facts_in check.now)
         (id_of krate.now) dep.now name.now) }
 {
-    let referents = claim
+    let referents = check
         .document
-        .referents(claim.alloc, claim.setting, krate, dep)?;
+        .referents(check.alloc, check.setting, krate, dep)?;
     for referent in &referents {
-        if !is_meant_in(claim, krate, referent.id, name) {
+        if !is_meant_in(check, krate, referent.id, name) {
             return Ok(false);
         }
     }
@@ -321,27 +329,37 @@ fn is_dep_in<'a>(
 }
 
 /// Whether a feature of a crate is toggled, if the list has an edge there.
-fn is_meant_in<'a>(claim: &Claim<'a, '_>, krate: &'a Kid, child: &'a Kid, name: &'a str) -> bool
+fn is_meant_in<'a>(
+    check: &ClosureCheck<'a, '_>,
+    krate: &'a Kid,
+    child: &'a Kid,
+    name: &'a str,
+) -> bool
     ensures { IsTrue result
-        ↔ MeantIn (document_in claim.now) (facts_in claim.now) (id_of krate.now) (id_of child.now) name.now }
+        ↔ MeantIn (document_in check.now) (facts_in check.now) (id_of krate.now) (id_of child.now) name.now }
 {
-    if !claim.facts.has_between(krate, child) {
+    if !check.facts.has_between(krate, child) {
         return true;
     }
-    is_toggled_in(claim, krate, child, name)
+    is_toggled_in(check, krate, child, name)
 }
 
 // ---- features
 
 /// Whether a toggled feature stands in the list if its crate lists it, and isn't lost.
-fn is_toggled_in<'a>(claim: &Claim<'a, '_>, by: &'a Kid, krate: &'a Kid, name: &'a str) -> bool
+fn is_toggled_in<'a>(
+    check: &ClosureCheck<'a, '_>,
+    by: &'a Kid,
+    krate: &'a Kid,
+    name: &'a str,
+) -> bool
     ensures { IsTrue result
-        ↔ ToggledIn (document_in claim.now) (facts_in claim.now) (id_of by.now) (id_of krate.now) name.now }
+        ↔ ToggledIn (document_in check.now) (facts_in check.now) (id_of by.now) (id_of krate.now) name.now }
 {
-    if !claim.document.lists(krate, name) {
+    if !check.document.lists(krate, name) {
         return false;
     }
-    claim.facts.has(&FactKey::Toggled(
+    check.facts.has(&FactKey::Toggled(
         Pair {
             parent: by,
             child: krate,
@@ -351,35 +369,35 @@ fn is_toggled_in<'a>(claim: &Claim<'a, '_>, by: &'a Kid, krate: &'a Kid, name: &
 }
 
 /// Whether a feature stands in the list if its crate lists it, and isn't lost.
-fn is_named_in<'a>(claim: &Claim<'a, '_>, krate: &'a Kid, name: &'a str) -> bool
+fn is_named_in<'a>(check: &ClosureCheck<'a, '_>, krate: &'a Kid, name: &'a str) -> bool
     ensures { IsTrue result
-        ↔ NamedIn (document_in claim.now) (facts_in claim.now) (id_of krate.now) name.now }
+        ↔ NamedIn (document_in check.now) (facts_in check.now) (id_of krate.now) name.now }
 {
-    if !claim.document.lists(krate, name) {
+    if !check.document.lists(krate, name) {
         return false;
     }
-    claim.facts.has(&FactKey::Feature(krate, name))
+    check.facts.has(&FactKey::Feature(krate, name))
 }
 
 /// Whether all that a declared dependency asks for stands in the list.
-fn is_used_in<'a>(claim: &Claim<'a, '_>, krate: &'a Kid, dependency: &'a Dependency) -> bool
+fn is_used_in<'a>(check: &ClosureCheck<'a, '_>, krate: &'a Kid, dependency: &'a Dependency) -> bool
     ensures { IsTrue result
-        ↔ UsedIn (document_in claim.now) (facts_in claim.now) (id_of krate.now)
+        ↔ UsedIn (document_in check.now) (facts_in check.now) (id_of krate.now)
         (dependency_view dependency.now) }
 {
-    if !are_names_in(claim, krate, &dependency.features) {
+    if !are_names_in(check, krate, &dependency.features) {
         return false;
     }
-    is_default_in(claim, krate, dependency.uses_default_features)
+    is_default_in(check, krate, dependency.uses_default_features)
 }
 
 /// Whether the features that a declared dependency lists stand in the list.
-fn are_names_in<'a>(claim: &Claim<'a, '_>, krate: &'a Kid, names: &'a [String]) -> bool
+fn are_names_in<'a>(check: &ClosureCheck<'a, '_>, krate: &'a Kid, names: &'a [String]) -> bool
     ensures { let texts = map text_view names.now in
-        IsTrue result ↔ NamesIn (document_in claim.now) (facts_in claim.now) (id_of krate.now) texts }
+        IsTrue result ↔ NamesIn (document_in check.now) (facts_in check.now) (id_of krate.now) texts }
 {
     for name in names {
-        if !is_named_in(claim, krate, name.as_str()) {
+        if !is_named_in(check, krate, name.as_str()) {
             return false;
         }
     }
@@ -387,14 +405,14 @@ fn are_names_in<'a>(claim: &Claim<'a, '_>, krate: &'a Kid, names: &'a [String]) 
 }
 
 /// Whether the default feature stands in the list, if a declared dependency uses it.
-fn is_default_in<'a>(claim: &Claim<'a, '_>, krate: &'a Kid, uses: bool) -> bool
-    ensures { IsTrue result ↔ DefaultIn (document_in claim.now) (facts_in claim.now) (id_of krate.now) uses }
+fn is_default_in<'a>(check: &ClosureCheck<'a, '_>, krate: &'a Kid, uses: bool) -> bool
+    ensures { IsTrue result ↔ DefaultIn (document_in check.now) (facts_in check.now) (id_of krate.now) uses }
 {
     if !uses {
         return true;
     }
-    if !claim.document.lists(krate, "default") {
+    if !check.document.lists(krate, "default") {
         return true;
     }
-    claim.facts.has(&FactKey::Feature(krate, "default"))
+    check.facts.has(&FactKey::Feature(krate, "default"))
 }

@@ -2,10 +2,10 @@
 
 ghost use Rattle.std.specs.Prelude.{◌≡◌};
 ghost use Rattle.krates_derive.specs.FactKey.{edge_view, key_view};
-ghost use Rattle.krates_derive.specs.Told.{told_edge};
+ghost use Rattle.krates_derive.specs.FactRef.{edge_of_ref};
 ghost use Rattle.krates_rules.specs.StepViews.{fact_view};
 
-use crate::told::ToldEdge;
+use crate::fact_ref::EdgeRef;
 use krates_ids::Kid;
 use krates_rules::{DepKind, Fact};
 
@@ -55,7 +55,7 @@ pub(crate) fn key_of<'a>(fact: &'a Fact) -> FactKey<'a>
             kind,
             cfg,
         } => {
-            let edge = ToldEdge {
+            let edge = EdgeRef {
                 parent,
                 child,
                 kind: *kind,
@@ -72,8 +72,8 @@ pub(crate) fn key_of<'a>(fact: &'a Fact) -> FactKey<'a>
 }
 
 /// The key of an edge.
-pub(crate) fn edge_key<'a>(edge: &ToldEdge<'a>) -> EdgeKey<'a>
-    ensures { edge_view result ≡ told_edge edge.now }
+pub(crate) fn edge_key<'a>(edge: &EdgeRef<'a>) -> EdgeKey<'a>
+    ensures { edge_view result ≡ edge_of_ref edge.now }
 {
     EdgeKey {
         pair: Pair {

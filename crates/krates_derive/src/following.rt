@@ -4,7 +4,7 @@ ghost use Rattle.std.specs.Prelude.{◌≡◌, ◌↔◌, ◌∷◌, [], Contain
 ghost use Rattle.krates_cm.specs.Document.{dependency_view, text_view};
 ghost use Rattle.krates_derive.specs.Context.{document_of, rules_of};
 ghost use Rattle.krates_derive.specs.Following.{AsksDefault, AsksFeature, AsksForFeature, IsAskedBy, IsChildWith, IsNamedBy, IsRooted, IsRootedFeature, MayKeep, MustKeep, TogglesOver};
-ghost use Rattle.krates_derive.specs.Told.{told_edge, told_feature, told_toggle, told_fact};
+ghost use Rattle.krates_derive.specs.FactRef.{edge_of_ref, feature_of_ref, toggle_of_ref, fact_of_ref};
 ghost use Rattle.krates_questions.specs.DocumentModel.{as_resolved};
 ghost use Rattle.krates_questions.specs.Need.{TellsDeclaration, TellsNeed};
 ghost use Rattle.krates_rules.specs.Facts.{Crate, Feature, Kept};
@@ -13,11 +13,12 @@ ghost use Rattle.krates_rules.specs.Rules.{Rule};
 ghost use Rattle.krates_rules.specs.StepViews.{fact_view};
 
 use crate::context::Context;
+use crate::fact_ref::{EdgeRef, FactRef, FeatureRef, ToggleRef, fact_ref, info_of};
 use crate::referring::{asks, names, toggles};
-use crate::told::{Told, ToldEdge, ToldFeature, ToldToggle, info_of, is_same, lent};
 use krates_cm::Dependency;
 use krates_document::Setting;
 use krates_ids::Kid;
+use krates_questions::questions::is_same;
 use krates_questions::{Document, Need};
 use krates_rules::Fact;
 use std::alloc::{AllocError, Global};
@@ -29,9 +30,9 @@ pub(crate) fn need_of<'a>(
     alloc: Global,
     document: &Document<'a>,
     setting: &Setting,
-    edge: &ToldEdge<'a>,
+    edge: &EdgeRef<'a>,
 ) -> Result<Need<'a>, AllocError>
-    ensures { IfOk result (TellsNeed (as_resolved document.now) setting.now (told_edge edge.now)) }
+    ensures { IfOk result (TellsNeed (as_resolved document.now) setting.now (edge_of_ref edge.now)) }
 {
     let info = info_of(edge)?;
     document.need(alloc, setting, edge.parent, edge.child, &info)
@@ -40,18 +41,18 @@ pub(crate) fn need_of<'a>(
 /// The dependency that an edge is declared as.
 pub(crate) fn declaration_of<'a>(
     document: &Document<'a>,
-    edge: &ToldEdge<'a>,
+    edge: &EdgeRef<'a>,
 ) -> Result<Option<&'a Dependency>, AllocError>
-    ensures { IfOk result (TellsDeclaration (as_resolved document.now) (told_edge edge.now)) }
+    ensures { IfOk result (TellsDeclaration (as_resolved document.now) (edge_of_ref edge.now)) }
 {
     let info = info_of(edge)?;
     Ok(document.declaration(edge.parent, edge.child, &info))
 }
 
 /// Whether an edge may be kept.
-fn may_keep<'a>(context: &Context<'a, '_>, edge: &ToldEdge<'a>) -> Result<bool, AllocError>
+fn may_keep<'a>(context: &Context<'a, '_>, edge: &EdgeRef<'a>) -> Result<bool, AllocError>
     ensures { IfOk result
-        (λ b. IsTrue b ↔ MayKeep (document_of context.now) context.now.setting.now (told_edge edge.now)) }
+        (λ b. IsTrue b ↔ MayKeep (document_of context.now) context.now.setting.now (edge_of_ref edge.now)) }
 {
     match need_of(context.alloc, context.document, context.setting, edge)? {
         Need::Wanted(_) => Ok(context.document.stands(context.setting, edge.child)),
@@ -61,9 +62,9 @@ fn may_keep<'a>(context: &Context<'a, '_>, edge: &ToldEdge<'a>) -> Result<bool, 
 }
 
 /// Whether an edge has to be kept if its parent is.
-fn must_keep<'a>(context: &Context<'a, '_>, edge: &ToldEdge<'a>) -> Result<bool, AllocError>
+fn must_keep<'a>(context: &Context<'a, '_>, edge: &EdgeRef<'a>) -> Result<bool, AllocError>
     ensures { IfOk result
-        (λ b. IsTrue b ↔ MustKeep (document_of context.now) context.now.setting.now (told_edge edge.now)) }
+        (λ b. IsTrue b ↔ MustKeep (document_of context.now) context.now.setting.now (edge_of_ref edge.now)) }
 {
     match need_of(context.alloc, context.document, context.setting, edge)? {
         Need::Wanted(dependency) => {
@@ -80,11 +81,11 @@ fn must_keep<'a>(context: &Context<'a, '_>, edge: &ToldEdge<'a>) -> Result<bool,
 /// Whether an edge asks for a feature of its child.
 fn asks_for_feature<'a>(
     document: &Document<'a>,
-    edge: &ToldEdge<'a>,
+    edge: &EdgeRef<'a>,
     name: &str,
 ) -> Result<bool, AllocError>
     ensures { IfOk result
-        (λ b. IsTrue b ↔ AsksForFeature (as_resolved document.now) (told_edge edge.now) name.now) }
+        (λ b. IsTrue b ↔ AsksForFeature (as_resolved document.now) (edge_of_ref edge.now) name.now) }
 {
     match declaration_of(document, edge)? {
         Some(dependency) => Ok(asks_feature(dependency, name)),
@@ -152,7 +153,7 @@ fn is_same_by(rule: u8, number: u8, one: &Kid, other: &Kid) -> bool
 }
 
 /// Whether a toggled feature is enabled: the crates and the names are the same.
-fn is_enabled(rule: u8, toggle: &ToldToggle<'_>, feature: &ToldFeature<'_>) -> bool
+fn is_enabled(rule: u8, toggle: &ToggleRef<'_>, feature: &FeatureRef<'_>) -> bool
     ensures { let t = toggle.now in
         let f = feature.now in
         IsTrue result ↔ ((rule ≡ 7) × (id_of t.krate.now ≡ id_of f.krate.now) × (t.name.now ≡ f.name.now)) }
@@ -164,8 +165,8 @@ fn is_enabled(rule: u8, toggle: &ToldToggle<'_>, feature: &ToldFeature<'_>) -> b
 fn is_named<'a>(
     document: &Document<'a>,
     rule: u8,
-    feature: &ToldFeature<'a>,
-    other: &ToldFeature<'a>,
+    feature: &FeatureRef<'a>,
+    other: &FeatureRef<'a>,
 ) -> bool
     ensures { let f = feature.now in
         let g = other.now in
@@ -181,11 +182,11 @@ fn is_named<'a>(
 fn is_asked<'a>(
     context: &Context<'a, '_>,
     rule: u8,
-    feature: &ToldFeature<'a>,
-    edge: &ToldEdge<'a>,
+    feature: &FeatureRef<'a>,
+    edge: &EdgeRef<'a>,
 ) -> bool
     ensures { let f = feature.now in
-        IsTrue result ↔ IsAskedBy (document_of context.now) context.now.setting.now rule (id_of f.krate.now) f.name.now (told_edge edge.now) }
+        IsTrue result ↔ IsAskedBy (document_of context.now) context.now.setting.now rule (id_of f.krate.now) f.name.now (edge_of_ref edge.now) }
 {
     rule == 4
         && is_same(feature.krate, edge.parent)
@@ -196,12 +197,12 @@ fn is_asked<'a>(
 fn is_kept_by_feature<'a>(
     context: &Context<'a, '_>,
     rule: u8,
-    feature: &ToldFeature<'a>,
-    edge: &ToldEdge<'a>,
+    feature: &FeatureRef<'a>,
+    edge: &EdgeRef<'a>,
 ) -> Result<bool, AllocError>
     ensures { IfOk result
-        (λ b. IsTrue b ↔ Rule (rules_of context.now) rule (told_feature feature.now ∷ [])
-        (Kept (told_edge edge.now))) }
+        (λ b. IsTrue b ↔ Rule (rules_of context.now) rule (feature_of_ref feature.now ∷ [])
+        (Kept (edge_of_ref edge.now))) }
 {
     if !is_asked(context, rule, feature, edge) {
         return Ok(false);
@@ -214,11 +215,11 @@ fn is_kept_by_crate<'a>(
     context: &Context<'a, '_>,
     rule: u8,
     krate: &Kid,
-    edge: &ToldEdge<'a>,
+    edge: &EdgeRef<'a>,
 ) -> Result<bool, AllocError>
     ensures { IfOk result
         (λ b. IsTrue b ↔ Rule (rules_of context.now) rule (Crate (id_of krate.now) ∷ [])
-        (Kept (told_edge edge.now))) }
+        (Kept (edge_of_ref edge.now))) }
 {
     if !is_same_by(rule, 5, krate, edge.parent) {
         return Ok(false);
@@ -230,11 +231,11 @@ fn is_kept_by_crate<'a>(
 fn is_child<'a>(
     document: &Document<'a>,
     rule: u8,
-    edge: &ToldEdge<'a>,
-    feature: &ToldFeature<'a>,
+    edge: &EdgeRef<'a>,
+    feature: &FeatureRef<'a>,
 ) -> bool
     ensures { let f = feature.now in
-        IsTrue result ↔ IsChildWith (as_resolved document.now) rule (told_edge edge.now) (id_of f.krate.now) f.name.now }
+        IsTrue result ↔ IsChildWith (as_resolved document.now) rule (edge_of_ref edge.now) (id_of f.krate.now) f.name.now }
 {
     rule == 6 && is_same(edge.child, feature.krate) && document.lists(edge.child, feature.name)
 }
@@ -243,12 +244,12 @@ fn is_child<'a>(
 fn is_declared<'a>(
     context: &Context<'a, '_>,
     rule: u8,
-    edge: &ToldEdge<'a>,
-    feature: &ToldFeature<'a>,
+    edge: &EdgeRef<'a>,
+    feature: &FeatureRef<'a>,
 ) -> Result<bool, AllocError>
     ensures { IfOk result
-        (λ b. IsTrue b ↔ Rule (rules_of context.now) rule (Kept (told_edge edge.now) ∷ [])
-        (told_feature feature.now)) }
+        (λ b. IsTrue b ↔ Rule (rules_of context.now) rule (Kept (edge_of_ref edge.now) ∷ [])
+        (feature_of_ref feature.now)) }
 {
     if !is_child(context.document, rule, edge, feature) {
         return Ok(false);
@@ -260,24 +261,24 @@ fn is_declared<'a>(
 fn toggles_over<'a>(
     context: &Context<'a, '_>,
     weakly: bool,
-    feature: &ToldFeature<'a>,
-    edge: &ToldEdge<'a>,
-    toggle: &ToldToggle<'a>,
+    feature: &FeatureRef<'a>,
+    edge: &EdgeRef<'a>,
+    toggle: &ToggleRef<'a>,
 ) -> bool
     ensures { let r = document_of context.now in
         let s = context.now.setting.now in
         let f = feature.now in
         let t = toggle.now in
-        IsTrue result ↔ TogglesOver r s weakly (id_of f.krate.now) f.name.now (told_edge edge.now) (id_of t.by.now) (id_of t.krate.now) t.name.now }
+        IsTrue result ↔ TogglesOver r s weakly (id_of f.krate.now) f.name.now (edge_of_ref edge.now) (id_of t.by.now) (id_of t.krate.now) t.name.now }
 {
     if !is_between(feature.krate, edge, toggle) {
         return false;
     }
-    let by = ToldFeature {
+    let by = FeatureRef {
         krate: edge.parent,
         name: feature.name,
     };
-    let toggled = ToldFeature {
+    let toggled = FeatureRef {
         krate: edge.child,
         name: toggle.name,
     };
@@ -288,7 +289,7 @@ fn toggles_over<'a>(
 }
 
 /// Whether the edge goes from the crate, which toggles, to that whose feature is toggled.
-fn is_between(krate: &Kid, edge: &ToldEdge<'_>, toggle: &ToldToggle<'_>) -> bool
+fn is_between(krate: &Kid, edge: &EdgeRef<'_>, toggle: &ToggleRef<'_>) -> bool
     ensures { let e = edge.now in
         let t = toggle.now in
         IsTrue result ↔ ((id_of krate.now ≡ id_of e.parent.now) × (id_of e.parent.now ≡ id_of t.by.now) × (id_of e.child.now ≡ id_of t.krate.now)) }
@@ -302,12 +303,12 @@ fn is_between(krate: &Kid, edge: &ToldEdge<'_>, toggle: &ToldToggle<'_>) -> bool
 fn is_toggled<'a>(
     context: &Context<'a, '_>,
     rule: u8,
-    feature: &ToldFeature<'a>,
-    edge: &ToldEdge<'a>,
-    toggle: &ToldToggle<'a>,
+    feature: &FeatureRef<'a>,
+    edge: &EdgeRef<'a>,
+    toggle: &ToggleRef<'a>,
 ) -> bool
-    ensures { let premises = told_feature feature.now ∷ Kept (told_edge edge.now) ∷ [] in
-        IsTrue result ↔ Rule (rules_of context.now) rule premises (told_toggle toggle.now) }
+    ensures { let premises = feature_of_ref feature.now ∷ Kept (edge_of_ref edge.now) ∷ [] in
+        IsTrue result ↔ Rule (rules_of context.now) rule premises (toggle_of_ref toggle.now) }
 {
     if rule == 4 {
         return toggles_over(context, false, feature, edge, toggle);
@@ -324,11 +325,11 @@ fn is_toggled<'a>(
 pub fn from_nothing<'a>(context: &Context<'a, '_>, rule: u8, fact: &'a Fact) -> bool
     ensures { IsTrue result ↔ Rule (rules_of context.now) rule [] (fact_view fact.now) }
 {
-    match lent(fact) {
-        Told::Crate(krate) => is_rooted(context, rule, krate),
-        Told::Feature(feature) => is_rooted_feature(context, rule, feature.krate, feature.name),
-        Told::Kept(_) => false,
-        Told::Toggled(_) => false,
+    match fact_ref(fact) {
+        FactRef::Crate(krate) => is_rooted(context, rule, krate),
+        FactRef::Feature(feature) => is_rooted_feature(context, rule, feature.krate, feature.name),
+        FactRef::Kept(_) => false,
+        FactRef::Toggled(_) => false,
     }
 }
 
@@ -337,16 +338,16 @@ fn from_crate<'a>(
     context: &Context<'a, '_>,
     rule: u8,
     krate: &Kid,
-    fact: &Told<'a>,
+    fact: &FactRef<'a>,
 ) -> Result<bool, AllocError>
     ensures { IfOk result
-        (λ b. IsTrue b ↔ Rule (rules_of context.now) rule (Crate (id_of krate.now) ∷ []) (told_fact fact.now)) }
+        (λ b. IsTrue b ↔ Rule (rules_of context.now) rule (Crate (id_of krate.now) ∷ []) (fact_of_ref fact.now)) }
 {
     match fact {
-        Told::Crate(_) => Ok(false),
-        Told::Feature(_) => Ok(false),
-        Told::Kept(edge) => is_kept_by_crate(context, rule, krate, edge),
-        Told::Toggled(_) => Ok(false),
+        FactRef::Crate(_) => Ok(false),
+        FactRef::Feature(_) => Ok(false),
+        FactRef::Kept(edge) => is_kept_by_crate(context, rule, krate, edge),
+        FactRef::Toggled(_) => Ok(false),
     }
 }
 
@@ -354,18 +355,18 @@ fn from_crate<'a>(
 fn from_feature<'a>(
     context: &Context<'a, '_>,
     rule: u8,
-    feature: &ToldFeature<'a>,
-    fact: &Told<'a>,
+    feature: &FeatureRef<'a>,
+    fact: &FactRef<'a>,
 ) -> Result<bool, AllocError>
     ensures { IfOk result
-        (λ b. IsTrue b ↔ Rule (rules_of context.now) rule (told_feature feature.now ∷ [])
-        (told_fact fact.now)) }
+        (λ b. IsTrue b ↔ Rule (rules_of context.now) rule (feature_of_ref feature.now ∷ [])
+        (fact_of_ref fact.now)) }
 {
     match fact {
-        Told::Crate(other) => Ok(is_same_by(rule, 2, feature.krate, other)),
-        Told::Feature(other) => Ok(is_named(context.document, rule, feature, other)),
-        Told::Kept(edge) => is_kept_by_feature(context, rule, feature, edge),
-        Told::Toggled(_) => Ok(false),
+        FactRef::Crate(other) => Ok(is_same_by(rule, 2, feature.krate, other)),
+        FactRef::Feature(other) => Ok(is_named(context.document, rule, feature, other)),
+        FactRef::Kept(edge) => is_kept_by_feature(context, rule, feature, edge),
+        FactRef::Toggled(_) => Ok(false),
     }
 }
 
@@ -373,18 +374,18 @@ fn from_feature<'a>(
 fn from_edge<'a>(
     context: &Context<'a, '_>,
     rule: u8,
-    edge: &ToldEdge<'a>,
-    fact: &Told<'a>,
+    edge: &EdgeRef<'a>,
+    fact: &FactRef<'a>,
 ) -> Result<bool, AllocError>
     ensures { IfOk result
-        (λ b. IsTrue b ↔ Rule (rules_of context.now) rule (Kept (told_edge edge.now) ∷ [])
-        (told_fact fact.now)) }
+        (λ b. IsTrue b ↔ Rule (rules_of context.now) rule (Kept (edge_of_ref edge.now) ∷ [])
+        (fact_of_ref fact.now)) }
 {
     match fact {
-        Told::Crate(krate) => Ok(is_same_by(rule, 5, edge.child, krate)),
-        Told::Feature(feature) => is_declared(context, rule, edge, feature),
-        Told::Kept(_) => Ok(false),
-        Told::Toggled(_) => Ok(false),
+        FactRef::Crate(krate) => Ok(is_same_by(rule, 5, edge.child, krate)),
+        FactRef::Feature(feature) => is_declared(context, rule, edge, feature),
+        FactRef::Kept(_) => Ok(false),
+        FactRef::Toggled(_) => Ok(false),
     }
 }
 
@@ -392,17 +393,17 @@ fn from_edge<'a>(
 fn from_toggle<'a>(
     context: &Context<'a, '_>,
     rule: u8,
-    toggle: &ToldToggle<'a>,
-    fact: &Told<'a>,
+    toggle: &ToggleRef<'a>,
+    fact: &FactRef<'a>,
 ) -> bool
-    ensures { IsTrue result ↔ Rule (rules_of context.now) rule (told_toggle toggle.now ∷ [])
-        (told_fact fact.now) }
+    ensures { IsTrue result ↔ Rule (rules_of context.now) rule (toggle_of_ref toggle.now ∷ [])
+        (fact_of_ref fact.now) }
 {
     match fact {
-        Told::Crate(_) => false,
-        Told::Feature(feature) => is_enabled(rule, toggle, feature),
-        Told::Kept(_) => false,
-        Told::Toggled(_) => false,
+        FactRef::Crate(_) => false,
+        FactRef::Feature(feature) => is_enabled(rule, toggle, feature),
+        FactRef::Kept(_) => false,
+        FactRef::Toggled(_) => false,
     }
 }
 
@@ -416,12 +417,12 @@ pub fn from_one<'a>(
     ensures { IfOk result
         (λ b. IsTrue b ↔ Rule (rules_of context.now) rule (fact_view premise.now ∷ []) (fact_view fact.now)) }
 {
-    let given = lent(fact);
-    match lent(premise) {
-        Told::Crate(krate) => from_crate(context, rule, krate, &given),
-        Told::Feature(feature) => from_feature(context, rule, &feature, &given),
-        Told::Kept(edge) => from_edge(context, rule, &edge, &given),
-        Told::Toggled(toggle) => Ok(from_toggle(context, rule, &toggle, &given)),
+    let given = fact_ref(fact);
+    match fact_ref(premise) {
+        FactRef::Crate(krate) => from_crate(context, rule, krate, &given),
+        FactRef::Feature(feature) => from_feature(context, rule, &feature, &given),
+        FactRef::Kept(edge) => from_edge(context, rule, &edge, &given),
+        FactRef::Toggled(toggle) => Ok(from_toggle(context, rule, &toggle, &given)),
     }
 }
 
@@ -429,18 +430,18 @@ pub fn from_one<'a>(
 fn toggle_from_feature<'a>(
     context: &Context<'a, '_>,
     rule: u8,
-    feature: &ToldFeature<'a>,
-    second: &Told<'a>,
-    toggle: &ToldToggle<'a>,
+    feature: &FeatureRef<'a>,
+    second: &FactRef<'a>,
+    toggle: &ToggleRef<'a>,
 ) -> bool
-    ensures { let premises = told_feature feature.now ∷ told_fact second.now ∷ [] in
-        IsTrue result ↔ Rule (rules_of context.now) rule premises (told_toggle toggle.now) }
+    ensures { let premises = feature_of_ref feature.now ∷ fact_of_ref second.now ∷ [] in
+        IsTrue result ↔ Rule (rules_of context.now) rule premises (toggle_of_ref toggle.now) }
 {
     match second {
-        Told::Crate(_) => false,
-        Told::Feature(_) => false,
-        Told::Kept(edge) => is_toggled(context, rule, feature, edge, toggle),
-        Told::Toggled(_) => false,
+        FactRef::Crate(_) => false,
+        FactRef::Feature(_) => false,
+        FactRef::Kept(edge) => is_toggled(context, rule, feature, edge, toggle),
+        FactRef::Toggled(_) => false,
     }
 }
 
@@ -448,18 +449,18 @@ fn toggle_from_feature<'a>(
 fn toggle_from_two<'a>(
     context: &Context<'a, '_>,
     rule: u8,
-    first: &Told<'a>,
-    second: &Told<'a>,
-    toggle: &ToldToggle<'a>,
+    first: &FactRef<'a>,
+    second: &FactRef<'a>,
+    toggle: &ToggleRef<'a>,
 ) -> bool
-    ensures { let premises = told_fact first.now ∷ told_fact second.now ∷ [] in
-        IsTrue result ↔ Rule (rules_of context.now) rule premises (told_toggle toggle.now) }
+    ensures { let premises = fact_of_ref first.now ∷ fact_of_ref second.now ∷ [] in
+        IsTrue result ↔ Rule (rules_of context.now) rule premises (toggle_of_ref toggle.now) }
 {
     match first {
-        Told::Crate(_) => false,
-        Told::Feature(feature) => toggle_from_feature(context, rule, feature, second, toggle),
-        Told::Kept(_) => false,
-        Told::Toggled(_) => false,
+        FactRef::Crate(_) => false,
+        FactRef::Feature(feature) => toggle_from_feature(context, rule, feature, second, toggle),
+        FactRef::Kept(_) => false,
+        FactRef::Toggled(_) => false,
     }
 }
 
@@ -474,12 +475,12 @@ pub fn from_two<'a>(
     ensures { let premises = fact_view first.now ∷ fact_view second.now ∷ [] in
         IsTrue result ↔ Rule (rules_of context.now) rule premises (fact_view fact.now) }
 {
-    match lent(fact) {
-        Told::Crate(_) => false,
-        Told::Feature(_) => false,
-        Told::Kept(_) => false,
-        Told::Toggled(toggle) => {
-            toggle_from_two(context, rule, &lent(first), &lent(second), &toggle)
+    match fact_ref(fact) {
+        FactRef::Crate(_) => false,
+        FactRef::Feature(_) => false,
+        FactRef::Kept(_) => false,
+        FactRef::Toggled(toggle) => {
+            toggle_from_two(context, rule, &fact_ref(first), &fact_ref(second), &toggle)
         }
     }
 }

@@ -5,7 +5,7 @@
 pub mod closing;
 pub mod context;
 mod fact_key;
+pub mod fact_ref;
 pub mod fact_set;
 pub mod following;
 mod referring;
-pub mod told;

@@ -11,7 +11,7 @@ ghost use Rattle.krates_rules.specs.Resolved.{id_of};
 ghost use Rattle.krates_text.specs.FeatureReference.{IsReference, simple};
 
 use crate::context::Context;
-use crate::told::ToldFeature;
+use crate::fact_ref::FeatureRef;
 use krates_ids::Kid;
 use krates_questions::Document;
 use krates_text::features::{Feature, ParsedFeature};
@@ -19,7 +19,7 @@ use krates_text::laws;
 
 /// A feature of a dependency as a reference names it.
 #[derive(Clone, Copy)]
-struct NamedFeature<'t> {
+struct FeatureOfDependency<'t> {
     /// The name of the dependency.
     dep: &'t str,
     /// The name of the feature.
@@ -110,8 +110,8 @@ fn asks_by<'a>(context: &Context<'a, '_>, krate: &'a Kid, text: &str, child: &Ki
 pub(crate) fn toggles<'a>(
     context: &Context<'a, '_>,
     weakly: bool,
-    feature: &ToldFeature<'a>,
-    toggled: &ToldFeature<'a>,
+    feature: &FeatureRef<'a>,
+    toggled: &FeatureRef<'a>,
 ) -> bool
     ensures { let r = document_of context.now in
         let s = context.now.setting.now in
@@ -129,7 +129,7 @@ fn toggles_among<'a>(
     weakly: bool,
     krate: &'a Kid,
     values: &[String],
-    toggled: &ToldFeature<'a>,
+    toggled: &FeatureRef<'a>,
 ) -> bool
     ensures { let texts = map text_view values.now in
         let r = document_of context.now in
@@ -151,7 +151,7 @@ fn toggles_by<'a>(
     weakly: bool,
     krate: &'a Kid,
     text: &str,
-    toggled: &ToldFeature<'a>,
+    toggled: &FeatureRef<'a>,
 ) -> bool
     ensures { let r = document_of context.now in
         let s = context.now.setting.now in
@@ -170,7 +170,7 @@ fn toggles_by<'a>(
                 context,
                 !weakly,
                 krate,
-                &NamedFeature { dep, feature },
+                &FeatureOfDependency { dep, feature },
                 toggled,
             )
         }
@@ -182,7 +182,7 @@ fn toggles_by<'a>(
                 context,
                 weakly,
                 krate,
-                &NamedFeature { dep, feature },
+                &FeatureOfDependency { dep, feature },
                 toggled,
             )
         }
@@ -195,8 +195,8 @@ fn is_toggle<'a>(
     context: &Context<'a, '_>,
     is_form: bool,
     krate: &'a Kid,
-    named: &NamedFeature<'_>,
-    toggled: &ToldFeature<'a>,
+    named: &FeatureOfDependency<'_>,
+    toggled: &FeatureRef<'a>,
 ) -> bool
     ensures { let r = document_of context.now in
         let s = context.now.setting.now in

@@ -4,4 +4,4 @@ pub mod DeclaredPlaces
 pub mod FoldedNames
 pub mod Ids
 pub mod NamedPlaces
-pub mod Setters
+pub mod SettingChanges

@@ -8,7 +8,7 @@ ghost use Rattle.krates_text.specs.AskedTargets.{asked_of};
 ghost use Rattle.krates_rules.specs.Kind.{kind_of, ignores, IgnoresMore};
 ghost use Rattle.krates_rules.specs.Setting.{SettingModel, IsManifestOf, AsksForPaths, IsExcluded, Passes};
 ghost use Rattle.krates_rules.specs.PlainSetting.{plain_setting};
-ghost use Rattle.krates_document.specs.Setters.{with_exclusions, with_targets};
+ghost use Rattle.krates_document.specs.SettingChanges.{with_exclusions, with_targets};
 
 use krates_cm::{DependencyKind, Package};
 use krates_ids::PkgSpec;

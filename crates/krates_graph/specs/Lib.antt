@@ -1,5 +1,5 @@
 pub mod Adjacency
 pub mod Agenda
-pub mod Comparisons
 pub mod Graph
 pub mod GraphErrorText
+pub mod SameErrors

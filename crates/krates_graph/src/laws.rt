@@ -2,7 +2,7 @@
 ghost use Rattle.std.specs.Prelude.{◌≡◌, ◌==◌, ◌↔◌, ℕ, Some, true};
 ghost use Rattle.std.specs.Hash as fed;
 ghost use Rattle.std.specs.Ordering.{nat_cmp};
-ghost use Rattle.krates_graph.specs.Comparisons.{IsSameError};
+ghost use Rattle.krates_graph.specs.SameErrors.{IsSameError};
 
 use crate::graph::{Direction, EdgeId, GraphEdge, GraphError, NodeId};
 use std::hash::Hash;

@@ -7,7 +7,7 @@ use Rattle.krates_cm.specs.Document.{Text, id_view}
 use Rattle.krates_cm.specs.declared.package_id.PackageId.{PackageId}
 use Rattle.krates_ids.specs.Escapes.{AreEscapes}
 use Rattle.krates_ids.specs.Identity.{IsStableForm, IsGitQuery, IsSource, decoded, IsFault, bad_escape}
-use Rattle.krates_ids.specs.Refusals.{Converts}
+use Rattle.krates_ids.specs.IdRefusals.{Converts}
 use Rattle.krates_ids.specs.Separators.{hash_sign, question_mark}
 use Rattle.krates_ids.specs.Spans.{AreSpans, MarksParts, identity_of}
 use Rattle.krates_ids.specs.StableParts.{TellsName, IsWithSource}

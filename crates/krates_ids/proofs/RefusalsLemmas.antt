@@ -4,7 +4,7 @@ use Rattle.std.specs.Prelude.{Ok, Err}
 use Rattle.krates_cm.specs.Document.{id_view}
 use Rattle.krates_cm.specs.declared.package_id.PackageId.{PackageId}
 use Rattle.krates_ids.specs.Identity.{Identity, Reads, NeedsDecoding, Fault, IsFault}
-use Rattle.krates_ids.specs.Refusals.{IsRefusal, Converts}
+use Rattle.krates_ids.specs.IdRefusals.{IsRefusal, Converts}
 use Rattle.krates_ids.specs.declared.id_error.IdError.{IdError}
 use Rattle.krates_ids.specs.declared.id_error.IdError.TheVariants.{Memory}
 use Rattle.krates_ids.proofs.IdentityLemmas.{Reads-once, Reads-no_fault}

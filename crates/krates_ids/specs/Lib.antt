@@ -2,11 +2,11 @@ pub mod Beginning
 pub mod Correction
 pub mod ErrorTexts
 pub mod Escapes
+pub mod IdRefusals
 pub mod Identity
 pub mod MetadataError
 pub mod OpaqueParts
 pub mod PackageSpecification
-pub mod Refusals
 pub mod Separators
 pub mod Spans
 pub mod SpecificationAnswers

@@ -28,7 +28,7 @@ pub(crate) fn corrected_features(
     Ok(corrected)
 }
 
-/// Adds copies of the features whose names are absent.
+/// Adds text_copies of the features whose names are absent.
 fn add_absent(
     alloc: Global,
     features: &mut FeaturesMap,
@@ -39,7 +39,7 @@ fn add_absent(
 {
     for (name, values) in others {
         if !features.contains_key(name.as_str()) {
-            let copy = copies(alloc, values)?;
+            let copy = text_copies(alloc, values)?;
             drop(features.insert(name.clone()?, copy)?);
         }
     }
@@ -47,7 +47,7 @@ fn add_absent(
 }
 
 /// Copies of texts.
-fn copies(alloc: Global, texts: &[String]) -> Result<Vec<String>, AllocError>
+fn text_copies(alloc: Global, texts: &[String]) -> Result<Vec<String>, AllocError>
     ensures { IfOk result (λ copied. texts_view copied ≡ map text_view texts.now) }
 {
     let mut copied = Vec::with_capacity(alloc, texts.len())?;

@@ -9,7 +9,7 @@ ghost use Rattle.std.specs.Ordering.{as_partial_cmp, nat_cmp};
 ghost use Rattle.krates_cm.specs.Document.{id_view};
 ghost use Rattle.krates_text.specs.Cuts.{Lacks};
 ghost use Rattle.krates_ids.specs.Identity.{empty_identity, same_id, id_cmp, id_hash_input};
-ghost use Rattle.krates_ids.specs.Refusals.{Converts};
+ghost use Rattle.krates_ids.specs.IdRefusals.{Converts};
 ghost use Rattle.krates_ids.specs.Separators.{blank};
 ghost use Rattle.krates_ids.specs.Spans.{AreSpans, identity_of};
 

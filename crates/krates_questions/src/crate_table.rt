@@ -61,7 +61,7 @@ fn numbered_ids(alloc: Global, ids: &Ids) -> Result<Vec<Kid>, AllocError>
     lend_all(&ids.nodes, &mut all)?;
     lend_all(&ids.members, &mut all)?;
     let sorted = in_order(all)?;
-    copies(alloc, &sorted)
+    id_copies(alloc, &sorted)
 }
 
 /// Adds references to these ids.
@@ -75,7 +75,7 @@ fn lend_all<'a>(ids: &'a [Kid], all: &mut Vec<&'a Kid>) -> Result<(), AllocError
 }
 
 /// Copies of these ids.
-fn copies(alloc: Global, ids: &[&Kid]) -> Result<Vec<Kid>, AllocError>
+fn id_copies(alloc: Global, ids: &[&Kid]) -> Result<Vec<Kid>, AllocError>
     ensures { IfOk result (λ kids. kids.items ≡ lent_to ids.now) }
 {
     let mut kids = Vec::with_capacity(alloc, ids.len())?;

@@ -246,8 +246,8 @@ fn stands_at(ids: &[Kid], place: usize, id: &Kid) -> bool
     false
 }
 
-/// Whether two ids are the same.
-pub(crate) fn is_same(one: &Kid, other: &Kid) -> bool
+/// Whether two ids are the same. Time O(length).
+pub fn is_same(one: &Kid, other: &Kid) -> bool
     ensures { IsTrue result ↔ (id_of one.now ≡ id_of other.now) }
 {
     laws::comparison();

@@ -11,7 +11,7 @@ use Rattle.krates_rules.specs.Derivation.{Derivable, follows, Among}
 use Rattle.krates_rules.specs.Facts.{Id, Edge, Fact, Crate, Feature, Kept}
 use Rattle.krates_questions.specs.FeatureValues.{AreNamed, AreValuesOf}
 use Rattle.krates_search.specs.SearchState.{HasFound, IsAskedWeakly, IsAskingStep, IsFollowed, HasFollowedAll, IsValueOfEnabled, IsSound, Advances, AreTried, IsTried, IsAny, MayTry, MayName, MayToggle}
-use Rattle.krates_search.specs.References.{IsAskedAt, IsToggledStronglyAt, IsReferringStep, IsValueStep, MayAsk, MayAskAt, HasEnabledReference}
+use Rattle.krates_search.specs.FollowedReferences.{IsAskedAt, IsToggledStronglyAt, IsReferringStep, IsValueStep, MayAsk, MayAskAt, HasEnabledReference}
 use Rattle.krates_rules.specs.Resolved.{DepAt, NodeAt, Resolved, NoNode, id_of}
 use Rattle.krates_search.specs.Links.{IsMarked, HasWaiter}
 use Rattle.krates_questions.specs.ListedFeatures.{listed_features}

@@ -17,7 +17,7 @@ use Rattle.krates_questions.specs.ReferentPlace.{AreReferentsIn, referent_id}
 use Rattle.krates_questions.specs.declared.referent.Referent.{Referent}
 use Rattle.krates_questions.proofs.DepPlaces.{one_dep_place}
 use Rattle.krates_search.specs.SearchState.{IsAsked, IsToggledStrongly, IsWaiting, WaitsOrIsToggled}
-use Rattle.krates_search.specs.References.{IsAskedAt, IsToggledStronglyAt, IsWaitingAt}
+use Rattle.krates_search.specs.FollowedReferences.{IsAskedAt, IsToggledStronglyAt, IsWaitingAt}
 use Rattle.krates_selection.specs.Work.{CountsName}
 use Rattle.krates_search.specs.declared.search_state.SearchState.{SearchState}
 

@@ -3,7 +3,7 @@ use Rattle.krates_questions.specs.Context.{document_of, IsNodeAt, IsDepAt, IsFea
 use Rattle.krates_cm.specs.Document.{DepKindInfoModel, Text}
 use Rattle.krates_resolve.specs.Counting.{AreCounted, NumberHasReferences}
 use Rattle.krates_search.specs.SearchState.{IsAny, HasRoots, IsAsked, IsFollowed, HasFollowedAll, IsRooted, IsToggledStrongly, IsValueOfEnabled, IsWaiting}
-use Rattle.krates_search.specs.References.{HasEnabledReference, IsAskedAt, IsToggledStronglyAt, IsWaitingAt, RefersTo, IsReferringStep, IsRequestStep, IsValueStep, MayAsk, MayAskAt}
+use Rattle.krates_search.specs.FollowedReferences.{HasEnabledReference, IsAskedAt, IsToggledStronglyAt, IsWaitingAt, RefersTo, IsReferringStep, IsRequestStep, IsValueStep, MayAsk, MayAskAt}
 use Rattle.krates_questions.specs.NodeEntry.{krate_of}
 use Rattle.krates_resolve.specs.Saturation.{AreDone, TakesNext}
 use Rattle.krates_selection.specs.Work.{CountsName, CountsText, counted}
@@ -19,7 +19,7 @@ use Rattle.krates_text.specs.FeatureReference.{IsReference, Reference}
 use Rattle.krates_graph.specs.Agenda.{PutNumbers}
 use Rattle.krates_ids.specs.Identity.{Identity}
 use Rattle.std.specs.Prelude.{◌≡◌, Bool, Contains, ℕ, length}
-use Rattle.krates_search.specs.Context.{FindsEdge, FindsToggled, HasStepOf, HasToggled, IsRead, MayToggleFor}
+use Rattle.krates_search.specs.SearchContext.{FindsEdge, FindsToggled, HasStepOf, HasToggled, IsRead, MayToggleFor}
 
 -- the edges to the dependency of this name may be asked for
 abbrev pub MayAskFor : Context → Id → Text → Type 0

@@ -1,7 +1,7 @@
 //! What the references of an enabled feature give.
 
 ghost use Rattle.krates_questions.specs.NodeEntry.{krate_of};
-ghost use Rattle.krates_search.specs.Context.{Has, IsRight, Moves};
+ghost use Rattle.krates_search.specs.SearchContext.{Has, IsRight, Moves};
 ghost use Rattle.krates_resolve.specs.Progress.{CountsNameOf, CountsTextOf, FindsAskedDep, FindsToggledAt, HasAsked, HasAskedDep, HasAskingStep, HasFeatureStep, HasFollowedText, TakenHasFollowedReferences, HasReferenceStep, HasToggledAt, HasToggledKept, HasToggledKeptAt, HasValueStep, IsReferredTo, LetsWait, LetsWaitAt, MayAskFor, MayAskForDep, MayFollow, MayFollowText, MayToggleAt, TakenHasReferences};
 ghost use Rattle.krates_questions.specs.Context.{HasParts, Refuses};
 ghost use Rattle.std.specs.Prelude.{◌≡◌, ◌<◌, Contains, IfErr, IfOk, OnOk, length, max};

@@ -1,7 +1,7 @@
 //! The roots: the crates that are kept for themselves.
 
 ghost use Rattle.krates_questions.specs.Context.{AsksForRoots, Refuses};
-ghost use Rattle.krates_search.specs.Context.{Has, HasListed, IsNodeOf, IsRight, MayEnableListed, Moves, crate_of};
+ghost use Rattle.krates_search.specs.SearchContext.{Has, HasListed, IsNodeOf, IsRight, MayEnableListed, Moves, crate_of};
 ghost use Rattle.krates_resolve.specs.Progress.{HasEachRoot, HasRooted, HasRootedEach, HasRootedRoot, IsMemberOf, IsRootOf, IsStandingRoot};
 ghost use Rattle.std.specs.Prelude.{All, IfErr, OnOk};
 ghost use Rattle.krates_cm.specs.Document.{Text};

@@ -3,7 +3,7 @@ use Rattle.std.proofs.Common.{◌≡◌, ℕ, List, [], ◌∷◌, Contains, sym
 use Rattle.krates_cm.specs.Document.{DependencyModel, DepKindInfoModel, Text}
 use Rattle.krates_search.proofs.Waking.{as_declared}
 use Rattle.krates_search.specs.SearchState.{IsAskingStep}
-use Rattle.krates_search.specs.References.{IsReferringStep, IsRequestStep}
+use Rattle.krates_search.specs.FollowedReferences.{IsReferringStep, IsRequestStep}
 use Rattle.krates_selection.specs.Trace.{HasStep, MayFind, by_nothing, by_one, by_two}
 use Rattle.krates_selection.specs.declared.trace.NumberedStep.{NumberedStep}
 use Rattle.krates_selection.specs.declared.trace.Reason.{Reason}

@@ -3,7 +3,7 @@ use Rattle.std.proofs.Common.{ℕ, refl, ◌∙◌, inl, inr}
 use Rattle.krates_cm.specs.Document.{Text, DependencyModel}
 use Rattle.krates_text.specs.FeatureReference.{Reference, krate, weak, strong, simple}
 use Rattle.krates_rules.specs.Facts.{Id, Edge, Crate, Feature, Kept, Toggled}
-use Rattle.krates_search.specs.References.{IsAskedAt, IsToggledStronglyAt, IsWaitingAt}
+use Rattle.krates_search.specs.FollowedReferences.{IsAskedAt, IsToggledStronglyAt, IsWaitingAt}
 use Rattle.krates_search.specs.SearchState.{IsEnabledBySome, IsToggledIn, HasUsed, IsTried, IsAsked, IsToggledStrongly, IsWaiting, IsFollowed, HasFollowedAll, IsRooted, IsExpanded, HasRoots, IsSound, Grows, Advances, IsAny}
 use Rattle.krates_rules.specs.Resolved.{Resolved}
 use Rattle.krates_rules.specs.Rules.{default_name}

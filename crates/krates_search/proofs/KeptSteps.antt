@@ -7,7 +7,7 @@ use Rattle.krates_questions.specs.declared.node_entry.NodeEntry.{NodeEntry}
 use Rattle.krates_questions.specs.Context.{document_of}
 use Rattle.krates_questions.specs.declared.context.Context.{Context}
 use Rattle.krates_search.proofs.Finding.{finds_declared, finds_default, for_reason}
-use Rattle.krates_search.specs.Context.{FindsUsed}
+use Rattle.krates_search.specs.SearchContext.{FindsUsed}
 use Rattle.krates_selection.specs.Trace.{HasStep, Names, by_one}
 use Rattle.krates_search.specs.declared.search_state.SearchState.{SearchState}
 use Rattle.krates_selection.specs.declared.trace.NumberedFact.TheVariants as numbered

@@ -1,4 +1,4 @@
-pub mod Context
+pub mod FollowedReferences
 pub mod FoundEdge
 pub mod FoundToggle
 pub mod KeptEdges
@@ -7,5 +7,5 @@ pub mod KeptNumbers
 pub mod KeptToggled
 pub mod Kinds
 pub mod Links
-pub mod References
+pub mod SearchContext
 pub mod SearchState

@@ -1,7 +1,7 @@
 //! What is enabled and kept: features, toggled features and edges.
 
 ghost use Rattle.krates_questions.specs.Context.{Derives, HasEntry, IsNodeAt, IsWantedAt, Lists, Refuses};
-ghost use Rattle.krates_search.specs.Context.{Finds, FindsListed, FindsToggled, FindsUsed, Has, HasEnabled, HasEnabledFor, HasKeptStep, HasListed, HasToggledBy, IsNodeOf, IsNumberOf, IsRight, MayEnable, MayEnableFor, MayEnableListed, MayToggleFor, Moves, crate_of};
+ghost use Rattle.krates_search.specs.SearchContext.{Finds, FindsListed, FindsToggled, FindsUsed, Has, HasEnabled, HasEnabledFor, HasKeptStep, HasListed, HasToggledBy, IsNodeOf, IsNumberOf, IsRight, MayEnable, MayEnableFor, MayEnableListed, MayToggleFor, Moves, crate_of};
 ghost use Rattle.krates_questions.specs.NodeEntry.{child_of, edge_for, edge_of};
 ghost use Rattle.std.specs.Prelude.{◌≡◌, IfErr, IfOk, OnOk};
 ghost use Rattle.krates_cm.specs.Document.{DepKindInfoModel, dependency_view};

@@ -1,7 +1,7 @@
 //! What the rules give from each kept crate.
 
 ghost use Rattle.krates_questions.specs.Context.{HasEntry, Refuses};
-ghost use Rattle.krates_search.specs.Context.{FindsEdge, HasExpandedTaken, HasKrateStep, HasStanding, HasTried, HasTriedEntry, IsRight, MayKeep, Moves};
+ghost use Rattle.krates_search.specs.SearchContext.{FindsEdge, HasExpandedTaken, HasKrateStep, HasStanding, HasTried, HasTriedEntry, IsRight, MayKeep, Moves};
 ghost use Rattle.krates_questions.specs.NodeEntry.{HasItsPlaces, IsListedEdge, edge_for, edge_of};
 ghost use Rattle.std.specs.Prelude.{◌≡◌, ◌<◌, IfErr, IfOk, OnOk, Some, Contains, true};
 ghost use Rattle.krates_cm.specs.Document.{DepKindInfoModel};

@@ -33,13 +33,13 @@ pub fn kept_edges(
         (kids_in numbers.now) found.now kept.items) }
 {
     laws::comparison();
-    let kept = copies(context.alloc, context.lookup, numbers, found)?;
+    let kept = edge_copies(context.alloc, context.lookup, numbers, found)?;
     let sorted = in_order(kept)?;
     Ok(sorted)
 }
 
 /// Copies of the edges, with the numbers of their crates.
-fn copies(
+fn edge_copies(
     alloc: Global,
     lookup: &Lookup<'_>,
     numbers: &KeptNumbers<'_>,
@@ -52,13 +52,13 @@ fn copies(
 {
     let mut kept = Vec::with_capacity(alloc, edges.len())?;
     for edge in edges {
-        kept.push(copy_of(lookup, numbers, edge)?)?;
+        kept.push(edge_copy(lookup, numbers, edge)?)?;
     }
     Ok(kept)
 }
 
 /// A copy of what an edge says, with the numbers of its crates.
-fn copy_of(
+fn edge_copy(
     lookup: &Lookup<'_>,
     numbers: &KeptNumbers<'_>,
     edge: &FoundEdge<'_>,

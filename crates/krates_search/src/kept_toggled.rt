@@ -29,13 +29,13 @@ pub fn kept_toggled(
     ensures { IfOk result (λ kept. AreToggled (kids_in numbers.now) found.now kept.items) }
 {
     laws::comparison();
-    let kept = copies(alloc, lookup, numbers, found)?;
+    let kept = toggle_copies(alloc, lookup, numbers, found)?;
     let sorted = in_order(kept)?;
     Ok(sorted)
 }
 
 /// Copies of the toggled features, with the numbers of their crates.
-fn copies(
+fn toggle_copies(
     alloc: Global,
     lookup: &Lookup<'_>,
     numbers: &KeptNumbers<'_>,
@@ -48,13 +48,13 @@ fn copies(
 {
     let mut kept = Vec::with_capacity(alloc, toggled.len())?;
     for toggle in toggled {
-        kept.push(copy_of(alloc, lookup, numbers, toggle)?)?;
+        kept.push(toggle_copy(alloc, lookup, numbers, toggle)?)?;
     }
     Ok(kept)
 }
 
 /// A copy of what a toggled feature says, with the numbers of its crates.
-fn copy_of(
+fn toggle_copy(
     alloc: Global,
     lookup: &Lookup<'_>,
     numbers: &KeptNumbers<'_>,

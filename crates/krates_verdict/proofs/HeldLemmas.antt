@@ -9,7 +9,7 @@ use Rattle.krates_certificate.specs.Tables.{CertificateFault, IsCertificate, IsC
 use Rattle.krates_certificate.specs.Told.{ToldCertificate, certificate_told, fact_told, said_fact, said_step, step_told, told_closed, told_derivation}
 use Rattle.krates_certificate.specs.declared.certificate.Certificate.{Certificate}
 use Rattle.krates_certificate.specs.declared.certificate.Certificate.TheVariants as certificates
-use Rattle.krates_checkers.specs.Refusals.{IsCheckRefused, IsClosedRefused}
+use Rattle.krates_checkers.specs.CheckRefusals.{IsCheckRefused, IsClosedRefused}
 use Rattle.krates_checkers.specs.declared.check_error.CheckError.{CheckError}
 use Rattle.krates_checkers.specs.declared.check_error.CheckError.TheVariants as causes
 use Rattle.krates_rules.specs.Checks.{IsAcceptedFor, IsClosedFor}

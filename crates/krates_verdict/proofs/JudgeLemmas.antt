@@ -1,8 +1,8 @@
 -- What a checker that is given no index says.
 use Rattle.std.proofs.Common.{◌≡◌, ◌∙◌, None, refl, subst, sym}
 use Rattle.krates_cm.specs.Document.{MetadataModel}
-use Rattle.krates_checkers.specs.Refusals.{IsRefusedThrough}
-use Rattle.krates_checkers.specs.SeenThrough.{SeesThrough}
+use Rattle.krates_checkers.specs.CheckRefusals.{IsRefusedThrough}
+use Rattle.krates_checkers.specs.CheckedDocument.{HoldsOfChecked}
 use Rattle.krates_checkers.specs.declared.check_error.CheckError.{CheckError}
 use Rattle.krates_checkers.specs.declared.check_error.CheckError.TheVariants as causes
 use Rattle.krates_verdict.specs.RefusalText.{CheckErrorBecomes}
@@ -11,7 +11,7 @@ use Rattle.krates_verdict.specs.declared.refusal.Refusal.{Refusal}
 use Rattle.krates_verdict.specs.declared.refusal.Refusal.TheVariants as refusals
 
 -- without an index the document is checked as it is given
-pub as_given : (m : MetadataModel) (P : MetadataModel → Type 0) → SeesThrough None m P → P m
+pub as_given : (m : MetadataModel) (P : MetadataModel → Type 0) → HoldsOfChecked None m P → P m
 as_given m P h = subst P h.is_seen h.holds
 
 refused_as_given : (m : MetadataModel) (R : MetadataModel → CheckError → Type 0) (cause : CheckError) → IsRefusedThrough None m R cause → (cause ≡ causes.Memory → ⊥) → R m cause

@@ -3,7 +3,7 @@ use Rattle.std.specs.Prelude.{◌≡◌, List, ⊤}
 use Rattle.krates_cm.specs.Document.{Text, texts_view}
 use Rattle.krates_certificate.specs.declared.certificate.Certificate.{Certificate}
 use Rattle.krates_certificate.specs.declared.certificate.Certificate.TheVariants as certificates
-use Rattle.krates_checkers.specs.Refusals.{IsCheckRefused, IsClosedRefused}
+use Rattle.krates_checkers.specs.CheckRefusals.{IsCheckRefused, IsClosedRefused}
 use Rattle.krates_checkers.specs.declared.check_error.CheckError.{CheckError}
 use Rattle.krates_checkers.specs.declared.check_error.CheckError.TheVariants as causes
 use Rattle.krates_rules.specs.StepViews.{facts_view, steps_view}

@@ -2,7 +2,7 @@
 
 ghost use Rattle.std.specs.Prelude.{◌≡◌, ◌↔◌, [], IfErr, IfOk, IsTrue, OnOk, map};
 ghost use Rattle.krates_cm.specs.Document.{text_view, texts_view};
-ghost use Rattle.krates_checkers.specs.Refusals.{IsCheckRefused, IsClosedRefused};
+ghost use Rattle.krates_checkers.specs.CheckRefusals.{IsCheckRefused, IsClosedRefused};
 ghost use Rattle.krates_checkers.specs.declared.check_error.CheckError.TheVariants.{Empty};
 ghost use Rattle.krates_rules.specs.Checks.{IsAcceptedFor, IsClosedFor};
 ghost use Rattle.krates_rules.specs.StepViews.{facts_view, steps_view};

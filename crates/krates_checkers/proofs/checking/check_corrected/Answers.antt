@@ -1,7 +1,7 @@
 use Rattle.std.proofs.Common.{Some}
 use Rattle.std.proofs.lemmas.Result.{IfErr-weaker, on_ok_weaker}
 use Rattle.krates_cm.specs.Document.{metadata_view}
-use Rattle.krates_checkers.specs.Refusals.{IsCheckRefused}
+use Rattle.krates_checkers.specs.CheckRefusals.{IsCheckRefused}
 use Rattle.krates_rules.specs.StepViews.{steps_view}
 use Rattle.krates_rules.specs.Checks.{IsAcceptedFor}
 use Rattle.krates_checkers.proofs.Through.{refused_through, sees}

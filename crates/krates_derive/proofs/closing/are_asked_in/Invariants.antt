@@ -1,10 +1,10 @@
 use Rattle.krates_cm.specs.Document.{text_view}
 use Rattle.krates_derive.specs.Giving.{AskedByIn}
 use Rattle.krates_rules.proofs.Seen.{SeenBelow}
-use Rattle.krates_derive.specs.Claim.{document_in, facts_in}
+use Rattle.krates_derive.specs.ClosureCheck.{document_in, facts_in}
 use Rattle.krates_rules.specs.Resolved.{id_of}
 use Rattle.krates_derive.proofs.closing.are_asked_in.Given as goal
 
 -- it holds of the values so far
 abbrev pub invariant-loop-value : goal.invariant-loop-value
-invariant-loop-value l = SeenBelow (λ x. AskedByIn (document_in l.claim) l.claim.setting.now (facts_in l.claim) (id_of l.krate) (text_view x)) l.values l.value-index
+invariant-loop-value l = SeenBelow (λ x. AskedByIn (document_in l.check) l.check.setting.now (facts_in l.check) (id_of l.krate) (text_view x)) l.values l.value-index

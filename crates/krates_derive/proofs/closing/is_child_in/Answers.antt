@@ -1,15 +1,15 @@
 use Rattle.std.proofs.Common.{◌↔◌, IsTrue, Contains, refl, subst}
-use Rattle.krates_derive.specs.Told.{told_edge}
-use Rattle.krates_derive.specs.Claim.{document_in, facts_in}
+use Rattle.krates_derive.specs.FactRef.{edge_of_ref}
+use Rattle.krates_derive.specs.ClosureCheck.{document_in, facts_in}
 use Rattle.krates_rules.specs.Facts.{Edge, Kept}
 use Rattle.krates_derive.proofs.Givings.{child_here}
 use Rattle.krates_derive.proofs.closing.is_child_in.Goals as goal
 
 pub returns-in-Stands : goal.returns-in-Stands
 returns-in-Stands c =
-    let fs = facts_in c.args.claim.now in
+    let fs = facts_in c.args.check.now in
     let has = subst (λ (e : Edge). IsTrue c.has.result ↔ Contains fs (Kept e)) c.edge_key.ensures c.has.ensures in
-    child_here (document_in c.args.claim.now) c.args.claim.now.setting.now fs (told_edge c.args.edge.now) c.has.result c.in-Stands.ensures has
+    child_here (document_in c.args.check.now) c.args.check.now.setting.now fs (edge_of_ref c.args.edge.now) c.has.result c.in-Stands.ensures has
 
 pub returns-in-Excluded : goal.returns-in-Excluded
 returns-in-Excluded c =

@@ -3,10 +3,10 @@ use Rattle.krates_rules.specs.Questions.{edge_between}
 use Rattle.krates_derive.specs.Giving.{EdgeIn}
 use Rattle.std.proofs.Common.{false}
 use Rattle.krates_rules.proofs.Seen.{SeenBelow}
-use Rattle.krates_derive.specs.Claim.{document_in, facts_in}
+use Rattle.krates_derive.specs.ClosureCheck.{document_in, facts_in}
 use Rattle.krates_rules.specs.Resolved.{id_of}
 use Rattle.krates_derive.proofs.closing.is_crate_in.Given as goal
 
 -- it holds of the children so far
 abbrev pub invariant-loop-child : goal.invariant-loop-child
-invariant-loop-child l = SeenBelow (λ x. (k : DepKindInfoModel) → EdgeIn (document_in l.claim) l.claim.setting.now (facts_in l.claim) (edge_between (id_of l.krate) (id_of x) k) false) l.child-items l.child-index
+invariant-loop-child l = SeenBelow (λ x. (k : DepKindInfoModel) → EdgeIn (document_in l.check) l.check.setting.now (facts_in l.check) (edge_between (id_of l.krate) (id_of x) k) false) l.child-items l.child-index

@@ -1,6 +1,6 @@
 use Rattle.krates_derive.specs.Giving.{MeantIn}
 use Rattle.krates_rules.proofs.Seen.{SeenBelow}
-use Rattle.krates_derive.specs.Claim.{document_in, facts_in}
+use Rattle.krates_derive.specs.ClosureCheck.{document_in, facts_in}
 use Rattle.krates_questions.specs.ReferentPlace.{referent_id}
 use Rattle.krates_questions.specs.declared.referent.Referent.{Referent}
 use Rattle.krates_rules.specs.Resolved.{id_of}
@@ -8,4 +8,4 @@ use Rattle.krates_derive.proofs.closing.is_dep_in.Given as goal
 
 -- it holds of each referent so far
 abbrev pub invariant-loop-referent : goal.invariant-loop-referent
-invariant-loop-referent l = SeenBelow (λ (x : Referent). MeantIn (document_in l.claim) (facts_in l.claim) (id_of l.krate) (referent_id x) l.name) l.referent-items l.referent-index
+invariant-loop-referent l = SeenBelow (λ (x : Referent). MeantIn (document_in l.check) (facts_in l.check) (id_of l.krate) (referent_id x) l.name) l.referent-items l.referent-index

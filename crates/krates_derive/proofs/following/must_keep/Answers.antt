@@ -2,20 +2,20 @@ use Rattle.std.proofs.Common.{subst, ap}
 use Rattle.krates_cm.specs.Document.{DependencyModel}
 use Rattle.krates_derive.specs.Context.{document_of}
 use Rattle.krates_questions.specs.Need.{TellsNeed}
-use Rattle.krates_derive.specs.Told.{told_edge}
+use Rattle.krates_derive.specs.FactRef.{edge_of_ref}
 use Rattle.krates_derive.proofs.following.must_keep.Goals as goal
 
 pub returns-then-dependency : goal.returns-then-dependency
 returns-then-dependency c =
-    let h = subst (TellsNeed (document_of c.args.context.now) c.args.context.now.setting.now (told_edge c.args.edge.now)) c.in-Wanted.is c.in_ok-dependency.ensures in
+    let h = subst (TellsNeed (document_of c.args.context.now) c.args.context.now.setting.now (edge_of_ref c.args.edge.now)) c.in-Wanted.is c.in_ok-dependency.ensures in
     (λ t. absurd cc, λ k. absurd (let same = ap (λ (d : DependencyModel). d.optional) (h.only k.dependency k.wanted) in cc (same, k.required, c.if-dependency.true)))
 
 pub returns-in-Undeclared : goal.returns-in-Undeclared
 returns-in-Undeclared c =
-    let h = subst (TellsNeed (document_of c.args.context.now) c.args.context.now.setting.now (told_edge c.args.edge.now)) c.in-Undeclared.is c.in_ok-dependency.ensures in
+    let h = subst (TellsNeed (document_of c.args.context.now) c.args.context.now.setting.now (edge_of_ref c.args.edge.now)) c.in-Undeclared.is c.in_ok-dependency.ensures in
     (λ t. absurd cc, λ k. absurd (h.1 k.dependency k.wanted))
 
 pub returns-in-Nothing : goal.returns-in-Nothing
 returns-in-Nothing c =
-    let h = subst (TellsNeed (document_of c.args.context.now) c.args.context.now.setting.now (told_edge c.args.edge.now)) c.in-Nothing.is c.in_ok-dependency.ensures in
+    let h = subst (TellsNeed (document_of c.args.context.now) c.args.context.now.setting.now (edge_of_ref c.args.edge.now)) c.in-Nothing.is c.in_ok-dependency.ensures in
     (λ t. absurd cc, λ k. absurd (h.0 k.dependency k.wanted))

@@ -7,7 +7,7 @@ use Rattle.krates_rules.proofs.Seen.{seen_more}
 use Rattle.krates_rules.specs.Facts.{Kept}
 use Rattle.krates_rules.specs.Questions.{edge_between}
 use Rattle.krates_rules.specs.Referent.{IsReferent}
-use Rattle.krates_search.specs.References.{IsAskedAt}
+use Rattle.krates_search.specs.FollowedReferences.{IsAskedAt}
 use Rattle.krates_search.proofs.Finding.{finds_asked, for_reason}
 use Rattle.krates_search.proofs.Growing.{advances_trans, asked_at_grows}
 use Rattle.krates_resolve.proofs.ReferenceLemmas.{may_ask_there, referring_more}

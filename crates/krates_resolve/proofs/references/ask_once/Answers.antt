@@ -6,7 +6,7 @@ use Rattle.krates_questions.specs.Lookup.{resolved_view}
 use Rattle.krates_questions.specs.NodeEntry.{child_of}
 use Rattle.krates_rules.specs.Questions.{edge_between}
 use Rattle.krates_rules.specs.Resolved.{DepAt, id_of}
-use Rattle.krates_search.specs.Context.{FindsEdge}
+use Rattle.krates_search.specs.SearchContext.{FindsEdge}
 use Rattle.krates_resolve.proofs.ReferenceLemmas.{child_dep, dep_of_entry, tried_at}
 use Rattle.krates_questions.proofs.NodeParts.{deps_long, entry_here, own_long}
 use Rattle.krates_resolve.proofs.references.ask_once.Goals as goal

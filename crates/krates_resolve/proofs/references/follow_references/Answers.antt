@@ -3,7 +3,7 @@ use Rattle.krates_cm.specs.Document.{Text, text_view}
 use Rattle.krates_text.specs.FeatureReference.{Reference, IsReference}
 use Rattle.krates_rules.specs.Facts.{Id, Crate, Feature}
 use Rattle.krates_search.specs.SearchState.{IsFollowed, HasFollowedAll, IsValueOfEnabled}
-use Rattle.krates_search.specs.References.{IsValueStep}
+use Rattle.krates_search.specs.FollowedReferences.{IsValueStep}
 use Rattle.krates_questions.specs.Lookup.{resolved_view}
 use Rattle.krates_questions.specs.Numbering.{FeatureAt}
 use Rattle.std.specs.List.{sum}

@@ -5,7 +5,7 @@ use Rattle.krates_questions.specs.ReferentPlace.{referent_id}
 use Rattle.krates_questions.specs.declared.referent.Referent.{Referent}
 use Rattle.krates_rules.proofs.Seen.{seen_more}
 use Rattle.krates_text.specs.FeatureReference.{strong}
-use Rattle.krates_search.specs.References.{IsAskedAt, IsToggledStronglyAt}
+use Rattle.krates_search.specs.FollowedReferences.{IsAskedAt, IsToggledStronglyAt}
 use Rattle.krates_search.proofs.Growing.{advances_trans, asked_at_grows, strongly_at_grows}
 use Rattle.krates_resolve.proofs.ReferenceLemmas.{referring_more}
 use Rattle.krates_resolve.proofs.Referred.{asked_each, each_among, item_among, meant_here, referent_within, strongly_each}

@@ -2,7 +2,7 @@ use Rattle.krates_questions.specs.Lookup.{resolved_view}
 use Rattle.krates_questions.specs.NodeEntry.{krate_of}
 use Rattle.krates_questions.specs.declared.referent.Referent.{Referent}
 use Rattle.krates_search.specs.SearchState.{Advances}
-use Rattle.krates_search.specs.References.{IsAskedAt, IsToggledStronglyAt}
+use Rattle.krates_search.specs.FollowedReferences.{IsAskedAt, IsToggledStronglyAt}
 use Rattle.krates_rules.proofs.Seen.{SeenBelow}
 use Rattle.krates_resolve.proofs.references.toggle_strongly.Given as goal
 

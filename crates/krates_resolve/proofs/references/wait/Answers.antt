@@ -5,7 +5,7 @@ use Rattle.krates_questions.specs.ReferentPlace.{referent_id}
 use Rattle.krates_questions.specs.declared.referent.Referent.{Referent}
 use Rattle.krates_rules.proofs.Seen.{seen_more}
 use Rattle.krates_text.specs.FeatureReference.{weak}
-use Rattle.krates_search.specs.References.{IsWaitingAt}
+use Rattle.krates_search.specs.FollowedReferences.{IsWaitingAt}
 use Rattle.krates_search.proofs.Growing.{advances_trans, waiting_at_grows}
 use Rattle.krates_resolve.proofs.ReferenceLemmas.{referring_more}
 use Rattle.krates_resolve.proofs.Referred.{each_among, item_among, meant_here, referent_within, waiting_each}

@@ -2,7 +2,7 @@ use Rattle.std.proofs.Common.{String, Global, Contains, map, refl, sym, ◌∙�
 use Rattle.krates_cm.specs.Document.{Text, text_view, dependency_view}
 use Rattle.krates_rules.specs.Facts.{Crate, Feature}
 use Rattle.krates_rules.specs.Rules.{default_name}
-use Rattle.krates_search.specs.Context.{FindsListed}
+use Rattle.krates_search.specs.SearchContext.{FindsListed}
 use Rattle.krates_search.specs.SearchState.{Advances, HasUsed, IsEnabledBySome, MayName}
 use Rattle.krates_questions.specs.Lookup.{resolved_view}
 use Rattle.krates_rules.specs.Resolved.{id_of}

@@ -1,7 +1,7 @@
 use Rattle.std.proofs.Common.{sym, subst}
 use Rattle.krates_cm.specs.Document.{DependencyModel, dep_kind_info_view}
 use Rattle.krates_rules.specs.Facts.{Crate, Kept}
-use Rattle.krates_search.specs.Context.{FindsUsed}
+use Rattle.krates_search.specs.SearchContext.{FindsUsed}
 use Rattle.krates_rules.specs.Resolved.{NodeAt}
 use Rattle.krates_search.specs.SearchState.{HasFound, HasUsed, MayUse}
 use Rattle.krates_search.specs.Kinds.{IsFirstOf}

@@ -3,7 +3,7 @@ use Rattle.std.proofs.lemmas.List.{get_or_default}
 use Rattle.krates_cm.specs.Document.{DepKindInfoModel}
 use Rattle.krates_rules.specs.Derivation.{Derivable}
 use Rattle.krates_rules.specs.Facts.{Id, Crate, Kept, Toggled}
-use Rattle.krates_search.specs.Context.{FindsToggled}
+use Rattle.krates_search.specs.SearchContext.{FindsToggled}
 use Rattle.krates_search.specs.SearchState.{HasFound, IsEdgeStep, IsToggledIn, MayToggle}
 use Rattle.krates_rules.specs.Resolved.{DepAt}
 use Rattle.krates_selection.specs.Trace.{by_two}

@@ -1,6 +1,6 @@
 use Rattle.std.proofs.Common.{sym, ◌∙◌, subst, true, false, inl, inr}
 use Rattle.krates_cm.specs.Document.{dep_kind_info_view}
-use Rattle.krates_search.specs.Context.{HasStanding}
+use Rattle.krates_search.specs.SearchContext.{HasStanding}
 use Rattle.krates_search.specs.SearchState.{IsAny, TakenWhen}
 use Rattle.krates_questions.specs.Lookup.{resolved_view}
 use Rattle.krates_questions.specs.NodeEntry.{edge_for}

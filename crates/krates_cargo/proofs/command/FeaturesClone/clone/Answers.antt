@@ -1,6 +1,6 @@
 use Rattle.std.proofs.Common.{sym, ap, ◌∙◌}
 use Rattle.krates_cm.proofs.CopyLemmas.{same_texts}
-use Rattle.krates_cargo.specs.Features.{features_view, selected}
+use Rattle.krates_cargo.specs.FeatureChoice.{features_view, selected}
 use Rattle.krates_cargo.proofs.command.FeaturesClone.clone.Goals as goal
 
 pub returns-in_ok-clone-in-Selected : goal.returns-in_ok-clone-in-Selected

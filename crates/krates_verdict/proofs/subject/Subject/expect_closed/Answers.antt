@@ -1,6 +1,6 @@
 use Rattle.std.proofs.lemmas.Result.{err_from_is_err_and}
 use Rattle.krates_cm.specs.Document.{MetadataModel, metadata_view}
-use Rattle.krates_checkers.specs.Refusals.{IsClosedRefused}
+use Rattle.krates_checkers.specs.CheckRefusals.{IsClosedRefused}
 use Rattle.krates_rules.specs.Checks.{IsClosedFor}
 use Rattle.krates_rules.specs.StepViews.{facts_view}
 use Rattle.krates_verdict.proofs.JudgeLemmas.{as_given, objects}

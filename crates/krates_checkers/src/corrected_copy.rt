@@ -2,7 +2,7 @@
 
 ghost use Rattle.std.specs.Prelude.{IfOk};
 ghost use Rattle.krates_cm.specs.Document.{metadata_view};
-ghost use Rattle.krates_checkers.specs.SeenThrough.{IsCorrectedBy};
+ghost use Rattle.krates_checkers.specs.CheckedDocument.{IsCorrectedBy};
 ghost use Rattle.krates_ids.specs.Correction.{index_view};
 
 use krates_cm::Metadata;
@@ -11,7 +11,7 @@ use krates_ids::CachingIndex;
 use std::alloc::{AllocError, Global};
 
 /// A copy of the document with each package corrected.
-pub(crate) fn seen_through(
+pub(crate) fn corrected_copy(
     alloc: Global,
     index: &CachingIndex,
     metadata: &Metadata,

@@ -2,7 +2,7 @@ use Rattle.std.proofs.Common.{ap, map, ◌++◌, ◌∙◌}
 use Rattle.std.proofs.lemmas.List.Filters.{dedup_is}
 use Rattle.krates_cm.specs.Document.{text_view}
 use Rattle.krates_cargo.proofs.InOrder.{in_order_of}
-use Rattle.krates_cargo.proofs.options.in_order.Goals as goal
+use Rattle.krates_cargo.proofs.options.sorted_names.Goals as goal
 
 pub returns : goal.returns
 returns c =

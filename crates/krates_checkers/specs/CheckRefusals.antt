@@ -1,7 +1,7 @@
 -- Why a list of steps or of facts isn't accepted. Each cause is true; memory may always run out.
 use Rattle.std.specs.Prelude.{◌≡◌, List, Option, length, ⊤}
 use Rattle.krates_cm.specs.Document.{MetadataModel}
-use Rattle.krates_checkers.specs.SeenThrough.{SeesThrough}
+use Rattle.krates_checkers.specs.CheckedDocument.{HoldsOfChecked}
 use Rattle.krates_checkers.specs.declared.check_error.CheckError.{CheckError}
 use Rattle.krates_checkers.specs.declared.check_error.CheckError.TheVariants as refusals
 use Rattle.krates_ids.specs.Correction.{IndexModel}
@@ -42,8 +42,8 @@ IsUnread m _ = ⊥
 
 -- why the document that is checked is refused; memory may always run out
 abbrev pub IsRefusedThrough : Option IndexModel → MetadataModel → (MetadataModel → CheckError → Type 0) → CheckError → Type 0
-IsRefusedThrough index m R refusals.Document = SeesThrough index m (λ seen. R seen refusals.Document)
-IsRefusedThrough index m R refusals.Empty = SeesThrough index m (λ seen. R seen refusals.Empty)
-IsRefusedThrough index m R (refusals.Step number) = SeesThrough index m (λ seen. R seen (refusals.Step number))
+IsRefusedThrough index m R refusals.Document = HoldsOfChecked index m (λ seen. R seen refusals.Document)
+IsRefusedThrough index m R refusals.Empty = HoldsOfChecked index m (λ seen. R seen refusals.Empty)
+IsRefusedThrough index m R (refusals.Step number) = HoldsOfChecked index m (λ seen. R seen (refusals.Step number))
 IsRefusedThrough index m R refusals.Memory = ⊤
-IsRefusedThrough index m R refusals.Open = SeesThrough index m (λ seen. R seen refusals.Open)
+IsRefusedThrough index m R refusals.Open = HoldsOfChecked index m (λ seen. R seen refusals.Open)

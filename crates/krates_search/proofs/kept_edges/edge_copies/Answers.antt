@@ -4,19 +4,19 @@ use Rattle.krates_questions.specs.Lookup.{resolved_view}
 use Rattle.krates_search.specs.KeptEdges.{HasKeptNodes, IsCopyOf}
 use Rattle.krates_search.specs.KeptNumbers.{kids_in}
 use Rattle.krates_selection.proofs.ByNumber.{all_item, zip_more, zip_whole}
-use Rattle.krates_search.proofs.kept_edges.copies.Goals as goal
+use Rattle.krates_search.proofs.kept_edges.edge_copies.Goals as goal
 
-pub copy_of-requires-clause-kept : goal.copy_of-requires-clause-kept
-copy_of-requires-clause-kept c = all_item (HasKeptNodes (resolved_view c.args.lookup.now) (kids_in c.args.numbers.now)) c.args.edges.now c.loop-edge.edge-index c.edge-item.result c.requires.kept c.loop-edge-test.true c.edge-item.is
+pub edge_copy-requires-clause-kept : goal.edge_copy-requires-clause-kept
+edge_copy-requires-clause-kept c = all_item (HasKeptNodes (resolved_view c.args.lookup.now) (kids_in c.args.numbers.now)) c.args.edges.now c.loop-edge.edge-index c.edge-item.result c.requires.kept c.loop-edge-test.true c.edge-item.is
 
 pub loop-edge-preserved : goal.loop-edge-preserved
 loop-edge-preserved c =
-    let copies = IsCopyOf (kids_in c.args.numbers.now) in
+    let edge_copies = IsCopyOf (kids_in c.args.numbers.now) in
     let i = c.loop-edge.edge-index in
     let edges = c.args.edges.now in
     let old = c.loop-edge.kept.items in
-    let more = zip_more copies edges i c.edge-item.result old c.in_ok-copy_of.field-0 c.loop-edge-test.true c.edge-item.is c.in_ok-copy_of.ensures c.loop-edge.invariant in
-    subst (AllZip copies (take (i + 1) edges)) (sym c.in_ok-push.ensures.items) more
+    let more = zip_more edge_copies edges i c.edge-item.result old c.in_ok-edge_copy.field-0 c.loop-edge-test.true c.edge-item.is c.in_ok-edge_copy.ensures c.loop-edge.invariant in
+    subst (AllZip edge_copies (take (i + 1) edges)) (sym c.in_ok-push.ensures.items) more
 
 pub returns : goal.returns
 returns c = zip_whole (IsCopyOf (kids_in c.args.numbers.now)) c.args.edges.now c.loop-edge.edge-index c.loop-edge.kept.items (omega arith) c.loop-edge.invariant

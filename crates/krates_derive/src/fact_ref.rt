@@ -1,21 +1,21 @@
-//! Parts of facts, borrowed.
+//! Facts and their parts, borrowed.
 
-ghost use Rattle.std.specs.Prelude.{◌≡◌, ◌↔◌, IfOk, IsTrue};
+ghost use Rattle.std.specs.Prelude.{◌≡◌, IfOk};
 ghost use Rattle.krates_cm.specs.Document.{dep_kind_info_view};
-ghost use Rattle.krates_derive.specs.Told.{told_edge, told_fact};
+ghost use Rattle.krates_derive.specs.FactRef.{edge_of_ref, fact_of_ref};
 ghost use Rattle.krates_rules.specs.Kind.{written_of};
 ghost use Rattle.krates_rules.specs.Questions.{edge_between, kind_info_of};
 ghost use Rattle.krates_rules.specs.Resolved.{id_of};
 ghost use Rattle.krates_rules.specs.StepViews.{fact_view};
 
 use krates_cm::{DepKindInfo, DependencyKind};
-use krates_ids::{Kid, laws};
+use krates_ids::Kid;
 use krates_rules::{DepKind, Fact};
 use std::alloc::AllocError;
 
-/// An edge as a fact tells it.
+/// An edge, with its parts borrowed.
 #[derive(Clone, Copy)]
-pub struct ToldEdge<'a> {
+pub struct EdgeRef<'a> {
     /// The crate that has the dependency.
     pub parent: &'a Kid,
     /// The crate that it depends on.
@@ -26,18 +26,18 @@ pub struct ToldEdge<'a> {
     pub cfg: &'a Option<String>,
 }
 
-/// A feature as a fact tells it.
+/// A feature, with its parts borrowed.
 #[derive(Clone, Copy)]
-pub(crate) struct ToldFeature<'a> {
+pub(crate) struct FeatureRef<'a> {
     /// The crate.
     pub krate: &'a Kid,
     /// The name of the feature.
     pub name: &'a str,
 }
 
-/// A toggled feature as a fact tells it.
+/// A toggled feature, with its parts borrowed.
 #[derive(Clone, Copy)]
-pub(crate) struct ToldToggle<'a> {
+pub(crate) struct ToggleRef<'a> {
     /// The crate whose feature toggles it.
     pub by: &'a Kid,
     /// The crate whose feature it is.
@@ -48,25 +48,25 @@ pub(crate) struct ToldToggle<'a> {
 
 /// A fact whose parts are borrowed.
 #[derive(Clone, Copy)]
-pub(crate) enum Told<'a> {
+pub(crate) enum FactRef<'a> {
     /// The crate is kept.
     Crate(&'a Kid),
     /// The feature is enabled.
-    Feature(ToldFeature<'a>),
+    Feature(FeatureRef<'a>),
     /// The edge is kept.
-    Kept(ToldEdge<'a>),
+    Kept(EdgeRef<'a>),
     /// The feature is toggled.
-    Toggled(ToldToggle<'a>),
+    Toggled(ToggleRef<'a>),
 }
 
 /// The fact, with its parts borrowed.
-pub(crate) fn lent<'a>(fact: &'a Fact) -> Told<'a>
-    ensures { told_fact result ≡ fact_view fact.now }
+pub(crate) fn fact_ref<'a>(fact: &'a Fact) -> FactRef<'a>
+    ensures { fact_of_ref result ≡ fact_view fact.now }
 {
     match fact {
-        Fact::Crate(krate) => Told::Crate(krate),
+        Fact::Crate(krate) => FactRef::Crate(krate),
         Fact::Feature { krate, name } => {
-            Told::Feature(ToldFeature {
+            FactRef::Feature(FeatureRef {
                 krate,
                 name: name.as_str(),
             })
@@ -77,7 +77,7 @@ pub(crate) fn lent<'a>(fact: &'a Fact) -> Told<'a>
             kind,
             cfg,
         } => {
-            Told::Kept(ToldEdge {
+            FactRef::Kept(EdgeRef {
                 parent,
                 child,
                 kind: *kind,
@@ -89,21 +89,13 @@ pub(crate) fn lent<'a>(fact: &'a Fact) -> Told<'a>
             child,
             name,
         } => {
-            Told::Toggled(ToldToggle {
+            FactRef::Toggled(ToggleRef {
                 by: parent,
                 krate: child,
                 name: name.as_str(),
             })
         }
     }
-}
-
-/// Whether two ids are the same.
-pub(crate) fn is_same(one: &Kid, other: &Kid) -> bool
-    ensures { IsTrue result ↔ (id_of one.now ≡ id_of other.now) }
-{
-    laws::comparison();
-    one == other
 }
 
 /// The kind as the document writes it.
@@ -118,8 +110,8 @@ fn written(kind: DepKind) -> DependencyKind
 }
 
 /// The kind and the target of an edge.
-pub(crate) fn info_of(edge: &ToldEdge<'_>) -> Result<DepKindInfo, AllocError>
-    ensures { IfOk result (λ info. dep_kind_info_view info ≡ kind_info_of (told_edge edge.now)) }
+pub(crate) fn info_of(edge: &EdgeRef<'_>) -> Result<DepKindInfo, AllocError>
+    ensures { IfOk result (λ info. dep_kind_info_view info ≡ kind_info_of (edge_of_ref edge.now)) }
 {
     Ok(DepKindInfo {
         kind: written(edge.kind),
@@ -128,11 +120,11 @@ pub(crate) fn info_of(edge: &ToldEdge<'_>) -> Result<DepKindInfo, AllocError>
 }
 
 /// The edge between two crates of one kind and for one target.
-pub(crate) fn edge_for<'a>(parent: &'a Kid, child: &'a Kid, info: &'a DepKindInfo) -> ToldEdge<'a>
-    ensures { told_edge result ≡ edge_between (id_of parent.now) (id_of child.now)
+pub(crate) fn edge_for<'a>(parent: &'a Kid, child: &'a Kid, info: &'a DepKindInfo) -> EdgeRef<'a>
+    ensures { edge_of_ref result ≡ edge_between (id_of parent.now) (id_of child.now)
         (dep_kind_info_view info.now) }
 {
-    ToldEdge {
+    EdgeRef {
         parent,
         child,
         kind: DepKind::from(info.kind),

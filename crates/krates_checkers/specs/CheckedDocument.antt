@@ -16,12 +16,12 @@ pub record IsCorrectedBy (index : IndexModel) (given seen : MetadataModel) : Typ
   pub nothing_else : seen ≡ record given { packages = seen.packages }
 
 -- without an index the document is checked as it is, with one as it is corrected
-abbrev pub IsSeenThrough : Option IndexModel → MetadataModel → MetadataModel → Type 0
-IsSeenThrough None given seen = seen ≡ given
-IsSeenThrough (Some index) given seen = IsCorrectedBy index given seen
+abbrev pub IsCheckedDocument : Option IndexModel → MetadataModel → MetadataModel → Type 0
+IsCheckedDocument None given seen = seen ≡ given
+IsCheckedDocument (Some index) given seen = IsCorrectedBy index given seen
 
 -- this holds of the document that is checked
-pub record SeesThrough (index : Option IndexModel) (given : MetadataModel) (P : MetadataModel → Type 0) : Type 0 where
+pub record HoldsOfChecked (index : Option IndexModel) (given : MetadataModel) (P : MetadataModel → Type 0) : Type 0 where
   pub seen : MetadataModel
-  pub is_seen : IsSeenThrough index given seen
+  pub is_seen : IsCheckedDocument index given seen
   pub holds : P seen

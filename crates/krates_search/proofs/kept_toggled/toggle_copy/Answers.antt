@@ -3,7 +3,7 @@ use Rattle.krates_cm.specs.Document.{text_view}
 use Rattle.krates_selection.specs.CrateNumbers.{id_at}
 use Rattle.krates_search.specs.KeptNumbers.{kids_in}
 use Rattle.krates_rules.specs.Resolved.{id_of}
-use Rattle.krates_search.proofs.kept_toggled.copy_of.Goals as goal
+use Rattle.krates_search.proofs.kept_toggled.toggle_copy.Goals as goal
 
 pub number_at-by-requires-clause-kept : goal.number_at-by-requires-clause-kept
 number_at-by-requires-clause-kept c =

@@ -1,10 +1,10 @@
 use Rattle.std.proofs.Common.{subst}
 use Rattle.std.proofs.lemmas.Result.{IfOk-weaker}
 use Rattle.krates_cm.specs.Document.{MetadataModel, metadata_view}
-use Rattle.krates_checkers.specs.SeenThrough.{IsCorrectedBy}
+use Rattle.krates_checkers.specs.CheckedDocument.{IsCorrectedBy}
 use Rattle.krates_ids.specs.Correction.{index_view}
 use Rattle.krates_checkers.proofs.Through.{corrected_by}
-use Rattle.krates_checkers.proofs.seen_through.seen_through.Goals as goal
+use Rattle.krates_checkers.proofs.corrected_copy.corrected_copy.Goals as goal
 
 pub returns : goal.returns
 returns c =

@@ -1,6 +1,6 @@
 use Rattle.std.proofs.Common.{◌≡◌, take}
 use Rattle.krates_questions.specs.CrateTable.{lent_to}
-use Rattle.krates_questions.proofs.crate_table.copies.Given as goal
+use Rattle.krates_questions.proofs.crate_table.id_copies.Given as goal
 
 -- the ids so far have been copied
 abbrev pub invariant-loop-id : goal.invariant-loop-id

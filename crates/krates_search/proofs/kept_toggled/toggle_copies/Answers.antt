@@ -4,19 +4,19 @@ use Rattle.krates_questions.specs.Lookup.{resolved_view}
 use Rattle.krates_search.specs.KeptNumbers.{kids_in}
 use Rattle.krates_search.specs.KeptToggled.{HasKeptCrates, IsToggleCopy}
 use Rattle.krates_selection.proofs.ByNumber.{all_item, zip_more, zip_whole}
-use Rattle.krates_search.proofs.kept_toggled.copies.Goals as goal
+use Rattle.krates_search.proofs.kept_toggled.toggle_copies.Goals as goal
 
-pub copy_of-requires-clause-kept : goal.copy_of-requires-clause-kept
-copy_of-requires-clause-kept c = all_item (HasKeptCrates (resolved_view c.args.lookup.now) (kids_in c.args.numbers.now)) c.args.toggled.now c.loop-toggle.toggle-index c.toggle-item.result c.requires.kept c.loop-toggle-test.true c.toggle-item.is
+pub toggle_copy-requires-clause-kept : goal.toggle_copy-requires-clause-kept
+toggle_copy-requires-clause-kept c = all_item (HasKeptCrates (resolved_view c.args.lookup.now) (kids_in c.args.numbers.now)) c.args.toggled.now c.loop-toggle.toggle-index c.toggle-item.result c.requires.kept c.loop-toggle-test.true c.toggle-item.is
 
 pub loop-toggle-preserved : goal.loop-toggle-preserved
 loop-toggle-preserved c =
-    let copies = IsToggleCopy (kids_in c.args.numbers.now) in
+    let toggle_copies = IsToggleCopy (kids_in c.args.numbers.now) in
     let i = c.loop-toggle.toggle-index in
     let toggled = c.args.toggled.now in
     let old = c.loop-toggle.kept.items in
-    let more = zip_more copies toggled i c.toggle-item.result old c.in_ok-copy_of.field-0 c.loop-toggle-test.true c.toggle-item.is c.in_ok-copy_of.ensures c.loop-toggle.invariant in
-    subst (AllZip copies (take (i + 1) toggled)) (sym c.in_ok-push.ensures.items) more
+    let more = zip_more toggle_copies toggled i c.toggle-item.result old c.in_ok-toggle_copy.field-0 c.loop-toggle-test.true c.toggle-item.is c.in_ok-toggle_copy.ensures c.loop-toggle.invariant in
+    subst (AllZip toggle_copies (take (i + 1) toggled)) (sym c.in_ok-push.ensures.items) more
 
 pub returns : goal.returns
 returns c = zip_whole (IsToggleCopy (kids_in c.args.numbers.now)) c.args.toggled.now c.loop-toggle.toggle-index c.loop-toggle.kept.items (omega arith) c.loop-toggle.invariant

@@ -2,8 +2,8 @@ use Rattle.std.proofs.Common.{take}
 use Rattle.std.specs.List.{AllZip}
 use Rattle.krates_search.specs.KeptNumbers.{kids_in}
 use Rattle.krates_search.specs.KeptToggled.{IsToggleCopy}
-use Rattle.krates_search.proofs.kept_toggled.copies.Given as goal
+use Rattle.krates_search.proofs.kept_toggled.toggle_copies.Given as goal
 
--- the toggled features so far have their copies
+-- the toggled features so far have their toggle_copies
 abbrev pub invariant-loop-toggle : goal.invariant-loop-toggle
 invariant-loop-toggle l = AllZip (IsToggleCopy (kids_in l.numbers)) (take l.toggle-index l.toggled) l.kept.items
