@@ -7,7 +7,7 @@ use Rattle.krates_cm.specs.declared.package.Package.{Package}
 use Rattle.krates_ids.specs.Identity.{Identity, Reads}
 use Rattle.krates_rules.specs.Admission.{IsAdmitted, package_texts, doubled_package, IdsModel}
 use Rattle.krates_document.proofs.AdmissionLemmas.{twice_texts}
-use Rattle.krates_document.specs.AdmissionSteps.{AreDistinct}
+use Rattle.krates_rules.specs.DistinctIds.{AreDistinct}
 use Rattle.krates_rules.specs.Facts.{Id, Cause, Fact, Feature}
 use Rattle.krates_rules.specs.Questions.{Stands, questions}
 use Rattle.krates_rules.specs.Resolved.{ReadsAs, resolved, id_of}

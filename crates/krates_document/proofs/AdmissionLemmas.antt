@@ -17,7 +17,8 @@ use Rattle.krates_ids.specs.declared.error.Error.{Error}
 use Rattle.krates_ids.specs.declared.error.Error.TheVariants as errors
 use Rattle.krates_rules.specs.Admission.{package_texts, node_texts, dep_texts, HasVersion, HasThisVersion, StandsForId, of_package, of_node, of_dep, IsInvalidId, unread, bad_version, AreDepIds, AreIdsOf, IsDoubledIn, IsDoubled, doubled_package, doubled_node, doubled_dep, NoneDoubled, IdsModel}
 use Rattle.krates_rules.specs.AdmissionRefusals.{AdmissionRefusal}
-use Rattle.krates_document.specs.AdmissionSteps.{IsInvalidBy, InvalidIdRefusal, IsNoId, UnreadRefusal, IsBadText, InvalidDepRefusal, InvalidNodeRefusal, IsDoubledAmong, AreDistinct, AreAllDistinct, HasDoubled, IsDoubledBy, DoubledRefusal, DoubledInRefusal, IsDoubledWithin, among_packages, among_nodes, among_deps, DoubledWithinRefusal}
+use Rattle.krates_document.specs.AdmissionSteps.{IsInvalidBy, InvalidIdRefusal, IsNoId, UnreadRefusal, IsBadText, InvalidDepRefusal, InvalidNodeRefusal, AreAllDistinct, HasDoubled, IsDoubledBy, DoubledRefusal, DoubledInRefusal, IsDoubledWithin, among_packages, among_nodes, among_deps, DoubledWithinRefusal}
+use Rattle.krates_rules.specs.DistinctIds.{IsDoubledAmong, AreDistinct}
 use Rattle.krates_rules.specs.Facts.{Id}
 use Rattle.krates_rules.specs.NamedIds.{IsReadOf, NamesReadIds}
 use Rattle.krates_rules.specs.Resolved.{id_of, resolved}

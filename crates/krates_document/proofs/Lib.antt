@@ -2,7 +2,6 @@ pub mod AdmissionLemmas
 pub mod ChangedPlaces
 pub mod CorrectedDocument
 pub mod DeclaredOnce
-pub mod DistinctIds
 pub mod FoldedNames
 pub mod LeastFitting
 pub mod NamedPlaces

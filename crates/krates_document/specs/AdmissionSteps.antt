@@ -3,10 +3,10 @@ use Rattle.std.specs.Prelude.{string_bytes, ⊤, List, Contains, ◌≡◌, ◌�
 use Rattle.krates_cm.specs.Document.{ResolveModel, MetadataModel, Text, NodeModel}
 use Rattle.krates_ids.specs.declared.error.Error.{Error}
 use Rattle.krates_ids.specs.declared.error.Error.TheVariants as errors
-use Rattle.krates_rules.specs.Admission.{IsInvalidId, HoldsTwice, dep_texts, IdsModel}
+use Rattle.krates_rules.specs.Admission.{IsInvalidId, dep_texts, IdsModel}
 use Rattle.krates_ids.specs.Identity.{Identity, Reads}
 use Rattle.krates_cm.specs.Names.{version_named}
-use Rattle.krates_rules.specs.Facts.{Id}
+use Rattle.krates_rules.specs.DistinctIds.{IsDoubledAmong, AreDistinct}
 use Rattle.krates_rules.specs.Resolved.{id_of}
 use Rattle.std.specs.List.{AllByRecursion}
 
@@ -39,13 +39,6 @@ InvalidDepRefusal texts = IsInvalidBy (λ t. Contains texts t × IsBadText t)
 -- a dependency of one of the nodes has a bad id
 abbrev pub InvalidNodeRefusal : List NodeModel → Error → Type 0
 InvalidNodeRefusal nodes = IsInvalidBy (λ t. (n : NodeModel) × Contains nodes n × Contains (dep_texts n) t × IsBadText t)
-
--- the id stands at two places of a list of ids
-abbrev pub IsDoubledAmong : List Identity → Id → Type 0
-IsDoubledAmong ids id = HoldsTwice (λ i. id_of i ≡ id) ids
-
-abbrev pub AreDistinct : List Identity → Type 0
-AreDistinct ids = (id : Id) → IsDoubledAmong ids id → ⊥
 
 -- an id is doubled, and `P` holds of it; memory may always run out
 abbrev pub IsDoubledBy : (Identity → Type 0) → Error → Type 0

@@ -8,7 +8,8 @@ ghost use Rattle.krates_ids.specs.Identity.{Reads};
 ghost use Rattle.krates_rules.specs.Admission.{HasThisVersion, AreDepIds, IsRootId, AreIdsOf, IsAdmitted};
 ghost use Rattle.krates_rules.specs.AdmissionRefusals.{AdmissionRefusal};
 ghost use Rattle.krates_rules.specs.NamedIds.{NamesReadIds};
-ghost use Rattle.krates_document.specs.AdmissionSteps.{InvalidIdRefusal, UnreadRefusal, InvalidDepRefusal, InvalidNodeRefusal, AreDistinct, DoubledRefusal, DoubledInRefusal, AreAllDistinct, DoubledWithinRefusal};
+ghost use Rattle.krates_document.specs.AdmissionSteps.{InvalidIdRefusal, UnreadRefusal, InvalidDepRefusal, InvalidNodeRefusal, DoubledRefusal, DoubledInRefusal, AreAllDistinct, DoubledWithinRefusal};
+ghost use Rattle.krates_rules.specs.DistinctIds.{AreDistinct};
 ghost use Rattle.krates_document.specs.Ids.{ids_view, kids_in, versions_in};
 
 use crate::declared_dependency::version_of;

@@ -12,7 +12,7 @@ use Rattle.std.specs.declared.alloc.AllocError.{AllocError}
 use Rattle.krates_cm.specs.Document.{Text, id_view}
 use Rattle.krates_cm.specs.declared.package.Package.{Package}
 use Rattle.krates_ids.specs.Identity.{Identity, empty_identity, Reads, id_cmp}
-use Rattle.krates_document.specs.AdmissionSteps.{AreDistinct}
+use Rattle.krates_rules.specs.DistinctIds.{AreDistinct}
 use Rattle.krates_rules.specs.Facts.{Id}
 use Rattle.krates_rules.specs.Resolved.{id_of}
 use Rattle.krates_drawing.specs.Listed.{AreThosePackages, HasIdAmong}

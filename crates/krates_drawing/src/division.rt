@@ -5,7 +5,7 @@ ghost use Rattle.std.specs.List.{AllZip};
 ghost use Rattle.std.specs.List.Sorted.{IsStrictlySortedBy};
 ghost use Rattle.krates_cm.specs.Document.{id_view};
 ghost use Rattle.krates_ids.specs.Identity.{Reads, id_cmp};
-ghost use Rattle.krates_document.specs.AdmissionSteps.{AreDistinct};
+ghost use Rattle.krates_rules.specs.DistinctIds.{AreDistinct};
 ghost use Rattle.krates_drawing.specs.Division.{IsDivision, has_same, is_selected, sheet_ids};
 ghost use Rattle.krates_drawing.specs.Krate.{paired};
 

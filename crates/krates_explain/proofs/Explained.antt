@@ -4,7 +4,7 @@ use Rattle.std.proofs.lemmas.List.{length-map}
 use Rattle.std.proofs.lemmas.Option.{get_or_from_slice_get, slice_get-map, slice_get-get_or, slice_get_within, same_Some}
 use Rattle.std.specs.List.{AllZip, slice_get}
 use Rattle.std.specs.List.Sorted.{IsStrictlySortedBy}
-use Rattle.krates_document.proofs.DistinctIds.{OrderTellsSame}
+use Rattle.krates_rules.proofs.DistinctIds.{OrderTellsSame}
 use Rattle.krates_explain.specs.Chosen.{AreChosen, IsChosenIn}
 use Rattle.krates_explain.specs.Explanation.{AreBelow, uses_in}
 use Rattle.krates_explain.specs.KeptFacts.{Enables, IsBelow, KeepsCrate, KeepsEdge, KeptModel, Toggles, fact_in, facts_in, step_in, steps_in}

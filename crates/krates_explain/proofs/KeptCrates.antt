@@ -2,7 +2,7 @@
 use Rattle.std.proofs.Common.{◌≡◌, List, length, refl, sym, ap, subst}
 use Rattle.std.specs.List.Sorted.{IsStrictlySortedBy}
 use Rattle.krates_cm.specs.Document.{NodeModel}
-use Rattle.krates_document.proofs.DistinctIds.{OrderTellsSame}
+use Rattle.krates_rules.proofs.DistinctIds.{OrderTellsSame}
 use Rattle.krates_explain.specs.KeptFacts.{KeptModel, KeepsCrate, KeepsEdge, Enables, Toggles, IsBelow, edge_in, fact_in}
 use Rattle.krates_selection.specs.CrateNumbers.{id_at}
 use Rattle.krates_selection.proofs.CrateNumbers.{one_number}

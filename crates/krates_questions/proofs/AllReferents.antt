@@ -25,7 +25,7 @@ use Rattle.krates_questions.specs.declared.referent.Referent.{Referent}
 use Rattle.krates_rules.proofs.OnlyOne.{one_dep, place_in}
 use Rattle.krates_rules.proofs.Readings.{ReadsOnce}
 use Rattle.krates_rules.proofs.Standings.{contains_at}
-use Rattle.krates_document.proofs.DistinctIds.{OrderTellsSame, id_of_same}
+use Rattle.krates_rules.proofs.DistinctIds.{OrderTellsSame, id_of_same}
 use Rattle.krates_rules.proofs.FirstPlaces.{seen_at}
 use Rattle.krates_questions.proofs.NodeParts.{dep_of_child}
 use Rattle.krates_questions.proofs.DepPlaces.{one_dep_place}

@@ -19,7 +19,7 @@ use Rattle.krates_questions.specs.ReferentPlace.{AnswersAt, AnswersBefore, GoesO
 use Rattle.krates_rules.specs.Resolved.{Resolved, HasDep, id_of}
 use Rattle.krates_questions.specs.declared.node_entry.NodeParts.{NodeParts}
 use Rattle.krates_rules.proofs.Readings.{ReadsOnce, right_of}
-use Rattle.krates_document.proofs.DistinctIds.{OrderTellsSame, same_of}
+use Rattle.krates_rules.proofs.DistinctIds.{OrderTellsSame, same_of}
 use Rattle.krates_document.proofs.LeastFitting.{same_folded, under_other}
 use Rattle.krates_questions.proofs.NodeParts.{has_dep_here}
 use Rattle.krates_questions.proofs.RenamedPlaces.{FindsRenamed}

@@ -11,7 +11,7 @@ use Rattle.std.specs.Result.{result_ok}
 use Rattle.krates_ids.specs.Identity.{Identity, IsSameId, id_cmp, same_id}
 use Rattle.krates_rules.specs.Facts.{Id}
 use Rattle.krates_rules.specs.Resolved.{id_of}
-use Rattle.krates_document.proofs.DistinctIds.{OrderTellsSame, id_of_same, same_of}
+use Rattle.krates_rules.proofs.DistinctIds.{OrderTellsSame, id_of_same, same_of}
 use Rattle.krates_questions.specs.CrateTable.{Among, AreNumbered, IsNumberOf, lent_to}
 use Rattle.krates_rules.specs.Referent.{id_order}
 use Rattle.krates_rules.proofs.SeenInOrder.{sorted_same, sorted_unseen}

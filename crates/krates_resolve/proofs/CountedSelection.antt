@@ -19,7 +19,7 @@ use Rattle.krates_selection.specs.Work.{CountsEach, HasReferences, counted}
 use Rattle.krates_search.specs.declared.search_state.SearchState.{SearchState}
 use Rattle.krates_selection.specs.declared.selection.EnabledFeature.{EnabledFeature}
 use Rattle.krates_selection.specs.declared.work.Work.{Work}
-use Rattle.krates_document.proofs.DistinctIds.{id_of_same}
+use Rattle.krates_rules.proofs.DistinctIds.{id_of_same}
 use Rattle.krates_rules.proofs.FirstPlaces.{seen_at}
 use Rattle.krates_rules.proofs.OnlyOne.{one_node_place}
 use Rattle.krates_rules.proofs.Readings.{left_of}

@@ -28,7 +28,7 @@ use Rattle.krates_search.specs.declared.found_edge.FoundEdge.{FoundEdge}
 use Rattle.krates_search.specs.declared.found_toggle.FoundToggle.{FoundToggle}
 use Rattle.krates_selection.specs.declared.selection.Selection.{Selection}
 use Rattle.krates_rules.proofs.Readings.{ReadsOnce}
-use Rattle.krates_document.proofs.DistinctIds.{id_of_same}
+use Rattle.krates_rules.proofs.DistinctIds.{id_of_same}
 use Rattle.krates_rules.proofs.FirstPlaces.{seen_at}
 use Rattle.krates_questions.proofs.Lookups.{one_id}
 use Rattle.krates_questions.proofs.FeatureNumbers.{listed_place}

@@ -2,6 +2,7 @@ pub mod AnyTarget
 pub mod DerivationLaws
 pub mod DerivationTexts
 pub mod Distinct
+pub mod DistinctIds
 pub mod Elements
 pub mod FirstPlaces
 pub mod KeyOrder

@@ -6,6 +6,7 @@ pub mod DeclaredSource
 pub mod DependencyName
 pub mod Derivation
 pub mod DerivationTexts
+pub mod DistinctIds
 pub mod Facts
 pub mod Features
 pub mod Kind

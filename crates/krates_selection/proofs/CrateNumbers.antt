@@ -4,7 +4,7 @@ use Rattle.std.proofs.lemmas.Bool.{cases_order}
 use Rattle.std.proofs.lemmas.List.{get_or-map}
 use Rattle.std.proofs.lemmas.Map.Keys.{Less-from_sorted}
 use Rattle.std.specs.List.Sorted.{IsStrictlySortedBy}
-use Rattle.krates_document.proofs.DistinctIds.{OrderTellsSame, same_of}
+use Rattle.krates_rules.proofs.DistinctIds.{OrderTellsSame, same_of}
 use Rattle.krates_ids.specs.Identity.{Identity, empty_identity, id_cmp}
 use Rattle.krates_selection.specs.CrateNumbers.{id_at, no_id}
 use Rattle.krates_rules.specs.Resolved.{id_of}

@@ -2,7 +2,8 @@ use Rattle.std.proofs.Common.{List, arith, subst}
 use Rattle.std.proofs.lemmas.Result.{err_from_is_err_and}
 use Rattle.std.specs.Global.{Vec}
 use Rattle.krates_ids.specs.Identity.{Identity}
-use Rattle.krates_document.specs.AdmissionSteps.{AreDistinct, DoubledRefusal}
+use Rattle.krates_document.specs.AdmissionSteps.{DoubledRefusal}
+use Rattle.krates_rules.specs.DistinctIds.{AreDistinct}
 use Rattle.krates_document.proofs.AdmissionLemmas.{twice_in}
 use Rattle.krates_rules.proofs.Zips.{each_next, each_all, one_seen}
 use Rattle.krates_document.proofs.admission.expect_all_distinct.Goals as goal

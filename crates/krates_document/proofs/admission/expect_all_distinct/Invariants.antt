@@ -1,6 +1,6 @@
 use Rattle.std.proofs.Common.{map, take}
 use Rattle.std.specs.List.{AllByRecursion}
-use Rattle.krates_document.specs.AdmissionSteps.{AreDistinct}
+use Rattle.krates_rules.specs.DistinctIds.{AreDistinct}
 use Rattle.krates_document.proofs.admission.expect_all_distinct.Given as goal
 
 -- no id stands twice in any list so far

@@ -1,7 +1,7 @@
 use Rattle.std.proofs.Common.{◌≡◌, take}
 use Rattle.krates_ids.specs.Identity.{Identity}
-use Rattle.krates_document.specs.AdmissionSteps.{AreDistinct}
-use Rattle.krates_document.proofs.DistinctIds.{has_id, has_seen}
+use Rattle.krates_rules.specs.DistinctIds.{AreDistinct}
+use Rattle.krates_rules.proofs.DistinctIds.{has_id, has_seen}
 use Rattle.krates_document.proofs.admission.expect_distinct.Given as goal
 
 -- the set has the ids so far, and no id stands twice among them

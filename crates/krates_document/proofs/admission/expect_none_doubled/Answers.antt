@@ -3,7 +3,8 @@ use Rattle.std.proofs.lemmas.Result.{err_from_is_err_and}
 use Rattle.std.specs.Global.{Vec}
 use Rattle.std.specs.List.{AllByRecursion}
 use Rattle.krates_ids.specs.Identity.{Identity}
-use Rattle.krates_document.specs.AdmissionSteps.{AreDistinct, DoubledInRefusal, DoubledRefusal}
+use Rattle.krates_document.specs.AdmissionSteps.{DoubledInRefusal, DoubledRefusal}
+use Rattle.krates_rules.specs.DistinctIds.{AreDistinct}
 use Rattle.krates_document.specs.Ids.{ids_view}
 use Rattle.krates_document.proofs.AdmissionLemmas.{twice_deps, twice_nodes, twice_packages}
 use Rattle.krates_document.proofs.admission.expect_none_doubled.Goals as goal

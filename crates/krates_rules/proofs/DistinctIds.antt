@@ -10,7 +10,7 @@ use Rattle.std.specs.BTreeSet.{insert_key}
 use Rattle.std.specs.List.{list_any, slice_get}
 use Rattle.std.specs.Ordering.{is_eq, match_ordering}
 use Rattle.krates_ids.specs.Identity.{Identity, IsSameId, id_cmp}
-use Rattle.krates_document.specs.AdmissionSteps.{IsDoubledAmong, AreDistinct}
+use Rattle.krates_rules.specs.DistinctIds.{IsDoubledAmong, AreDistinct}
 use Rattle.krates_rules.specs.Facts.{Id}
 use Rattle.krates_rules.specs.Resolved.{id_of}
 
