@@ -1,10 +1,8 @@
 -- A text that has a listing is refused for nothing that is said of it.
-use Rattle.std.proofs.Common.{◌≡◌, ℕ, zero, suc, ◌<◌, List, [], ◌∷◌, length, get_or, Contains, Option, Some, None, IsSome, IsUtf8, refl, ap, sym, ◌∙◌, ◌⊎◌, subst, inl, inr, arith, string_bytes}
+use Rattle.std.proofs.Common.{◌≡◌, List, [], Option, Some, None, IsSome, IsUtf8, refl, ap, sym, ◌∙◌, ◌⊎◌, subst, inl, inr, arith, string_bytes}
 use Rattle.std.proofs.lemmas.Option.{none-some, same_Some}
-use Rattle.std.specs.List.{AllZip, AllByRecursion}
 use Rattle.std.specs.Prelude.{MatchOption}
-use Rattle.krates_cm.specs.Document.{Text, MetadataModel, NodeModel, ResolveModel, metadata_view}
-use Rattle.krates_cm.specs.Names.{version_named}
+use Rattle.krates_cm.specs.Document.{Text, MetadataModel, metadata_view}
 use Rattle.krates_cm.specs.declared.error.Error as cm
 use Rattle.krates_cm.specs.declared.error.Error.TheVariants as cm_errors
 use Rattle.krates_cm.specs.declared.metadata.Metadata.{Metadata}
@@ -12,16 +10,18 @@ use Rattle.krates_cm.specs.declared.package.Package.{Package}
 use Rattle.krates_cm_json.specs.Parsing.{IsDocument, IsRefusal}
 use Rattle.krates_cm_json.specs.Tables.{metadata}
 use Rattle.krates_rules.specs.StepViews.{steps_view}
-use Rattle.krates_ids.specs.Identity.{Identity, Reads}
+use Rattle.krates_ids.specs.Identity.{Identity}
 use Rattle.krates_ids.specs.declared.error.Error as build
 use Rattle.krates_ids.specs.declared.error.Error.TheVariants as build_errors
-use Rattle.krates_rules.specs.Admission.{package_texts, node_texts, dep_texts, HasVersion, AreDepIds, AreIdsOf, IsRootId, StandsForId, of_package, of_member, of_root, of_node, of_dep, IsInvalidId, unread, bad_version, IsDoubled, IdsModel}
+use Rattle.krates_rules.specs.Admission.{IsInvalidId, IsDoubled}
 use Rattle.krates_rules.specs.Checks.{LastIsDerivable}
 use Rattle.krates_rules.specs.Facts.{Crate}
 use Rattle.krates_rules.specs.Questions.{questions}
 use Rattle.krates_rules.specs.Resolved.{HasGraphWith, id_of, resolved}
 use Rattle.krates_rules.specs.SelectionRefusals.{HasNoRoot, SelectionRefusal, cause_of}
 use Rattle.krates_rules.specs.Setting.{SettingModel}
+use Rattle.krates_rules.proofs.AdmittedTexts.{none_invalid, of_graph}
+use Rattle.krates_rules.proofs.Readings.{ReadsOnce}
 use Rattle.krates.specs.Build.{Answers, BuildRefusalAsGiven, KeepsCrate}
 use Rattle.krates_cli.specs.CommandLine.{AskForListing, AskForProgram, IsCause, LinesRefusal}
 use Rattle.krates_cli.specs.Listing.{ExplainsCrate, IsListing, IsListingOf, IsSplit, ListsPackages}
@@ -30,10 +30,6 @@ use Rattle.krates_cli.specs.Options.{OptionsModel, IsCommandLine, request_of}
 use Rattle.krates_cli.specs.Request.{Request}
 use Rattle.krates_cli.specs.declared.run_error.RunError.{RunError}
 use Rattle.krates_cli.specs.declared.run_error.RunError.TheVariants as errors
-
--- a text is read as one id
-abbrev pub ReadsOnce : Type 0
-ReadsOnce = (t : Text) (a b : Identity) → Reads t a → Reads t b → a ≡ b
 
 -- a text is one document
 one_document : (text : Text) (a b : MetadataModel) → IsDocument text a → IsDocument text b → a ≡ b
@@ -53,52 +49,6 @@ document_refused text m (cm_errors.ErrUtf8 _) document refused = absurd refused
 document_refused text m cm_errors.NoJson document refused = absurd refused
 document_refused text m cm_errors.FeaturesTwice document refused = absurd refused
 document_refused text m cm_errors.NoManifestParent document refused = absurd refused
-
--- what stands beside an element of related lists
-beside : {A B : Type 0} (R : A → B → Type 0) (xs : List A) (ys : List B) (x : A) (k : ℕ) → AllZip R xs ys → k < length xs → get_or xs k x ≡ x
-    → (y : B) × Contains ys y × R x y
-beside R [] ys x k zip lt is = absurd (omega arith)
-beside R (a ∷ xs) [] x k zip lt is = absurd zip
-beside R (a ∷ xs) (b ∷ ys) x zero zip lt is = (b, (0, omega arith, refl), subst (λ v. R v b) is zip.0)
-beside R (a ∷ xs) (b ∷ ys) x (suc k) zip lt is =
-    let w = beside R xs ys x k zip.1 (omega arith) is in
-    (w.0, (suc w.1.0, omega (arith, w.1.1), w.1.2), w.2)
-
-each : {A : Type 0} (P : A → Type 0) (xs : List A) (x : A) (k : ℕ) → AllByRecursion P xs → k < length xs → get_or xs k x ≡ x → P x
-each P [] x k h lt is = absurd (omega arith)
-each P (a ∷ xs) x zero h lt is = subst P is h.0
-each P (a ∷ xs) x (suc k) h lt is = each P xs x k h.1 (omega arith) is
-
--- an id of a dependency that stands among the nodes, with its version
-dep_id : (g : ResolveModel) (ids : List (List Identity)) (n : NodeModel) (t : Text) → AllZip AreDepIds g.nodes ids → Contains g.nodes n → Contains (dep_texts n) t
-    → (i : Identity) × Reads t i × HasVersion i
-dep_id g ids n t zip node dep =
-    let list = beside AreDepIds g.nodes ids n node.0 zip node.1 node.2 in
-    let w = beside Reads (dep_texts n) list.0 t dep.0 list.2.read dep.1 dep.2 in
-    (w.0, w.2, each HasVersion list.0 w.0 w.1.0 list.2.versions w.1.1 w.1.2)
-
-root_id : (text : Option Text) (root : Option Identity) (t : Text) → IsRootId text root → text ≡ Some t → (i : Identity) × Reads t i
-root_id None root t is e = absurd (none-some t e)
-root_id (Some u) None t is e = absurd is
-root_id (Some u) (Some i) t is e = (i, subst (λ v. Reads v i) (same_Some u t e) is)
-
--- of an admitted document each text that has to be an id is read
-stands_read : (m : MetadataModel) (g : ResolveModel) (ids : IdsModel) (t : Text) → AreIdsOf m g ids → StandsForId m g t → (i : Identity) × Reads t i
-stands_read m g ids t are (of_package c) = let w = beside Reads (package_texts m) ids.packages t c.0 are.packages c.1 c.2 in (w.0, w.2)
-stands_read m g ids t are (of_member c) = let w = beside Reads m.workspace_members ids.members t c.0 are.members c.1 c.2 in (w.0, w.2)
-stands_read m g ids t are (of_root e) = root_id g.root ids.root t are.root e
-stands_read m g ids t are (of_node c) = let w = beside Reads (node_texts g) ids.nodes t c.0 are.nodes c.1 c.2 in (w.0, w.2)
-stands_read m g ids t are (of_dep n c d) = let w = dep_id g ids.deps n t are.deps c d in (w.0, w.1)
-
-none_invalid : ReadsOnce → (m : MetadataModel) (g : ResolveModel) (ids : IdsModel) (t : Text) → AreIdsOf m g ids → IsInvalidId m g t → ⊥
-none_invalid once m g ids t are (unread stands none) = let w = stands_read m g ids t are stands in none w.0 w.1
-none_invalid once m g ids t are (bad_version n c d i reads none) =
-    let w = dep_id g ids.deps n t are.deps c d in
-    w.2 (subst (λ (j : Identity). version_named j.version ≡ None) (once t i w.0 reads w.1) none)
-
--- what holds of a document's graph, of the graph that it is known to have
-of_graph : (m : MetadataModel) (P : ResolveModel → Type 0) (g : ResolveModel) → m.resolve ≡ Some g → HasGraphWith m P → P g
-of_graph m P g has h = subst P (same_Some h.graph g (sym h.has_graph ∙ has)) h.holds
 
 -- a document that is divided is refused for nothing but memory, and more crates than can be numbered
 divided_refused : ReadsOnce → (s : SettingModel) (m n : Metadata) (kept others : List Package) (cause : build.Error) → metadata_view n ≡ metadata_view m

@@ -1,25 +1,16 @@
 -- The orders of keys: two compare as equal exactly where they are the same fact, or the same crates.
-use Rattle.std.proofs.Common.{◌≡◌, ◌↔◌, Ordering, Less, Equal, Greater, refl, ap}
+use Rattle.std.proofs.Common.{◌≡◌, Ordering, Less, Equal, Greater, refl, ap}
 use Rattle.std.specs.Ordering.{ordering_then}
 use Rattle.krates_derive.specs.FactKey.{edge_view, key_cmp, key_view}
 use Rattle.krates_derive.specs.declared.fact_key.EdgeKey.{EdgeKey}
 use Rattle.krates_derive.specs.declared.fact_key.FactKey.{FactKey}
 use Rattle.krates_derive.specs.declared.fact_key.FactKey.TheVariants as keys
 use Rattle.krates_derive.specs.declared.fact_key.Pair.{Pair}
-use Rattle.krates_ids.specs.Identity.{Identity, IsSameId, id_cmp}
+use Rattle.krates_ids.specs.Identity.{Identity, id_cmp}
 use Rattle.krates_rules.specs.Facts.{Id, Edge, Crate}
 use Rattle.krates_rules.specs.Resolved.{id_of}
+use Rattle.krates_rules.proofs.DistinctIds.{OrderTellsSame, id_tells}
 use Rattle.krates_rules.proofs.KeyOrder.{equal_then, kind_tells, option_tells, text_tells, then_equal}
-
--- the order tells ids that are the same
-abbrev pub OrderTellsSame : Type 0
-OrderTellsSame = (a b : Identity) → (id_cmp a b ≡ Equal) ↔ IsSameId a b
-
-id_tells : OrderTellsSame → (a b : Identity) → (id_cmp a b ≡ Equal) ↔ (id_of a ≡ id_of b)
-id_tells tells a b = (
-  λ h. (let same = (tells a b).0 h in rw (same.name, same.version, same.source) refl),
-  λ e. (tells a b).1 (record { name = ap (λ (i : Id). i.name) e; version = ap (λ (i : Id). i.version) e; source = ap (λ (i : Id). i.source) e }),
-)
 
 -- how two crates compare with those of a pair
 abbrev pub order_of_pair : Identity → Identity → Pair → Ordering

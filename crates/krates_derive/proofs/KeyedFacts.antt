@@ -1,5 +1,5 @@
 -- A list of facts that is inserted into a set, fact by fact.
-use Rattle.std.proofs.Common.{◌≡◌, ◌↔◌, ◌<◌, ◌≤◌, ℕ, ◌+◌, List, [], ◌∷◌, ◌++◌, length, get_or, take, Bool, true, false, cond, IsTrue, Ordering, Less, Equal, Greater, Contains, inl, inr, refl, sym, ap, ◌∙◌, subst, arith}
+use Rattle.std.proofs.Common.{◌≡◌, ◌↔◌, ◌<◌, ◌≤◌, ℕ, ◌+◌, List, [], ◌∷◌, ◌++◌, length, get_or, take, Bool, true, false, cond, IsTrue, Contains, inl, inr, refl, sym, ap, ◌∙◌, subst, arith}
 use Rattle.std.proofs.lemmas.List.{take_more, take_all, map-append}
 use Rattle.std.proofs.lemmas.List.Elements.{Contains-append_left, Contains-push, Contains-push_cases}
 use Rattle.std.specs.BTreeMap.{is_at}
@@ -11,30 +11,12 @@ use Rattle.krates_rules.specs.StepViews.{fact_view, facts_view}
 use Rattle.krates_rules.specs.declared.derivation.Fact.{Fact as ToldFact}
 use Rattle.krates_derive.specs.declared.fact_key.FactKey.{FactKey}
 use Rattle.krates_derive.specs.declared.fact_key.Pair.{Pair}
-use Rattle.krates_derive.proofs.KeyOrder.{OrderTellsSame, key_from, key_to, order_of_pair, pair_from, pair_to}
+use Rattle.krates_rules.proofs.DistinctIds.{OrderTellsSame}
+use Rattle.krates_rules.proofs.PutElements.{equal_is, is_equal, none_there, put_step}
+use Rattle.krates_derive.proofs.KeyOrder.{key_from, key_to, order_of_pair, pair_from, pair_to}
 use Rattle.krates_ids.specs.Identity.{Identity}
 use Rattle.krates_rules.specs.Facts.{Id, Edge, Fact, Kept}
 use Rattle.krates_rules.specs.Resolved.{id_of}
-
-is_equal : (o : Ordering) → is_eq o ≡ true → o ≡ Equal
-is_equal Less h = absurd cc
-is_equal Equal h = refl
-is_equal Greater h = absurd cc
-
-equal_is : (o : Ordering) → o ≡ Equal → is_eq o ≡ true
-equal_is o e = rw e refl
-
-none_there : {X : Type 0} (x : X) → Contains [] x → ⊥
-none_there x (k, lt, is) = absurd (omega (arith, lt))
-
--- ---- facts
-
-key_step : (b o : Bool) (fs : List Fact) (f g : Fact) → (b ≡ true → f ≡ g) → (f ≡ g → b ≡ true) → (IsTrue o ↔ Contains fs g) → IsTrue (cond b true o) ↔ Contains (fs ++ f ∷ []) g
-key_step true o fs f g there back h = (λ t. subst (λ (x : Fact). Contains (fs ++ f ∷ []) x) (there refl) (Contains-push fs f), λ c. refl)
-key_step false o fs f g there back h = (
-  λ t. Contains-append_left fs (f ∷ []) g (h.0 t),
-  λ c. elim (Contains-push_cases fs f g c) [ inl x ↦ h.1 x | inr e ↦ absurd (let no : false ≡ true = back e in cc) ],
-)
 
 -- a set without keys has no fact
 pub keys_none : (set : BTreeSet FactKey) → set.keys ≡ [] → HasKeys set []
@@ -44,7 +26,7 @@ keys_put : OrderTellsSame → (old new : BTreeSet FactKey) (fs : List Fact) (k :
     → HasKeys new (fs ++ key_view k ∷ [])
 keys_put tells old new fs k grown h q =
     subst (λ (b : Bool). IsTrue b ↔ Contains (fs ++ key_view k ∷ []) (key_view q)) (sym (grown q))
-    (key_step (is_eq (key_cmp k q)) (contains key_cmp old q) fs (key_view k) (key_view q) (λ t. key_to tells k q (is_equal (key_cmp k q) t)) (λ e. equal_is (key_cmp k q) (key_from tells k q e)) (h q))
+    (put_step (is_eq (key_cmp k q)) (contains key_cmp old q) fs (key_view k) (key_view q) (λ t. key_to tells k q (is_equal (key_cmp k q) t)) (λ e. equal_is (key_cmp k q) (key_from tells k q e)) (h q))
 
 -- one more fact of the list
 seen_step : (xs : List ToldFact) (i : ℕ) (x : ToldFact) → i < length xs → x ≡ get_or xs i x → facts_view (take i xs) ++ fact_view x ∷ [] ≡ facts_view (take (i + 1) xs)

@@ -9,7 +9,7 @@ use Rattle.krates_cli.specs.Options.{OptionsModel, setting_of}
 use Rattle.krates_cli.specs.Request.{Request}
 use Rattle.krates_cli.specs.declared.run_error.RunError.{RunError}
 use Rattle.krates_cli.specs.declared.run_error.RunError.TheVariants as runs
-use Rattle.krates_ids.specs.Identity.{Identity, Reads}
+use Rattle.krates_ids.specs.Identity.{Identity}
 use Rattle.krates_ids.specs.declared.error.Error as build
 use Rattle.krates_rules.specs.Setting.{SettingModel}
 use Rattle.krates_foreign.proofs.AskedLemmas.{AskOnce}
@@ -18,13 +18,11 @@ use Rattle.krates_foreign.specs.Calls.{Draws, Explains, IsOutside, ListRefusal, 
 use Rattle.krates_foreign.specs.Documents.{OfDocument}
 use Rattle.krates_foreign.specs.declared.refusal.Refusal.{Refusal}
 use Rattle.krates_foreign.specs.declared.refusal.Refusal.TheVariants as refusals
+use Rattle.krates_rules.proofs.Readings.{ReadsOnce}
 
 -- a text that has a listing is refused by a run for a cause that isn't the text's
 abbrev pub ListsOrRefuses : Type 0
 ListsOrRefuses = (a : Request) (bytes lines : Text) (cause : RunError) → IsUtf8 bytes → IsListing a bytes lines → RunRefusal a bytes cause → listing.IsOutside cause
-
-abbrev pub ReadsOnce : Type 0
-ReadsOnce = (t : Text) (a b : Identity) → Reads t a → Reads t b → a ≡ b
 
 -- what holds under the words holds of the options that they are
 under : AskOnce → (words : Text) (o : OptionsModel) (P : SettingModel → Type 0) → AsksFor words o → Under words P → P (setting_of o)

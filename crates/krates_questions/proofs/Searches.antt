@@ -1,40 +1,26 @@
 -- What a binary search returns in a sorted list.
-use Rattle.std.proofs.Common.{◌≡◌, ℕ, ◌<◌, ◌≤◌, List, Option, Some, None, Result, Ok, Err, Contains, option_map, ◌↔◌, length, get_or, map, true, slice_get, Ordering, Less, Equal, Greater, Bor, refl, sym, ap, ◌∙◌, inl, inr, arith, subst}
+use Rattle.std.proofs.Common.{◌≡◌, ℕ, ◌<◌, ◌≤◌, List, Option, Some, None, Result, Ok, Err, Contains, option_map, ◌↔◌, length, get_or, map, true, slice_get, Ordering, Equal, Bor, refl, sym, ap, ◌∙◌, inl, inr, arith, subst}
 use Rattle.std.proofs.lemmas.Bool.{cases_lt}
 use Rattle.std.proofs.lemmas.List.{length-map}
 use Rattle.std.proofs.lemmas.Map.Keys.{Less-from_sorted}
 use Rattle.std.proofs.lemmas.Option.{same_Some, slice_get-map, slice_get_within, slice_get-get_or, get_or_from_slice_get}
 use Rattle.std.specs.Cmp.{IsTotalOrder}
 use Rattle.std.specs.List.Sorted.{IsBinarySearchResult, IsNonDecreasingBy, IsSearchInRange, IsStrictlySortedBy}
-use Rattle.std.specs.Ordering.{ordering_index, ordering_reverse}
+use Rattle.std.specs.Ordering.{ordering_index}
 use Rattle.std.specs.Result.{result_ok}
 use Rattle.krates_ids.specs.Identity.{Identity, IsSameId, id_cmp, same_id}
 use Rattle.krates_rules.specs.Facts.{Id}
 use Rattle.krates_rules.specs.Resolved.{id_of}
+use Rattle.krates_rules.proofs.BinarySearch.{step}
 use Rattle.krates_rules.proofs.DistinctIds.{OrderTellsSame, id_of_same, same_of}
 use Rattle.krates_questions.specs.CrateTable.{Among, AreNumbered, IsNumberOf, lent_to}
 use Rattle.krates_rules.specs.Referent.{id_order}
 use Rattle.krates_rules.proofs.SeenInOrder.{sorted_same, sorted_unseen}
 
 module _ {K : Type 0} {R : K → K → Ordering} (o : IsTotalOrder R) where
-  -- an element less than one that compares so with `q` compares no higher
-  step : (x y q : K) (r s : Ordering) → R x q ≡ r → R y q ≡ s → R x y ≡ Less → ordering_index r ≤ ordering_index s
-  step x y q Less Less a b h = omega arith
-  step x y q Less Equal a b h = omega arith
-  step x y q Less Greater a b h = omega arith
-  step x y q Equal Less a b h =
-      let other : R x y ≡ Greater = o.congr x q y a ∙ o.antisymm q y ∙ ap ordering_reverse b in
-      absurd (cc (h, other))
-  step x y q Equal Equal a b h = omega arith
-  step x y q Equal Greater a b h = omega arith
-  step x y q Greater s a b h =
-      let below : R q y ≡ Less = o.trans q x y (o.antisymm q x ∙ ap ordering_reverse a) h in
-      let above : Greater ≡ s = sym (o.antisymm y q ∙ ap ordering_reverse below) ∙ b in
-      subst (λ t. 2 ≤ ordering_index t) above (omega arith)
-
   pub rises : (xs : List K) (q : K) → IsStrictlySortedBy R xs → IsNonDecreasingBy (λ y. ordering_index (R y q)) xs
   rises xs q sorted i j d le lt = elim (cases_lt i j) [
-    | inl l ↦ step (get_or xs i d) (get_or xs j d) q (R (get_or xs i d) q) (R (get_or xs j d) q) refl refl (Less-from_sorted R xs i j d sorted l lt)
+    | inl l ↦ step o (get_or xs i d) (get_or xs j d) q (R (get_or xs i d) q) (R (get_or xs j d) q) refl refl (Less-from_sorted R xs i j d sorted l lt)
     | inr ge ↦ (
         let e : i ≡ j = omega (arith, le, ge) in
         subst (λ k. ordering_index (R (get_or xs i d) q) ≤ ordering_index (R (get_or xs k d) q)) e (omega arith))

@@ -71,6 +71,10 @@ same_of a b e = record { name = ap (λ (i : Id). i.name) e; version = ap (λ (i 
 pub id_of_same : (a b : Identity) → IsSameId a b → id_of a ≡ id_of b
 id_of_same a b s = rw (s.name, s.version, s.source) refl
 
+-- ids compare as equal exactly where they are the same id
+pub id_tells : OrderTellsSame → (a b : Identity) → (id_cmp a b ≡ Equal) ↔ (id_of a ≡ id_of b)
+id_tells tells a b = (λ h. id_of_same a b ((tells a b).0 h), λ e. (tells a b).1 (same_of a b e))
+
 distinct_push : OrderTellsSame → (xs : List Identity) (x : Identity) → AreDistinct xs → has_id xs x ≡ false → AreDistinct (xs ++ x ∷ [])
 distinct_push tells xs x distinct none id t = elim (cases_lt t.second (length xs)) [
   | inl lt ↦ distinct id (record {

@@ -1,4 +1,6 @@
+pub mod AdmittedTexts
 pub mod AnyTarget
+pub mod BinarySearch
 pub mod DerivationLaws
 pub mod DerivationTexts
 pub mod Distinct
@@ -13,6 +15,7 @@ pub mod Moved
 pub mod Narrowed
 pub mod OnlyOne
 pub mod OrderedIds
+pub mod PutElements
 pub mod Readings
 pub mod Reordered
 pub mod Seen

@@ -1,13 +1,13 @@
 -- The crates of a list of facts, put into a set fact by fact, and counted.
-use Rattle.std.proofs.Common.{◌≡◌, ◌↔◌, ◌<◌, ◌≤◌, ℕ, zero, suc, ◌+◌, List, [], ◌∷◌, ◌++◌, length, get_or, take, map, Bool, true, false, cond, IsTrue, ◌||◌, Ordering, Less, Equal, Greater, Contains, inl, inr, refl, sym, ap, ◌∙◌, subst, arith, Bor}
+use Rattle.std.proofs.Common.{◌≡◌, ◌↔◌, ◌<◌, ◌≤◌, ℕ, zero, suc, ◌+◌, List, [], ◌∷◌, ◌++◌, length, get_or, take, map, Bool, true, false, cond, IsTrue, ◌||◌, Less, Equal, Contains, inl, inr, refl, sym, ap, ◌∙◌, subst, arith, Bor}
 use Rattle.std.proofs.lemmas.List.{take_more, take_all, map-append}
-use Rattle.std.proofs.lemmas.List.Elements.{Contains-append_left, Contains-push, Contains-push_cases}
+use Rattle.std.proofs.lemmas.List.Elements.{Contains-append_left, Contains-push_cases}
 use Rattle.std.specs.BTreeMap.{is_at}
 use Rattle.std.specs.BTreeSet.{BTreeSet, contains}
 use Rattle.std.specs.List.{AllByRecursion, list_any}
 use Rattle.std.specs.List.Sorted.{IsStrictlySortedBy}
 use Rattle.std.specs.Ordering.{is_eq}
-use Rattle.krates_ids.specs.Identity.{Identity, IsSameId, id_cmp}
+use Rattle.krates_ids.specs.Identity.{Identity, id_cmp}
 use Rattle.krates_rules.specs.Facts.{Crate, Fact, Id}
 use Rattle.krates_rules.specs.Resolved.{id_of}
 use Rattle.krates_rules.specs.StepViews.{fact_view, facts_view}
@@ -15,36 +15,8 @@ use Rattle.krates_rules.specs.declared.derivation.Fact.{Fact as ToldFact}
 use Rattle.krates_verdict.specs.CratesOfFacts.{HasCrates, lent_cmp}
 use Rattle.krates_verdict.specs.Holding.{FactsSay, StandOnce}
 use Rattle.krates_verdict.specs.declared.verdict.Verdict.TheVariants as verdicts
-
--- the order tells ids that are the same
-abbrev pub OrderTellsSame : Type 0
-OrderTellsSame = (a b : Identity) → (id_cmp a b ≡ Equal) ↔ IsSameId a b
-
-id_tells : OrderTellsSame → (a b : Identity) → (id_cmp a b ≡ Equal) ↔ (id_of a ≡ id_of b)
-id_tells tells a b = (
-  λ h. (let same = (tells a b).0 h in rw (same.name, same.version, same.source) refl),
-  λ e. (tells a b).1 (record { name = ap (λ (i : Id). i.name) e; version = ap (λ (i : Id). i.version) e; source = ap (λ (i : Id). i.source) e }),
-)
-
-is_equal : (o : Ordering) → is_eq o ≡ true → o ≡ Equal
-is_equal Less h = absurd cc
-is_equal Equal h = refl
-is_equal Greater h = absurd cc
-
-equal_is : (o : Ordering) → o ≡ Equal → is_eq o ≡ true
-equal_is o e = rw e refl
-
-none_there : {X : Type 0} (x : X) → Contains [] x → ⊥
-none_there x (k, lt, is) = absurd (omega (arith, lt))
-
--- ---- fact by fact
-
-put_step : (b o : Bool) (fs : List Fact) (f g : Fact) → (b ≡ true → f ≡ g) → (f ≡ g → b ≡ true) → (IsTrue o ↔ Contains fs g) → IsTrue (cond b true o) ↔ Contains (fs ++ f ∷ []) g
-put_step true o fs f g there back h = (λ t. subst (λ (x : Fact). Contains (fs ++ f ∷ []) x) (there refl) (Contains-push fs f), λ c. refl)
-put_step false o fs f g there back h = (
-  λ t. Contains-append_left fs (f ∷ []) g (h.0 t),
-  λ c. elim (Contains-push_cases fs f g c) [ inl x ↦ h.1 x | inr e ↦ absurd (let no : false ≡ true = back e in cc) ],
-)
+use Rattle.krates_rules.proofs.DistinctIds.{OrderTellsSame, id_tells}
+use Rattle.krates_rules.proofs.PutElements.{equal_is, is_equal, none_there, put_step}
 
 -- a set without ids has no crate
 pub crates_none : (set : BTreeSet (Bor Identity)) → set.keys ≡ [] → HasCrates set []

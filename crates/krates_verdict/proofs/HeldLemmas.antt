@@ -29,7 +29,9 @@ use Rattle.krates_verdict.specs.Subject.{SubjectModel}
 use Rattle.krates_verdict.specs.declared.refusal.Refusal.{Refusal}
 use Rattle.krates_verdict.specs.declared.refusal.Refusal.TheVariants as refusals
 use Rattle.krates_verdict.specs.declared.verdict.Verdict.{Verdict}
-use Rattle.krates_verdict.proofs.Admitted.{ReadsOnce, not_turned_away, of_graph}
+use Rattle.krates_rules.proofs.AdmittedTexts.{of_graph}
+use Rattle.krates_rules.proofs.Readings.{ReadsOnce}
+use Rattle.krates_verdict.proofs.Admitted.{not_turned_away}
 
 -- ---- a certificate by what is told of it
 
