@@ -35,8 +35,8 @@ use Rattle.krates.specs.Build.{AreKeptMembers, HasOneEach, IsBuilt, IsResolvable
 use Rattle.krates_drawing.specs.Listed.{AreThosePackages}
 use Rattle.krates_queries.specs.DirectDependents.{IsDependent}
 use Rattle.krates_drawing.specs.Division.{IsAmong, IsDivision, sheet_ids}
-use Rattle.krates_explain.specs.Explanation.{explained_steps}
-use Rattle.krates_explain.specs.declared.kept.Explanation.{Explanation}
+use Rattle.krates_selection.specs.Explanation.{explained_steps}
+use Rattle.krates_selection.specs.declared.kept.Explanation.{Explanation}
 use Rattle.krates_queries.specs.Explained.{IsExplainedBy}
 use Rattle.krates_queries.specs.Drawn.{IsNumbered, IsSheetFor, node_spot}
 use Rattle.krates.specs.Enabled.{AreEnabledSets, numbered}

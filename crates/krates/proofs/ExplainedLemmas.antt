@@ -11,14 +11,14 @@ use Rattle.krates_rules.proofs.Members.{contains_of, member_of}
 use Rattle.krates_drawing.specs.Views.{sheet_view}
 use Rattle.krates_drawing.specs.declared.edge.Edge.{Edge}
 use Rattle.krates_drawing.specs.declared.sheet.Sheet.{Sheet}
-use Rattle.krates_explain.proofs.KeptCrates.{same_in}
-use Rattle.krates_explain.proofs.PickedSteps.{seen_back}
-use Rattle.krates_explain.specs.Explanation.{AreBelow, explained_steps}
+use Rattle.krates_selection.proofs.KeptCrates.{same_in}
+use Rattle.krates_selection.proofs.PickedSteps.{seen_back}
+use Rattle.krates_selection.specs.Explanation.{AreBelow, explained_steps}
 use Rattle.krates_selection.specs.CrateNumbers.{id_at, no_id}
-use Rattle.krates_explain.specs.KeptFacts.{Enables, IsBelow, KeepsCrate, KeepsEdge, KeptModel, Toggles, fact_in, facts_in, kept_view, step_in, steps_in}
-use Rattle.krates_explain.specs.Tables.{AreStepsOf, IsKeptIn}
-use Rattle.krates_explain.specs.declared.kept.Explanation.{Explanation}
-use Rattle.krates_explain.specs.declared.kept.KeptStep.{KeptStep}
+use Rattle.krates_selection.specs.KeptFacts.{Enables, IsBelow, KeepsCrate, KeepsEdge, KeptModel, Toggles, fact_in, facts_in, kept_view, step_in, steps_in}
+use Rattle.krates_selection.specs.Tables.{AreStepsOf, IsKeptIn}
+use Rattle.krates_selection.specs.declared.kept.Explanation.{Explanation}
+use Rattle.krates_selection.specs.declared.kept.KeptStep.{KeptStep}
 use Rattle.krates_graph.specs.Graph.{StoredGraph}
 use Rattle.krates_ids.specs.Identity.{Identity, empty_identity, id_cmp}
 use Rattle.krates_selection.specs.Explained.{IsExplained, IsExplainedOf}

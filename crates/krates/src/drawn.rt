@@ -13,7 +13,7 @@ ghost use Rattle.krates_drawing.specs.Views.{arrow_view, sheet_view};
 ghost use Rattle.krates_ids.specs.declared.error.Error.TheVariants.{Memory};
 ghost use Rattle.krates_rules.specs.Admission.{IsAdmitted};
 ghost use Rattle.krates_rules.specs.NamedIds.{NamesReadIds};
-ghost use Rattle.krates_explain.specs.Tables.{AreStepsOf};
+ghost use Rattle.krates_selection.specs.Tables.{AreStepsOf};
 ghost use Rattle.krates_questions.specs.DocumentModel.{as_resolved};
 ghost use Rattle.krates_selection.specs.Explained.{IsExplained};
 ghost use Rattle.krates_selection.specs.Selection.{IsSelection, RefusesSelection};
@@ -33,12 +33,12 @@ use krates_drawing::limits::{Limits, Plan, plan_within};
 use krates_drawing::node::Node;
 use krates_drawing::sheet::Sheet;
 use krates_drawing::store::{FromEdge, StoreError, store_arrows};
-use krates_explain::{KeptStep, kept_steps};
 use krates_graph::graph::Graph;
 use krates_ids::Error;
 use krates_queries::from_package::FromPackage;
 use krates_questions::context::Context;
 use krates_resolve::{Document, EnabledFeature, Ids, Selection, Setting, Work, select_in};
+use krates_selection::{KeptStep, kept_steps};
 use std::alloc::{AllocError, Global};
 
 /// What is drawn of a selection, the steps that explain it, and the work that it was.

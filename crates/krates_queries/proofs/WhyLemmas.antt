@@ -4,8 +4,8 @@ use Rattle.std.proofs.lemmas.Option.{slice_get-map}
 use Rattle.std.specs.List.{slice_get}
 use Rattle.krates_rules.specs.StepViews.{steps_view}
 use Rattle.krates_rules.specs.declared.derivation.Step.{Step}
-use Rattle.krates_explain.specs.Explanation.{HasTheseIds, IsDerivationOf, IsStepOf, explained_steps}
-use Rattle.krates_explain.specs.KeptFacts.{fact_in, step_in}
+use Rattle.krates_selection.specs.Explanation.{HasTheseIds, IsDerivationOf, IsStepOf, explained_steps}
+use Rattle.krates_selection.specs.KeptFacts.{fact_in, step_in}
 use Rattle.krates_ids.specs.Identity.{Identity}
 use Rattle.krates_rules.specs.Facts.{Id, Crate as CrateFact}
 use Rattle.krates_rules.specs.Steps.{EndsIn}

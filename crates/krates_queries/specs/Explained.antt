@@ -1,10 +1,10 @@
 -- The steps by which a build keeps what it keeps.
 use Rattle.std.specs.Prelude.{◌≡◌, ◌↔◌, ℕ, List, Contains, Some, length, slice_get}
 use Rattle.krates_cm.specs.Document.{MetadataModel, text_view}
-use Rattle.krates_explain.specs.Explanation.{AreBelow, IsExplanation, IsStepOf, explained_steps, uses_in}
-use Rattle.krates_explain.specs.KeptFacts.{Enables, KeepsCrate, KeptModel, facts_in, steps_in}
-use Rattle.krates_explain.specs.declared.kept.Explanation.{Explanation}
-use Rattle.krates_explain.specs.declared.kept.KeptStep.{KeptStep}
+use Rattle.krates_selection.specs.Explanation.{AreBelow, IsExplanation, IsStepOf, explained_steps, uses_in}
+use Rattle.krates_selection.specs.KeptFacts.{Enables, KeepsCrate, KeptModel, facts_in, steps_in}
+use Rattle.krates_selection.specs.declared.kept.Explanation.{Explanation}
+use Rattle.krates_selection.specs.declared.kept.KeptStep.{KeptStep}
 use Rattle.krates_ids.specs.Identity.{Identity}
 use Rattle.krates_rules.specs.Derivation.{Derivable}
 use Rattle.krates_rules.specs.Facts.{Fact}
@@ -13,7 +13,7 @@ use Rattle.krates_rules.specs.Resolved.{HasGraphWith, resolved}
 use Rattle.krates_rules.specs.Setting.{SettingModel}
 use Rattle.krates_rules.specs.StepParts.{HaveOwnFacts}
 use Rattle.krates_rules.specs.Steps.{EachFollows, StepModel}
-use Rattle.krates_explain.specs.Part.{AreBackward}
+use Rattle.krates_selection.specs.Part.{AreBackward}
 use Rattle.krates_queries.specs.Kept.{KeptCrates}
 use Rattle.krates_drawing.specs.Node.{crate_ids}
 use Rattle.krates_drawing.specs.declared.node.Node.{Node}

@@ -10,9 +10,8 @@ ghost use Rattle.krates_drawing.specs.Node.{CratesFirst, crate_ids};
 use krates_cm::Package;
 use krates_drawing::edge::Edge;
 use krates_drawing::node::Node;
-use krates_explain::Explanation;
 use krates_graph::graph::{Graph, NodeId};
-use krates_selection::Work;
+use krates_selection::{Explanation, Work};
 use std::alloc::Global;
 use std::marker::Model;
 

@@ -1,16 +1,16 @@
 //! Why a node is there.
 
 ghost use Rattle.std.specs.Prelude.{◌≡◌, IfOk};
-ghost use Rattle.krates_explain.specs.KeptFacts.{subject_view};
+ghost use Rattle.krates_selection.specs.KeptFacts.{subject_view};
 ghost use Rattle.krates_queries.specs.Explained.{node_says};
 ghost use Rattle.krates_queries.specs.Why.{TellsWhy};
 
 use crate::kept::Krates;
 use crate::numbers::node_at;
 use krates_drawing::node::Node;
-use krates_explain::{Subject, derivation_of, step_of};
 use krates_graph::graph::NodeId;
 use krates_rules::Derivation;
+use krates_selection::{Subject, derivation_of, step_of};
 use std::alloc::AllocError;
 
 impl<N, E> Krates<N, E> {

@@ -9,7 +9,7 @@ use Rattle.krates_document.specs.Ids.{ids_view}
 use Rattle.krates_document.specs.declared.ids.Ids.{Ids}
 use Rattle.krates_drawing.specs.Views.{sheet_view}
 use Rattle.krates_drawing.specs.declared.sheet.Krate.{Krate as SheetKrate}
-use Rattle.krates_explain.specs.declared.kept.KeptStep.{KeptStep}
+use Rattle.krates_selection.specs.declared.kept.KeptStep.{KeptStep}
 use Rattle.krates_ids.specs.Identity.{Identity, id_cmp}
 use Rattle.krates_drawing.specs.Division.{IsDivision, sheet_ids}
 use Rattle.krates_queries.specs.Kept.{AreNodes}
