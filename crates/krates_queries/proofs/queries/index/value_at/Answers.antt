@@ -4,7 +4,7 @@ use Rattle.krates_ids.specs.Identity.{Identity, empty_identity}
 use Rattle.krates_drawing.specs.Node.{crate_ids}
 use Rattle.krates_drawing.specs.declared.node.Node.TheVariants.{Krate, Feature}
 use Rattle.krates_queries.proofs.NodeLemmas.{crates_within, no_place, value_at}
-use Rattle.krates_queries.proofs.queries.index.krate_at.Goals as goal
+use Rattle.krates_queries.proofs.queries.index.value_at.Goals as goal
 
 pub standing_at-requires : goal.standing_at-requires
 standing_at-requires g c = let few = crates_within c.args.nodes.now in omega (arith, few, c.requires.stands)
