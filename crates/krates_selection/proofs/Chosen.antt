@@ -6,9 +6,9 @@ use Rattle.std.proofs.lemmas.Option.{slice_get_within, get_or_from_slice_get, sa
 use Rattle.std.specs.List.{AllZip, slice_get}
 use Rattle.krates_rules.specs.Uses.{number_in, numbers_used}
 use Rattle.krates_rules.specs.declared.uses.Uses.{Uses}
-use Rattle.krates_selection.specs.Choice.{IsMarked, HasChosen, IsChoice, HasNewNumber, IsNumbered, IsPartBelow, IsMade}
+use Rattle.krates_selection.specs.Choosing.{IsMarked, HasChosen, IsChoice, HasNewNumber, IsNumbered, IsPartBelow, IsMade}
 use Rattle.krates_selection.specs.Part.{IsNewNumber, IsChosenStep, SameFact}
-use Rattle.krates_selection.specs.declared.choosing.Choice.{Choice}
+use Rattle.krates_selection.specs.declared.choosing.MarkedSteps.{MarkedSteps}
 use Rattle.krates_selection.proofs.Places.{grown, end_of, last_of, set_here, set_there}
 
 -- ---- new numbers
@@ -31,7 +31,7 @@ looked_up facts numbers used number is w =
 -- ---- a choice
 
 -- a step that a chosen step uses has a new number
-pub use_numbered : (c : Choice) (count n : ℕ) (x : Uses) (chosen : List ℕ) (part : List Uses) (numbers : List (Option ℕ)) → IsChoice c count → IsMarked c.marks.now n → slice_get c.steps.now n ≡ Some x
+pub use_numbered : (c : MarkedSteps) (count n : ℕ) (x : Uses) (chosen : List ℕ) (part : List Uses) (numbers : List (Option ℕ)) → IsChoice c count → IsMarked c.marks.now n → slice_get c.steps.now n ≡ Some x
     → IsPartBelow c n chosen part numbers → (used : ℕ) → Contains (numbers_used x) used → IsNumbered c.facts.now numbers used
 use_numbered c count n x chosen part numbers choice here at h used among =
     let r = choice.reached n x used here at among in
@@ -40,7 +40,7 @@ use_numbered c count n x chosen part numbers choice here at h used among =
     (w.0, record { fact = w.1.fact; fact_at = sym s.same ∙ w.1.fact_at; at = w.1.at })
 
 -- nothing is chosen yet
-pub none_chosen : (c : Choice) (numbers : List (Option ℕ)) → IsPartBelow c 0 [] [] numbers
+pub none_chosen : (c : MarkedSteps) (numbers : List (Option ℕ)) → IsPartBelow c 0 [] [] numbers
 none_chosen c numbers = record {
   long = refl;
   low = λ j a at. absurd cc;
@@ -51,7 +51,7 @@ none_chosen c numbers = record {
 }
 
 -- the next step isn't marked
-pub step_passed : (c : Choice) (n : ℕ) (chosen : List ℕ) (part : List Uses) (numbers : List (Option ℕ)) → (IsMarked c.marks.now n → ⊥) → IsPartBelow c n chosen part numbers → IsPartBelow c (n + 1) chosen part numbers
+pub step_passed : (c : MarkedSteps) (n : ℕ) (chosen : List ℕ) (part : List Uses) (numbers : List (Option ℕ)) → (IsMarked c.marks.now n → ⊥) → IsPartBelow c n chosen part numbers → IsPartBelow c (n + 1) chosen part numbers
 step_passed c n chosen part numbers out h = record {
   long = h.long;
   low = λ j a at. omega (arith, h.low j a at);
@@ -80,7 +80,7 @@ behind : (u v : ℕ) (us : List ℕ) → Contains us u → Contains (v ∷ us) u
 behind u v us (k, lt, is) = (suc k, omega (arith, lt), is)
 
 -- the new numbers stand for the old ones
-numbers_stand : (c : Choice) (n : ℕ) (chosen : List ℕ) (part : List Uses) (numbers : List (Option ℕ)) → IsPartBelow c n chosen part numbers → (before now : List ℕ)
+numbers_stand : (c : MarkedSteps) (n : ℕ) (chosen : List ℕ) (part : List Uses) (numbers : List (Option ℕ)) → IsPartBelow c n chosen part numbers → (before now : List ℕ)
     → ((u : ℕ) → Contains before u → (u < n) × HasChosen c.facts.now c.marks.now u) → AllZip (HasNewNumber c.facts.now numbers) before now → AllZip (IsNewNumber (SameFact c.facts.now) chosen) before now
 numbers_stand c n chosen part numbers h [] [] may z = tt
 numbers_stand c n chosen part numbers h [] (v ∷ vs) may z = absurd z
@@ -97,7 +97,7 @@ numbers_stand c n chosen part numbers h (u ∷ us) (v ∷ vs) may z =
     )
 
 -- the next step is marked, and appended to the part
-pub step_chosen : (c : Choice) (n f v : ℕ) (x y : Uses) (chosen : List ℕ) (part : List Uses) (numbers : List (Option ℕ)) → IsChoice c (length numbers) → IsMarked c.marks.now n → slice_get c.steps.now n ≡ Some x → slice_get c.facts.now n ≡ Some f
+pub step_chosen : (c : MarkedSteps) (n f v : ℕ) (x y : Uses) (chosen : List ℕ) (part : List Uses) (numbers : List (Option ℕ)) → IsChoice c (length numbers) → IsMarked c.marks.now n → slice_get c.steps.now n ≡ Some x → slice_get c.facts.now n ≡ Some f
     → v ≡ length chosen → AllZip (HasNewNumber c.facts.now numbers) (numbers_used x) (numbers_used y) → IsPartBelow c n chosen part numbers → IsPartBelow c (n + 1) (chosen ++ n ∷ []) (part ++ y ∷ []) (set numbers f (Some v))
 step_chosen c n f v x y chosen part numbers choice here at fact is uses h = record {
   long = omega (arith, h.long, length-append part (y ∷ []), length-append chosen (n ∷ []));
@@ -155,7 +155,7 @@ step_chosen c n f v x y chosen part numbers choice here at fact is uses h = reco
     ]
 
 -- all are chosen
-pub part_made : (c : Choice) (count n : ℕ) (chosen : List ℕ) (part : List Uses) (numbers : List (Option ℕ)) → IsChoice c count → length c.steps.now ≤ n → IsPartBelow c n chosen part numbers → IsMade c chosen part
+pub part_made : (c : MarkedSteps) (count n : ℕ) (chosen : List ℕ) (part : List Uses) (numbers : List (Option ℕ)) → IsChoice c count → length c.steps.now ≤ n → IsPartBelow c n chosen part numbers → IsMade c chosen part
 part_made c count n chosen part numbers choice le h = record {
   is_part = record { increase = h.increase; long = h.long; each = h.each };
   marked = h.marked;

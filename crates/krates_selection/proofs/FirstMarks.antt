@@ -5,10 +5,10 @@ use Rattle.std.proofs.lemmas.Bool.{cases_eq, cases_lt}
 use Rattle.std.proofs.lemmas.Option.{slice_get_within, get_or_from_slice_get, same_Some}
 use Rattle.std.specs.List.{slice_get}
 use Rattle.krates_rules.specs.declared.uses.Uses.{Uses}
-use Rattle.krates_selection.specs.Choice.{HasChosen, IsMarked, IsChoice, IsMade}
+use Rattle.krates_selection.specs.Choosing.{HasChosen, IsMarked, IsChoice, IsMade}
 use Rattle.krates_selection.specs.First.{AreFirst, AreFirstBelow, HasMarked}
 use Rattle.krates_selection.specs.Part.{AreBackward, HaveOwnNumbers, IsChosenFor, SameFact}
-use Rattle.krates_selection.specs.declared.choosing.Choice.{Choice}
+use Rattle.krates_selection.specs.declared.choosing.MarkedSteps.{MarkedSteps}
 use Rattle.krates_selection.proofs.Marks.{none_marked}
 use Rattle.krates_selection.proofs.Places.{end_of, grown, last_of, set_here, set_there}
 use Rattle.krates_selection.proofs.NeededParts.{one_place}
@@ -121,7 +121,7 @@ first_all facts n seen marks is h = record { long = h.long ∙ is; own = h.own; 
 
 -- ---- the choice
 
-pub first_choice : (c : Choice) (count : ℕ) → AreBackward c.steps.now → length c.facts.now ≡ length c.steps.now → All (λ f. f < count) c.facts.now → AreFirst c.facts.now c.marks.now → IsChoice c count
+pub first_choice : (c : MarkedSteps) (count : ℕ) → AreBackward c.steps.now → length c.facts.now ≡ length c.steps.now → All (λ f. f < count) c.facts.now → AreFirst c.facts.now c.marks.now → IsChoice c count
 first_choice c count back long low first = record {
   facts = long;
   marks = first.long ∙ long;
@@ -130,12 +130,12 @@ first_choice c count back long low first = record {
   reached = λ k x u m at among. (let lt = back k x at u among in (lt, first.reached u (omega (arith, lt, long, slice_get_within c.steps.now k x at))));
 }
 
-pub own_numbers : (c : Choice) (chosen : List ℕ) (part : List Uses) → AreFirst c.facts.now c.marks.now → IsMade c chosen part → HaveOwnNumbers c.facts.now chosen
+pub own_numbers : (c : MarkedSteps) (chosen : List ℕ) (part : List Uses) → AreFirst c.facts.now c.marks.now → IsMade c chosen part → HaveOwnNumbers c.facts.now chosen
 own_numbers c chosen part first made j k a b one other same =
     let e : a ≡ b = first.own a b (made.marked j a one) (made.marked k b other) same in
     one_place chosen made.is_part.increase j k b (subst (λ (n : ℕ). slice_get chosen j ≡ Some n) e one) other
 
-pub chosen_for : (c : Choice) (chosen : List ℕ) (part : List Uses) (k : ℕ) → AreFirst c.facts.now c.marks.now → IsMade c chosen part → k < length c.facts.now → IsChosenFor c.facts.now chosen k
+pub chosen_for : (c : MarkedSteps) (chosen : List ℕ) (part : List Uses) (k : ℕ) → AreFirst c.facts.now c.marks.now → IsMade c chosen part → k < length c.facts.now → IsChosenFor c.facts.now chosen k
 chosen_for c chosen part k first made lt =
     let s = first.reached k lt in
     let w = made.each s.chosen s.marked in

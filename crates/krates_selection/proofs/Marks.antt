@@ -8,7 +8,7 @@ use Rattle.std.proofs.lemmas.Option.{same_Some}
 use Rattle.std.specs.List.{slice_get}
 use Rattle.krates_rules.specs.Uses.{number_in, numbers_used}
 use Rattle.krates_rules.specs.declared.uses.Uses.{Uses}
-use Rattle.krates_selection.specs.Choice.{IsMarked}
+use Rattle.krates_selection.specs.Choosing.{IsMarked}
 use Rattle.krates_selection.specs.Needed.{HasMarkedUser, IsAloneMarked, AreMarkedFrom}
 use Rattle.krates_selection.specs.Part.{AreBackward}
 

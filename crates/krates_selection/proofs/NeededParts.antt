@@ -6,10 +6,10 @@ use Rattle.std.specs.List.{AllZip, slice_get}
 use Rattle.krates_rules.specs.StepParts.{Increase}
 use Rattle.krates_rules.specs.Uses.{numbers_used}
 use Rattle.krates_rules.specs.declared.uses.Uses.{Uses}
-use Rattle.krates_selection.specs.Choice.{IsMarked, IsChoice, IsMade}
+use Rattle.krates_selection.specs.Choosing.{IsMarked, IsChoice, IsMade}
 use Rattle.krates_selection.specs.Needed.{AreNeeded, AreOwnNumbers}
 use Rattle.krates_selection.specs.Part.{AreBackward, AreUsedBehind, EndsAt, IsChosenStep, IsNewNumber, IsPartBy, IsUsedBehind, SameFact, SameNumber}
-use Rattle.krates_selection.specs.declared.choosing.Choice.{Choice}
+use Rattle.krates_selection.specs.declared.choosing.MarkedSteps.{MarkedSteps}
 use Rattle.krates_selection.proofs.Places.{end_of, grown}
 
 -- ---- own numbers
@@ -36,10 +36,10 @@ same_number count facts j k own one other same = same_Some j k (sym (own.each j 
 
 -- ---- the choice
 
-marked_within : (c : Choice) (last k : ℕ) → AreNeeded c.steps.now last c.marks.now → IsMarked c.marks.now k → k < length c.steps.now
+marked_within : (c : MarkedSteps) (last k : ℕ) → AreNeeded c.steps.now last c.marks.now → IsMarked c.marks.now k → k < length c.steps.now
 marked_within c last k needed m = omega (arith, needed.long, slice_get_within c.marks.now k _ m)
 
-pub needed_choice : (c : Choice) (last : ℕ) → AreBackward c.steps.now → AreOwnNumbers (length c.steps.now) c.facts.now → AreNeeded c.steps.now last c.marks.now → IsChoice c (length c.steps.now)
+pub needed_choice : (c : MarkedSteps) (last : ℕ) → AreBackward c.steps.now → AreOwnNumbers (length c.steps.now) c.facts.now → AreNeeded c.steps.now last c.marks.now → IsChoice c (length c.steps.now)
 needed_choice c last back own needed = record {
   facts = own.long;
   marks = needed.long;
@@ -62,7 +62,7 @@ zip_in R S (x ∷ xs) [] f z = absurd z
 zip_in R S (x ∷ xs) (y ∷ ys) f z = (f x y (0, omega arith, refl) z.0, zip_in R S xs ys (λ a b c r. f a b (suc c.0, omega (arith, c.1), c.2) r) z.1)
 
 -- where each step has a fact of its own, a number stands for exactly that step
-pub own_part : (c : Choice) (chosen : List ℕ) (part : List Uses) → AreBackward c.steps.now → AreOwnNumbers (length c.steps.now) c.facts.now → IsPartBy (SameFact c.facts.now) c.steps.now chosen part → IsPartBy SameNumber c.steps.now chosen part
+pub own_part : (c : MarkedSteps) (chosen : List ℕ) (part : List Uses) → AreBackward c.steps.now → AreOwnNumbers (length c.steps.now) c.facts.now → IsPartBy (SameFact c.facts.now) c.steps.now chosen part → IsPartBy SameNumber c.steps.now chosen part
 own_part c chosen part back own p = record { increase = p.increase; long = p.long; each = each }
   where
     each : (k : ℕ) (x : Uses) → slice_get part k ≡ Some x → IsChosenStep SameNumber c.steps.now chosen k x
@@ -89,7 +89,7 @@ last_place chosen last v up low at = elim (cases_lt (v + 1) (length chosen)) [
   | inr ge ↦ omega (arith, ge, slice_get_within chosen v last at)
 ]
 
-pub ends_at : (c : Choice) (last : ℕ) (chosen : List ℕ) (part : List Uses) → AreNeeded c.steps.now last c.marks.now → IsMade c chosen part → EndsAt chosen last
+pub ends_at : (c : MarkedSteps) (last : ℕ) (chosen : List ℕ) (part : List Uses) → AreNeeded c.steps.now last c.marks.now → IsMade c chosen part → EndsAt chosen last
 ends_at c last chosen part needed made =
     let w = made.each last needed.itself in
     record { number = w.0; count = last_place chosen last w.0 made.is_part.increase (λ j a at. needed.low a (made.marked j a at)) w.1; at = w.1 }
@@ -128,7 +128,7 @@ behind_by : (part : List Uses) (k j now : ℕ) (y : Uses) → k < j → slice_ge
 behind_by part k j now y later at is among = record { user = j; later = later; step = y; at = at; among = subst (λ (n : ℕ). Contains (numbers_used y) n) is among }
 
 -- a step chosen before the last is used by one chosen later
-pub used_behind : (c : Choice) (last : ℕ) (chosen : List ℕ) (part : List Uses) → AreNeeded c.steps.now last c.marks.now → IsMade c chosen part → IsPartBy SameNumber c.steps.now chosen part → AreUsedBehind part
+pub used_behind : (c : MarkedSteps) (last : ℕ) (chosen : List ℕ) (part : List Uses) → AreNeeded c.steps.now last c.marks.now → IsMade c chosen part → IsPartBy SameNumber c.steps.now chosen part → AreUsedBehind part
 used_behind c last chosen part needed made p k lt =
     let e = ends_at c last chosen part needed made in
     let within : k < length chosen = omega (arith, lt, p.long) in

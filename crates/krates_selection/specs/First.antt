@@ -1,6 +1,6 @@
 -- The first step of each fact.
 use Rattle.std.specs.Prelude.{◌≡◌, ℕ, ◌<◌, Bool, false, List, Some, length, slice_get}
-use Rattle.krates_selection.specs.Choice.{HasChosen, IsMarked}
+use Rattle.krates_selection.specs.Choosing.{HasChosen, IsMarked}
 use Rattle.krates_selection.specs.Part.{SameFact}
 
 -- a marked step has the fact

@@ -1,4 +1,4 @@
-pub mod Choice
+pub mod Choosing
 pub mod Chosen
 pub mod CrateNumbers
 pub mod Explained

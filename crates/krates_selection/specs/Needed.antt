@@ -2,7 +2,7 @@
 use Rattle.std.specs.Prelude.{◌≡◌, ◌↔◌, ℕ, ◌<◌, ◌≤◌, Bool, List, Some, Contains, length, slice_get}
 use Rattle.krates_rules.specs.Uses.{numbers_used}
 use Rattle.krates_rules.specs.declared.uses.Uses.{Uses}
-use Rattle.krates_selection.specs.Choice.{IsMarked}
+use Rattle.krates_selection.specs.Choosing.{IsMarked}
 
 abbrev pub IsAloneMarked : ℕ → List Bool → Type 0
 IsAloneMarked last marks = (k : ℕ) → IsMarked marks k ↔ (k ≡ last)

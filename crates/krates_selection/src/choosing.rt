@@ -3,7 +3,7 @@
 ghost use Rattle.std.specs.Prelude.{◌≡◌, ◌+◌, ◌<◌, Contains, IfOk, OnOk, ℕ, length};
 ghost use Rattle.std.specs.List.{AllZip};
 ghost use Rattle.krates_rules.specs.Uses.{number_in, numbers_used};
-ghost use Rattle.krates_selection.specs.Choice.{HasNewNumber, IsChoice, IsMade, IsMadeBelow, IsNumbered};
+ghost use Rattle.krates_selection.specs.Choosing.{HasNewNumber, IsChoice, IsMade, IsMadeBelow, IsNumbered};
 
 use crate::part::Part;
 use krates_rules::Uses;
@@ -11,7 +11,7 @@ use std::alloc::{AllocError, Global};
 
 /// Which steps of a list are chosen.
 #[derive(Clone, Copy)]
-pub(crate) struct Choice<'a> {
+pub(crate) struct MarkedSteps<'a> {
     /// What each step uses.
     pub steps: &'a [Uses],
     /// The number of its fact.
@@ -34,7 +34,11 @@ struct Making {
 /// The part of a list that has the chosen steps, whose facts have numbers below the count.
 ///
 /// Time: O(n).
-pub(crate) fn part_of(alloc: Global, choice: &Choice<'_>, count: usize) -> Result<Part, AllocError>
+pub(crate) fn part_of(
+    alloc: Global,
+    choice: &MarkedSteps<'_>,
+    count: usize,
+) -> Result<Part, AllocError>
     requires { IsChoice choice.now count }
     ensures { IfOk result (λ part. IsMade choice.now part.chosen.items part.uses.items) }
 {
@@ -52,7 +56,7 @@ pub(crate) fn part_of(alloc: Global, choice: &Choice<'_>, count: usize) -> Resul
 }
 
 /// Chooses each marked step.
-fn choose_all(choice: &Choice<'_>, making: &mut Making) -> Result<(), AllocError>
+fn choose_all(choice: &MarkedSteps<'_>, making: &mut Making) -> Result<(), AllocError>
     requires choice { IsChoice choice.now (length making.old.numbers.items) }
     requires empty { IsMadeBelow choice.now 0 making.old }
     ensures { OnOk result (IsMadeBelow choice.now (length choice.now.steps.now) making.new) }
@@ -64,7 +68,7 @@ fn choose_all(choice: &Choice<'_>, making: &mut Making) -> Result<(), AllocError
 }
 
 /// Chooses the next step if it is marked.
-fn choose(choice: &Choice<'_>, number: usize, making: &mut Making) -> Result<(), AllocError>
+fn choose(choice: &MarkedSteps<'_>, number: usize, making: &mut Making) -> Result<(), AllocError>
     requires choice { IsChoice choice.now (length making.old.numbers.items) }
     requires here { number < length choice.now.steps.now }
     requires below { IsMadeBelow choice.now number making.old }

@@ -4,7 +4,7 @@ ghost use Rattle.std.specs.Prelude.{◌≡◌, ◌<◌, All, IfOk, ℕ, length};
 ghost use Rattle.krates_selection.specs.First.{AreFirst};
 ghost use Rattle.krates_selection.specs.Part.{AreBackward, HaveOwnNumbers, IsChosenFor, IsPartBy, SameFact};
 
-use crate::choosing::{Choice, part_of};
+use crate::choosing::{MarkedSteps, part_of};
 use crate::part::Part;
 use krates_rules::Uses;
 use std::alloc::{AllocError, Global};
@@ -27,7 +27,7 @@ pub(crate) fn first_steps(
     ensures each { IfOk result (λ part. (k : ℕ) → k < length steps.now → IsChosenFor facts.now part.chosen.items k) }
 {
     let marks = first_marks(alloc, facts, count)?;
-    let choice = Choice {
+    let choice = MarkedSteps {
         steps,
         facts,
         marks: &marks,

@@ -2,7 +2,7 @@
 
 ghost use Rattle.std.specs.Prelude.{◌≡◌, ◌↔◌, ◌+◌, ◌<◌, ◌⊎◌, ℕ, Contains, IfOk, length};
 ghost use Rattle.krates_rules.specs.Uses.{number_in, numbers_used};
-ghost use Rattle.krates_selection.specs.Choice.{IsMarked};
+ghost use Rattle.krates_selection.specs.Choosing.{IsMarked};
 ghost use Rattle.krates_selection.specs.Needed.{AreMarkedFrom, AreNeeded, IsAloneMarked};
 ghost use Rattle.krates_selection.specs.Part.{AreBackward};
 

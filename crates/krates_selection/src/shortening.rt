@@ -4,7 +4,7 @@ ghost use Rattle.std.specs.Prelude.{◌<◌, IfOk, length};
 ghost use Rattle.krates_selection.specs.Needed.{AreOwnNumbers};
 ghost use Rattle.krates_selection.specs.Part.{AreBackward, AreUsedBehind, EndsAt, IsPartBy, SameNumber};
 
-use crate::choosing::{Choice, part_of};
+use crate::choosing::{MarkedSteps, part_of};
 use crate::marking::needed_for;
 use crate::part::Part;
 use krates_rules::Uses;
@@ -23,7 +23,7 @@ pub(crate) fn part_for(alloc: Global, steps: &[Uses], last: usize) -> Result<Par
 {
     let marks = needed_for(alloc, steps, last)?;
     let numbers = numbers_below(alloc, steps.len())?;
-    let choice = Choice {
+    let choice = MarkedSteps {
         steps,
         facts: &numbers,
         marks: &marks,

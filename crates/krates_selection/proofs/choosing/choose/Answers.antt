@@ -4,7 +4,7 @@ use Rattle.std.proofs.lemmas.Grind.{elements}
 use Rattle.std.proofs.lemmas.Option.{slice_get-get_or}
 use Rattle.krates_rules.specs.Uses.{numbers_used}
 use Rattle.krates_rules.specs.declared.uses.Uses.{Uses}
-use Rattle.krates_selection.specs.Choice.{HasNewNumber, IsMarked, IsNumbered}
+use Rattle.krates_selection.specs.Choosing.{HasNewNumber, IsMarked, IsNumbered}
 use Rattle.krates_selection.proofs.Chosen.{use_numbered, step_chosen}
 use Rattle.krates_selection.proofs.choosing.choose.Goals as goal
 

@@ -1,5 +1,5 @@
 use Rattle.std.proofs.Common.{◌≡◌, length}
-use Rattle.krates_selection.specs.Choice.{IsMadeBelow}
+use Rattle.krates_selection.specs.Choosing.{IsMadeBelow}
 use Rattle.krates_selection.proofs.choosing.choose_all.Given as goal
 
 -- the marked steps so far are chosen

@@ -1,6 +1,6 @@
 use Rattle.std.proofs.lemmas.List.Elements.{Contains-append_left, Contains-append_right}
 use Rattle.krates_rules.specs.Uses.{number_in}
-use Rattle.krates_selection.specs.Choice.{HasNewNumber}
+use Rattle.krates_selection.specs.Choosing.{HasNewNumber}
 use Rattle.krates_selection.proofs.Places.{zip_append}
 use Rattle.krates_selection.proofs.choosing.renumbered.Goals as goal
 

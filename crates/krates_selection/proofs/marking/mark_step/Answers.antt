@@ -1,7 +1,7 @@
 use Rattle.std.proofs.Common.{◌<◌, None, Some, false, length, get_or, arith, ap, ◌∙◌}
 use Rattle.std.proofs.lemmas.Option.{slice_get-get_or, get_or_from_slice_get}
 use Rattle.krates_rules.specs.declared.uses.Uses.{Uses}
-use Rattle.krates_selection.specs.Choice.{IsMarked}
+use Rattle.krates_selection.specs.Choosing.{IsMarked}
 use Rattle.krates_selection.proofs.Marks.{marked_down, unmarked_down}
 use Rattle.krates_selection.proofs.marking.mark_step.Goals as goal
 

@@ -1,23 +1,23 @@
 use Rattle.std.proofs.Common.{length, sym, subst}
 use Rattle.std.proofs.lemmas.Result.{IfOk-weaker}
-use Rattle.krates_selection.specs.Choice.{IsMade}
+use Rattle.krates_selection.specs.Choosing.{IsMade}
 use Rattle.krates_selection.specs.Needed.{AreNeeded, AreOwnNumbers}
 use Rattle.krates_selection.specs.Part.{AreUsedBehind, EndsAt, IsPartBy, SameNumber}
-use Rattle.krates_selection.specs.declared.choosing.Choice.{Choice}
+use Rattle.krates_selection.specs.declared.choosing.MarkedSteps.{MarkedSteps}
 use Rattle.krates_selection.specs.declared.part.Part.{Part}
 use Rattle.krates_selection.proofs.NeededParts.{ends_at, needed_choice, own_part, used_behind}
 use Rattle.krates_selection.proofs.shortening.part_for.Goals as goal
 
 pub part_of-requires : goal.part_of-requires
 part_of-requires c =
-    let choice : Choice = record { steps = c.args.steps; facts = c.deref.result; marks = c.deref-2.result } in
+    let choice : MarkedSteps = record { steps = c.args.steps; facts = c.deref.result; marks = c.deref-2.result } in
     let own = subst (AreOwnNumbers (length c.args.steps.now)) (sym c.deref.ensures.value) c.in_ok-numbers.ensures in
     let needed = subst (AreNeeded c.args.steps.now c.args.last) (sym c.deref-2.ensures.value) c.in_ok-marks.ensures in
     needed_choice choice c.args.last c.requires.backward own needed
 
 pub returns-clause-part : goal.returns-clause-part
 returns-clause-part c =
-    let choice : Choice = record { steps = c.args.steps; facts = c.deref.result; marks = c.deref-2.result } in
+    let choice : MarkedSteps = record { steps = c.args.steps; facts = c.deref.result; marks = c.deref-2.result } in
     let own = subst (AreOwnNumbers (length c.args.steps.now)) (sym c.deref.ensures.value) c.in_ok-numbers.ensures in
     let back = c.requires.backward in
     IfOk-weaker c.part_of.result (λ (part : Part). IsMade choice part.chosen.items part.uses.items) (λ (part : Part). IsPartBy SameNumber c.args.steps.now part.chosen.items part.uses.items)
@@ -25,7 +25,7 @@ returns-clause-part c =
 
 pub returns-clause-last : goal.returns-clause-last
 returns-clause-last c =
-    let choice : Choice = record { steps = c.args.steps; facts = c.deref.result; marks = c.deref-2.result } in
+    let choice : MarkedSteps = record { steps = c.args.steps; facts = c.deref.result; marks = c.deref-2.result } in
     let needed = subst (AreNeeded c.args.steps.now c.args.last) (sym c.deref-2.ensures.value) c.in_ok-marks.ensures in
     let last = c.args.last in
     IfOk-weaker c.part_of.result (λ (part : Part). IsMade choice part.chosen.items part.uses.items) (λ (part : Part). EndsAt part.chosen.items last)
@@ -33,7 +33,7 @@ returns-clause-last c =
 
 pub returns-clause-used : goal.returns-clause-used
 returns-clause-used c =
-    let choice : Choice = record { steps = c.args.steps; facts = c.deref.result; marks = c.deref-2.result } in
+    let choice : MarkedSteps = record { steps = c.args.steps; facts = c.deref.result; marks = c.deref-2.result } in
     let own = subst (AreOwnNumbers (length c.args.steps.now)) (sym c.deref.ensures.value) c.in_ok-numbers.ensures in
     let needed = subst (AreNeeded c.args.steps.now c.args.last) (sym c.deref-2.ensures.value) c.in_ok-marks.ensures in
     let last = c.args.last in

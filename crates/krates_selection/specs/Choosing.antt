@@ -4,7 +4,7 @@ use Rattle.krates_rules.specs.StepParts.{Increase}
 use Rattle.krates_rules.specs.Uses.{numbers_used}
 use Rattle.krates_rules.specs.declared.uses.Uses.{Uses}
 use Rattle.krates_selection.specs.Part.{IsChosenStep, IsPartBy, SameFact}
-use Rattle.krates_selection.specs.declared.choosing.Choice.{Choice}
+use Rattle.krates_selection.specs.declared.choosing.MarkedSteps.{MarkedSteps}
 use Rattle.krates_selection.specs.declared.choosing.Making.{Making}
 
 abbrev pub IsMarked : List Bool → ℕ → Type 0
@@ -18,7 +18,7 @@ pub record HasChosen (facts : List ℕ) (marks : List Bool) (number : ℕ) : Typ
   pub same : SameFact facts chosen number
 
 -- No fact is chosen twice; what a chosen step uses is earlier, and another chosen one stands for it.
-pub record IsChoice (c : Choice) (count : ℕ) : Type 0 where
+pub record IsChoice (c : MarkedSteps) (count : ℕ) : Type 0 where
   pub facts : length c.facts.now ≡ length c.steps.now
   pub marks : length c.marks.now ≡ length c.steps.now
   pub low : (k f : ℕ) → slice_get c.facts.now k ≡ Some f → f < count
@@ -36,7 +36,7 @@ abbrev pub IsNumbered : List ℕ → List (Option ℕ) → ℕ → Type 0
 IsNumbered facts numbers before = (now : ℕ) × HasNewNumber facts numbers before now
 
 -- the part has the marked steps before the place
-pub record IsPartBelow (c : Choice) (n : ℕ) (chosen : List ℕ) (part : List Uses) (numbers : List (Option ℕ)) : Type 0 where
+pub record IsPartBelow (c : MarkedSteps) (n : ℕ) (chosen : List ℕ) (part : List Uses) (numbers : List (Option ℕ)) : Type 0 where
   pub long : length part ≡ length chosen
   pub low : (j a : ℕ) → slice_get chosen j ≡ Some a → a < n
   pub increase : Increase chosen
@@ -44,11 +44,11 @@ pub record IsPartBelow (c : Choice) (n : ℕ) (chosen : List ℕ) (part : List U
   pub each : (j : ℕ) (y : Uses) → slice_get part j ≡ Some y → IsChosenStep (SameFact c.facts.now) c.steps.now chosen j y
   pub placed : (k : ℕ) → k < n → IsMarked c.marks.now k → (v : ℕ) × HasNewNumber c.facts.now numbers k v × (slice_get chosen v ≡ Some k)
 
-abbrev pub IsMadeBelow : Choice → ℕ → Making → Type 0
+abbrev pub IsMadeBelow : MarkedSteps → ℕ → Making → Type 0
 IsMadeBelow c n x = IsPartBelow c n x.chosen.items x.uses.items x.numbers.items
 
 -- the part has exactly the chosen steps
-pub record IsMade (c : Choice) (chosen : List ℕ) (part : List Uses) : Type 0 where
+pub record IsMade (c : MarkedSteps) (chosen : List ℕ) (part : List Uses) : Type 0 where
   pub is_part : IsPartBy (SameFact c.facts.now) c.steps.now chosen part
   pub marked : (j a : ℕ) → slice_get chosen j ≡ Some a → IsMarked c.marks.now a
   pub each : (k : ℕ) → IsMarked c.marks.now k → (v : ℕ) × (slice_get chosen v ≡ Some k)
