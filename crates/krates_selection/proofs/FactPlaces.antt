@@ -8,8 +8,8 @@ use Rattle.std.specs.List.{AllZip, slice_get}
 use Rattle.std.specs.Ordering.{is_eq}
 use Rattle.krates_selection.specs.Keys.{AreFactNumbers, AreNoPlaces, home, key_cmp, key_view}
 use Rattle.krates_selection.specs.KeptFacts.{KeptModel}
-use Rattle.krates_selection.specs.declared.key.FactKey.{FactKey}
-use Rattle.krates_selection.proofs.KeyOrder.{key_from, key_to}
+use Rattle.krates_selection.specs.declared.key.KeptFactKey.{KeptFactKey}
+use Rattle.krates_selection.proofs.KeptKeyOrder.{key_from, key_to}
 use Rattle.krates_selection.proofs.PickedSteps.{pushed_at}
 use Rattle.krates_selection.specs.Part.{SameFact}
 
@@ -32,12 +32,12 @@ pub record IsLastBelow (all : List KeptModel) (x : KeptModel) (i n : ℕ) : Type
 abbrev pub IsPlaceBelow : List KeptModel → KeptModel → ℕ → Option ℕ → Type 0
 IsPlaceBelow all x i answer = MatchOption answer ((n : ℕ) → n < i → slice_get all n ≡ Some x → ⊥) (IsLastBelow all x i)
 
-abbrev pub IsHome : List KeptModel → ℕ → FactKey → BTreeMap FactKey ℕ → Type 0
+abbrev pub IsHome : List KeptModel → ℕ → KeptFactKey → BTreeMap KeptFactKey ℕ → Type 0
 IsHome all i q m = IsPlaceBelow all (key_view q) i (get key_cmp m q)
 
 -- the map of the fact's crate answers for it
-abbrev pub ArePlacesBelow : List KeptModel → ℕ → List (BTreeMap FactKey ℕ) → Type 0
-ArePlacesBelow all i homes = (q : FactKey) (d : BTreeMap FactKey ℕ) → home (key_view q) < length homes → IsHome all i q (get_or homes (home (key_view q)) d)
+abbrev pub ArePlacesBelow : List KeptModel → ℕ → List (BTreeMap KeptFactKey ℕ) → Type 0
+ArePlacesBelow all i homes = (q : KeptFactKey) (d : BTreeMap KeptFactKey ℕ) → home (key_view q) < length homes → IsHome all i q (get_or homes (home (key_view q)) d)
 
 -- what the map answers for a fact, where the new one is the same or another
 place_step : (all : List KeptModel) (i : ℕ) (k q : KeptModel) (o : Option ℕ) (b : Bool) → slice_get all i ≡ Some k → (b ≡ true → k ≡ q) → (k ≡ q → b ≡ true) → IsPlaceBelow all q i o → IsPlaceBelow all q (i + 1) (cond b (Some i) o)
@@ -62,7 +62,7 @@ place_step all i k q None false here there back h = λ n lt s. elim (cases_order
 ]
 
 -- no fact has a place yet
-pub no_places_yet : (xs : List FactKey) (count : ℕ) (homes : List (BTreeMap FactKey ℕ)) → AreNoPlaces count homes → ArePlacesBelow (map key_view xs) 0 homes
+pub no_places_yet : (xs : List KeptFactKey) (count : ℕ) (homes : List (BTreeMap KeptFactKey ℕ)) → AreNoPlaces count homes → ArePlacesBelow (map key_view xs) 0 homes
 no_places_yet xs count homes h q d low = subst (IsPlaceBelow (map key_view xs) (key_view q) 0) (sym (h.none (home (key_view q)) d low q)) (λ n lt s. absurd (omega (arith, lt)))
 
 -- the place of a fact that is another than the new one
@@ -70,8 +70,8 @@ place_kept : (all : List KeptModel) (i : ℕ) (k q : KeptModel) (o : Option ℕ)
 place_kept all i k q o here apart h = place_step all i k q o false here (λ t. absurd cc) (λ e. absurd (apart (sym (ap home e)))) h
 
 -- one more fact is put in
-pub places_more : (xs : List FactKey) (i at : ℕ) (k : FactKey) (old : List (BTreeMap FactKey ℕ)) (was is : BTreeMap FactKey ℕ) → i < length xs → k ≡ get_or xs i k → at ≡ home (key_view k) → at < length old → was ≡ get_or old at was
-    → ((q : FactKey) → get key_cmp is q ≡ cond (is_eq (key_cmp k q)) (Some i) (get key_cmp was q)) → ArePlacesBelow (map key_view xs) i old → ArePlacesBelow (map key_view xs) (i + 1) (set old at is)
+pub places_more : (xs : List KeptFactKey) (i at : ℕ) (k : KeptFactKey) (old : List (BTreeMap KeptFactKey ℕ)) (was is : BTreeMap KeptFactKey ℕ) → i < length xs → k ≡ get_or xs i k → at ≡ home (key_view k) → at < length old → was ≡ get_or old at was
+    → ((q : KeptFactKey) → get key_cmp is q ≡ cond (is_eq (key_cmp k q)) (Some i) (get key_cmp was q)) → ArePlacesBelow (map key_view xs) i old → ArePlacesBelow (map key_view xs) (i + 1) (set old at is)
 places_more xs i at k old was is lt read here low there grown h q d within =
     let all = map key_view xs in
     let own = home (key_view q) in
@@ -90,14 +90,14 @@ places_more xs i at k old was is lt read here low there grown h q d within =
     (cases_eq own at)
 
 -- the crate of a fact has a map
-pub low_home : (xs : List FactKey) (count i at : ℕ) (k : FactKey) (homes : List (BTreeMap FactKey ℕ)) → All (λ f. home f < count) (map key_view xs) → i < length xs → k ≡ get_or xs i k → at ≡ home (key_view k) → length homes ≡ count → at < length homes
+pub low_home : (xs : List KeptFactKey) (count i at : ℕ) (k : KeptFactKey) (homes : List (BTreeMap KeptFactKey ℕ)) → All (λ f. home f < count) (map key_view xs) → i < length xs → k ≡ get_or xs i k → at ≡ home (key_view k) → length homes ≡ count → at < length homes
 low_home xs count i at k homes all lt read here long =
     let seen : get_or (map key_view xs) i (key_view k) ≡ key_view k = get_or-map key_view xs i k (key_view k) lt ∙ ap key_view (sym read) in
     let low : home (key_view k) < count = subst (λ f. home f < count) seen (all i (key_view k) (omega (arith, lt, length-map xs key_view))) in
     omega (arith, low, here, long)
 
 -- what the map of its crate answers for the new fact
-pub home_answers : (xs : List FactKey) (i at : ℕ) (k : FactKey) (homes : List (BTreeMap FactKey ℕ)) (m : BTreeMap FactKey ℕ) → at ≡ home (key_view k) → at < length homes → m ≡ get_or homes at m → ArePlacesBelow (map key_view xs) i homes → IsHome (map key_view xs) i k m
+pub home_answers : (xs : List KeptFactKey) (i at : ℕ) (k : KeptFactKey) (homes : List (BTreeMap KeptFactKey ℕ)) (m : BTreeMap KeptFactKey ℕ) → at ≡ home (key_view k) → at < length homes → m ≡ get_or homes at m → ArePlacesBelow (map key_view xs) i homes → IsHome (map key_view xs) i k m
 home_answers xs i at k homes m here low there h =
     let own : get_or homes (home (key_view k)) m ≡ m = ap (λ n. get_or homes n m) (sym here) ∙ sym there in
     subst (IsHome (map key_view xs) i k) own (h k m (subst (λ (n : ℕ). n < length homes) here low))
@@ -207,7 +207,7 @@ pub none_numbered : (all : List KeptModel) (numbers : List ℕ) → numbers ≡ 
 none_numbered all numbers e = subst (AreNumbersBelow all 0) (sym e) (record { long = refl; low = λ k n at. absurd cc; same = λ j k f g lj lk aj ak. absurd (omega (arith, lj)) })
 
 -- one more fact is numbered
-pub numbers_more : (xs : List FactKey) (i : ℕ) (k : FactKey) (m : BTreeMap FactKey ℕ) (o : Option ℕ) (n : ℕ) (old new : List ℕ) → i < length xs → k ≡ get_or xs i k → o ≡ get key_cmp m k → IsHome (map key_view xs) i k m
+pub numbers_more : (xs : List KeptFactKey) (i : ℕ) (k : KeptFactKey) (m : BTreeMap KeptFactKey ℕ) (o : Option ℕ) (n : ℕ) (old new : List ℕ) → i < length xs → k ≡ get_or xs i k → o ≡ get key_cmp m k → IsHome (map key_view xs) i k m
     → IsNumberFor old i o n → new ≡ old ++ n ∷ [] → AreNumbersBelow (map key_view xs) i old → AreNumbersBelow (map key_view xs) (i + 1) new
 numbers_more xs i k m o n old new lt is answer places num pushed so =
     let all = map key_view xs in
@@ -220,7 +220,7 @@ numbers_more xs i k m o n old new lt is answer places num pushed so =
     })
 
 -- all facts are
-pub all_numbered : (xs : List FactKey) (i : ℕ) (numbers : List ℕ) → i ≤ length xs → length xs ≤ i → AreNumbersBelow (map key_view xs) i numbers → AreFactNumbers (map key_view xs) numbers
+pub all_numbered : (xs : List KeptFactKey) (i : ℕ) (numbers : List ℕ) → i ≤ length xs → length xs ≤ i → AreNumbersBelow (map key_view xs) i numbers → AreFactNumbers (map key_view xs) numbers
 all_numbered xs i numbers le ge so =
     let all = map key_view xs in
     let count : length all ≡ i = omega (arith, length-map xs key_view, le, ge) in

@@ -11,7 +11,7 @@ use Rattle.krates_selection.specs.KeptFacts.{Enables, IsBelow, KeepsCrate, Keeps
 use Rattle.krates_selection.specs.Keys.{AreFactNumbers, home, key_view}
 use Rattle.krates_selection.specs.Tables.{AreKeptFacts, AreStepsOf, IsKeptIn, IsKeyOf, document_in, kids_in, numbered_facts}
 use Rattle.krates_selection.specs.declared.kept.KeptStep.{KeptStep}
-use Rattle.krates_selection.specs.declared.key.FactKey.{FactKey}
+use Rattle.krates_selection.specs.declared.key.KeptFactKey.{KeptFactKey}
 use Rattle.krates_selection.specs.declared.keys.Tables.{Tables}
 use Rattle.krates_selection.proofs.KeptCrates.{kept_crates, same_in}
 use Rattle.krates_selection.proofs.PickedSteps.{seen_back}
@@ -80,27 +80,27 @@ home_low n (KeepsEdge parent child kind cfg) low = low.0
 home_low n (Toggles by krate name) low = low.0
 
 -- the crate of each key has a number
-pub homes_low : (t : Tables) (facts : List NumberedFact) (keys : List FactKey) → AllZip (IsKeyOf t) facts keys → All (λ f. home f < length (kids_in t)) (map key_view keys)
+pub homes_low : (t : Tables) (facts : List NumberedFact) (keys : List KeptFactKey) → AllZip (IsKeyOf t) facts keys → All (λ f. home f < length (kids_in t)) (map key_view keys)
 homes_low t facts keys z k d lt =
     let y = kept_at keys k (omega (arith, lt, length-map keys key_view)) in
     let x = left_of (IsKeyOf t) facts keys k y.0 z y.1 in
     let there = get_or_from_slice_get (map key_view keys) k (key_view y.0) d (slice_get-map key_view keys k ∙ ap (option_map key_view) y.1) in
     subst (λ f. home f < length (kids_in t)) (sym there) (home_low (length (kids_in t)) (key_view y.0) x.2.below)
 
-module _ (tells : OrderTellsSame) (t : Tables) (s : SettingModel) (steps : List NumberedStep) (keys : List FactKey) (sorted : IsStrictlySortedBy id_cmp (kids_in t)) (tr : IsTrace (document_in t) s steps) (keyed : AllZip (IsKeyOf t) (numbered_facts steps) keys) where
+module _ (tells : OrderTellsSame) (t : Tables) (s : SettingModel) (steps : List NumberedStep) (keys : List KeptFactKey) (sorted : IsStrictlySortedBy id_cmp (kids_in t)) (tr : IsTrace (document_in t) s steps) (keyed : AllZip (IsKeyOf t) (numbered_facts steps) keys) where
   -- each step of the derivation has a key, which says its fact
-  key_of : (k : ℕ) (x : StepModel) → slice_get tr.steps k ≡ Some x → (key : FactKey) × (slice_get keys k ≡ Some key) × (fact_in (kids_in t) (key_view key) ≡ x.fact) × IsBelow (length (kids_in t)) (key_view key)
+  key_of : (k : ℕ) (x : StepModel) → slice_get tr.steps k ≡ Some x → (key : KeptFactKey) × (slice_get keys k ≡ Some key) × (fact_in (kids_in t) (key_view key) ≡ x.fact) × IsBelow (length (kids_in t)) (key_view key)
   key_of k x at =
       let fact : NumberedStep → NumberedFact = λ y. y.fact in
       let y = left_of (IsShown (document_in t)) steps tr.steps k x tr.shown at in
       let w = right_of (IsKeyOf t) (numbered_facts steps) keys k y.0.fact keyed (slice_get-map fact steps k ∙ ap (option_map fact) y.1) in
       (w.0, w.1, w.2.is x.fact y.2.fact, w.2.below)
 
-  key_is : (k : ℕ) (x : StepModel) (key : FactKey) → slice_get tr.steps k ≡ Some x → slice_get keys k ≡ Some key → (fact_in (kids_in t) (key_view key) ≡ x.fact) × IsBelow (length (kids_in t)) (key_view key)
+  key_is : (k : ℕ) (x : StepModel) (key : KeptFactKey) → slice_get tr.steps k ≡ Some x → slice_get keys k ≡ Some key → (fact_in (kids_in t) (key_view key) ≡ x.fact) × IsBelow (length (kids_in t)) (key_view key)
   key_is k x key at there =
       let w = key_of k x at in
       let same : w.0 ≡ key = same_Some w.0 key (sym w.1 ∙ there) in
-      (ap (λ (z : FactKey). fact_in (kids_in t) (key_view z)) (sym same) ∙ w.2, subst (λ (z : FactKey). IsBelow (length (kids_in t)) (key_view z)) same w.3)
+      (ap (λ (z : KeptFactKey). fact_in (kids_in t) (key_view z)) (sym same) ∙ w.2, subst (λ (z : KeptFactKey). IsBelow (length (kids_in t)) (key_view z)) same w.3)
 
   -- two steps have the same number exactly where they have the same fact
   pub have_facts : (numbers : List ℕ) → AreFactNumbers (map key_view keys) numbers → HaveTheseFacts tr.steps numbers

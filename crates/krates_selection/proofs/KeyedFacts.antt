@@ -7,8 +7,8 @@ use Rattle.krates_cm.specs.declared.dependency.DependencyKind.{DependencyKind}
 use Rattle.krates_selection.specs.KeptFacts.{edge_in}
 use Rattle.krates_selection.specs.CrateNumbers.{id_at}
 use Rattle.krates_selection.specs.Tables.{IsEdgeIn, IsFeatureIn, IsKeyOf, IsNumberAt, document_in, kids_in}
-use Rattle.krates_selection.specs.declared.key.EdgeKey.{EdgeKey}
-use Rattle.krates_selection.specs.declared.key.FactKey.TheVariants as keys
+use Rattle.krates_selection.specs.declared.key.KeptEdgeKey.{KeptEdgeKey}
+use Rattle.krates_selection.specs.declared.key.KeptFactKey.TheVariants as keys
 use Rattle.krates_selection.specs.declared.key.FeatureKey.{FeatureKey}
 use Rattle.krates_selection.specs.declared.keys.Tables.{Tables}
 use Rattle.krates_ids.specs.Identity.{Identity}
@@ -41,7 +41,7 @@ key_feature t number k h = record {
   below = h.below;
 }
 
-pub key_kept : (t : Tables) (place index kind : ℕ) (k : EdgeKey) → IsEdgeIn t place index kind k → IsKeyOf t (numbered.Kept place index kind) (keys.Kept k)
+pub key_kept : (t : Tables) (place index kind : ℕ) (k : KeptEdgeKey) → IsEdgeIn t place index kind k → IsKeyOf t (numbered.Kept place index kind) (keys.Kept k)
 key_kept t place index kind k h = record { is = λ f names. h.is names.edge names.at ∙ sym names.is; below = h.below }
 
 pub key_toggled : (t : Tables) (place number n : ℕ) (k : FeatureKey) → IsNumberAt t place n → IsFeatureIn t number k → IsKeyOf t (numbered.Toggled place number) (keys.Toggled (record { by = n; feature = k }))

@@ -6,8 +6,8 @@ pub mod FirstMarks
 pub mod FirstSteps
 pub mod KeptCrates
 pub mod KeptEnds
+pub mod KeptKeyOrder
 pub mod KeptNumbers
-pub mod KeyOrder
 pub mod KeyedFacts
 pub mod ListedFeatures
 pub mod Marks

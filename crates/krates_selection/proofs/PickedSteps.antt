@@ -11,7 +11,7 @@ use Rattle.krates_selection.specs.KeptFacts.{fact_in, kept_view, step_in}
 use Rattle.krates_selection.specs.Keys.{key_view}
 use Rattle.krates_selection.specs.declared.kept.Explanation.{Explanation}
 use Rattle.krates_selection.specs.declared.kept.KeptStep.{KeptStep}
-use Rattle.krates_selection.specs.declared.key.FactKey.{FactKey}
+use Rattle.krates_selection.specs.declared.key.KeptFactKey.{KeptFactKey}
 use Rattle.krates_selection.specs.declared.trace.NumberedStep.{NumberedStep}
 use Rattle.krates_rules.specs.Uses.{numbers_used}
 use Rattle.krates_rules.specs.declared.uses.Uses.{Uses}
@@ -81,7 +81,7 @@ all_picked e chosen items part n steps same low high h = record {
 -- ---- chosen steps
 
 -- one more step is chosen
-pub chosen_next : (keys : List FactKey) (steps : List NumberedStep) (chosen items : List ℕ) (part : List Uses) (place : ℕ) (key : FactKey) (u : Uses) (old new : List KeptStep) (y : KeptStep) (d : NumberedStep) → new ≡ old ++ y ∷ []
+pub chosen_next : (keys : List KeptFactKey) (steps : List NumberedStep) (chosen items : List ℕ) (part : List Uses) (place : ℕ) (key : KeptFactKey) (u : Uses) (old new : List KeptStep) (y : KeptStep) (d : NumberedStep) → new ≡ old ++ y ∷ []
     → y.rule ≡ (get_or steps (get_or items place 0) d).reason.rule → y.uses ≡ u → kept_view y.fact ≡ key_view key → items ≡ chosen → place < length items → length part ≡ length chosen → length keys ≡ length steps → All (λ n. n < length steps) chosen
     → key ≡ get_or keys (get_or items place 0) key → u ≡ get_or part place u → EachSoFar (IsChosenIn keys steps chosen part) place old → EachSoFar (IsChosenIn keys steps chosen part) (place + 1) new
 chosen_next keys steps chosen items part place key u old new y d pushed rule uses fact same lt long both within key_is u_is h =
@@ -104,6 +104,6 @@ chosen_next keys steps chosen items part place key u old new y d pushed rule use
     } in
     subst (EachSoFar (IsChosenIn keys steps chosen part) (place + 1)) (sym pushed) (one_more (IsChosenIn keys steps chosen part) place old y h here)
 
-pub all_chosen : (keys : List FactKey) (steps : List NumberedStep) (chosen items : List ℕ) (part : List Uses) (n : ℕ) (kept : List KeptStep) → items ≡ chosen → length items ≤ n → n ≤ length items → EachSoFar (IsChosenIn keys steps chosen part) n kept
+pub all_chosen : (keys : List KeptFactKey) (steps : List NumberedStep) (chosen items : List ℕ) (part : List Uses) (n : ℕ) (kept : List KeptStep) → items ≡ chosen → length items ≤ n → n ≤ length items → EachSoFar (IsChosenIn keys steps chosen part) n kept
     → AreChosen keys steps chosen part kept
 all_chosen keys steps chosen items part n kept same low high h = record { long = omega (arith, h.long, ap length same, low, high); each = h.each }

@@ -4,26 +4,26 @@ use Rattle.std.specs.BTreeMap.{BTreeMap, get}
 use Rattle.std.specs.declared.cmp.Ordering.{Ordering}
 use Rattle.krates_cm.specs.Document.{text_view}
 use Rattle.krates_selection.specs.KeptFacts.{KeptModel, KeepsCrate, KeepsEdge, Enables, Toggles}
-use Rattle.krates_selection.specs.contracts.key.FactKeyOrd.TheImpl as key_order
-use Rattle.krates_selection.specs.declared.key.EdgeKey.{EdgeKey}
-use Rattle.krates_selection.specs.declared.key.FactKey.{FactKey}
-use Rattle.krates_selection.specs.declared.key.FactKey.TheVariants as keys
+use Rattle.krates_selection.specs.contracts.key.KeptFactKeyOrd.TheImpl as key_order
+use Rattle.krates_selection.specs.declared.key.KeptEdgeKey.{KeptEdgeKey}
+use Rattle.krates_selection.specs.declared.key.KeptFactKey.{KeptFactKey}
+use Rattle.krates_selection.specs.declared.key.KeptFactKey.TheVariants as keys
 use Rattle.krates_rules.specs.Kind.{written_of}
 use Rattle.krates_selection.specs.Part.{SameFact}
 
 -- the edge
-abbrev pub edge_view : EdgeKey → KeptModel
+abbrev pub edge_view : KeptEdgeKey → KeptModel
 edge_view e = KeepsEdge e.parent e.child (written_of e.kind) (option_map text_view e.cfg.now)
 
 -- the fact
-abbrev pub key_view : FactKey → KeptModel
+abbrev pub key_view : KeptFactKey → KeptModel
 key_view (keys.Crate krate) = KeepsCrate krate
 key_view (keys.Feature feature) = Enables feature.krate feature.name.now
 key_view (keys.Kept edge) = edge_view edge
 key_view (keys.Toggled toggle) = Toggles toggle.by toggle.feature.krate toggle.feature.name.now
 
 -- the derived order
-abbrev pub key_cmp : FactKey → FactKey → Ordering
+abbrev pub key_cmp : KeptFactKey → KeptFactKey → Ordering
 key_cmp = (key_order.ghosts).cmp
 
 -- the number of the crate among whose facts the fact is looked for
@@ -34,9 +34,9 @@ home (KeepsEdge parent child kind cfg) = parent
 home (Toggles by krate name) = by
 
 -- for each of so many crates there is no place of a fact
-pub record AreNoPlaces (count : ℕ) (homes : List (BTreeMap FactKey ℕ)) : Type 0 where
+pub record AreNoPlaces (count : ℕ) (homes : List (BTreeMap KeptFactKey ℕ)) : Type 0 where
   pub long : length homes ≡ count
-  pub none : All (λ (m : BTreeMap FactKey ℕ). (q : FactKey) → get key_cmp m q ≡ None) homes
+  pub none : All (λ (m : BTreeMap KeptFactKey ℕ). (q : KeptFactKey) → get key_cmp m q ≡ None) homes
 
 -- ---- numbers of facts
 

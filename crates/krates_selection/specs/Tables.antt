@@ -4,8 +4,8 @@ use Rattle.krates_cm.specs.Document.{NodeModel, Text}
 use Rattle.krates_selection.specs.Explanation.{AreBelow, uses_in}
 use Rattle.krates_selection.specs.KeptFacts.{IsBelow, fact_in, facts_in, steps_in}
 use Rattle.krates_selection.specs.Keys.{edge_view, key_view}
-use Rattle.krates_selection.specs.declared.key.EdgeKey.{EdgeKey}
-use Rattle.krates_selection.specs.declared.key.FactKey.{FactKey}
+use Rattle.krates_selection.specs.declared.key.KeptEdgeKey.{KeptEdgeKey}
+use Rattle.krates_selection.specs.declared.key.KeptFactKey.{KeptFactKey}
 use Rattle.krates_selection.specs.declared.key.FeatureKey.{FeatureKey}
 use Rattle.krates_selection.specs.declared.keys.Tables.{Tables}
 use Rattle.krates_selection.specs.declared.kept.KeptStep.{KeptStep}
@@ -109,12 +109,12 @@ pub record IsFeatureIn (t : Tables) (number : ℕ) (k : FeatureKey) : Type 0 whe
   pub below : k.krate < length (kids_in t)
 
 -- the key is that of the edge at these places
-pub record IsEdgeIn (t : Tables) (place index kind : ℕ) (k : EdgeKey) : Type 0 where
+pub record IsEdgeIn (t : Tables) (place index kind : ℕ) (k : KeptEdgeKey) : Type 0 where
   pub is : (e : Edge) → EdgeAt (document_in t) e place index kind → fact_in (kids_in t) (edge_view k) ≡ Kept e
   pub below : IsBelow (length (kids_in t)) (edge_view k)
 
 -- the key is that of the fact
-pub record IsKeyOf (t : Tables) (n : NumberedFact) (k : FactKey) : Type 0 where
+pub record IsKeyOf (t : Tables) (n : NumberedFact) (k : KeptFactKey) : Type 0 where
   pub is : (f : Fact) → Names (document_in t) n f → fact_in (kids_in t) (key_view k) ≡ f
   pub below : IsBelow (length (kids_in t)) (key_view k)
 

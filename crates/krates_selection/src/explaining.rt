@@ -12,7 +12,7 @@ ghost use Rattle.krates_rules.specs.Facts.{Crate, Id};
 
 use crate::firsts::first_steps;
 use crate::kept::KeptStep;
-use crate::key::{FactKey, fact_of};
+use crate::key::{KeptFactKey, fact_of};
 use crate::keys::{Tables, keys_of};
 use crate::laws as step_laws;
 use crate::numbering::numbers_of;
@@ -65,7 +65,7 @@ fn uses_of(alloc: Global, steps: &[NumberedStep]) -> Result<Vec<Uses>, AllocErro
 /// The chosen steps, whose facts are those of the keys at their places.
 fn chosen(
     alloc: Global,
-    keys: &[FactKey<'_>],
+    keys: &[KeptFactKey<'_>],
     steps: &[NumberedStep],
     part: &Part,
 ) -> Result<Vec<KeptStep>, AllocError>

@@ -19,7 +19,7 @@ pub(crate) struct FeatureKey<'a> {
 
 /// An edge.
 #[derive(Clone, Copy, PartialEq, Eq, PartialOrd, Ord)]
-pub(crate) struct EdgeKey<'a> {
+pub(crate) struct KeptEdgeKey<'a> {
     /// The number of the crate that has the dependency.
     pub parent: usize,
     /// The number of the crate that it depends on.
@@ -41,44 +41,44 @@ pub(crate) struct ToggleKey<'a> {
 
 /// A fact.
 #[derive(Clone, Copy, PartialEq, Eq, PartialOrd, Ord)]
-pub(crate) enum FactKey<'a> {
+pub(crate) enum KeptFactKey<'a> {
     /// The crate is kept.
     Crate(usize),
     /// The feature is enabled.
     Feature(FeatureKey<'a>),
     /// The edge is kept.
-    Kept(EdgeKey<'a>),
+    Kept(KeptEdgeKey<'a>),
     /// The feature is toggled.
     Toggled(ToggleKey<'a>),
 }
 
 /// The number of the crate among whose facts a fact is looked for: the one that is kept or has the feature, or from which the edge or
 /// the reference goes.
-pub(crate) fn home_of(key: &FactKey<'_>) -> usize
+pub(crate) fn home_of(key: &KeptFactKey<'_>) -> usize
     ensures { result ≡ home (key_view key.now) }
 {
     match key {
-        FactKey::Crate(krate) => *krate,
-        FactKey::Feature(feature) => feature.krate,
-        FactKey::Kept(edge) => edge.parent,
-        FactKey::Toggled(toggle) => toggle.by,
+        KeptFactKey::Crate(krate) => *krate,
+        KeptFactKey::Feature(feature) => feature.krate,
+        KeptFactKey::Kept(edge) => edge.parent,
+        KeptFactKey::Toggled(toggle) => toggle.by,
     }
 }
 
 /// The fact of a key, with copies of its texts.
-pub(crate) fn fact_of(alloc: Global, key: &FactKey<'_>) -> Result<KeptFact, AllocError>
+pub(crate) fn fact_of(alloc: Global, key: &KeptFactKey<'_>) -> Result<KeptFact, AllocError>
     ensures { IfOk result (λ fact. kept_view fact ≡ key_view key.now) }
 {
     match key {
-        FactKey::Crate(krate) => Ok(KeptFact::Crate { krate: *krate }),
-        FactKey::Feature(feature) => {
+        KeptFactKey::Crate(krate) => Ok(KeptFact::Crate { krate: *krate }),
+        KeptFactKey::Feature(feature) => {
             Ok(KeptFact::Feature {
                 krate: feature.krate,
                 name: String::from_str(alloc, feature.name)?,
             })
         }
-        FactKey::Kept(edge) => edge_of(edge),
-        FactKey::Toggled(toggle) => {
+        KeptFactKey::Kept(edge) => edge_of(edge),
+        KeptFactKey::Toggled(toggle) => {
             Ok(KeptFact::Toggled {
                 by: toggle.by,
                 krate: toggle.feature.krate,
@@ -89,7 +89,7 @@ pub(crate) fn fact_of(alloc: Global, key: &FactKey<'_>) -> Result<KeptFact, Allo
 }
 
 /// The edge of a key.
-fn edge_of(edge: &EdgeKey<'_>) -> Result<KeptFact, AllocError>
+fn edge_of(edge: &KeptEdgeKey<'_>) -> Result<KeptFact, AllocError>
     ensures { IfOk result (λ fact. kept_view fact ≡ edge_view edge.now) }
 {
     Ok(KeptFact::Kept {

@@ -9,7 +9,7 @@ ghost use Rattle.krates_selection.specs.Trace.{EdgeAt};
 ghost use Rattle.krates_rules.specs.Facts.{Edge};
 ghost use Rattle.krates_rules.specs.Questions.{kind_info_of};
 
-use crate::key::{EdgeKey, FactKey, FeatureKey, ToggleKey};
+use crate::key::{FeatureKey, KeptEdgeKey, KeptFactKey, ToggleKey};
 use crate::trace::{NumberedFact, NumberedStep};
 use krates_cm::DepKindInfo;
 use krates_ids::{Kid, laws};
@@ -33,7 +33,7 @@ pub(crate) fn keys_of<'a>(
     alloc: Global,
     tables: &Tables<'a, '_>,
     steps: &[NumberedStep],
-) -> Result<Vec<FactKey<'a>>, AllocError>
+) -> Result<Vec<KeptFactKey<'a>>, AllocError>
     requires tables { IsTables tables.now }
     requires kept { AreKeptFacts tables.now steps.now }
     ensures { IfOk result (λ keys. AllZip (IsKeyOf tables.now) (numbered_facts steps.now) keys.items) }
@@ -46,19 +46,19 @@ pub(crate) fn keys_of<'a>(
 }
 
 /// The key of a fact.
-fn key_at<'a>(tables: &Tables<'a, '_>, fact: NumberedFact) -> FactKey<'a>
+fn key_at<'a>(tables: &Tables<'a, '_>, fact: NumberedFact) -> KeptFactKey<'a>
     requires tables { IsTables tables.now }
     requires kept { IsKeptFact tables.now fact }
     ensures { IsKeyOf tables.now fact result }
 {
     match fact {
-        NumberedFact::Crate { place } => FactKey::Crate(crate_at(tables, place)),
-        NumberedFact::Feature { number } => FactKey::Feature(feature_at(tables, number)),
+        NumberedFact::Crate { place } => KeptFactKey::Crate(crate_at(tables, place)),
+        NumberedFact::Feature { number } => KeptFactKey::Feature(feature_at(tables, number)),
         NumberedFact::Kept { place, index, kind } => {
-            FactKey::Kept(edge_at(tables, place, index, kind))
+            KeptFactKey::Kept(edge_at(tables, place, index, kind))
         }
         NumberedFact::Toggled { place, number } => {
-            FactKey::Toggled(ToggleKey {
+            KeptFactKey::Toggled(ToggleKey {
                 by: crate_at(tables, place),
                 feature: feature_at(tables, number),
             })
@@ -108,13 +108,13 @@ fn feature_at<'a>(tables: &Tables<'a, '_>, number: usize) -> FeatureKey<'a>
 }
 
 /// The key of the edge at these places.
-fn edge_at<'a>(tables: &Tables<'a, '_>, place: usize, index: usize, kind: usize) -> EdgeKey<'a>
+fn edge_at<'a>(tables: &Tables<'a, '_>, place: usize, index: usize, kind: usize) -> KeptEdgeKey<'a>
     requires tables { IsTables tables.now }
     requires kept { IsKeptEdge tables.now place index kind }
     ensures { IsEdgeIn tables.now place index kind result }
 {
     let info = info_at(tables.lookup, place, index, kind);
-    EdgeKey {
+    KeptEdgeKey {
         parent: crate_at(tables, place),
         child: child_at(tables, place, index),
         kind: DepKind::from(info.kind),

@@ -3,7 +3,7 @@
 ghost use Rattle.std.specs.Prelude.{◌≡◌, ◌<◌, All, IfOk, IfSome, MatchOption, Some, length, map, slice_get};
 ghost use Rattle.krates_selection.specs.Keys.{AreFactNumbers, AreNoPlaces, home, key_view};
 
-use crate::key::{FactKey, home_of};
+use crate::key::{KeptFactKey, home_of};
 use std::alloc::{AllocError, Global};
 use std::collections::BTreeMap;
 
@@ -16,7 +16,7 @@ use std::collections::BTreeMap;
 pub(crate) fn numbers_of(
     alloc: Global,
     count: usize,
-    keys: &[FactKey<'_>],
+    keys: &[KeptFactKey<'_>],
 ) -> Result<Vec<usize>, AllocError>
     requires { All (λ f. home f < count) (map key_view keys.now) }
     ensures { IfOk result (λ numbers. AreFactNumbers (map key_view keys.now) numbers.items) }
@@ -34,7 +34,7 @@ pub(crate) fn numbers_of(
 fn no_places<'a>(
     alloc: Global,
     count: usize,
-) -> Result<Vec<BTreeMap<FactKey<'a>, usize>>, AllocError>
+) -> Result<Vec<BTreeMap<KeptFactKey<'a>, usize>>, AllocError>
     ensures { IfOk result (λ homes. AreNoPlaces count homes.items) }
 {
     let mut homes = Vec::with_capacity(alloc, count)?;

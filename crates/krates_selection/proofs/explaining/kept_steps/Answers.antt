@@ -10,7 +10,7 @@ use Rattle.krates_selection.specs.Chosen.{AreChosen}
 use Rattle.krates_selection.specs.Keys.{AreFactNumbers, home, key_view}
 use Rattle.krates_selection.specs.Tables.{AreStepsOf, IsKeyOf, numbered_facts}
 use Rattle.krates_selection.specs.declared.kept.KeptStep.{KeptStep}
-use Rattle.krates_selection.specs.declared.key.FactKey.{FactKey}
+use Rattle.krates_selection.specs.declared.key.KeptFactKey.{KeptFactKey}
 use Rattle.krates_selection.specs.declared.keys.Tables.{Tables}
 use Rattle.krates_questions.specs.CrateTable.{AreNumbersOf}
 use Rattle.krates_rules.proofs.SeenInOrder.{sorted_same}
@@ -46,7 +46,7 @@ numbers_of-requires-2 c =
     let steps = c.args.steps.now in
     let t : Tables = record { lookup = c.args.context.now.lookup; krates = c.args.krates; numbers = c.deref-2.result } in
     let low = homes_low t (numbered_facts steps) c.in_ok-keys.keys.items c.in_ok-keys.ensures in
-    subst (λ (ks : List FactKey). All (λ f. home f < length c.args.krates.now) (map key_view ks)) (sym c.deref-3.ensures.value) low
+    subst (λ (ks : List KeptFactKey). All (λ f. home f < length c.args.krates.now) (map key_view ks)) (sym c.deref-3.ensures.value) low
 
 pub first_steps-requires-clause-backward : goal.first_steps-requires-clause-backward
 first_steps-requires-clause-backward c =
@@ -85,9 +85,9 @@ returns c =
     let chosen = c.in_ok-part.part.chosen.items in
     let part = c.in_ok-part.part.uses.items in
     let keys = c.deref-6.result.now in
-    let keyed = subst (λ (ks : List FactKey). AllZip (IsKeyOf t) (numbered_facts steps) ks) (sym c.deref-6.ensures.value) c.in_ok-keys.ensures in
+    let keyed = subst (λ (ks : List KeptFactKey). AllZip (IsKeyOf t) (numbered_facts steps) ks) (sym c.deref-6.ensures.value) c.in_ok-keys.ensures in
     let first : c.deref-3.result.now ≡ keys = c.deref-3.ensures.value ∙ sym c.deref-6.ensures.value in
-    let counted = subst (λ (ns : List ℕ). AreFactNumbers (map key_view keys) ns) (sym c.deref-5.ensures.value) (subst (λ (ks : List FactKey). AreFactNumbers (map key_view ks) c.in_ok-numbers.numbers.items) first c.in_ok-numbers.ensures) in
+    let counted = subst (λ (ns : List ℕ). AreFactNumbers (map key_view keys) ns) (sym c.deref-5.ensures.value) (subst (λ (ks : List KeptFactKey). AreFactNumbers (map key_view ks) c.in_ok-numbers.numbers.items) first c.in_ok-numbers.ensures) in
     let same : c.deref-4.result.now ≡ uses_of steps = c.deref-4.ensures.value ∙ c.in_ok-uses.ensures in
     IfOk-weaker c.chosen.result (λ (kept : Vec KeptStep). AreChosen keys steps chosen part kept.items) (λ (kept : Vec KeptStep). AreStepsOf (document_of b) b.setting.now c.args.krates.now steps kept.items)
     (λ kept made. steps_are c.comparison.ensures.order t b.setting.now steps keys c.requires.ascending c.requires.trace keyed c.one_reading.ensures.once c.firsts.ensures.follow c.firsts.ensures.own c.deref-5.result.now c.deref-4.result.now part chosen kept.items

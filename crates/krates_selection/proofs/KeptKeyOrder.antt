@@ -5,9 +5,9 @@ use Rattle.std.proofs.lemmas.Map.Lookups.{exact_unsigned}
 use Rattle.std.specs.Ordering.{nat_cmp}
 use Rattle.krates_cm.specs.Document.{text_view}
 use Rattle.krates_selection.specs.Keys.{key_cmp, key_view}
-use Rattle.krates_selection.specs.declared.key.EdgeKey.{EdgeKey}
-use Rattle.krates_selection.specs.declared.key.FactKey.{FactKey}
-use Rattle.krates_selection.specs.declared.key.FactKey.TheVariants as keys
+use Rattle.krates_selection.specs.declared.key.KeptEdgeKey.{KeptEdgeKey}
+use Rattle.krates_selection.specs.declared.key.KeptFactKey.{KeptFactKey}
+use Rattle.krates_selection.specs.declared.key.KeptFactKey.TheVariants as keys
 use Rattle.krates_selection.specs.declared.key.FeatureKey.{FeatureKey}
 use Rattle.krates_selection.specs.declared.key.ToggleKey.{ToggleKey}
 use Rattle.krates_rules.proofs.KeyOrder.{equal_then, kind_tells, option_tells, text_tells, then_equal}
@@ -24,7 +24,7 @@ feature_to a b h =
 feature_from : (a b : FeatureKey) → a.krate ≡ b.krate → a.name.now ≡ b.name.now → key_cmp (keys.Feature a) (keys.Feature b) ≡ Equal
 feature_from a b i n = equal_then _ _ ((number_tells a.krate b.krate).1 i) ((text_tells a.name.now b.name.now).1 n)
 
-kept_to : (a b : EdgeKey) → key_cmp (keys.Kept a) (keys.Kept b) ≡ Equal → key_view (keys.Kept a) ≡ key_view (keys.Kept b)
+kept_to : (a b : KeptEdgeKey) → key_cmp (keys.Kept a) (keys.Kept b) ≡ Equal → key_view (keys.Kept a) ≡ key_view (keys.Kept b)
 kept_to a b h =
     let w = then_equal _ _ h in
     let v = then_equal _ _ w.1 in
@@ -35,7 +35,7 @@ kept_to a b h =
     let t = (option_tells a.cfg.now b.cfg.now).0 u.1 in
     rw (p, c, k, t) refl
 
-kept_from : (a b : EdgeKey) → key_view (keys.Kept a) ≡ key_view (keys.Kept b) → key_cmp (keys.Kept a) (keys.Kept b) ≡ Equal
+kept_from : (a b : KeptEdgeKey) → key_view (keys.Kept a) ≡ key_view (keys.Kept b) → key_cmp (keys.Kept a) (keys.Kept b) ≡ Equal
 kept_from a b e =
     let p : a.parent ≡ b.parent = cc in
     let c : a.child ≡ b.child = cc in
@@ -58,7 +58,7 @@ toggled_from a b e =
     equal_then _ _ ((number_tells a.by b.by).1 p) (feature_from a.feature b.feature k n)
 
 -- keys that compare as equal are the same fact
-pub key_to : (a b : FactKey) → key_cmp a b ≡ Equal → key_view a ≡ key_view b
+pub key_to : (a b : KeptFactKey) → key_cmp a b ≡ Equal → key_view a ≡ key_view b
 key_to (keys.Crate k) (keys.Crate j) h = let e = (number_tells k j).0 h in rw e refl
 key_to (keys.Crate k) (keys.Feature g) h = absurd cc
 key_to (keys.Crate k) (keys.Kept e) h = absurd cc
@@ -77,7 +77,7 @@ key_to (keys.Toggled o) (keys.Kept e) h = absurd cc
 key_to (keys.Toggled o) (keys.Toggled p) h = toggled_to o p h
 
 -- and keys of the same fact compare as equal
-pub key_from : (a b : FactKey) → key_view a ≡ key_view b → key_cmp a b ≡ Equal
+pub key_from : (a b : KeptFactKey) → key_view a ≡ key_view b → key_cmp a b ≡ Equal
 key_from (keys.Crate k) (keys.Crate j) e = let i : k ≡ j = cc in (number_tells k j).1 i
 key_from (keys.Crate k) (keys.Feature g) e = absurd cc
 key_from (keys.Crate k) (keys.Kept x) e = absurd cc
