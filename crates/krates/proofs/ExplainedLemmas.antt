@@ -16,7 +16,7 @@ use Rattle.krates_selection.proofs.PickedSteps.{seen_back}
 use Rattle.krates_selection.specs.Explanation.{AreBelow, explained_steps}
 use Rattle.krates_selection.specs.CrateNumbers.{id_at, no_id}
 use Rattle.krates_selection.specs.KeptFacts.{Enables, IsBelow, KeepsCrate, KeepsEdge, KeptModel, Toggles, fact_in, facts_in, kept_view, step_in, steps_in}
-use Rattle.krates_selection.specs.Tables.{AreStepsOf, IsKeptIn}
+use Rattle.krates_selection.specs.KeptTables.{AreStepsOf, IsKeptIn}
 use Rattle.krates_selection.specs.declared.kept.Explanation.{Explanation}
 use Rattle.krates_selection.specs.declared.kept.KeptStep.{KeptStep}
 use Rattle.krates_graph.specs.Graph.{StoredGraph}

@@ -13,7 +13,7 @@ ghost use Rattle.krates_drawing.specs.Views.{arrow_view, sheet_view};
 ghost use Rattle.krates_ids.specs.declared.error.Error.TheVariants.{Memory};
 ghost use Rattle.krates_rules.specs.Admission.{IsAdmitted};
 ghost use Rattle.krates_rules.specs.NamedIds.{NamesReadIds};
-ghost use Rattle.krates_selection.specs.Tables.{AreStepsOf};
+ghost use Rattle.krates_selection.specs.KeptTables.{AreStepsOf};
 ghost use Rattle.krates_questions.specs.DocumentModel.{as_resolved};
 ghost use Rattle.krates_selection.specs.Explained.{IsExplained};
 ghost use Rattle.krates_selection.specs.Selection.{IsSelection, RefusesSelection};

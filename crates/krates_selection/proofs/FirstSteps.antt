@@ -9,10 +9,10 @@ use Rattle.krates_selection.specs.Chosen.{AreChosen, IsChosenIn}
 use Rattle.krates_selection.specs.Explanation.{AreBelow, uses_in}
 use Rattle.krates_selection.specs.KeptFacts.{Enables, IsBelow, KeepsCrate, KeepsEdge, KeptModel, Toggles, fact_in, facts_in, step_in, steps_in}
 use Rattle.krates_selection.specs.Keys.{AreFactNumbers, home, key_view}
-use Rattle.krates_selection.specs.Tables.{AreKeptFacts, AreStepsOf, IsKeptIn, IsKeyOf, document_in, kids_in, numbered_facts}
+use Rattle.krates_selection.specs.KeptTables.{AreKeptFacts, AreStepsOf, IsKeptIn, IsKeyOf, document_in, kids_in, numbered_facts}
 use Rattle.krates_selection.specs.declared.kept.KeptStep.{KeptStep}
 use Rattle.krates_selection.specs.declared.key.KeptFactKey.{KeptFactKey}
-use Rattle.krates_selection.specs.declared.keys.Tables.{Tables}
+use Rattle.krates_selection.specs.declared.keys.KeptTables.{KeptTables}
 use Rattle.krates_selection.proofs.KeptCrates.{kept_crates, same_in}
 use Rattle.krates_selection.proofs.PickedSteps.{seen_back}
 use Rattle.krates_selection.proofs.ToldParts.{use_these}
@@ -58,7 +58,7 @@ follow_backward q whole uses these each k x at u among =
     e.2.before
 
 -- each fact of a trace is about kept crates
-pub kept_facts : (t : Tables) (s : SettingModel) (steps : List NumberedStep) → (tr : IsTrace (document_in t) s steps) → ((i : Id) → Derivable (questions (document_in t) s) (Crate i) → IsKeptIn (kids_in t) i) → AreKeptFacts t steps
+pub kept_facts : (t : KeptTables) (s : SettingModel) (steps : List NumberedStep) → (tr : IsTrace (document_in t) s steps) → ((i : Id) → Derivable (questions (document_in t) s) (Crate i) → IsKeptIn (kids_in t) i) → AreKeptFacts t steps
 unfolding questions
 kept_facts t s steps tr crates k d lt =
     let r = document_in t in
@@ -80,14 +80,14 @@ home_low n (KeepsEdge parent child kind cfg) low = low.0
 home_low n (Toggles by krate name) low = low.0
 
 -- the crate of each key has a number
-pub homes_low : (t : Tables) (facts : List NumberedFact) (keys : List KeptFactKey) → AllZip (IsKeyOf t) facts keys → All (λ f. home f < length (kids_in t)) (map key_view keys)
+pub homes_low : (t : KeptTables) (facts : List NumberedFact) (keys : List KeptFactKey) → AllZip (IsKeyOf t) facts keys → All (λ f. home f < length (kids_in t)) (map key_view keys)
 homes_low t facts keys z k d lt =
     let y = kept_at keys k (omega (arith, lt, length-map keys key_view)) in
     let x = left_of (IsKeyOf t) facts keys k y.0 z y.1 in
     let there = get_or_from_slice_get (map key_view keys) k (key_view y.0) d (slice_get-map key_view keys k ∙ ap (option_map key_view) y.1) in
     subst (λ f. home f < length (kids_in t)) (sym there) (home_low (length (kids_in t)) (key_view y.0) x.2.below)
 
-module _ (tells : OrderTellsSame) (t : Tables) (s : SettingModel) (steps : List NumberedStep) (keys : List KeptFactKey) (sorted : IsStrictlySortedBy id_cmp (kids_in t)) (tr : IsTrace (document_in t) s steps) (keyed : AllZip (IsKeyOf t) (numbered_facts steps) keys) where
+module _ (tells : OrderTellsSame) (t : KeptTables) (s : SettingModel) (steps : List NumberedStep) (keys : List KeptFactKey) (sorted : IsStrictlySortedBy id_cmp (kids_in t)) (tr : IsTrace (document_in t) s steps) (keyed : AllZip (IsKeyOf t) (numbered_facts steps) keys) where
   -- each step of the derivation has a key, which says its fact
   key_of : (k : ℕ) (x : StepModel) → slice_get tr.steps k ≡ Some x → (key : KeptFactKey) × (slice_get keys k ≡ Some key) × (fact_in (kids_in t) (key_view key) ≡ x.fact) × IsBelow (length (kids_in t)) (key_view key)
   key_of k x at =

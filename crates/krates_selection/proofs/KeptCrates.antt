@@ -7,7 +7,7 @@ use Rattle.krates_selection.specs.KeptFacts.{KeptModel, KeepsCrate, KeepsEdge, E
 use Rattle.krates_selection.specs.CrateNumbers.{id_at}
 use Rattle.krates_selection.proofs.CrateNumbers.{one_number}
 use Rattle.krates_selection.proofs.KeptEnds.{child_kept, crate_of_feature, parent_kept, toggled_kept}
-use Rattle.krates_selection.specs.Tables.{HasKeptCrates, IsKeptIn}
+use Rattle.krates_selection.specs.KeptTables.{HasKeptCrates, IsKeptIn}
 use Rattle.krates_ids.specs.Identity.{Identity, id_cmp}
 use Rattle.krates_selection.specs.Trace.{Names}
 use Rattle.krates_selection.specs.declared.trace.NumberedFact.{NumberedFact}

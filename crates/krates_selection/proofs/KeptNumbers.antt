@@ -5,8 +5,8 @@ use Rattle.std.proofs.lemmas.Option.{slice_get-map, slice_get_read, slice_get_wi
 use Rattle.std.specs.List.{slice_get}
 use Rattle.krates_cm.specs.Document.{NodeModel, NodeDepModel, Text}
 use Rattle.krates_selection.specs.CrateNumbers.{id_at, no_id}
-use Rattle.krates_selection.specs.Tables.{IsChildAt, IsKeptChild, IsKeptIn, IsKeptNode, IsKeptWithNode, IsNumberAt, IsTables, document_in, kids_in}
-use Rattle.krates_selection.specs.declared.keys.Tables.{Tables}
+use Rattle.krates_selection.specs.KeptTables.{IsChildAt, IsKeptChild, IsKeptIn, IsKeptNode, IsKeptWithNode, IsNumberAt, IsTables, document_in, kids_in}
+use Rattle.krates_selection.specs.declared.keys.KeptTables.{KeptTables}
 use Rattle.krates_selection.proofs.FactPlaces.{zip_long}
 use Rattle.krates_ids.specs.Identity.{Identity, Reads}
 use Rattle.krates_questions.proofs.Lookups.{one_id}
@@ -55,7 +55,7 @@ node_has once d i h (n, has) none =
     none there.0 (there.1 ∙ ap (λ (x : Id). Some x) same)
 
 -- and, where it is kept, one among the kept ones
-kept_number : ReadsOnce → (t : Tables) (i : Id) (number answer : Option ℕ) → IsTables t → IsKeptWithNode (document_in t) (kids_in t) i → IsNumberIn t.lookup.now i number → answer ≡ at_number t.numbers.now number → HasNumber t.krates.now i answer
+kept_number : ReadsOnce → (t : KeptTables) (i : Id) (number answer : Option ℕ) → IsTables t → IsKeptWithNode (document_in t) (kids_in t) i → IsNumberIn t.lookup.now i number → answer ≡ at_number t.numbers.now number → HasNumber t.krates.now i answer
 kept_number once t i None answer h kept n is = absurd (node_has once t.lookup.now i h.lookup kept.1 n)
 kept_number once t i (Some m) answer h kept n is =
     let ids = t.lookup.now.table.ids.items in
@@ -64,13 +64,13 @@ kept_number once t i (Some m) answer h kept n is =
     let answered : w.0 ≡ answer = sym (is ∙ get_or_from_slice_get t.numbers.now m w.0 None w.1) in
     has_number t.krates.now i answer kept.0 (subst (IsNumberOf kids i) answered w.2)
 
-numbers_long : (t : Tables) → IsTables t → length t.numbers.now ≡ length t.lookup.now.table.ids.items
+numbers_long : (t : KeptTables) → IsTables t → length t.numbers.now ≡ length t.lookup.now.table.ids.items
 numbers_long t h =
     let ids = t.lookup.now.table.ids.items in
     zip_long (IsNumberOf (map id_of t.krates.now)) (map id_of ids) t.numbers.now h.numbers ∙ length-map ids id_of
 
 -- each number of the document has a place in the table
-pub number_within : (t : Tables) (i : Id) (number : Option ℕ) → IsTables t → IsNumberIn t.lookup.now i number → IfSome number (λ n. n < length t.numbers.now)
+pub number_within : (t : KeptTables) (i : Id) (number : Option ℕ) → IsTables t → IsNumberIn t.lookup.now i number → IfSome number (λ n. n < length t.numbers.now)
 number_within t i None h n = tt
 number_within t i (Some m) h n =
     let ids = t.lookup.now.table.ids.items in
@@ -79,12 +79,12 @@ number_within t i (Some m) h n =
 -- ---- what stands at a place
 
 -- the number of the crate whose node stands at the place, in a table of them
-pub record HasNumberAt (t : Tables) (place : ℕ) (answer : Option ℕ) : Type 0 where
+pub record HasNumberAt (t : KeptTables) (place : ℕ) (answer : Option ℕ) : Type 0 where
   pub number : ℕ
   pub answered : answer ≡ Some number
   pub is : IsNumberAt t place number
 
-pub number_at : ReadsOnce → (t : Tables) (place : ℕ) (number answer : Option ℕ) → IsTables t → (k : IsKeptNode t place) → IsNumberIn t.lookup.now k.krate number → answer ≡ at_number t.numbers.now number → HasNumberAt t place answer
+pub number_at : ReadsOnce → (t : KeptTables) (place : ℕ) (number answer : Option ℕ) → IsTables t → (k : IsKeptNode t place) → IsNumberIn t.lookup.now k.krate number → answer ≡ at_number t.numbers.now number → HasNumberAt t place answer
 number_at once t place number answer h k n is =
     let r = document_in t in
     let has : (n : NodeModel) × HasNode r k.krate n = (k.node.node, record { among = contains_at r.graph.nodes place k.node.node k.node.at; id = k.node.id }) in
@@ -96,7 +96,7 @@ number_at once t place number answer h k n is =
     }
 
 -- the number of the crate to which the dependency at these places leads
-pub record HasNumberFor (t : Tables) (place index : ℕ) (answer : Option ℕ) : Type 0 where
+pub record HasNumberFor (t : KeptTables) (place index : ℕ) (answer : Option ℕ) : Type 0 where
   pub number : ℕ
   pub answered : answer ≡ Some number
   pub is : IsChildAt t place index number
@@ -110,7 +110,7 @@ one_child once r p q c e place index a b =
     let reads = subst (λ (x : NodeDepModel). ReadsAs x.pkg e) (sym d) b.id in
     sym a.id.same ∙ ap id_of (once a.dep.pkg a.id.read reads.read a.id.reads reads.reads) ∙ reads.same
 
-pub child_number : ReadsOnce → (t : Tables) (place index : ℕ) (number answer : Option ℕ) → IsTables t → (k : IsKeptChild t place index) → IsNumberIn t.lookup.now k.child number → answer ≡ at_number t.numbers.now number
+pub child_number : ReadsOnce → (t : KeptTables) (place index : ℕ) (number answer : Option ℕ) → IsTables t → (k : IsKeptChild t place index) → IsNumberIn t.lookup.now k.child number → answer ≡ at_number t.numbers.now number
     → HasNumberFor t place index answer
 child_number once t place index number answer h k n is =
     let w = kept_number once t k.child number answer h k.kept n is in

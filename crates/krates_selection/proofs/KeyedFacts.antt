@@ -6,11 +6,11 @@ use Rattle.krates_cm.specs.Document.{Text}
 use Rattle.krates_cm.specs.declared.dependency.DependencyKind.{DependencyKind}
 use Rattle.krates_selection.specs.KeptFacts.{edge_in}
 use Rattle.krates_selection.specs.CrateNumbers.{id_at}
-use Rattle.krates_selection.specs.Tables.{IsEdgeIn, IsFeatureIn, IsKeyOf, IsNumberAt, document_in, kids_in}
+use Rattle.krates_selection.specs.KeptTables.{IsEdgeIn, IsFeatureIn, IsKeyOf, IsNumberAt, document_in, kids_in}
 use Rattle.krates_selection.specs.declared.key.KeptEdgeKey.{KeptEdgeKey}
 use Rattle.krates_selection.specs.declared.key.KeptFactKey.TheVariants as keys
 use Rattle.krates_selection.specs.declared.key.FeatureKey.{FeatureKey}
-use Rattle.krates_selection.specs.declared.keys.Tables.{Tables}
+use Rattle.krates_selection.specs.declared.keys.KeptTables.{KeptTables}
 use Rattle.krates_ids.specs.Identity.{Identity}
 use Rattle.krates_questions.specs.ListedFeatures.{listed_features}
 use Rattle.krates_questions.specs.Numbering.{FeatureAt}
@@ -19,7 +19,7 @@ use Rattle.krates_rules.specs.Facts.{Id, Edge, Crate, Feature, Kept, Toggled}
 use Rattle.krates_rules.specs.Resolved.{NodeAt}
 
 -- the feature of this number
-pub feature_is : (t : Tables) (number place n : ℕ) (name : Text) (i : Id) (f : Text) → (at : FeatureAt (document_in t) i f number) → slice_get (listed_features (document_in t)) number ≡ Some (place, name)
+pub feature_is : (t : KeptTables) (number place n : ℕ) (name : Text) (i : Id) (f : Text) → (at : FeatureAt (document_in t) i f number) → slice_get (listed_features (document_in t)) number ≡ Some (place, name)
     → ((j : Id) → NodeAt (document_in t) j place → id_at (kids_in t) n ≡ j) → (id_at (kids_in t) n ≡ i) × (name ≡ f)
 feature_is t number place n name i f at here is =
     let e : (at.place, f) ≡ (place, name) = same_Some (at.place, f) (place, name) (sym at.at ∙ here) in
@@ -30,10 +30,10 @@ feature_is t number place n name i f at here is =
 pub edge_same : (kids : List Identity) (p c : ℕ) (k : DependencyKind) (t : Option Text) (e : Edge) → id_at kids p ≡ e.parent → id_at kids c ≡ e.child → k ≡ e.kind → t ≡ e.cfg → Kept (edge_in kids p c k t) ≡ Kept e
 edge_same kids p c k t e a b x y = rw (a, b, x, y) refl
 
-pub key_crate : (t : Tables) (place n : ℕ) → IsNumberAt t place n → IsKeyOf t (numbered.Crate place) (keys.Crate n)
+pub key_crate : (t : KeptTables) (place n : ℕ) → IsNumberAt t place n → IsKeyOf t (numbered.Crate place) (keys.Crate n)
 key_crate t place n h = record { is = λ f names. ap (λ (i : Id). Crate i) (h.is names.krate names.node) ∙ sym names.is; below = h.below }
 
-pub key_feature : (t : Tables) (number : ℕ) (k : FeatureKey) → IsFeatureIn t number k → IsKeyOf t (numbered.Feature number) (keys.Feature k)
+pub key_feature : (t : KeptTables) (number : ℕ) (k : FeatureKey) → IsFeatureIn t number k → IsKeyOf t (numbered.Feature number) (keys.Feature k)
 key_feature t number k h = record {
   is = λ f names. (
       let w = h.is names.krate names.name names.at in
@@ -41,10 +41,10 @@ key_feature t number k h = record {
   below = h.below;
 }
 
-pub key_kept : (t : Tables) (place index kind : ℕ) (k : KeptEdgeKey) → IsEdgeIn t place index kind k → IsKeyOf t (numbered.Kept place index kind) (keys.Kept k)
+pub key_kept : (t : KeptTables) (place index kind : ℕ) (k : KeptEdgeKey) → IsEdgeIn t place index kind k → IsKeyOf t (numbered.Kept place index kind) (keys.Kept k)
 key_kept t place index kind k h = record { is = λ f names. h.is names.edge names.at ∙ sym names.is; below = h.below }
 
-pub key_toggled : (t : Tables) (place number n : ℕ) (k : FeatureKey) → IsNumberAt t place n → IsFeatureIn t number k → IsKeyOf t (numbered.Toggled place number) (keys.Toggled (record { by = n; feature = k }))
+pub key_toggled : (t : KeptTables) (place number n : ℕ) (k : FeatureKey) → IsNumberAt t place n → IsFeatureIn t number k → IsKeyOf t (numbered.Toggled place number) (keys.Toggled (record { by = n; feature = k }))
 key_toggled t place number n k h g = record {
   is = λ f names. (
       let w = g.is names.krate names.name names.at in

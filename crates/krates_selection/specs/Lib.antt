@@ -5,12 +5,12 @@ pub mod Explained
 pub mod Explanation
 pub mod First
 pub mod KeptFacts
+pub mod KeptTables
 pub mod Keys
 pub mod Needed
 pub mod Part
 pub mod Picked
 pub mod Selection
 pub mod SelectionOrder
-pub mod Tables
 pub mod Trace
 pub mod Work

@@ -3,7 +3,7 @@
 ghost use Rattle.std.specs.Prelude.{◌≡◌, ◌<◌, All, IfOk, length, map};
 ghost use Rattle.std.specs.List.Sorted.{IsStrictlySortedBy};
 ghost use Rattle.krates_selection.specs.Chosen.{AreChosen};
-ghost use Rattle.krates_selection.specs.Tables.{AreStepsOf, IsKeptIn};
+ghost use Rattle.krates_selection.specs.KeptTables.{AreStepsOf, IsKeptIn};
 ghost use Rattle.krates_ids.specs.Identity.{id_cmp};
 ghost use Rattle.krates_questions.specs.Lookup.{IsLookup};
 ghost use Rattle.krates_questions.specs.Context.{Derives, document_of};
@@ -13,7 +13,7 @@ ghost use Rattle.krates_rules.specs.Facts.{Crate, Id};
 use crate::firsts::first_steps;
 use crate::kept::KeptStep;
 use crate::key::{KeptFactKey, fact_of};
-use crate::keys::{Tables, keys_of};
+use crate::keys::{KeptTables, keys_of};
 use crate::laws as step_laws;
 use crate::numbering::numbers_of;
 use crate::part::Part;
@@ -43,7 +43,7 @@ pub fn kept_steps<'a>(
     laws::comparison();
     step_laws::firsts();
     let krate_numbers = crate_numbers_of(context.alloc, krates, &context.lookup.table.ids)?;
-    let tables = Tables {
+    let tables = KeptTables {
         lookup: context.lookup,
         krates,
         numbers: &krate_numbers,

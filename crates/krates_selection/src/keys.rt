@@ -3,7 +3,7 @@
 ghost use Rattle.std.specs.Prelude.{◌≡◌, IfOk};
 ghost use Rattle.std.specs.List.{AllZip};
 ghost use Rattle.krates_cm.specs.Document.{dep_kind_info_view};
-ghost use Rattle.krates_selection.specs.Tables.{AreKeptFacts, IsChildAt, IsEdgeIn, IsFeatureIn, IsKeptChild, IsKeptEdge, IsKeptFact, IsKeptFeature, IsKeptNode, IsKeyOf, IsNumberAt, IsTables, numbered_facts};
+ghost use Rattle.krates_selection.specs.KeptTables.{AreKeptFacts, IsChildAt, IsEdgeIn, IsFeatureIn, IsKeptChild, IsKeptEdge, IsKeptFact, IsKeptFeature, IsKeptNode, IsKeyOf, IsNumberAt, IsTables, numbered_facts};
 ghost use Rattle.krates_questions.specs.Lookup.{IsLookup, resolved_view};
 ghost use Rattle.krates_selection.specs.Trace.{EdgeAt};
 ghost use Rattle.krates_rules.specs.Facts.{Edge};
@@ -19,7 +19,7 @@ use std::alloc::{AllocError, Global};
 
 /// A document, and the kept crates of it in the order of their ids.
 #[derive(Clone, Copy)]
-pub(crate) struct Tables<'a, 's> {
+pub(crate) struct KeptTables<'a, 's> {
     /// The document.
     pub lookup: &'s Lookup<'a>,
     /// The kept crates.
@@ -31,7 +31,7 @@ pub(crate) struct Tables<'a, 's> {
 /// The key of the fact of each step.
 pub(crate) fn keys_of<'a>(
     alloc: Global,
-    tables: &Tables<'a, '_>,
+    tables: &KeptTables<'a, '_>,
     steps: &[NumberedStep],
 ) -> Result<Vec<KeptFactKey<'a>>, AllocError>
     requires tables { IsTables tables.now }
@@ -46,7 +46,7 @@ pub(crate) fn keys_of<'a>(
 }
 
 /// The key of a fact.
-fn key_at<'a>(tables: &Tables<'a, '_>, fact: NumberedFact) -> KeptFactKey<'a>
+fn key_at<'a>(tables: &KeptTables<'a, '_>, fact: NumberedFact) -> KeptFactKey<'a>
     requires tables { IsTables tables.now }
     requires kept { IsKeptFact tables.now fact }
     ensures { IsKeyOf tables.now fact result }
@@ -67,7 +67,7 @@ fn key_at<'a>(tables: &Tables<'a, '_>, fact: NumberedFact) -> KeptFactKey<'a>
 }
 
 /// The number of the crate whose node stands at a place.
-fn crate_at(tables: &Tables<'_, '_>, place: usize) -> usize
+fn crate_at(tables: &KeptTables<'_, '_>, place: usize) -> usize
     requires tables { IsTables tables.now }
     requires kept { IsKeptNode tables.now place }
     ensures { IsNumberAt tables.now place result }
@@ -81,7 +81,7 @@ fn crate_at(tables: &Tables<'_, '_>, place: usize) -> usize
 }
 
 /// The number of the crate that a dependency leads to.
-fn child_at(tables: &Tables<'_, '_>, place: usize, index: usize) -> usize
+fn child_at(tables: &KeptTables<'_, '_>, place: usize, index: usize) -> usize
     requires tables { IsTables tables.now }
     requires kept { IsKeptChild tables.now place index }
     ensures { IsChildAt tables.now place index result }
@@ -95,7 +95,7 @@ fn child_at(tables: &Tables<'_, '_>, place: usize, index: usize) -> usize
 }
 
 /// The key of the feature of a number.
-fn feature_at<'a>(tables: &Tables<'a, '_>, number: usize) -> FeatureKey<'a>
+fn feature_at<'a>(tables: &KeptTables<'a, '_>, number: usize) -> FeatureKey<'a>
     requires tables { IsTables tables.now }
     requires kept { IsKeptFeature tables.now number }
     ensures { IsFeatureIn tables.now number result }
@@ -108,7 +108,12 @@ fn feature_at<'a>(tables: &Tables<'a, '_>, number: usize) -> FeatureKey<'a>
 }
 
 /// The key of the edge at these places.
-fn edge_at<'a>(tables: &Tables<'a, '_>, place: usize, index: usize, kind: usize) -> KeptEdgeKey<'a>
+fn edge_at<'a>(
+    tables: &KeptTables<'a, '_>,
+    place: usize,
+    index: usize,
+    kind: usize,
+) -> KeptEdgeKey<'a>
     requires tables { IsTables tables.now }
     requires kept { IsKeptEdge tables.now place index kind }
     ensures { IsEdgeIn tables.now place index kind result }

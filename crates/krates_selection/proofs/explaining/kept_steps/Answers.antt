@@ -8,10 +8,10 @@ use Rattle.krates_selection.proofs.FactPlaces.{zip_long}
 use Rattle.krates_selection.proofs.ToldParts.{chosen_low}
 use Rattle.krates_selection.specs.Chosen.{AreChosen}
 use Rattle.krates_selection.specs.Keys.{AreFactNumbers, home, key_view}
-use Rattle.krates_selection.specs.Tables.{AreStepsOf, IsKeyOf, numbered_facts}
+use Rattle.krates_selection.specs.KeptTables.{AreStepsOf, IsKeyOf, numbered_facts}
 use Rattle.krates_selection.specs.declared.kept.KeptStep.{KeptStep}
 use Rattle.krates_selection.specs.declared.key.KeptFactKey.{KeptFactKey}
-use Rattle.krates_selection.specs.declared.keys.Tables.{Tables}
+use Rattle.krates_selection.specs.declared.keys.KeptTables.{KeptTables}
 use Rattle.krates_questions.specs.CrateTable.{AreNumbersOf}
 use Rattle.krates_rules.proofs.SeenInOrder.{sorted_same}
 use Rattle.krates_questions.specs.Context.{document_of, rules_of}
@@ -38,13 +38,13 @@ keys_of-requires-clause-tables c =
 
 pub keys_of-requires-clause-kept : goal.keys_of-requires-clause-kept
 keys_of-requires-clause-kept c =
-    let t : Tables = record { lookup = c.args.context.now.lookup; krates = c.args.krates; numbers = c.deref-2.result } in
+    let t : KeptTables = record { lookup = c.args.context.now.lookup; krates = c.args.krates; numbers = c.deref-2.result } in
     kept_facts t c.args.context.now.setting.now c.args.steps.now c.requires.trace c.requires.crates
 
 pub numbers_of-requires-2 : goal.numbers_of-requires-2
 numbers_of-requires-2 c =
     let steps = c.args.steps.now in
-    let t : Tables = record { lookup = c.args.context.now.lookup; krates = c.args.krates; numbers = c.deref-2.result } in
+    let t : KeptTables = record { lookup = c.args.context.now.lookup; krates = c.args.krates; numbers = c.deref-2.result } in
     let low = homes_low t (numbered_facts steps) c.in_ok-keys.keys.items c.in_ok-keys.ensures in
     subst (λ (ks : List KeptFactKey). All (λ f. home f < length c.args.krates.now) (map key_view ks)) (sym c.deref-3.ensures.value) low
 
@@ -57,7 +57,7 @@ first_steps-requires-clause-backward c =
 pub first_steps-requires-clause-long : goal.first_steps-requires-clause-long
 first_steps-requires-clause-long c =
     let steps = c.args.steps.now in
-    let t : Tables = record { lookup = c.args.context.now.lookup; krates = c.args.krates; numbers = c.deref-2.result } in
+    let t : KeptTables = record { lookup = c.args.context.now.lookup; krates = c.args.krates; numbers = c.deref-2.result } in
     let same : c.deref-4.result.now ≡ uses_of steps = c.deref-4.ensures.value ∙ c.in_ok-uses.ensures in
     let keys = zip_long (IsKeyOf t) (numbered_facts steps) c.in_ok-keys.keys.items c.in_ok-keys.ensures in
     ap length c.deref-5.ensures.value ∙ c.in_ok-numbers.ensures.long ∙ length-map c.deref-3.result.now key_view ∙ ap length c.deref-3.ensures.value ∙ keys ∙ length-map steps (λ (x : NumberedStep). x.fact)
@@ -66,7 +66,7 @@ first_steps-requires-clause-long c =
 pub chosen-requires-clause-long : goal.chosen-requires-clause-long
 chosen-requires-clause-long c =
     let steps = c.args.steps.now in
-    let t : Tables = record { lookup = c.args.context.now.lookup; krates = c.args.krates; numbers = c.deref-2.result } in
+    let t : KeptTables = record { lookup = c.args.context.now.lookup; krates = c.args.krates; numbers = c.deref-2.result } in
     let keys = zip_long (IsKeyOf t) (numbered_facts steps) c.in_ok-keys.keys.items c.in_ok-keys.ensures in
     ap length c.deref-6.ensures.value ∙ keys ∙ length-map steps (λ (x : NumberedStep). x.fact)
 
@@ -81,7 +81,7 @@ pub returns : goal.returns
 returns c =
     let b = c.args.context.now in
     let steps = c.args.steps.now in
-    let t : Tables = record { lookup = b.lookup; krates = c.args.krates; numbers = c.deref-2.result } in
+    let t : KeptTables = record { lookup = b.lookup; krates = c.args.krates; numbers = c.deref-2.result } in
     let chosen = c.in_ok-part.part.chosen.items in
     let part = c.in_ok-part.part.uses.items in
     let keys = c.deref-6.result.now in

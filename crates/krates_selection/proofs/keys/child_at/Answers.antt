@@ -1,7 +1,7 @@
 use Rattle.std.proofs.Common.{◌∙◌, subst, sym}
 use Rattle.std.proofs.lemmas.Option.{same_Some}
 use Rattle.krates_selection.proofs.KeptNumbers.{child_number, number_within}
-use Rattle.krates_selection.specs.Tables.{IsChildAt}
+use Rattle.krates_selection.specs.KeptTables.{IsChildAt}
 use Rattle.krates_questions.proofs.NodeNumbers.{dep_number_within, dep_numbered, dep_numbers_within}
 use Rattle.krates_selection.proofs.keys.child_at.Goals as goal
 

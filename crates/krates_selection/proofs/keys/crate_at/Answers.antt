@@ -1,7 +1,7 @@
 use Rattle.std.proofs.Common.{◌∙◌, subst, sym}
 use Rattle.std.proofs.lemmas.Option.{same_Some, slice_get_within}
 use Rattle.krates_selection.proofs.KeptNumbers.{number_at, number_within}
-use Rattle.krates_selection.specs.Tables.{IsNumberAt, document_in}
+use Rattle.krates_selection.specs.KeptTables.{IsNumberAt, document_in}
 use Rattle.krates_questions.proofs.NodeNumbers.{node_number_within, node_numbered}
 use Rattle.krates_selection.proofs.keys.crate_at.Goals as goal
 

@@ -1,7 +1,7 @@
 use Rattle.std.proofs.Common.{◌<◌, length, subst}
 use Rattle.krates_selection.proofs.KeptNumbers.{listed_there}
 use Rattle.krates_selection.proofs.KeyedFacts.{feature_is}
-use Rattle.krates_selection.specs.Tables.{document_in}
+use Rattle.krates_selection.specs.KeptTables.{document_in}
 use Rattle.krates_questions.proofs.FeatureNumbers.{number_within}
 use Rattle.krates_selection.proofs.ListedFeatures.{listed_long}
 use Rattle.krates_selection.proofs.keys.feature_at.Goals as goal

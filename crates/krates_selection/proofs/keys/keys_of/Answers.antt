@@ -1,7 +1,7 @@
 use Rattle.std.proofs.Common.{◌+◌, take, sym, subst}
 use Rattle.std.specs.List.{AllZip}
 use Rattle.krates_rules.proofs.Zips.{zip_read}
-use Rattle.krates_selection.specs.Tables.{IsKeyOf, numbered_facts}
+use Rattle.krates_selection.specs.KeptTables.{IsKeyOf, numbered_facts}
 use Rattle.krates_selection.specs.declared.trace.NumberedStep.{NumberedStep}
 use Rattle.krates_selection.proofs.keys.keys_of.Goals as goal
 

@@ -1,6 +1,6 @@
 use Rattle.std.proofs.Common.{take}
 use Rattle.std.specs.List.{AllZip}
-use Rattle.krates_selection.specs.Tables.{IsKeyOf, numbered_facts}
+use Rattle.krates_selection.specs.KeptTables.{IsKeyOf, numbered_facts}
 use Rattle.krates_selection.proofs.keys.keys_of.Given as goal
 
 -- each fact so far has its key
