@@ -6,8 +6,8 @@ use Rattle.krates_rules.specs.Kind.{written_of}
 use Rattle.krates_selection.specs.declared.kept.KeptFact.{KeptFact}
 use Rattle.krates_selection.specs.declared.kept.KeptFact.TheVariants as kept
 use Rattle.krates_selection.specs.declared.kept.KeptStep.{KeptStep}
-use Rattle.krates_selection.specs.declared.kept.Subject.{Subject}
-use Rattle.krates_selection.specs.declared.kept.Subject.TheVariants as subjects
+use Rattle.krates_selection.specs.declared.kept.CrateOrFeature.{CrateOrFeature}
+use Rattle.krates_selection.specs.declared.kept.CrateOrFeature.TheVariants as subjects
 use Rattle.krates_ids.specs.Identity.{Identity}
 use Rattle.krates_selection.specs.CrateNumbers.{id_at}
 use Rattle.krates_rules.specs.Facts.{Edge, Fact, Crate, Feature, Kept, Toggled}
@@ -28,7 +28,7 @@ kept_view (kept.Kept parent child kind cfg) = KeepsEdge parent child (written_of
 kept_view (kept.Toggled by krate name) = Toggles by krate (text_view name)
 
 -- that the crate is kept, or the feature enabled
-abbrev pub subject_view : Subject → KeptModel
+abbrev pub subject_view : CrateOrFeature → KeptModel
 subject_view (subjects.Crate krate) = KeepsCrate krate
 subject_view (subjects.Feature krate name) = Enables krate name.now
 

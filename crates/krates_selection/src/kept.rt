@@ -66,7 +66,7 @@ pub struct Explanation {
 
 /// What a step is looked for of.
 #[derive(Clone, Copy, Debug)]
-pub enum Subject<'a> {
+pub enum CrateOrFeature<'a> {
     /// The crate of the number.
     Crate(usize),
     /// The feature of this name of the crate of the number.
@@ -76,7 +76,7 @@ pub enum Subject<'a> {
 /// The number of the step that says that the crate is kept, or the feature enabled; none where no step does.
 ///
 /// Time: O(n).
-pub fn step_of(steps: &[KeptStep], subject: &Subject<'_>) -> Option<usize>
+pub fn step_of(steps: &[KeptStep], subject: &CrateOrFeature<'_>) -> Option<usize>
     ensures { TellsStep steps.now (subject_view subject.now) result }
 {
     for (number, step) in steps.iter().enumerate() {
@@ -88,12 +88,12 @@ pub fn step_of(steps: &[KeptStep], subject: &Subject<'_>) -> Option<usize>
 }
 
 /// Whether the fact is that the crate is kept, or the feature enabled.
-fn says(fact: &KeptFact, subject: &Subject<'_>) -> bool
+fn says(fact: &KeptFact, subject: &CrateOrFeature<'_>) -> bool
     ensures { IsTrue result ↔ (kept_view fact.now ≡ subject_view subject.now) }
 {
     match (fact, subject) {
-        (KeptFact::Crate { krate }, Subject::Crate(number)) => *krate == *number,
-        (KeptFact::Feature { krate, name }, Subject::Feature(number, text)) => {
+        (KeptFact::Crate { krate }, CrateOrFeature::Crate(number)) => *krate == *number,
+        (KeptFact::Feature { krate, name }, CrateOrFeature::Feature(number, text)) => {
             *krate == *number && name.as_str() == *text
         }
         _ => false,

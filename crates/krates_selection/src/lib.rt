@@ -28,7 +28,7 @@ pub mod work;
 
 pub use derivation::{derivation_of, facts_of};
 pub use explaining::kept_steps;
-pub use kept::{Explanation, KeptFact, KeptStep, Subject, step_of};
+pub use kept::{CrateOrFeature, Explanation, KeptFact, KeptStep, step_of};
 pub use selection::{EnabledFeature, KeptEdge, Selection, ToggledFeature};
 pub use trace::{NumberedFact, NumberedStep, Reason};
 pub use work::Work;

@@ -10,7 +10,7 @@ use crate::numbers::node_at;
 use krates_drawing::node::Node;
 use krates_graph::graph::NodeId;
 use krates_rules::Derivation;
-use krates_selection::{Subject, derivation_of, step_of};
+use krates_selection::{CrateOrFeature, derivation_of, step_of};
 use std::alloc::AllocError;
 
 impl<N, E> Krates<N, E> {
@@ -44,11 +44,14 @@ impl<N, E> Krates<N, E> {
 }
 
 /// What the node of a number says.
-fn subject_of<N>(number: usize, node: &Node<N>) -> Subject<'_>
+fn subject_of<N>(number: usize, node: &Node<N>) -> CrateOrFeature<'_>
     ensures { subject_view result ≡ node_says number node.now }
 {
     match node {
-        Node::Krate { .. } => Subject::Crate(number),
-        Node::Feature { krate_index, name } => Subject::Feature(krate_index.index(), name.as_str()),
+        Node::Krate { .. } => CrateOrFeature::Crate(number),
+        Node::Feature { krate_index, name } => CrateOrFeature::Feature(
+            krate_index.index(),
+            name.as_str(),
+        ),
     }
 }
