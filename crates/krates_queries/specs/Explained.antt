@@ -13,7 +13,7 @@ use Rattle.krates_rules.specs.Resolved.{HasGraphWith, resolved}
 use Rattle.krates_rules.specs.Setting.{SettingModel}
 use Rattle.krates_rules.specs.StepParts.{HaveOwnFacts}
 use Rattle.krates_rules.specs.Steps.{EachFollows, StepModel}
-use Rattle.krates_selection.specs.Part.{AreBackward}
+use Rattle.krates_selection.specs.PartOfSteps.{AreBackward}
 use Rattle.krates_queries.specs.Kept.{KeptCrates}
 use Rattle.krates_drawing.specs.Node.{crate_ids}
 use Rattle.krates_drawing.specs.declared.node.Node.{Node}

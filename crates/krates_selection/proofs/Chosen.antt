@@ -7,7 +7,7 @@ use Rattle.std.specs.List.{AllZip, slice_get}
 use Rattle.krates_rules.specs.Uses.{number_in, numbers_used}
 use Rattle.krates_rules.specs.declared.uses.Uses.{Uses}
 use Rattle.krates_selection.specs.Choosing.{IsMarked, HasChosen, IsChoice, HasNewNumber, IsNumbered, IsPartBelow, IsMade}
-use Rattle.krates_selection.specs.Part.{IsNewNumber, IsChosenStep, SameFact}
+use Rattle.krates_selection.specs.PartOfSteps.{IsNewNumber, IsChosenStep, SameFact}
 use Rattle.krates_selection.specs.declared.choosing.MarkedSteps.{MarkedSteps}
 use Rattle.krates_selection.proofs.Places.{grown, end_of, last_of, set_here, set_there}
 

@@ -11,7 +11,7 @@ use Rattle.krates_selection.specs.KeptFacts.{KeptModel}
 use Rattle.krates_selection.specs.declared.key.KeptFactKey.{KeptFactKey}
 use Rattle.krates_selection.proofs.KeptKeyOrder.{key_from, key_to}
 use Rattle.krates_selection.proofs.PickedSteps.{pushed_at}
-use Rattle.krates_selection.specs.Part.{SameFact}
+use Rattle.krates_selection.specs.PartOfSteps.{SameFact}
 
 is_equal : (o : Ordering) → is_eq o ≡ true → o ≡ Equal
 is_equal Less h = absurd cc

@@ -7,7 +7,7 @@ use Rattle.std.specs.List.{slice_get}
 use Rattle.krates_rules.specs.declared.uses.Uses.{Uses}
 use Rattle.krates_selection.specs.Choosing.{HasChosen, IsMarked, IsChoice, IsMade}
 use Rattle.krates_selection.specs.First.{AreFirst, AreFirstBelow, HasMarked}
-use Rattle.krates_selection.specs.Part.{AreBackward, HaveOwnNumbers, IsChosenFor, SameFact}
+use Rattle.krates_selection.specs.PartOfSteps.{AreBackward, HaveOwnNumbers, IsChosenFor, SameFact}
 use Rattle.krates_selection.specs.declared.choosing.MarkedSteps.{MarkedSteps}
 use Rattle.krates_selection.proofs.Marks.{none_marked}
 use Rattle.krates_selection.proofs.Places.{end_of, grown, last_of, set_here, set_there}

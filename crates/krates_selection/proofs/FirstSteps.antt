@@ -34,7 +34,7 @@ use Rattle.krates_rules.specs.Setting.{SettingModel}
 use Rattle.krates_rules.specs.Steps.{EachFollows, IsEarlier, StepModel}
 use Rattle.krates_rules.specs.Uses.{numbers_used}
 use Rattle.krates_rules.specs.declared.uses.Uses.{Uses}
-use Rattle.krates_selection.specs.Part.{AreBackward, HaveOwnNumbers, IsChosenFor, IsPartBy, SameFact}
+use Rattle.krates_selection.specs.PartOfSteps.{AreBackward, HaveOwnNumbers, IsChosenFor, IsPartBy, SameFact}
 use Rattle.krates_selection.specs.Picked.{ArePicked, FirstsFollow, FirstsHaveOwnFacts, HaveTheseFacts, IsPicked, UseThese}
 
 abbrev pub uses_of : List NumberedStep → List Uses

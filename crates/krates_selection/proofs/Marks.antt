@@ -10,7 +10,7 @@ use Rattle.krates_rules.specs.Uses.{number_in, numbers_used}
 use Rattle.krates_rules.specs.declared.uses.Uses.{Uses}
 use Rattle.krates_selection.specs.Choosing.{IsMarked}
 use Rattle.krates_selection.specs.Needed.{HasMarkedUser, IsAloneMarked, AreMarkedFrom}
-use Rattle.krates_selection.specs.Part.{AreBackward}
+use Rattle.krates_selection.specs.PartOfSteps.{AreBackward}
 
 pub marked_set : (xs : List Bool) (i : ℕ) → i < length xs → (k : ℕ) → IsMarked (set xs i true) k ↔ (IsMarked xs k ⊎ (k ≡ i))
 marked_set [] i lt k = absurd (omega (arith, lt))

@@ -8,7 +8,7 @@ use Rattle.krates_rules.specs.Uses.{numbers_used}
 use Rattle.krates_rules.specs.declared.uses.Uses.{Uses}
 use Rattle.krates_selection.specs.Choosing.{IsMarked, IsChoice, IsMade}
 use Rattle.krates_selection.specs.Needed.{AreNeeded, AreOwnNumbers}
-use Rattle.krates_selection.specs.Part.{AreBackward, AreUsedBehind, EndsAt, IsChosenStep, IsNewNumber, IsPartBy, IsUsedBehind, SameFact, SameNumber}
+use Rattle.krates_selection.specs.PartOfSteps.{AreBackward, AreUsedBehind, EndsAt, IsChosenStep, IsNewNumber, IsPartBy, IsUsedBehind, SameFact, SameNumber}
 use Rattle.krates_selection.specs.declared.choosing.MarkedSteps.{MarkedSteps}
 use Rattle.krates_selection.proofs.Places.{end_of, grown}
 

@@ -12,7 +12,7 @@ use Rattle.krates_rules.specs.Facts.{Fact}
 use Rattle.krates_rules.specs.Steps.{StepModel}
 use Rattle.krates_rules.specs.Uses.{numbers_used}
 use Rattle.krates_rules.specs.declared.uses.Uses.{Uses}
-use Rattle.krates_selection.specs.Part.{IsPartBy}
+use Rattle.krates_selection.specs.PartOfSteps.{IsPartBy}
 use Rattle.krates_selection.specs.Picked.{UseThese}
 
 -- the steps use what their numbers stand for

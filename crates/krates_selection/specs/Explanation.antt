@@ -14,7 +14,7 @@ use Rattle.krates_rules.specs.Setting.{SettingModel}
 use Rattle.krates_rules.specs.StepParts.{HaveOwnFacts, IsUsedLater}
 use Rattle.krates_rules.specs.Steps.{EachFollows, EndsIn, IsAccepted, StepModel}
 use Rattle.krates_rules.specs.declared.uses.Uses.{Uses}
-use Rattle.krates_selection.specs.Part.{AreBackward}
+use Rattle.krates_selection.specs.PartOfSteps.{AreBackward}
 
 -- what each step uses
 abbrev pub uses_in : List KeptStep → List Uses

@@ -1,7 +1,7 @@
 -- The first step of each fact.
 use Rattle.std.specs.Prelude.{◌≡◌, ℕ, ◌<◌, Bool, false, List, Some, length, slice_get}
 use Rattle.krates_selection.specs.Choosing.{HasChosen, IsMarked}
-use Rattle.krates_selection.specs.Part.{SameFact}
+use Rattle.krates_selection.specs.PartOfSteps.{SameFact}
 
 -- a marked step has the fact
 abbrev pub HasMarked : List ℕ → List Bool → ℕ → Type 0

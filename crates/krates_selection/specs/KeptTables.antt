@@ -23,7 +23,7 @@ use Rattle.krates_rules.specs.Resolved.{DepAt, HasNode, NodeAt, Resolved, Stands
 use Rattle.krates_rules.specs.Setting.{SettingModel}
 use Rattle.krates_rules.specs.StepParts.{HaveOwnFacts}
 use Rattle.krates_rules.specs.Steps.{EachFollows}
-use Rattle.krates_selection.specs.Part.{AreBackward}
+use Rattle.krates_selection.specs.PartOfSteps.{AreBackward}
 
 abbrev pub document_in : KeptTables → Resolved
 document_in t = resolved_view t.lookup.now

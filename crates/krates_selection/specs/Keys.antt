@@ -9,7 +9,7 @@ use Rattle.krates_selection.specs.declared.key.KeptEdgeKey.{KeptEdgeKey}
 use Rattle.krates_selection.specs.declared.key.KeptFactKey.{KeptFactKey}
 use Rattle.krates_selection.specs.declared.key.KeptFactKey.TheVariants as keys
 use Rattle.krates_rules.specs.Kind.{written_of}
-use Rattle.krates_selection.specs.Part.{SameFact}
+use Rattle.krates_selection.specs.PartOfSteps.{SameFact}
 
 -- the edge
 abbrev pub edge_view : KeptEdgeKey → KeptModel

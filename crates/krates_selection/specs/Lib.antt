@@ -8,7 +8,7 @@ pub mod KeptFacts
 pub mod KeptTables
 pub mod Keys
 pub mod Needed
-pub mod Part
+pub mod PartOfSteps
 pub mod Picked
 pub mod Selection
 pub mod SelectionOrder

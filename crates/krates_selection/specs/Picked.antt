@@ -7,7 +7,7 @@ use Rattle.krates_rules.specs.StepParts.{HaveOwnFacts, IsUsedLater}
 use Rattle.krates_rules.specs.Steps.{EachFollows, EndsIn, StepModel}
 use Rattle.krates_rules.specs.Uses.{numbers_used}
 use Rattle.krates_rules.specs.declared.uses.Uses.{Uses}
-use Rattle.krates_selection.specs.Part.{AreUsedBehind, EndsAt, HaveOwnNumbers, IsPartBy, SameFact, SameNumber}
+use Rattle.krates_selection.specs.PartOfSteps.{AreUsedBehind, EndsAt, HaveOwnNumbers, IsPartBy, SameFact, SameNumber}
 
 -- the steps use what the numbers say
 abbrev pub UseThese : List StepModel → List Uses → Type 0

@@ -5,7 +5,7 @@ ghost use Rattle.std.specs.List.{AllZip};
 ghost use Rattle.krates_rules.specs.Uses.{number_in, numbers_used};
 ghost use Rattle.krates_selection.specs.Choosing.{HasNewNumber, IsChoice, IsMade, IsMadeBelow, IsNumbered};
 
-use crate::part::Part;
+use crate::part_of_steps::PartOfSteps;
 use krates_rules::Uses;
 use std::alloc::{AllocError, Global};
 
@@ -38,7 +38,7 @@ pub(crate) fn part_of(
     alloc: Global,
     choice: &MarkedSteps<'_>,
     count: usize,
-) -> Result<Part, AllocError>
+) -> Result<PartOfSteps, AllocError>
     requires { IsChoice choice.now count }
     ensures { IfOk result (λ part. IsMade choice.now part.chosen.items part.uses.items) }
 {
@@ -49,7 +49,7 @@ pub(crate) fn part_of(
         numbers,
     };
     choose_all(choice, &mut making)?;
-    Ok(Part {
+    Ok(PartOfSteps {
         chosen: making.chosen,
         uses: making.uses,
     })

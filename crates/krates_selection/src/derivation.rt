@@ -8,7 +8,7 @@ ghost use Rattle.krates_selection.specs.Picked.{ArePicked};
 
 use crate::kept::{Explanation, KeptStep};
 use crate::laws;
-use crate::part::Part;
+use crate::part_of_steps::PartOfSteps;
 use crate::shortening::part_for;
 use crate::telling::{told, used};
 use krates_ids::Kid;
@@ -42,7 +42,11 @@ fn uses_of(alloc: Global, steps: &[KeptStep]) -> Result<Vec<Uses>, AllocError>
 }
 
 /// The steps of a part, with ids.
-fn picked(alloc: Global, explanation: &Explanation, part: &Part) -> Result<Vec<Step>, AllocError>
+fn picked(
+    alloc: Global,
+    explanation: &Explanation,
+    part: &PartOfSteps,
+) -> Result<Vec<Step>, AllocError>
     requires below { AreBelow (length explanation.now.kids.items) explanation.now.steps.items }
     requires matched { length part.now.uses.items ≡ length part.now.chosen.items }
     requires within { All (λ n. n < length explanation.now.steps.items) part.now.chosen.items }

@@ -16,7 +16,7 @@ use crate::key::{KeptFactKey, fact_of};
 use crate::keys::{KeptTables, keys_of};
 use crate::laws as step_laws;
 use crate::numbering::numbers_of;
-use crate::part::Part;
+use crate::part_of_steps::PartOfSteps;
 use crate::trace::NumberedStep;
 use krates_ids::{Kid, laws};
 use krates_questions::context::Context;
@@ -67,7 +67,7 @@ fn chosen(
     alloc: Global,
     keys: &[KeptFactKey<'_>],
     steps: &[NumberedStep],
-    part: &Part,
+    part: &PartOfSteps,
 ) -> Result<Vec<KeptStep>, AllocError>
     requires long { length keys.now ≡ length steps.now }
     requires matched { length part.now.uses.items ≡ length part.now.chosen.items }

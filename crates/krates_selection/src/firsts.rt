@@ -2,10 +2,10 @@
 
 ghost use Rattle.std.specs.Prelude.{◌≡◌, ◌<◌, All, IfOk, ℕ, length};
 ghost use Rattle.krates_selection.specs.First.{AreFirst};
-ghost use Rattle.krates_selection.specs.Part.{AreBackward, HaveOwnNumbers, IsChosenFor, IsPartBy, SameFact};
+ghost use Rattle.krates_selection.specs.PartOfSteps.{AreBackward, HaveOwnNumbers, IsChosenFor, IsPartBy, SameFact};
 
 use crate::choosing::{MarkedSteps, part_of};
-use crate::part::Part;
+use crate::part_of_steps::PartOfSteps;
 use krates_rules::Uses;
 use std::alloc::{AllocError, Global};
 
@@ -18,7 +18,7 @@ pub(crate) fn first_steps(
     steps: &[Uses],
     facts: &[usize],
     count: usize,
-) -> Result<Part, AllocError>
+) -> Result<PartOfSteps, AllocError>
     requires backward { AreBackward steps.now }
     requires long { length facts.now ≡ length steps.now }
     requires facts { All (λ fact. fact < count) facts.now }

@@ -19,7 +19,7 @@ mod keys;
 mod laws;
 mod marking;
 mod numbering;
-mod part;
+mod part_of_steps;
 pub mod selection;
 mod shortening;
 mod telling;

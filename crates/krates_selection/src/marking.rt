@@ -4,7 +4,7 @@ ghost use Rattle.std.specs.Prelude.{◌≡◌, ◌↔◌, ◌+◌, ◌<◌, ◌�
 ghost use Rattle.krates_rules.specs.Uses.{number_in, numbers_used};
 ghost use Rattle.krates_selection.specs.Choosing.{IsMarked};
 ghost use Rattle.krates_selection.specs.Needed.{AreMarkedFrom, AreNeeded, IsAloneMarked};
-ghost use Rattle.krates_selection.specs.Part.{AreBackward};
+ghost use Rattle.krates_selection.specs.PartOfSteps.{AreBackward};
 
 use krates_rules::Uses;
 use std::alloc::{AllocError, Global};

@@ -2,11 +2,11 @@
 
 ghost use Rattle.std.specs.Prelude.{◌<◌, IfOk, length};
 ghost use Rattle.krates_selection.specs.Needed.{AreOwnNumbers};
-ghost use Rattle.krates_selection.specs.Part.{AreBackward, AreUsedBehind, EndsAt, IsPartBy, SameNumber};
+ghost use Rattle.krates_selection.specs.PartOfSteps.{AreBackward, AreUsedBehind, EndsAt, IsPartBy, SameNumber};
 
 use crate::choosing::{MarkedSteps, part_of};
 use crate::marking::needed_for;
-use crate::part::Part;
+use crate::part_of_steps::PartOfSteps;
 use krates_rules::Uses;
 use std::alloc::{AllocError, Global};
 
@@ -14,7 +14,11 @@ use std::alloc::{AllocError, Global};
 /// the order of the list. Each but the last is used by a later one.
 ///
 /// The only error is running out of memory. Time: O(n).
-pub(crate) fn part_for(alloc: Global, steps: &[Uses], last: usize) -> Result<Part, AllocError>
+pub(crate) fn part_for(
+    alloc: Global,
+    steps: &[Uses],
+    last: usize,
+) -> Result<PartOfSteps, AllocError>
     requires backward { AreBackward steps.now }
     requires within { last < length steps.now }
     ensures part { IfOk result (λ part. IsPartBy SameNumber steps.now part.chosen.items part.uses.items) }

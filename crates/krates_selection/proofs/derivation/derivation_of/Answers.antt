@@ -5,7 +5,7 @@ use Rattle.krates_selection.proofs.ToldParts.{chosen_low, use_these}
 use Rattle.krates_selection.specs.Explanation.{explained_steps, uses_in}
 use Rattle.krates_selection.specs.declared.kept.KeptStep.{KeptStep}
 use Rattle.krates_rules.specs.declared.uses.Uses.{Uses}
-use Rattle.krates_selection.specs.Part.{AreBackward, SameNumber}
+use Rattle.krates_selection.specs.PartOfSteps.{AreBackward, SameNumber}
 use Rattle.krates_selection.specs.Picked.{UseThese}
 use Rattle.krates_selection.proofs.derivation.derivation_of.Goals as goal
 

@@ -19,7 +19,7 @@ use Rattle.krates_ids.specs.Identity.{Identity, id_cmp}
 use Rattle.krates_selection.specs.declared.trace.NumberedStep.{NumberedStep}
 use Rattle.krates_rules.specs.Referent.{id_order}
 use Rattle.krates_rules.specs.Resolved.{id_of}
-use Rattle.krates_selection.specs.Part.{AreBackward, SameFact}
+use Rattle.krates_selection.specs.PartOfSteps.{AreBackward, SameFact}
 use Rattle.krates_selection.proofs.explaining.kept_steps.Goals as goal
 
 pub numbers_of-requires : goal.numbers_of-requires

@@ -1,4 +1,4 @@
-use Rattle.krates_selection.specs.Part.{SameFact}
+use Rattle.krates_selection.specs.PartOfSteps.{SameFact}
 use Rattle.krates_selection.proofs.PickedParts.{own_firsts, part_picked, same_fact_tells}
 use Rattle.krates_selection.proofs.laws.firsts.Goals as goal
 

@@ -1,4 +1,4 @@
-use Rattle.krates_selection.specs.Part.{SameNumber}
+use Rattle.krates_selection.specs.PartOfSteps.{SameNumber}
 use Rattle.krates_selection.proofs.PickedParts.{end_picked, own_picked, part_picked, same_number_tells, used_picked}
 use Rattle.krates_selection.proofs.laws.parts.Goals as goal
 

@@ -2,9 +2,9 @@ use Rattle.std.proofs.Common.{length, sym, subst}
 use Rattle.std.proofs.lemmas.Result.{IfOk-weaker}
 use Rattle.krates_selection.specs.Choosing.{IsMade}
 use Rattle.krates_selection.specs.Needed.{AreNeeded, AreOwnNumbers}
-use Rattle.krates_selection.specs.Part.{AreUsedBehind, EndsAt, IsPartBy, SameNumber}
+use Rattle.krates_selection.specs.PartOfSteps.{AreUsedBehind, EndsAt, IsPartBy, SameNumber}
 use Rattle.krates_selection.specs.declared.choosing.MarkedSteps.{MarkedSteps}
-use Rattle.krates_selection.specs.declared.part.Part.{Part}
+use Rattle.krates_selection.specs.declared.part_of_steps.PartOfSteps.{PartOfSteps}
 use Rattle.krates_selection.proofs.NeededParts.{ends_at, needed_choice, own_part, used_behind}
 use Rattle.krates_selection.proofs.shortening.part_for.Goals as goal
 
@@ -20,7 +20,7 @@ returns-clause-part c =
     let choice : MarkedSteps = record { steps = c.args.steps; facts = c.deref.result; marks = c.deref-2.result } in
     let own = subst (AreOwnNumbers (length c.args.steps.now)) (sym c.deref.ensures.value) c.in_ok-numbers.ensures in
     let back = c.requires.backward in
-    IfOk-weaker c.part_of.result (λ (part : Part). IsMade choice part.chosen.items part.uses.items) (λ (part : Part). IsPartBy SameNumber c.args.steps.now part.chosen.items part.uses.items)
+    IfOk-weaker c.part_of.result (λ (part : PartOfSteps). IsMade choice part.chosen.items part.uses.items) (λ (part : PartOfSteps). IsPartBy SameNumber c.args.steps.now part.chosen.items part.uses.items)
     (λ part made. own_part choice part.chosen.items part.uses.items back own made.is_part) c.part_of.ensures
 
 pub returns-clause-last : goal.returns-clause-last
@@ -28,7 +28,7 @@ returns-clause-last c =
     let choice : MarkedSteps = record { steps = c.args.steps; facts = c.deref.result; marks = c.deref-2.result } in
     let needed = subst (AreNeeded c.args.steps.now c.args.last) (sym c.deref-2.ensures.value) c.in_ok-marks.ensures in
     let last = c.args.last in
-    IfOk-weaker c.part_of.result (λ (part : Part). IsMade choice part.chosen.items part.uses.items) (λ (part : Part). EndsAt part.chosen.items last)
+    IfOk-weaker c.part_of.result (λ (part : PartOfSteps). IsMade choice part.chosen.items part.uses.items) (λ (part : PartOfSteps). EndsAt part.chosen.items last)
     (λ part made. ends_at choice last part.chosen.items part.uses.items needed made) c.part_of.ensures
 
 pub returns-clause-used : goal.returns-clause-used
@@ -38,5 +38,5 @@ returns-clause-used c =
     let needed = subst (AreNeeded c.args.steps.now c.args.last) (sym c.deref-2.ensures.value) c.in_ok-marks.ensures in
     let last = c.args.last in
     let back = c.requires.backward in
-    IfOk-weaker c.part_of.result (λ (part : Part). IsMade choice part.chosen.items part.uses.items) (λ (part : Part). AreUsedBehind part.uses.items)
+    IfOk-weaker c.part_of.result (λ (part : PartOfSteps). IsMade choice part.chosen.items part.uses.items) (λ (part : PartOfSteps). AreUsedBehind part.uses.items)
     (λ part made. used_behind choice last part.chosen.items part.uses.items needed made (own_part choice part.chosen.items part.uses.items back own made.is_part)) c.part_of.ensures
