@@ -1,4 +1,4 @@
--- The stored graph of a sheet is connected like the drawn one, and the direct queries agree on it.
+-- The stored graph of an outline is connected like the drawn one, and the direct queries agree on it.
 use Rattle.std.proofs.Common.{◌≡◌, ◌↔◌, ℕ, zero, suc, ◌<◌, ◌^◌, List, [], ◌∷◌, length, map, Option, Some, None, option_map, slice_get, refl, sym, ap, ◌∙◌, subst}
 use Rattle.std.proofs.lemmas.Option.{slice_get-map, same_Some}
 use Rattle.std.specs.List.{AllZip}
@@ -6,7 +6,7 @@ use Rattle.krates_cm.specs.Document.{MetadataModel}
 use Rattle.krates_drawing.specs.Agreement.{DependsOn, LeadsTo, DependenciesAgree, OneEach}
 use Rattle.krates_drawing.specs.Connected as drawn
 use Rattle.krates_drawing.specs.Drawing.{CrateSpot, crate_number, lines, spots}
-use Rattle.krates_drawing.specs.Sheet.{Sheet}
+use Rattle.krates_drawing.specs.Outline.{Outline}
 use Rattle.krates_drawing.specs.Stored.{IsStoredAs, LeadsAlong}
 use Rattle.krates_drawing.specs.declared.edge.Edge.{Edge}
 use Rattle.krates_rules.proofs.Members.{member_of, contains_of, partner_of}
@@ -20,7 +20,7 @@ use Rattle.krates_rules.specs.Setting.{SettingModel}
 use Rattle.krates.specs.Build.{HasOneEach}
 use Rattle.krates_queries.specs.Direct.{AreConnected, value_at, value_in}
 use Rattle.krates_queries.specs.DirectDependents.{IsDependent}
-use Rattle.krates_queries.specs.Drawn.{IsDrawing, IsSheetFor, node_spot}
+use Rattle.krates_queries.specs.Drawn.{IsDrawing, IsOutlineFor, node_spot}
 use Rattle.krates_drawing.specs.Node.{crate_ids, CratesFirst}
 use Rattle.krates_drawing.specs.declared.node.Node.{Node}
 use Rattle.krates_drawing.specs.declared.node.Node.TheVariants.{Krate, Feature}
@@ -40,10 +40,10 @@ value_there None id m e = absurd cc
 value_there (Some (Krate i krate features mapping)) id m e = (krate, refl)
 value_there (Some (Feature krate_index name)) id m e = absurd cc
 
-pub connects : {N E : Type 0} (made : Edge → E → Type 0) (m : MetadataModel) (s : SettingModel) (t : Sheet) (g : StoredGraph (Node N) E) → drawn.AreConnected → IsSheetFor m s t → IsDrawing made t g → length g.nodes < 2 ^ 32
+pub connects : {N E : Type 0} (made : Edge → E → Type 0) (m : MetadataModel) (s : SettingModel) (t : Outline) (g : StoredGraph (Node N) E) → drawn.AreConnected → IsOutlineFor m s t → IsDrawing made t g → length g.nodes < 2 ^ 32
     → AreConnected g.nodes g.edges
 connects made m s t g law h d few =
-    let c = law (resolved m h.graph) s h.holds.selection h.holds.selected t h.holds.is_sheet in
+    let c = law (resolved m h.graph) s h.holds.selection h.holds.selected t h.holds.is_outline in
     record {
       mappings = λ p k w.
           (let led = c.mappings p k (subst (λ ns. DependsOn ns p k) d.nodes w) in
@@ -75,12 +75,12 @@ crate_spot_at (Feature krate_index name ∷ nodes) n id first e =
     let none : slice_get empty n ≡ Some id = subst (λ (ids : List Identity). slice_get ids n ≡ Some id) first e in
     absurd cc
 
-pub agrees : {N E : Type 0} (made : Edge → E → Type 0) (m : MetadataModel) (s : SettingModel) (t : Sheet) (g : StoredGraph (Node N) E) (ids : IdsModel) → drawn.AreConnected → DependenciesAgree → IsAdmitted m ids → IsSheetFor m s t → IsDrawing made t g
+pub agrees : {N E : Type 0} (made : Edge → E → Type 0) (m : MetadataModel) (s : SettingModel) (t : Outline) (g : StoredGraph (Node N) E) (ids : IdsModel) → drawn.AreConnected → DependenciesAgree → IsAdmitted m ids → IsOutlineFor m s t → IsDrawing made t g
     → CratesFirst g.nodes → (i : Id) → HasOneEach m s i → (p d : ℕ) → StandsAt (crate_ids g.nodes) i p → d < length (crate_ids g.nodes)
     → DependsOn (map node_spot g.nodes) p d ↔ IsDependent g.nodes g.edges d p
 agrees made m s t g ids law agree a h z first i o p d at lt =
     let r = resolved m h.graph in
-    let c = law r s h.holds.selection h.holds.selected t h.holds.is_sheet in
+    let c = law r s h.holds.selection h.holds.selected t h.holds.is_outline in
     let one : OneEach r s i = subst (λ x. OneEach (resolved m x) s i) (same_Some o.graph h.graph (sym o.has_graph ∙ h.has_graph)) o.holds in
     let none : NoneDoubled m h.graph = subst (NoneDoubled m) (same_Some a.graph h.graph (sym a.has_graph ∙ h.has_graph)) a.none_doubled in
     let here = crate_spot_at g.nodes p at.there first at.at in
@@ -88,7 +88,7 @@ agrees made m s t g ids law agree a h z first i o p d at lt =
     let other = got (crate_ids g.nodes) d lt in
     let there = crate_spot_at g.nodes d other.0 first other.1 in
     let to = c.crates d (id_of other.0) there.mapping (ap (λ ns. slice_get ns d) (sym z.nodes) ∙ there.at) in
-    let both = agree r s none h.holds.selection h.holds.selected t h.holds.is_sheet (id_of at.there) (id_of other.0) from.kept to.kept (subst (OneEach r s) (sym at.same) one) in
+    let both = agree r s none h.holds.selection h.holds.selected t h.holds.is_outline (id_of at.there) (id_of other.0) from.kept to.kept (subst (OneEach r s) (sym at.same) one) in
     let numbered : DependsOn (spots t) p d ↔ LeadsTo (spots t) (lines t) p d =
     subst (λ n. DependsOn (spots t) p n ↔ LeadsTo (spots t) (lines t) p n) to.number
     (subst (λ n. DependsOn (spots t) n (crate_number t (id_of other.0)) ↔ LeadsTo (spots t) (lines t) n (crate_number t (id_of other.0))) from.number both) in

@@ -9,8 +9,8 @@ use Rattle.krates_cm.specs.Document.{text_view}
 use Rattle.krates_cm.specs.declared.package.Package.{Package}
 use Rattle.krates_drawing.specs.Drawing as model
 use Rattle.krates_drawing.specs.Drawing.{crate_spot, feature_spot, mapping, spots}
-use Rattle.krates_drawing.specs.Sheet as sheet
-use Rattle.krates_drawing.specs.Sheet.{Sheet}
+use Rattle.krates_drawing.specs.Outline as outline
+use Rattle.krates_drawing.specs.Outline.{Outline}
 use Rattle.krates_drawing.specs.Views.{spot_view}
 use Rattle.krates_drawing.specs.declared.nodes.Spot.{Spot}
 use Rattle.krates_drawing.specs.declared.nodes.Spot.TheVariants as drawn
@@ -56,11 +56,11 @@ Mapping = Vec (Option ℕ)
 abbrev nodes_for : List DrawnFeature → List (Node Package)
 nodes_for fs = map feature_node fs
 
-record Parted (t : Sheet) (ks : List sheet.Krate) (fs : List sheet.Named) (xs : List Spot) : Type 0 where
+record Parted (t : Outline) (ks : List outline.Krate) (fs : List outline.Named) (xs : List Spot) : Type 0 where
   mappings : flat_map mapping_in xs ≡ map (mapping t) ks
   features : map node_spot (nodes_for (flat_map feature_in xs)) ≡ map (feature_spot t) fs
 
-parted : (t : Sheet) (ks : List sheet.Krate) (fs : List sheet.Named) (xs : List Spot) → map spot_view xs ≡ map (crate_spot t) ks ++ map (feature_spot t) fs → Parted t ks fs xs
+parted : (t : Outline) (ks : List outline.Krate) (fs : List outline.Named) (xs : List Spot) → map spot_view xs ≡ map (crate_spot t) ks ++ map (feature_spot t) fs → Parted t ks fs xs
 parted t [] [] [] e = record { mappings = refl; features = refl }
 parted t [] [] (x ∷ xs) e = absurd cc
 parted t [] (f ∷ fs) [] e = absurd cc
@@ -87,13 +87,13 @@ no_crates [] = (refl, refl, refl, tt)
 no_crates (f ∷ fs) = let w = no_crates fs in (w.0, w.1, w.2, w.0)
 
 -- all that is said about the nodes
-pub record AreMadeOf (t : Sheet) (krates : List Krate) (sets : List Set) (nodes : List (Node Package)) : Type 0 where
+pub record AreMadeOf (t : Outline) (krates : List Krate) (sets : List Set) (nodes : List (Node Package)) : Type 0 where
   pub ids : crate_ids nodes ≡ krate_ids krates
   pub values : crate_values nodes ≡ krate_packages krates
   pub features : crate_features nodes ≡ map names_in sets
   pub first : CratesFirst nodes
 
-joined : (t : Sheet) (krates : List Krate) (sets : List Set) (maps : List Mapping) (rest : List DrawnFeature) → length sets ≡ length krates → length maps ≡ length krates
+joined : (t : Outline) (krates : List Krate) (sets : List Set) (maps : List Mapping) (rest : List DrawnFeature) → length sets ≡ length krates → length maps ≡ length krates
     → AreMadeOf t krates sets (map crate_node (zip krates (zip sets maps)) ++ nodes_for rest)
 joined t [] [] [] rest e d = let w = no_crates rest in record { ids = w.0; values = w.1; features = w.2; first = w.3 }
 joined t [] [] (m ∷ maps) rest e d = absurd cc
@@ -111,8 +111,8 @@ joined t (k ∷ krates) (s ∷ sets) (m ∷ maps) rest e d =
       first = w.first;
     }
 
-spots_joined : (t : Sheet) (ks : List sheet.Krate) (krates : List Krate) (sets : List Set) (maps : List Mapping) (rest : List (Node Package)) (fs : List model.Spot)
-    → length sets ≡ length krates → map (λ (m : Mapping). m.items) maps ≡ map (mapping t) ks → map id_of (krate_ids krates) ≡ map (λ (k : sheet.Krate). k.id) ks
+spots_joined : (t : Outline) (ks : List outline.Krate) (krates : List Krate) (sets : List Set) (maps : List Mapping) (rest : List (Node Package)) (fs : List model.Spot)
+    → length sets ≡ length krates → map (λ (m : Mapping). m.items) maps ≡ map (mapping t) ks → map id_of (krate_ids krates) ≡ map (λ (k : outline.Krate). k.id) ks
     → map node_spot rest ≡ fs → map node_spot (map crate_node (zip krates (zip sets maps)) ++ rest) ≡ map (crate_spot t) ks ++ fs
 spots_joined t [] [] [] [] rest fs e m i r = r
 spots_joined t [] [] [] (n ∷ maps) rest fs e m i r = absurd cc
@@ -124,7 +124,7 @@ spots_joined t (k ∷ ks) (q ∷ krates) (s ∷ sets) [] rest fs e m i r = absur
 spots_joined t (k ∷ ks) (q ∷ krates) (s ∷ sets) (n ∷ maps) rest fs e m i r =
     let se : length sets ≡ length krates = cc in
     let me : map (λ (x : Mapping). x.items) maps ≡ map (mapping t) ks = cc in
-    let ie : map id_of (krate_ids krates) ≡ map (λ (x : sheet.Krate). x.id) ks = cc in
+    let ie : map id_of (krate_ids krates) ≡ map (λ (x : outline.Krate). x.id) ks = cc in
     let head : n.items ≡ mapping t k = cc in
     let id : id_of q.id ≡ k.id = cc in
     let more = spots_joined t ks krates sets maps rest fs se me ie r in
@@ -140,18 +140,18 @@ pub mapped_length : (krates : List Krate) → length (krate_ids krates) ≡ leng
 mapped_length [] = refl
 mapped_length (k ∷ krates) = ap suc (mapped_length krates)
 
-pub record AreDrawnNodes (t : Sheet) (krates : List Krate) (sets : List Set) (nodes : List (Node Package)) : Type 0 where
+pub record AreDrawnNodes (t : Outline) (krates : List Krate) (sets : List Set) (nodes : List (Node Package)) : Type 0 where
   pub made : AreMadeOf t krates sets nodes
   pub spots_are : map node_spot nodes ≡ spots t
 
-pub drawn_nodes : (t : Sheet) (krates : List Krate) (sets : List Set) (xs : List Spot) (nodes : List (Node Package)) → length sets ≡ length krates → map spot_view xs ≡ spots t
-    → map id_of (krate_ids krates) ≡ map (λ (k : sheet.Krate). k.id) t.krates → AreNodesWith krates sets xs nodes → AreDrawnNodes t krates sets nodes
+pub drawn_nodes : (t : Outline) (krates : List Krate) (sets : List Set) (xs : List Spot) (nodes : List (Node Package)) → length sets ≡ length krates → map spot_view xs ≡ spots t
+    → map id_of (krate_ids krates) ≡ map (λ (k : outline.Krate). k.id) t.krates → AreNodesWith krates sets xs nodes → AreDrawnNodes t krates sets nodes
 drawn_nodes t krates sets xs nodes e d i w =
     let p = parted t t.krates t.features xs d in
     let maps : List Mapping = w.mappings in
     let mapped : map (λ (m : Mapping). m.items) maps ≡ map (mapping t) t.krates = w.drawn ∙ p.mappings in
     let many : length maps ≡ length t.krates = same_length (λ (m : Mapping). m.items) (mapping t) maps t.krates mapped in
-    let ids : length (krate_ids krates) ≡ length t.krates = same_length id_of (λ (k : sheet.Krate). k.id) (krate_ids krates) t.krates i in
+    let ids : length (krate_ids krates) ≡ length t.krates = same_length id_of (λ (k : outline.Krate). k.id) (krate_ids krates) t.krates i in
     let crates : length (krate_ids krates) ≡ length krates = mapped_length krates in
     let made = joined t krates sets maps (flat_map feature_in xs) e (many ∙ sym ids ∙ crates) in
     let there = spots_joined t t.krates krates sets maps (nodes_for (flat_map feature_in xs)) (map (feature_spot t) t.features) e mapped i p.features in
@@ -165,8 +165,8 @@ many f [] = refl
 many f (x ∷ xs) = ap suc (many f xs)
 
 -- the same, for the values in the code
-pub drawn_from : (t : Sheet) (krates : List Krate) (sets : List Set) (xs : List Spot) (maps : List Mapping) (features : List DrawnFeature) (nodes : List (Node Package)) → length sets ≡ length krates → map spot_view xs ≡ spots t
-    → map id_of (krate_ids krates) ≡ map (λ (k : sheet.Krate). k.id) t.krates → map (λ (m : Mapping). m.items) maps ≡ flat_map mapping_in xs → features ≡ flat_map feature_in xs
+pub drawn_from : (t : Outline) (krates : List Krate) (sets : List Set) (xs : List Spot) (maps : List Mapping) (features : List DrawnFeature) (nodes : List (Node Package)) → length sets ≡ length krates → map spot_view xs ≡ spots t
+    → map id_of (krate_ids krates) ≡ map (λ (k : outline.Krate). k.id) t.krates → map (λ (m : Mapping). m.items) maps ≡ flat_map mapping_in xs → features ≡ flat_map feature_in xs
     → nodes ≡ map crate_node (zip krates (zip sets maps)) ++ map feature_node features → AreDrawnNodes t krates sets nodes
 drawn_from t krates sets xs maps features nodes e d i m f n =
     drawn_nodes t krates sets xs nodes e d i (record { mappings = maps; drawn = m; are = n ∙ ap (λ (fs : List DrawnFeature). map crate_node (zip krates (zip sets maps)) ++ map feature_node fs) f })

@@ -9,7 +9,7 @@ use Rattle.krates_cm.specs.declared.metadata.Metadata.{Metadata}
 use Rattle.krates_cm.specs.declared.package.Package.{Package}
 use Rattle.krates_drawing.specs.Agreement.{DependsOn, OneEach}
 use Rattle.krates_drawing.specs.Drawing.{lines, spots}
-use Rattle.krates_drawing.specs.Sheet.{Sheet}
+use Rattle.krates_drawing.specs.Outline.{Outline}
 use Rattle.krates_drawing.specs.declared.edge.Edge.{Edge}
 use Rattle.krates_ids.specs.Identity.{Identity}
 use Rattle.krates_ids.specs.declared.error.Error.{Error}
@@ -29,7 +29,7 @@ use Rattle.krates.specs.Indexed.{Answering, Sees}
 use Rattle.krates_drawing.specs.Listed.{AreThosePackages}
 use Rattle.krates_queries.specs.DirectDependents.{IsDependent}
 use Rattle.krates_queries.specs.Explained.{IsExplainedBy, steps_of}
-use Rattle.krates_queries.specs.Drawn.{HasSheet, IsDrawn, IsNumbered, node_spot}
+use Rattle.krates_queries.specs.Drawn.{HasOutline, IsDrawn, IsNumbered, node_spot}
 use Rattle.krates_queries.specs.Kept.{KeptCrates, HasEnabled, ids_of, values_of}
 
 -- ---- the document
@@ -133,9 +133,9 @@ pub record IsBuilt {F N E : Type 0} (filters : F → Package → F → Type 0) (
 pub record HasTooMany (r : Resolved) (s : SettingModel) : Type 0 where
   pub none_lost : (c : Cause) → Derivable (questions r s) (Lost c) → ⊥
   pub some : (i : Id) × Derivable (questions r s) (Crate i)
-  pub sheet : Sheet
-  pub is_sheet : HasSheet r s sheet
-  pub many : (2 ^ 32 ≤ length (spots sheet)) ⊎ (2 ^ 32 ≤ length (lines sheet))
+  pub outline : Outline
+  pub is_outline : HasOutline r s outline
+  pub many : (2 ^ 32 ≤ length (spots outline)) ⊎ (2 ^ 32 ≤ length (lines outline))
 
 -- why nothing is built of a document that can be resolved; memory may always run out
 abbrev pub GraphRefusal : MetadataModel → SettingModel → Error → Type 0

@@ -8,7 +8,7 @@ use Rattle.krates_drawing.specs.Connected.{AreConnected, IsNumbered}
 use Rattle.krates_drawing.specs.Drawing.{Line, Tie, CrateSpot, crate_number, crate_spot, feature_spot, lines, mapping, spots}
 use Rattle.krates_drawing.specs.Paths.{IsDrawn, IsFiltered, IsMemberNumber, LeadsWithout, Reaches}
 use Rattle.krates_drawing.specs.Rebuilding.{EnablesNoFeature, FilteredHoldsRebuild, HasMemberRoot, MembersAreRoots}
-use Rattle.krates_drawing.specs.Sheet.{Sheet}
+use Rattle.krates_drawing.specs.Outline.{Outline}
 use Rattle.krates_drawing.specs.Stored.{IsStoredAs}
 use Rattle.krates_drawing.specs.Views.{tie_view}
 use Rattle.krates_drawing.specs.declared.edge.Edge.{Edge}
@@ -27,7 +27,7 @@ use Rattle.krates_rules.specs.declared.kind.DepKind.{DepKind}
 use Rattle.krates_rules.specs.declared.kind.Scope.TheVariants as scopes
 use Rattle.krates.specs.Build.{AreKeptMembers, HasMember, IsMemberAt, KeepsCrate}
 use Rattle.krates.specs.BuildLaws.{IsBuildNarrowing, IsSeenBy}
-use Rattle.krates_queries.specs.Drawn.{IsDrawing, IsSheetFor, node_spot}
+use Rattle.krates_queries.specs.Drawn.{IsDrawing, IsOutlineFor, node_spot}
 use Rattle.krates_queries.specs.Kept.{KeptCrates, ids_of}
 use Rattle.krates_queries.specs.KratesFiltered.{AreReached, IsReached, line_view}
 use Rattle.krates_drawing.specs.Node.{CratesFirst, crate_ids}
@@ -67,8 +67,8 @@ spot_at (Feature krate_index name ∷ nodes) n id first e =
     let none : slice_get empty n ≡ Some id = subst (λ (ids : List Identity). slice_get ids n ≡ Some id) first e in
     absurd cc
 
--- the sheet has a crate that stands among the nodes, under its node's number
-stands_drawn : {N : Type 0} (nodes : List (Node N)) (t : Sheet) → CratesFirst nodes → map node_spot nodes ≡ spots t
+-- the outline has a crate that stands among the nodes, under its node's number
+stands_drawn : {N : Type 0} (nodes : List (Node N)) (t : Outline) → CratesFirst nodes → map node_spot nodes ≡ spots t
     → ((p : ℕ) (id : Id) (mapping : List (Option ℕ)) → slice_get (spots t) p ≡ Some (CrateSpot id mapping) → IsNumbered t id p)
     → (i : Id) (n : ℕ) → StandsAt (crate_ids nodes) i n → IsNumbered t i n
 stands_drawn nodes t first same numbered i n w =
@@ -88,16 +88,16 @@ spot_kept (Krate id k f held ∷ nodes) i mapping (inr m) = inr (spot_kept nodes
 spot_kept (Feature krate_index name ∷ nodes) i mapping (inl e) = absurd cc
 spot_kept (Feature krate_index name ∷ nodes) i mapping (inr m) = spot_kept nodes i mapping m
 
--- a crate of the sheet is kept
-drawn_kept : {N : Type 0} (nodes : List (Node N)) (t : Sheet) → map node_spot nodes ≡ spots t → (i : Id) → IsDrawn t i → Member (map id_of (crate_ids nodes)) i
+-- a crate of the outline is kept
+drawn_kept : {N : Type 0} (nodes : List (Node N)) (t : Outline) → map node_spot nodes ≡ spots t → (i : Id) → IsDrawn t i → Member (map id_of (crate_ids nodes)) i
 drawn_kept nodes t same i w =
     let spot = member_left (map (crate_spot t) t.krates) (map (feature_spot t) t.features) (crate_spot t w.krate) (member_map (crate_spot t) t.krates w.krate (member_of t.krates w.krate w.among)) in
     subst (λ id. Member (map id_of (crate_ids nodes)) id) w.id (spot_kept nodes w.krate.id (mapping t w.krate) (subst (λ ns. Member ns (crate_spot t w.krate)) (sym same) spot))
 
 -- ---- one build
 
--- what a build keeps, with the graph of the document and the sheet of the drawing
-record Shown {N : Type 0} (m : MetadataModel) (s : SettingModel) (g : ResolveModel) (t : Sheet) (k : KeptCrates N Edge) : Type 0 where
+-- what a build keeps, with the graph of the document and the outline of the drawing
+record Shown {N : Type 0} (m : MetadataModel) (s : SettingModel) (g : ResolveModel) (t : Outline) (k : KeptCrates N Edge) : Type 0 where
   has_graph : m.resolve ≡ Some g
   keeps : Keeps m s k
   nodes : map node_spot k.graph.nodes ≡ spots t
@@ -109,15 +109,15 @@ record Shown {N : Type 0} (m : MetadataModel) (s : SettingModel) (g : ResolveMod
 of_graph : (m : MetadataModel) (g : ResolveModel) (P : ResolveModel → Type 0) → m.resolve ≡ Some g → HasGraphWith m P → P g
 of_graph m g P is h = subst P (same_Some h.graph g (sym h.has_graph ∙ is)) h.holds
 
-number_of : {N : Type 0} (m : MetadataModel) (s : SettingModel) (g : ResolveModel) (t : Sheet) (k : KeptCrates N Edge) → Shown m s g t k → (i : Id) (n : ℕ) → StandsAt (ids_of k) i n → IsNumbered t i n
+number_of : {N : Type 0} (m : MetadataModel) (s : SettingModel) (g : ResolveModel) (t : Outline) (k : KeptCrates N Edge) → Shown m s g t k → (i : Id) (n : ℕ) → StandsAt (ids_of k) i n → IsNumbered t i n
 number_of m s g t k h i n w = stands_drawn k.graph.nodes t h.first h.nodes h.numbered i n w
 
-stands_there : {N : Type 0} (m : MetadataModel) (s : SettingModel) (g : ResolveModel) (t : Sheet) (k : KeptCrates N Edge) → Shown m s g t k → (i : Id) → Member (map id_of (ids_of k)) i → StandsAt (ids_of k) i (crate_number t i)
+stands_there : {N : Type 0} (m : MetadataModel) (s : SettingModel) (g : ResolveModel) (t : Outline) (k : KeptCrates N Edge) → Shown m s g t k → (i : Id) → Member (map id_of (ids_of k)) i → StandsAt (ids_of k) i (crate_number t i)
 stands_there m s g t k h i among =
     let w = place_of_id (ids_of k) i among in
     subst (λ n. StandsAt (ids_of k) i n) (sym (number_of m s g t k h i w.0 w.1).number) w.1
 
-member_there : {N : Type 0} (m : MetadataModel) (s : SettingModel) (g : ResolveModel) (t : Sheet) (k : KeptCrates N Edge) → Shown m s g t k → (n : ℕ) → IsMemberNumber (resolved m g) t n → Contains k.members n
+member_there : {N : Type 0} (m : MetadataModel) (s : SettingModel) (g : ResolveModel) (t : Outline) (k : KeptCrates N Edge) → Shown m s g t k → (n : ℕ) → IsMemberNumber (resolved m g) t n → Contains k.members n
 member_there m s g t k h n w =
     let at = stands_there m s g t k h w.member (drawn_kept k.graph.nodes t h.nodes w.member w.kept) in
     (h.keeps.members.exactly n).1 (record {
@@ -126,20 +126,20 @@ member_there m s g t k h n w =
       kept = subst (λ p. StandsAt (ids_of k) w.member p) (sym w.number) at;
     })
 
-member_back : {N : Type 0} (m : MetadataModel) (s : SettingModel) (g : ResolveModel) (t : Sheet) (k : KeptCrates N Edge) → Shown m s g t k → (n : ℕ) → Contains k.members n → IsMemberNumber (resolved m g) t n
+member_back : {N : Type 0} (m : MetadataModel) (s : SettingModel) (g : ResolveModel) (t : Outline) (k : KeptCrates N Edge) → Shown m s g t k → (n : ℕ) → Contains k.members n → IsMemberNumber (resolved m g) t n
 member_back m s g t k h n c =
     let w = (h.keeps.members.exactly n).0 c in
     let at = number_of m s g t k h w.member n w.kept in
     record { member = w.member; kept = at.kept; is_member = of_graph m g (λ x. IsMember (resolved m x) w.member) h.has_graph w.listed; number = sym at.number }
 
 -- a crate is reached in the stored graph exactly if it is in the drawn one
-filtered_reached : {N : Type 0} (kind : DepKind) (m : MetadataModel) (s : SettingModel) (g : ResolveModel) (t : Sheet) (k : KeptCrates N Edge) → Shown m s g t k → (i : Id) → IsFiltered (resolved m g) t kind i
+filtered_reached : {N : Type 0} (kind : DepKind) (m : MetadataModel) (s : SettingModel) (g : ResolveModel) (t : Outline) (k : KeptCrates N Edge) → Shown m s g t k → (i : Id) → IsFiltered (resolved m g) t kind i
     → IsReached kind k.graph.edges k.members (crate_number t i)
 filtered_reached kind m s g t k h i w =
     reaches_more (LeadsWithout kind (lines t)) (LeadsWithout kind (map line_view k.graph.edges)) (IsMemberNumber (resolved m g) t) (Contains k.members) (λ a b. subst (λ (ls : List Line). LeadsWithout kind ls a b) (sym h.edges))
     (member_there m s g t k h) (crate_number t i) w.reached
 
-reached_filtered : {N : Type 0} (kind : DepKind) (m : MetadataModel) (s : SettingModel) (g : ResolveModel) (t : Sheet) (k : KeptCrates N Edge) → Shown m s g t k → (i : Id) (n : ℕ) → StandsAt (ids_of k) i n
+reached_filtered : {N : Type 0} (kind : DepKind) (m : MetadataModel) (s : SettingModel) (g : ResolveModel) (t : Outline) (k : KeptCrates N Edge) → Shown m s g t k → (i : Id) (n : ℕ) → StandsAt (ids_of k) i n
     → IsReached kind k.graph.edges k.members n → IsFiltered (resolved m g) t kind i
 reached_filtered kind m s g t k h i n at w =
     let numbered = number_of m s g t k h i n at in
@@ -163,18 +163,18 @@ pub lists_rebuilt : FilteredHoldsRebuild → IsBuildNarrowing → AreConnected �
     → ((n : ℕ) → Contains numbers n ↔ IsReached kind k.graph.edges k.members n) → (answer : Option IndexAnswer) (m p q : Metadata) (s : SettingModel) → AreRebuilt answer m p q s kind k j → ListsRebuilt (metadata_view p) s k j numbers
 lists_rebuilt law narrowing connected kind k j numbers first exactly answer m p q s w =
     let d = w.first.drawn in
-    let g = d.is_sheet.graph in
-    let t = d.sheet in
+    let g = d.is_outline.graph in
+    let t = d.outline in
     let v = metadata_view p in
     let h : Shown v s g t k = record {
-      has_graph = d.is_sheet.has_graph;
+      has_graph = d.is_outline.has_graph;
       keeps = w.first;
       nodes = d.drawing.nodes;
       edges = lines_same (lines t) k.graph.edges d.drawing.edges;
       first = first;
-      numbered = (connected (resolved v g) s d.is_sheet.holds.selection d.is_sheet.holds.selected t d.is_sheet.holds.is_sheet).crates;
+      numbered = (connected (resolved v g) s d.is_outline.holds.selection d.is_outline.holds.selected t d.is_outline.holds.is_outline).crates;
     } in
-    let both = law (resolved v g) s kind w.ignores.ignored w.ignores.more d.is_sheet.holds.selection d.is_sheet.holds.selected t d.is_sheet.holds.is_sheet in
+    let both = law (resolved v g) s kind w.ignores.ignored w.ignores.more d.is_outline.holds.selection d.is_outline.holds.selected t d.is_outline.holds.is_outline in
     let same = w.ignores.rest in
     record {
       all = λ root i c.

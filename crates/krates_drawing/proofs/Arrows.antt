@@ -5,12 +5,12 @@ use Rattle.krates_cm.specs.Document.{Text}
 use Rattle.krates_rules.specs.Facts.{Id}
 use Rattle.krates_rules.specs.Kind.{kind_of}
 use Rattle.krates_drawing.specs.Drawing.{id_eq, End, AtCrate, AtFeature, Tie, Dep, DepFeature, Feature, Line, line, uses, is_from, is_to, is_between, from_crate, pair_lines, leads_to, children_lines, crate_lines, targets, meaning_lines, feature_lines, lines}
-use Rattle.krates_drawing.specs.Sheet.{Krate, Link, Meaning, OwnFeature, Crates, FeatureOf, Named, Toggle, Sheet}
+use Rattle.krates_drawing.specs.Outline.{Krate, Link, Meaning, OwnFeature, Crates, FeatureOf, Named, Toggle, Outline}
 use Rattle.krates_rules.proofs.Members.{Member, member_append, member_left, member_right, mapped_of, member_map, kept_of, member_filter, spread_of, member_spread, passing_of, member_any}
 use Rattle.krates_drawing.proofs.NodeNumbers.{both, and_true, id_is, id_same, HasCrate}
 
 -- an edge is drawn from one end to another, with this weight
-pub data IsArrow (t : Sheet) : End → End → Tie → Type 0 where
+pub data IsArrow (t : Outline) : End → End → Tie → Type 0 where
   -- a kept edge that gives no feature
   dep : (l : Link) → Member t.links l → l.given ≡ [] → IsArrow t (AtCrate l.edge.parent) (AtCrate l.edge.child) (Dep (kind_of l.edge.kind) l.edge.cfg)
   -- each feature that a kept edge gives
@@ -27,7 +27,7 @@ pub data IsArrow (t : Sheet) : End → End → Tie → Type 0 where
       → IsArrow t (AtFeature n.krate n.name) (AtFeature l.edge.child g) Feature
 
 -- a line is that of some arrow
-pub record Drawn (t : Sheet) (x : Line) : Type 0 where
+pub record Drawn (t : Outline) (x : Line) : Type 0 where
   pub from : End
   pub to : End
   pub tie : Tie
@@ -37,30 +37,30 @@ pub record Drawn (t : Sheet) (x : Line) : Type 0 where
 -- ---- kept edges
 
 -- a kept edge from one crate to another
-pub record Between (t : Sheet) (p q : Id) : Type 0 where
+pub record Between (t : Outline) (p q : Id) : Type 0 where
   pub link : Link
   pub member : Member t.links link
   pub parent : link.edge.parent ≡ p
   pub child : link.edge.child ≡ q
 
-pub from_of : (t : Sheet) (p : Id) (l : Link) → Member (from_crate t p) l → Member t.links l × (l.edge.parent ≡ p)
+pub from_of : (t : Outline) (p : Id) (l : Link) → Member (from_crate t p) l → Member t.links l × (l.edge.parent ≡ p)
 from_of t p l m = let w = kept_of (is_from p) t.links l m in (w.0, id_is l.edge.parent p w.1)
 
-pub in_from : (t : Sheet) (p : Id) (l : Link) → Member t.links l → l.edge.parent ≡ p → Member (from_crate t p) l
+pub in_from : (t : Outline) (p : Id) (l : Link) → Member t.links l → l.edge.parent ≡ p → Member (from_crate t p) l
 in_from t p l m e = member_filter (is_from p) t.links l (subst (λ i. id_eq l.edge.parent i ≡ true) e (id_same l.edge.parent)) m
 
-pub leads_of : (t : Sheet) (p q : Id) → leads_to (from_crate t p) q ≡ true → Between t p q
+pub leads_of : (t : Outline) (p q : Id) → leads_to (from_crate t p) q ≡ true → Between t p q
 leads_of t p q h =
     let w = passing_of (is_to q) (from_crate t p) h in
     let f = from_of t p w.from w.member in
     record { link = w.from; member = f.0; parent = f.1; child = id_is w.from.edge.child q w.passes }
 
-pub leads_by : (t : Sheet) (p q : Id) → Between t p q → leads_to (from_crate t p) q ≡ true
+pub leads_by : (t : Outline) (p q : Id) → Between t p q → leads_to (from_crate t p) q ≡ true
 leads_by t p q b = member_any (is_to q) (from_crate t p) b.link (in_from t p b.link b.member b.parent) (subst (λ i. id_eq b.link.edge.child i ≡ true) b.child (id_same b.link.edge.child))
 
 -- ---- each drawn line is that of some arrow
 
-use_of : (t : Sheet) (l : Link) (gs : List Text) (x : Line) → Member t.links l → l.given ≡ gs → Member (uses t l gs) x → Drawn t x
+use_of : (t : Outline) (l : Link) (gs : List Text) (x : Line) → Member t.links l → l.given ≡ gs → Member (uses t l gs) x → Drawn t x
 unfolding uses
 use_of t l [] x at e (inl is) = record { from = _; to = _; tie = _; arrow = dep l at e; is = is }
 use_of t l [] x at e (inr m) = absurd m
@@ -68,7 +68,7 @@ use_of t l (g ∷ gs) x at e m =
     let w = mapped_of (λ f. line t (AtCrate l.edge.parent) (AtFeature l.edge.child f) (DepFeature (kind_of l.edge.kind) l.edge.cfg)) (g ∷ gs) x m in
     record { from = _; to = _; tie = _; arrow = dep_feature l w.from at (subst (λ fs. Member fs w.from) (sym e) w.member); is = w.is }
 
-pair_of : (t : Sheet) (p : Id) (q : Krate) (x : Line) → Between t p q.id → Member (pair_lines t p (from_crate t p) q) x → Drawn t x
+pair_of : (t : Outline) (p : Id) (q : Krate) (x : Line) → Between t p q.id → Member (pair_lines t p (from_crate t p) q) x → Drawn t x
 unfolding pair_lines
 pair_of t p q x b m = elim (member_append (flat_map (λ l. uses t l l.given) (filter (is_to q.id) (from_crate t p))) _ x m) [
   | inl here ↦ (
@@ -90,14 +90,14 @@ pair_of t p q x b m = elim (member_append (flat_map (λ l. uses t l l.given) (fi
       })
 ]
 
-crate_of : (t : Sheet) (p : Krate) (x : Line) → Member (crate_lines t p) x → Drawn t x
+crate_of : (t : Outline) (p : Krate) (x : Line) → Member (crate_lines t p) x → Drawn t x
 unfolding crate_lines children_lines
 crate_of t p x m =
     let w = spread_of (pair_lines t p.id (from_crate t p.id)) (filter (λ q. leads_to (from_crate t p.id) q.id) t.krates) x m in
     let k = kept_of (λ (q : Krate). leads_to (from_crate t p.id) q.id) t.krates w.from w.member in
     pair_of t p.id w.from x (leads_of t p.id w.from.id k.1) w.there
 
-target_of : (t : Sheet) (n : Named) (m : Meaning) (e : End) → Member t.features n → Member n.meanings m → Member (targets (from_crate t n.krate) n.krate m) e → IsArrow t (AtFeature n.krate n.name) e Feature
+target_of : (t : Outline) (n : Named) (m : Meaning) (e : End) → Member t.features n → Member n.meanings m → Member (targets (from_crate t n.krate) n.krate m) e → IsArrow t (AtFeature n.krate n.name) e Feature
 target_of t n (OwnFeature g) e at among (inl is) = subst (λ z. IsArrow t (AtFeature n.krate n.name) z Feature) is (names n g at among)
 target_of t n (OwnFeature g) e at among (inr m) = absurd m
 target_of t n (Crates ids) e at among m =
@@ -111,7 +111,7 @@ target_of t n (FeatureOf ids g) e at among m =
     let b = leads_of t n.krate w.from k.1 in
     subst (λ z. IsArrow t (AtFeature n.krate n.name) z Feature) (ap (λ q. AtFeature q g) b.child ∙ w.is) (names_feature n ids g b.link at among (subst (Member ids) (sym b.child) k.0) b.member b.parent)
 
-feature_of : (t : Sheet) (n : Named) (x : Line) → Member t.features n → Member (feature_lines t n) x → Drawn t x
+feature_of : (t : Outline) (n : Named) (x : Line) → Member t.features n → Member (feature_lines t n) x → Drawn t x
 unfolding feature_lines meaning_lines
 feature_of t n x at (inl is) = record { from = _; to = _; tie = _; arrow = own n at; is = is }
 feature_of t n x at (inr m) =
@@ -119,7 +119,7 @@ feature_of t n x at (inr m) =
     let k = mapped_of (λ e. line t (AtFeature n.krate n.name) e Feature) (targets (from_crate t n.krate) n.krate w.from) x w.there in
     record { from = _; to = k.from; tie = _; arrow = target_of t n w.from k.from at w.member k.member; is = k.is }
 
-pub drawn_of : (t : Sheet) (x : Line) → Member (lines t) x → Drawn t x
+pub drawn_of : (t : Outline) (x : Line) → Member (lines t) x → Drawn t x
 unfolding lines
 drawn_of t x m = elim (member_append (flat_map (crate_lines t) t.krates) _ x m) [
   | inl here ↦ (let w = spread_of (crate_lines t) t.krates x here in crate_of t w.from x w.there)
@@ -128,11 +128,11 @@ drawn_of t x m = elim (member_append (flat_map (crate_lines t) t.krates) _ x m) 
 
 -- ---- each arrow has its line, if the ends of kept edges are kept
 
-abbrev pub KeepsEnds : Sheet → Type 0
+abbrev pub KeepsEnds : Outline → Type 0
 KeepsEnds t = (l : Link) → Member t.links l → HasCrate t l.edge.parent × HasCrate t l.edge.child
 
 -- what is drawn between two kept crates
-pair_in : (t : Sheet) (p q : Krate) (x : Line) → Member t.krates p → Member t.krates q → Between t p.id q.id → Member (pair_lines t p.id (from_crate t p.id) q) x → Member (lines t) x
+pair_in : (t : Outline) (p q : Krate) (x : Line) → Member t.krates p → Member t.krates q → Between t p.id q.id → Member (pair_lines t p.id (from_crate t p.id) q) x → Member (lines t) x
 unfolding lines crate_lines children_lines
 pair_in t p q x at_p at_q b m =
     member_left (flat_map (crate_lines t) t.krates) _ x
@@ -140,7 +140,7 @@ pair_in t p q x at_p at_q b m =
     (member_spread (pair_lines t p.id (from_crate t p.id)) (filter (λ z. leads_to (from_crate t p.id) z.id) t.krates) q x (member_filter (λ (z : Krate). leads_to (from_crate t p.id) z.id) t.krates q (leads_by t p.id q.id b) at_q) m))
 
 -- a line between two crates is drawn where the ends of a link are kept
-between_in : (t : Sheet) (p q : Id) (x : Line) → KeepsEnds t → (b : Between t p q) → ((k : Krate) → k.id ≡ q → Member (pair_lines t p (from_crate t p) k) x) → Member (lines t) x
+between_in : (t : Outline) (p q : Id) (x : Line) → KeepsEnds t → (b : Between t p q) → ((k : Krate) → k.id ≡ q → Member (pair_lines t p (from_crate t p) k) x) → Member (lines t) x
 between_in t p q x ends b there =
     let k = ends b.link b.member in
     let at_p : (k.0).krate.id ≡ p = (k.0).id ∙ b.parent in
@@ -148,7 +148,7 @@ between_in t p q x ends b there =
     let link : Between t (k.0).krate.id (k.1).krate.id = record { link = b.link; member = b.member; parent = b.parent ∙ sym at_p; child = b.child ∙ sym at_q } in
     pair_in t (k.0).krate (k.1).krate x (k.0).member (k.1).member link (subst (λ i. Member (pair_lines t i (from_crate t i) (k.1).krate) x) (sym at_p) (there (k.1).krate at_q))
 
-use_in : (t : Sheet) (l : Link) (x : Line) → KeepsEnds t → Member t.links l → Member (uses t l l.given) x → Member (lines t) x
+use_in : (t : Outline) (l : Link) (x : Line) → KeepsEnds t → Member t.links l → Member (uses t l l.given) x → Member (lines t) x
 unfolding pair_lines
 use_in t l x ends at m = between_in t l.edge.parent l.edge.child x ends (record { link = l; member = at; parent = refl; child = refl }) there
   where
@@ -158,7 +158,7 @@ use_in t l x ends at m = between_in t l.edge.parent l.edge.child x ends (record 
         let passes : is_to k.id l ≡ true = subst (λ i. id_eq l.edge.child i ≡ true) (sym e) (id_same l.edge.child) in
         member_left (flat_map (λ z. uses t z z.given) (filter (is_to k.id) mine)) _ x (member_spread (λ z. uses t z z.given) (filter (is_to k.id) mine) l x (member_filter (is_to k.id) mine l passes (in_from t l.edge.parent l at refl)) m)
 
-toggle_in : (t : Sheet) (g : Toggle) (l : Link) → KeepsEnds t → Member t.toggled g → Member t.links l → l.edge.parent ≡ g.by → l.edge.child ≡ g.krate → Member (lines t) (line t (AtCrate g.by) (AtFeature g.krate g.name) Feature)
+toggle_in : (t : Outline) (g : Toggle) (l : Link) → KeepsEnds t → Member t.toggled g → Member t.links l → l.edge.parent ≡ g.by → l.edge.child ≡ g.krate → Member (lines t) (line t (AtCrate g.by) (AtFeature g.krate g.name) Feature)
 unfolding pair_lines
 toggle_in t g l ends at kept by theirs = between_in t g.by g.krate x ends (record { link = l; member = kept; parent = by; child = theirs }) there
   where
@@ -172,21 +172,21 @@ toggle_in t g l ends at kept by theirs = between_in t g.by g.krate x ends (recor
         let same : line t (AtCrate g.by) (AtFeature k.id g.name) Feature ≡ x = ap (λ i. line t (AtCrate g.by) (AtFeature i g.name) Feature) e in
         member_right (flat_map (λ z. uses t z z.given) (filter (is_to k.id) (from_crate t g.by))) _ x (subst (Member (map (λ z. line t (AtCrate g.by) (AtFeature k.id z.name) Feature) (filter (is_between g.by k.id) t.toggled))) same here)
 
-feature_in : (t : Sheet) (n : Named) (x : Line) → Member t.features n → Member (feature_lines t n) x → Member (lines t) x
+feature_in : (t : Outline) (n : Named) (x : Line) → Member t.features n → Member (feature_lines t n) x → Member (lines t) x
 unfolding lines
 feature_in t n x at m = member_right (flat_map (crate_lines t) t.krates) _ x (member_spread (feature_lines t) t.features n x at m)
 
-meaning_in : (t : Sheet) (n : Named) (m : Meaning) (e : End) → Member t.features n → Member n.meanings m → Member (targets (from_crate t n.krate) n.krate m) e → Member (lines t) (line t (AtFeature n.krate n.name) e Feature)
+meaning_in : (t : Outline) (n : Named) (m : Meaning) (e : End) → Member t.features n → Member n.meanings m → Member (targets (from_crate t n.krate) n.krate m) e → Member (lines t) (line t (AtFeature n.krate n.name) e Feature)
 unfolding feature_lines meaning_lines
 meaning_in t n m e at among there =
     let x = line t (AtFeature n.krate n.name) e Feature in
     feature_in t n x at
     (inr (member_spread (meaning_lines t n (from_crate t n.krate)) n.meanings m x among (member_map (λ z. line t (AtFeature n.krate n.name) z Feature) (targets (from_crate t n.krate) n.krate m) e there)))
 
-referent_in : (t : Sheet) (p : Id) (ids : List Id) (l : Link) → Member ids l.edge.child → Member t.links l → l.edge.parent ≡ p → Member (filter (leads_to (from_crate t p)) ids) l.edge.child
+referent_in : (t : Outline) (p : Id) (ids : List Id) (l : Link) → Member ids l.edge.child → Member t.links l → l.edge.parent ≡ p → Member (filter (leads_to (from_crate t p)) ids) l.edge.child
 referent_in t p ids l among at e = member_filter (leads_to (from_crate t p)) ids l.edge.child (leads_by t p l.edge.child (record { link = l; member = at; parent = e; child = refl })) among
 
-pub arrow_in : (t : Sheet) (from to : End) (tie : Tie) → KeepsEnds t → IsArrow t from to tie → Member (lines t) (line t from to tie)
+pub arrow_in : (t : Outline) (from to : End) (tie : Tie) → KeepsEnds t → IsArrow t from to tie → Member (lines t) (line t from to tie)
 unfolding uses feature_lines
 arrow_in t _ _ _ ends (dep l at none) =
     let x = line t (AtCrate l.edge.parent) (AtCrate l.edge.child) (Dep (kind_of l.edge.kind) l.edge.cfg) in

@@ -13,19 +13,19 @@ use Rattle.krates_rules.specs.Facts.{Id}
 use Rattle.krates_rules.specs.Referent.{id_order}
 use Rattle.krates_rules.specs.Resolved.{id_of}
 use Rattle.krates_drawing.specs.Drawing.{children_lines, crate_lines, crate_number, from_crate, id_eq, is_crate, is_to, last_from, leads_to, pair_lines, place_of}
-use Rattle.krates_drawing.specs.Sheet as model
-use Rattle.krates_drawing.specs.SheetOrder.{AreByChild, children_of, has_child, number_of}
-use Rattle.krates_drawing.specs.Views.{kids_in, kids_of, krate_at, krate_view, link_view, no_krate, sheet_view}
+use Rattle.krates_drawing.specs.Outline as model
+use Rattle.krates_drawing.specs.OutlineOrder.{AreByChild, children_of, has_child, number_of}
+use Rattle.krates_drawing.specs.Views.{kids_in, kids_of, krate_at, krate_view, link_view, no_krate, outline_view}
 use Rattle.krates_drawing.specs.declared.origin.Home.{Home}
-use Rattle.krates_drawing.specs.declared.sheet.Krate.{Krate}
-use Rattle.krates_drawing.specs.declared.sheet.Link.{Link}
-use Rattle.krates_drawing.specs.declared.sheet.Sheet.{Sheet}
+use Rattle.krates_drawing.specs.declared.outline.Krate.{Krate}
+use Rattle.krates_drawing.specs.declared.outline.Link.{Link}
+use Rattle.krates_drawing.specs.declared.outline.Outline.{Outline}
 use Rattle.krates_drawing.proofs.CratePlaces.{AreInOrder, id_of_krate, ids_compare, led_to, own_number}
 use Rattle.krates_drawing.proofs.Joined.{either, joined}
 use Rattle.krates_drawing.proofs.NodeNumbers.{id_is, id_same}
 use Rattle.krates_drawing.proofs.Tests.{bools_same, equal_is, equal_order, equal_self, filter_same, not_high, order_total, sorted_as}
 
--- edges between crates of a sheet
+-- edges between crates of an outline
 abbrev pub AreWithin : List Krate → List Link → Type 0
 AreWithin ks mine = All (λ l. HasEnds (length ks) l.edge) mine
 
@@ -242,9 +242,9 @@ none_yet [] = refl
 none_yet (k ∷ ks) = none_yet ks
 
 -- its number, whatever was found before
-pub number_found : (t : Sheet) (n : ℕ) (o : Option ℕ) → AreInOrder t.krates.items → n < length t.krates.items → Some (crate_number (sheet_view t) (id_at (kids_in t) n)) ≡ number_of (sheet_view t) (id_at (kids_in t) n) o
+pub number_found : (t : Outline) (n : ℕ) (o : Option ℕ) → AreInOrder t.krates.items → n < length t.krates.items → Some (crate_number (outline_view t) (id_at (kids_in t) n)) ≡ number_of (outline_view t) (id_at (kids_in t) n) o
 number_found t n o sorted lt =
-    let s = sheet_view t in
+    let s = outline_view t in
     let ks = t.krates.items in
     sym (ap (λ l. last_from o (map (λ (k : model.Krate). crate_number s k.id) l)) (only_crate ks n sorted lt) ∙ ap (λ i. Some (crate_number s i)) (id_of_krate ks n))
 
@@ -283,11 +283,11 @@ pub drawn_more : {A B : Type 0} (f : A → List B) (before old new : List B) (xs
 drawn_more f before old new xs x more so_far = more ∙ ap (λ l. l ++ f x) so_far ∙ flat_map_more f before xs x
 
 -- to all children of the edges from a crate
-pub crate_drawn : (t : Sheet) (krate : ℕ) (h : Home) → h.krate ≡ krate → map (link_view (kids_in t)) h.mine.now ≡ from_crate (sheet_view t) (id_at (kids_in t) h.krate)
-    → flat_map (pair_lines (sheet_view t) (id_at (kids_in t) h.krate) (map (link_view (kids_in t)) h.mine.now)) (children_of t h.mine.now) ≡ crate_lines (sheet_view t) (krate_at t krate)
+pub crate_drawn : (t : Outline) (krate : ℕ) (h : Home) → h.krate ≡ krate → map (link_view (kids_in t)) h.mine.now ≡ from_crate (outline_view t) (id_at (kids_in t) h.krate)
+    → flat_map (pair_lines (outline_view t) (id_at (kids_in t) h.krate) (map (link_view (kids_in t)) h.mine.now)) (children_of t h.mine.now) ≡ crate_lines (outline_view t) (krate_at t krate)
 unfolding crate_lines children_lines
 crate_drawn t krate h same links =
-    let s = sheet_view t in
+    let s = outline_view t in
     let id : id_at (kids_in t) h.krate ≡ (krate_at t krate).id = ap (id_at (kids_in t)) same ∙ sym (id_of_krate t.krates.items krate) in
     ap (λ mine. flat_map (pair_lines s (id_at (kids_in t) h.krate) mine) (filter (λ q. leads_to mine q.id) s.krates)) links
     ∙ ap (λ i. flat_map (pair_lines s i (from_crate s i)) (filter (λ q. leads_to (from_crate s i) q.id) s.krates)) id

@@ -1,4 +1,4 @@
--- Crates of a sheet by number: the number is the place, and their ids compare as their numbers.
+-- Crates of an outline by number: the number is the place, and their ids compare as their numbers.
 use Rattle.std.proofs.Common.{◌≡◌, Bool, ℕ, zero, suc, ◌<◌, ◌==◌, List, [], ◌∷◌, Some, Ok, All, filter, get_or, length, map, option_map, refl, sym, ap, ◌∙◌}
 use Rattle.std.proofs.lemmas.Cmp.{tied_itself}
 use Rattle.std.proofs.lemmas.List.{length-map}
@@ -17,11 +17,11 @@ use Rattle.krates_rules.specs.Facts.{Id}
 use Rattle.krates_rules.specs.Referent.{id_order}
 use Rattle.krates_rules.specs.Resolved.{id_of}
 use Rattle.krates_drawing.specs.Drawing.{id_eq, is_crate, is_from, is_to, place_of}
-use Rattle.krates_drawing.specs.Sheet.{Toggle, toggle_of}
-use Rattle.krates_drawing.specs.SheetOrder.{has_child, has_krate, is_by}
+use Rattle.krates_drawing.specs.Outline.{Toggle, toggle_of}
+use Rattle.krates_drawing.specs.OutlineOrder.{has_child, has_krate, is_by}
 use Rattle.krates_drawing.specs.Views.{kids_of, krate_view, link_view, no_krate}
-use Rattle.krates_drawing.specs.declared.sheet.Krate.{Krate}
-use Rattle.krates_drawing.specs.declared.sheet.Link.{Link}
+use Rattle.krates_drawing.specs.declared.outline.Krate.{Krate}
+use Rattle.krates_drawing.specs.declared.outline.Link.{Link}
 use Rattle.krates_drawing.proofs.EqualRanges.{searched}
 use Rattle.krates_drawing.proofs.Tests.{any_seen, equal_ids, equal_order, filter_seen, has_by, has_parent, ids_total, place_seen}
 

@@ -9,14 +9,14 @@ use Rattle.krates_rules.specs.Facts.{Id}
 use Rattle.krates_drawing.specs.Drawing.{Feature, Line, crate_number, feature_lines, feature_number, from_crate, id_eq, is_crate, is_to, leads_to, meaning_lines, place_of}
 use Rattle.krates_drawing.specs.Home.{IsNumberOfChild}
 use Rattle.krates_drawing.specs.Origin.{meant_from}
-use Rattle.krates_drawing.specs.SheetOrder.{has_child}
-use Rattle.krates_drawing.specs.Views.{kids_in, kids_of, krate_view, link_view, meaning_view, named_view, sheet_view}
+use Rattle.krates_drawing.specs.OutlineOrder.{has_child}
+use Rattle.krates_drawing.specs.Views.{kids_in, kids_of, krate_view, link_view, meaning_view, named_view, outline_view}
 use Rattle.krates_drawing.specs.declared.origin.Home.{Home}
-use Rattle.krates_drawing.specs.declared.sheet.Krate.{Krate}
-use Rattle.krates_drawing.specs.declared.sheet.Link.{Link}
-use Rattle.krates_drawing.specs.declared.sheet.Meaning.{Meaning}
-use Rattle.krates_drawing.specs.declared.sheet.Named.{Named}
-use Rattle.krates_drawing.specs.declared.sheet.Sheet.{Sheet}
+use Rattle.krates_drawing.specs.declared.outline.Krate.{Krate}
+use Rattle.krates_drawing.specs.declared.outline.Link.{Link}
+use Rattle.krates_drawing.specs.declared.outline.Meaning.{Meaning}
+use Rattle.krates_drawing.specs.declared.outline.Named.{Named}
+use Rattle.krates_drawing.specs.declared.outline.Outline.{Outline}
 use Rattle.krates_drawing.proofs.Children.{AreWithin, any_under}
 use Rattle.krates_drawing.proofs.CratePlaces.{AreInOrder, led_to, own_number}
 use Rattle.krates_drawing.proofs.NodeNumbers.{id_is}
@@ -36,21 +36,21 @@ id_found : (q : Id) (ks : List Krate) (n : ℕ) → n ≡ place_of (is_crate q) 
 id_found q ks n is lt = ap (id_at (kids_of ks)) is ∙ found_here q ks (omega (arith, is, lt))
 
 -- whether an edge leads to it is told by number
-led_found : (t : Sheet) (mine : List Link) (q : Id) (n : ℕ) → AreInOrder t.krates.items → AreWithin t.krates.items mine → n ≡ place_of (is_crate q) (map krate_view t.krates.items) → n < length t.krates.items
+led_found : (t : Outline) (mine : List Link) (q : Id) (n : ℕ) → AreInOrder t.krates.items → AreWithin t.krates.items mine → n ≡ place_of (is_crate q) (map krate_view t.krates.items) → n < length t.krates.items
     → leads_to (map (link_view (kids_in t)) mine) q ≡ list_any (has_child n) mine
 led_found t mine q n sorted within is lt =
     ap (λ i. list_any (is_to i) (map (link_view (kids_in t)) mine)) (sym (id_found q t.krates.items n is lt)) ∙ led_to t.krates.items n mine sorted lt within
 
-pub child_found : (t : Sheet) (mine : List Link) (q : Id) (n : ℕ) → AreInOrder t.krates.items → AreWithin t.krates.items mine → n ≡ place_of (is_crate q) (map krate_view t.krates.items) → n < length t.krates.items → list_any (has_child n) mine ≡ true
+pub child_found : (t : Outline) (mine : List Link) (q : Id) (n : ℕ) → AreInOrder t.krates.items → AreWithin t.krates.items mine → n ≡ place_of (is_crate q) (map krate_view t.krates.items) → n < length t.krates.items → list_any (has_child n) mine ≡ true
     → IsNumberOfChild t mine q n
 child_found t mine q n sorted within is lt leads = record { within = lt; id = id_found q t.krates.items n is lt; leads = led_found t mine q n sorted within is lt ∙ leads }
 
-pub not_led : (t : Sheet) (mine : List Link) (q : Id) (n : ℕ) → AreInOrder t.krates.items → AreWithin t.krates.items mine → n ≡ place_of (is_crate q) (map krate_view t.krates.items) → n < length t.krates.items → list_any (has_child n) mine ≡ false
+pub not_led : (t : Outline) (mine : List Link) (q : Id) (n : ℕ) → AreInOrder t.krates.items → AreWithin t.krates.items mine → n ≡ place_of (is_crate q) (map krate_view t.krates.items) → n < length t.krates.items → list_any (has_child n) mine ≡ false
     → leads_to (map (link_view (kids_in t)) mine) q ≡ false
 not_led t mine q n sorted within is lt none = led_found t mine q n sorted within is lt ∙ none
 
 -- no edge leads to a crate that isn't kept
-pub not_kept : (t : Sheet) (mine : List Link) (q : Id) (n : ℕ) → AreInOrder t.krates.items → AreWithin t.krates.items mine → n ≡ place_of (is_crate q) (map krate_view t.krates.items) → length t.krates.items ≤ n
+pub not_kept : (t : Outline) (mine : List Link) (q : Id) (n : ℕ) → AreInOrder t.krates.items → AreWithin t.krates.items mine → n ≡ place_of (is_crate q) (map krate_view t.krates.items) → length t.krates.items ≤ n
     → leads_to (map (link_view (kids_in t)) mine) q ≡ false
 not_kept t mine q n sorted within is past =
     any_under (link_view (kids_in t)) (is_to q) mine ∙ list_any_none (λ l. is_to q (link_view (kids_in t) l)) mine (λ k d lt. fails (get_or mine k d).edge.child (within k d lt).child (id_eq (id_at (kids_in t) (get_or mine k d).edge.child) q) refl)
@@ -66,12 +66,12 @@ not_kept t mine q n sorted within is past =
 abbrev led : ℕ → ℕ → Line
 led source target = record { source = source; target = target; tie = Feature }
 
-pub feature_drawn : (t : Sheet) (h : Home) (n : Named) (source target : ℕ) (meanings : List Meaning) → h.krate ≡ n.feature.krate → map (link_view (kids_in t)) h.mine.now ≡ from_crate (sheet_view t) (id_at (kids_in t) h.krate)
-    → source ≡ feature_number (sheet_view t) (id_at (kids_in t) n.feature.krate) (text_view n.feature.name) → target ≡ crate_number (sheet_view t) (id_at (kids_in t) h.krate) → meanings ≡ n.meanings.items
-    → led source target ∷ flat_map (meant_from (sheet_view t) source (map (link_view (kids_in t)) h.mine.now) (id_at (kids_in t) h.krate)) (map meaning_view meanings) ≡ feature_lines (sheet_view t) (named_view (kids_in t) n)
+pub feature_drawn : (t : Outline) (h : Home) (n : Named) (source target : ℕ) (meanings : List Meaning) → h.krate ≡ n.feature.krate → map (link_view (kids_in t)) h.mine.now ≡ from_crate (outline_view t) (id_at (kids_in t) h.krate)
+    → source ≡ feature_number (outline_view t) (id_at (kids_in t) n.feature.krate) (text_view n.feature.name) → target ≡ crate_number (outline_view t) (id_at (kids_in t) h.krate) → meanings ≡ n.meanings.items
+    → led source target ∷ flat_map (meant_from (outline_view t) source (map (link_view (kids_in t)) h.mine.now) (id_at (kids_in t) h.krate)) (map meaning_view meanings) ≡ feature_lines (outline_view t) (named_view (kids_in t) n)
 unfolding feature_lines meaning_lines
 feature_drawn t h n source target meanings krate links is_source is_target same =
-    let s = sheet_view t in
+    let s = outline_view t in
     let p = id_at (kids_in t) h.krate in
     let q = id_at (kids_in t) n.feature.krate in
     let ms = map meaning_view meanings in

@@ -1,4 +1,4 @@
--- A feature of a sheet stands where a search finds it.
+-- A feature of an outline stands where a search finds it.
 use Rattle.std.proofs.Common.{◌≡◌, ◌<◌, ℕ, List, Some, Ok, All, Result, length, map, ◌&&◌, sym, ap, ◌∙◌, subst}
 use Rattle.std.proofs.lemmas.Cmp.{tied_itself}
 use Rattle.std.proofs.lemmas.Option.{get_or_from_slice_get, slice_get_within}
@@ -11,8 +11,8 @@ use Rattle.krates_selection.specs.CrateNumbers.{HasHome, id_at}
 use Rattle.krates_selection.specs.SelectionOrder.{feature_cmp}
 use Rattle.krates_drawing.specs.Drawing.{is_feature, place_of}
 use Rattle.krates_drawing.specs.Views.{kids_of, named_view}
-use Rattle.krates_drawing.specs.declared.sheet.Krate.{Krate}
-use Rattle.krates_drawing.specs.declared.sheet.Named.{Named}
+use Rattle.krates_drawing.specs.declared.outline.Krate.{Krate}
+use Rattle.krates_drawing.specs.declared.outline.Named.{Named}
 use Rattle.krates_drawing.proofs.CratePlaces.{AreInOrder, same_ids}
 use Rattle.krates_drawing.proofs.EqualRanges.{place_in, searched}
 use Rattle.krates_drawing.proofs.Tests.{equal_named, feature_key, features_in_order, named_cmp, named_total, place_seen}

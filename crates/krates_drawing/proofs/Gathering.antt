@@ -1,4 +1,4 @@
--- What is gathered from a selection is its sheet.
+-- What is gathered from a selection is its outline.
 use Rattle.std.proofs.Common.{◌≡◌, Bool, inl, inr, ℕ, zero, suc, ◌<◌, List, [], ◌∷◌, All, length, map, zip, Option, Some, None, slice_get, refl, sym, ap, ◌∙◌, subst, arith}
 use Rattle.std.proofs.lemmas.List.{length-map}
 use Rattle.std.proofs.lemmas.List.Elements.{All-contains, All-from_recursion}
@@ -25,15 +25,15 @@ use Rattle.krates_selection.specs.declared.selection.EnabledFeature.{EnabledFeat
 use Rattle.krates_selection.specs.declared.selection.KeptEdge.{KeptEdge}
 use Rattle.krates_selection.specs.declared.selection.Selection.{Selection}
 use Rattle.krates_drawing.specs.Gathered.{MeaningsTold, AreMeant, count_in, declared_in, dependency_in, given_in, listed_of, values_in}
-use Rattle.krates_drawing.specs.Sheet.{IsKrate, IsLink, IsMeaning, IsNamed, IsSheet, toggle_of}
-use Rattle.krates_drawing.specs.SheetOrder.{IsOrdered}
+use Rattle.krates_drawing.specs.Outline.{IsKrate, IsLink, IsMeaning, IsNamed, IsOutline, toggle_of}
+use Rattle.krates_drawing.specs.OutlineOrder.{IsOrdered}
 use Rattle.krates_drawing.specs.Told.{IsToldOf, node_at, node_in, of_crate, package_at, package_in}
-use Rattle.krates_drawing.specs.Views.{kids_in, krate_view, link_view, meanings_view, named_view, sheet_view}
-use Rattle.krates_drawing.specs.declared.sheet.Krate.{Krate}
-use Rattle.krates_drawing.specs.declared.sheet.Link.{Link}
-use Rattle.krates_drawing.specs.declared.sheet.Meaning.{Meaning}
-use Rattle.krates_drawing.specs.declared.sheet.Named.{Named}
-use Rattle.krates_drawing.specs.declared.sheet.Sheet.{Sheet}
+use Rattle.krates_drawing.specs.Views.{kids_in, krate_view, link_view, meanings_view, named_view, outline_view}
+use Rattle.krates_drawing.specs.declared.outline.Krate.{Krate}
+use Rattle.krates_drawing.specs.declared.outline.Link.{Link}
+use Rattle.krates_drawing.specs.declared.outline.Meaning.{Meaning}
+use Rattle.krates_drawing.specs.declared.outline.Named.{Named}
+use Rattle.krates_drawing.specs.declared.outline.Outline.{Outline}
 use Rattle.krates_drawing.specs.declared.told.Told.{Told}
 use Rattle.krates_document.proofs.DeclaredOnce.{declared_stands}
 use Rattle.krates_drawing.proofs.ById.{zip_by}
@@ -52,8 +52,8 @@ pub record AreGathered (r : Resolved) (s : SettingModel) (x : Selection) (told :
   pub givens : map texts_view gs ≡ map (given_in told) x.edges.items
   pub names : AllZip (MeaningsTold r s.all_named told) x.features.items (map meanings_view ms)
 
--- the sheet has each item of the selection with what is beside it
-pub record IsMadeOf (x : Selection) (ns : List ℕ) (gs : List (Vec (String Global))) (ms : List (Vec Meaning)) (t : Sheet) : Type 0 where
+-- the outline has each item of the selection with what is beside it
+pub record IsMadeOf (x : Selection) (ns : List ℕ) (gs : List (Vec (String Global))) (ms : List (Vec Meaning)) (t : Outline) : Type 0 where
   pub krates : t.krates.items ≡ map (λ pair. record { id = pair.0; declared = pair.1 }) (zip x.krates.items ns)
   pub links : t.links.items ≡ map (λ pair. record { edge = pair.0; given = pair.1 }) (zip x.edges.items gs)
   pub features : t.features.items ≡ map (λ pair. record { feature = pair.0; meanings = pair.1 }) (zip x.features.items ms)
@@ -171,7 +171,7 @@ has_node : (r : Resolved) (s : SettingModel) (i : Id) → Derivable (questions r
 unfolding questions
 has_node r s i d none = let w = kept_stands (questions r s) i d in none w.node w.has_node
 
--- ---- the sheet
+-- ---- the outline
 
 -- the first parts of the pairs that are made are the first list
 first_parts : {A C D : Type 0} (R : A → C → Type 0) (make : A → C → D) (back : D → A) (xs : List A) (zs : List C) → ((x : A) (z : C) → back (make x z) ≡ x) → AllZip R xs zs
@@ -195,7 +195,7 @@ make_link e v = record { edge = e; given = v }
 abbrev make_named : EnabledFeature → Vec Meaning → Named
 make_named f v = record { feature = f; meanings = v }
 
-module _ (r : Resolved) (s : SettingModel) (x : Selection) (told : List Told) (ns : List ℕ) (gs : List (Vec (String Global))) (ms : List (Vec Meaning)) (t : Sheet) (h : IsSelection r s x) (w : AreGathered r s x told ns gs ms) (m : IsMadeOf x ns gs ms t) where
+module _ (r : Resolved) (s : SettingModel) (x : Selection) (told : List Told) (ns : List ℕ) (gs : List (Vec (String Global))) (ms : List (Vec Meaning)) (t : Outline) (h : IsSelection r s x) (w : AreGathered r s x told ns gs ms) (m : IsMadeOf x ns gs ms t) where
   counts : AllZip (CountTold r) x.krates.items ns
   counts = subst (AllZip (CountTold r) x.krates.items) (sym w.counts) (counts_told r x.krates.items told w.each)
 
@@ -238,7 +238,7 @@ module _ (r : Resolved) (s : SettingModel) (x : Selection) (told : List Told) (n
       let kept = crate_of_feature (questions r s) i (text_view f.name) ((h.facts (feature_fact x.krates.items f)).1 (feature_there x f at)) in
       named_told r s.all_named x.krates.items told f v w.each home (has_package r s i kept) is)) names
 
-  pub gathered : NoneDoubled r.metadata r.graph → IsSheet r s x (sheet_view t)
+  pub gathered : NoneDoubled r.metadata r.graph → IsOutline r s x (outline_view t)
   gathered none = record {
     krates = subst (λ zs. AllZip (IsKrate r) x.krates.items (map krate_view zs)) (sym m.krates) krates_made;
     links = subst (λ ks. AllZip (IsLink r s x.krates.items) x.edges.items (map (link_view ks) t.links.items)) (sym same_kids)
@@ -248,7 +248,7 @@ module _ (r : Resolved) (s : SettingModel) (x : Selection) (told : List Told) (n
     toggled = ap (λ v. map (toggle_of (kids_in t)) v.items) m.toggled ∙ ap (λ ks. map (toggle_of ks) x.toggled.items) same_kids;
   }
 
-  -- ---- the order of the sheet
+  -- ---- the order of the outline
 
   pub ordered : IsOrdered t
   ordered = record {

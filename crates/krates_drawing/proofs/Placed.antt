@@ -1,4 +1,4 @@
--- Crates and features of a sheet stand under their numbers: what their mappings name and where their edges lead.
+-- Crates and features of an outline stand under their numbers: what their mappings name and where their edges lead.
 use Rattle.std.proofs.Common.{◌≡◌, ◌⊎◌, inl, inr, ℕ, zero, suc, ◌+◌, Bool, true, false, cond, List, [], ◌∷◌, ◌++◌, map, length, Option, Some, Contains, slice_get, Ordering, Less, Equal, Greater, refl, sym, ap, ◌∙◌, subst, arith, nat_cmp}
 use Rattle.std.proofs.lemmas.Cmp.{nat_list_cmp_total}
 use Rattle.std.proofs.lemmas.Option.{none-some, same_Some}
@@ -19,7 +19,7 @@ use Rattle.krates_rules.proofs.SeenInOrder.{equal_self}
 use Rattle.krates_drawing.specs.Agreement.{DependsOn, LeadsTo}
 use Rattle.krates_drawing.specs.Connected.{IsLedInto, LeadsHome, AreConnected}
 use Rattle.krates_drawing.specs.Drawing.{AtCrate, AtFeature, Feature, line, place_of, is_crate, is_feature, id_eq, crate_number, from_crate, lines, claimant, mapped, mapping, Spot, CrateSpot, FeatureSpot, crate_spot, feature_spot, spots}
-use Rattle.krates_drawing.specs.Sheet.{Krate, IsKrate, Named, IsNamed, Sheet, IsSheet}
+use Rattle.krates_drawing.specs.Outline.{Krate, IsKrate, Named, IsNamed, Outline, IsOutline}
 use Rattle.krates_drawing.proofs.Agreed.{claimant_of, image_of, between_leads}
 use Rattle.krates_drawing.proofs.Arrows.{own, arrow_in}
 use Rattle.krates_drawing.proofs.ById.{feature_by_id, feature_order, features_sorted, ids_total}
@@ -86,7 +86,7 @@ own_crate r (i ∷ is) (x ∷ xs) z sorted (suc p) k at =
 
 -- ---- features under theirs
 
--- a feature of the sheet by the id of its crate
+-- a feature of the outline by the id of its crate
 abbrev key : Named → Id × Text
 key n = (n.krate, n.name)
 
@@ -108,7 +108,7 @@ own_feature (x ∷ xs) sorted (suc j) n at =
     feature_not_below x.krate n.krate x.name n.name (id_is x.krate n.krate w.0) (text_is x.name n.name w.1) below)) in
     ap (λ b. cond b 0 (suc (place_of (is_feature n.krate n.name) xs))) fails ∙ ap suc (own_feature xs sorted.1 j n at)
 
--- the features of the sheet are those of the selection
+-- the features of the outline are those of the selection
 same_keys : (r : Resolved) (whole : Bool) (kids : List Identity) (fs : List EnabledFeature) (ns : List Named) → AllZip (IsNamed r whole kids) fs ns → map (feature_by_id kids) fs ≡ map key ns
 same_keys r whole kids [] [] z = refl
 same_keys r whole kids [] (n ∷ ns) z = absurd z
@@ -118,13 +118,13 @@ same_keys r whole kids (f ∷ fs) (n ∷ ns) z =
     let name = ap (λ t. (n.krate, t)) (sym z.0.name) in
     ap (λ k. k ∷ map (feature_by_id kids) fs) (krate ∙ name) ∙ ap (λ ks. key n ∷ ks) (same_keys r whole kids fs ns z.1)
 
-keys_sorted : (r : Resolved) (s : SettingModel) (x : Selection) (t : Sheet) → IsSelection r s x → IsSheet r s x t → IsStrictlySortedBy feature_order (map key t.features)
+keys_sorted : (r : Resolved) (s : SettingModel) (x : Selection) (t : Outline) → IsSelection r s x → IsOutline r s x t → IsStrictlySortedBy feature_order (map key t.features)
 keys_sorted r s x t h w = subst (IsStrictlySortedBy feature_order) (same_keys r s.all_named x.krates.items x.features.items t.features w.features) (features_sorted x.krates.items x.features.items h.krates h.homes h.features)
 
 -- ---- nodes by number
 
 -- a node is the node of a crate or of a feature
-data NodeAt (t : Sheet) (p : ℕ) (s : Spot) : Type 0 where
+data NodeAt (t : Outline) (p : ℕ) (s : Spot) : Type 0 where
   of_crate : (k : Krate) → slice_get t.krates p ≡ Some k → crate_spot t k ≡ s → NodeAt t p s
   of_feature : (j : ℕ) (n : Named) → slice_get t.features j ≡ Some n → length t.krates + j ≡ p → feature_spot t n ≡ s → NodeAt t p s
 
@@ -147,7 +147,7 @@ either_at f g (x ∷ xs) ys (suc k) z e = elim (either_at f g xs ys k z e) [
   | inr w ↦ inr (w.0, let same = w.1 in omega (arith, same), w.2)
 ]
 
-node_at : (t : Sheet) (p : ℕ) (s : Spot) → slice_get (spots t) p ≡ Some s → NodeAt t p s
+node_at : (t : Outline) (p : ℕ) (s : Spot) → slice_get (spots t) p ≡ Some s → NodeAt t p s
 node_at t p s e = elim (either_at (crate_spot t) (feature_spot t) t.krates t.features p s e) [
   | inl w ↦ of_crate w.from w.at w.is
   | inr w ↦ of_feature w.0 w.2.from w.2.at w.1 w.2.is
@@ -161,41 +161,41 @@ got_member (y ∷ ys) (suc k) x e = inr (got_member ys k x e)
 -- ---- all of it
 
 -- the crate of a node
-record CrateHere (t : Sheet) (p : ℕ) (id : Id) (m : List (Option ℕ)) : Type 0 where
+record CrateHere (t : Outline) (p : ℕ) (id : Id) (m : List (Option ℕ)) : Type 0 where
   krate : Krate
   member : Member t.krates krate
   number : crate_number t krate.id ≡ p
   id_is : krate.id ≡ id
   mapping_is : mapping t krate ≡ m
 
-crate_of_node : (r : Resolved) (s : SettingModel) (x : Selection) (t : Sheet) → IsSelection r s x → IsSheet r s x t → (p : ℕ) (id : Id) (m : List (Option ℕ)) → NodeAt t p (CrateSpot id m) → CrateHere t p id m
-crate_of_node r s x t selected sheet p id m (of_crate k at is) =
-    record { krate = k; member = got_member t.krates p k at; number = own_crate r x.krates.items t.krates sheet.krates selected.krates p k at; id_is = cc is; mapping_is = cc is }
-crate_of_node r s x t selected sheet p id m (of_feature j n at place is) = absurd (cc is)
+crate_of_node : (r : Resolved) (s : SettingModel) (x : Selection) (t : Outline) → IsSelection r s x → IsOutline r s x t → (p : ℕ) (id : Id) (m : List (Option ℕ)) → NodeAt t p (CrateSpot id m) → CrateHere t p id m
+crate_of_node r s x t selected outline p id m (of_crate k at is) =
+    record { krate = k; member = got_member t.krates p k at; number = own_crate r x.krates.items t.krates outline.krates selected.krates p k at; id_is = cc is; mapping_is = cc is }
+crate_of_node r s x t selected outline p id m (of_feature j n at place is) = absurd (cc is)
 
-leads_home : (r : Resolved) (s : SettingModel) (x : Selection) (t : Sheet) → IsSelection r s x → IsSheet r s x t → (n d : ℕ) (name : Text) → NodeAt t n (FeatureSpot d name) → LeadsHome (lines t) n d
-leads_home r s x t selected sheet n d name (of_crate k at is) = absurd (cc is)
-leads_home r s x t selected sheet n d name (of_feature j f at place is) =
+leads_home : (r : Resolved) (s : SettingModel) (x : Selection) (t : Outline) → IsSelection r s x → IsOutline r s x t → (n d : ℕ) (name : Text) → NodeAt t n (FeatureSpot d name) → LeadsHome (lines t) n d
+leads_home r s x t selected outline n d name (of_crate k at is) = absurd (cc is)
+leads_home r s x t selected outline n d name (of_feature j f at place is) =
     let l = line t (AtFeature f.krate f.name) (AtCrate f.krate) Feature in
-    let here : place_of (is_feature f.krate f.name) t.features ≡ j = own_feature t.features (keys_sorted r s x t selected sheet) j f at in
+    let here : place_of (is_feature f.krate f.name) t.features ≡ j = own_feature t.features (keys_sorted r s x t selected outline) j f at in
     record {
       line = l;
-      among = contains_of (lines t) l (arrow_in t _ _ _ (keeps_ends r s t (holds r s x t selected sheet)) (own f (got_member t.features j f at)));
+      among = contains_of (lines t) l (arrow_in t _ _ _ (keeps_ends r s t (holds r s x t selected outline)) (own f (got_member t.features j f at)));
       from = ap (λ i. length t.krates + i) here ∙ place;
       to = cc is;
     }
 
-led_into : (r : Resolved) (s : SettingModel) (x : Selection) (t : Sheet) → IsSelection r s x → IsSheet r s x t → (p d : ℕ) → DependsOn (spots t) p d → IsLedInto (spots t) (lines t) p d
+led_into : (r : Resolved) (s : SettingModel) (x : Selection) (t : Outline) → IsSelection r s x → IsOutline r s x t → (p d : ℕ) → DependsOn (spots t) p d → IsLedInto (spots t) (lines t) p d
 unfolding mapping
-led_into r s x t selected sheet p d w =
-    let here = crate_of_node r s x t selected sheet p w.id w.mapping (node_at t p (CrateSpot w.id w.mapping) w.at) in
+led_into r s x t selected outline p d w =
+    let here = crate_of_node r s x t selected outline p w.id w.mapping (node_at t p (CrateSpot w.id w.mapping) w.at) in
     let mine = from_crate t here.krate.id in
     let entry = mapped_of (mapped t mine) (range_with_len 0 here.krate.declared) (Some d) (member_of (mapping t here.krate) (Some d) (subst (λ m. Contains m (Some d)) (sym here.mapping_is) w.among)) in
     let q = image_of (λ z. crate_number t z.id) (claimant t mine entry.from) d entry.is in
     let claim = claimant_of t here.krate.id entry.from q.0 q.1 in
     let kept : HasCrate t (q.0).id = record { krate = q.0; member = claim.0; id = refl } in
     let node = crate_node t (q.0).id kept in
-    let leads = between_leads r s t here.krate.id (q.0).id (holds r s x t selected sheet) claim.1.between in
+    let leads = between_leads r s t here.krate.id (q.0).id (holds r s x t selected outline) claim.1.between in
     record {
       id = node.krate.id;
       mapping = mapping t node.krate;
@@ -204,11 +204,11 @@ led_into r s x t selected sheet p d w =
     }
 
 pub connected : AreConnected
-connected r s x selected t sheet = record {
-  mappings = λ p d w. led_into r s x t selected sheet p d w;
-  features = λ n d name at. leads_home r s x t selected sheet n d name (node_at t n (FeatureSpot d name) at);
+connected r s x selected t outline = record {
+  mappings = λ p d w. led_into r s x t selected outline p d w;
+  features = λ n d name at. leads_home r s x t selected outline n d name (node_at t n (FeatureSpot d name) at);
   crates = λ p id m at.
-      (let here = crate_of_node r s x t selected sheet p id m (node_at t p (CrateSpot id m) at) in
+      (let here = crate_of_node r s x t selected outline p id m (node_at t p (CrateSpot id m) at) in
       record {
         kept = record { krate = here.krate; among = contains_of t.krates here.krate here.member; id = here.id_is };
         number = ap (crate_number t) (sym here.id_is) ∙ here.number;

@@ -3,14 +3,14 @@ use Rattle.std.proofs.Common.{◌≡◌, ℕ, Bool, List, All, filter, get_or, m
 use Rattle.std.proofs.lemmas.List.{get_or_default}
 use Rattle.krates_rules.specs.Facts.{Id}
 use Rattle.krates_drawing.specs.Drawing.{crate_number, from_crate}
-use Rattle.krates_drawing.specs.Sheet as model
-use Rattle.krates_drawing.specs.Sheet.{Sheet}
-use Rattle.krates_drawing.specs.declared.sheet.Link.{Link}
+use Rattle.krates_drawing.specs.Outline as model
+use Rattle.krates_drawing.specs.Outline.{Outline}
+use Rattle.krates_drawing.specs.declared.outline.Link.{Link}
 use Rattle.krates_drawing.proofs.Arrows.{from_of}
 use Rattle.krates_rules.proofs.Members.{Member, kept_of, member_map, member_of}
 
 -- some of the edges from p are edges from p
-pub sources_are : (t : Sheet) (v : Link → model.Link) (p : Id) (q : Link → Bool) (source : ℕ) (mine there : List Link) → map v mine ≡ from_crate t p → there ≡ filter q mine → source ≡ crate_number t p
+pub sources_are : (t : Outline) (v : Link → model.Link) (p : Id) (q : Link → Bool) (source : ℕ) (mine there : List Link) → map v mine ≡ from_crate t p → there ≡ filter q mine → source ≡ crate_number t p
     → All (λ (l : Link). source ≡ crate_number t (v l).edge.parent) there
 sources_are t v p q source mine there from some is k d lt =
     let x = get_or there k d in

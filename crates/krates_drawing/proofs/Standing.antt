@@ -15,10 +15,10 @@ each P [] h = tt
 each P (x ∷ xs) h = (h x (inl refl), each P xs (λ y m. h y (inr m)))
 
 pub all_stand : EndsStand
-all_stand r s x selected t sheet = All-from_recursion (HasEnds (length (spots t))) (lines t) (each (HasEnds (length (spots t))) (lines t) stands)
+all_stand r s x selected t outline = All-from_recursion (HasEnds (length (spots t))) (lines t) (each (HasEnds (length (spots t))) (lines t) stands)
   where
     stands : (l : Line) → Member (lines t) l → HasEnds (length (spots t)) l
     stands l m =
         let d = drawn_of t l m in
-        let k = ends_stand r s t d.from d.to d.tie (holds r s x t selected sheet) d.arrow in
+        let k = ends_stand r s t d.from d.to d.tie (holds r s x t selected outline) d.arrow in
         subst (HasEnds (length (spots t))) d.is (number_below t d.from k.0, number_below t d.to k.1)

@@ -17,9 +17,9 @@ use Rattle.krates_rules.specs.Facts.{Id}
 use Rattle.krates_rules.specs.Referent.{id_order}
 use Rattle.krates_rules.specs.Resolved.{id_of}
 use Rattle.krates_drawing.specs.Drawing.{id_eq, place_of}
-use Rattle.krates_drawing.specs.SheetOrder.{AreByChild, AreByKrate, has_child, has_krate}
-use Rattle.krates_drawing.specs.declared.sheet.Link.{Link}
-use Rattle.krates_drawing.specs.declared.sheet.Named.{Named}
+use Rattle.krates_drawing.specs.OutlineOrder.{AreByChild, AreByKrate, has_child, has_krate}
+use Rattle.krates_drawing.specs.declared.outline.Link.{Link}
+use Rattle.krates_drawing.specs.declared.outline.Named.{Named}
 use Rattle.krates_drawing.proofs.EqualRanges.{IsCut, below_later, cut_is, rises_weakly, stands_in}
 
 -- ---- tests

@@ -11,7 +11,7 @@ use Rattle.krates_rules.specs.Setting.{SettingModel}
 use Rattle.krates_selection.specs.declared.selection.Selection.{Selection}
 use Rattle.krates_drawing.specs.Drawing.{Line, Spot, CrateSpot, FeatureSpot, crate_number, lines, spots}
 use Rattle.krates_drawing.specs.Paths.{IsDrawn}
-use Rattle.krates_drawing.specs.Sheet.{Sheet, IsSheet}
+use Rattle.krates_drawing.specs.Outline.{Outline, IsOutline}
 
 -- a kept edge of the crate, with the place of its declared dependency
 pub record KeptAt (r : Resolved) (s : SettingModel) (p : Id) (place : ℕ) (e : Edge) : Type 0 where
@@ -43,9 +43,9 @@ pub record LeadsTo (nodes : List Spot) (edges : List Line) (p d : ℕ) : Type 0 
   pub to : IsOf nodes d line.target
 
 -- the kept crate depends on the kept crates to which its edges lead, and on no other
-abbrev pub Agrees : Sheet → Id → Id → Type 0
+abbrev pub Agrees : Outline → Id → Id → Type 0
 Agrees t p d = DependsOn (spots t) (crate_number t p) (crate_number t d) ↔ LeadsTo (spots t) (lines t) (crate_number t p) (crate_number t d)
 
 abbrev pub DependenciesAgree : Type 0
-DependenciesAgree = (r : Resolved) (s : SettingModel) → NoneDoubled r.metadata r.graph → (x : Selection) → IsSelection r s x → (t : Sheet) → IsSheet r s x t
+DependenciesAgree = (r : Resolved) (s : SettingModel) → NoneDoubled r.metadata r.graph → (x : Selection) → IsSelection r s x → (t : Outline) → IsOutline r s x t
     → (p d : Id) → IsDrawn t p → IsDrawn t d → OneEach r s p → Agrees t p d

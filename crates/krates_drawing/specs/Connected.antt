@@ -9,7 +9,7 @@ use Rattle.krates_selection.specs.declared.selection.Selection.{Selection}
 use Rattle.krates_drawing.specs.Agreement.{DependsOn, LeadsTo}
 use Rattle.krates_drawing.specs.Drawing.{Line, Spot, CrateSpot, FeatureSpot, crate_number, lines, spots}
 use Rattle.krates_drawing.specs.Paths.{IsDrawn}
-use Rattle.krates_drawing.specs.Sheet.{Sheet, IsSheet}
+use Rattle.krates_drawing.specs.Outline.{Outline, IsOutline}
 
 -- number d is that of a crate, and an edge leads from p to it or to a feature of it
 pub record IsLedInto (nodes : List Spot) (edges : List Line) (p d : ℕ) : Type 0 where
@@ -26,11 +26,11 @@ pub record LeadsHome (edges : List Line) (n d : ℕ) : Type 0 where
   pub to : line.target ≡ d
 
 -- the kept crate has this number
-pub record IsNumbered (t : Sheet) (id : Id) (n : ℕ) : Type 0 where
+pub record IsNumbered (t : Outline) (id : Id) (n : ℕ) : Type 0 where
   pub kept : IsDrawn t id
   pub number : crate_number t id ≡ n
 
-pub record IsConnected (t : Sheet) : Type 0 where
+pub record IsConnected (t : Outline) : Type 0 where
   -- what a mapping names is a crate, into which an edge leads
   pub mappings : (p d : ℕ) → DependsOn (spots t) p d → IsLedInto (spots t) (lines t) p d
   -- each feature leads to its crate
@@ -38,6 +38,6 @@ pub record IsConnected (t : Sheet) : Type 0 where
   -- the node of a crate has the number of the crate
   pub crates : (p : ℕ) (id : Id) (mapping : List (Option ℕ)) → slice_get (spots t) p ≡ Some (CrateSpot id mapping) → IsNumbered t id p
 
--- it holds of the sheet of every selection
+-- it holds of the outline of every selection
 abbrev pub AreConnected : Type 0
-AreConnected = (r : Resolved) (s : SettingModel) (x : Selection) → IsSelection r s x → (t : Sheet) → IsSheet r s x t → IsConnected t
+AreConnected = (r : Resolved) (s : SettingModel) (x : Selection) → IsSelection r s x → (t : Outline) → IsOutline r s x t → IsConnected t

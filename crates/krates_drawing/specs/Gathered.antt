@@ -6,7 +6,7 @@ use Rattle.krates_rules.specs.Resolved.{Resolved, id_of}
 use Rattle.krates_selection.specs.declared.selection.EnabledFeature.{EnabledFeature}
 use Rattle.krates_selection.specs.declared.selection.KeptEdge.{KeptEdge}
 use Rattle.krates_questions.specs.FeatureValues.{values_of}
-use Rattle.krates_drawing.specs.Sheet.{Meaning, IsMeaning, asked_by, has_text}
+use Rattle.krates_drawing.specs.Outline.{Meaning, IsMeaning, asked_by, has_text}
 use Rattle.krates_drawing.specs.Told.{node_at, package_at, package_in}
 use Rattle.krates_drawing.specs.declared.told.Told.{Told}
 

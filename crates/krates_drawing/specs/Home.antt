@@ -5,39 +5,39 @@ use Rattle.krates_selection.specs.CrateNumbers.{HasCrates, id_at}
 use Rattle.krates_selection.specs.declared.selection.ToggledFeature.{ToggledFeature}
 use Rattle.krates_rules.specs.Facts.{Id}
 use Rattle.krates_drawing.specs.Drawing.{Line, from_crate, leads_to, pair_lines}
-use Rattle.krates_drawing.specs.Sheet.{toggle_of}
-use Rattle.krates_drawing.specs.SheetOrder.{AreByChild, AreByKrate, HaveEnds, children_of, is_by}
-use Rattle.krates_drawing.specs.Views.{arrow_view, kids_in, link_view, sheet_view}
+use Rattle.krates_drawing.specs.Outline.{toggle_of}
+use Rattle.krates_drawing.specs.OutlineOrder.{AreByChild, AreByKrate, HaveEnds, children_of, is_by}
+use Rattle.krates_drawing.specs.Views.{arrow_view, kids_in, link_view, outline_view}
 use Rattle.krates_drawing.specs.declared.edge.Arrow.{Arrow}
 use Rattle.krates_drawing.specs.declared.origin.Home.{Home}
-use Rattle.krates_drawing.specs.declared.sheet.Link.{Link}
-use Rattle.krates_drawing.specs.declared.sheet.Sheet.{Sheet}
+use Rattle.krates_drawing.specs.declared.outline.Link.{Link}
+use Rattle.krates_drawing.specs.declared.outline.Outline.{Outline}
 
 -- these are the kept edges from the crate of the number, by child
-pub record AreLinksFrom (t : Sheet) (parent : ℕ) (mine : List Link) : Type 0 where
-  pub links : map (link_view (kids_in t)) mine ≡ from_crate (sheet_view t) (id_at (kids_in t) parent)
+pub record AreLinksFrom (t : Outline) (parent : ℕ) (mine : List Link) : Type 0 where
+  pub links : map (link_view (kids_in t)) mine ≡ from_crate (outline_view t) (id_at (kids_in t) parent)
   pub by_child : AreByChild mine
   pub ends : HaveEnds t mine
 
 -- the number is that of a crate, and the edges are the kept ones from it
-pub record IsHome (t : Sheet) (h : Home) : Type 0 where
+pub record IsHome (t : Outline) (h : Home) : Type 0 where
   pub within : h.krate < length t.krates.items
   pub mine : AreLinksFrom t h.krate h.mine.now
 
 -- these are the features that the crate of the number toggles, by the crate whose they are
-pub record AreToggledBy (t : Sheet) (by : ℕ) (mine : List ToggledFeature) : Type 0 where
-  pub toggled : map (toggle_of (kids_in t)) mine ≡ filter (is_by (id_at (kids_in t) by)) (sheet_view t).toggled
+pub record AreToggledBy (t : Outline) (by : ℕ) (mine : List ToggledFeature) : Type 0 where
+  pub toggled : map (toggle_of (kids_in t)) mine ≡ filter (is_by (id_at (kids_in t) by)) (outline_view t).toggled
   pub by_krate : AreByKrate mine
   pub crates : All (HasCrates (length t.krates.items)) mine
 
 -- the number is that of the crate with this id, and one of the edges leads to it
-pub record IsNumberOfChild (t : Sheet) (links : List Link) (i : Id) (n : ℕ) : Type 0 where
+pub record IsNumberOfChild (t : Outline) (links : List Link) (i : Id) (n : ℕ) : Type 0 where
   pub within : n < length t.krates.items
   pub id : id_at (kids_in t) n ≡ i
   pub leads : leads_to (map (link_view (kids_in t)) links) i ≡ true
 
 -- behind those lines stand the edges from the crate to all others to which these edges lead
-abbrev pub IsDrawnTo : Sheet → Home → List Link → List Line → Vec Arrow → Type 0
+abbrev pub IsDrawnTo : Outline → Home → List Link → List Line → Vec Arrow → Type 0
 IsDrawnTo t h links before out =
     let mine = map (link_view (kids_in t)) h.mine.now in
-    map arrow_view out.items ≡ before ++ flat_map (pair_lines (sheet_view t) (id_at (kids_in t) h.krate) mine) (children_of t links)
+    map arrow_view out.items ≡ before ++ flat_map (pair_lines (outline_view t) (id_at (kids_in t) h.krate) mine) (children_of t links)

@@ -13,10 +13,10 @@ pub mod Listed
 pub mod Narrower
 pub mod Node
 pub mod Origin
+pub mod Outline
+pub mod OutlineOrder
 pub mod Paths
 pub mod Rebuilding
-pub mod Sheet
-pub mod SheetOrder
 pub mod Stored
 pub mod TextSet
 pub mod Told

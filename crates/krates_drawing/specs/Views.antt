@@ -1,4 +1,4 @@
--- The sheet and the planned edges of the program, as clauses see them.
+-- The outline and the planned edges of the program, as clauses see them.
 use Rattle.std.specs.Prelude.{◌≡◌, ℕ, ◌+◌, ◌<◌, ◌^◌, List, [], ◌∷◌, ◌++◌, Option, Some, None, get_or, map, length}
 use Rattle.std.specs.Option.{option_map}
 use Rattle.std.specs.Global.{Vec}
@@ -8,19 +8,19 @@ use Rattle.krates_ids.specs.Identity.{Identity}
 use Rattle.krates_selection.specs.CrateNumbers.{id_at, no_id}
 use Rattle.krates_selection.specs.Selection.{edge_view}
 use Rattle.krates_drawing.specs.Drawing.{Tie, Dep, Feature, DepFeature, Line, Spot, CrateSpot, FeatureSpot}
-use Rattle.krates_drawing.specs.Sheet as model
-use Rattle.krates_drawing.specs.Sheet.{OwnFeature, Crates, FeatureOf, toggle_of}
+use Rattle.krates_drawing.specs.Outline as model
+use Rattle.krates_drawing.specs.Outline.{OwnFeature, Crates, FeatureOf, toggle_of}
 use Rattle.krates_drawing.specs.declared.edge.Arrow.{Arrow}
 use Rattle.krates_drawing.specs.declared.edge.Edge.{Edge}
 use Rattle.krates_drawing.specs.declared.edge.Edge.TheVariants as edge
 use Rattle.krates_drawing.specs.declared.nodes.Spot as drawn
 use Rattle.krates_drawing.specs.declared.nodes.Spot.TheVariants as spot
-use Rattle.krates_drawing.specs.declared.sheet.Krate.{Krate}
-use Rattle.krates_drawing.specs.declared.sheet.Link.{Link}
-use Rattle.krates_drawing.specs.declared.sheet.Meaning.{Meaning}
-use Rattle.krates_drawing.specs.declared.sheet.Meaning.TheVariants as meaning
-use Rattle.krates_drawing.specs.declared.sheet.Named.{Named}
-use Rattle.krates_drawing.specs.declared.sheet.Sheet.{Sheet}
+use Rattle.krates_drawing.specs.declared.outline.Krate.{Krate}
+use Rattle.krates_drawing.specs.declared.outline.Link.{Link}
+use Rattle.krates_drawing.specs.declared.outline.Meaning.{Meaning}
+use Rattle.krates_drawing.specs.declared.outline.Meaning.TheVariants as meaning
+use Rattle.krates_drawing.specs.declared.outline.Named.{Named}
+use Rattle.krates_drawing.specs.declared.outline.Outline.{Outline}
 
 abbrev pub krate_view : Krate → model.Krate
 krate_view k = record { id = id_of k.id; declared = k.declared }
@@ -29,7 +29,7 @@ krate_view k = record { id = id_of k.id; declared = k.declared }
 abbrev pub kids_of : List Krate → List Identity
 kids_of krates = map (λ k. k.id) krates
 
-abbrev pub kids_in : Sheet → List Identity
+abbrev pub kids_in : Outline → List Identity
 kids_in t = kids_of t.krates.items
 
 -- the crate under a number that none has
@@ -37,7 +37,7 @@ abbrev pub no_krate : model.Krate
 no_krate = record { id = no_id; declared = 0 }
 
 -- the crate of a number
-abbrev pub krate_at : Sheet → ℕ → model.Krate
+abbrev pub krate_at : Outline → ℕ → model.Krate
 krate_at t n = get_or (map krate_view t.krates.items) n no_krate
 
 -- an edge between these crates
@@ -56,8 +56,8 @@ meanings_view v = map meaning_view v.items
 abbrev pub named_view : List Identity → Named → model.Named
 named_view kids n = record { krate = id_at kids n.feature.krate; name = text_view n.feature.name; meanings = map meaning_view n.meanings.items }
 
-abbrev pub sheet_view : Sheet → model.Sheet
-sheet_view t = record {
+abbrev pub outline_view : Outline → model.Outline
+outline_view t = record {
   krates = map krate_view t.krates.items;
   links = map (link_view (kids_in t)) t.links.items;
   features = map (named_view (kids_in t)) t.features.items;
@@ -79,7 +79,7 @@ abbrev pub Draws : Vec Arrow → Vec Arrow → List Line → Type 0
 Draws old new ls = map arrow_view new.items ≡ map arrow_view old.items ++ ls
 
 -- there are few enough nodes
-abbrev pub IsFew : Sheet → Type 0
+abbrev pub IsFew : Outline → Type 0
 IsFew t = length t.krates.items + length t.features.items < 2 ^ 32
 
 abbrev pub spot_view : drawn.Spot → Spot

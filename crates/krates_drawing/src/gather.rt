@@ -5,14 +5,14 @@ ghost use Rattle.krates_cm.specs.Document.{dependency_view, package_view, text_v
 ghost use Rattle.krates_rules.specs.Admission.{NoneDoubled};
 ghost use Rattle.krates_questions.specs.DocumentModel.{as_resolved};
 ghost use Rattle.krates_selection.specs.Selection.{IsSelection};
-ghost use Rattle.krates_drawing.specs.Sheet.{IsSheet};
+ghost use Rattle.krates_drawing.specs.Outline.{IsOutline};
 ghost use Rattle.krates_drawing.specs.Gathered.{MeaningsTold, count_in, dependency_in, given_in, values_in};
-ghost use Rattle.krates_drawing.specs.SheetOrder.{IsOrdered};
+ghost use Rattle.krates_drawing.specs.OutlineOrder.{IsOrdered};
 ghost use Rattle.krates_drawing.specs.Told.{package_at as package_told};
-ghost use Rattle.krates_drawing.specs.Views.{meaning_view, meanings_view, sheet_view};
+ghost use Rattle.krates_drawing.specs.Views.{meaning_view, meanings_view, outline_view};
 
 use crate::meanings::{given_of, meanings_of};
-use crate::sheet::{Krate, Link, Meaning, Named, Sheet};
+use crate::outline::{Krate, Link, Meaning, Named, Outline};
 use crate::told::{Told, node_at, package_at, told_of};
 use krates_cm::{Dependency, Package};
 use krates_document::Setting;
@@ -196,20 +196,20 @@ fn features_with(
         .collect(alloc)
 }
 
-/// The sheet of a selection under a setting: beside each crate, edge and feature what the document says of it.
+/// The outline of a selection under a setting: beside each crate, edge and feature what the document says of it.
 ///
 /// The only error is running out of memory. Time: O(n log n) for n crates, edges, features and references.
-pub fn sheet_of<'a>(
+pub fn outline_of<'a>(
     alloc: Global,
     document: &Document<'a>,
     setting: &Setting,
     selection: Selection,
-) -> Result<Sheet, AllocError>
+) -> Result<Outline, AllocError>
     requires distinct { NoneDoubled (as_resolved document.now).metadata (as_resolved document.now).graph }
-    ensures sheet { IfOk result (λ sheet. IsSelection (as_resolved document.now) setting.now selection
-        → IsSheet (as_resolved document.now) setting.now selection (sheet_view sheet)) }
-    ensures ordered { IfOk result (λ sheet. IsSelection (as_resolved document.now) setting.now selection
-        → IsOrdered sheet) }
+    ensures outline { IfOk result (λ outline. IsSelection (as_resolved document.now) setting.now selection
+        → IsOutline (as_resolved document.now) setting.now selection (outline_view outline)) }
+    ensures ordered { IfOk result (λ outline. IsSelection (as_resolved document.now) setting.now selection
+        → IsOrdered outline) }
 {
     let Selection {
         krates,
@@ -229,7 +229,7 @@ pub fn sheet_of<'a>(
     let krates = krates_with(alloc, krates, counts)?;
     let links = links_with(alloc, edges, givens)?;
     let features = features_with(alloc, features, names)?;
-    Ok(Sheet {
+    Ok(Outline {
         krates,
         links,
         features,

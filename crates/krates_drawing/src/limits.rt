@@ -3,13 +3,13 @@ ghost use Rattle.std.specs.Prelude.{◌≡◌, ◌<◌, ◌≤◌, IfErr, IfOk, 
 ghost use Rattle.std.specs.Bool.{MatchBool};
 ghost use Rattle.krates_drawing.specs.Drawing.{lines, spots};
 ghost use Rattle.krates_drawing.specs.Limits.{DrawingRefusal, IsWithin};
-ghost use Rattle.krates_drawing.specs.SheetOrder.{IsOrdered};
-ghost use Rattle.krates_drawing.specs.Views.{arrow_view, sheet_view, spot_view};
+ghost use Rattle.krates_drawing.specs.OutlineOrder.{IsOrdered};
+ghost use Rattle.krates_drawing.specs.Views.{arrow_view, outline_view, spot_view};
 
 use crate::edge::Arrow;
 use crate::nodes::{Spot, draw_nodes};
+use crate::outline::Outline;
 use crate::plan::plan;
-use crate::sheet::Sheet;
 use krates_ids::Error;
 use std::alloc::Global;
 
@@ -22,7 +22,7 @@ pub struct Limits {
     pub edges: u32,
 }
 
-/// The nodes and edges of a sheet, by number.
+/// The nodes and edges of an outline, by number.
 #[derive(Drop)]
 pub struct Plan {
     /// The nodes, before packages are put into them.
@@ -31,33 +31,33 @@ pub struct Plan {
     pub arrows: Vec<Arrow>,
 }
 
-/// Whether there may be so many nodes as a sheet has.
-fn has_room(sheet: &Sheet, nodes: u32) -> bool
-    ensures { MatchBool result (length (spots (sheet_view sheet.now)) ≤ nodes)
-        (nodes < length (spots (sheet_view sheet.now))) }
+/// Whether there may be so many nodes as an outline has.
+fn has_room(outline: &Outline, nodes: u32) -> bool
+    ensures { MatchBool result (length (spots (outline_view outline.now)) ≤ nodes)
+        (nodes < length (spots (outline_view outline.now))) }
 {
-    let krates = sheet.krates.len();
+    let krates = outline.krates.len();
     let most = nodes as usize;
-    krates <= most && sheet.features.len() <= most - krates
+    krates <= most && outline.features.len() <= most - krates
 }
 
-/// Draws the nodes and the edges of a sheet. It is refused as `TooMany` exactly where there are more nodes or more edges than the
+/// Draws the nodes and the edges of an outline. It is refused as `TooMany` exactly where there are more nodes or more edges than the
 /// limits allow; the nodes are counted before they are drawn, and the edges as they are planned. It may instead return
 /// `Memory`.
 ///
 /// Time: O(n log n) for n nodes and edges.
-pub fn plan_within(alloc: Global, sheet: &Sheet, limits: Limits) -> Result<Plan, Error>
-    requires ordered { IsOrdered sheet.now }
-    ensures nodes { IfOk result (λ p. map spot_view p.spots.items ≡ spots (sheet_view sheet.now)) }
-    ensures edges { IfOk result (λ p. map arrow_view p.arrows.items ≡ lines (sheet_view sheet.now)) }
-    ensures within { IfOk result (λ _. IsWithin limits (sheet_view sheet.now)) }
-    ensures refused { IfErr result (DrawingRefusal limits (sheet_view sheet.now)) }
+pub fn plan_within(alloc: Global, outline: &Outline, limits: Limits) -> Result<Plan, Error>
+    requires ordered { IsOrdered outline.now }
+    ensures nodes { IfOk result (λ p. map spot_view p.spots.items ≡ spots (outline_view outline.now)) }
+    ensures edges { IfOk result (λ p. map arrow_view p.arrows.items ≡ lines (outline_view outline.now)) }
+    ensures within { IfOk result (λ _. IsWithin limits (outline_view outline.now)) }
+    ensures refused { IfErr result (DrawingRefusal limits (outline_view outline.now)) }
 {
-    if !has_room(sheet, limits.nodes) {
+    if !has_room(outline, limits.nodes) {
         return Err(Error::TooMany);
     }
-    let spots = draw_nodes(alloc, sheet)?;
-    let arrows = plan(alloc, sheet)?;
+    let spots = draw_nodes(alloc, outline)?;
+    let arrows = plan(alloc, outline)?;
     if arrows.len() > limits.edges as usize {
         return Err(Error::TooMany);
     }

@@ -52,14 +52,14 @@ edges_written (l ∷ ls) (edge ∷ stored) zip =
 pub draws : {F : Type 0} (filters : F → Package → F → Type 0) (s : SettingModel) (m : Metadata) (kept : KeptCrates Listed Edge) (before after : F) (lines : Text) → IsResolvable (metadata_view m)
     → IsBuilt filters IsListedOf IsCopied m s before after kept → lines ≡ stored_node_lines kept.graph.nodes ++ stored_edge_lines kept.graph.edges → DrawsPackages s m lines
 draws filters s m kept before after lines resolvable built written =
-    let sheet = built.drawn.sheet in
+    let outline = built.drawn.outline in
     let packages = built.values.packages in
     let nodes = nodes_written packages kept.graph.nodes built.values.made_of ∙ ap (λ drawn. node_lines drawn packages) built.drawn.drawing.nodes in
-    let edges = edges_written (drawing.lines sheet) kept.graph.edges built.drawn.drawing.edges in record {
+    let edges = edges_written (drawing.lines outline) kept.graph.edges built.drawn.drawing.edges in record {
       kept = packages;
       others = built.reported.others;
       split = split_by filters IsListedOf IsCopied s m kept before after resolvable built;
-      sheet = sheet;
-      is_sheet = built.drawn.is_sheet;
-      written = written ∙ ap (λ front. front ++ stored_edge_lines kept.graph.edges) nodes ∙ ap (λ rest. node_lines (spots sheet) packages ++ rest) edges;
+      outline = outline;
+      is_outline = built.drawn.is_outline;
+      written = written ∙ ap (λ front. front ++ stored_edge_lines kept.graph.edges) nodes ∙ ap (λ rest. node_lines (spots outline) packages ++ rest) edges;
     }

@@ -8,8 +8,8 @@ use Rattle.krates_cm.specs.declared.package.Package.{Package}
 use Rattle.krates_cli.specs.Listing.{IsSplit}
 use Rattle.krates_drawing.specs.Drawing as drawing
 use Rattle.krates_drawing.specs.Drawing.{CrateSpot, Dep, DepFeature, Feature, FeatureSpot, Line, Spot, Tie, spots}
-use Rattle.krates_drawing.specs.Sheet.{Sheet}
-use Rattle.krates_queries.specs.Drawn.{IsSheetFor}
+use Rattle.krates_drawing.specs.Outline.{Outline}
+use Rattle.krates_queries.specs.Drawn.{IsOutlineFor}
 use Rattle.krates_rules.specs.Setting.{SettingModel}
 use Rattle.krates_rules.specs.declared.kind.DepKind.{DepKind}
 use Rattle.krates_rules.specs.declared.kind.DepKind.TheVariants as kinds
@@ -73,6 +73,6 @@ pub record DrawsPackages (s : SettingModel) (m : Metadata) (lines : Text) : Type
   pub kept : List Package
   pub others : List Package
   pub split : IsSplit s m kept others
-  pub sheet : Sheet
-  pub is_sheet : IsSheetFor (metadata_view m) s sheet
-  pub written : lines ≡ node_lines (spots sheet) kept ++ edge_lines (drawing.lines sheet)
+  pub outline : Outline
+  pub is_outline : IsOutlineFor (metadata_view m) s outline
+  pub written : lines ≡ node_lines (spots outline) kept ++ edge_lines (drawing.lines outline)

@@ -1,5 +1,5 @@
 use Rattle.std.proofs.Common.{◌≡◌, ◌==◌, ◌-◌, Bool, get_or, not, sym, ap, ◌∙◌}
-use Rattle.krates_drawing.specs.declared.sheet.Link.{Link}
+use Rattle.krates_drawing.specs.declared.outline.Link.{Link}
 use Rattle.krates_drawing.proofs.Children.{first_again}
 use Rattle.krates_drawing.proofs.crate_edges.is_first.Goals as goal
 

@@ -1,6 +1,6 @@
 use Rattle.std.proofs.Common.{rules}
 use Rattle.std.proofs.lemmas.Fn.{always_returns_same}
-use Rattle.krates_drawing.specs.declared.sheet.Krate.{Krate}
+use Rattle.krates_drawing.specs.declared.outline.Krate.{Krate}
 use Rattle.krates_ids.specs.Identity.{id_cmp}
 use Rattle.krates_rules.proofs.OrderedIds.{Compares}
 use Rattle.krates_drawing.proofs.SearchedKrates.{has_found, has_none}

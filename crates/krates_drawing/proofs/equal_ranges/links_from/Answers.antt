@@ -3,9 +3,9 @@ use Rattle.std.proofs.lemmas.Fn.{always_returns_same}
 use Rattle.std.proofs.lemmas.List.Elements.{All-filter}
 use Rattle.std.specs.Ordering.{is_eq, is_lt, nat_cmp}
 use Rattle.krates_selection.specs.CrateNumbers.{HasEnds}
-use Rattle.krates_drawing.specs.SheetOrder.{HaveEnds}
+use Rattle.krates_drawing.specs.OutlineOrder.{HaveEnds}
 use Rattle.krates_drawing.specs.Views.{kids_in, link_view}
-use Rattle.krates_drawing.specs.declared.sheet.Link.{Link}
+use Rattle.krates_drawing.specs.declared.outline.Link.{Link}
 use Rattle.krates_drawing.proofs.CratePlaces.{seen_from}
 use Rattle.krates_drawing.proofs.EqualRanges.{cut}
 use Rattle.krates_drawing.proofs.Tests.{cut_by_child, cut_parent, has_parent, links_by_parent}
@@ -13,7 +13,7 @@ use Rattle.krates_drawing.proofs.equal_ranges.links_from.Goals as goal
 
 pub returns : goal.returns
 returns c =
-    let t = c.args.sheet.now in
+    let t = c.args.outline.now in
     let o = c.requires.ordered in
     let xs = t.links.items in
     let p = c.args.parent in

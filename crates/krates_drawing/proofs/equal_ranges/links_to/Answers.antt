@@ -1,7 +1,7 @@
 use Rattle.std.proofs.Common.{refl, rules}
 use Rattle.std.proofs.lemmas.Fn.{always_returns_same}
 use Rattle.std.specs.Ordering.{is_eq, is_lt, nat_cmp}
-use Rattle.krates_drawing.specs.declared.sheet.Link.{Link}
+use Rattle.krates_drawing.specs.declared.outline.Link.{Link}
 use Rattle.krates_drawing.proofs.EqualRanges.{cut}
 use Rattle.krates_drawing.proofs.Tests.{cut_child, links_by_child}
 use Rattle.krates_drawing.proofs.equal_ranges.links_to.Goals as goal

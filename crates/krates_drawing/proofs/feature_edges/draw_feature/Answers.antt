@@ -6,7 +6,7 @@ use Rattle.krates_drawing.proofs.feature_edges.draw_feature.Goals as goal
 
 pub returns : goal.returns
 returns c =
-    let t = c.args.sheet.now in
+    let t = c.args.outline.now in
     let home = c.args.home.now in
     let n = c.args.named.now in
     let whole = feature_drawn t home n c.number_at.result c.crate_number.result c.deref.result.now c.requires.krate c.requires.home.mine.links c.number_at.ensures c.crate_number.ensures c.deref.ensures.value in

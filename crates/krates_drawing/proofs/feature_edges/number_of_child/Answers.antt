@@ -8,7 +8,7 @@ use Rattle.krates_drawing.proofs.feature_edges.number_of_child.Goals.{else-place
 
 pub returns-then-leads_to : goal.returns-then-leads_to
 returns-then-leads_to c =
-    let t = c.args.sheet.now in
+    let t = c.args.outline.now in
     let q = id_of c.args.id.now in
     let n = c.place_of_crate-place.result in
     let is = c.place_of_crate-place.ensures.place ∙ ap (λ ks. place_of (is_crate q) (map krate_view ks)) c.deref.ensures.value in
@@ -16,7 +16,7 @@ returns-then-leads_to c =
 
 pub returns-else-place-len : goal.returns-else-place-len
 returns-else-place-len c =
-    let t = c.args.sheet.now in
+    let t = c.args.outline.now in
     let q = id_of c.args.id.now in
     let n = c.place_of_crate-place.result in
     let is = c.place_of_crate-place.ensures.place ∙ ap (λ ks. place_of (is_crate q) (map krate_view ks)) c.deref.ensures.value in

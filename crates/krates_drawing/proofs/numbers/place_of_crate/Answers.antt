@@ -1,7 +1,7 @@
 use Rattle.std.proofs.Common.{Ok, Err, rules, sym, ◌∙◌}
 use Rattle.std.proofs.lemmas.Fn.{always_returns_same}
 use Rattle.krates_ids.specs.Identity.{id_cmp}
-use Rattle.krates_drawing.specs.declared.sheet.Krate.{Krate}
+use Rattle.krates_drawing.specs.declared.outline.Krate.{Krate}
 use Rattle.krates_drawing.proofs.CratePlaces.{crate_seen}
 use Rattle.krates_drawing.proofs.EqualRanges.{searched}
 use Rattle.krates_drawing.proofs.Tests.{ids_total}

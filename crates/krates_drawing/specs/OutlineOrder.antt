@@ -1,4 +1,4 @@
--- The order of the lists of a sheet.
+-- The order of the lists of an outline.
 use Rattle.std.specs.Prelude.{◌≡◌, ℕ, ◌<◌, ◌≤◌, ◌==◌, Bool, List, Option, Some, All, AllPairs, if◌then◌else◌, filter, length, map, not, option_map, slice_get, take, slice_index_or}
 use Rattle.std.specs.List.{list_any}
 use Rattle.std.specs.List.Sorted.{IsStrictlySortedBy}
@@ -8,14 +8,14 @@ use Rattle.krates_selection.specs.SelectionOrder.{place_cmp, feature_cmp, toggle
 use Rattle.krates_selection.specs.declared.selection.ToggledFeature.{ToggledFeature}
 use Rattle.krates_rules.specs.Facts.{Id}
 use Rattle.krates_drawing.specs.Drawing.{crate_number, id_eq, is_crate, last_from, leads_to}
-use Rattle.krates_drawing.specs.Sheet as model
+use Rattle.krates_drawing.specs.Outline as model
 use Rattle.krates_drawing.specs.Views.{kids_in, krate_view, link_view}
-use Rattle.krates_drawing.specs.declared.sheet.Link.{Link}
-use Rattle.krates_drawing.specs.declared.sheet.Named.{Named}
-use Rattle.krates_drawing.specs.declared.sheet.Sheet.{Sheet}
+use Rattle.krates_drawing.specs.declared.outline.Link.{Link}
+use Rattle.krates_drawing.specs.declared.outline.Named.{Named}
+use Rattle.krates_drawing.specs.declared.outline.Outline.{Outline}
 
--- each list is in the order of the selection's, without doubles, and has by number only crates of the sheet
-pub record IsOrdered (t : Sheet) : Type 0 where
+-- each list is in the order of the selection's, without doubles, and has by number only crates of the outline
+pub record IsOrdered (t : Outline) : Type 0 where
   pub krates : IsStrictlySortedBy id_cmp (kids_in t)
   pub links : IsStrictlySortedBy place_cmp (map (λ l. l.edge) t.links.items)
   pub ends : All (λ l. HasEnds (length t.krates.items) l.edge) t.links.items
@@ -25,7 +25,7 @@ pub record IsOrdered (t : Sheet) : Type 0 where
   pub toggled_crates : All (HasCrates (length t.krates.items)) t.toggled.items
 
 -- the feature stands at the place
-pub record IsPlaceOfFeature (t : Sheet) (place : ℕ) (n : Named) : Type 0 where
+pub record IsPlaceOfFeature (t : Outline) (place : ℕ) (n : Named) : Type 0 where
   pub within : place < length t.features.items
   pub at : slice_get t.features.items place ≡ Some n
 
@@ -33,8 +33,8 @@ pub record IsPlaceOfFeature (t : Sheet) (place : ℕ) (n : Named) : Type 0 where
 abbrev pub AreByChild : List Link → Type 0
 AreByChild links = AllPairs (λ a b. a.edge.child ≤ b.edge.child) links
 
--- the edges are between crates of the sheet
-abbrev pub HaveEnds : Sheet → List Link → Type 0
+-- the edges are between crates of the outline
+abbrev pub HaveEnds : Outline → List Link → Type 0
 HaveEnds t links = All (λ l. HasEnds (length t.krates.items) l.edge) links
 
 -- whether the edge leads to the crate of this number
@@ -57,18 +57,18 @@ AreByKrate toggled = AllPairs (λ a b. a.krate ≤ b.krate) toggled
 abbrev pub IsFirstTo : List Link → ℕ → Bool → Type 0
 IsFirstTo links place answer = (d : Link) → list_any (has_child (slice_index_or links place d).edge.child) (take place links) ≡ not answer
 
--- the crates of the sheet to which the edges lead, in their order
-abbrev pub children_of : Sheet → List Link → List model.Krate
+-- the crates of the outline to which the edges lead, in their order
+abbrev pub children_of : Outline → List Link → List model.Krate
 children_of t links = filter (λ q. leads_to (map (link_view (kids_in t)) links) q.id) (map krate_view t.krates.items)
 
 -- the number of the crate where it is kept, else what was found before
-abbrev pub number_of : model.Sheet → Id → Option ℕ → Option ℕ
+abbrev pub number_of : model.Outline → Id → Option ℕ → Option ℕ
 number_of t c found = last_from found (map (λ k. crate_number t k.id) (filter (is_crate c) t.krates))
 
 -- the same, where the edge has this declared dependency as its own
-abbrev pub claimed_of : model.Sheet → model.Link → ℕ → Option ℕ → Option ℕ
+abbrev pub claimed_of : model.Outline → model.Link → ℕ → Option ℕ → Option ℕ
 claimed_of t l place found = if l.place == place then number_of t l.edge.child found else found
 
 -- at each place stands what the edge makes of what stood there
-abbrev pub IsClaimed : model.Sheet → model.Link → List (Option ℕ) → List (Option ℕ) → Type 0
+abbrev pub IsClaimed : model.Outline → model.Link → List (Option ℕ) → List (Option ℕ) → Type 0
 IsClaimed t l old new = (place : ℕ) → slice_get new place ≡ option_map (claimed_of t l place) (slice_get old place)

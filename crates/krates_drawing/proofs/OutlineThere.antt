@@ -1,4 +1,4 @@
--- A selection of a document is a selection of any that differs only in order, with the same sheet.
+-- A selection of a document is a selection of any that differs only in order, with the same outline.
 use Rattle.std.proofs.Common.{◌≡◌, ℕ, List, [], length, unwrap_or, sym, ap, ◌∙◌, subst}
 use Rattle.std.proofs.lemmas.List.Elements.{All-contains, All-from_recursion}
 use Rattle.std.specs.List.{AllZip}
@@ -20,13 +20,13 @@ use Rattle.krates_selection.specs.Work.{CountsEach, CountsName, CountsReference,
 use Rattle.krates_selection.specs.declared.selection.EnabledFeature.{EnabledFeature}
 use Rattle.krates_selection.specs.declared.selection.KeptEdge.{KeptEdge}
 use Rattle.krates_selection.specs.declared.selection.Selection.{Selection}
-use Rattle.krates_drawing.specs.Alike.{IsSheetThere}
-use Rattle.krates_drawing.specs.Sheet.{Krate, IsKrate, Link, IsLink, asked_by, has_text, Meaning, OwnFeature, Crates, FeatureOf, Named, IsNamed, IsMeaning, Names, Sheet, IsSheet}
+use Rattle.krates_drawing.specs.Alike.{IsOutlineThere}
+use Rattle.krates_drawing.specs.Outline.{Krate, IsKrate, Link, IsLink, asked_by, has_text, Meaning, OwnFeature, Crates, FeatureOf, Named, IsNamed, IsMeaning, Names, Outline, IsOutline}
 use Rattle.krates_questions.specs.FeatureValues.{values_of}
 use Rattle.krates_drawing.proofs.Derivations.{child_kept, crate_of_feature, kept_by, kept_stands}
 use Rattle.krates_drawing.proofs.Holding.{crate_there, edge_there, feature_there}
 use Rattle.krates_rules.proofs.Members.{Member, contains_of}
-use Rattle.krates_drawing.proofs.OneSheet.{listed_same}
+use Rattle.krates_drawing.proofs.OneOutline.{listed_same}
 use Rattle.krates_drawing.proofs.Tests.{filter_same}
 use Rattle.krates_drawing.proofs.SaidAlike.{SaidAlike, said_alike, dependencies_same}
 use Rattle.krates_drawing.proofs.Standing.{each}
@@ -158,7 +158,7 @@ selection_there r u s x w = record {
   work = counts_there r u s x w w.selected.work;
 }
 
--- ---- the sheet
+-- ---- the outline
 
 krate_there : (r u : Resolved) (s : SettingModel) → SaidAlike r u s → (i : Identity) (k : Krate) → Stands u s (id_of i) → IsKrate r i k → IsKrate u i k
 krate_there r u s w i k stands h =
@@ -208,8 +208,8 @@ named_there r u s w kids f n stands h =
     let there = zip_there (IsMeaning r s.all_named n.krate) (IsMeaning u s.all_named n.krate) (values_of h.pkg.features n.name) n.meanings (λ t at m is. meaning_there r u s n.krate w t m is) h.meanings in
     record { krate = h.krate; name = h.name; pkg = q.pkg; has_package = has; meanings = subst (λ vs. AllZip (IsMeaning u s.all_named n.krate) vs n.meanings) same there }
 
-carried_sheet : (r u : Resolved) (s : SettingModel) (x : Selection) → Carried r u s x → (t : Sheet) → IsSheet r s x t → IsSheet u s x t
-carried_sheet r u s x w t h = record {
+carried_outline : (r u : Resolved) (s : SettingModel) (x : Selection) → Carried r u s x → (t : Outline) → IsOutline r s x t → IsOutline u s x t
+carried_outline r u s x w t h = record {
   krates = zip_there (IsKrate r) (IsKrate u) x.krates.items t.krates (λ i m k is. krate_there r u s w.say i k (crate_stands r u s x w i m) is) h.krates;
   links = zip_there (IsLink r s x.krates.items) (IsLink u s x.krates.items) x.edges.items t.links (λ e m l is. link_there r u s w.say w.deps x.krates.items e l (edge_kept r u s x w e m) is) h.links;
   features = zip_there (IsNamed r s.all_named x.krates.items) (IsNamed u s.all_named x.krates.items) x.features.items t.features (λ f m n is. named_there r u s w.say x.krates.items f n (feature_stands r u s x w f m) is) h.features;
@@ -218,8 +218,8 @@ carried_sheet r u s x w t h = record {
 
 -- ---- the law
 
-pub sheet_there : IsOrderFree → IsSheetThere
-sheet_there free m n w g h has_g has_h none s x hx t p =
+pub outline_there : IsOrderFree → IsOutlineThere
+outline_there free m n w g h has_g has_h none s x hx t p =
     let alike = free m n w in
     let say : Carried _ _ s x = record { say = said_alike m n g h s alike has_g has_h none; deps = alike.says g h has_g has_h none; selected = hx } in
-    (selection_there _ _ s x say, carried_sheet _ _ s x say t p)
+    (selection_there _ _ s x say, carried_outline _ _ s x say t p)

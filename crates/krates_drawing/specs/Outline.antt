@@ -52,7 +52,7 @@ pub record Toggle : Type 0 where
   pub name : Text
 
 -- a selection's lists, with what the document says of their items
-pub record Sheet : Type 0 where
+pub record Outline : Type 0 where
   pub krates : List Krate
   pub links : List Link
   pub features : List Named
@@ -60,7 +60,7 @@ pub record Sheet : Type 0 where
 
 -- ---- what the document says
 
--- the sheet's crate is this one, with the number of dependencies that its package declares
+-- the outline's crate is this one, with the number of dependencies that its package declares
 pub record IsKrate (r : Resolved) (i : Identity) (k : Krate) : Type 0 where
   pub id : k.id ≡ id_of i
   pub pkg : PackageModel
@@ -99,7 +99,7 @@ pub record IsMeaning (r : Resolved) (all : Bool) (i : Id) (text : Text) (m : Mea
   pub is : IsReference text reference
   pub names : Names r all i reference m
 
--- the sheet's feature is this one, with what each of its references names, in the package's order
+-- the outline's feature is this one, with what each of its references names, in the package's order
 pub record IsNamed (r : Resolved) (all : Bool) (kids : List Identity) (f : EnabledFeature) (n : Named) : Type 0 where
   pub krate : n.krate ≡ id_at kids f.krate
   pub name : n.name ≡ text_view f.name
@@ -111,8 +111,8 @@ pub record IsNamed (r : Resolved) (all : Bool) (kids : List Identity) (f : Enabl
 abbrev pub toggle_of : List Identity → ToggledFeature → Toggle
 toggle_of kids t = record { by = id_at kids t.by; krate = id_at kids t.krate; name = text_view t.name }
 
--- the sheet is that of the selection
-pub record IsSheet (r : Resolved) (s : SettingModel) (x : Selection) (t : Sheet) : Type 0 where
+-- the outline is that of the selection
+pub record IsOutline (r : Resolved) (s : SettingModel) (x : Selection) (t : Outline) : Type 0 where
   pub krates : AllZip (IsKrate r) x.krates.items t.krates
   pub links : AllZip (IsLink r s x.krates.items) x.edges.items t.links
   pub features : AllZip (IsNamed r s.all_named x.krates.items) x.features.items t.features

@@ -1,4 +1,4 @@
--- Documents that say the same have the same sheet.
+-- Documents that say the same have the same outline.
 use Rattle.std.proofs.Common.{◌≡◌, ◌↔◌, ℕ, Bool, true, false, List, [], ◌∷◌, map, filter, Contains, cond, length, unwrap_or, refl, sym, ap, ◌∙◌, subst}
 use Rattle.std.proofs.lemmas.List.Elements.{All-contains}
 use Rattle.std.specs.Cmp.Rules.{comparing}
@@ -24,7 +24,7 @@ use Rattle.krates_selection.specs.declared.selection.Selection.{Selection}
 use Rattle.krates_drawing.specs.Alike.{IsDrawnAlike}
 use Rattle.krates_drawing.specs.Drawing.{lines, spots}
 use Rattle.krates_questions.specs.FeatureValues.{values_of}
-use Rattle.krates_drawing.specs.Sheet.{Krate, IsKrate, Link, IsLink, asked_by, has_text, Meaning, OwnFeature, Crates, FeatureOf, Named, IsNamed, IsMeaning, Names, Toggle, toggle_of, Sheet, IsSheet}
+use Rattle.krates_drawing.specs.Outline.{Krate, IsKrate, Link, IsLink, asked_by, has_text, Meaning, OwnFeature, Crates, FeatureOf, Named, IsNamed, IsMeaning, Names, Toggle, toggle_of, Outline, IsOutline}
 use Rattle.krates_drawing.proofs.ById.{IsWithin, edge_by_id, edge_order, edges_sorted, edges_total, feature_by_id, feature_order, features_sorted, features_total, ids_total, same_lists, toggle_order, toggles_sorted, toggles_total, zip_by}
 use Rattle.krates_drawing.proofs.Closed.{text_there, text_has}
 use Rattle.krates_drawing.proofs.Holding.{crate_there, edge_there, feature_there, toggled_there, from_of, crate_from, link_from, feature_from, toggle_from, same_toggle}
@@ -135,7 +135,7 @@ toggles_same r u s x y w = same_lists toggle_order _ _ toggles_total
     (toggles_sorted x.krates.items x.toggled.items w.first.krates w.first.toggled_crates w.first.toggled) (toggles_sorted y.krates.items y.toggled.items w.second.krates w.second.toggled_crates w.second.toggled)
     (toggles_over r u s s x y (there r u s w.say) w.first w.second) (toggles_over u r s s y x (back r u s w.say) w.second w.first)
 
--- ---- what stands beside them in the sheet
+-- ---- what stands beside them in the outline
 
 krate_same : (i j : Id) (m n : ℕ) → i ≡ j → m ≡ n → (let k : Krate = record { id = i; declared = m } in k) ≡ record { id = j; declared = n }
 krate_same i j m n a b = ap (λ (z : Id). record { id = z; declared = m }) a ∙ ap (λ (z : ℕ). record { id = j; declared = z }) b
@@ -234,18 +234,18 @@ features_same one r u s w kids others a b k l same p q =
 
 -- ---- the whole
 
-sheets : (ks ls : List Krate) (es fs : List Link) (ns ms : List Named) (ts us : List Toggle) → ks ≡ ls → es ≡ fs → ns ≡ ms → ts ≡ us
-    → (let t : Sheet = record { krates = ks; links = es; features = ns; toggled = ts } in t) ≡ record { krates = ls; links = fs; features = ms; toggled = us }
-sheets ks ls es fs ns ms ts us a b c d =
-    ap (λ (z : List Krate). (let t : Sheet = record { krates = z; links = es; features = ns; toggled = ts } in t)) a
-    ∙ (ap (λ (z : List Link). (let t : Sheet = record { krates = ls; links = z; features = ns; toggled = ts } in t)) b
-    ∙ (ap (λ (z : List Named). (let t : Sheet = record { krates = ls; links = fs; features = z; toggled = ts } in t)) c
-    ∙ ap (λ (z : List Toggle). (let t : Sheet = record { krates = ls; links = fs; features = ms; toggled = z } in t)) d))
+outlines : (ks ls : List Krate) (es fs : List Link) (ns ms : List Named) (ts us : List Toggle) → ks ≡ ls → es ≡ fs → ns ≡ ms → ts ≡ us
+    → (let t : Outline = record { krates = ks; links = es; features = ns; toggled = ts } in t) ≡ record { krates = ls; links = fs; features = ms; toggled = us }
+outlines ks ls es fs ns ms ts us a b c d =
+    ap (λ (z : List Krate). (let t : Outline = record { krates = z; links = es; features = ns; toggled = ts } in t)) a
+    ∙ (ap (λ (z : List Link). (let t : Outline = record { krates = ls; links = z; features = ns; toggled = ts } in t)) b
+    ∙ (ap (λ (z : List Named). (let t : Outline = record { krates = ls; links = fs; features = z; toggled = ts } in t)) c
+    ∙ ap (λ (z : List Toggle). (let t : Outline = record { krates = ls; links = fs; features = ms; toggled = z } in t)) d))
 
-one_sheet : ReadsOneReference → (r u : Resolved) (s : SettingModel) → SaidAlike r u s → (x y : Selection) → IsSelection r s x → IsSelection u s y → (t v : Sheet) → IsSheet r s x t → IsSheet u s y v → t ≡ v
-one_sheet one r u s w x y hx hy t v p q =
+one_outline : ReadsOneReference → (r u : Resolved) (s : SettingModel) → SaidAlike r u s → (x y : Selection) → IsSelection r s x → IsSelection u s y → (t v : Outline) → IsOutline r s x t → IsOutline u s y v → t ≡ v
+one_outline one r u s w x y hx hy t v p q =
     let two : Two r u s x y = record { say = w; first = hx; second = hy } in
-    sheets t.krates v.krates t.links v.links t.features v.features t.toggled v.toggled
+    outlines t.krates v.krates t.links v.links t.features v.features t.toggled v.toggled
     (made_same SameCrate (IsKrate r) (IsKrate u) x.krates.items y.krates.items t.krates v.krates (crates_zip r u s x y two) p.krates q.krates (krates_same r u s w))
     (made_same (SameEdge x.krates.items y.krates.items) (IsLink r s x.krates.items) (IsLink u s y.krates.items) x.edges.items y.edges.items t.links v.links (edges_zip r u s x y two) p.links q.links
     (links_same r u s w x.krates.items y.krates.items))
@@ -257,5 +257,5 @@ one_sheet one r u s w x y hx hy t v p q =
 
 pub drawn_alike : IsOrderFree → ReadsOneReference → IsDrawnAlike
 drawn_alike free one m n w g h has_g has_h none s x y hx hy t v p q =
-    let same = one_sheet one _ _ s (said_alike m n g h s (free m n w) has_g has_h none) x y hx hy t v p q in
-    record { sheet = same; nodes = ap spots same; edges = ap lines same }
+    let same = one_outline one _ _ s (said_alike m n g h s (free m n w) has_g has_h none) x y hx hy t v p q in
+    record { outline = same; nodes = ap spots same; edges = ap lines same }

@@ -1,4 +1,4 @@
--- The sheet of a narrower setting is a part of the sheet of the wider one.
+-- The outline of a narrower setting is a part of the outline of the wider one.
 use Rattle.std.proofs.Common.{◌≡◌, Bool, List, ◌∙◌, Contains, ℕ, map, refl, sym, subst}
 use Rattle.std.specs.List.{AllZip}
 use Rattle.krates_cm.specs.Document.{DependencyModel, NodeModel}
@@ -16,13 +16,13 @@ use Rattle.krates_selection.specs.Selection.{edge_fact, edge_view, IsPlaced, IsS
 use Rattle.krates_selection.specs.declared.selection.KeptEdge.{KeptEdge}
 use Rattle.krates_selection.specs.declared.selection.Selection.{Selection}
 use Rattle.krates_drawing.specs.Narrower.{IsPart, NarrowerDrawsNoMore}
-use Rattle.krates_drawing.specs.Sheet.{Link, IsKrate, IsLink, IsNamed, Sheet, IsSheet, Toggle, toggle_of}
+use Rattle.krates_drawing.specs.Outline.{Link, IsKrate, IsLink, IsNamed, Outline, IsOutline, Toggle, toggle_of}
 use Rattle.krates_drawing.proofs.ById.{edge_by_id, edge_order, edges_sorted, edges_total, feature_by_id, feature_order, features_sorted, features_total, list_part, part_by, toggle_order, toggles_sorted, toggles_total}
 use Rattle.krates_drawing.proofs.Derivations.{kept_by}
-use Rattle.krates_drawing.proofs.FewerLines.{IsPartSheet, draws_no_more}
+use Rattle.krates_drawing.proofs.FewerLines.{IsPartOutline, draws_no_more}
 use Rattle.krates_drawing.proofs.Holding.{edge_there}
 use Rattle.krates_rules.proofs.Members.{Member}
-use Rattle.krates_drawing.proofs.OneSheet.{SameCrate, SameEdge, SameFeature, Carries, ReadsOneReference, crate_order, crate_likes, edges_over, features_over, toggles_over, krates_same, links_same, features_same, one_place, placed}
+use Rattle.krates_drawing.proofs.OneOutline.{SameCrate, SameEdge, SameFeature, Carries, ReadsOneReference, crate_order, crate_likes, edges_over, features_over, toggles_over, krates_same, links_same, features_same, one_place, placed}
 use Rattle.krates_drawing.proofs.Ordered.{itself}
 use Rattle.krates_drawing.proofs.Parts.{LikePart, likes_part, made_part}
 use Rattle.krates_drawing.proofs.SaidAlike.{SaidAlike, declared_alike, place_alike}
@@ -114,7 +114,7 @@ features_part r s z x y w = part_by (feature_by_id x.krates.items) (feature_by_i
     (features_sorted x.krates.items x.features.items w.first.krates w.first.homes w.first.features) (features_sorted y.krates.items y.features.items w.second.krates w.second.homes w.second.features)
     (features_over r r s z x y w.carries w.first w.second))
 
--- ---- the sheets
+-- ---- the outlines
 
 part_of_likes : {A : Type 0} (xs ys : List A) → LikePart (λ (a b : A). a ≡ b) xs ys → IsPart xs ys
 part_of_likes {A} xs ys w = made_part (λ (a b : A). a ≡ b) (λ (a b : A). a ≡ b) (λ (a b : A). a ≡ b) xs ys xs ys w (itself xs) (itself ys) (λ a b t u same p q. sym p ∙ (same ∙ q))
@@ -126,8 +126,8 @@ toggles_part r s z x y ts us w e f =
     (toggles_over r r s z x y w.carries w.first w.second) in
     subst (λ zs. IsPart zs us) (sym e) (subst (IsPart (map (toggle_of x.krates.items) x.toggled.items)) (sym f) (part_of_likes _ _ likes))
 
-part_sheet : ReadsOneReference → (r : Resolved) (s z : SettingModel) (x y : Selection) → Narrowed r s z x y → (t v : Sheet) → IsSheet r s x t → IsSheet r z y v → IsPartSheet t v
-part_sheet one r s z x y w t v p q =
+part_outline : ReadsOneReference → (r : Resolved) (s z : SettingModel) (x y : Selection) → Narrowed r s z x y → (t v : Outline) → IsOutline r s x t → IsOutline r z y v → IsPartOutline t v
+part_outline one r s z x y w t v p q =
     let say = said_itself r z w.none in
     record {
       krates = made_part SameCrate (IsKrate r) (IsKrate r) x.krates.items y.krates.items t.krates v.krates (crates_part r s z x y w) p.krates q.krates (krates_same r r z say);
@@ -150,4 +150,4 @@ named_alike wide _ (asks_targets targets none) = refl
 pub narrower_draws_no_more : IsNarrowing → ReadsOneReference → NarrowerDrawsNoMore
 narrower_draws_no_more law one r none wide narrow step x y hx hy t v p q =
     let w : Narrowed r narrow wide x y = record { none = none; carries = (law r wide narrow step).facts; first = hx; second = hy; naming = named_alike wide narrow step } in
-    draws_no_more t v (part_sheet one r narrow wide x y w t v p q)
+    draws_no_more t v (part_outline one r narrow wide x y w t v p q)

@@ -8,7 +8,7 @@ use Rattle.krates_drawing.specs.Told.{IsToldOf}
 use Rattle.krates_drawing.specs.Views.{meanings_view}
 use Rattle.krates_drawing.specs.declared.told.Told.{Told}
 use Rattle.krates_drawing.proofs.Gathering.{AreGathered, gathered, ordered}
-use Rattle.krates_drawing.proofs.gather.sheet_of.Goals as goal
+use Rattle.krates_drawing.proofs.gather.outline_of.Goals as goal
 
 are_gathered : (c : goal.In_ok-features) → AreGathered (as_resolved c.args.document.now) c.args.setting.now c.args.selection c.in_ok-told.told.items c.in_ok-counts.counts.items c.in_ok-givens.givens.items c.in_ok-names.names.items
 are_gathered c =
@@ -24,8 +24,8 @@ are_gathered c =
       names = subst (λ (xs : List EnabledFeature). AllZip (MeaningsTold r s.all_named told) xs meanings) c.deref-6.ensures.value names;
     }
 
-pub returns-clause-sheet : goal.returns-clause-sheet
-returns-clause-sheet c selected =
+pub returns-clause-outline : goal.returns-clause-outline
+returns-clause-outline c selected =
     gathered (as_resolved c.args.document.now) c.args.setting.now c.args.selection c.in_ok-told.told.items c.in_ok-counts.counts.items c.in_ok-givens.givens.items c.in_ok-names.names.items
     (record { krates = c.in_ok-krates.krates; links = c.in_ok-links.links; features = c.in_ok-features.features; toggled = c.args.selection.toggled }) selected (are_gathered c)
     (record { krates = c.in_ok-krates.ensures; links = c.in_ok-links.ensures; features = c.in_ok-features.ensures; toggled = refl }) c.requires.distinct
