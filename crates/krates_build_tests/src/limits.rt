@@ -8,9 +8,8 @@ ghost use Rattle.krates_drawing.specs.OutlineOrder.{IsOrdered};
 
 use crate::real_documents::metadata_of;
 use krates_cm::Metadata;
-use krates_drawing::gather::outline_of;
 use krates_drawing::limits::{Limits, plan_within};
-use krates_drawing::outline::Outline;
+use krates_drawing::outline::{Outline, outline_of};
 use krates_resolve::{Document, Setting, admit, select};
 use krates_samples::documents::section;
 use krates_samples::table::{Question, Row, hold};

@@ -10,7 +10,6 @@ mod edge_count;
 mod equal_ranges;
 mod feature_edges;
 pub mod filter;
-pub mod gather;
 pub mod krate;
 pub mod laws;
 pub mod limits;

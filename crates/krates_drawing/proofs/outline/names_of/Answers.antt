@@ -4,7 +4,7 @@ use Rattle.krates_questions.specs.DocumentModel.{as_resolved}
 use Rattle.krates_drawing.specs.Gathered.{MeaningsTold}
 use Rattle.krates_drawing.specs.Views.{meanings_view}
 use Rattle.krates_drawing.proofs.Zips.{zip_next}
-use Rattle.krates_drawing.proofs.gather.names_of.Goals as goal
+use Rattle.krates_drawing.proofs.outline.names_of.Goals as goal
 
 pub loop-feature-preserved : goal.loop-feature-preserved
 loop-feature-preserved c =

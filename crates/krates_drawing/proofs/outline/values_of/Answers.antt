@@ -3,7 +3,7 @@ use Rattle.std.specs.BTreeMap.{get_by_text}
 use Rattle.std.specs.Option.{unwrap_or}
 use Rattle.krates_cm.specs.Document.{Text, text_view, texts_view}
 use Rattle.krates_questions.proofs.FeatureNames.{named_here}
-use Rattle.krates_drawing.proofs.gather.values_of.Goals as goal
+use Rattle.krates_drawing.proofs.outline.values_of.Goals as goal
 
 pub returns-in-Some : goal.returns-in-Some
 returns-in-Some c =

@@ -8,7 +8,7 @@ use Rattle.krates_drawing.specs.Told.{IsToldOf}
 use Rattle.krates_drawing.specs.Views.{meanings_view}
 use Rattle.krates_drawing.specs.declared.told.Told.{Told}
 use Rattle.krates_drawing.proofs.Gathering.{AreGathered, gathered, ordered}
-use Rattle.krates_drawing.proofs.gather.outline_of.Goals as goal
+use Rattle.krates_drawing.proofs.outline.outline_of.Goals as goal
 
 are_gathered : (c : goal.In_ok-features) → AreGathered (as_resolved c.args.document.now) c.args.setting.now c.args.selection c.in_ok-told.told.items c.in_ok-counts.counts.items c.in_ok-givens.givens.items c.in_ok-names.names.items
 are_gathered c =
