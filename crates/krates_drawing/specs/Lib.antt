@@ -1,6 +1,7 @@
 pub mod Agreement
 pub mod Alike
 pub mod Connected
+pub mod CrateRecord
 pub mod Division
 pub mod Drawing
 pub mod EdgeText
@@ -19,5 +20,4 @@ pub mod Paths
 pub mod Rebuilding
 pub mod Stored
 pub mod TextSet
-pub mod Told
 pub mod Views

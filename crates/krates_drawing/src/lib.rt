@@ -4,6 +4,7 @@
 #![tactic(auto)]
 
 mod crate_edges;
+pub mod crate_record;
 pub mod division;
 pub mod edge;
 mod edge_count;
@@ -22,6 +23,5 @@ pub mod outline;
 pub mod plan;
 pub mod store;
 mod text_set;
-pub mod told;
 
 pub use filter::{FilterFn, NoneFilter, OnFilter};

@@ -3,7 +3,7 @@ ghost use Rattle.std.specs.Prelude.{◌≡◌, IfOk, option_map};
 ghost use Rattle.std.specs.List.{AllZip};
 ghost use Rattle.krates_cm.specs.Document.{node_view, package_view};
 ghost use Rattle.krates_questions.specs.DocumentModel.{as_resolved};
-ghost use Rattle.krates_drawing.specs.Told.{IsToldOf, node_at as node_told, package_at as package_told};
+ghost use Rattle.krates_drawing.specs.CrateRecord.{IsRecordOf, node_at as node_recorded, package_at as package_recorded};
 
 use krates_cm::{Node, Package};
 use krates_ids::Kid;
@@ -12,7 +12,7 @@ use std::alloc::{AllocError, Global};
 
 /// A kept crate, with what the document has for it.
 #[derive(Clone, Copy)]
-pub struct Told<'k, 'a> {
+pub struct CrateRecord<'k, 'a> {
     /// The crate.
     pub krate: &'k Kid,
     /// Its package; none where the document has none.
@@ -24,37 +24,38 @@ pub struct Told<'k, 'a> {
 /// These crates, each with what the document has for it. The only error is running out of memory.
 ///
 /// Time: O(k log n) for k crates, and n in the document.
-pub fn told_of<'k, 'a>(
+pub fn records_of<'k, 'a>(
     alloc: Global,
     document: &Document<'a>,
     krates: &'k [Kid],
-) -> Result<Vec<Told<'k, 'a>>, AllocError>
-    ensures { IfOk result (λ told. AllZip (IsToldOf (as_resolved document.now)) krates.now told.items) }
+) -> Result<Vec<CrateRecord<'k, 'a>>, AllocError>
+    ensures { IfOk result
+        (λ records. AllZip (IsRecordOf (as_resolved document.now)) krates.now records.items) }
 {
-    let mut told = Vec::with_capacity(alloc, krates.len())?;
+    let mut records = Vec::with_capacity(alloc, krates.len())?;
     for krate in krates {
         let pkg = document.package_of(krate);
         let node = document.node_of(krate);
-        told.push(Told { krate, pkg, node })?;
+        records.push(CrateRecord { krate, pkg, node })?;
     }
-    Ok(told)
+    Ok(records)
 }
 
 /// The package of the crate of a number.
-pub(crate) fn package_at<'a>(told: &[Told<'_, 'a>], number: usize) -> Option<&'a Package>
-    ensures { option_map (λ pkg. package_view pkg.now) result ≡ package_told told.now number }
+pub(crate) fn package_at<'a>(records: &[CrateRecord<'_, 'a>], number: usize) -> Option<&'a Package>
+    ensures { option_map (λ pkg. package_view pkg.now) result ≡ package_recorded records.now number }
 {
-    match told.get(number) {
+    match records.get(number) {
         Some(krate) => krate.pkg,
         None => None,
     }
 }
 
 /// The node of the crate of a number.
-pub(crate) fn node_at<'a>(told: &[Told<'_, 'a>], number: usize) -> Option<&'a Node>
-    ensures { option_map (λ node. node_view node.now) result ≡ node_told told.now number }
+pub(crate) fn node_at<'a>(records: &[CrateRecord<'_, 'a>], number: usize) -> Option<&'a Node>
+    ensures { option_map (λ node. node_view node.now) result ≡ node_recorded records.now number }
 {
-    match told.get(number) {
+    match records.get(number) {
         Some(krate) => krate.node,
         None => None,
     }
