@@ -16,7 +16,7 @@ use Rattle.krates_drawing.specs.Drawing.{children_lines, crate_lines, crate_numb
 use Rattle.krates_drawing.specs.Outline as model
 use Rattle.krates_drawing.specs.OutlineOrder.{AreByChild, children_of, has_child, number_of}
 use Rattle.krates_drawing.specs.Views.{kids_in, kids_of, krate_at, krate_view, link_view, no_krate, outline_view}
-use Rattle.krates_drawing.specs.declared.origin.Home.{Home}
+use Rattle.krates_drawing.specs.declared.edge_source.CrateSource.{CrateSource}
 use Rattle.krates_drawing.specs.declared.outline.Krate.{Krate}
 use Rattle.krates_drawing.specs.declared.outline.Link.{Link}
 use Rattle.krates_drawing.specs.declared.outline.Outline.{Outline}
@@ -283,7 +283,7 @@ pub drawn_more : {A B : Type 0} (f : A → List B) (before old new : List B) (xs
 drawn_more f before old new xs x more so_far = more ∙ ap (λ l. l ++ f x) so_far ∙ flat_map_more f before xs x
 
 -- to all children of the edges from a crate
-pub crate_drawn : (t : Outline) (krate : ℕ) (h : Home) → h.krate ≡ krate → map (link_view (kids_in t)) h.mine.now ≡ from_crate (outline_view t) (id_at (kids_in t) h.krate)
+pub crate_drawn : (t : Outline) (krate : ℕ) (h : CrateSource) → h.krate ≡ krate → map (link_view (kids_in t)) h.mine.now ≡ from_crate (outline_view t) (id_at (kids_in t) h.krate)
     → flat_map (pair_lines (outline_view t) (id_at (kids_in t) h.krate) (map (link_view (kids_in t)) h.mine.now)) (children_of t h.mine.now) ≡ crate_lines (outline_view t) (krate_at t krate)
 unfolding crate_lines children_lines
 crate_drawn t krate h same links =

@@ -7,11 +7,11 @@ use Rattle.krates_cm.specs.Document.{text_view}
 use Rattle.krates_selection.specs.CrateNumbers.{id_at}
 use Rattle.krates_rules.specs.Facts.{Id}
 use Rattle.krates_drawing.specs.Drawing.{Feature, Line, crate_number, feature_lines, feature_number, from_crate, id_eq, is_crate, is_to, leads_to, meaning_lines, place_of}
-use Rattle.krates_drawing.specs.Home.{IsNumberOfChild}
-use Rattle.krates_drawing.specs.Origin.{meant_from}
+use Rattle.krates_drawing.specs.EdgeSource.{IsNumberOfChild}
+use Rattle.krates_drawing.specs.LinesFrom.{meant_from}
 use Rattle.krates_drawing.specs.OutlineOrder.{has_child}
 use Rattle.krates_drawing.specs.Views.{kids_in, kids_of, krate_view, link_view, meaning_view, named_view, outline_view}
-use Rattle.krates_drawing.specs.declared.origin.Home.{Home}
+use Rattle.krates_drawing.specs.declared.edge_source.CrateSource.{CrateSource}
 use Rattle.krates_drawing.specs.declared.outline.Krate.{Krate}
 use Rattle.krates_drawing.specs.declared.outline.Link.{Link}
 use Rattle.krates_drawing.specs.declared.outline.Meaning.{Meaning}
@@ -66,7 +66,7 @@ not_kept t mine q n sorted within is past =
 abbrev led : ℕ → ℕ → Line
 led source target = record { source = source; target = target; tie = Feature }
 
-pub feature_drawn : (t : Outline) (h : Home) (n : Named) (source target : ℕ) (meanings : List Meaning) → h.krate ≡ n.feature.krate → map (link_view (kids_in t)) h.mine.now ≡ from_crate (outline_view t) (id_at (kids_in t) h.krate)
+pub feature_drawn : (t : Outline) (h : CrateSource) (n : Named) (source target : ℕ) (meanings : List Meaning) → h.krate ≡ n.feature.krate → map (link_view (kids_in t)) h.mine.now ≡ from_crate (outline_view t) (id_at (kids_in t) h.krate)
     → source ≡ feature_number (outline_view t) (id_at (kids_in t) n.feature.krate) (text_view n.feature.name) → target ≡ crate_number (outline_view t) (id_at (kids_in t) h.krate) → meanings ≡ n.meanings.items
     → led source target ∷ flat_map (meant_from (outline_view t) source (map (link_view (kids_in t)) h.mine.now) (id_at (kids_in t) h.krate)) (map meaning_view meanings) ≡ feature_lines (outline_view t) (named_view (kids_in t) n)
 unfolding feature_lines meaning_lines

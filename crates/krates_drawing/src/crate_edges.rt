@@ -2,16 +2,16 @@
 ghost use Rattle.std.specs.Prelude.{All, ◌≡◌, ◌+◌, ◌<◌, List, map, length, take, flat_map, OnOk};
 ghost use Rattle.krates_selection.specs.CrateNumbers.{HasEnds, id_at};
 ghost use Rattle.krates_drawing.specs.Drawing.{AtFeature, Line, crate_lines, crate_number as number_of_crate, pair_lines, uses};
-ghost use Rattle.krates_drawing.specs.Home.{IsDrawnTo, IsHome, AreToggledBy};
-ghost use Rattle.krates_drawing.specs.Origin.{line_from};
+ghost use Rattle.krates_drawing.specs.EdgeSource.{IsDrawnTo, IsCrateSource, AreToggledBy};
+ghost use Rattle.krates_drawing.specs.LinesFrom.{line_from};
 ghost use Rattle.krates_drawing.specs.Outline.{toggle_of};
 ghost use Rattle.krates_drawing.specs.OutlineOrder.{AreByChild, HaveEnds, IsFirstTo, IsOrdered};
 ghost use Rattle.krates_drawing.specs.Views.{kids_in, krate_at, link_view, outline_view, Draws, IsFew};
 
 use crate::edge::{Arrow, Edge};
+use crate::edge_source::{CrateSource, source_at};
 use crate::equal_ranges::{links_to, toggled_by, toggled_in};
 use crate::numbers::{crate_number, feature_number};
-use crate::origin::{Home, home_at};
 use crate::outline::{Link, Outline};
 use krates_graph::graph::NodeId;
 use krates_rules::DepKind;
@@ -114,14 +114,14 @@ fn draw_toggled(
 #[tactic(auto, unfolding(crate::specs::Drawing::pair_lines))]
 fn draw_pair(
     outline: &Outline,
-    from: &Home<'_>,
+    from: &CrateSource<'_>,
     toggled: &[ToggledFeature],
     child: usize,
     out: &mut Vec<Arrow>,
 ) -> Result<(), AllocError>
     requires few { IsFew outline.now }
     requires ordered { IsOrdered outline.now }
-    requires home { IsHome outline.now from.now }
+    requires home { IsCrateSource outline.now from.now }
     requires toggled { AreToggledBy outline.now from.now.krate toggled.now }
     requires within { child < length outline.now.krates.items }
     ensures { OnOk result (Draws out.old out.new (pair_lines (outline_view outline.now)
@@ -147,14 +147,14 @@ fn is_first(mine: &[Link], place: usize) -> bool
 /// it does.
 fn draw_child(
     outline: &Outline,
-    from: &Home<'_>,
+    from: &CrateSource<'_>,
     toggled: &[ToggledFeature],
     place: usize,
     out: &mut Vec<Arrow>,
 ) -> Result<(), AllocError>
     requires few { IsFew outline.now }
     requires ordered { IsOrdered outline.now }
-    requires home { IsHome outline.now from.now }
+    requires home { IsCrateSource outline.now from.now }
     requires toggled { AreToggledBy outline.now from.now.krate toggled.now }
     requires place { place < length from.now.mine.now }
     ensures { OnOk result ((before : List Line)
@@ -176,7 +176,7 @@ fn draw_crate(outline: &Outline, krate: usize, out: &mut Vec<Arrow>) -> Result<(
     ensures { OnOk result (Draws out.old out.new (crate_lines (outline_view outline.now)
         (krate_at outline.now krate))) }
 {
-    let from = home_at(outline, krate);
+    let from = source_at(outline, krate);
     let toggled = toggled_by(outline, krate);
     for place in 0..from.mine.len() {
         draw_child(outline, &from, toggled, place, out)?;

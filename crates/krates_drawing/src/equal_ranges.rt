@@ -1,7 +1,7 @@
 //! Ranges of equal elements in the lists of an outline, found by binary search.
 ghost use Rattle.std.specs.Prelude.{◌≡◌, ◌<◌, filter, length};
 ghost use Rattle.std.specs.List.{list_any};
-ghost use Rattle.krates_drawing.specs.Home.{AreLinksFrom, AreToggledBy};
+ghost use Rattle.krates_drawing.specs.EdgeSource.{AreLinksFrom, AreToggledBy};
 ghost use Rattle.krates_drawing.specs.OutlineOrder.{AreByChild, AreByKrate, IsOrdered, has_child, has_krate};
 
 use crate::outline::{Link, Outline};

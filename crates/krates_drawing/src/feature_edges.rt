@@ -3,15 +3,15 @@ ghost use Rattle.std.specs.Prelude.{◌≡◌, MatchOption, false, map, filter, 
 ghost use Rattle.krates_selection.specs.CrateNumbers.{id_at};
 ghost use Rattle.krates_rules.specs.Resolved.{id_of};
 ghost use Rattle.krates_drawing.specs.Drawing.{AtCrate, AtFeature, leads_to as leads, feature_lines};
-ghost use Rattle.krates_drawing.specs.Home.{IsHome, IsNumberOfChild};
-ghost use Rattle.krates_drawing.specs.Origin.{line_from, meant_from};
+ghost use Rattle.krates_drawing.specs.EdgeSource.{IsCrateSource, IsNumberOfChild};
+ghost use Rattle.krates_drawing.specs.LinesFrom.{line_from, meant_from};
 ghost use Rattle.krates_drawing.specs.OutlineOrder.{AreByChild, HaveEnds, IsOrdered, IsPlaceOfFeature};
 ghost use Rattle.krates_drawing.specs.Views.{kids_in, link_view, meaning_view, named_view, outline_view, Draws, IsFew};
 
 use crate::edge::{Arrow, Edge};
+use crate::edge_source::{CrateSource, FeatureSource, first_source, source_of};
 use crate::equal_ranges::leads_to;
 use crate::numbers::{crate_number, feature_number, number_at, place_of_crate};
-use crate::origin::{Home, Origin, first_home, home_of};
 use crate::outline::{Link, Meaning, Named, Outline};
 use krates_ids::Kid;
 use std::alloc::AllocError;
@@ -36,13 +36,13 @@ fn number_of_child(outline: &Outline, mine: &[Link], id: &Kid) -> Option<usize>
 /// Draws to the crates that have an edge.
 fn draw_to_crates(
     outline: &Outline,
-    from: &Origin<'_>,
+    from: &FeatureSource<'_>,
     krates: &[Kid],
     out: &mut Vec<Arrow>,
 ) -> Result<(), AllocError>
     requires few { IsFew outline.now }
     requires ordered { IsOrdered outline.now }
-    requires home { IsHome outline.now from.now.home }
+    requires home { IsCrateSource outline.now from.now.home }
     ensures { OnOk result (Draws out.old out.new (map (line_from (outline_view outline.now) from.now.number)
         (map AtCrate (filter (leads (map (link_view (kids_in outline.now)) from.now.home.mine.now))
         (map id_of krates.now))))) }
@@ -63,14 +63,14 @@ fn draw_to_crates(
 /// Draws to a feature of the crates that have an edge.
 fn draw_to_features(
     outline: &Outline,
-    from: &Origin<'_>,
+    from: &FeatureSource<'_>,
     krates: &[Kid],
     name: &str,
     out: &mut Vec<Arrow>,
 ) -> Result<(), AllocError>
     requires few { IsFew outline.now }
     requires ordered { IsOrdered outline.now }
-    requires home { IsHome outline.now from.now.home }
+    requires home { IsCrateSource outline.now from.now.home }
     ensures { OnOk result (Draws out.old out.new (map (line_from (outline_view outline.now) from.now.number)
         (map (λ q. AtFeature q name.now)
         (filter (leads (map (link_view (kids_in outline.now)) from.now.home.mine.now))
@@ -92,13 +92,13 @@ fn draw_to_features(
 /// Draws to what a reference names.
 fn draw_meaning(
     outline: &Outline,
-    from: &Origin<'_>,
+    from: &FeatureSource<'_>,
     meaning: &Meaning,
     out: &mut Vec<Arrow>,
 ) -> Result<(), AllocError>
     requires few { IsFew outline.now }
     requires ordered { IsOrdered outline.now }
-    requires home { IsHome outline.now from.now.home }
+    requires home { IsCrateSource outline.now from.now.home }
     ensures { OnOk result (Draws out.old out.new (meant_from (outline_view outline.now) from.now.number
         (map (link_view (kids_in outline.now)) from.now.home.mine.now)
         (id_at (kids_in outline.now) from.now.home.krate) (meaning_view meaning.now))) }
@@ -123,13 +123,13 @@ fn draw_meaning(
 /// Draws to what all references of a feature name.
 fn draw_meanings(
     outline: &Outline,
-    from: &Origin<'_>,
+    from: &FeatureSource<'_>,
     meanings: &[Meaning],
     out: &mut Vec<Arrow>,
 ) -> Result<(), AllocError>
     requires few { IsFew outline.now }
     requires ordered { IsOrdered outline.now }
-    requires home { IsHome outline.now from.now.home }
+    requires home { IsCrateSource outline.now from.now.home }
     ensures { OnOk result (Draws out.old out.new (flat_map (meant_from (outline_view outline.now)
         from.now.number (map (link_view (kids_in outline.now)) from.now.home.mine.now)
         (id_at (kids_in outline.now) from.now.home.krate)) (map meaning_view meanings.now))) }
@@ -144,20 +144,20 @@ fn draw_meanings(
 #[tactic(auto, unfolding(crate::specs::Drawing::feature_lines, crate::specs::Drawing::meaning_lines))]
 fn draw_feature(
     outline: &Outline,
-    home: &Home<'_>,
+    home: &CrateSource<'_>,
     place: usize,
     named: &Named,
     out: &mut Vec<Arrow>,
 ) -> Result<(), AllocError>
     requires few { IsFew outline.now }
     requires ordered { IsOrdered outline.now }
-    requires home { IsHome outline.now home.now }
+    requires home { IsCrateSource outline.now home.now }
     requires krate { home.now.krate ≡ named.now.feature.krate }
     requires place { IsPlaceOfFeature outline.now place named.now }
     ensures { OnOk result (Draws out.old out.new (feature_lines (outline_view outline.now)
         (named_view (kids_in outline.now) named.now))) }
 {
-    let from = Origin {
+    let from = FeatureSource {
         number: number_at(outline, place, named),
         home: *home,
     };
@@ -176,11 +176,11 @@ pub(crate) fn draw_features(outline: &Outline, out: &mut Vec<Arrow>) -> Result<(
     ensures { OnOk result (Draws out.old out.new (flat_map (feature_lines (outline_view outline.now))
         (outline_view outline.now).features)) }
 {
-    let Some(mut home) = first_home(outline) else {
+    let Some(mut home) = first_source(outline) else {
         return Ok(());
     };
     for (place, x) in outline.features.iter().enumerate() {
-        home = home_of(outline, x.feature.krate, &home);
+        home = source_of(outline, x.feature.krate, &home);
         draw_feature(outline, &home, place, x, out)?;
     }
     Ok(())

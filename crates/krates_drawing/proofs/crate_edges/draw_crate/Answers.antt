@@ -12,7 +12,7 @@ use Rattle.krates_drawing.proofs.crate_edges.draw_crate.Goals as goal
 pub loop-place-init : goal.loop-place-init
 loop-place-init c =
     let t = c.args.outline.now in
-    let from = c.home_at-from.result in
+    let from = c.source_at-from.result in
     let f : model.Krate → List Line = pair_lines (outline_view t) (id_at (kids_in t) from.krate) (map (link_view (kids_in t)) from.mine.now) in
     let drawn = map arrow_view c.args.out.now.items in
     sym (ap (λ qs. drawn ++ flat_map f qs) (none_yet (map krate_view t.krates.items)) ∙ append-nil drawn)
@@ -20,9 +20,9 @@ loop-place-init c =
 pub returns : goal.returns
 returns c =
     let t = c.args.outline.now in
-    let from = c.home_at-from.result in
+    let from = c.source_at-from.result in
     let mine = from.mine.now in
     let f : model.Krate → List Line = pair_lines (outline_view t) (id_at (kids_in t) from.krate) (map (link_view (kids_in t)) mine) in
     let drawn = map arrow_view c.args.out.now.items in
     c.loop-place.invariant ∙ ap (λ ls. drawn ++ flat_map f (children_of t ls)) (take_all c.loop-place.place mine (omega (arith, c.loop-place-test.false)))
-    ∙ ap (λ ls. drawn ++ ls) (crate_drawn t c.args.krate from c.home_at-from.ensures.krate c.home_at-from.ensures.home.mine.links)
+    ∙ ap (λ ls. drawn ++ ls) (crate_drawn t c.args.krate from c.source_at-from.ensures.krate c.source_at-from.ensures.home.mine.links)

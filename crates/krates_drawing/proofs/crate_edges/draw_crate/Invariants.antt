@@ -1,5 +1,5 @@
 use Rattle.std.proofs.Common.{map, take}
-use Rattle.krates_drawing.specs.Home.{IsDrawnTo}
+use Rattle.krates_drawing.specs.EdgeSource.{IsDrawnTo}
 use Rattle.krates_drawing.specs.Views.{arrow_view}
 use Rattle.krates_drawing.proofs.crate_edges.draw_crate.Given as goal
 

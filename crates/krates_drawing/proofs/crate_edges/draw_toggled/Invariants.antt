@@ -1,7 +1,7 @@
 use Rattle.std.proofs.Common.{◌≡◌, ◌++◌, map, drop}
 use Rattle.krates_selection.specs.CrateNumbers.{id_at}
 use Rattle.krates_drawing.specs.Drawing.{AtFeature}
-use Rattle.krates_drawing.specs.Origin.{line_from}
+use Rattle.krates_drawing.specs.LinesFrom.{line_from}
 use Rattle.krates_drawing.specs.Outline.{toggle_of}
 use Rattle.krates_drawing.specs.Views.{kids_in, outline_view, arrow_view}
 use Rattle.krates_drawing.proofs.crate_edges.draw_toggled.Given as goal

@@ -3,7 +3,7 @@ use Rattle.std.specs.Prelude.{OnOk}
 use Rattle.krates_selection.specs.CrateNumbers.{id_at}
 use Rattle.krates_rules.specs.Resolved.{id_of}
 use Rattle.krates_drawing.specs.Drawing.{AtFeature, leads_to}
-use Rattle.krates_drawing.specs.Origin.{line_from, meant_from}
+use Rattle.krates_drawing.specs.LinesFrom.{line_from, meant_from}
 use Rattle.krates_drawing.specs.Views.{Draws, kids_in, link_view, meaning_view, outline_view}
 use Rattle.krates_drawing.proofs.feature_edges.draw_meaning.Goals as goal
 

@@ -1,7 +1,7 @@
 use Rattle.std.proofs.Common.{◌≡◌, ◌++◌, map, drop}
 use Rattle.std.specs.Prelude.{flat_map}
 use Rattle.krates_selection.specs.CrateNumbers.{id_at}
-use Rattle.krates_drawing.specs.Origin.{meant_from}
+use Rattle.krates_drawing.specs.LinesFrom.{meant_from}
 use Rattle.krates_drawing.specs.Views.{kids_in, link_view, meaning_view, outline_view, arrow_view}
 use Rattle.krates_drawing.proofs.feature_edges.draw_meanings.Given as goal
 

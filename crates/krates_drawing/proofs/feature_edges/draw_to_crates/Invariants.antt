@@ -1,7 +1,7 @@
 use Rattle.std.proofs.Common.{◌≡◌, ◌++◌, map, drop, filter}
 use Rattle.krates_rules.specs.Resolved.{id_of}
 use Rattle.krates_drawing.specs.Drawing.{AtCrate, leads_to}
-use Rattle.krates_drawing.specs.Origin.{line_from}
+use Rattle.krates_drawing.specs.LinesFrom.{line_from}
 use Rattle.krates_drawing.specs.Views.{kids_in, link_view, outline_view, arrow_view}
 use Rattle.krates_drawing.proofs.feature_edges.draw_to_crates.Given as goal
 

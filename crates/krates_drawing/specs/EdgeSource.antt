@@ -9,7 +9,7 @@ use Rattle.krates_drawing.specs.Outline.{toggle_of}
 use Rattle.krates_drawing.specs.OutlineOrder.{AreByChild, AreByKrate, HaveEnds, children_of, is_by}
 use Rattle.krates_drawing.specs.Views.{arrow_view, kids_in, link_view, outline_view}
 use Rattle.krates_drawing.specs.declared.edge.Arrow.{Arrow}
-use Rattle.krates_drawing.specs.declared.origin.Home.{Home}
+use Rattle.krates_drawing.specs.declared.edge_source.CrateSource.{CrateSource}
 use Rattle.krates_drawing.specs.declared.outline.Link.{Link}
 use Rattle.krates_drawing.specs.declared.outline.Outline.{Outline}
 
@@ -20,7 +20,7 @@ pub record AreLinksFrom (t : Outline) (parent : ℕ) (mine : List Link) : Type 0
   pub ends : HaveEnds t mine
 
 -- the number is that of a crate, and the edges are the kept ones from it
-pub record IsHome (t : Outline) (h : Home) : Type 0 where
+pub record IsCrateSource (t : Outline) (h : CrateSource) : Type 0 where
   pub within : h.krate < length t.krates.items
   pub mine : AreLinksFrom t h.krate h.mine.now
 
@@ -37,7 +37,7 @@ pub record IsNumberOfChild (t : Outline) (links : List Link) (i : Id) (n : ℕ) 
   pub leads : leads_to (map (link_view (kids_in t)) links) i ≡ true
 
 -- behind those lines stand the edges from the crate to all others to which these edges lead
-abbrev pub IsDrawnTo : Outline → Home → List Link → List Line → Vec Arrow → Type 0
+abbrev pub IsDrawnTo : Outline → CrateSource → List Link → List Line → Vec Arrow → Type 0
 IsDrawnTo t h links before out =
     let mine = map (link_view (kids_in t)) h.mine.now in
     map arrow_view out.items ≡ before ++ flat_map (pair_lines (outline_view t) (id_at (kids_in t) h.krate) mine) (children_of t links)
