@@ -11,7 +11,7 @@ use Rattle.krates_cm.specs.Document.{MetadataModel, Text, text_view, metadata_vi
 use Rattle.krates_cm.specs.declared.metadata.Metadata.{Metadata}
 use Rattle.krates_cm.specs.declared.package.Package.{Package}
 use Rattle.krates_drawing.specs.Agreement.{DependsOn}
-use Rattle.krates_drawing.specs.Drawing.{Line, lines, spots}
+use Rattle.krates_drawing.specs.Drawing.{PlannedEdge, planned_edges, planned_nodes}
 use Rattle.krates_drawing.specs.Ends.{EndsStand, HasEnds}
 use Rattle.krates_drawing.specs.Outline as model
 use Rattle.krates_drawing.specs.Outline.{IsKrate, IsNamed, IsOutline}
@@ -38,7 +38,7 @@ use Rattle.krates_drawing.specs.Division.{IsAmong, IsDivision, outline_ids}
 use Rattle.krates_selection.specs.Explanation.{explained_steps}
 use Rattle.krates_selection.specs.declared.kept.Explanation.{Explanation}
 use Rattle.krates_queries.specs.Explained.{IsExplainedBy}
-use Rattle.krates_queries.specs.Drawn.{IsNumbered, IsOutlineFor, node_spot}
+use Rattle.krates_queries.specs.Drawn.{IsNumbered, IsOutlineFor, planned_node}
 use Rattle.krates.specs.Enabled.{AreEnabledSets, numbered}
 use Rattle.krates_queries.specs.Kept.{AreFeatures, AreNodes, IsEnabledIn, IsNameAt, names_in_each}
 use Rattle.krates.specs.KeptGraph.{IsGraphOf, named_fact}
@@ -140,15 +140,15 @@ enabled_by_id ids lists features same so i f = (
 -- ---- the graph of the outline
 
 pub graph_is : {N E : Type 0} (made : Package → N → Type 0) (made_edge : Edge → E → Type 0) (t : model.Outline) (krates : List Krate) (sets : List (BTreeSet (String Global))) (features : List EnabledFeature)
-    (nodes : List (Node Package)) (arrows : List Line) → AreDrawnNodes t krates sets nodes → length sets ≡ length krates → AreEnabledSets features sets
-    → map (feature_fact (krate_ids krates)) features ≡ map named_fact t.features → arrows ≡ lines t → (g : StoredGraph (Node N) E) → AllZip (IsMade made) nodes g.nodes → AllZip (IsStoredAs made_edge) arrows g.edges → IsGraphOf made made_edge t krates g
-graph_is made made_edge t krates sets features nodes arrows d matched so facts e g stored edges =
+    (nodes : List (Node Package)) (planned : List PlannedEdge) → AreDrawnNodes t krates sets nodes → length sets ≡ length krates → AreEnabledSets features sets
+    → map (feature_fact (krate_ids krates)) features ≡ map named_fact t.features → planned ≡ planned_edges t → (g : StoredGraph (Node N) E) → AllZip (IsMade made) nodes g.nodes → AllZip (IsStoredAs made_edge) planned g.edges → IsGraphOf made made_edge t krates g
+graph_is made made_edge t krates sets features nodes planned d matched so facts e g stored edges =
     let w = alike made nodes g.nodes stored in
     let ids : crate_ids g.nodes ≡ krate_ids krates = w.ids ∙ d.made.ids in
     let names : crate_features g.nodes ≡ names_in_each sets = w.features ∙ d.made.features in
     let as_many : length (names_in_each sets) ≡ length (krate_ids krates) = length-map sets names_in ∙ matched ∙ sym (mapped_length krates) in
     record {
-      drawing = record { nodes = w.spots_are ∙ d.spots_are; edges = subst (λ ls. AllZip (IsStoredAs made_edge) ls g.edges) e edges };
+      drawing = record { nodes = w.planned_are ∙ d.planned_are; edges = subst (λ ls. AllZip (IsStoredAs made_edge) ls g.edges) e edges };
       ids = ids;
       values = subst (λ ps. AllZip made ps (crate_values g.nodes)) d.made.values w.values;
       enabled = λ i f. rw (ids, names, ← facts) (enabled_by_id (krate_ids krates) (names_in_each sets) features as_many so i f);
@@ -156,11 +156,11 @@ graph_is made made_edge t krates sets features nodes arrows d matched so facts e
     }
 
 pub if_graph : {N E X : Type 0} (made : Package → N → Type 0) (made_edge : Edge → E → Type 0) (t : model.Outline) (krates : List Krate) (sets : List (BTreeSet (String Global))) (features : List EnabledFeature)
-    (nodes : List (Node Package)) (arrows : List Line) (result : Result (StoredGraph (Node N) E) X) → AreDrawnNodes t krates sets nodes → length sets ≡ length krates → AreEnabledSets features sets
-    → map (feature_fact (krate_ids krates)) features ≡ map named_fact t.features → arrows ≡ lines t → IfOk result (λ g. AllZip (IsMade made) nodes g.nodes) → IfOk result (λ g. AllZip (IsStoredAs made_edge) arrows g.edges)
+    (nodes : List (Node Package)) (planned : List PlannedEdge) (result : Result (StoredGraph (Node N) E) X) → AreDrawnNodes t krates sets nodes → length sets ≡ length krates → AreEnabledSets features sets
+    → map (feature_fact (krate_ids krates)) features ≡ map named_fact t.features → planned ≡ planned_edges t → IfOk result (λ g. AllZip (IsMade made) nodes g.nodes) → IfOk result (λ g. AllZip (IsStoredAs made_edge) planned g.edges)
     → IfOk result (IsGraphOf made made_edge t krates)
-if_graph made made_edge t krates sets features nodes arrows (Ok g) d matched so facts e stored edges = graph_is made made_edge t krates sets features nodes arrows d matched so facts e g stored edges
-if_graph made made_edge t krates sets features nodes arrows (Err x) d matched so facts e stored edges = tt
+if_graph made made_edge t krates sets features nodes planned (Ok g) d matched so facts e stored edges = graph_is made made_edge t krates sets features nodes planned d matched so facts e g stored edges
+if_graph made made_edge t krates sets features nodes planned (Err x) d matched so facts e stored edges = tt
 
 -- ---- the nodes of a graph
 
@@ -179,7 +179,7 @@ are_nodes krates nodes e first s few features numbered =
     }
 
 -- ends that stand, for other lists of the same lengths
-pub stand_there : (n m : ℕ) (ls ks : List Line) → All (HasEnds n) ls → n ≡ m → ls ≡ ks → All (HasEnds m) ks
+pub stand_there : (n m : ℕ) (ls ks : List PlannedEdge) → All (HasEnds n) ls → n ≡ m → ls ≡ ks → All (HasEnds m) ks
 stand_there n m ls ks h e f = subst (λ xs. All (HasEnds m) xs) f (subst (λ x. All (HasEnds x) ls) e h)
 
 -- ---- the parts of a build
@@ -224,7 +224,7 @@ graph_nodes o made made_edge m s t d g h ordered b w few numbered =
     are_nodes d.kept.items g.nodes w.ids w.first b.packages.ascending few (are_features o t g.nodes w.drawing.nodes ids ascending ordered enabled_by) numbered
 
 -- both ends of each edge of an outline are nodes
-pub outline_stands : EndsStand → (m : MetadataModel) (s : SettingModel) (t : model.Outline) → IsOutlineFor m s t → All (HasEnds (length (spots t))) (lines t)
+pub outline_stands : EndsStand → (m : MetadataModel) (s : SettingModel) (t : model.Outline) → IsOutlineFor m s t → All (HasEnds (length (planned_nodes t))) (planned_edges t)
 outline_stands stand m s t h = stand (resolved m h.graph) s h.holds.selection h.holds.selected t h.holds.is_outline
 
 -- all that a build says about what it keeps and reports
@@ -232,7 +232,7 @@ pub is_built : {F N E : Type 0} (filters : F → Package → F → Type 0) (made
     (g : StoredGraph (Node N) E) (members : List ℕ) (before after : F) (found : Selection) → IsOutlineFor (metadata_view m) s (outline_view t) → Builds m s d → IsGraphOf made made_edge (outline_view t) d.kept.items g
     → FoldsTo filters before (krate_packages d.others.items) after → Selects (metadata_view m) s found → IsResolvable (metadata_view m) → IsNumbered g
     → AreKeptMembers (metadata_view m) (crate_ids g.nodes) members
-    → ((i : Id) → HasOneEach (metadata_view m) s i → (p q : ℕ) → StandsAt (crate_ids g.nodes) i p → q < length (crate_ids g.nodes) → DependsOn (map node_spot g.nodes) p q ↔ IsDependent g.nodes g.edges q p)
+    → ((i : Id) → HasOneEach (metadata_view m) s i → (p q : ℕ) → StandsAt (crate_ids g.nodes) i p → q < length (crate_ids g.nodes) → DependsOn (map planned_node g.nodes) p q ↔ IsDependent g.nodes g.edges q p)
     → (e : Explanation) → IsExplainedBy (metadata_view m) s (explained_steps e)
     → IsBuilt filters made made_edge m s before after (record { graph = g; members = members; workspace_root = text_view m.workspace_root; work = found.work; explanation = e })
 is_built filters made made_edge m s t d g members before after found h b w run selected resolvable numbered listed agree e explained =

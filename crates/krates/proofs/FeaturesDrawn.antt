@@ -7,7 +7,7 @@ use Rattle.std.specs.List.{AllByRecursion}
 use Rattle.std.specs.List.Sorted.{IsStrictlySortedBy}
 use Rattle.krates_cm.specs.Document.{Text, text_view}
 use Rattle.krates_drawing.proofs.NodeNumbers.{id_is, id_same}
-use Rattle.krates_drawing.specs.Drawing.{Spot, CrateSpot, FeatureSpot, crate_number, crate_spot, feature_spot, id_eq, is_crate, place_of, spots}
+use Rattle.krates_drawing.specs.Drawing.{PlannedNode, PlannedCrate, PlannedFeature, crate_number, planned_crate, planned_feature, id_eq, is_crate, place_of, planned_nodes}
 use Rattle.krates_drawing.specs.Outline as outline
 use Rattle.krates_drawing.specs.OutlineOrder.{IsOrdered}
 use Rattle.krates_drawing.specs.Views.{kids_in, krate_view, named_view, outline_view}
@@ -24,7 +24,7 @@ use Rattle.krates_rules.specs.Facts as facts
 use Rattle.krates_rules.specs.Resolved.{id_of, StandsAt}
 use Rattle.krates_drawing.specs.Division.{IsAmong, outline_ids}
 use Rattle.krates.specs.Enabled.{numbered}
-use Rattle.krates_queries.specs.Drawn.{node_spot}
+use Rattle.krates_queries.specs.Drawn.{planned_node}
 use Rattle.krates_queries.specs.Kept.{AreFeatures, IsEnabledIn, feature_order}
 use Rattle.krates.specs.KeptGraph.{named_fact}
 use Rattle.krates_drawing.specs.Node.{crate_ids, crate_features, feature_names}
@@ -41,23 +41,23 @@ use Rattle.krates_rules.proofs.OrderedIds.{Compares, equal_of}
 abbrev pub named_key : outline.Outline → outline.Named → ℕ × Text
 named_key t n = (crate_number t n.krate, n.name)
 
-abbrev spot_names : List Spot → List (ℕ × Text)
-spot_names [] = []
-spot_names (CrateSpot id mapping ∷ ss) = spot_names ss
-spot_names (FeatureSpot krate name ∷ ss) = (krate, name) ∷ spot_names ss
+abbrev planned_names : List PlannedNode → List (ℕ × Text)
+planned_names [] = []
+planned_names (PlannedCrate id mapping ∷ ss) = planned_names ss
+planned_names (PlannedFeature krate name ∷ ss) = (krate, name) ∷ planned_names ss
 
-names_of_spots : {N : Type 0} (nodes : List (Node N)) → feature_names nodes ≡ spot_names (map node_spot nodes)
-names_of_spots [] = refl
-names_of_spots (Krate id krate features mapping ∷ nodes) = names_of_spots nodes
-names_of_spots (Feature krate name ∷ nodes) = ap (λ xs. (krate, text_view name) ∷ xs) (names_of_spots nodes)
+names_of_planned : {N : Type 0} (nodes : List (Node N)) → feature_names nodes ≡ planned_names (map planned_node nodes)
+names_of_planned [] = refl
+names_of_planned (Krate id krate features mapping ∷ nodes) = names_of_planned nodes
+names_of_planned (Feature krate name ∷ nodes) = ap (λ xs. (krate, text_view name) ∷ xs) (names_of_planned nodes)
 
-names_drawn : (t : outline.Outline) (ks : List outline.Krate) (fs : List outline.Named) → spot_names (map (crate_spot t) ks ++ map (feature_spot t) fs) ≡ map (named_key t) fs
+names_drawn : (t : outline.Outline) (ks : List outline.Krate) (fs : List outline.Named) → planned_names (map (planned_crate t) ks ++ map (planned_feature t) fs) ≡ map (named_key t) fs
 names_drawn t [] [] = refl
 names_drawn t [] (f ∷ fs) = ap (λ xs. named_key t f ∷ xs) (names_drawn t [] fs)
 names_drawn t (k ∷ ks) fs = names_drawn t ks fs
 
-pub names_are : {N : Type 0} (t : outline.Outline) (nodes : List (Node N)) → map node_spot nodes ≡ spots t → feature_names nodes ≡ map (named_key t) t.features
-names_are t nodes e = names_of_spots nodes ∙ ap spot_names e ∙ names_drawn t t.krates t.features
+pub names_are : {N : Type 0} (t : outline.Outline) (nodes : List (Node N)) → map planned_node nodes ≡ planned_nodes t → feature_names nodes ≡ map (named_key t) t.features
+names_are t nodes e = names_of_planned nodes ∙ ap planned_names e ∙ names_drawn t t.krates t.features
 
 -- ---- the number of a crate is its place
 
@@ -135,7 +135,7 @@ keys_are t (f ∷ fs) h = ap (λ (n : ℕ). (n, text_view f.feature.name) ∷ ma
 
 -- ---- the features are sorted, and are those enabled for the crates
 
-pub are_features : Compares → {N : Type 0} (t : Outline) (nodes : List (Node N)) → map node_spot nodes ≡ spots (outline_view t) → map id_of (crate_ids nodes) ≡ map (λ (k : outline.Krate). k.id) (outline_view t).krates
+pub are_features : Compares → {N : Type 0} (t : Outline) (nodes : List (Node N)) → map planned_node nodes ≡ planned_nodes (outline_view t) → map id_of (crate_ids nodes) ≡ map (λ (k : outline.Krate). k.id) (outline_view t).krates
     → IsStrictlySortedBy id_cmp (crate_ids nodes) → IsOrdered t
     → ((i : Id) (f : Text) → IsEnabledIn (crate_ids nodes) (crate_features nodes) i f ↔ (IsAmong (crate_ids nodes) i × Contains (map named_fact (outline_view t).features) (facts.Feature i f)))
     → AreFeatures nodes

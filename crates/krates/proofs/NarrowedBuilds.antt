@@ -5,7 +5,7 @@ use Rattle.krates_cm.specs.Document.{Text, NodeModel, ResolveModel, MetadataMode
 use Rattle.krates_cm.specs.Names.{version_named}
 use Rattle.krates_cm.specs.declared.metadata.Metadata.{Metadata}
 use Rattle.krates_cm.specs.declared.package.Package.{Package}
-use Rattle.krates_drawing.specs.Drawing.{lines, spots}
+use Rattle.krates_drawing.specs.Drawing.{planned_edges, planned_nodes}
 use Rattle.krates_drawing.specs.Narrower.{DrawsNoMore, NarrowerDrawsNoMore}
 use Rattle.krates_drawing.specs.Outline.{Outline}
 use Rattle.krates_ids.specs.Identity.{Identity, Reads}
@@ -90,9 +90,9 @@ outlines_part law p wide narrow step r t v a b =
 too_few : (n k : ℕ) → n ≤ k → k < 2 ^ 32 → 2 ^ 32 ≤ n → ⊥
 too_few n k le lt many = absurd (omega (arith, le, lt, many))
 
-beyond : (t v : Outline) → DrawsNoMore t v → CanBeNumbered v → (2 ^ 32 ≤ length (spots t)) ⊎ (2 ^ 32 ≤ length (lines t)) → ⊥
-beyond t v w n (inl nodes) = too_few (length (spots t)) (length (spots v)) w.nodes n.nodes nodes
-beyond t v w n (inr edges) = too_few (length (lines t)) (length (lines v)) w.edges n.edges edges
+beyond : (t v : Outline) → DrawsNoMore t v → CanBeNumbered v → (2 ^ 32 ≤ length (planned_nodes t)) ⊎ (2 ^ 32 ≤ length (planned_edges t)) → ⊥
+beyond t v w n (inl nodes) = too_few (length (planned_nodes t)) (length (planned_nodes v)) w.nodes n.nodes nodes
+beyond t v w n (inr edges) = too_few (length (planned_edges t)) (length (planned_edges v)) w.edges n.edges edges
 
 not_too_many : NarrowerDrawsNoMore → (m p : Metadata) (wide narrow : SettingModel) (ids : List Identity) → IsNarrower wide narrow → Succeeds m p wide ids → GraphRefusal (metadata_view p) narrow errors.TooMany → ⊥
 not_too_many law m p wide narrow ids step s h =

@@ -2,7 +2,7 @@
 use Rattle.std.proofs.Common.{◌≡◌, ℕ, suc, ◌-◌, ◌<◌, ◌≤◌, ◌^◌, List, [], ◌∷◌, Result, Ok, Err, IfOk, IfErr, length, refl, sym, ap, subst, inl, inr, arith}
 use Rattle.std.specs.List.{AllZip}
 use Rattle.krates_cm.specs.Document.{MetadataModel}
-use Rattle.krates_drawing.specs.Drawing.{lines, spots}
+use Rattle.krates_drawing.specs.Drawing.{planned_edges, planned_nodes}
 use Rattle.krates_drawing.specs.Limits.{DrawingRefusal, HasLimits, IsBeyond, IsWithin}
 use Rattle.krates_drawing.specs.Outline.{Outline}
 use Rattle.krates_drawing.specs.Stored.{IsStoredAs}
@@ -15,7 +15,7 @@ use Rattle.krates_rules.specs.Facts.{Lost}
 use Rattle.krates_rules.specs.NamedIds.{NamesReadIds}
 use Rattle.krates_rules.specs.Setting.{SettingModel}
 use Rattle.krates.specs.Build.{GraphRefusal}
-use Rattle.krates_queries.specs.Drawn.{IsDrawing, IsNumbered, IsOutlineFor, node_spot}
+use Rattle.krates_queries.specs.Drawn.{IsDrawing, IsNumbered, IsOutlineFor, planned_node}
 use Rattle.krates_queries.specs.Kept.{AreNodes}
 use Rattle.krates_drawing.specs.Node.{crate_ids}
 use Rattle.krates.specs.KeptGraph.{IsGraphOf}
@@ -100,8 +100,8 @@ below n m e le = omega (arith, e, le)
 
 pub numbered : {N E : Type 0} (made : Edge → E → Type 0) (t : Outline) (g : StoredGraph (Node N) E) → IsDrawing made t g → IsWithin numbers t → HasLimits numbers g → IsNumbered g
 numbered made t g d w limits = record {
-  nodes = below (length g.nodes) (length (spots t)) (count_of node_spot g.nodes (spots t) d.nodes) w.nodes;
-  edges = below (length g.edges) (length (lines t)) (zipped (IsStoredAs made) (lines t) g.edges d.edges) w.edges;
+  nodes = below (length g.nodes) (length (planned_nodes t)) (count_of planned_node g.nodes (planned_nodes t) d.nodes) w.nodes;
+  edges = below (length g.edges) (length (planned_edges t)) (zipped (IsStoredAs made) (planned_edges t) g.edges d.edges) w.edges;
   node_limit = limits.nodes;
   edge_limit = limits.edges;
 }

@@ -4,12 +4,12 @@ ghost use Rattle.std.specs.Prelude.{◌≡◌, ◌≤◌, All, IfErr, IfOk, leng
 ghost use Rattle.std.specs.List.{AllZip};
 ghost use Rattle.krates_cm.specs.Document.{metadata_view};
 ghost use Rattle.krates_document.specs.Ids.{ids_view};
-ghost use Rattle.krates_drawing.specs.Drawing.{lines, spots};
+ghost use Rattle.krates_drawing.specs.Drawing.{planned_edges, planned_nodes};
 ghost use Rattle.krates_drawing.specs.Ends.{HasEnds};
 ghost use Rattle.krates_drawing.specs.Limits.{DrawingRefusal, HasLimits, IsWithin};
 ghost use Rattle.krates_drawing.specs.OutlineOrder.{IsOrdered};
 ghost use Rattle.krates_drawing.specs.Stored.{IsStoredAs};
-ghost use Rattle.krates_drawing.specs.Views.{arrow_view, outline_view};
+ghost use Rattle.krates_drawing.specs.Views.{planned_edge_view, outline_view};
 ghost use Rattle.krates_ids.specs.declared.error.Error.TheVariants.{Memory};
 ghost use Rattle.krates_rules.specs.Admission.{IsAdmitted};
 ghost use Rattle.krates_rules.specs.NamedIds.{NamesReadIds};
@@ -26,12 +26,12 @@ ghost use Rattle.krates.specs.Sketch.{IsSketchOf};
 use crate::enabled::enabled_of;
 use crate::nodes::{Nodes, nodes_of, parts_of, store_nodes};
 use krates_cm::Metadata;
-use krates_drawing::edge::Arrow;
+use krates_drawing::edge::PlannedEdge;
 use krates_drawing::krate::Krate;
 use krates_drawing::limits::{Limits, Plan, plan_within};
 use krates_drawing::node::Node;
 use krates_drawing::outline::{Outline, outline_of};
-use krates_drawing::store::{FromEdge, StoreError, store_arrows};
+use krates_drawing::store::{FromEdge, StoreError, store_edges};
 use krates_graph::graph::Graph;
 use krates_ids::Error;
 use krates_queries::from_package::FromPackage;
@@ -110,21 +110,24 @@ fn stored<N: FromPackage + Drop, E: FromEdge + Drop>(
     alloc: Global,
     limits: Limits,
     nodes: Nodes,
-    arrows: &[Arrow],
+    planned_edges: &[PlannedEdge],
 ) -> Result<Graph<Node<N>, E>, Error>
     requires nodes { length (nodes_in nodes) ≤ limits.nodes }
-    requires edges { length arrows.now ≤ limits.edges }
-    requires stand { All (HasEnds (length (nodes_in nodes))) (map arrow_view arrows.now) }
+    requires edges { length planned_edges.now ≤ limits.edges }
+    requires stand { All (HasEnds (length (nodes_in nodes))) (map planned_edge_view planned_edges.now) }
     ensures nodes { IfOk result (λ graph. AllZip (IsMade N.made_from) (nodes_in nodes) graph.nodes) }
-    ensures edges { IfOk result
-        (λ graph. AllZip (IsStoredAs E.made_from_edge) (map arrow_view arrows.now) graph.edges) }
+    ensures edges { IfOk result (λ graph. AllZip (IsStoredAs E.made_from_edge)
+        (map planned_edge_view planned_edges.now) graph.edges) }
     ensures limits { IfOk result (HasLimits limits) }
     ensures refused { IfErr result (λ e. e ≡ Memory) }
 {
     let mut graph = Graph::with_limits(alloc, limits.nodes, limits.edges);
-    graph.reserve(nodes.crates.len() + nodes.features.len(), arrows.len())?;
+    graph.reserve(
+        nodes.crates.len() + nodes.features.len(),
+        planned_edges.len(),
+    )?;
     store_nodes(alloc, nodes, &mut graph)?;
-    match store_arrows(alloc, arrows, &mut graph) {
+    match store_edges(alloc, planned_edges, &mut graph) {
         Ok(()) => Ok(graph),
         Err(StoreError::TooMany) => Err(Error::TooMany),
         Err(StoreError::Memory) => Err(Error::Memory),
@@ -141,17 +144,21 @@ pub(crate) fn graph_of<N: FromPackage + Drop, E: FromEdge + Drop>(
 ) -> Result<Graph<Node<N>, E>, Error>
     requires ordered { IsOrdered outline }
     requires ids { map id_of (krate_ids krates.items) ≡ map (λ k. k.id) (outline_view outline).krates }
-    requires stand { All (HasEnds (length (spots (outline_view outline)))) (lines (outline_view outline)) }
+    requires stand { All (HasEnds (length (planned_nodes (outline_view outline))))
+        (planned_edges (outline_view outline)) }
     ensures graph { IfOk result (IsGraphOf N.made_from E.made_from_edge (outline_view outline) krates.items) }
     ensures within { IfOk result (λ _. IsWithin limits (outline_view outline)) }
     ensures limits { IfOk result (HasLimits limits) }
     ensures refused { IfErr result (DrawingRefusal limits (outline_view outline)) }
 {
     let plan = plan_within(alloc, &outline, limits)?;
-    let Plan { spots, arrows } = plan;
+    let Plan {
+        planned_nodes,
+        planned_edges,
+    } = plan;
     let features = features_in(alloc, outline)?;
     let sets = enabled_of(alloc, krates.len(), features)?;
-    let parts = parts_of(alloc, spots)?;
+    let parts = parts_of(alloc, planned_nodes)?;
     let nodes = nodes_of(alloc, krates, sets, parts)?;
-    stored(alloc, limits, nodes, &arrows)
+    stored(alloc, limits, nodes, &planned_edges)
 }

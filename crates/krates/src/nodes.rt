@@ -10,7 +10,7 @@ ghost use Rattle.krates.specs.MadeNodes.{CountRefusal, IsMade, crate_node, featu
 use krates_cm::Package;
 use krates_drawing::krate::Krate;
 use krates_drawing::node::{EnabledFeatures, Node};
-use krates_drawing::nodes::Spot;
+use krates_drawing::nodes::PlannedNode;
 use krates_graph::graph::{Graph, GraphError, NodeId};
 use krates_ids::Error;
 use krates_queries::from_package::FromPackage;
@@ -44,35 +44,35 @@ pub(crate) struct Nodes {
 }
 
 /// The mappings of the crates and the features, each in the order in which they were drawn.
-pub(crate) fn parts_of(alloc: Global, spots: Vec<Spot>) -> Result<Parts, AllocError>
+pub(crate) fn parts_of(alloc: Global, planned_nodes: Vec<PlannedNode>) -> Result<Parts, AllocError>
     ensures mappings { IfOk result
-        (λ parts. map (λ m. m.items) parts.mappings.items ≡ flat_map mapping_in spots.items) }
-    ensures features { IfOk result (λ parts. parts.features.items ≡ flat_map feature_in spots.items) }
+        (λ parts. map (λ m. m.items) parts.mappings.items ≡ flat_map mapping_in planned_nodes.items) }
+    ensures features { IfOk result (λ parts. parts.features.items ≡ flat_map feature_in planned_nodes.items) }
 {
     let mut mappings = Vec::new(alloc);
-    let mut features = Vec::with_capacity(alloc, spots.len())?;
-    for spot in spots {
-        push_part(spot, &mut mappings, &mut features)?;
+    let mut features = Vec::with_capacity(alloc, planned_nodes.len())?;
+    for planned in planned_nodes {
+        push_part(planned, &mut mappings, &mut features)?;
     }
     Ok(Parts { mappings, features })
 }
 
 /// Puts a mapping to the mappings, or a feature to the features.
 fn push_part(
-    spot: Spot,
+    planned: PlannedNode,
     mappings: &mut Vec<Vec<Option<NodeId>>>,
     features: &mut Vec<DrawnFeature>,
 ) -> Result<(), AllocError>
     ensures mappings { OnOk result (map (λ m. m.items) mappings.new.items
-        ≡ map (λ m. m.items) mappings.old.items ++ mapping_in spot) }
-    ensures features { OnOk result (features.new.items ≡ features.old.items ++ feature_in spot) }
+        ≡ map (λ m. m.items) mappings.old.items ++ mapping_in planned) }
+    ensures features { OnOk result (features.new.items ≡ features.old.items ++ feature_in planned) }
 {
-    match spot {
-        Spot::Krate { id, mapping } => {
+    match planned {
+        PlannedNode::Krate { id, mapping } => {
             drop(id);
             mappings.push(mapping)?;
         }
-        Spot::Feature { krate_index, name } => {
+        PlannedNode::Feature { krate_index, name } => {
             features.push(DrawnFeature { krate_index, name })?;
         }
     }

@@ -13,9 +13,9 @@ use Rattle.krates_rules.specs.Questions.{IsDeclaredAt, questions}
 use Rattle.krates_rules.specs.Resolved.{Resolved, HasPackage}
 use Rattle.krates_rules.specs.Setting.{SettingModel}
 use Rattle.krates_drawing.specs.Agreement.{KeptAt, OneEach, DependsOn, LeadsTo, DependenciesAgree}
-use Rattle.krates_drawing.specs.Drawing.{id_eq, End, AtCrate, AtFeature, Tie, Dep, DepFeature, Line, line, number, crate_number, from_crate, lines, last_from, claims_at, claims, claimant, mapped, mapping, Spot, CrateSpot, FeatureSpot, spots}
+use Rattle.krates_drawing.specs.Drawing.{id_eq, Endpoint, AtCrate, AtFeature, EdgeModel, Dep, DepFeature, PlannedEdge, line, number, crate_number, from_crate, planned_edges, last_from, claims_at, claims, claimant, mapped, mapping, PlannedNode, PlannedCrate, PlannedFeature, planned_nodes}
 use Rattle.krates_drawing.specs.Outline.{Krate, Link, Outline}
-use Rattle.krates_drawing.proofs.Arrows.{IsArrow, dep, dep_feature, toggles, own, names, names_crate, names_feature, Between, from_of, in_from, arrow_in, drawn_of}
+use Rattle.krates_drawing.proofs.DrawnEdges.{IsDrawnEdge, dep, dep_feature, toggles, own, names, names_crate, names_feature, Between, from_of, in_from, edge_in, drawn_of}
 use Rattle.krates_drawing.proofs.Closed.{keeps_ends, given_enabled, ends_stand}
 use Rattle.krates_drawing.proofs.Derivations.{crate_of_feature}
 use Rattle.krates_drawing.proofs.Holding.{Holds, holds}
@@ -28,29 +28,29 @@ use Rattle.krates_rules.proofs.OnlyOne.{one_package}
 -- ---- ends that belong to one crate
 
 -- the crate that an end belongs to
-abbrev owner : End → Id
+abbrev owner : Endpoint → Id
 owner (AtCrate q) = q
 owner (AtFeature q f) = q
 
 one_crate : (t : Outline) (p q : Id) → HasCrate t p → HasCrate t q → crate_number t p ≡ crate_number t q → p ≡ q
 one_crate t p q a b e = ap owner (one_number t (AtCrate p) (AtCrate q) (crate_stands {p = p} a) (crate_stands {p = q} b) e)
 
-owner_kept : (r : Resolved) (s : SettingModel) (t : Outline) (e : End) → Holds r s t → Stands t e → HasCrate t (owner e)
+owner_kept : (r : Resolved) (s : SettingModel) (t : Outline) (e : Endpoint) → Holds r s t → Stands t e → HasCrate t (owner e)
 owner_kept r s t _ h (crate_stands {p} m) = m
 owner_kept r s t _ h (feature_stands {p} {f} m) =
     let d = crate_of_feature (questions r s) m.named.krate m.named.name (h.feature_of m.named m.member) in
     subst (HasCrate t) m.krate (h.crate_in m.named.krate d)
 
 -- the mapping that a node holds
-abbrev mapping_at : Spot → List (Option ℕ)
-mapping_at (CrateSpot id m) = m
-mapping_at (FeatureSpot q f) = []
+abbrev mapping_at : PlannedNode → List (Option ℕ)
+mapping_at (PlannedCrate id m) = m
+mapping_at (PlannedFeature q f) = []
 
-mapping_of : (a : Id) (m : List (Option ℕ)) (s : Spot) → s ≡ CrateSpot a m → m ≡ mapping_at s
+mapping_of : (a : Id) (m : List (Option ℕ)) (s : PlannedNode) → s ≡ PlannedCrate a m → m ≡ mapping_at s
 mapping_of a m s e = ap mapping_at (sym e)
 
 -- a node that is a feature of the crate of this number
-feature_owner : (t : Outline) (e : End) (d : ℕ) (f : Text) → Stands t e → slice_get (spots t) (number t e) ≡ Some (FeatureSpot d f) → crate_number t (owner e) ≡ d
+feature_owner : (t : Outline) (e : Endpoint) (d : ℕ) (f : Text) → Stands t e → slice_get (planned_nodes t) (number t e) ≡ Some (PlannedFeature d f) → crate_number t (owner e) ≡ d
 feature_owner t _ d f (crate_stands {p} m) e = let w = crate_node t p m in absurd (cc (w.at, e))
 feature_owner t _ d f (feature_stands {p} {f = g} m) e = let w = feature_node t p g m in cc (w, e)
 
@@ -110,7 +110,7 @@ in_range a (suc n) k le lt = elim (cases_lt a k) [
 -- ---- an edge leads where a mapping names
 
 abbrev LeadsBetween : Outline → Id → Id → Type 0
-LeadsBetween t p d = LeadsTo (spots t) (lines t) (crate_number t p) (crate_number t d)
+LeadsBetween t p d = LeadsTo (planned_nodes t) (planned_edges t) (crate_number t p) (crate_number t d)
 
 link_leads : (r : Resolved) (s : SettingModel) (t : Outline) → Holds r s t → (l : Link) → Member t.links l → LeadsBetween t l.edge.parent l.edge.child
 link_leads r s t h l at = by (front_of l.given)
@@ -118,23 +118,23 @@ link_leads r s t h l at = by (front_of l.given)
     by : Front l.given → LeadsBetween t l.edge.parent l.edge.child
     by (members.empty none) =
         let x = line t (AtCrate l.edge.parent) (AtCrate l.edge.child) (Dep (kind_of l.edge.kind) l.edge.cfg) in
-        record { line = x; among = contains_of (lines t) x (arrow_in t _ _ _ (keeps_ends r s t h) (dep l at none)); from = refl; to = inl refl }
+        record { line = x; among = contains_of (planned_edges t) x (edge_in t _ _ _ (keeps_ends r s t h) (dep l at none)); from = refl; to = inl refl }
     by (members.begins f fs is) =
         let gives : Member l.given f = subst (λ z. Member z f) (sym is) (inl refl) in
         let x = line t (AtCrate l.edge.parent) (AtFeature l.edge.child f) (DepFeature (kind_of l.edge.kind) l.edge.cfg) in
         let there = h.feature_in l.edge.child f (given_enabled r s t l f h at gives) in
-        record { line = x; among = contains_of (lines t) x (arrow_in t _ _ _ (keeps_ends r s t h) (dep_feature l f at gives)); from = refl; to = inr (f, feature_node t l.edge.child f there) }
+        record { line = x; among = contains_of (planned_edges t) x (edge_in t _ _ _ (keeps_ends r s t h) (dep_feature l f at gives)); from = refl; to = inr (f, feature_node t l.edge.child f there) }
 
 pub between_leads : (r : Resolved) (s : SettingModel) (t : Outline) (p d : Id) → Holds r s t → Between t p d → LeadsBetween t p d
 between_leads r s t p d h b =
     subst (λ i. LeadsBetween t p i) b.child (subst (λ i. LeadsBetween t i b.link.edge.child) b.parent (link_leads r s t h b.link b.member))
 
-leads : (r : Resolved) (s : SettingModel) (t : Outline) (p d : Id) → Holds r s t → HasCrate t p → HasCrate t d → DependsOn (spots t) (crate_number t p) (crate_number t d) → LeadsBetween t p d
+leads : (r : Resolved) (s : SettingModel) (t : Outline) (p d : Id) → Holds r s t → HasCrate t p → HasCrate t d → DependsOn (planned_nodes t) (crate_number t p) (crate_number t d) → LeadsBetween t p d
 unfolding mapping
 leads r s t p d h at_p at_d w =
     let node = crate_node t p at_p in
     let here = same_Some _ _ (sym w.at ∙ node.at) in
-    let same : w.mapping ≡ mapping t node.krate = mapping_of w.id w.mapping (CrateSpot node.krate.id (mapping t node.krate)) (sym here) in
+    let same : w.mapping ≡ mapping t node.krate = mapping_of w.id w.mapping (PlannedCrate node.krate.id (mapping t node.krate)) (sym here) in
     let mine = from_crate t node.krate.id in
     let entry = mapped_of (mapped t mine) (range_with_len 0 node.krate.declared) (Some (crate_number t d)) (member_of (mapping t node.krate) (Some (crate_number t d)) (subst (λ m. Contains m (Some (crate_number t d))) same w.among)) in
     let q = image_of (λ z. crate_number t z.id) (claimant t mine entry.from) (crate_number t d) entry.is in
@@ -145,27 +145,27 @@ leads r s t p d h at_p at_d w =
 
 -- ---- a mapping names where an edge leads
 
-arrow_between : (t : Outline) (from to : End) (tie : Tie) (p : Id) → IsArrow t from to tie → from ≡ AtCrate p → Between t p (owner to)
-arrow_between t _ _ _ p (dep l at none) e = record { link = l; member = at; parent = ap owner e; child = refl }
-arrow_between t _ _ _ p (dep_feature l g at gives) e = record { link = l; member = at; parent = ap owner e; child = refl }
-arrow_between t _ _ _ p (toggles g l at kept by theirs) e = record { link = l; member = kept; parent = by ∙ ap owner e; child = theirs }
-arrow_between t _ _ _ p (own n at) e = absurd (cc e)
-arrow_between t _ _ _ p (names n g at among) e = absurd (cc e)
-arrow_between t _ _ _ p (names_crate n ids l at among means kept same) e = absurd (cc e)
-arrow_between t _ _ _ p (names_feature n ids g l at among means kept same) e = absurd (cc e)
+edge_between : (t : Outline) (from to : Endpoint) (tie : EdgeModel) (p : Id) → IsDrawnEdge t from to tie → from ≡ AtCrate p → Between t p (owner to)
+edge_between t _ _ _ p (dep l at none) e = record { link = l; member = at; parent = ap owner e; child = refl }
+edge_between t _ _ _ p (dep_feature l g at gives) e = record { link = l; member = at; parent = ap owner e; child = refl }
+edge_between t _ _ _ p (toggles g l at kept by theirs) e = record { link = l; member = kept; parent = by ∙ ap owner e; child = theirs }
+edge_between t _ _ _ p (own n at) e = absurd (cc e)
+edge_between t _ _ _ p (names n g at among) e = absurd (cc e)
+edge_between t _ _ _ p (names_crate n ids l at among means kept same) e = absurd (cc e)
+edge_between t _ _ _ p (names_feature n ids g l at among means kept same) e = absurd (cc e)
 
 line_between : (r : Resolved) (s : SettingModel) (t : Outline) (p d : Id) → Holds r s t → HasCrate t p → HasCrate t d → LeadsBetween t p d → Between t p d
 line_between r s t p d h at_p at_d w =
-    let x = drawn_of t w.line (member_of (lines t) w.line w.among) in
-    let stand = ends_stand r s t x.from x.to x.tie h x.arrow in
-    let source : number t x.from ≡ crate_number t p = ap (λ (l : Line). l.source) x.is ∙ w.from in
+    let x = drawn_of t w.line (member_of (planned_edges t) w.line w.among) in
+    let stand = ends_stand r s t x.from x.to x.tie h x.planned in
+    let source : number t x.from ≡ crate_number t p = ap (λ (l : PlannedEdge). l.source) x.is ∙ w.from in
     let from : x.from ≡ AtCrate p = one_number t x.from (AtCrate p) stand.0 (crate_stands {p = p} at_p) source in
-    let target : number t x.to ≡ w.line.target = ap (λ (l : Line). l.target) x.is in
+    let target : number t x.to ≡ w.line.target = ap (λ (l : PlannedEdge). l.target) x.is in
     let of_d : owner x.to ≡ d = elim w.to [
       | inl is ↦ ap owner (one_number t x.to (AtCrate d) stand.1 (crate_stands {p = d} at_d) (target ∙ is))
-      | inr f ↦ one_crate t (owner x.to) d (owner_kept r s t x.to h stand.1) at_d (feature_owner t x.to (crate_number t d) f.0 stand.1 (ap (slice_get (spots t)) target ∙ f.1))
+      | inr f ↦ one_crate t (owner x.to) d (owner_kept r s t x.to h stand.1) at_d (feature_owner t x.to (crate_number t d) f.0 stand.1 (ap (slice_get (planned_nodes t)) target ∙ f.1))
     ] in
-    subst (λ i. Between t p i) of_d (arrow_between t x.from x.to x.tie p x.arrow from)
+    subst (λ i. Between t p i) of_d (edge_between t x.from x.to x.tie p x.planned from)
 
 kept_at : (r : Resolved) (s : SettingModel) (t : Outline) (p q : Id) (k : ℕ) → Holds r s t → (w : Claim t p q k) → KeptAt r s p k w.between.link.edge
 kept_at r s t p q k h w =
@@ -196,7 +196,7 @@ mapped_is : (t : Outline) (mine : List Link) (k : ℕ) (q : Krate) (d : Id) → 
 mapped_is t mine k q d e is = ap (option_map (λ (z : Krate). crate_number t z.id)) e ∙ ap (λ i. Some (crate_number t i)) is
 
 depends : (r : Resolved) (s : SettingModel) (t : Outline) (p d : Id) → NoneDoubled r.metadata r.graph → Holds r s t → HasCrate t p → HasCrate t d → OneEach r s p → LeadsBetween t p d
-    → DependsOn (spots t) (crate_number t p) (crate_number t d)
+    → DependsOn (planned_nodes t) (crate_number t p) (crate_number t d)
 unfolding mapping
 depends r s t p d none h at_p at_d one w =
     let node = crate_node t p at_p in

@@ -14,9 +14,9 @@ use Rattle.krates_rules.specs.Resolved.{Resolved, HasPackage}
 use Rattle.krates_rules.specs.Rules as rules
 use Rattle.krates_rules.specs.Rules.{Questions, default_name}
 use Rattle.krates_rules.specs.Setting.{SettingModel}
-use Rattle.krates_drawing.specs.Drawing.{End, AtFeature, Tie, is_feature}
+use Rattle.krates_drawing.specs.Drawing.{Endpoint, AtFeature, EdgeModel, is_feature}
 use Rattle.krates_drawing.specs.Outline.{Link, asked_by, has_text, Meaning, OwnFeature, FeatureOf, Named, IsMeaning, Names, Outline}
-use Rattle.krates_drawing.proofs.Arrows.{IsArrow, dep, dep_feature, toggles, own, names, names_crate, names_feature, KeepsEnds}
+use Rattle.krates_drawing.proofs.DrawnEdges.{IsDrawnEdge, dep, dep_feature, toggles, own, names, names_crate, names_feature, KeepsEnds}
 use Rattle.krates_drawing.proofs.Derivations.{one, two, crate_of_feature, child_kept, kept_by}
 use Rattle.krates_drawing.proofs.Holding.{Holds}
 use Rattle.krates_rules.proofs.Members.{Member, contains_of, member_append, kept_of, passing_of, member_any, partner_of, swapped}
@@ -158,12 +158,12 @@ named_enabled r s t n ids g l h at among means kept e =
     let is = subst (λ i. Names r s.all_named i w.reference (FeatureOf ids g)) (sym e) w.names_it in
     other_enabled r s t l.edge n.name g ids w.reference h (h.link_of l kept) d has is means
 
--- ---- both ends of each arrow
+-- ---- both ends of each planned
 
 feature_there : (t : Outline) (n : Named) → Member t.features n → Stands t (AtFeature n.krate n.name)
 feature_there t n at = feature_stands {p = n.krate} {f = n.name} (record { named = n; member = at; krate = refl; name = refl })
 
-pub ends_stand : (r : Resolved) (s : SettingModel) (t : Outline) (from to : End) (tie : Tie) → Holds r s t → IsArrow t from to tie → Stands t from × Stands t to
+pub ends_stand : (r : Resolved) (s : SettingModel) (t : Outline) (from to : Endpoint) (tie : EdgeModel) → Holds r s t → IsDrawnEdge t from to tie → Stands t from × Stands t to
 ends_stand r s t _ _ _ h (dep l at none) =
     let k = keeps_ends r s t h l at in (crate_stands {p = l.edge.parent} k.0, crate_stands {p = l.edge.child} k.1)
 ends_stand r s t _ _ _ h (dep_feature l g at gives) =

@@ -6,7 +6,7 @@ use Rattle.std.specs.List.{flat_map, list_any}
 use Rattle.krates_cm.specs.Document.{text_view}
 use Rattle.krates_selection.specs.CrateNumbers.{id_at}
 use Rattle.krates_rules.specs.Facts.{Id}
-use Rattle.krates_drawing.specs.Drawing.{Feature, Line, crate_number, feature_lines, feature_number, from_crate, id_eq, is_crate, is_to, leads_to, meaning_lines, place_of}
+use Rattle.krates_drawing.specs.Drawing.{Feature, PlannedEdge, crate_number, feature_lines, feature_number, from_crate, id_eq, is_crate, is_to, leads_to, meaning_lines, place_of}
 use Rattle.krates_drawing.specs.EdgeSource.{IsNumberOfChild}
 use Rattle.krates_drawing.specs.LinesFrom.{meant_from}
 use Rattle.krates_drawing.specs.OutlineOrder.{has_child}
@@ -63,7 +63,7 @@ not_kept t mine q n sorted within is past =
 
 -- ---- the edges of one feature
 
-abbrev led : ℕ → ℕ → Line
+abbrev led : ℕ → ℕ → PlannedEdge
 led source target = record { source = source; target = target; tie = Feature }
 
 pub feature_drawn : (t : Outline) (h : CrateSource) (n : Named) (source target : ℕ) (meanings : List Meaning) → h.krate ≡ n.feature.krate → map (link_view (kids_in t)) h.mine.now ≡ from_crate (outline_view t) (id_at (kids_in t) h.krate)

@@ -3,7 +3,7 @@ use Rattle.std.proofs.Common.{◌≤◌, List, [], ◌∷◌, length, map, filte
 use Rattle.std.proofs.lemmas.List.{length-map}
 use Rattle.krates_cm.specs.Document.{Text}
 use Rattle.krates_rules.specs.Facts.{Id}
-use Rattle.krates_drawing.specs.Drawing.{AtFeature, Feature, line, uses, is_from, is_to, is_between, from_crate, pair_lines, leads_to, children_lines, crate_lines, targets, meaning_lines, feature_lines, lines, crate_spot, feature_spot, spots}
+use Rattle.krates_drawing.specs.Drawing.{AtFeature, Feature, line, uses, is_from, is_to, is_between, from_crate, pair_lines, leads_to, children_lines, crate_lines, targets, meaning_lines, feature_lines, planned_edges, planned_crate, planned_feature, planned_nodes}
 use Rattle.krates_drawing.specs.Narrower.{IsPart, DrawsNoMore}
 use Rattle.krates_drawing.specs.Outline.{Krate, Link, Meaning, OwnFeature, Crates, FeatureOf, Named, Outline}
 use Rattle.krates_drawing.proofs.Parts.{whole, part_filter, part_any, spread_length, mapped_length, joined_length}
@@ -66,17 +66,17 @@ fewer_of_feature t v n w =
 
 -- ---- all
 
-fewer_lines : (t v : Outline) → IsPartOutline t v → length (lines t) ≤ length (lines v)
-unfolding lines
+fewer_lines : (t v : Outline) → IsPartOutline t v → length (planned_edges t) ≤ length (planned_edges v)
+unfolding planned_edges
 fewer_lines t v w =
     joined_length _ _ _ _
     (spread_length (crate_lines t) (crate_lines v) t.krates v.krates (λ k. fewer_of_crate t v k w) w.krates)
     (spread_length (feature_lines t) (feature_lines v) t.features v.features (λ n. fewer_of_feature t v n w) w.features)
 
-fewer_spots : (t v : Outline) → IsPartOutline t v → length (spots t) ≤ length (spots v)
-fewer_spots t v w =
-    joined_length (map (crate_spot t) t.krates) (map (feature_spot t) t.features) (map (crate_spot v) v.krates) (map (feature_spot v) v.features)
-    (mapped_length (crate_spot t) (crate_spot v) t.krates v.krates w.krates) (mapped_length (feature_spot t) (feature_spot v) t.features v.features w.features)
+fewer_planned_nodes : (t v : Outline) → IsPartOutline t v → length (planned_nodes t) ≤ length (planned_nodes v)
+fewer_planned_nodes t v w =
+    joined_length (map (planned_crate t) t.krates) (map (planned_feature t) t.features) (map (planned_crate v) v.krates) (map (planned_feature v) v.features)
+    (mapped_length (planned_crate t) (planned_crate v) t.krates v.krates w.krates) (mapped_length (planned_feature t) (planned_feature v) t.features v.features w.features)
 
 pub draws_no_more : (t v : Outline) → IsPartOutline t v → DrawsNoMore t v
 draws_no_more t v w = record {
@@ -84,6 +84,6 @@ draws_no_more t v w = record {
   links = w.links;
   features = w.features;
   toggled = w.toggled;
-  nodes = fewer_spots t v w;
+  nodes = fewer_planned_nodes t v w;
   edges = fewer_lines t v w;
 }

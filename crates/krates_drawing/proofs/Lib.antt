@@ -1,6 +1,5 @@
 pub mod Agreed
 pub mod Answered
-pub mod Arrows
 pub mod ById
 pub mod Children
 pub mod Closed
@@ -9,6 +8,7 @@ pub mod Derivations
 pub mod DivisionLemmas
 pub mod DocumentOutlines
 pub mod Drawn
+pub mod DrawnEdges
 pub mod Entries
 pub mod EqualRanges
 pub mod FeatureLines

@@ -5,7 +5,7 @@ use Rattle.std.specs.Cmp.Lexicographic.{bytes_decides}
 use Rattle.std.specs.Str.{bytes_eq}
 use Rattle.krates_cm.specs.Document.{Text}
 use Rattle.krates_rules.specs.Facts.{Id}
-use Rattle.krates_drawing.specs.Drawing.{id_eq, place_of, End, AtCrate, AtFeature, is_crate, is_feature, crate_number, feature_number, number, mapping, CrateSpot, FeatureSpot, crate_spot, feature_spot, spots}
+use Rattle.krates_drawing.specs.Drawing.{id_eq, place_of, Endpoint, AtCrate, AtFeature, is_crate, is_feature, crate_number, feature_number, number, mapping, PlannedCrate, PlannedFeature, planned_crate, planned_feature, planned_nodes}
 use Rattle.krates_drawing.specs.Outline.{Krate, Named, Outline}
 use Rattle.krates_rules.proofs.Members.{Member}
 
@@ -97,14 +97,14 @@ get_right v (x ∷ xs) ys k = let e : suc (length xs) + k ≡ suc (length xs + k
 -- ---- ends
 
 -- the end is a node
-pub data Stands (t : Outline) : End → Type 0 where
+pub data Stands (t : Outline) : Endpoint → Type 0 where
   crate_stands : {p : Id} → HasCrate t p → Stands t (AtCrate p)
   feature_stands : {p : Id} {f : Text} → HasFeature t p f → Stands t (AtFeature p f)
 
-abbrev pub crate_end : Krate → End
+abbrev pub crate_end : Krate → Endpoint
 crate_end k = AtCrate k.id
 
-abbrev pub feature_end : Named → End
+abbrev pub feature_end : Named → Endpoint
 feature_end n = AtFeature n.krate n.name
 
 -- what is drawn for each crate and for each feature stands under its number
@@ -125,33 +125,33 @@ pub record CrateNode (t : Outline) (p : Id) : Type 0 where
   pub krate : Krate
   pub member : Member t.krates krate
   pub id : krate.id ≡ p
-  pub at : slice_get (spots t) (crate_number t p) ≡ Some (CrateSpot krate.id (mapping t krate))
+  pub at : slice_get (planned_nodes t) (crate_number t p) ≡ Some (PlannedCrate krate.id (mapping t krate))
 
 pub crate_node : (t : Outline) (p : Id) → HasCrate t p → CrateNode t p
-crate_node t p h = let w = crate_at t (crate_spot t) (feature_spot t) p h in record { krate = w.0; member = w.2; id = w.1; at = w.3 }
+crate_node t p h = let w = crate_at t (planned_crate t) (planned_feature t) p h in record { krate = w.0; member = w.2; id = w.1; at = w.3 }
 
 -- the node of an enabled feature
-pub feature_node : (t : Outline) (p : Id) (f : Text) → HasFeature t p f → slice_get (spots t) (feature_number t p f) ≡ Some (FeatureSpot (crate_number t p) f)
+pub feature_node : (t : Outline) (p : Id) (f : Text) → HasFeature t p f → slice_get (planned_nodes t) (feature_number t p f) ≡ Some (PlannedFeature (crate_number t p) f)
 feature_node t p f h =
-    let w = feature_at t (crate_spot t) (feature_spot t) p f h in
-    w.3 ∙ ap (λ i. Some (FeatureSpot (crate_number t i) w.0.name)) w.1 ∙ ap (λ x. Some (FeatureSpot (crate_number t p) x)) w.2
+    let w = feature_at t (planned_crate t) (planned_feature t) p f h in
+    w.3 ∙ ap (λ i. Some (PlannedFeature (crate_number t i) w.0.name)) w.1 ∙ ap (λ x. Some (PlannedFeature (crate_number t p) x)) w.2
 
 -- ---- different ends have different numbers
 
-abbrev ends : Outline → List End
+abbrev ends : Outline → List Endpoint
 ends t = map crate_end t.krates ++ map feature_end t.features
 
-end_at : (t : Outline) (e : End) → Stands t e → slice_get (ends t) (number t e) ≡ Some e
+end_at : (t : Outline) (e : Endpoint) → Stands t e → slice_get (ends t) (number t e) ≡ Some e
 end_at t _ (crate_stands {p} h) = let w = crate_at t crate_end feature_end p h in w.3 ∙ ap (λ i. Some (AtCrate i)) w.1
 end_at t _ (feature_stands {p} {f} h) =
     let w = feature_at t crate_end feature_end p f h in
     w.3 ∙ ap (λ i. Some (AtFeature i w.0.name)) w.1 ∙ ap (λ x. Some (AtFeature p x)) w.2
 
 -- nodes with the same number are the same
-pub one_number : (t : Outline) (a b : End) → Stands t a → Stands t b → number t a ≡ number t b → a ≡ b
+pub one_number : (t : Outline) (a b : Endpoint) → Stands t a → Stands t b → number t a ≡ number t b → a ≡ b
 one_number t a b sa sb e = same_Some a b (sym (end_at t a sa) ∙ ap (slice_get (ends t)) e ∙ end_at t b sb)
 
 -- a node's number is below the number of nodes
-pub number_below : (t : Outline) (e : End) → Stands t e → number t e < length (spots t)
-number_below t _ (crate_stands {p} h) = let w = crate_node t p h in slice_get_within (spots t) (crate_number t p) _ w.at
-number_below t _ (feature_stands {p} {f} h) = slice_get_within (spots t) (feature_number t p f) _ (feature_node t p f h)
+pub number_below : (t : Outline) (e : Endpoint) → Stands t e → number t e < length (planned_nodes t)
+number_below t _ (crate_stands {p} h) = let w = crate_node t p h in slice_get_within (planned_nodes t) (crate_number t p) _ w.at
+number_below t _ (feature_stands {p} {f} h) = slice_get_within (planned_nodes t) (feature_number t p f) _ (feature_node t p f h)

@@ -22,7 +22,7 @@ use Rattle.krates_selection.specs.declared.selection.EnabledFeature.{EnabledFeat
 use Rattle.krates_selection.specs.declared.selection.KeptEdge.{KeptEdge}
 use Rattle.krates_selection.specs.declared.selection.Selection.{Selection}
 use Rattle.krates_drawing.specs.Alike.{IsDrawnAlike}
-use Rattle.krates_drawing.specs.Drawing.{lines, spots}
+use Rattle.krates_drawing.specs.Drawing.{planned_edges, planned_nodes}
 use Rattle.krates_questions.specs.FeatureValues.{values_of}
 use Rattle.krates_drawing.specs.Outline.{Krate, IsKrate, Link, IsLink, asked_by, has_text, Meaning, OwnFeature, Crates, FeatureOf, Named, IsNamed, IsMeaning, Names, Toggle, toggle_of, Outline, IsOutline}
 use Rattle.krates_drawing.proofs.ById.{IsWithin, edge_by_id, edge_order, edges_sorted, edges_total, feature_by_id, feature_order, features_sorted, features_total, ids_total, same_lists, toggle_order, toggles_sorted, toggles_total, zip_by}
@@ -258,4 +258,4 @@ one_outline one r u s w x y hx hy t v p q =
 pub drawn_alike : IsOrderFree → ReadsOneReference → IsDrawnAlike
 drawn_alike free one m n w g h has_g has_h none s x y hx hy t v p q =
     let same = one_outline one _ _ s (said_alike m n g h s (free m n w) has_g has_h none) x y hx hy t v p q in
-    record { outline = same; nodes = ap spots same; edges = ap lines same }
+    record { outline = same; nodes = ap planned_nodes same; edges = ap planned_edges same }

@@ -18,10 +18,10 @@ use Rattle.krates_rules.specs.Setting.{SettingModel}
 use Rattle.krates_rules.proofs.SeenInOrder.{equal_self}
 use Rattle.krates_drawing.specs.Agreement.{DependsOn, LeadsTo}
 use Rattle.krates_drawing.specs.Connected.{IsLedInto, LeadsHome, AreConnected}
-use Rattle.krates_drawing.specs.Drawing.{AtCrate, AtFeature, Feature, line, place_of, is_crate, is_feature, id_eq, crate_number, from_crate, lines, claimant, mapped, mapping, Spot, CrateSpot, FeatureSpot, crate_spot, feature_spot, spots}
+use Rattle.krates_drawing.specs.Drawing.{AtCrate, AtFeature, Feature, line, place_of, is_crate, is_feature, id_eq, crate_number, from_crate, planned_edges, claimant, mapped, mapping, PlannedNode, PlannedCrate, PlannedFeature, planned_crate, planned_feature, planned_nodes}
 use Rattle.krates_drawing.specs.Outline.{Krate, IsKrate, Named, IsNamed, Outline, IsOutline}
 use Rattle.krates_drawing.proofs.Agreed.{claimant_of, image_of, between_leads}
-use Rattle.krates_drawing.proofs.Arrows.{own, arrow_in}
+use Rattle.krates_drawing.proofs.DrawnEdges.{own, edge_in}
 use Rattle.krates_drawing.proofs.ById.{feature_by_id, feature_order, features_sorted, ids_total}
 use Rattle.krates_drawing.proofs.Closed.{keeps_ends}
 use Rattle.krates_drawing.proofs.Holding.{holds}
@@ -124,9 +124,9 @@ keys_sorted r s x t h w = subst (IsStrictlySortedBy feature_order) (same_keys r 
 -- ---- nodes by number
 
 -- a node is the node of a crate or of a feature
-data NodeAt (t : Outline) (p : ℕ) (s : Spot) : Type 0 where
-  of_crate : (k : Krate) → slice_get t.krates p ≡ Some k → crate_spot t k ≡ s → NodeAt t p s
-  of_feature : (j : ℕ) (n : Named) → slice_get t.features j ≡ Some n → length t.krates + j ≡ p → feature_spot t n ≡ s → NodeAt t p s
+data NodeAt (t : Outline) (p : ℕ) (s : PlannedNode) : Type 0 where
+  of_crate : (k : Krate) → slice_get t.krates p ≡ Some k → planned_crate t k ≡ s → NodeAt t p s
+  of_feature : (j : ℕ) (n : Named) → slice_get t.features j ≡ Some n → length t.krates + j ≡ p → planned_feature t n ≡ s → NodeAt t p s
 
 record MappedAt {A B : Type 0} (f : A → B) (xs : List A) (k : ℕ) (y : B) : Type 0 where
   from : A
@@ -147,8 +147,8 @@ either_at f g (x ∷ xs) ys (suc k) z e = elim (either_at f g xs ys k z e) [
   | inr w ↦ inr (w.0, let same = w.1 in omega (arith, same), w.2)
 ]
 
-node_at : (t : Outline) (p : ℕ) (s : Spot) → slice_get (spots t) p ≡ Some s → NodeAt t p s
-node_at t p s e = elim (either_at (crate_spot t) (feature_spot t) t.krates t.features p s e) [
+node_at : (t : Outline) (p : ℕ) (s : PlannedNode) → slice_get (planned_nodes t) p ≡ Some s → NodeAt t p s
+node_at t p s e = elim (either_at (planned_crate t) (planned_feature t) t.krates t.features p s e) [
   | inl w ↦ of_crate w.from w.at w.is
   | inr w ↦ of_feature w.0 w.2.from w.2.at w.1 w.2.is
 ]
@@ -168,27 +168,27 @@ record CrateHere (t : Outline) (p : ℕ) (id : Id) (m : List (Option ℕ)) : Typ
   id_is : krate.id ≡ id
   mapping_is : mapping t krate ≡ m
 
-crate_of_node : (r : Resolved) (s : SettingModel) (x : Selection) (t : Outline) → IsSelection r s x → IsOutline r s x t → (p : ℕ) (id : Id) (m : List (Option ℕ)) → NodeAt t p (CrateSpot id m) → CrateHere t p id m
+crate_of_node : (r : Resolved) (s : SettingModel) (x : Selection) (t : Outline) → IsSelection r s x → IsOutline r s x t → (p : ℕ) (id : Id) (m : List (Option ℕ)) → NodeAt t p (PlannedCrate id m) → CrateHere t p id m
 crate_of_node r s x t selected outline p id m (of_crate k at is) =
     record { krate = k; member = got_member t.krates p k at; number = own_crate r x.krates.items t.krates outline.krates selected.krates p k at; id_is = cc is; mapping_is = cc is }
 crate_of_node r s x t selected outline p id m (of_feature j n at place is) = absurd (cc is)
 
-leads_home : (r : Resolved) (s : SettingModel) (x : Selection) (t : Outline) → IsSelection r s x → IsOutline r s x t → (n d : ℕ) (name : Text) → NodeAt t n (FeatureSpot d name) → LeadsHome (lines t) n d
+leads_home : (r : Resolved) (s : SettingModel) (x : Selection) (t : Outline) → IsSelection r s x → IsOutline r s x t → (n d : ℕ) (name : Text) → NodeAt t n (PlannedFeature d name) → LeadsHome (planned_edges t) n d
 leads_home r s x t selected outline n d name (of_crate k at is) = absurd (cc is)
 leads_home r s x t selected outline n d name (of_feature j f at place is) =
     let l = line t (AtFeature f.krate f.name) (AtCrate f.krate) Feature in
     let here : place_of (is_feature f.krate f.name) t.features ≡ j = own_feature t.features (keys_sorted r s x t selected outline) j f at in
     record {
       line = l;
-      among = contains_of (lines t) l (arrow_in t _ _ _ (keeps_ends r s t (holds r s x t selected outline)) (own f (got_member t.features j f at)));
+      among = contains_of (planned_edges t) l (edge_in t _ _ _ (keeps_ends r s t (holds r s x t selected outline)) (own f (got_member t.features j f at)));
       from = ap (λ i. length t.krates + i) here ∙ place;
       to = cc is;
     }
 
-led_into : (r : Resolved) (s : SettingModel) (x : Selection) (t : Outline) → IsSelection r s x → IsOutline r s x t → (p d : ℕ) → DependsOn (spots t) p d → IsLedInto (spots t) (lines t) p d
+led_into : (r : Resolved) (s : SettingModel) (x : Selection) (t : Outline) → IsSelection r s x → IsOutline r s x t → (p d : ℕ) → DependsOn (planned_nodes t) p d → IsLedInto (planned_nodes t) (planned_edges t) p d
 unfolding mapping
 led_into r s x t selected outline p d w =
-    let here = crate_of_node r s x t selected outline p w.id w.mapping (node_at t p (CrateSpot w.id w.mapping) w.at) in
+    let here = crate_of_node r s x t selected outline p w.id w.mapping (node_at t p (PlannedCrate w.id w.mapping) w.at) in
     let mine = from_crate t here.krate.id in
     let entry = mapped_of (mapped t mine) (range_with_len 0 here.krate.declared) (Some d) (member_of (mapping t here.krate) (Some d) (subst (λ m. Contains m (Some d)) (sym here.mapping_is) w.among)) in
     let q = image_of (λ z. crate_number t z.id) (claimant t mine entry.from) d entry.is in
@@ -199,16 +199,16 @@ led_into r s x t selected outline p d w =
     record {
       id = node.krate.id;
       mapping = mapping t node.krate;
-      at = ap (slice_get (spots t)) (sym q.2) ∙ node.at;
-      leads = subst (λ n. LeadsTo (spots t) (lines t) n d) here.number (subst (λ n. LeadsTo (spots t) (lines t) (crate_number t here.krate.id) n) q.2 leads);
+      at = ap (slice_get (planned_nodes t)) (sym q.2) ∙ node.at;
+      leads = subst (λ n. LeadsTo (planned_nodes t) (planned_edges t) n d) here.number (subst (λ n. LeadsTo (planned_nodes t) (planned_edges t) (crate_number t here.krate.id) n) q.2 leads);
     }
 
 pub connected : AreConnected
 connected r s x selected t outline = record {
   mappings = λ p d w. led_into r s x t selected outline p d w;
-  features = λ n d name at. leads_home r s x t selected outline n d name (node_at t n (FeatureSpot d name) at);
+  features = λ n d name at. leads_home r s x t selected outline n d name (node_at t n (PlannedFeature d name) at);
   crates = λ p id m at.
-      (let here = crate_of_node r s x t selected outline p id m (node_at t p (CrateSpot id m) at) in
+      (let here = crate_of_node r s x t selected outline p id m (node_at t p (PlannedCrate id m) at) in
       record {
         kept = record { krate = here.krate; among = contains_of t.krates here.krate here.member; id = here.id_is };
         number = ap (crate_number t) (sym here.id_is) ∙ here.number;

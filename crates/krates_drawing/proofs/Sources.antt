@@ -6,7 +6,7 @@ use Rattle.krates_drawing.specs.Drawing.{crate_number, from_crate}
 use Rattle.krates_drawing.specs.Outline as model
 use Rattle.krates_drawing.specs.Outline.{Outline}
 use Rattle.krates_drawing.specs.declared.outline.Link.{Link}
-use Rattle.krates_drawing.proofs.Arrows.{from_of}
+use Rattle.krates_drawing.proofs.DrawnEdges.{from_of}
 use Rattle.krates_rules.proofs.Members.{Member, kept_of, member_map, member_of}
 
 -- some of the edges from p are edges from p

@@ -7,14 +7,14 @@ use Rattle.krates_rules.specs.Resolved.{resolved}
 use Rattle.krates_selection.specs.Selection.{IsSelection}
 use Rattle.krates_rules.specs.Setting.{SettingModel}
 use Rattle.krates_selection.specs.declared.selection.Selection.{Selection}
-use Rattle.krates_drawing.specs.Drawing.{lines, spots}
+use Rattle.krates_drawing.specs.Drawing.{planned_edges, planned_nodes}
 use Rattle.krates_drawing.specs.Outline.{Outline, IsOutline}
 
 -- the graphs have the same nodes with the same numbers and mappings, and the same edges
 pub record DrawAlike (t v : Outline) : Type 0 where
   pub outline : t ≡ v
-  pub nodes : spots t ≡ spots v
-  pub edges : lines t ≡ lines v
+  pub nodes : planned_nodes t ≡ planned_nodes v
+  pub edges : planned_edges t ≡ planned_edges v
 
 -- documents that differ only in order are drawn alike
 abbrev pub IsDrawnAlike : Type 0

@@ -21,9 +21,9 @@ place_of p (x ∷ xs) = if p x then 0 else suc (place_of p xs)
 -- ---- nodes
 
 -- a node: a kept crate, or an enabled feature of one
-pub data End : Type 0 where
-  AtCrate : (id : Id) → End
-  AtFeature : (krate : Id) (name : Text) → End
+pub data Endpoint : Type 0 where
+  AtCrate : (id : Id) → Endpoint
+  AtFeature : (krate : Id) (name : Text) → Endpoint
 
 -- whether the crate has this id
 abbrev pub is_crate : Id → Krate → Bool
@@ -42,32 +42,32 @@ abbrev pub feature_number : Outline → Id → Text → ℕ
 feature_number t q f = length t.krates + place_of (is_feature q f) t.features
 
 -- kept crates in the order of their ids, then the enabled features, by crate and then by name
-abbrev pub number : Outline → End → ℕ
+abbrev pub number : Outline → Endpoint → ℕ
 number t (AtCrate q) = crate_number t q
 number t (AtFeature q f) = feature_number t q f
 
 -- ---- edges
 
 -- what an edge of the graph says
-pub data Tie : Type 0 where
-  Dep : (kind : DepKind) (cfg : Option Text) → Tie
-  Feature : Tie
-  DepFeature : (kind : DepKind) (cfg : Option Text) → Tie
+pub data EdgeModel : Type 0 where
+  Dep : (kind : DepKind) (cfg : Option Text) → EdgeModel
+  Feature : EdgeModel
+  DepFeature : (kind : DepKind) (cfg : Option Text) → EdgeModel
 
 -- an edge of the graph, from number to number
-pub record Line : Type 0 where
+pub record PlannedEdge : Type 0 where
   pub source : ℕ
   pub target : ℕ
-  pub tie : Tie
+  pub tie : EdgeModel
 
 -- the edge between two nodes, by their numbers
-abbrev pub line : Outline → End → End → Tie → Line
+abbrev pub line : Outline → Endpoint → Endpoint → EdgeModel → PlannedEdge
 line t from to tie = record { source = number t from; target = number t to; tie = tie }
 
 -- ---- first part: what each crate uses
 
 -- a `Dep` if the kept edge gives no feature, otherwise a `DepFeature` for each that it gives
-unfoldable pub uses : Outline → Link → List Text → List Line
+unfoldable pub uses : Outline → Link → List Text → List PlannedEdge
 uses t l [] = line t (AtCrate l.edge.parent) (AtCrate l.edge.child) (Dep (kind_of l.edge.kind) l.edge.cfg) ∷ []
 uses t l (f ∷ fs) = map (λ g. line t (AtCrate l.edge.parent) (AtFeature l.edge.child g) (DepFeature (kind_of l.edge.kind) l.edge.cfg)) (f ∷ fs)
 
@@ -88,7 +88,7 @@ abbrev pub from_crate : Outline → Id → List Link
 from_crate t p = filter (is_from p) t.links
 
 -- of the kept edges `mine` from p those to q, then the features of q that p toggles
-unfoldable pub pair_lines : Outline → Id → List Link → Krate → List Line
+unfoldable pub pair_lines : Outline → Id → List Link → Krate → List PlannedEdge
 pair_lines t p mine q =
     flat_map (λ l. uses t l l.given) (filter (is_to q.id) mine)
     ++ map (λ g. line t (AtCrate p) (AtFeature q.id g.name) Feature) (filter (is_between p q.id) t.toggled)
@@ -98,27 +98,27 @@ abbrev pub leads_to : List Link → Id → Bool
 leads_to mine q = list_any (is_to q) mine
 
 -- to each crate with a kept edge from p, in id order
-unfoldable pub children_lines : Outline → Id → List Link → List Line
+unfoldable pub children_lines : Outline → Id → List Link → List PlannedEdge
 children_lines t p mine = flat_map (pair_lines t p mine) (filter (λ q. leads_to mine q.id) t.krates)
 
 -- the edges that a crate has
-unfoldable pub crate_lines : Outline → Krate → List Line
+unfoldable pub crate_lines : Outline → Krate → List PlannedEdge
 crate_lines t p = children_lines t p.id (from_crate t p.id)
 
 -- ---- second part: what each feature leads to
 
 -- what a reference of a feature of p names, over the kept edges `mine` from p
-abbrev pub targets : List Link → Id → Meaning → List End
+abbrev pub targets : List Link → Id → Meaning → List Endpoint
 targets mine p (OwnFeature g) = AtFeature p g ∷ []
 targets mine p (Crates ids) = map AtCrate (filter (leads_to mine) ids)
 targets mine p (FeatureOf ids g) = map (λ q. AtFeature q g) (filter (leads_to mine) ids)
 
 -- from a feature to what a reference of it names
-unfoldable pub meaning_lines : Outline → Named → List Link → Meaning → List Line
+unfoldable pub meaning_lines : Outline → Named → List Link → Meaning → List PlannedEdge
 meaning_lines t n mine m = map (λ e. line t (AtFeature n.krate n.name) e Feature) (targets mine n.krate m)
 
 -- to its crate, then to what its references name
-unfoldable pub feature_lines : Outline → Named → List Line
+unfoldable pub feature_lines : Outline → Named → List PlannedEdge
 feature_lines t n =
     line t (AtFeature n.krate n.name) (AtCrate n.krate) Feature
     ∷ flat_map (meaning_lines t n (from_crate t n.krate)) n.meanings
@@ -126,8 +126,8 @@ feature_lines t n =
 -- ---- all edges
 
 -- the edges that the crates have, then those that the features have
-unfoldable pub lines : Outline → List Line
-lines t = flat_map (crate_lines t) t.krates ++ flat_map (feature_lines t) t.features
+unfoldable pub planned_edges : Outline → List PlannedEdge
+planned_edges t = flat_map (crate_lines t) t.krates ++ flat_map (feature_lines t) t.features
 
 -- ---- the mapping of a crate
 
@@ -159,18 +159,18 @@ mapping t p = map (mapped t (from_crate t p.id)) (range_with_len 0 p.declared)
 -- ---- nodes with what they hold
 
 -- a node with what it holds: a crate its mapping, a feature the number of its crate
-pub data Spot : Type 0 where
-  CrateSpot : (id : Id) (mapping : List (Option ℕ)) → Spot
-  FeatureSpot : (krate : ℕ) (name : Text) → Spot
+pub data PlannedNode : Type 0 where
+  PlannedCrate : (id : Id) (mapping : List (Option ℕ)) → PlannedNode
+  PlannedFeature : (krate : ℕ) (name : Text) → PlannedNode
 
 -- the node of a crate
-abbrev pub crate_spot : Outline → Krate → Spot
-crate_spot t p = CrateSpot p.id (mapping t p)
+abbrev pub planned_crate : Outline → Krate → PlannedNode
+planned_crate t p = PlannedCrate p.id (mapping t p)
 
 -- the node of a feature
-abbrev pub feature_spot : Outline → Named → Spot
-feature_spot t n = FeatureSpot (crate_number t n.krate) n.name
+abbrev pub planned_feature : Outline → Named → PlannedNode
+planned_feature t n = PlannedFeature (crate_number t n.krate) n.name
 
 -- kept crates in the order of their ids, then one node for each enabled feature, by crate and then by name
-abbrev pub spots : Outline → List Spot
-spots t = map (crate_spot t) t.krates ++ map (feature_spot t) t.features
+abbrev pub planned_nodes : Outline → List PlannedNode
+planned_nodes t = map (planned_crate t) t.krates ++ map (planned_feature t) t.features

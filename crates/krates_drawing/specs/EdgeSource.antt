@@ -4,11 +4,12 @@ use Rattle.std.specs.Global.{Vec}
 use Rattle.krates_selection.specs.CrateNumbers.{HasCrates, id_at}
 use Rattle.krates_selection.specs.declared.selection.ToggledFeature.{ToggledFeature}
 use Rattle.krates_rules.specs.Facts.{Id}
-use Rattle.krates_drawing.specs.Drawing.{Line, from_crate, leads_to, pair_lines}
+use Rattle.krates_drawing.specs.Drawing as drawing
+use Rattle.krates_drawing.specs.Drawing.{from_crate, leads_to, pair_lines}
 use Rattle.krates_drawing.specs.Outline.{toggle_of}
 use Rattle.krates_drawing.specs.OutlineOrder.{AreByChild, AreByKrate, HaveEnds, children_of, is_by}
-use Rattle.krates_drawing.specs.Views.{arrow_view, kids_in, link_view, outline_view}
-use Rattle.krates_drawing.specs.declared.edge.Arrow.{Arrow}
+use Rattle.krates_drawing.specs.Views.{planned_edge_view, kids_in, link_view, outline_view}
+use Rattle.krates_drawing.specs.declared.edge.PlannedEdge.{PlannedEdge}
 use Rattle.krates_drawing.specs.declared.edge_source.CrateSource.{CrateSource}
 use Rattle.krates_drawing.specs.declared.outline.Link.{Link}
 use Rattle.krates_drawing.specs.declared.outline.Outline.{Outline}
@@ -37,7 +38,7 @@ pub record IsNumberOfChild (t : Outline) (links : List Link) (i : Id) (n : ℕ) 
   pub leads : leads_to (map (link_view (kids_in t)) links) i ≡ true
 
 -- behind those lines stand the edges from the crate to all others to which these edges lead
-abbrev pub IsDrawnTo : Outline → CrateSource → List Link → List Line → Vec Arrow → Type 0
+abbrev pub IsDrawnTo : Outline → CrateSource → List Link → List drawing.PlannedEdge → Vec PlannedEdge → Type 0
 IsDrawnTo t h links before out =
     let mine = map (link_view (kids_in t)) h.mine.now in
-    map arrow_view out.items ≡ before ++ flat_map (pair_lines (outline_view t) (id_at (kids_in t) h.krate) mine) (children_of t links)
+    map planned_edge_view out.items ≡ before ++ flat_map (pair_lines (outline_view t) (id_at (kids_in t) h.krate) mine) (children_of t links)

@@ -6,7 +6,7 @@ use Rattle.krates_rules.specs.Resolved.{Resolved}
 use Rattle.krates_rules.specs.Setting.{SettingModel}
 use Rattle.krates_selection.specs.Selection.{IsSelection}
 use Rattle.krates_selection.specs.declared.selection.Selection.{Selection}
-use Rattle.krates_drawing.specs.Drawing.{lines, spots}
+use Rattle.krates_drawing.specs.Drawing.{planned_edges, planned_nodes}
 use Rattle.krates_drawing.specs.Outline.{Outline, IsOutline}
 
 -- the first list is the second with some elements left out
@@ -22,8 +22,8 @@ pub record DrawsNoMore (t v : Outline) : Type 0 where
   pub links : IsPart t.links v.links
   pub features : IsPart t.features v.features
   pub toggled : IsPart t.toggled v.toggled
-  pub nodes : length (spots t) ≤ length (spots v)
-  pub edges : length (lines t) ≤ length (lines v)
+  pub nodes : length (planned_nodes t) ≤ length (planned_nodes v)
+  pub edges : length (planned_edges t) ≤ length (planned_edges v)
 
 -- under a narrower setting no more is drawn
 abbrev pub NarrowerDrawsNoMore : Type 0

@@ -3,18 +3,18 @@ use Rattle.std.specs.Prelude.{◌≡◌, ℕ, List, Contains, ⊤}
 use Rattle.krates_rules.specs.Facts.{Id}
 use Rattle.krates_rules.specs.Resolved.{Resolved, IsMember}
 use Rattle.krates_rules.specs.declared.kind.DepKind.{DepKind}
-use Rattle.krates_drawing.specs.Drawing.{Tie, Dep, Feature, DepFeature, Line, crate_number, lines}
+use Rattle.krates_drawing.specs.Drawing.{EdgeModel, Dep, Feature, DepFeature, PlannedEdge, crate_number, planned_edges}
 use Rattle.krates_drawing.specs.Outline.{Krate, Outline}
 
 -- the edge has no kind, or another
-abbrev pub Passes : DepKind → Tie → Type 0
+abbrev pub Passes : DepKind → EdgeModel → Type 0
 Passes k (Dep kind cfg) = kind ≡ k → ⊥
 Passes k (DepFeature kind cfg) = kind ≡ k → ⊥
 Passes k Feature = ⊤
 
 -- an edge that passes leads from one number to the other
-pub record LeadsWithout (k : DepKind) (edges : List Line) (n m : ℕ) : Type 0 where
-  pub line : Line
+pub record LeadsWithout (k : DepKind) (edges : List PlannedEdge) (n m : ℕ) : Type 0 where
+  pub line : PlannedEdge
   pub among : Contains edges line
   pub passes : Passes k line.tie
   pub from : line.source ≡ n
@@ -41,4 +41,4 @@ pub record IsMemberNumber (r : Resolved) (t : Outline) (n : ℕ) : Type 0 where
 -- the kept crate stands at the end of a path from a kept member over edges without this kind
 pub record IsFiltered (r : Resolved) (t : Outline) (k : DepKind) (p : Id) : Type 0 where
   pub kept : IsDrawn t p
-  pub reached : Reaches (LeadsWithout k (lines t)) (IsMemberNumber r t) (crate_number t p)
+  pub reached : Reaches (LeadsWithout k (planned_edges t)) (IsMemberNumber r t) (crate_number t p)

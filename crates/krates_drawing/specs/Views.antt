@@ -7,14 +7,15 @@ use Rattle.krates_rules.specs.Resolved.{id_of}
 use Rattle.krates_ids.specs.Identity.{Identity}
 use Rattle.krates_selection.specs.CrateNumbers.{id_at, no_id}
 use Rattle.krates_selection.specs.Selection.{edge_view}
-use Rattle.krates_drawing.specs.Drawing.{Tie, Dep, Feature, DepFeature, Line, Spot, CrateSpot, FeatureSpot}
+use Rattle.krates_drawing.specs.Drawing as drawing
+use Rattle.krates_drawing.specs.Drawing.{EdgeModel, Dep, Feature, DepFeature, PlannedCrate, PlannedFeature}
 use Rattle.krates_drawing.specs.Outline as model
 use Rattle.krates_drawing.specs.Outline.{OwnFeature, Crates, FeatureOf, toggle_of}
-use Rattle.krates_drawing.specs.declared.edge.Arrow.{Arrow}
+use Rattle.krates_drawing.specs.declared.edge.PlannedEdge.{PlannedEdge}
 use Rattle.krates_drawing.specs.declared.edge.Edge.{Edge}
 use Rattle.krates_drawing.specs.declared.edge.Edge.TheVariants as edge
-use Rattle.krates_drawing.specs.declared.nodes.Spot as drawn
-use Rattle.krates_drawing.specs.declared.nodes.Spot.TheVariants as spot
+use Rattle.krates_drawing.specs.declared.nodes.PlannedNode as drawn
+use Rattle.krates_drawing.specs.declared.nodes.PlannedNode.TheVariants as planned
 use Rattle.krates_drawing.specs.declared.outline.Krate.{Krate}
 use Rattle.krates_drawing.specs.declared.outline.Link.{Link}
 use Rattle.krates_drawing.specs.declared.outline.Meaning.{Meaning}
@@ -65,26 +66,26 @@ outline_view t = record {
 }
 
 -- what an edge says, as the drawing has it
-abbrev pub tie_view : Edge → Tie
+abbrev pub tie_view : Edge → EdgeModel
 tie_view (edge.Dep kind cfg) = Dep kind (option_map text_view cfg)
 tie_view edge.Feature = Feature
 tie_view (edge.DepFeature kind cfg) = DepFeature kind (option_map text_view cfg)
 
 -- a planned edge, as the drawing has it
-abbrev pub arrow_view : Arrow → Line
-arrow_view a = record { source = a.source; target = a.target; tie = tie_view a.edge }
+abbrev pub planned_edge_view : PlannedEdge → drawing.PlannedEdge
+planned_edge_view a = record { source = a.source; target = a.target; tie = tie_view a.edge }
 
 -- these lines were appended
-abbrev pub Draws : Vec Arrow → Vec Arrow → List Line → Type 0
-Draws old new ls = map arrow_view new.items ≡ map arrow_view old.items ++ ls
+abbrev pub Draws : Vec PlannedEdge → Vec PlannedEdge → List drawing.PlannedEdge → Type 0
+Draws old new ls = map planned_edge_view new.items ≡ map planned_edge_view old.items ++ ls
 
 -- there are few enough nodes
 abbrev pub IsFew : Outline → Type 0
 IsFew t = length t.krates.items + length t.features.items < 2 ^ 32
 
-abbrev pub spot_view : drawn.Spot → Spot
-spot_view (spot.Krate id mapping) = CrateSpot (id_of id) mapping.items
-spot_view (spot.Feature krate_index name) = FeatureSpot krate_index (text_view name)
+abbrev pub planned_node_view : drawn.PlannedNode → drawing.PlannedNode
+planned_node_view (planned.Krate id mapping) = PlannedCrate (id_of id) mapping.items
+planned_node_view (planned.Feature krate_index name) = PlannedFeature krate_index (text_view name)
 
 -- what there is, as a list
 abbrev pub listed : {A : Type 0} → Option A → List A

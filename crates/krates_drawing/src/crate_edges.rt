@@ -1,14 +1,14 @@
 //! The edges from crates.
 ghost use Rattle.std.specs.Prelude.{All, ◌≡◌, ◌+◌, ◌<◌, List, map, length, take, flat_map, OnOk};
 ghost use Rattle.krates_selection.specs.CrateNumbers.{HasEnds, id_at};
-ghost use Rattle.krates_drawing.specs.Drawing.{AtFeature, Line, crate_lines, crate_number as number_of_crate, pair_lines, uses};
+ghost use Rattle.krates_drawing.specs.Drawing.{AtFeature, PlannedEdge as DrawnEdge, crate_lines, crate_number as number_of_crate, pair_lines, uses};
 ghost use Rattle.krates_drawing.specs.EdgeSource.{IsDrawnTo, IsCrateSource, AreToggledBy};
 ghost use Rattle.krates_drawing.specs.LinesFrom.{line_from};
 ghost use Rattle.krates_drawing.specs.Outline.{toggle_of};
 ghost use Rattle.krates_drawing.specs.OutlineOrder.{AreByChild, HaveEnds, IsFirstTo, IsOrdered};
 ghost use Rattle.krates_drawing.specs.Views.{kids_in, krate_at, link_view, outline_view, Draws, IsFew};
 
-use crate::edge::{Arrow, Edge};
+use crate::edge::{Edge, PlannedEdge};
 use crate::edge_source::{CrateSource, source_at};
 use crate::equal_ranges::{links_to, toggled_by, toggled_in};
 use crate::numbers::{crate_number, feature_number};
@@ -24,7 +24,7 @@ fn draw_uses(
     outline: &Outline,
     source: NodeId,
     link: &Link,
-    out: &mut Vec<Arrow>,
+    out: &mut Vec<PlannedEdge>,
 ) -> Result<(), AllocError>
     requires few { IsFew outline.now }
     requires ordered { IsOrdered outline.now }
@@ -38,7 +38,7 @@ fn draw_uses(
     if link.given.is_empty() {
         let target = crate_number(outline, edge.child);
         let kind = DepKind::from(edge.kind);
-        out.push(Arrow {
+        out.push(PlannedEdge {
             source,
             target,
             edge: Edge::Dep {
@@ -51,7 +51,7 @@ fn draw_uses(
     for x in &link.given {
         let target = feature_number(outline, edge.child, x.as_str());
         let kind = DepKind::from(edge.kind);
-        out.push(Arrow {
+        out.push(PlannedEdge {
             source,
             target,
             edge: Edge::DepFeature {
@@ -68,7 +68,7 @@ fn draw_kept(
     outline: &Outline,
     source: NodeId,
     links: &[Link],
-    out: &mut Vec<Arrow>,
+    out: &mut Vec<PlannedEdge>,
 ) -> Result<(), AllocError>
     requires few { IsFew outline.now }
     requires ordered { IsOrdered outline.now }
@@ -90,7 +90,7 @@ fn draw_toggled(
     source: NodeId,
     child: usize,
     toggled: &[ToggledFeature],
-    out: &mut Vec<Arrow>,
+    out: &mut Vec<PlannedEdge>,
 ) -> Result<(), AllocError>
     requires few { IsFew outline.now }
     requires ordered { IsOrdered outline.now }
@@ -101,7 +101,7 @@ fn draw_toggled(
 {
     for x in toggled {
         let target = feature_number(outline, child, x.name.as_str());
-        out.push(Arrow {
+        out.push(PlannedEdge {
             source,
             target,
             edge: Edge::Feature,
@@ -117,7 +117,7 @@ fn draw_pair(
     from: &CrateSource<'_>,
     toggled: &[ToggledFeature],
     child: usize,
-    out: &mut Vec<Arrow>,
+    out: &mut Vec<PlannedEdge>,
 ) -> Result<(), AllocError>
     requires few { IsFew outline.now }
     requires ordered { IsOrdered outline.now }
@@ -150,14 +150,14 @@ fn draw_child(
     from: &CrateSource<'_>,
     toggled: &[ToggledFeature],
     place: usize,
-    out: &mut Vec<Arrow>,
+    out: &mut Vec<PlannedEdge>,
 ) -> Result<(), AllocError>
     requires few { IsFew outline.now }
     requires ordered { IsOrdered outline.now }
     requires home { IsCrateSource outline.now from.now }
     requires toggled { AreToggledBy outline.now from.now.krate toggled.now }
     requires place { place < length from.now.mine.now }
-    ensures { OnOk result ((before : List Line)
+    ensures { OnOk result ((before : List DrawnEdge)
         → IsDrawnTo outline.now from.now (take place from.now.mine.now) before out.old
         → IsDrawnTo outline.now from.now (take (place + 1) from.now.mine.now) before out.new) }
 {
@@ -169,7 +169,7 @@ fn draw_child(
 
 /// Draws the edges from a crate.
 #[tactic(auto, unfolding(crate::specs::Drawing::crate_lines, crate::specs::Drawing::children_lines))]
-fn draw_crate(outline: &Outline, krate: usize, out: &mut Vec<Arrow>) -> Result<(), AllocError>
+fn draw_crate(outline: &Outline, krate: usize, out: &mut Vec<PlannedEdge>) -> Result<(), AllocError>
     requires few { IsFew outline.now }
     requires ordered { IsOrdered outline.now }
     requires within { krate < length outline.now.krates.items }
@@ -185,7 +185,7 @@ fn draw_crate(outline: &Outline, krate: usize, out: &mut Vec<Arrow>) -> Result<(
 }
 
 /// Draws the edges from all crates.
-pub(crate) fn draw_crates(outline: &Outline, out: &mut Vec<Arrow>) -> Result<(), AllocError>
+pub(crate) fn draw_crates(outline: &Outline, out: &mut Vec<PlannedEdge>) -> Result<(), AllocError>
     requires few { IsFew outline.now }
     requires ordered { IsOrdered outline.now }
     ensures { OnOk result (Draws out.old out.new (flat_map (crate_lines (outline_view outline.now))

@@ -8,7 +8,7 @@ ghost use Rattle.krates_drawing.specs.LinesFrom.{line_from, meant_from};
 ghost use Rattle.krates_drawing.specs.OutlineOrder.{AreByChild, HaveEnds, IsOrdered, IsPlaceOfFeature};
 ghost use Rattle.krates_drawing.specs.Views.{kids_in, link_view, meaning_view, named_view, outline_view, Draws, IsFew};
 
-use crate::edge::{Arrow, Edge};
+use crate::edge::{Edge, PlannedEdge};
 use crate::edge_source::{CrateSource, FeatureSource, first_source, source_of};
 use crate::equal_ranges::leads_to;
 use crate::numbers::{crate_number, feature_number, number_at, place_of_crate};
@@ -38,7 +38,7 @@ fn draw_to_crates(
     outline: &Outline,
     from: &FeatureSource<'_>,
     krates: &[Kid],
-    out: &mut Vec<Arrow>,
+    out: &mut Vec<PlannedEdge>,
 ) -> Result<(), AllocError>
     requires few { IsFew outline.now }
     requires ordered { IsOrdered outline.now }
@@ -50,7 +50,7 @@ fn draw_to_crates(
     for x in krates {
         if let Some(child) = number_of_child(outline, from.home.mine, x) {
             let target = crate_number(outline, child);
-            out.push(Arrow {
+            out.push(PlannedEdge {
                 source: from.number,
                 target,
                 edge: Edge::Feature,
@@ -66,7 +66,7 @@ fn draw_to_features(
     from: &FeatureSource<'_>,
     krates: &[Kid],
     name: &str,
-    out: &mut Vec<Arrow>,
+    out: &mut Vec<PlannedEdge>,
 ) -> Result<(), AllocError>
     requires few { IsFew outline.now }
     requires ordered { IsOrdered outline.now }
@@ -79,7 +79,7 @@ fn draw_to_features(
     for x in krates {
         if let Some(child) = number_of_child(outline, from.home.mine, x) {
             let target = feature_number(outline, child, name);
-            out.push(Arrow {
+            out.push(PlannedEdge {
                 source: from.number,
                 target,
                 edge: Edge::Feature,
@@ -94,7 +94,7 @@ fn draw_meaning(
     outline: &Outline,
     from: &FeatureSource<'_>,
     meaning: &Meaning,
-    out: &mut Vec<Arrow>,
+    out: &mut Vec<PlannedEdge>,
 ) -> Result<(), AllocError>
     requires few { IsFew outline.now }
     requires ordered { IsOrdered outline.now }
@@ -106,7 +106,7 @@ fn draw_meaning(
     match meaning {
         Meaning::OwnFeature(name) => {
             let target = feature_number(outline, from.home.krate, name.as_str());
-            out.push(Arrow {
+            out.push(PlannedEdge {
                 source: from.number,
                 target,
                 edge: Edge::Feature,
@@ -125,7 +125,7 @@ fn draw_meanings(
     outline: &Outline,
     from: &FeatureSource<'_>,
     meanings: &[Meaning],
-    out: &mut Vec<Arrow>,
+    out: &mut Vec<PlannedEdge>,
 ) -> Result<(), AllocError>
     requires few { IsFew outline.now }
     requires ordered { IsOrdered outline.now }
@@ -147,7 +147,7 @@ fn draw_feature(
     home: &CrateSource<'_>,
     place: usize,
     named: &Named,
-    out: &mut Vec<Arrow>,
+    out: &mut Vec<PlannedEdge>,
 ) -> Result<(), AllocError>
     requires few { IsFew outline.now }
     requires ordered { IsOrdered outline.now }
@@ -161,7 +161,7 @@ fn draw_feature(
         number: number_at(outline, place, named),
         home: *home,
     };
-    out.push(Arrow {
+    out.push(PlannedEdge {
         source: from.number,
         target: crate_number(outline, home.krate),
         edge: Edge::Feature,
@@ -170,7 +170,7 @@ fn draw_feature(
 }
 
 /// Draws what all feature nodes lead to.
-pub(crate) fn draw_features(outline: &Outline, out: &mut Vec<Arrow>) -> Result<(), AllocError>
+pub(crate) fn draw_features(outline: &Outline, out: &mut Vec<PlannedEdge>) -> Result<(), AllocError>
     requires few { IsFew outline.now }
     requires ordered { IsOrdered outline.now }
     ensures { OnOk result (Draws out.old out.new (flat_map (feature_lines (outline_view outline.now))

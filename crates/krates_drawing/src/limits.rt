@@ -1,13 +1,13 @@
 //! A selection's graph, drawn within limits to the numbers of its nodes and edges.
 ghost use Rattle.std.specs.Prelude.{◌≡◌, ◌<◌, ◌≤◌, IfErr, IfOk, length, map};
 ghost use Rattle.std.specs.Bool.{MatchBool};
-ghost use Rattle.krates_drawing.specs.Drawing.{lines, spots};
+ghost use Rattle.krates_drawing.specs.Drawing.{planned_edges, planned_nodes};
 ghost use Rattle.krates_drawing.specs.Limits.{DrawingRefusal, IsWithin};
 ghost use Rattle.krates_drawing.specs.OutlineOrder.{IsOrdered};
-ghost use Rattle.krates_drawing.specs.Views.{arrow_view, outline_view, spot_view};
+ghost use Rattle.krates_drawing.specs.Views.{planned_edge_view, outline_view, planned_node_view};
 
-use crate::edge::Arrow;
-use crate::nodes::{Spot, draw_nodes};
+use crate::edge::PlannedEdge;
+use crate::nodes::{PlannedNode, draw_nodes};
 use crate::outline::Outline;
 use crate::plan::plan;
 use krates_ids::Error;
@@ -26,15 +26,15 @@ pub struct Limits {
 #[derive(Drop)]
 pub struct Plan {
     /// The nodes, before packages are put into them.
-    pub spots: Vec<Spot>,
+    pub planned_nodes: Vec<PlannedNode>,
     /// The edges.
-    pub arrows: Vec<Arrow>,
+    pub planned_edges: Vec<PlannedEdge>,
 }
 
 /// Whether there may be so many nodes as an outline has.
 fn has_room(outline: &Outline, nodes: u32) -> bool
-    ensures { MatchBool result (length (spots (outline_view outline.now)) ≤ nodes)
-        (nodes < length (spots (outline_view outline.now))) }
+    ensures { MatchBool result (length (planned_nodes (outline_view outline.now)) ≤ nodes)
+        (nodes < length (planned_nodes (outline_view outline.now))) }
 {
     let krates = outline.krates.len();
     let most = nodes as usize;
@@ -48,18 +48,23 @@ fn has_room(outline: &Outline, nodes: u32) -> bool
 /// Time: O(n log n) for n nodes and edges.
 pub fn plan_within(alloc: Global, outline: &Outline, limits: Limits) -> Result<Plan, Error>
     requires ordered { IsOrdered outline.now }
-    ensures nodes { IfOk result (λ p. map spot_view p.spots.items ≡ spots (outline_view outline.now)) }
-    ensures edges { IfOk result (λ p. map arrow_view p.arrows.items ≡ lines (outline_view outline.now)) }
+    ensures nodes { IfOk result (λ p. map planned_node_view p.planned_nodes.items
+        ≡ planned_nodes (outline_view outline.now)) }
+    ensures edges { IfOk result (λ p. map planned_edge_view p.planned_edges.items
+        ≡ planned_edges (outline_view outline.now)) }
     ensures within { IfOk result (λ _. IsWithin limits (outline_view outline.now)) }
     ensures refused { IfErr result (DrawingRefusal limits (outline_view outline.now)) }
 {
     if !has_room(outline, limits.nodes) {
         return Err(Error::TooMany);
     }
-    let spots = draw_nodes(alloc, outline)?;
-    let arrows = plan(alloc, outline)?;
-    if arrows.len() > limits.edges as usize {
+    let planned_nodes = draw_nodes(alloc, outline)?;
+    let planned_edges = plan(alloc, outline)?;
+    if planned_edges.len() > limits.edges as usize {
         return Err(Error::TooMany);
     }
-    Ok(Plan { spots, arrows })
+    Ok(Plan {
+        planned_nodes,
+        planned_edges,
+    })
 }

@@ -2,9 +2,9 @@
 ghost use Rattle.std.specs.Prelude.{◌≡◌, ◌<◌, ◌++◌, length, map, IfOk, OnOk};
 ghost use Rattle.std.specs.List.{range_with_len};
 ghost use Rattle.krates_selection.specs.CrateNumbers.{HasEnds};
-ghost use Rattle.krates_drawing.specs.Drawing.{crate_spot, feature_spot, mapped, mapping as mapping_of, spots};
+ghost use Rattle.krates_drawing.specs.Drawing.{planned_crate, planned_feature, mapped, mapping as mapping_of, planned_nodes};
 ghost use Rattle.krates_drawing.specs.OutlineOrder.{AreByChild, HaveEnds, IsClaimed, IsOrdered};
-ghost use Rattle.krates_drawing.specs.Views.{IsFew, kids_in, krate_at, link_view, spot_view, outline_view};
+ghost use Rattle.krates_drawing.specs.Views.{IsFew, kids_in, krate_at, link_view, planned_node_view, outline_view};
 
 use crate::equal_ranges::links_from;
 use crate::numbers::crate_number;
@@ -15,7 +15,7 @@ use std::alloc::{AllocError, Global};
 
 /// A node of the graph, before its package is put into it.
 #[derive(Drop)]
-pub enum Spot {
+pub enum PlannedNode {
     /// A kept crate, with the numbers of the crates that its declared dependencies mean.
     Krate {
         id: Kid,
@@ -84,14 +84,18 @@ fn mapping(
     )
 }
 
-fn push_crates(alloc: Global, outline: &Outline, out: &mut Vec<Spot>) -> Result<(), AllocError>
+fn push_crates(
+    alloc: Global,
+    outline: &Outline,
+    out: &mut Vec<PlannedNode>,
+) -> Result<(), AllocError>
     requires few { IsFew outline.now }
     requires ordered { IsOrdered outline.now }
-    ensures { OnOk result (map spot_view out.new.items ≡ map spot_view out.old.items ++ map (crate_spot
-        (outline_view outline.now)) (outline_view outline.now).krates) }
+    ensures { OnOk result (map planned_node_view out.new.items ≡ map planned_node_view out.old.items
+        ++ map (planned_crate (outline_view outline.now)) (outline_view outline.now).krates) }
 {
     for (krate, x) in outline.krates.iter().enumerate() {
-        out.push(Spot::Krate {
+        out.push(PlannedNode::Krate {
             id: x.id.clone()?,
             mapping: mapping(alloc, outline, krate)?,
         })?;
@@ -99,15 +103,15 @@ fn push_crates(alloc: Global, outline: &Outline, out: &mut Vec<Spot>) -> Result<
     Ok(())
 }
 
-fn push_features(outline: &Outline, out: &mut Vec<Spot>) -> Result<(), AllocError>
+fn push_features(outline: &Outline, out: &mut Vec<PlannedNode>) -> Result<(), AllocError>
     requires few { IsFew outline.now }
     requires ordered { IsOrdered outline.now }
-    ensures { OnOk result (map spot_view out.new.items ≡ map spot_view out.old.items ++ map (feature_spot
-        (outline_view outline.now)) (outline_view outline.now).features) }
+    ensures { OnOk result (map planned_node_view out.new.items ≡ map planned_node_view out.old.items
+        ++ map (planned_feature (outline_view outline.now)) (outline_view outline.now).features) }
 {
     for x in &outline.features {
         let krate_index = crate_number(outline, x.feature.krate);
-        out.push(Spot::Feature {
+        out.push(PlannedNode::Feature {
             krate_index,
             name: x.feature.name.clone()?,
         })?;
@@ -119,10 +123,10 @@ fn push_features(outline: &Outline, out: &mut Vec<Spot>) -> Result<(), AllocErro
 /// and name. The only error is running out of memory.
 ///
 /// Time: O(n log n) for n nodes.
-pub fn draw_nodes(alloc: Global, outline: &Outline) -> Result<Vec<Spot>, AllocError>
+pub fn draw_nodes(alloc: Global, outline: &Outline) -> Result<Vec<PlannedNode>, AllocError>
     requires few { IsFew outline.now }
     requires ordered { IsOrdered outline.now }
-    ensures { IfOk result (λ v. map spot_view v.items ≡ spots (outline_view outline.now)) }
+    ensures { IfOk result (λ v. map planned_node_view v.items ≡ planned_nodes (outline_view outline.now)) }
 {
     let mut out = Vec::with_capacity(alloc, outline.krates.len() + outline.features.len())?;
     push_crates(alloc, outline, &mut out)?;

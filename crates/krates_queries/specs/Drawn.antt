@@ -2,7 +2,7 @@
 use Rattle.std.specs.Prelude.{◌≡◌, ◌<◌, ◌-◌, ◌^◌, length, map}
 use Rattle.std.specs.List.{AllZip}
 use Rattle.krates_cm.specs.Document.{MetadataModel, text_view}
-use Rattle.krates_drawing.specs.Drawing.{Spot, CrateSpot, FeatureSpot, lines, spots}
+use Rattle.krates_drawing.specs.Drawing.{PlannedNode, PlannedCrate, PlannedFeature, planned_edges, planned_nodes}
 use Rattle.krates_drawing.specs.Outline.{Outline, IsOutline}
 use Rattle.krates_drawing.specs.Stored.{IsStoredAs}
 use Rattle.krates_drawing.specs.declared.edge.Edge.{Edge}
@@ -15,14 +15,14 @@ use Rattle.krates_drawing.specs.declared.node.Node.{Node}
 use Rattle.krates_drawing.specs.declared.node.Node.TheVariants.{Krate, Feature}
 
 -- the drawn node that a node stands for: a crate with its mapping, or a feature of the crate of a number
-abbrev pub node_spot : {N : Type 0} → Node N → Spot
-node_spot (Krate id krate features mapping) = CrateSpot (id_of id) mapping.items
-node_spot (Feature krate_index name) = FeatureSpot krate_index (text_view name)
+abbrev pub planned_node : {N : Type 0} → Node N → PlannedNode
+planned_node (Krate id krate features mapping) = PlannedCrate (id_of id) mapping.items
+planned_node (Feature krate_index name) = PlannedFeature krate_index (text_view name)
 
 -- the nodes and the edges are the drawn ones, number by number, and the edges carry what is made from them
 pub record IsDrawing {N E : Type 0} (made : Edge → E → Type 0) (t : Outline) (g : StoredGraph (Node N) E) : Type 0 where
-  pub nodes : map node_spot g.nodes ≡ spots t
-  pub edges : AllZip (IsStoredAs made) (lines t) g.edges
+  pub nodes : map planned_node g.nodes ≡ planned_nodes t
+  pub edges : AllZip (IsStoredAs made) (planned_edges t) g.edges
 
 -- the outline is that of exactly what is derivable
 pub record HasOutline (r : Resolved) (s : SettingModel) (t : Outline) : Type 0 where
@@ -49,5 +49,5 @@ pub record IsNumbered {N E : Type 0} (g : StoredGraph (Node N) E) : Type 0 where
 
 -- the same for what is drawn
 pub record CanBeNumbered (t : Outline) : Type 0 where
-  pub nodes : length (spots t) < 2 ^ 32
-  pub edges : length (lines t) < 2 ^ 32
+  pub nodes : length (planned_nodes t) < 2 ^ 32
+  pub edges : length (planned_edges t) < 2 ^ 32

@@ -1,13 +1,13 @@
 use Rattle.std.proofs.Common.{◌≡◌, ◌∙◌, ◌≤◌, All, List, length, map, sym, ap, subst}
 use Rattle.std.proofs.lemmas.List.Elements.{All-map}
-use Rattle.krates_drawing.specs.Drawing.{lines, spots}
-use Rattle.krates_drawing.specs.Views.{arrow_view, kids_in, outline_view}
-use Rattle.krates_drawing.specs.declared.edge.Arrow.{Arrow}
+use Rattle.krates_drawing.specs.Drawing.{planned_edges, planned_nodes}
+use Rattle.krates_drawing.specs.Views.{planned_edge_view, kids_in, outline_view}
+use Rattle.krates_drawing.specs.declared.edge.PlannedEdge.{PlannedEdge}
 use Rattle.krates_drawing.specs.declared.outline.Named.{Named}
 use Rattle.krates_selection.specs.CrateNumbers.{HasHome}
 use Rattle.krates_selection.specs.Selection.{feature_fact}
 use Rattle.krates_selection.specs.declared.selection.EnabledFeature.{EnabledFeature}
-use Rattle.krates_queries.specs.Drawn.{node_spot}
+use Rattle.krates_queries.specs.Drawn.{planned_node}
 use Rattle.krates_drawing.specs.Krate.{krate_ids}
 use Rattle.krates.specs.MadeNodes.{nodes_in}
 use Rattle.krates.proofs.DrawnLemmas.{as_many_crates, facts_in, if_graph, stand_there}
@@ -26,34 +26,34 @@ enabled_of-requires g c =
 pub stored-requires-clause-nodes : goal.stored-requires-clause-nodes
 stored-requires-clause-nodes g c =
     let matched = c.in_ok-sets.ensures.matched ∙ (c.len.ensures ∙ c.args.krates.ok.0) in
-    let d = drawn_from (outline_view c.args.outline) c.args.krates.items c.in_ok-sets.sets.items c.in_ok-plan.plan.spots.items c.in_ok-parts.parts.mappings.items c.in_ok-parts.parts.features.items (nodes_in c.in_ok-nodes.nodes) matched c.in_ok-plan.ensures.nodes c.requires.ids c.in_ok-parts.ensures.mappings c.in_ok-parts.ensures.features c.in_ok-nodes.ensures in
-    let count = count_of node_spot (nodes_in c.in_ok-nodes.nodes) (spots (outline_view c.args.outline)) d.spots_are in
+    let d = drawn_from (outline_view c.args.outline) c.args.krates.items c.in_ok-sets.sets.items c.in_ok-plan.plan.planned_nodes.items c.in_ok-parts.parts.mappings.items c.in_ok-parts.parts.features.items (nodes_in c.in_ok-nodes.nodes) matched c.in_ok-plan.ensures.nodes c.requires.ids c.in_ok-parts.ensures.mappings c.in_ok-parts.ensures.features c.in_ok-nodes.ensures in
+    let count = count_of planned_node (nodes_in c.in_ok-nodes.nodes) (planned_nodes (outline_view c.args.outline)) d.planned_are in
     subst (λ n. n ≤ c.args.limits.nodes) (sym count) c.in_ok-plan.ensures.within.nodes
 
 pub stored-requires-clause-edges : goal.stored-requires-clause-edges
 stored-requires-clause-edges g c =
-    let same : map arrow_view c.deref.result.now ≡ lines (outline_view c.args.outline) = ap (λ (xs : List Arrow). map arrow_view xs) c.deref.ensures.value ∙ c.in_ok-plan.ensures.edges in
-    let count = count_of arrow_view c.deref.result.now (lines (outline_view c.args.outline)) same in
+    let same : map planned_edge_view c.deref.result.now ≡ planned_edges (outline_view c.args.outline) = ap (λ (xs : List PlannedEdge). map planned_edge_view xs) c.deref.ensures.value ∙ c.in_ok-plan.ensures.edges in
+    let count = count_of planned_edge_view c.deref.result.now (planned_edges (outline_view c.args.outline)) same in
     subst (λ n. n ≤ c.args.limits.edges) (sym count) c.in_ok-plan.ensures.within.edges
 
 pub stored-requires-clause-stand : goal.stored-requires-clause-stand
 stored-requires-clause-stand g c =
     let matched = c.in_ok-sets.ensures.matched ∙ (c.len.ensures ∙ c.args.krates.ok.0) in
-    let d = drawn_from (outline_view c.args.outline) c.args.krates.items c.in_ok-sets.sets.items c.in_ok-plan.plan.spots.items c.in_ok-parts.parts.mappings.items c.in_ok-parts.parts.features.items (nodes_in c.in_ok-nodes.nodes) matched c.in_ok-plan.ensures.nodes c.requires.ids c.in_ok-parts.ensures.mappings c.in_ok-parts.ensures.features c.in_ok-nodes.ensures in
-    let count = count_of node_spot (nodes_in c.in_ok-nodes.nodes) (spots (outline_view c.args.outline)) d.spots_are in
-    let same : map arrow_view c.deref.result.now ≡ lines (outline_view c.args.outline) = ap (λ (xs : List Arrow). map arrow_view xs) c.deref.ensures.value ∙ c.in_ok-plan.ensures.edges in
+    let d = drawn_from (outline_view c.args.outline) c.args.krates.items c.in_ok-sets.sets.items c.in_ok-plan.plan.planned_nodes.items c.in_ok-parts.parts.mappings.items c.in_ok-parts.parts.features.items (nodes_in c.in_ok-nodes.nodes) matched c.in_ok-plan.ensures.nodes c.requires.ids c.in_ok-parts.ensures.mappings c.in_ok-parts.ensures.features c.in_ok-nodes.ensures in
+    let count = count_of planned_node (nodes_in c.in_ok-nodes.nodes) (planned_nodes (outline_view c.args.outline)) d.planned_are in
+    let same : map planned_edge_view c.deref.result.now ≡ planned_edges (outline_view c.args.outline) = ap (λ (xs : List PlannedEdge). map planned_edge_view xs) c.deref.ensures.value ∙ c.in_ok-plan.ensures.edges in
     stand_there _ _ _ _ c.requires.stand (sym count) (sym same)
 
 pub returns-clause-graph : goal.returns-clause-graph
 returns-clause-graph g c =
     let matched = c.in_ok-sets.ensures.matched ∙ (c.len.ensures ∙ c.args.krates.ok.0) in
-    let d = drawn_from (outline_view c.args.outline) c.args.krates.items c.in_ok-sets.sets.items c.in_ok-plan.plan.spots.items c.in_ok-parts.parts.mappings.items c.in_ok-parts.parts.features.items (nodes_in c.in_ok-nodes.nodes) matched c.in_ok-plan.ensures.nodes c.requires.ids c.in_ok-parts.ensures.mappings c.in_ok-parts.ensures.features c.in_ok-nodes.ensures in
-    let same : map arrow_view c.deref.result.now ≡ lines (outline_view c.args.outline) = ap (λ (xs : List Arrow). map arrow_view xs) c.deref.ensures.value ∙ c.in_ok-plan.ensures.edges in
+    let d = drawn_from (outline_view c.args.outline) c.args.krates.items c.in_ok-sets.sets.items c.in_ok-plan.plan.planned_nodes.items c.in_ok-parts.parts.mappings.items c.in_ok-parts.parts.features.items (nodes_in c.in_ok-nodes.nodes) matched c.in_ok-plan.ensures.nodes c.requires.ids c.in_ok-parts.ensures.mappings c.in_ok-parts.ensures.features c.in_ok-nodes.ensures in
+    let same : map planned_edge_view c.deref.result.now ≡ planned_edges (outline_view c.args.outline) = ap (λ (xs : List PlannedEdge). map planned_edge_view xs) c.deref.ensures.value ∙ c.in_ok-plan.ensures.edges in
     let kids = kids_in c.args.outline in
     let ids = krate_ids c.args.krates.items in
     let facts = ap (λ (fs : List EnabledFeature). map (feature_fact ids) fs) c.in_ok-features.ensures ∙ facts_in ids kids c.args.outline.features.items (c.requires.ids ∙ sym (viewed_ids c.args.outline.krates.items)) in
     if_graph g.N.FromPackage.made_from g.E.FromEdge.made_from_edge (outline_view c.args.outline) c.args.krates.items c.in_ok-sets.sets.items c.in_ok-features.features.items (nodes_in c.in_ok-nodes.nodes)
-    (map arrow_view c.deref.result.now) c.stored.result d matched c.in_ok-sets.ensures.enabled facts same c.stored.ensures.nodes c.stored.ensures.edges
+    (map planned_edge_view c.deref.result.now) c.stored.result d matched c.in_ok-sets.ensures.enabled facts same c.stored.ensures.nodes c.stored.ensures.edges
 
 pub returns-clause-within : goal.returns-clause-within
 returns-clause-within g c = if_within c.args.limits (outline_view c.args.outline) c.stored.result c.in_ok-plan.ensures.within

@@ -6,7 +6,7 @@ use Rattle.krates_drawing.specs.Drawing.{AtCrate, AtFeature, Feature, crate_numb
 use Rattle.krates_drawing.specs.LinesFrom.{line_from}
 use Rattle.krates_drawing.specs.Outline.{Toggle, toggle_of}
 use Rattle.krates_drawing.specs.OutlineOrder.{HaveEnds, has_child, is_by}
-use Rattle.krates_drawing.specs.Views.{arrow_view, kids_in, link_view, outline_view}
+use Rattle.krates_drawing.specs.Views.{planned_edge_view, kids_in, link_view, outline_view}
 use Rattle.krates_drawing.specs.declared.outline.Link.{Link}
 use Rattle.krates_drawing.proofs.Children.{two_parts}
 use Rattle.krates_drawing.proofs.CratePlaces.{id_of_krate, is_in, seen_in, seen_to}
@@ -41,7 +41,7 @@ returns c =
     let p = id_at kids from.krate in
     let q = id_at kids c.args.child in
     let id = id_of_krate ks c.args.child in
-    two_parts (map arrow_view c.args.out.now.items) (map arrow_view c.draw_kept.new.out.items) (map arrow_view c.draw_toggled.new.out.items) _ _ _ _
+    two_parts (map planned_edge_view c.args.out.now.items) (map planned_edge_view c.draw_kept.new.out.items) (map planned_edge_view c.draw_toggled.new.out.items) _ _ _ _
     c.in_ok-draw_kept.ensures c.in_ok-draw_toggled.ensures
     (ap (λ ls. flat_map (λ l. uses t l l.given) (map (link_view kids) ls)) c.links_to.ensures
     ∙ ap (flat_map (λ l. uses t l l.given)) (sym (seen_to ks c.args.child mine sorted c.requires.within home.mine.ends) ∙ ap (λ i. filter (is_to i) (map (link_view kids) mine)) (sym id)))

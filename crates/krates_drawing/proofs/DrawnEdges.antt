@@ -4,34 +4,34 @@ use Rattle.std.specs.List.{flat_map}
 use Rattle.krates_cm.specs.Document.{Text}
 use Rattle.krates_rules.specs.Facts.{Id}
 use Rattle.krates_rules.specs.Kind.{kind_of}
-use Rattle.krates_drawing.specs.Drawing.{id_eq, End, AtCrate, AtFeature, Tie, Dep, DepFeature, Feature, Line, line, uses, is_from, is_to, is_between, from_crate, pair_lines, leads_to, children_lines, crate_lines, targets, meaning_lines, feature_lines, lines}
+use Rattle.krates_drawing.specs.Drawing.{id_eq, Endpoint, AtCrate, AtFeature, EdgeModel, Dep, DepFeature, Feature, PlannedEdge, line, uses, is_from, is_to, is_between, from_crate, pair_lines, leads_to, children_lines, crate_lines, targets, meaning_lines, feature_lines, planned_edges}
 use Rattle.krates_drawing.specs.Outline.{Krate, Link, Meaning, OwnFeature, Crates, FeatureOf, Named, Toggle, Outline}
 use Rattle.krates_rules.proofs.Members.{Member, member_append, member_left, member_right, mapped_of, member_map, kept_of, member_filter, spread_of, member_spread, passing_of, member_any}
 use Rattle.krates_drawing.proofs.NodeNumbers.{both, and_true, id_is, id_same, HasCrate}
 
 -- an edge is drawn from one end to another, with this weight
-pub data IsArrow (t : Outline) : End → End → Tie → Type 0 where
+pub data IsDrawnEdge (t : Outline) : Endpoint → Endpoint → EdgeModel → Type 0 where
   -- a kept edge that gives no feature
-  dep : (l : Link) → Member t.links l → l.given ≡ [] → IsArrow t (AtCrate l.edge.parent) (AtCrate l.edge.child) (Dep (kind_of l.edge.kind) l.edge.cfg)
+  dep : (l : Link) → Member t.links l → l.given ≡ [] → IsDrawnEdge t (AtCrate l.edge.parent) (AtCrate l.edge.child) (Dep (kind_of l.edge.kind) l.edge.cfg)
   -- each feature that a kept edge gives
-  dep_feature : (l : Link) (g : Text) → Member t.links l → Member l.given g → IsArrow t (AtCrate l.edge.parent) (AtFeature l.edge.child g) (DepFeature (kind_of l.edge.kind) l.edge.cfg)
+  dep_feature : (l : Link) (g : Text) → Member t.links l → Member l.given g → IsDrawnEdge t (AtCrate l.edge.parent) (AtFeature l.edge.child g) (DepFeature (kind_of l.edge.kind) l.edge.cfg)
   -- each feature that a crate toggles, if a kept edge leads to the feature's crate
-  toggles : (g : Toggle) (l : Link) → Member t.toggled g → Member t.links l → l.edge.parent ≡ g.by → l.edge.child ≡ g.krate → IsArrow t (AtCrate g.by) (AtFeature g.krate g.name) Feature
+  toggles : (g : Toggle) (l : Link) → Member t.toggled g → Member t.links l → l.edge.parent ≡ g.by → l.edge.child ≡ g.krate → IsDrawnEdge t (AtCrate g.by) (AtFeature g.krate g.name) Feature
   -- an enabled feature, to its own crate
-  own : (n : Named) → Member t.features n → IsArrow t (AtFeature n.krate n.name) (AtCrate n.krate) Feature
+  own : (n : Named) → Member t.features n → IsDrawnEdge t (AtFeature n.krate n.name) (AtCrate n.krate) Feature
   -- to what its references name
-  names : (n : Named) (g : Text) → Member t.features n → Member n.meanings (OwnFeature g) → IsArrow t (AtFeature n.krate n.name) (AtFeature n.krate g) Feature
+  names : (n : Named) (g : Text) → Member t.features n → Member n.meanings (OwnFeature g) → IsDrawnEdge t (AtFeature n.krate n.name) (AtFeature n.krate g) Feature
   names_crate : (n : Named) (ids : List Id) (l : Link) → Member t.features n → Member n.meanings (Crates ids) → Member ids l.edge.child → Member t.links l → l.edge.parent ≡ n.krate
-      → IsArrow t (AtFeature n.krate n.name) (AtCrate l.edge.child) Feature
+      → IsDrawnEdge t (AtFeature n.krate n.name) (AtCrate l.edge.child) Feature
   names_feature : (n : Named) (ids : List Id) (g : Text) (l : Link) → Member t.features n → Member n.meanings (FeatureOf ids g) → Member ids l.edge.child → Member t.links l → l.edge.parent ≡ n.krate
-      → IsArrow t (AtFeature n.krate n.name) (AtFeature l.edge.child g) Feature
+      → IsDrawnEdge t (AtFeature n.krate n.name) (AtFeature l.edge.child g) Feature
 
--- a line is that of some arrow
-pub record Drawn (t : Outline) (x : Line) : Type 0 where
-  pub from : End
-  pub to : End
-  pub tie : Tie
-  pub arrow : IsArrow t from to tie
+-- a line is that of some planned
+pub record Drawn (t : Outline) (x : PlannedEdge) : Type 0 where
+  pub from : Endpoint
+  pub to : Endpoint
+  pub tie : EdgeModel
+  pub planned : IsDrawnEdge t from to tie
   pub is : line t from to tie ≡ x
 
 -- ---- kept edges
@@ -58,17 +58,17 @@ leads_of t p q h =
 pub leads_by : (t : Outline) (p q : Id) → Between t p q → leads_to (from_crate t p) q ≡ true
 leads_by t p q b = member_any (is_to q) (from_crate t p) b.link (in_from t p b.link b.member b.parent) (subst (λ i. id_eq b.link.edge.child i ≡ true) b.child (id_same b.link.edge.child))
 
--- ---- each drawn line is that of some arrow
+-- ---- each drawn line is that of some planned
 
-use_of : (t : Outline) (l : Link) (gs : List Text) (x : Line) → Member t.links l → l.given ≡ gs → Member (uses t l gs) x → Drawn t x
+use_of : (t : Outline) (l : Link) (gs : List Text) (x : PlannedEdge) → Member t.links l → l.given ≡ gs → Member (uses t l gs) x → Drawn t x
 unfolding uses
-use_of t l [] x at e (inl is) = record { from = _; to = _; tie = _; arrow = dep l at e; is = is }
+use_of t l [] x at e (inl is) = record { from = _; to = _; tie = _; planned = dep l at e; is = is }
 use_of t l [] x at e (inr m) = absurd m
 use_of t l (g ∷ gs) x at e m =
     let w = mapped_of (λ f. line t (AtCrate l.edge.parent) (AtFeature l.edge.child f) (DepFeature (kind_of l.edge.kind) l.edge.cfg)) (g ∷ gs) x m in
-    record { from = _; to = _; tie = _; arrow = dep_feature l w.from at (subst (λ fs. Member fs w.from) (sym e) w.member); is = w.is }
+    record { from = _; to = _; tie = _; planned = dep_feature l w.from at (subst (λ fs. Member fs w.from) (sym e) w.member); is = w.is }
 
-pair_of : (t : Outline) (p : Id) (q : Krate) (x : Line) → Between t p q.id → Member (pair_lines t p (from_crate t p) q) x → Drawn t x
+pair_of : (t : Outline) (p : Id) (q : Krate) (x : PlannedEdge) → Between t p q.id → Member (pair_lines t p (from_crate t p) q) x → Drawn t x
 unfolding pair_lines
 pair_of t p q x b m = elim (member_append (flat_map (λ l. uses t l l.given) (filter (is_to q.id) (from_crate t p))) _ x m) [
   | inl here ↦ (
@@ -85,62 +85,62 @@ pair_of t p q x b m = elim (member_append (flat_map (λ l. uses t l l.given) (fi
         from = AtCrate w.from.by;
         to = AtFeature w.from.krate w.from.name;
         tie = Feature;
-        arrow = toggles w.from b.link k.0 b.member (b.parent ∙ sym by) (b.child ∙ sym krate);
+        planned = toggles w.from b.link k.0 b.member (b.parent ∙ sym by) (b.child ∙ sym krate);
         is = ap (λ i. line t (AtCrate i) (AtFeature w.from.krate w.from.name) Feature) by ∙ ap (λ i. line t (AtCrate p) (AtFeature i w.from.name) Feature) krate ∙ w.is;
       })
 ]
 
-crate_of : (t : Outline) (p : Krate) (x : Line) → Member (crate_lines t p) x → Drawn t x
+crate_of : (t : Outline) (p : Krate) (x : PlannedEdge) → Member (crate_lines t p) x → Drawn t x
 unfolding crate_lines children_lines
 crate_of t p x m =
     let w = spread_of (pair_lines t p.id (from_crate t p.id)) (filter (λ q. leads_to (from_crate t p.id) q.id) t.krates) x m in
     let k = kept_of (λ (q : Krate). leads_to (from_crate t p.id) q.id) t.krates w.from w.member in
     pair_of t p.id w.from x (leads_of t p.id w.from.id k.1) w.there
 
-target_of : (t : Outline) (n : Named) (m : Meaning) (e : End) → Member t.features n → Member n.meanings m → Member (targets (from_crate t n.krate) n.krate m) e → IsArrow t (AtFeature n.krate n.name) e Feature
-target_of t n (OwnFeature g) e at among (inl is) = subst (λ z. IsArrow t (AtFeature n.krate n.name) z Feature) is (names n g at among)
+target_of : (t : Outline) (n : Named) (m : Meaning) (e : Endpoint) → Member t.features n → Member n.meanings m → Member (targets (from_crate t n.krate) n.krate m) e → IsDrawnEdge t (AtFeature n.krate n.name) e Feature
+target_of t n (OwnFeature g) e at among (inl is) = subst (λ z. IsDrawnEdge t (AtFeature n.krate n.name) z Feature) is (names n g at among)
 target_of t n (OwnFeature g) e at among (inr m) = absurd m
 target_of t n (Crates ids) e at among m =
     let w = mapped_of AtCrate (filter (leads_to (from_crate t n.krate)) ids) e m in
     let k = kept_of (leads_to (from_crate t n.krate)) ids w.from w.member in
     let b = leads_of t n.krate w.from k.1 in
-    subst (λ z. IsArrow t (AtFeature n.krate n.name) z Feature) (ap AtCrate b.child ∙ w.is) (names_crate n ids b.link at among (subst (Member ids) (sym b.child) k.0) b.member b.parent)
+    subst (λ z. IsDrawnEdge t (AtFeature n.krate n.name) z Feature) (ap AtCrate b.child ∙ w.is) (names_crate n ids b.link at among (subst (Member ids) (sym b.child) k.0) b.member b.parent)
 target_of t n (FeatureOf ids g) e at among m =
     let w = mapped_of (λ q. AtFeature q g) (filter (leads_to (from_crate t n.krate)) ids) e m in
     let k = kept_of (leads_to (from_crate t n.krate)) ids w.from w.member in
     let b = leads_of t n.krate w.from k.1 in
-    subst (λ z. IsArrow t (AtFeature n.krate n.name) z Feature) (ap (λ q. AtFeature q g) b.child ∙ w.is) (names_feature n ids g b.link at among (subst (Member ids) (sym b.child) k.0) b.member b.parent)
+    subst (λ z. IsDrawnEdge t (AtFeature n.krate n.name) z Feature) (ap (λ q. AtFeature q g) b.child ∙ w.is) (names_feature n ids g b.link at among (subst (Member ids) (sym b.child) k.0) b.member b.parent)
 
-feature_of : (t : Outline) (n : Named) (x : Line) → Member t.features n → Member (feature_lines t n) x → Drawn t x
+feature_of : (t : Outline) (n : Named) (x : PlannedEdge) → Member t.features n → Member (feature_lines t n) x → Drawn t x
 unfolding feature_lines meaning_lines
-feature_of t n x at (inl is) = record { from = _; to = _; tie = _; arrow = own n at; is = is }
+feature_of t n x at (inl is) = record { from = _; to = _; tie = _; planned = own n at; is = is }
 feature_of t n x at (inr m) =
     let w = spread_of (meaning_lines t n (from_crate t n.krate)) n.meanings x m in
     let k = mapped_of (λ e. line t (AtFeature n.krate n.name) e Feature) (targets (from_crate t n.krate) n.krate w.from) x w.there in
-    record { from = _; to = k.from; tie = _; arrow = target_of t n w.from k.from at w.member k.member; is = k.is }
+    record { from = _; to = k.from; tie = _; planned = target_of t n w.from k.from at w.member k.member; is = k.is }
 
-pub drawn_of : (t : Outline) (x : Line) → Member (lines t) x → Drawn t x
-unfolding lines
+pub drawn_of : (t : Outline) (x : PlannedEdge) → Member (planned_edges t) x → Drawn t x
+unfolding planned_edges
 drawn_of t x m = elim (member_append (flat_map (crate_lines t) t.krates) _ x m) [
   | inl here ↦ (let w = spread_of (crate_lines t) t.krates x here in crate_of t w.from x w.there)
   | inr more ↦ (let w = spread_of (feature_lines t) t.features x more in feature_of t w.from x w.member w.there)
 ]
 
--- ---- each arrow has its line, if the ends of kept edges are kept
+-- ---- each planned has its line, if the ends of kept edges are kept
 
 abbrev pub KeepsEnds : Outline → Type 0
 KeepsEnds t = (l : Link) → Member t.links l → HasCrate t l.edge.parent × HasCrate t l.edge.child
 
 -- what is drawn between two kept crates
-pair_in : (t : Outline) (p q : Krate) (x : Line) → Member t.krates p → Member t.krates q → Between t p.id q.id → Member (pair_lines t p.id (from_crate t p.id) q) x → Member (lines t) x
-unfolding lines crate_lines children_lines
+pair_in : (t : Outline) (p q : Krate) (x : PlannedEdge) → Member t.krates p → Member t.krates q → Between t p.id q.id → Member (pair_lines t p.id (from_crate t p.id) q) x → Member (planned_edges t) x
+unfolding planned_edges crate_lines children_lines
 pair_in t p q x at_p at_q b m =
     member_left (flat_map (crate_lines t) t.krates) _ x
     (member_spread (crate_lines t) t.krates p x at_p
     (member_spread (pair_lines t p.id (from_crate t p.id)) (filter (λ z. leads_to (from_crate t p.id) z.id) t.krates) q x (member_filter (λ (z : Krate). leads_to (from_crate t p.id) z.id) t.krates q (leads_by t p.id q.id b) at_q) m))
 
 -- a line between two crates is drawn where the ends of a link are kept
-between_in : (t : Outline) (p q : Id) (x : Line) → KeepsEnds t → (b : Between t p q) → ((k : Krate) → k.id ≡ q → Member (pair_lines t p (from_crate t p) k) x) → Member (lines t) x
+between_in : (t : Outline) (p q : Id) (x : PlannedEdge) → KeepsEnds t → (b : Between t p q) → ((k : Krate) → k.id ≡ q → Member (pair_lines t p (from_crate t p) k) x) → Member (planned_edges t) x
 between_in t p q x ends b there =
     let k = ends b.link b.member in
     let at_p : (k.0).krate.id ≡ p = (k.0).id ∙ b.parent in
@@ -148,7 +148,7 @@ between_in t p q x ends b there =
     let link : Between t (k.0).krate.id (k.1).krate.id = record { link = b.link; member = b.member; parent = b.parent ∙ sym at_p; child = b.child ∙ sym at_q } in
     pair_in t (k.0).krate (k.1).krate x (k.0).member (k.1).member link (subst (λ i. Member (pair_lines t i (from_crate t i) (k.1).krate) x) (sym at_p) (there (k.1).krate at_q))
 
-use_in : (t : Outline) (l : Link) (x : Line) → KeepsEnds t → Member t.links l → Member (uses t l l.given) x → Member (lines t) x
+use_in : (t : Outline) (l : Link) (x : PlannedEdge) → KeepsEnds t → Member t.links l → Member (uses t l l.given) x → Member (planned_edges t) x
 unfolding pair_lines
 use_in t l x ends at m = between_in t l.edge.parent l.edge.child x ends (record { link = l; member = at; parent = refl; child = refl }) there
   where
@@ -158,11 +158,11 @@ use_in t l x ends at m = between_in t l.edge.parent l.edge.child x ends (record 
         let passes : is_to k.id l ≡ true = subst (λ i. id_eq l.edge.child i ≡ true) (sym e) (id_same l.edge.child) in
         member_left (flat_map (λ z. uses t z z.given) (filter (is_to k.id) mine)) _ x (member_spread (λ z. uses t z z.given) (filter (is_to k.id) mine) l x (member_filter (is_to k.id) mine l passes (in_from t l.edge.parent l at refl)) m)
 
-toggle_in : (t : Outline) (g : Toggle) (l : Link) → KeepsEnds t → Member t.toggled g → Member t.links l → l.edge.parent ≡ g.by → l.edge.child ≡ g.krate → Member (lines t) (line t (AtCrate g.by) (AtFeature g.krate g.name) Feature)
+toggle_in : (t : Outline) (g : Toggle) (l : Link) → KeepsEnds t → Member t.toggled g → Member t.links l → l.edge.parent ≡ g.by → l.edge.child ≡ g.krate → Member (planned_edges t) (line t (AtCrate g.by) (AtFeature g.krate g.name) Feature)
 unfolding pair_lines
 toggle_in t g l ends at kept by theirs = between_in t g.by g.krate x ends (record { link = l; member = kept; parent = by; child = theirs }) there
   where
-    x : Line
+    x : PlannedEdge
     x = line t (AtCrate g.by) (AtFeature g.krate g.name) Feature
 
     there : (k : Krate) → k.id ≡ g.krate → Member (pair_lines t g.by (from_crate t g.by) k) x
@@ -172,11 +172,11 @@ toggle_in t g l ends at kept by theirs = between_in t g.by g.krate x ends (recor
         let same : line t (AtCrate g.by) (AtFeature k.id g.name) Feature ≡ x = ap (λ i. line t (AtCrate g.by) (AtFeature i g.name) Feature) e in
         member_right (flat_map (λ z. uses t z z.given) (filter (is_to k.id) (from_crate t g.by))) _ x (subst (Member (map (λ z. line t (AtCrate g.by) (AtFeature k.id z.name) Feature) (filter (is_between g.by k.id) t.toggled))) same here)
 
-feature_in : (t : Outline) (n : Named) (x : Line) → Member t.features n → Member (feature_lines t n) x → Member (lines t) x
-unfolding lines
+feature_in : (t : Outline) (n : Named) (x : PlannedEdge) → Member t.features n → Member (feature_lines t n) x → Member (planned_edges t) x
+unfolding planned_edges
 feature_in t n x at m = member_right (flat_map (crate_lines t) t.krates) _ x (member_spread (feature_lines t) t.features n x at m)
 
-meaning_in : (t : Outline) (n : Named) (m : Meaning) (e : End) → Member t.features n → Member n.meanings m → Member (targets (from_crate t n.krate) n.krate m) e → Member (lines t) (line t (AtFeature n.krate n.name) e Feature)
+meaning_in : (t : Outline) (n : Named) (m : Meaning) (e : Endpoint) → Member t.features n → Member n.meanings m → Member (targets (from_crate t n.krate) n.krate m) e → Member (planned_edges t) (line t (AtFeature n.krate n.name) e Feature)
 unfolding feature_lines meaning_lines
 meaning_in t n m e at among there =
     let x = line t (AtFeature n.krate n.name) e Feature in
@@ -186,18 +186,18 @@ meaning_in t n m e at among there =
 referent_in : (t : Outline) (p : Id) (ids : List Id) (l : Link) → Member ids l.edge.child → Member t.links l → l.edge.parent ≡ p → Member (filter (leads_to (from_crate t p)) ids) l.edge.child
 referent_in t p ids l among at e = member_filter (leads_to (from_crate t p)) ids l.edge.child (leads_by t p l.edge.child (record { link = l; member = at; parent = e; child = refl })) among
 
-pub arrow_in : (t : Outline) (from to : End) (tie : Tie) → KeepsEnds t → IsArrow t from to tie → Member (lines t) (line t from to tie)
+pub edge_in : (t : Outline) (from to : Endpoint) (tie : EdgeModel) → KeepsEnds t → IsDrawnEdge t from to tie → Member (planned_edges t) (line t from to tie)
 unfolding uses feature_lines
-arrow_in t _ _ _ ends (dep l at none) =
+edge_in t _ _ _ ends (dep l at none) =
     let x = line t (AtCrate l.edge.parent) (AtCrate l.edge.child) (Dep (kind_of l.edge.kind) l.edge.cfg) in
     use_in t l x ends at (subst (λ gs. Member (uses t l gs) x) (sym none) (inl refl))
-arrow_in t _ _ _ ends (dep_feature l g at gives) = use_in t l _ ends at (given_line l.given gives)
+edge_in t _ _ _ ends (dep_feature l g at gives) = use_in t l _ ends at (given_line l.given gives)
   where
     given_line : (gs : List Text) → Member gs g → Member (uses t l gs) (line t (AtCrate l.edge.parent) (AtFeature l.edge.child g) (DepFeature (kind_of l.edge.kind) l.edge.cfg))
     given_line [] m = absurd m
     given_line (f ∷ fs) m = member_map (λ z. line t (AtCrate l.edge.parent) (AtFeature l.edge.child z) (DepFeature (kind_of l.edge.kind) l.edge.cfg)) (f ∷ fs) g m
-arrow_in t _ _ _ ends (toggles g l at kept by theirs) = toggle_in t g l ends at kept by theirs
-arrow_in t _ _ _ ends (own n at) = feature_in t n _ at (inl refl)
-arrow_in t _ _ _ ends (names n g at among) = meaning_in t n (OwnFeature g) _ at among (inl refl)
-arrow_in t _ _ _ ends (names_crate n ids l at among means kept e) = meaning_in t n (Crates ids) _ at among (member_map AtCrate _ _ (referent_in t n.krate ids l means kept e))
-arrow_in t _ _ _ ends (names_feature n ids g l at among means kept e) = meaning_in t n (FeatureOf ids g) _ at among (member_map (λ q. AtFeature q g) _ _ (referent_in t n.krate ids l means kept e))
+edge_in t _ _ _ ends (toggles g l at kept by theirs) = toggle_in t g l ends at kept by theirs
+edge_in t _ _ _ ends (own n at) = feature_in t n _ at (inl refl)
+edge_in t _ _ _ ends (names n g at among) = meaning_in t n (OwnFeature g) _ at among (inl refl)
+edge_in t _ _ _ ends (names_crate n ids l at among means kept e) = meaning_in t n (Crates ids) _ at among (member_map AtCrate _ _ (referent_in t n.krate ids l means kept e))
+edge_in t _ _ _ ends (names_feature n ids g l at among means kept e) = meaning_in t n (FeatureOf ids g) _ at among (member_map (λ q. AtFeature q g) _ _ (referent_in t n.krate ids l means kept e))
