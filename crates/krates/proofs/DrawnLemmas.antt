@@ -14,13 +14,13 @@ use Rattle.krates_drawing.specs.Agreement.{DependsOn}
 use Rattle.krates_drawing.specs.Drawing.{PlannedEdge, planned_edges, planned_nodes}
 use Rattle.krates_drawing.specs.Ends.{EndsStand, HasEnds}
 use Rattle.krates_drawing.specs.Outline as model
-use Rattle.krates_drawing.specs.Outline.{IsKrate, IsNamed, IsOutline}
+use Rattle.krates_drawing.specs.Outline.{IsCrateRow, IsFeatureRow, IsOutline}
 use Rattle.krates_drawing.specs.OutlineOrder.{IsOrdered}
 use Rattle.krates_drawing.specs.Stored.{IsStoredAs}
-use Rattle.krates_drawing.specs.Views.{krate_view, named_view, outline_view}
+use Rattle.krates_drawing.specs.Views.{crate_row_view, feature_row_view, outline_view}
 use Rattle.krates_drawing.specs.declared.edge.Edge.{Edge}
-use Rattle.krates_drawing.specs.declared.outline.Krate.{Krate as OutlineKrate}
-use Rattle.krates_drawing.specs.declared.outline.Named.{Named}
+use Rattle.krates_drawing.specs.declared.outline.CrateRow.{CrateRow}
+use Rattle.krates_drawing.specs.declared.outline.FeatureRow.{FeatureRow}
 use Rattle.krates_drawing.specs.declared.outline.Outline.{Outline}
 use Rattle.krates_graph.specs.Graph.{StoredGraph}
 use Rattle.krates_ids.specs.Identity.{Identity, id_cmp}
@@ -82,21 +82,21 @@ if_ordered m s x r (Ok t) h f = λ sel. f (selected_in m s x r sel h)
 if_ordered m s x r (Err e) h f = tt
 
 -- the ids of the outline are those of the selection
-ids_same : (r : Resolved) (is : List Identity) (ks : List model.Krate) → AllZip (IsKrate r) is ks → map id_of is ≡ map (λ (k : model.Krate). k.id) ks
+ids_same : (r : Resolved) (is : List Identity) (ks : List model.CrateRow) → AllZip (IsCrateRow r) is ks → map id_of is ≡ map (λ (k : model.CrateRow). k.id) ks
 ids_same r [] [] h = refl
 ids_same r [] (k ∷ ks) h = absurd h
 ids_same r (i ∷ is) [] h = absurd h
-ids_same r (i ∷ is) (k ∷ ks) h = ap (λ js. id_of i ∷ js) (ids_same r is ks h.1) ∙ ap (λ j. j ∷ map (λ (x : model.Krate). x.id) ks) (sym h.0.id)
+ids_same r (i ∷ is) (k ∷ ks) h = ap (λ js. id_of i ∷ js) (ids_same r is ks h.1) ∙ ap (λ j. j ∷ map (λ (x : model.CrateRow). x.id) ks) (sym h.0.id)
 
 -- ---- the features of the outline
 
 -- features of crates whose ids are the same are the same facts
-pub facts_in : (ids kids : List Identity) (ns : List Named) → map id_of ids ≡ map id_of kids → map (feature_fact ids) (map (λ (n : Named). n.feature) ns) ≡ map named_fact (map (named_view kids) ns)
+pub facts_in : (ids kids : List Identity) (ns : List FeatureRow) → map id_of ids ≡ map id_of kids → map (feature_fact ids) (map (λ (n : FeatureRow). n.feature) ns) ≡ map named_fact (map (feature_row_view kids) ns)
 facts_in ids kids [] e = refl
 facts_in ids kids (n ∷ ns) e =
-    ap (λ fs. feature_fact ids n.feature ∷ fs) (facts_in ids kids ns e) ∙ ap (λ (is : List Id). Feature (get_or is n.feature.krate no_id) (text_view n.feature.name) ∷ map named_fact (map (named_view kids) ns)) e
+    ap (λ fs. feature_fact ids n.feature ∷ fs) (facts_in ids kids ns e) ∙ ap (λ (is : List Id). Feature (get_or is n.feature.krate no_id) (text_view n.feature.name) ∷ map named_fact (map (feature_row_view kids) ns)) e
 
-facts_same : (r : Resolved) (all : Bool) (kids : List Identity) (fs : List EnabledFeature) (ns : List model.Named) → AllZip (IsNamed r all kids) fs ns → map (feature_fact kids) fs ≡ map named_fact ns
+facts_same : (r : Resolved) (all : Bool) (kids : List Identity) (fs : List EnabledFeature) (ns : List model.FeatureRow) → AllZip (IsFeatureRow r all kids) fs ns → map (feature_fact kids) fs ≡ map named_fact ns
 facts_same r all kids [] [] h = refl
 facts_same r all kids [] (n ∷ ns) h = absurd h
 facts_same r all kids (f ∷ fs) [] h = absurd h
@@ -109,9 +109,9 @@ pub facts_named : (m : MetadataModel) (s : SettingModel) (t : Outline) → (h : 
 facts_named m s t h = facts_same (resolved m h.graph) s.all_named h.holds.selection.krates.items h.holds.selection.features.items (outline_view t).features h.holds.is_outline.features
 
 -- the crates of an outline are as many as those with the same ids
-pub as_many_crates : (krates : List Krate) (ks : List OutlineKrate) → map id_of (krate_ids krates) ≡ map (λ (k : model.Krate). k.id) (map krate_view ks) → length ks ≡ length krates
+pub as_many_crates : (krates : List Krate) (ks : List CrateRow) → map id_of (krate_ids krates) ≡ map (λ (k : model.CrateRow). k.id) (map crate_row_view ks) → length ks ≡ length krates
 as_many_crates krates ks e =
-    sym (length-map ks (λ (k : OutlineKrate). k.id)) ∙ sym (length-map (outline_ids ks) id_of) ∙ ap length (viewed_ids ks ∙ sym e) ∙ length-map (krate_ids krates) id_of ∙ mapped_length krates
+    sym (length-map ks (λ (k : CrateRow). k.id)) ∙ sym (length-map (outline_ids ks) id_of) ∙ ap length (viewed_ids ks ∙ sym e) ∙ length-map (krate_ids krates) id_of ∙ mapped_length krates
 
 -- what is enabled by number is enabled by id
 enabled_by_id : (ids : List Identity) (lists : List (List Text)) (features : List EnabledFeature) → length lists ≡ length ids → ((n : ℕ) (f : Text) → IsNameAt lists n f ↔ Contains (map numbered features) (n, f))
@@ -186,7 +186,7 @@ stand_there n m ls ks h e f = subst (λ xs. All (HasEnds m) xs) f (subst (λ x. 
 
 -- the ids of the outline are those of the selection
 selected_ids : (m : MetadataModel) (s : SettingModel) (t : Outline) → (h : IsOutlineFor m s (outline_view t)) → map id_of (outline_ids t.krates.items) ≡ map id_of h.holds.selection.krates.items
-selected_ids m s t h = viewed_ids t.krates.items ∙ sym (ids_same (resolved m h.graph) h.holds.selection.krates.items (map krate_view t.krates.items) h.holds.is_outline.krates)
+selected_ids m s t h = viewed_ids t.krates.items ∙ sym (ids_same (resolved m h.graph) h.holds.selection.krates.items (map crate_row_view t.krates.items) h.holds.is_outline.krates)
 
 selects : (m : MetadataModel) (s : SettingModel) (t : model.Outline) → (h : IsOutlineFor m s t) → Selects m s h.holds.selection
 selects m s t h = record { graph = h.graph; has_graph = h.has_graph; holds = h.holds.selected }
@@ -198,7 +198,7 @@ builds_outline once m s t d h div = builds once m s h.holds.selection (outline_i
 
 -- the ids of the kept packages are those of the outline, place by place
 pub kept_ids : Compares → (m : Metadata) (s : SettingModel) (t : Outline) (d : Division) → IsOutlineFor (metadata_view m) s (outline_view t) → IsOrdered t → Builds m s d
-    → map id_of (krate_ids d.kept.items) ≡ map (λ (k : model.Krate). k.id) (outline_view t).krates
+    → map id_of (krate_ids d.kept.items) ≡ map (λ (k : model.CrateRow). k.id) (outline_view t).krates
 kept_ids o m s t d h ordered b =
     let x = h.holds.selection in
     let ids : List Identity = krate_ids d.kept.items in
@@ -217,7 +217,7 @@ kept_ids o m s t d h ordered b =
 pub graph_nodes : Compares → {N E : Type 0} (made : Package → N → Type 0) (made_edge : Edge → E → Type 0) (m : Metadata) (s : SettingModel) (t : Outline) (d : Division) (g : StoredGraph (Node N) E)
     → IsOutlineFor (metadata_view m) s (outline_view t) → IsOrdered t → Builds m s d → IsGraphOf made made_edge (outline_view t) d.kept.items g → length d.kept.items < 2 ^ 32 → length g.nodes < 2 ^ 32 → AreNodes g.nodes
 graph_nodes o made made_edge m s t d g h ordered b w few numbered =
-    let ids : map id_of (crate_ids g.nodes) ≡ map (λ (k : model.Krate). k.id) (outline_view t).krates = ap (λ (is : List Identity). map id_of is) w.ids ∙ kept_ids o m s t d h ordered b in
+    let ids : map id_of (crate_ids g.nodes) ≡ map (λ (k : model.CrateRow). k.id) (outline_view t).krates = ap (λ (is : List Identity). map id_of is) w.ids ∙ kept_ids o m s t d h ordered b in
     let ascending = subst (λ (is : List Identity). IsStrictlySortedBy id_cmp is) (sym w.ids) b.packages.ascending in
     let enabled_by = λ (i : Id) (f : Text).
     subst (λ (is : List Identity). IsEnabledIn (crate_ids g.nodes) (crate_features g.nodes) i f ↔ (IsAmong is i × Contains (map named_fact (outline_view t).features) (Feature i f))) (sym w.ids) (w.enabled i f) in

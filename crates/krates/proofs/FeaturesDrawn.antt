@@ -10,9 +10,9 @@ use Rattle.krates_drawing.proofs.NodeNumbers.{id_is, id_same}
 use Rattle.krates_drawing.specs.Drawing.{PlannedNode, PlannedCrate, PlannedFeature, crate_number, planned_crate, planned_feature, id_eq, is_crate, place_of, planned_nodes}
 use Rattle.krates_drawing.specs.Outline as outline
 use Rattle.krates_drawing.specs.OutlineOrder.{IsOrdered}
-use Rattle.krates_drawing.specs.Views.{kids_in, krate_view, named_view, outline_view}
-use Rattle.krates_drawing.specs.declared.outline.Krate.{Krate as OutlineKrate}
-use Rattle.krates_drawing.specs.declared.outline.Named.{Named}
+use Rattle.krates_drawing.specs.Views.{kids_in, crate_row_view, feature_row_view, outline_view}
+use Rattle.krates_drawing.specs.declared.outline.CrateRow.{CrateRow}
+use Rattle.krates_drawing.specs.declared.outline.FeatureRow.{FeatureRow}
 use Rattle.krates_drawing.specs.declared.outline.Outline.{Outline}
 use Rattle.krates_ids.specs.Identity.{Identity, empty_identity, id_cmp}
 use Rattle.krates_rules.proofs.SeenInOrder.{sorted_same}
@@ -38,7 +38,7 @@ use Rattle.krates_rules.proofs.OrderedIds.{Compares, equal_of}
 -- ---- the names of the features are those of the outline
 
 -- the number of its crate, and its name
-abbrev pub named_key : outline.Outline → outline.Named → ℕ × Text
+abbrev pub named_key : outline.Outline → outline.FeatureRow → ℕ × Text
 named_key t n = (crate_number t n.krate, n.name)
 
 abbrev planned_names : List PlannedNode → List (ℕ × Text)
@@ -51,7 +51,7 @@ names_of_planned [] = refl
 names_of_planned (Krate id krate features mapping ∷ nodes) = names_of_planned nodes
 names_of_planned (Feature krate name ∷ nodes) = ap (λ xs. (krate, text_view name) ∷ xs) (names_of_planned nodes)
 
-names_drawn : (t : outline.Outline) (ks : List outline.Krate) (fs : List outline.Named) → planned_names (map (planned_crate t) ks ++ map (planned_feature t) fs) ≡ map (named_key t) fs
+names_drawn : (t : outline.Outline) (ks : List outline.CrateRow) (fs : List outline.FeatureRow) → planned_names (map (planned_crate t) ks ++ map (planned_feature t) fs) ≡ map (named_key t) fs
 names_drawn t [] [] = refl
 names_drawn t [] (f ∷ fs) = ap (λ xs. named_key t f ∷ xs) (names_drawn t [] fs)
 names_drawn t (k ∷ ks) fs = names_drawn t ks fs
@@ -70,7 +70,7 @@ behind x [] n y h at = absurd cc
 behind x (k ∷ ids) zero y h at = let same : k ≡ y = cc at in subst (λ z. id_cmp x z ≡ Less) same h.0
 behind x (k ∷ ids) (suc n) y h at = behind x ids n y h.1 at
 
-pub number_is : Compares → (ids : List Identity) (ks : List outline.Krate) (i : Id) (n : ℕ) → map id_of ids ≡ map (λ (k : outline.Krate). k.id) ks → IsStrictlySortedBy id_cmp ids
+pub number_is : Compares → (ids : List Identity) (ks : List outline.CrateRow) (i : Id) (n : ℕ) → map id_of ids ≡ map (λ (k : outline.CrateRow). k.id) ks → IsStrictlySortedBy id_cmp ids
     → StandsAt ids i n → place_of (is_crate i) ks ≡ n
 unfolding IsStrictlySortedBy
 number_is o [] ks i n e s h = absurd cc (h.at)
@@ -82,7 +82,7 @@ number_is o (x ∷ ids) (k ∷ ks) i zero e s h =
     ap (λ b. cond b 0 (suc (place_of (is_crate i) ks))) (subst (λ j. id_eq k.id j ≡ true) is (id_same k.id))
 number_is o (x ∷ ids) (k ∷ ks) i (suc n) e s h =
     let head : id_of x ≡ k.id = cc in
-    let rest : map id_of ids ≡ map (λ (z : outline.Krate). z.id) ks = cc in
+    let rest : map id_of ids ≡ map (λ (z : outline.CrateRow). z.id) ks = cc in
     let less : id_cmp x h.there ≡ Less = behind x ids n h.there s.0 h.at in
     let apart : (k.id ≡ i) → ⊥ = λ is. (let equal : id_cmp x h.there ≡ Equal = equal_of o x h.there (head ∙ is ∙ sym h.same) in cc (less, equal)) in
     ap (λ b. cond b 0 (suc (place_of (is_crate i) ks))) (not_equal k.id i apart (id_eq k.id i) refl)
@@ -90,7 +90,7 @@ number_is o (x ∷ ids) (k ∷ ks) i (suc n) e s h =
 
 -- ---- crates by number
 
-pub viewed_ids : (ks : List OutlineKrate) → map id_of (outline_ids ks) ≡ map (λ (k : outline.Krate). k.id) (map krate_view ks)
+pub viewed_ids : (ks : List CrateRow) → map id_of (outline_ids ks) ≡ map (λ (k : outline.CrateRow). k.id) (map crate_row_view ks)
 viewed_ids [] = refl
 viewed_ids (k ∷ ks) = ap (λ js. id_of k.id ∷ js) (viewed_ids ks)
 
@@ -102,12 +102,12 @@ pub stands_here : (ids : List Identity) (n : ℕ) (i : Id) → n < length ids �
 stands_here ids n i lt e = record { there = get_or ids n empty_identity; at = slice_get-get_or ids n empty_identity lt; same = sym (seen_id ids n lt) ∙ e }
 
 -- the crates of an outline stand where those of the same ids do
-module _ (t : Outline) (ids : List Identity) (e : map id_of ids ≡ map (λ (k : outline.Krate). k.id) (outline_view t).krates) where
+module _ (t : Outline) (ids : List Identity) (e : map id_of ids ≡ map (λ (k : outline.CrateRow). k.id) (outline_view t).krates) where
   same_ids : map id_of ids ≡ map id_of (kids_in t)
   same_ids = e ∙ sym (viewed_ids t.krates.items)
 
   as_many : length t.krates.items ≡ length ids
-  as_many = sym (length-map t.krates.items (λ (k : OutlineKrate). k.id)) ∙ sym (length-map (kids_in t) id_of) ∙ sym (ap length same_ids) ∙ length-map ids id_of
+  as_many = sym (length-map t.krates.items (λ (k : CrateRow). k.id)) ∙ sym (length-map (kids_in t) id_of) ∙ sym (ap length same_ids) ∙ length-map ids id_of
 
   stands_by_number : (n : ℕ) → n < length t.krates.items → StandsAt ids (id_at (kids_in t) n) n
   stands_by_number n lt = stands_here ids n (id_at (kids_in t) n) (subst (λ k. n < k) as_many lt) (ap (λ (is : List Id). get_or is n no_id) same_ids)
@@ -118,24 +118,24 @@ module _ (t : Outline) (ids : List Identity) (e : map id_of ids ≡ map (λ (k :
 
 -- ---- the features ascend
 
-abbrev key_of : Outline → Named → ℕ × Text
+abbrev key_of : Outline → FeatureRow → ℕ × Text
 key_of t f = (crate_number (outline_view t) (id_at (kids_in t) f.feature.krate), text_view f.feature.name)
 
 -- the features of the outline with their numbers
-abbrev numbers_of : List Named → List (ℕ × Text)
-numbers_of fs = map numbered (map (λ (f : Named). f.feature) fs)
+abbrev numbers_of : List FeatureRow → List (ℕ × Text)
+numbers_of fs = map numbered (map (λ (f : FeatureRow). f.feature) fs)
 
-keys_seen : (t : Outline) (fs : List Named) → map (named_key (outline_view t)) (map (named_view (kids_in t)) fs) ≡ map (key_of t) fs
+keys_seen : (t : Outline) (fs : List FeatureRow) → map (named_key (outline_view t)) (map (feature_row_view (kids_in t)) fs) ≡ map (key_of t) fs
 keys_seen t [] = refl
 keys_seen t (f ∷ fs) = ap (λ xs. key_of t f ∷ xs) (keys_seen t fs)
 
-keys_are : (t : Outline) (fs : List Named) → ((f : Named) → Member fs f → (key_of t f).0 ≡ f.feature.krate) → map (key_of t) fs ≡ numbers_of fs
+keys_are : (t : Outline) (fs : List FeatureRow) → ((f : FeatureRow) → Member fs f → (key_of t f).0 ≡ f.feature.krate) → map (key_of t) fs ≡ numbers_of fs
 keys_are t [] h = refl
 keys_are t (f ∷ fs) h = ap (λ (n : ℕ). (n, text_view f.feature.name) ∷ map (key_of t) fs) (h f (inl refl)) ∙ ap (λ xs. numbered f.feature ∷ xs) (keys_are t fs (λ g m. h g (inr m)))
 
 -- ---- the features are sorted, and are those enabled for the crates
 
-pub are_features : Compares → {N : Type 0} (t : Outline) (nodes : List (Node N)) → map planned_node nodes ≡ planned_nodes (outline_view t) → map id_of (crate_ids nodes) ≡ map (λ (k : outline.Krate). k.id) (outline_view t).krates
+pub are_features : Compares → {N : Type 0} (t : Outline) (nodes : List (Node N)) → map planned_node nodes ≡ planned_nodes (outline_view t) → map id_of (crate_ids nodes) ≡ map (λ (k : outline.CrateRow). k.id) (outline_view t).krates
     → IsStrictlySortedBy id_cmp (crate_ids nodes) → IsOrdered t
     → ((i : Id) (f : Text) → IsEnabledIn (crate_ids nodes) (crate_features nodes) i f ↔ (IsAmong (crate_ids nodes) i × Contains (map named_fact (outline_view t).features) (facts.Feature i f)))
     → AreFeatures nodes
@@ -143,10 +143,10 @@ are_features o t nodes drawn ids s ordered enabled =
     let seen : feature_names nodes ≡ map (named_key (outline_view t)) (outline_view t).features = names_are (outline_view t) nodes drawn in
     let names : feature_names nodes ≡ map (key_of t) t.features.items = seen ∙ keys_seen t t.features.items in
     let krates = (outline_view t).krates in
-    let home : (f : Named) → Member t.features.items f → f.feature.krate < length t.krates.items = λ f m. All-contains (λ (n : Named). HasHome (length t.krates.items) n.feature) t.features.items f ordered.homes (contains_of t.features.items f m) in
+    let home : (f : FeatureRow) → Member t.features.items f → f.feature.krate < length t.krates.items = λ f m. All-contains (λ (n : FeatureRow). HasHome (length t.krates.items) n.feature) t.features.items f ordered.homes (contains_of t.features.items f m) in
     let numbers = keys_are t t.features.items (λ f m. own_number t (crate_ids nodes) ids o s f.feature.krate (home f m)) in
     record {
-      ascending = subst (λ (ns : List (ℕ × Text)). IsStrictlySortedBy feature_order ns) (sym (names ∙ numbers)) (sorted_same feature_cmp feature_order numbered (λ a b. refl) (map (λ (f : Named). f.feature) t.features.items) ordered.features);
+      ascending = subst (λ (ns : List (ℕ × Text)). IsStrictlySortedBy feature_order ns) (sym (names ∙ numbers)) (sorted_same feature_cmp feature_order numbered (λ a b. refl) (map (λ (f : FeatureRow). f.feature) t.features.items) ordered.features);
       exactly = λ n name. (
         λ c.
             (let w = mapped_of (key_of t) t.features.items (n, name) (member_of (map (key_of t) t.features.items) (n, name) (subst (λ (ns : List (ℕ × Text)). Contains ns (n, name)) names c)) in
@@ -156,7 +156,7 @@ are_features o t nodes drawn ids s ordered enabled =
             let first : crate_number (outline_view t) i ≡ n = ap (λ (p : ℕ × Text). p.0) w.is in
             let second : f ≡ name = ap (λ (p : ℕ × Text). p.1) w.is in
             let among = contains_of (map id_of (crate_ids nodes)) i (subst (λ (z : Id). Member (map id_of (crate_ids nodes)) z) x.same (listed_at (crate_ids nodes) w.from.feature.krate x.there x.at)) in
-            let fact = contains_of (map named_fact (outline_view t).features) (facts.Feature i f) (member_map named_fact (outline_view t).features (named_view (kids_in t) w.from) (member_map (named_view (kids_in t)) t.features.items w.from w.member)) in
+            let fact = contains_of (map named_fact (outline_view t).features) (facts.Feature i f) (member_map named_fact (outline_view t).features (feature_row_view (kids_in t) w.from) (member_map (feature_row_view (kids_in t)) t.features.items w.from w.member)) in
             let e = (enabled i f).1 (among, fact) in
             let place : e.theirs.place ≡ n = sym (number_is o (crate_ids nodes) krates i e.theirs.place ids s e.theirs.stands) ∙ first in
             record {

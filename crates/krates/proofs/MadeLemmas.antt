@@ -56,11 +56,11 @@ Mapping = Vec (Option ℕ)
 abbrev nodes_for : List DrawnFeature → List (Node Package)
 nodes_for fs = map feature_node fs
 
-record Parted (t : Outline) (ks : List outline.Krate) (fs : List outline.Named) (xs : List PlannedNode) : Type 0 where
+record Parted (t : Outline) (ks : List outline.CrateRow) (fs : List outline.FeatureRow) (xs : List PlannedNode) : Type 0 where
   mappings : flat_map mapping_in xs ≡ map (mapping t) ks
   features : map planned_node (nodes_for (flat_map feature_in xs)) ≡ map (planned_feature t) fs
 
-parted : (t : Outline) (ks : List outline.Krate) (fs : List outline.Named) (xs : List PlannedNode) → map planned_node_view xs ≡ map (planned_crate t) ks ++ map (planned_feature t) fs → Parted t ks fs xs
+parted : (t : Outline) (ks : List outline.CrateRow) (fs : List outline.FeatureRow) (xs : List PlannedNode) → map planned_node_view xs ≡ map (planned_crate t) ks ++ map (planned_feature t) fs → Parted t ks fs xs
 parted t [] [] [] e = record { mappings = refl; features = refl }
 parted t [] [] (x ∷ xs) e = absurd cc
 parted t [] (f ∷ fs) [] e = absurd cc
@@ -111,8 +111,8 @@ joined t (k ∷ krates) (s ∷ sets) (m ∷ maps) rest e d =
       first = w.first;
     }
 
-planned_joined : (t : Outline) (ks : List outline.Krate) (krates : List Krate) (sets : List Set) (maps : List Mapping) (rest : List (Node Package)) (fs : List model.PlannedNode)
-    → length sets ≡ length krates → map (λ (m : Mapping). m.items) maps ≡ map (mapping t) ks → map id_of (krate_ids krates) ≡ map (λ (k : outline.Krate). k.id) ks
+planned_joined : (t : Outline) (ks : List outline.CrateRow) (krates : List Krate) (sets : List Set) (maps : List Mapping) (rest : List (Node Package)) (fs : List model.PlannedNode)
+    → length sets ≡ length krates → map (λ (m : Mapping). m.items) maps ≡ map (mapping t) ks → map id_of (krate_ids krates) ≡ map (λ (k : outline.CrateRow). k.id) ks
     → map planned_node rest ≡ fs → map planned_node (map crate_node (zip krates (zip sets maps)) ++ rest) ≡ map (planned_crate t) ks ++ fs
 planned_joined t [] [] [] [] rest fs e m i r = r
 planned_joined t [] [] [] (n ∷ maps) rest fs e m i r = absurd cc
@@ -124,7 +124,7 @@ planned_joined t (k ∷ ks) (q ∷ krates) (s ∷ sets) [] rest fs e m i r = abs
 planned_joined t (k ∷ ks) (q ∷ krates) (s ∷ sets) (n ∷ maps) rest fs e m i r =
     let se : length sets ≡ length krates = cc in
     let me : map (λ (x : Mapping). x.items) maps ≡ map (mapping t) ks = cc in
-    let ie : map id_of (krate_ids krates) ≡ map (λ (x : outline.Krate). x.id) ks = cc in
+    let ie : map id_of (krate_ids krates) ≡ map (λ (x : outline.CrateRow). x.id) ks = cc in
     let head : n.items ≡ mapping t k = cc in
     let id : id_of q.id ≡ k.id = cc in
     let more = planned_joined t ks krates sets maps rest fs se me ie r in
@@ -145,13 +145,13 @@ pub record AreDrawnNodes (t : Outline) (krates : List Krate) (sets : List Set) (
   pub planned_are : map planned_node nodes ≡ planned_nodes t
 
 pub drawn_nodes : (t : Outline) (krates : List Krate) (sets : List Set) (xs : List PlannedNode) (nodes : List (Node Package)) → length sets ≡ length krates → map planned_node_view xs ≡ planned_nodes t
-    → map id_of (krate_ids krates) ≡ map (λ (k : outline.Krate). k.id) t.krates → AreNodesWith krates sets xs nodes → AreDrawnNodes t krates sets nodes
+    → map id_of (krate_ids krates) ≡ map (λ (k : outline.CrateRow). k.id) t.krates → AreNodesWith krates sets xs nodes → AreDrawnNodes t krates sets nodes
 drawn_nodes t krates sets xs nodes e d i w =
     let p = parted t t.krates t.features xs d in
     let maps : List Mapping = w.mappings in
     let mapped : map (λ (m : Mapping). m.items) maps ≡ map (mapping t) t.krates = w.drawn ∙ p.mappings in
     let many : length maps ≡ length t.krates = same_length (λ (m : Mapping). m.items) (mapping t) maps t.krates mapped in
-    let ids : length (krate_ids krates) ≡ length t.krates = same_length id_of (λ (k : outline.Krate). k.id) (krate_ids krates) t.krates i in
+    let ids : length (krate_ids krates) ≡ length t.krates = same_length id_of (λ (k : outline.CrateRow). k.id) (krate_ids krates) t.krates i in
     let crates : length (krate_ids krates) ≡ length krates = mapped_length krates in
     let made = joined t krates sets maps (flat_map feature_in xs) e (many ∙ sym ids ∙ crates) in
     let there = planned_joined t t.krates krates sets maps (nodes_for (flat_map feature_in xs)) (map (planned_feature t) t.features) e mapped i p.features in
@@ -166,7 +166,7 @@ many f (x ∷ xs) = ap suc (many f xs)
 
 -- the same, for the values in the code
 pub drawn_from : (t : Outline) (krates : List Krate) (sets : List Set) (xs : List PlannedNode) (maps : List Mapping) (features : List DrawnFeature) (nodes : List (Node Package)) → length sets ≡ length krates → map planned_node_view xs ≡ planned_nodes t
-    → map id_of (krate_ids krates) ≡ map (λ (k : outline.Krate). k.id) t.krates → map (λ (m : Mapping). m.items) maps ≡ flat_map mapping_in xs → features ≡ flat_map feature_in xs
+    → map id_of (krate_ids krates) ≡ map (λ (k : outline.CrateRow). k.id) t.krates → map (λ (m : Mapping). m.items) maps ≡ flat_map mapping_in xs → features ≡ flat_map feature_in xs
     → nodes ≡ map crate_node (zip krates (zip sets maps)) ++ map feature_node features → AreDrawnNodes t krates sets nodes
 drawn_from t krates sets xs maps features nodes e d i m f n =
     drawn_nodes t krates sets xs nodes e d i (record { mappings = maps; drawn = m; are = n ∙ ap (λ (fs : List DrawnFeature). map crate_node (zip krates (zip sets maps)) ++ map feature_node fs) f })

@@ -3,7 +3,7 @@ use Rattle.std.specs.Prelude.{◌≡◌, ◌↔◌, List, Contains, map}
 use Rattle.std.specs.List.{AllZip}
 use Rattle.krates_cm.specs.Document.{Text}
 use Rattle.krates_cm.specs.declared.package.Package.{Package}
-use Rattle.krates_drawing.specs.Outline.{Named, Outline}
+use Rattle.krates_drawing.specs.Outline.{FeatureRow, Outline}
 use Rattle.krates_drawing.specs.declared.edge.Edge.{Edge}
 use Rattle.krates_graph.specs.Graph.{StoredGraph}
 use Rattle.krates_rules.specs.Facts.{Id, Fact, Feature}
@@ -15,7 +15,7 @@ use Rattle.krates_drawing.specs.Node.{crate_ids, crate_values, crate_features, C
 use Rattle.krates_drawing.specs.declared.krate.Krate.{Krate}
 use Rattle.krates_drawing.specs.declared.node.Node.{Node}
 
-abbrev pub named_fact : Named → Fact
+abbrev pub named_fact : FeatureRow → Fact
 named_fact n = Feature n.krate n.name
 
 -- The graph is the drawing of the outline; its crates are these, with what is made from their packages, and their enabled features

@@ -14,7 +14,7 @@ use Rattle.krates_rules.specs.Resolved.{Resolved, HasPackage}
 use Rattle.krates_rules.specs.Setting.{SettingModel}
 use Rattle.krates_drawing.specs.Agreement.{KeptAt, OneEach, DependsOn, LeadsTo, DependenciesAgree}
 use Rattle.krates_drawing.specs.Drawing.{id_eq, Endpoint, AtCrate, AtFeature, EdgeModel, Dep, DepFeature, PlannedEdge, line, number, crate_number, from_crate, planned_edges, last_from, claims_at, claims, claimant, mapped, mapping, PlannedNode, PlannedCrate, PlannedFeature, planned_nodes}
-use Rattle.krates_drawing.specs.Outline.{Krate, Link, Outline}
+use Rattle.krates_drawing.specs.Outline.{CrateRow, EdgeRow, Outline}
 use Rattle.krates_drawing.proofs.DrawnEdges.{IsDrawnEdge, dep, dep_feature, toggles, own, names, names_crate, names_feature, Between, from_of, in_from, edge_in, drawn_of}
 use Rattle.krates_drawing.proofs.Closed.{keeps_ends, given_enabled, ends_stand}
 use Rattle.krates_drawing.proofs.Derivations.{crate_of_feature}
@@ -86,14 +86,14 @@ claim_by t p q k w =
     member_any (claims_at k q) (from_crate t p) b.link (in_from t p b.link b.member b.parent)
     (and_true _ _ (subst (λ i. id_eq b.link.edge.child i ≡ true) b.child (id_same b.link.edge.child)) ((Decides-eqb b.link.place k).1 w.at))
 
-pub claimant_of : (t : Outline) (p : Id) (k : ℕ) (q : Krate) → claimant t (from_crate t p) k ≡ Some q → Member t.krates q × Claim t p q.id k
+pub claimant_of : (t : Outline) (p : Id) (k : ℕ) (q : CrateRow) → claimant t (from_crate t p) k ≡ Some q → Member t.krates q × Claim t p q.id k
 claimant_of t p k q e = elim (last_of None (filter (claims (from_crate t p) k) t.krates) q e) [
   | inl none ↦ absurd (none-some q none)
   | inr m ↦ (let w = kept_of (claims (from_crate t p) k) t.krates q m in (w.0, claim_of t p q.id k w.1))
 ]
 
 -- if any crate claims the place, one does so last
-some_claimant : (t : Outline) (p : Id) (k : ℕ) (q : Krate) → Member t.krates q → Claim t p q.id k → (z : Krate) × (claimant t (from_crate t p) k ≡ Some z)
+some_claimant : (t : Outline) (p : Id) (k : ℕ) (q : CrateRow) → Member t.krates q → Claim t p q.id k → (z : CrateRow) × (claimant t (from_crate t p) k ≡ Some z)
 some_claimant t p k q m w = last_there None (filter (claims (from_crate t p) k) t.krates) q (member_filter (claims (from_crate t p) k) t.krates q (claim_by t p q.id k w) m)
 
 pub image_of : {A B : Type 0} (f : A → B) (o : Option A) (y : B) → option_map f o ≡ Some y → (x : A) × (o ≡ Some x) × (f x ≡ y)
@@ -112,7 +112,7 @@ in_range a (suc n) k le lt = elim (cases_lt a k) [
 abbrev LeadsBetween : Outline → Id → Id → Type 0
 LeadsBetween t p d = LeadsTo (planned_nodes t) (planned_edges t) (crate_number t p) (crate_number t d)
 
-link_leads : (r : Resolved) (s : SettingModel) (t : Outline) → Holds r s t → (l : Link) → Member t.links l → LeadsBetween t l.edge.parent l.edge.child
+link_leads : (r : Resolved) (s : SettingModel) (t : Outline) → Holds r s t → (l : EdgeRow) → Member t.links l → LeadsBetween t l.edge.parent l.edge.child
 link_leads r s t h l at = by (front_of l.given)
   where
     by : Front l.given → LeadsBetween t l.edge.parent l.edge.child
@@ -178,7 +178,7 @@ declared_here : (declared : List DependencyModel) (place : ℕ) (d : DependencyM
 declared_here declared place d P Q A B (inl x) = slice_get_within declared place d x.1.here
 declared_here declared place d P Q A B (inr x) = slice_get_within declared place d x.1.here
 
-place_below : (r : Resolved) (s : SettingModel) (t : Outline) (k : Krate) (l : Link) → NoneDoubled r.metadata r.graph → Holds r s t → Member t.krates k → Member t.links l → l.edge.parent ≡ k.id → l.place < k.declared
+place_below : (r : Resolved) (s : SettingModel) (t : Outline) (k : CrateRow) (l : EdgeRow) → NoneDoubled r.metadata r.graph → Holds r s t → Member t.krates k → Member t.links l → l.edge.parent ≡ k.id → l.place < k.declared
 place_below r s t k l none h at among e =
     let w = (h.edge_of l among).is_link.declared.declares in
     let c = h.count_of k at in
@@ -192,8 +192,8 @@ one_claims r s t p q z k h one a b =
     let same : a.between.link.edge.child ≡ b.between.link.edge.child = one k a.between.link.edge b.between.link.edge (kept_at r s t p q k h a) (kept_at r s t p z k h b) in
     subst (λ i. q ≡ i) b.between.child (subst (λ i. i ≡ b.between.link.edge.child) a.between.child same)
 
-mapped_is : (t : Outline) (mine : List Link) (k : ℕ) (q : Krate) (d : Id) → claimant t mine k ≡ Some q → q.id ≡ d → mapped t mine k ≡ Some (crate_number t d)
-mapped_is t mine k q d e is = ap (option_map (λ (z : Krate). crate_number t z.id)) e ∙ ap (λ i. Some (crate_number t i)) is
+mapped_is : (t : Outline) (mine : List EdgeRow) (k : ℕ) (q : CrateRow) (d : Id) → claimant t mine k ≡ Some q → q.id ≡ d → mapped t mine k ≡ Some (crate_number t d)
+mapped_is t mine k q d e is = ap (option_map (λ (z : CrateRow). crate_number t z.id)) e ∙ ap (λ i. Some (crate_number t i)) is
 
 depends : (r : Resolved) (s : SettingModel) (t : Outline) (p d : Id) → NoneDoubled r.metadata r.graph → Holds r s t → HasCrate t p → HasCrate t d → OneEach r s p → LeadsBetween t p d
     → DependsOn (planned_nodes t) (crate_number t p) (crate_number t d)

@@ -15,7 +15,7 @@ use Rattle.krates_rules.specs.Rules as rules
 use Rattle.krates_rules.specs.Rules.{Questions, default_name}
 use Rattle.krates_rules.specs.Setting.{SettingModel}
 use Rattle.krates_drawing.specs.Drawing.{Endpoint, AtFeature, EdgeModel, is_feature}
-use Rattle.krates_drawing.specs.Outline.{Link, asked_by, has_text, Meaning, OwnFeature, FeatureOf, Named, IsMeaning, Names, Outline}
+use Rattle.krates_drawing.specs.Outline.{EdgeRow, asked_by, has_text, Meaning, OwnFeature, FeatureOf, FeatureRow, IsMeaning, Names, Outline}
 use Rattle.krates_drawing.proofs.DrawnEdges.{IsDrawnEdge, dep, dep_feature, toggles, own, names, names_crate, names_feature, KeepsEnds}
 use Rattle.krates_drawing.proofs.Derivations.{one, two, crate_of_feature, child_kept, kept_by}
 use Rattle.krates_drawing.proofs.Holding.{Holds}
@@ -53,7 +53,7 @@ text_there texts t h = let w = passing_of (bytes_eq t) texts h in subst (Member 
 pub text_has : (texts : List Text) (t : Text) → Member texts t → has_text texts t ≡ true
 text_has texts t m = member_any (bytes_eq t) texts t m (text_same t)
 
-pub given_enabled : (r : Resolved) (s : SettingModel) (t : Outline) (l : Link) (g : Text) → Holds r s t → Member t.links l → Member l.given g → Derivable (questions r s) (Feature l.edge.child g)
+pub given_enabled : (r : Resolved) (s : SettingModel) (t : Outline) (l : EdgeRow) (g : Text) → Holds r s t → Member t.links l → Member l.given g → Derivable (questions r s) (Feature l.edge.child g)
 unfolding questions
 given_enabled r s t l g h at m =
     let q = questions r s in
@@ -90,12 +90,12 @@ found r s t i g h enabled lost = found_step r s t i g (list_any (is_feature i g)
 -- ---- the references of a feature
 
 -- the feature has a reference that names this
-record IsNaming (r : Resolved) (s : SettingModel) (n : Named) (m : Meaning) : Type 0 where
+record IsNaming (r : Resolved) (s : SettingModel) (n : FeatureRow) (m : Meaning) : Type 0 where
   reference : Reference
   has : HasReference r n.krate n.name reference
   names_it : Names r s.all_named n.krate reference m
 
-naming_in : (r : Resolved) (s : SettingModel) (n : Named) (m : Meaning) (p : PackageModel) (o : Option (List Text)) → named p.features n.name ≡ o → HasPackage r n.krate p → AllZip (IsMeaning r s.all_named n.krate) (unwrap_or o []) n.meanings
+naming_in : (r : Resolved) (s : SettingModel) (n : FeatureRow) (m : Meaning) (p : PackageModel) (o : Option (List Text)) → named p.features n.name ≡ o → HasPackage r n.krate p → AllZip (IsMeaning r s.all_named n.krate) (unwrap_or o []) n.meanings
     → Member n.meanings m → IsNaming r s n m
 naming_in r s n m p None e h z at = let w = partner_of (λ m text. IsMeaning r s.all_named n.krate text m) n.meanings [] m (swapped (IsMeaning r s.all_named n.krate) [] n.meanings z) at in absurd w.member
 naming_in r s n m p (Some values) e h z at =
@@ -106,12 +106,12 @@ naming_in r s n m p (Some values) e h z at =
       names_it = w.related.names;
     }
 
-naming : (r : Resolved) (s : SettingModel) (t : Outline) (n : Named) (m : Meaning) → Holds r s t → Member t.features n → Member n.meanings m → IsNaming r s n m
+naming : (r : Resolved) (s : SettingModel) (t : Outline) (n : FeatureRow) (m : Meaning) → Holds r s t → Member t.features n → Member n.meanings m → IsNaming r s n m
 naming r s t n m h at among = let w = (h.named_of n at).is_named in naming_in r s n m w.pkg (named w.pkg.features n.name) refl w.has_package w.meanings among
 
 -- ---- what a reference names is enabled
 
-own_enabled : (r : Resolved) (s : SettingModel) (t : Outline) (n : Named) (g : Text) (reference : Reference) → Holds r s t → Derivable (questions r s) (Feature n.krate n.name) → HasReference r n.krate n.name reference → Names r s.all_named n.krate reference (OwnFeature g)
+own_enabled : (r : Resolved) (s : SettingModel) (t : Outline) (n : FeatureRow) (g : Text) (reference : Reference) → Holds r s t → Derivable (questions r s) (Feature n.krate n.name) → HasReference r n.krate n.name reference → Names r s.all_named n.krate reference (OwnFeature g)
     → HasFeature t n.krate g
 unfolding questions
 own_enabled r s t n g (references.simple f) h d has is =
@@ -149,7 +149,7 @@ other_enabled r s t e f g ids (references.weak c x) h kept d has is m =
 other_enabled r s t e f g ids (references.simple c) h kept d has is m = absurd is
 other_enabled r s t e f g ids (references.krate c) h kept d has is m = absurd is
 
-named_enabled : (r : Resolved) (s : SettingModel) (t : Outline) (n : Named) (ids : List Id) (g : Text) (l : Link) → Holds r s t → Member t.features n → Member n.meanings (FeatureOf ids g) → Member ids l.edge.child → Member t.links l → l.edge.parent ≡ n.krate
+named_enabled : (r : Resolved) (s : SettingModel) (t : Outline) (n : FeatureRow) (ids : List Id) (g : Text) (l : EdgeRow) → Holds r s t → Member t.features n → Member n.meanings (FeatureOf ids g) → Member ids l.edge.child → Member t.links l → l.edge.parent ≡ n.krate
     → HasFeature t l.edge.child g
 named_enabled r s t n ids g l h at among means kept e =
     let w = naming r s t n (FeatureOf ids g) h at among in
@@ -160,7 +160,7 @@ named_enabled r s t n ids g l h at among means kept e =
 
 -- ---- both ends of each planned
 
-feature_there : (t : Outline) (n : Named) → Member t.features n → Stands t (AtFeature n.krate n.name)
+feature_there : (t : Outline) (n : FeatureRow) → Member t.features n → Stands t (AtFeature n.krate n.name)
 feature_there t n at = feature_stands {p = n.krate} {f = n.name} (record { named = n; member = at; krate = refl; name = refl })
 
 pub ends_stand : (r : Resolved) (s : SettingModel) (t : Outline) (from to : Endpoint) (tie : EdgeModel) → Holds r s t → IsDrawnEdge t from to tie → Stands t from × Stands t to

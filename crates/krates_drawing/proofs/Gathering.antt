@@ -25,14 +25,14 @@ use Rattle.krates_selection.specs.declared.selection.EnabledFeature.{EnabledFeat
 use Rattle.krates_selection.specs.declared.selection.KeptEdge.{KeptEdge}
 use Rattle.krates_selection.specs.declared.selection.Selection.{Selection}
 use Rattle.krates_drawing.specs.Gathered.{MeaningsRecorded, AreMeant, count_in, declared_in, dependency_in, given_in, listed_of, values_in}
-use Rattle.krates_drawing.specs.Outline.{IsKrate, IsLink, IsMeaning, IsNamed, IsOutline, toggle_of}
+use Rattle.krates_drawing.specs.Outline.{IsCrateRow, IsEdgeRow, IsMeaning, IsFeatureRow, IsOutline, toggle_of}
 use Rattle.krates_drawing.specs.OutlineOrder.{IsOrdered}
 use Rattle.krates_drawing.specs.CrateRecord.{IsRecordOf, node_at, node_in, of_crate, package_at, package_in}
-use Rattle.krates_drawing.specs.Views.{kids_in, krate_view, link_view, meanings_view, named_view, outline_view}
-use Rattle.krates_drawing.specs.declared.outline.Krate.{Krate}
-use Rattle.krates_drawing.specs.declared.outline.Link.{Link}
+use Rattle.krates_drawing.specs.Views.{kids_in, crate_row_view, edge_row_view, meanings_view, feature_row_view, outline_view}
+use Rattle.krates_drawing.specs.declared.outline.CrateRow.{CrateRow}
+use Rattle.krates_drawing.specs.declared.outline.EdgeRow.{EdgeRow}
 use Rattle.krates_drawing.specs.declared.outline.Meaning.{Meaning}
-use Rattle.krates_drawing.specs.declared.outline.Named.{Named}
+use Rattle.krates_drawing.specs.declared.outline.FeatureRow.{FeatureRow}
 use Rattle.krates_drawing.specs.declared.outline.Outline.{Outline}
 use Rattle.krates_drawing.specs.declared.crate_record.CrateRecord.{CrateRecord}
 use Rattle.krates_document.proofs.DeclaredOnce.{declared_stands}
@@ -105,7 +105,7 @@ some_node r i (Some n) h some = (n, refl, h)
 
 -- ---- one element
 
-krate_recorded : (r : Resolved) (i : Identity) (n : ℕ) → (NoPackage r (id_of i) → ⊥) → CountRecorded r i n → IsKrate r i (krate_view (record { id = i; declared = n }))
+krate_recorded : (r : Resolved) (i : Identity) (n : ℕ) → (NoPackage r (id_of i) → ⊥) → CountRecorded r i n → IsCrateRow r i (crate_row_view (record { id = i; declared = n }))
 krate_recorded r i n some w =
     let p = some_package r (id_of i) (package_in w.found) w.is.pkg some in
     record { id = refl; pkg = p.0; has_package = p.2; declared = w.count ∙ ap declared_in p.1 }
@@ -120,7 +120,7 @@ at_place r s kids e w p none h =
     (declared_stands a.pkg.dependencies (dependency_entry (id_at kids e.child) a.dep) (kind_info_of (edge_view kids e)) e.declared w.dependency a.declared)
 
 link_recorded : (r : Resolved) (s : SettingModel) (kids : List Identity) (records : List CrateRecord) (e : KeptEdge) (v : Vec (String Global)) → NoneDoubled r.metadata r.graph → AllZip (IsRecordOf r) kids records → HasEnds (length kids) e → IsPlaced r s kids e
-    → (NoNode r (id_at kids e.child) → ⊥) → given_in records e ≡ texts_view v → IsLink r s kids e (link_view kids (record { edge = e; given = v }))
+    → (NoNode r (id_at kids e.child) → ⊥) → given_in records e ≡ texts_view v → IsEdgeRow r s kids e (edge_row_view kids (record { edge = e; given = v }))
 link_recorded r s kids records e v none z ends w some is =
     let a = w.declared.declares in
     let parent = record_at r kids records e.parent z ends.parent in
@@ -141,7 +141,7 @@ link_recorded r s kids records e v none z ends w some is =
     }
 
 named_recorded : (r : Resolved) (all : Bool) (kids : List Identity) (records : List CrateRecord) (f : EnabledFeature) (v : Vec Meaning) → AllZip (IsRecordOf r) kids records → HasHome (length kids) f → (NoPackage r (id_at kids f.krate) → ⊥)
-    → MeaningsRecorded r all records f (meanings_view v) → IsNamed r all kids f (named_view kids (record { feature = f; meanings = v }))
+    → MeaningsRecorded r all records f (meanings_view v) → IsFeatureRow r all kids f (feature_row_view kids (record { feature = f; meanings = v }))
 named_recorded r all kids records f v z home some h =
     let here = record_at r kids records f.krate z home in
     let i = id_at kids f.krate in
@@ -186,13 +186,13 @@ first_parts R make back (x ∷ xs) (z ∷ zs) same h =
 all_under : {A B : Type 0} (f : A → B) (P : B → Type 0) (xs : List A) → All P (map f xs) → All (λ x. P (f x)) xs
 all_under f P xs h = All-from_recursion (λ x. P (f x)) xs (each (λ x. P (f x)) xs (λ x m. All-contains P (map f xs) (f x) h (contains_of (map f xs) (f x) (member_map f xs x m))))
 
-abbrev make_krate : Identity → ℕ → Krate
+abbrev make_krate : Identity → ℕ → CrateRow
 make_krate i n = record { id = i; declared = n }
 
-abbrev make_link : KeptEdge → Vec (String Global) → Link
+abbrev make_link : KeptEdge → Vec (String Global) → EdgeRow
 make_link e v = record { edge = e; given = v }
 
-abbrev make_named : EnabledFeature → Vec Meaning → Named
+abbrev make_named : EnabledFeature → Vec Meaning → FeatureRow
 make_named f v = record { feature = f; meanings = v }
 
 module _ (r : Resolved) (s : SettingModel) (x : Selection) (records : List CrateRecord) (ns : List ℕ) (gs : List (Vec (String Global))) (ms : List (Vec Meaning)) (t : Outline) (h : IsSelection r s x) (w : AreGathered r s x records ns gs ms) (m : IsMadeOf x ns gs ms t) where
@@ -206,32 +206,32 @@ module _ (r : Resolved) (s : SettingModel) (x : Selection) (records : List Crate
   names = zip_unmapped (MeaningsRecorded r s.all_named records) meanings_view x.features.items ms w.names
 
   same_kids : kids_in t ≡ x.krates.items
-  same_kids = ap (map (λ (k : Krate). k.id)) m.krates ∙ first_parts (CountRecorded r) make_krate (λ (k : Krate). k.id) x.krates.items ns (λ i n. refl) counts
+  same_kids = ap (map (λ (k : CrateRow). k.id)) m.krates ∙ first_parts (CountRecorded r) make_krate (λ (k : CrateRow). k.id) x.krates.items ns (λ i n. refl) counts
 
-  same_edges : map (λ (l : Link). l.edge) t.links.items ≡ x.edges.items
-  same_edges = ap (map (λ (l : Link). l.edge)) m.links ∙ first_parts (λ e v. given_in records e ≡ texts_view v) make_link (λ (l : Link). l.edge) x.edges.items gs (λ e v. refl) givens
+  same_edges : map (λ (l : EdgeRow). l.edge) t.links.items ≡ x.edges.items
+  same_edges = ap (map (λ (l : EdgeRow). l.edge)) m.links ∙ first_parts (λ e v. given_in records e ≡ texts_view v) make_link (λ (l : EdgeRow). l.edge) x.edges.items gs (λ e v. refl) givens
 
-  same_features : map (λ (n : Named). n.feature) t.features.items ≡ x.features.items
-  same_features = ap (map (λ (n : Named). n.feature)) m.features ∙ first_parts (λ f v. MeaningsRecorded r s.all_named records f (meanings_view v)) make_named (λ (n : Named). n.feature) x.features.items ms (λ f v. refl) names
+  same_features : map (λ (n : FeatureRow). n.feature) t.features.items ≡ x.features.items
+  same_features = ap (map (λ (n : FeatureRow). n.feature)) m.features ∙ first_parts (λ f v. MeaningsRecorded r s.all_named records f (meanings_view v)) make_named (λ (n : FeatureRow). n.feature) x.features.items ms (λ f v. refl) names
 
   as_many : length x.krates.items ≡ length t.krates.items
-  as_many = sym (ap length same_kids) ∙ length-map t.krates.items (λ (k : Krate). k.id)
+  as_many = sym (ap length same_kids) ∙ length-map t.krates.items (λ (k : CrateRow). k.id)
 
   -- the lists with what is beside them
-  krates_made : AllZip (IsKrate r) x.krates.items (map krate_view (map (λ pair. make_krate pair.0 pair.1) (zip x.krates.items ns)))
-  krates_made = made_zip (CountRecorded r) (IsKrate r) make_krate krate_view x.krates.items ns
+  krates_made : AllZip (IsCrateRow r) x.krates.items (map crate_row_view (map (λ pair. make_krate pair.0 pair.1) (zip x.krates.items ns)))
+  krates_made = made_zip (CountRecorded r) (IsCrateRow r) make_krate crate_row_view x.krates.items ns
       (λ i n at c. krate_recorded r i n (has_package r s (id_of i) ((h.facts (crate_fact i)).1 (crate_there x i at))) c) counts
 
-  links_made : NoneDoubled r.metadata r.graph → AllZip (IsLink r s x.krates.items) x.edges.items (map (link_view x.krates.items) (map (λ pair. make_link pair.0 pair.1) (zip x.edges.items gs)))
-  links_made none = made_zip (λ e v. given_in records e ≡ texts_view v) (IsLink r s x.krates.items) make_link (link_view x.krates.items) x.edges.items gs
+  links_made : NoneDoubled r.metadata r.graph → AllZip (IsEdgeRow r s x.krates.items) x.edges.items (map (edge_row_view x.krates.items) (map (λ pair. make_link pair.0 pair.1) (zip x.edges.items gs)))
+  links_made none = made_zip (λ e v. given_in records e ≡ texts_view v) (IsEdgeRow r s x.krates.items) make_link (edge_row_view x.krates.items) x.edges.items gs
       (λ e v at is. (
       let among = contains_of x.edges.items e at in
       let kept = (h.facts (edge_fact x.krates.items e)).1 (edge_there x e at) in
       link_recorded r s x.krates.items records e v none w.each (All-contains (HasEnds (length x.krates.items)) x.edges.items e h.ends among) (All-contains (IsPlaced r s x.krates.items) x.edges.items e h.placed among)
       (has_node r s (id_at x.krates.items e.child) (child_kept (questions r s) (edge_view x.krates.items e) kept)) is)) givens
 
-  features_made : AllZip (IsNamed r s.all_named x.krates.items) x.features.items (map (named_view x.krates.items) (map (λ pair. make_named pair.0 pair.1) (zip x.features.items ms)))
-  features_made = made_zip (λ f v. MeaningsRecorded r s.all_named records f (meanings_view v)) (IsNamed r s.all_named x.krates.items) make_named (named_view x.krates.items) x.features.items ms
+  features_made : AllZip (IsFeatureRow r s.all_named x.krates.items) x.features.items (map (feature_row_view x.krates.items) (map (λ pair. make_named pair.0 pair.1) (zip x.features.items ms)))
+  features_made = made_zip (λ f v. MeaningsRecorded r s.all_named records f (meanings_view v)) (IsFeatureRow r s.all_named x.krates.items) make_named (feature_row_view x.krates.items) x.features.items ms
       (λ f v at is. (
       let home = All-contains (HasHome (length x.krates.items)) x.features.items f h.homes (contains_of x.features.items f at) in
       let i = id_at x.krates.items f.krate in
@@ -240,11 +240,11 @@ module _ (r : Resolved) (s : SettingModel) (x : Selection) (records : List Crate
 
   pub gathered : NoneDoubled r.metadata r.graph → IsOutline r s x (outline_view t)
   gathered none = record {
-    krates = subst (λ zs. AllZip (IsKrate r) x.krates.items (map krate_view zs)) (sym m.krates) krates_made;
-    links = subst (λ ks. AllZip (IsLink r s x.krates.items) x.edges.items (map (link_view ks) t.links.items)) (sym same_kids)
-        (subst (λ zs. AllZip (IsLink r s x.krates.items) x.edges.items (map (link_view x.krates.items) zs)) (sym m.links) (links_made none));
-    features = subst (λ ks. AllZip (IsNamed r s.all_named x.krates.items) x.features.items (map (named_view ks) t.features.items)) (sym same_kids)
-        (subst (λ zs. AllZip (IsNamed r s.all_named x.krates.items) x.features.items (map (named_view x.krates.items) zs)) (sym m.features) features_made);
+    krates = subst (λ zs. AllZip (IsCrateRow r) x.krates.items (map crate_row_view zs)) (sym m.krates) krates_made;
+    links = subst (λ ks. AllZip (IsEdgeRow r s x.krates.items) x.edges.items (map (edge_row_view ks) t.links.items)) (sym same_kids)
+        (subst (λ zs. AllZip (IsEdgeRow r s x.krates.items) x.edges.items (map (edge_row_view x.krates.items) zs)) (sym m.links) (links_made none));
+    features = subst (λ ks. AllZip (IsFeatureRow r s.all_named x.krates.items) x.features.items (map (feature_row_view ks) t.features.items)) (sym same_kids)
+        (subst (λ zs. AllZip (IsFeatureRow r s.all_named x.krates.items) x.features.items (map (feature_row_view x.krates.items) zs)) (sym m.features) features_made);
     toggled = ap (λ v. map (toggle_of (kids_in t)) v.items) m.toggled ∙ ap (λ ks. map (toggle_of ks) x.toggled.items) same_kids;
   }
 
@@ -254,11 +254,11 @@ module _ (r : Resolved) (s : SettingModel) (x : Selection) (records : List Crate
   ordered = record {
     krates = subst (IsStrictlySortedBy id_cmp) (sym same_kids) h.krates;
     links = subst (IsStrictlySortedBy place_cmp) (sym same_edges) h.edges;
-    ends = subst (λ n. All (λ (l : Link). HasEnds n l.edge) t.links.items) as_many
-        (all_under (λ (l : Link). l.edge) (HasEnds (length x.krates.items)) t.links.items (subst (All (HasEnds (length x.krates.items))) (sym same_edges) h.ends));
+    ends = subst (λ n. All (λ (l : EdgeRow). HasEnds n l.edge) t.links.items) as_many
+        (all_under (λ (l : EdgeRow). l.edge) (HasEnds (length x.krates.items)) t.links.items (subst (All (HasEnds (length x.krates.items))) (sym same_edges) h.ends));
     features = subst (IsStrictlySortedBy feature_cmp) (sym same_features) h.features;
-    homes = subst (λ k. All (λ (n : Named). HasHome k n.feature) t.features.items) as_many
-        (all_under (λ (n : Named). n.feature) (HasHome (length x.krates.items)) t.features.items (subst (All (HasHome (length x.krates.items))) (sym same_features) h.homes));
+    homes = subst (λ k. All (λ (n : FeatureRow). HasHome k n.feature) t.features.items) as_many
+        (all_under (λ (n : FeatureRow). n.feature) (HasHome (length x.krates.items)) t.features.items (subst (All (HasHome (length x.krates.items))) (sym same_features) h.homes));
     toggled = subst (λ v. IsStrictlySortedBy toggled_cmp v.items) (sym m.toggled) h.toggled;
     toggled_crates = subst (λ n. All (HasCrates n) t.toggled.items) as_many (subst (λ v. All (HasCrates (length x.krates.items)) v.items) (sym m.toggled) h.toggled_crates);
   }

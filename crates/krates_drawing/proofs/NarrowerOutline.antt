@@ -16,7 +16,7 @@ use Rattle.krates_selection.specs.Selection.{edge_fact, edge_view, IsPlaced, IsS
 use Rattle.krates_selection.specs.declared.selection.KeptEdge.{KeptEdge}
 use Rattle.krates_selection.specs.declared.selection.Selection.{Selection}
 use Rattle.krates_drawing.specs.Narrower.{IsPart, NarrowerDrawsNoMore}
-use Rattle.krates_drawing.specs.Outline.{Link, IsKrate, IsLink, IsNamed, Outline, IsOutline, Toggle, toggle_of}
+use Rattle.krates_drawing.specs.Outline.{EdgeRow, IsCrateRow, IsEdgeRow, IsFeatureRow, Outline, IsOutline, Toggle, toggle_of}
 use Rattle.krates_drawing.proofs.ById.{edge_by_id, edge_order, edges_sorted, edges_total, feature_by_id, feature_order, features_sorted, features_total, list_part, part_by, toggle_order, toggles_sorted, toggles_total}
 use Rattle.krates_drawing.proofs.Derivations.{kept_by}
 use Rattle.krates_drawing.proofs.FewerLines.{IsPartOutline, draws_no_more}
@@ -86,7 +86,7 @@ placed_wider r s z x y w e m =
       place = p.place;
     }
 
-link_wider : (r : Resolved) (s z : SettingModel) (kids : List Identity) (e : KeptEdge) (l : Link) → (IsIgnored r z (edge_view kids e) → ⊥) → IsLink r s kids e l → IsLink r z kids e l
+link_wider : (r : Resolved) (s z : SettingModel) (kids : List Identity) (e : KeptEdge) (l : EdgeRow) → (IsIgnored r z (edge_view kids e) → ⊥) → IsEdgeRow r s kids e l → IsEdgeRow r z kids e l
 link_wider r s z kids e l regarded h = record {
   edge = h.edge;
   place = h.place;
@@ -130,12 +130,12 @@ part_outline : ReadsOneReference → (r : Resolved) (s z : SettingModel) (x y : 
 part_outline one r s z x y w t v p q =
     let say = said_itself r z w.none in
     record {
-      krates = made_part SameCrate (IsKrate r) (IsKrate r) x.krates.items y.krates.items t.krates v.krates (crates_part r s z x y w) p.krates q.krates (krates_same r r z say);
-      links = made_part (SameEdge x.krates.items y.krates.items) (IsLink r z x.krates.items) (IsLink r z y.krates.items) x.edges.items y.edges.items t.links v.links (edges_part r s z x y w)
-          (zip_there (IsLink r s x.krates.items) (IsLink r z x.krates.items) x.edges.items t.links (λ e m l is. link_wider r s z x.krates.items e l (regarded r s z x y w e m) is) p.links) q.links
+      krates = made_part SameCrate (IsCrateRow r) (IsCrateRow r) x.krates.items y.krates.items t.krates v.krates (crates_part r s z x y w) p.krates q.krates (krates_same r r z say);
+      links = made_part (SameEdge x.krates.items y.krates.items) (IsEdgeRow r z x.krates.items) (IsEdgeRow r z y.krates.items) x.edges.items y.edges.items t.links v.links (edges_part r s z x y w)
+          (zip_there (IsEdgeRow r s x.krates.items) (IsEdgeRow r z x.krates.items) x.edges.items t.links (λ e m l is. link_wider r s z x.krates.items e l (regarded r s z x y w e m) is) p.links) q.links
           (links_same r r z say x.krates.items y.krates.items);
-      features = made_part (SameFeature x.krates.items y.krates.items) (IsNamed r z.all_named x.krates.items) (IsNamed r z.all_named y.krates.items) x.features.items y.features.items t.features v.features (features_part r s z x y w)
-          (subst (λ (b : Bool). AllZip (IsNamed r b x.krates.items) x.features.items t.features) w.naming p.features) q.features (features_same one r r z say x.krates.items y.krates.items);
+      features = made_part (SameFeature x.krates.items y.krates.items) (IsFeatureRow r z.all_named x.krates.items) (IsFeatureRow r z.all_named y.krates.items) x.features.items y.features.items t.features v.features (features_part r s z x y w)
+          (subst (λ (b : Bool). AllZip (IsFeatureRow r b x.krates.items) x.features.items t.features) w.naming p.features) q.features (features_same one r r z say x.krates.items y.krates.items);
       toggled = toggles_part r s z x y t.toggled v.toggled w p.toggled q.toggled;
     }
 

@@ -6,7 +6,7 @@ use Rattle.std.specs.Str.{bytes_eq}
 use Rattle.krates_cm.specs.Document.{Text}
 use Rattle.krates_rules.specs.Facts.{Id}
 use Rattle.krates_drawing.specs.Drawing.{id_eq, place_of, Endpoint, AtCrate, AtFeature, is_crate, is_feature, crate_number, feature_number, number, mapping, PlannedCrate, PlannedFeature, planned_crate, planned_feature, planned_nodes}
-use Rattle.krates_drawing.specs.Outline.{Krate, Named, Outline}
+use Rattle.krates_drawing.specs.Outline.{CrateRow, FeatureRow, Outline}
 use Rattle.krates_rules.proofs.Members.{Member}
 
 -- ---- equal ids and names
@@ -41,18 +41,18 @@ id_same a = and_true _ _ (text_same a.name) (and_true _ _ (text_same a.version) 
 
 -- the crate is one of the outline
 pub record HasCrate (t : Outline) (p : Id) : Type 0 where
-  pub krate : Krate
+  pub krate : CrateRow
   pub member : Member t.krates krate
   pub id : krate.id ≡ p
 
 -- the feature is one of the outline
 pub record HasFeature (t : Outline) (p : Id) (f : Text) : Type 0 where
-  pub named : Named
+  pub named : FeatureRow
   pub member : Member t.features named
   pub krate : named.krate ≡ p
   pub name : named.name ≡ f
 
-pub feature_is : (q : Id) (f : Text) (n : Named) → is_feature q f n ≡ true → (n.krate ≡ q) × (n.name ≡ f)
+pub feature_is : (q : Id) (f : Text) (n : FeatureRow) → is_feature q f n ≡ true → (n.krate ≡ q) × (n.name ≡ f)
 feature_is q f n e = let w = both _ _ e in (id_is n.krate q w.0, text_is n.name f w.1)
 
 crate_passes : (t : Outline) (p : Id) (h : HasCrate t p) → is_crate p h.krate ≡ true
@@ -101,20 +101,20 @@ pub data Stands (t : Outline) : Endpoint → Type 0 where
   crate_stands : {p : Id} → HasCrate t p → Stands t (AtCrate p)
   feature_stands : {p : Id} {f : Text} → HasFeature t p f → Stands t (AtFeature p f)
 
-abbrev pub crate_end : Krate → Endpoint
+abbrev pub crate_end : CrateRow → Endpoint
 crate_end k = AtCrate k.id
 
-abbrev pub feature_end : Named → Endpoint
+abbrev pub feature_end : FeatureRow → Endpoint
 feature_end n = AtFeature n.krate n.name
 
 -- what is drawn for each crate and for each feature stands under its number
-crate_at : {A : Type 0} (t : Outline) (of_crate : Krate → A) (of_feature : Named → A) (p : Id) → HasCrate t p → (k : Krate) × (k.id ≡ p) × Member t.krates k × (slice_get (map of_crate t.krates ++ map of_feature t.features) (crate_number t p) ≡ Some (of_crate k))
+crate_at : {A : Type 0} (t : Outline) (of_crate : CrateRow → A) (of_feature : FeatureRow → A) (p : Id) → HasCrate t p → (k : CrateRow) × (k.id ≡ p) × Member t.krates k × (slice_get (map of_crate t.krates ++ map of_feature t.features) (crate_number t p) ≡ Some (of_crate k))
 crate_at t of_crate of_feature p h =
     let w = at_place (is_crate p) t.krates h.krate h.member (crate_passes t p h) in
     (w.found, id_is w.found.id p w.passes, w.member, get_left (map of_crate t.krates) (map of_feature t.features) (crate_number t p) (of_crate w.found) (slice_get-map of_crate t.krates (crate_number t p) ∙ ap (option_map of_crate) w.here))
 
-feature_at : {A : Type 0} (t : Outline) (of_crate : Krate → A) (of_feature : Named → A) (p : Id) (f : Text) → HasFeature t p f
-    → (n : Named) × (n.krate ≡ p) × (n.name ≡ f) × (slice_get (map of_crate t.krates ++ map of_feature t.features) (feature_number t p f) ≡ Some (of_feature n))
+feature_at : {A : Type 0} (t : Outline) (of_crate : CrateRow → A) (of_feature : FeatureRow → A) (p : Id) (f : Text) → HasFeature t p f
+    → (n : FeatureRow) × (n.krate ≡ p) × (n.name ≡ f) × (slice_get (map of_crate t.krates ++ map of_feature t.features) (feature_number t p f) ≡ Some (of_feature n))
 feature_at t of_crate of_feature p f h =
     let w = at_place (is_feature p f) t.features h.named h.member (feature_passes t p f h) in
     let is = feature_is p f w.found w.passes in
@@ -122,7 +122,7 @@ feature_at t of_crate of_feature p f h =
 
 -- the node of a kept crate
 pub record CrateNode (t : Outline) (p : Id) : Type 0 where
-  pub krate : Krate
+  pub krate : CrateRow
   pub member : Member t.krates krate
   pub id : krate.id ≡ p
   pub at : slice_get (planned_nodes t) (crate_number t p) ≡ Some (PlannedCrate krate.id (mapping t krate))

@@ -24,7 +24,7 @@ use Rattle.krates_selection.specs.declared.selection.Selection.{Selection}
 use Rattle.krates_drawing.specs.Alike.{IsDrawnAlike}
 use Rattle.krates_drawing.specs.Drawing.{planned_edges, planned_nodes}
 use Rattle.krates_questions.specs.FeatureValues.{values_of}
-use Rattle.krates_drawing.specs.Outline.{Krate, IsKrate, Link, IsLink, asked_by, has_text, Meaning, OwnFeature, Crates, FeatureOf, Named, IsNamed, IsMeaning, Names, Toggle, toggle_of, Outline, IsOutline}
+use Rattle.krates_drawing.specs.Outline.{CrateRow, IsCrateRow, EdgeRow, IsEdgeRow, asked_by, has_text, Meaning, OwnFeature, Crates, FeatureOf, FeatureRow, IsFeatureRow, IsMeaning, Names, Toggle, toggle_of, Outline, IsOutline}
 use Rattle.krates_drawing.proofs.ById.{IsWithin, edge_by_id, edge_order, edges_sorted, edges_total, feature_by_id, feature_order, features_sorted, features_total, ids_total, same_lists, toggle_order, toggles_sorted, toggles_total, zip_by}
 use Rattle.krates_drawing.proofs.Closed.{text_there, text_has}
 use Rattle.krates_drawing.proofs.Holding.{crate_there, edge_there, feature_there, toggled_there, from_of, crate_from, link_from, feature_from, toggle_from, same_toggle}
@@ -137,16 +137,16 @@ toggles_same r u s x y w = same_lists toggle_order _ _ toggles_total
 
 -- ---- what stands beside them in the outline
 
-krate_same : (i j : Id) (m n : ℕ) → i ≡ j → m ≡ n → (let k : Krate = record { id = i; declared = m } in k) ≡ record { id = j; declared = n }
+krate_same : (i j : Id) (m n : ℕ) → i ≡ j → m ≡ n → (let k : CrateRow = record { id = i; declared = m } in k) ≡ record { id = j; declared = n }
 krate_same i j m n a b = ap (λ (z : Id). record { id = z; declared = m }) a ∙ ap (λ (z : ℕ). record { id = j; declared = z }) b
 
-pub krates_same : (r u : Resolved) (s : SettingModel) → SaidAlike r u s → (a b : Identity) (k l : Krate) → SameCrate a b → IsKrate r a k → IsKrate u b l → k ≡ l
+pub krates_same : (r u : Resolved) (s : SettingModel) → SaidAlike r u s → (a b : Identity) (k l : CrateRow) → SameCrate a b → IsCrateRow r a k → IsCrateRow u b l → k ≡ l
 krates_same r u s w a b k l same p q =
     let id : k.id ≡ l.id = p.id ∙ (same ∙ sym q.id) in
     let pkg = w.packages k.id p.pkg q.pkg p.has_package (subst (λ i. HasPackage u i q.pkg) (sym id) q.has_package) in
     krate_same k.id l.id k.declared l.declared id (p.declared ∙ (ap length (dependencies_same p.pkg q.pkg pkg) ∙ sym q.declared))
 
-link_same : (e f : Edge) (m n : ℕ) (gs hs : List Text) → e ≡ f → m ≡ n → gs ≡ hs → (let l : Link = record { edge = e; place = m; given = gs } in l) ≡ record { edge = f; place = n; given = hs }
+link_same : (e f : Edge) (m n : ℕ) (gs hs : List Text) → e ≡ f → m ≡ n → gs ≡ hs → (let l : EdgeRow = record { edge = e; place = m; given = gs } in l) ≡ record { edge = f; place = n; given = hs }
 link_same e f m n gs hs a b c = ap (λ (z : Edge). record { edge = z; place = m; given = gs }) a ∙ (ap (λ (z : ℕ). record { edge = f; place = z; given = gs }) b ∙ ap (λ (z : List Text). record { edge = f; place = n; given = z }) c)
 
 pub listed_same : (n m : NodeModel) (g : Text) → (Contains n.features g ↔ Contains m.features g) → has_text n.features g ≡ has_text m.features g
@@ -154,7 +154,7 @@ listed_same n m g h = bools_same _ _
     (λ e. text_has m.features g (member_of m.features g (h.0 (contains_of n.features g (text_there n.features g e)))))
     (λ e. text_has n.features g (member_of n.features g (h.1 (contains_of m.features g (text_there m.features g e)))))
 
-pub links_same : (r u : Resolved) (s : SettingModel) → SaidAlike r u s → (kids others : List Identity) (a b : KeptEdge) (k l : Link) → SameEdge kids others a b → IsLink r s kids a k → IsLink u s others b l → k ≡ l
+pub links_same : (r u : Resolved) (s : SettingModel) → SaidAlike r u s → (kids others : List Identity) (a b : KeptEdge) (k l : EdgeRow) → SameEdge kids others a b → IsEdgeRow r s kids a k → IsEdgeRow u s others b l → k ≡ l
 links_same r u s w kids others a b k l same p q =
     let edge : k.edge ≡ l.edge = p.edge ∙ (ap (λ (e : Edge × ℕ). e.0) same ∙ sym q.edge) in
     let declared = w.declared k.edge k.place l.place p.dependency q.dependency p.declared (subst (λ e. IsDeclaredAt u s e l.place q.dependency) (sym edge) q.declared) in
@@ -219,11 +219,11 @@ meanings_same : ReadsOneReference → (r u : Resolved) (s : SettingModel) (i : I
 meanings_same one r u s i values ms ns w p q = made_same (λ (a b : Text). a ≡ b) (IsMeaning r s.all_named i) (IsMeaning u s.all_named i) values values ms ns (itself values) p q
     (λ a b m n e x y. meaning_same one r u s i a m n w x (subst (λ t. IsMeaning u s.all_named i t n) (sym e) y))
 
-named_same : (i j : Id) (f g : Text) (ms ns : List Meaning) → i ≡ j → f ≡ g → ms ≡ ns → (let n : Named = record { krate = i; name = f; meanings = ms } in n) ≡ record { krate = j; name = g; meanings = ns }
+named_same : (i j : Id) (f g : Text) (ms ns : List Meaning) → i ≡ j → f ≡ g → ms ≡ ns → (let n : FeatureRow = record { krate = i; name = f; meanings = ms } in n) ≡ record { krate = j; name = g; meanings = ns }
 named_same i j f g ms ns a b c = ap (λ (z : Id). record { krate = z; name = f; meanings = ms }) a ∙ (ap (λ (z : Text). record { krate = j; name = z; meanings = ms }) b ∙ ap (λ (z : List Meaning). record { krate = j; name = g; meanings = z }) c)
 
-pub features_same : ReadsOneReference → (r u : Resolved) (s : SettingModel) → SaidAlike r u s → (kids others : List Identity) (a b : EnabledFeature) (k l : Named) → SameFeature kids others a b
-    → IsNamed r s.all_named kids a k → IsNamed u s.all_named others b l → k ≡ l
+pub features_same : ReadsOneReference → (r u : Resolved) (s : SettingModel) → SaidAlike r u s → (kids others : List Identity) (a b : EnabledFeature) (k l : FeatureRow) → SameFeature kids others a b
+    → IsFeatureRow r s.all_named kids a k → IsFeatureRow u s.all_named others b l → k ≡ l
 features_same one r u s w kids others a b k l same p q =
     let krate : k.krate ≡ l.krate = p.krate ∙ (ap (λ (f : Id × Text). f.0) same ∙ sym q.krate) in
     let name : k.name ≡ l.name = p.name ∙ (ap (λ (f : Id × Text). f.1) same ∙ sym q.name) in
@@ -234,22 +234,22 @@ features_same one r u s w kids others a b k l same p q =
 
 -- ---- the whole
 
-outlines : (ks ls : List Krate) (es fs : List Link) (ns ms : List Named) (ts us : List Toggle) → ks ≡ ls → es ≡ fs → ns ≡ ms → ts ≡ us
+outlines : (ks ls : List CrateRow) (es fs : List EdgeRow) (ns ms : List FeatureRow) (ts us : List Toggle) → ks ≡ ls → es ≡ fs → ns ≡ ms → ts ≡ us
     → (let t : Outline = record { krates = ks; links = es; features = ns; toggled = ts } in t) ≡ record { krates = ls; links = fs; features = ms; toggled = us }
 outlines ks ls es fs ns ms ts us a b c d =
-    ap (λ (z : List Krate). (let t : Outline = record { krates = z; links = es; features = ns; toggled = ts } in t)) a
-    ∙ (ap (λ (z : List Link). (let t : Outline = record { krates = ls; links = z; features = ns; toggled = ts } in t)) b
-    ∙ (ap (λ (z : List Named). (let t : Outline = record { krates = ls; links = fs; features = z; toggled = ts } in t)) c
+    ap (λ (z : List CrateRow). (let t : Outline = record { krates = z; links = es; features = ns; toggled = ts } in t)) a
+    ∙ (ap (λ (z : List EdgeRow). (let t : Outline = record { krates = ls; links = z; features = ns; toggled = ts } in t)) b
+    ∙ (ap (λ (z : List FeatureRow). (let t : Outline = record { krates = ls; links = fs; features = z; toggled = ts } in t)) c
     ∙ ap (λ (z : List Toggle). (let t : Outline = record { krates = ls; links = fs; features = ms; toggled = z } in t)) d))
 
 one_outline : ReadsOneReference → (r u : Resolved) (s : SettingModel) → SaidAlike r u s → (x y : Selection) → IsSelection r s x → IsSelection u s y → (t v : Outline) → IsOutline r s x t → IsOutline u s y v → t ≡ v
 one_outline one r u s w x y hx hy t v p q =
     let two : Two r u s x y = record { say = w; first = hx; second = hy } in
     outlines t.krates v.krates t.links v.links t.features v.features t.toggled v.toggled
-    (made_same SameCrate (IsKrate r) (IsKrate u) x.krates.items y.krates.items t.krates v.krates (crates_zip r u s x y two) p.krates q.krates (krates_same r u s w))
-    (made_same (SameEdge x.krates.items y.krates.items) (IsLink r s x.krates.items) (IsLink u s y.krates.items) x.edges.items y.edges.items t.links v.links (edges_zip r u s x y two) p.links q.links
+    (made_same SameCrate (IsCrateRow r) (IsCrateRow u) x.krates.items y.krates.items t.krates v.krates (crates_zip r u s x y two) p.krates q.krates (krates_same r u s w))
+    (made_same (SameEdge x.krates.items y.krates.items) (IsEdgeRow r s x.krates.items) (IsEdgeRow u s y.krates.items) x.edges.items y.edges.items t.links v.links (edges_zip r u s x y two) p.links q.links
     (links_same r u s w x.krates.items y.krates.items))
-    (made_same (SameFeature x.krates.items y.krates.items) (IsNamed r s.all_named x.krates.items) (IsNamed u s.all_named y.krates.items) x.features.items y.features.items t.features v.features (features_zip r u s x y two) p.features q.features
+    (made_same (SameFeature x.krates.items y.krates.items) (IsFeatureRow r s.all_named x.krates.items) (IsFeatureRow u s.all_named y.krates.items) x.features.items y.features.items t.features v.features (features_zip r u s x y two) p.features q.features
     (features_same one r u s w x.krates.items y.krates.items))
     (p.toggled ∙ (toggles_same r u s x y two ∙ sym q.toggled))
 

@@ -21,7 +21,7 @@ use Rattle.krates_selection.specs.declared.selection.EnabledFeature.{EnabledFeat
 use Rattle.krates_selection.specs.declared.selection.KeptEdge.{KeptEdge}
 use Rattle.krates_selection.specs.declared.selection.Selection.{Selection}
 use Rattle.krates_drawing.specs.Alike.{IsOutlineThere}
-use Rattle.krates_drawing.specs.Outline.{Krate, IsKrate, Link, IsLink, asked_by, has_text, Meaning, OwnFeature, Crates, FeatureOf, Named, IsNamed, IsMeaning, Names, Outline, IsOutline}
+use Rattle.krates_drawing.specs.Outline.{CrateRow, IsCrateRow, EdgeRow, IsEdgeRow, asked_by, has_text, Meaning, OwnFeature, Crates, FeatureOf, FeatureRow, IsFeatureRow, IsMeaning, Names, Outline, IsOutline}
 use Rattle.krates_questions.specs.FeatureValues.{values_of}
 use Rattle.krates_drawing.proofs.Derivations.{child_kept, crate_of_feature, kept_by, kept_stands}
 use Rattle.krates_drawing.proofs.Holding.{crate_there, edge_there, feature_there}
@@ -160,14 +160,14 @@ selection_there r u s x w = record {
 
 -- ---- the outline
 
-krate_there : (r u : Resolved) (s : SettingModel) → SaidAlike r u s → (i : Identity) (k : Krate) → Stands u s (id_of i) → IsKrate r i k → IsKrate u i k
+krate_there : (r u : Resolved) (s : SettingModel) → SaidAlike r u s → (i : Identity) (k : CrateRow) → Stands u s (id_of i) → IsCrateRow r i k → IsCrateRow u i k
 krate_there r u s w i k stands h =
     let q = stands.included in
     let has : HasPackage u k.id q.pkg = subst (λ j. HasPackage u j q.pkg) (sym h.id) q.has_package in
     let same = w.packages k.id h.pkg q.pkg h.has_package has in
     record { id = h.id; pkg = q.pkg; has_package = has; declared = h.declared ∙ ap length (dependencies_same h.pkg q.pkg same) }
 
-link_there : (r u : Resolved) (s : SettingModel) → SaidAlike r u s → SayAlike r u → (kids : List Identity) (e : KeptEdge) (l : Link) → Derivable (questions u s) (Kept (edge_view kids e)) → IsLink r s kids e l → IsLink u s kids e l
+link_there : (r u : Resolved) (s : SettingModel) → SaidAlike r u s → SayAlike r u → (kids : List Identity) (e : KeptEdge) (l : EdgeRow) → Derivable (questions u s) (Kept (edge_view kids e)) → IsEdgeRow r s kids e l → IsEdgeRow u s kids e l
 link_there r u s w say kids e l kept h =
     let here : Derivable (questions u s) (Kept l.edge) = subst (λ z. Derivable (questions u s) (Kept z)) (sym h.edge) kept in
     let d = declared_there r u s w say l.edge l.place h.dependency here h.declared in
@@ -200,7 +200,7 @@ names_there r u s i (references.weak d g) (FeatureOf ids name) w h = (referents_
 meaning_there : (r u : Resolved) (s : SettingModel) (i : Id) → SaidAlike r u s → (text : Text) (m : Meaning) → IsMeaning r s.all_named i text m → IsMeaning u s.all_named i text m
 meaning_there r u s i w text m h = record { reference = h.reference; is = h.is; names = names_there r u s i h.reference m w h.names }
 
-named_there : (r u : Resolved) (s : SettingModel) → SaidAlike r u s → (kids : List Identity) (f : EnabledFeature) (n : Named) → Stands u s (id_at kids f.krate) → IsNamed r s.all_named kids f n → IsNamed u s.all_named kids f n
+named_there : (r u : Resolved) (s : SettingModel) → SaidAlike r u s → (kids : List Identity) (f : EnabledFeature) (n : FeatureRow) → Stands u s (id_at kids f.krate) → IsFeatureRow r s.all_named kids f n → IsFeatureRow u s.all_named kids f n
 named_there r u s w kids f n stands h =
     let q = stands.included in
     let has : HasPackage u n.krate q.pkg = subst (λ j. HasPackage u j q.pkg) (sym h.krate) q.has_package in
@@ -210,9 +210,9 @@ named_there r u s w kids f n stands h =
 
 carried_outline : (r u : Resolved) (s : SettingModel) (x : Selection) → Carried r u s x → (t : Outline) → IsOutline r s x t → IsOutline u s x t
 carried_outline r u s x w t h = record {
-  krates = zip_there (IsKrate r) (IsKrate u) x.krates.items t.krates (λ i m k is. krate_there r u s w.say i k (crate_stands r u s x w i m) is) h.krates;
-  links = zip_there (IsLink r s x.krates.items) (IsLink u s x.krates.items) x.edges.items t.links (λ e m l is. link_there r u s w.say w.deps x.krates.items e l (edge_kept r u s x w e m) is) h.links;
-  features = zip_there (IsNamed r s.all_named x.krates.items) (IsNamed u s.all_named x.krates.items) x.features.items t.features (λ f m n is. named_there r u s w.say x.krates.items f n (feature_stands r u s x w f m) is) h.features;
+  krates = zip_there (IsCrateRow r) (IsCrateRow u) x.krates.items t.krates (λ i m k is. krate_there r u s w.say i k (crate_stands r u s x w i m) is) h.krates;
+  links = zip_there (IsEdgeRow r s x.krates.items) (IsEdgeRow u s x.krates.items) x.edges.items t.links (λ e m l is. link_there r u s w.say w.deps x.krates.items e l (edge_kept r u s x w e m) is) h.links;
+  features = zip_there (IsFeatureRow r s.all_named x.krates.items) (IsFeatureRow u s.all_named x.krates.items) x.features.items t.features (λ f m n is. named_there r u s w.say x.krates.items f n (feature_stands r u s x w f m) is) h.features;
   toggled = h.toggled;
 }
 

@@ -19,7 +19,7 @@ use Rattle.krates_rules.proofs.SeenInOrder.{equal_self}
 use Rattle.krates_drawing.specs.Agreement.{DependsOn, LeadsTo}
 use Rattle.krates_drawing.specs.Connected.{IsLedInto, LeadsHome, AreConnected}
 use Rattle.krates_drawing.specs.Drawing.{AtCrate, AtFeature, Feature, line, place_of, is_crate, is_feature, id_eq, crate_number, from_crate, planned_edges, claimant, mapped, mapping, PlannedNode, PlannedCrate, PlannedFeature, planned_crate, planned_feature, planned_nodes}
-use Rattle.krates_drawing.specs.Outline.{Krate, IsKrate, Named, IsNamed, Outline, IsOutline}
+use Rattle.krates_drawing.specs.Outline.{CrateRow, IsCrateRow, FeatureRow, IsFeatureRow, Outline, IsOutline}
 use Rattle.krates_drawing.proofs.Agreed.{claimant_of, image_of, between_leads}
 use Rattle.krates_drawing.proofs.DrawnEdges.{own, edge_in}
 use Rattle.krates_drawing.proofs.ById.{feature_by_id, feature_order, features_sorted, ids_total}
@@ -63,21 +63,21 @@ feature_not_below a b s t e f h =
 
 -- ---- crates under their numbers
 
-crate_below : (r : Resolved) (i : Identity) (is : List Identity) (ks : List Krate) (p : ℕ) (k : Krate) → AllZip (IsKrate r) is ks → AllByRecursion (λ j. id_cmp i j ≡ Less) is → slice_get ks p ≡ Some k
+crate_below : (r : Resolved) (i : Identity) (is : List Identity) (ks : List CrateRow) (p : ℕ) (k : CrateRow) → AllZip (IsCrateRow r) is ks → AllByRecursion (λ j. id_cmp i j ≡ Less) is → slice_get ks p ≡ Some k
     → id_order (id_of i) k.id ≡ Less
 crate_below r i [] [] p k z all at = absurd (none-some k at)
 crate_below r i [] (x ∷ xs) p k z all at = absurd z
 crate_below r i (j ∷ js) [] p k z all at = absurd z
-crate_below r i (j ∷ js) (x ∷ xs) zero k z all at = let same : x ≡ k = same_Some x k at in subst (λ (q : Krate). id_order (id_of i) q.id ≡ Less) same (ap (id_order (id_of i)) z.0.id ∙ all.0)
+crate_below r i (j ∷ js) (x ∷ xs) zero k z all at = let same : x ≡ k = same_Some x k at in subst (λ (q : CrateRow). id_order (id_of i) q.id ≡ Less) same (ap (id_order (id_of i)) z.0.id ∙ all.0)
 crate_below r i (j ∷ js) (x ∷ xs) (suc p) k z all at = crate_below r i js xs p k z.1 all.1 at
 
-pub own_crate : (r : Resolved) (is : List Identity) (ks : List Krate) → AllZip (IsKrate r) is ks → IsStrictlySortedBy id_cmp is → (p : ℕ) (k : Krate) → slice_get ks p ≡ Some k → place_of (is_crate k.id) ks ≡ p
+pub own_crate : (r : Resolved) (is : List Identity) (ks : List CrateRow) → AllZip (IsCrateRow r) is ks → IsStrictlySortedBy id_cmp is → (p : ℕ) (k : CrateRow) → slice_get ks p ≡ Some k → place_of (is_crate k.id) ks ≡ p
 unfolding IsStrictlySortedBy
 own_crate r [] [] z sorted p k at = absurd (none-some k at)
 own_crate r [] (x ∷ xs) z sorted p k at = absurd z
 own_crate r (i ∷ is) [] z sorted p k at = absurd z
 own_crate r (i ∷ is) (x ∷ xs) z sorted zero k at =
-    let here : is_crate k.id x ≡ true = subst (λ (q : Krate). id_eq x.id q.id ≡ true) (same_Some x k at) (id_same x.id) in
+    let here : is_crate k.id x ≡ true = subst (λ (q : CrateRow). id_eq x.id q.id ≡ true) (same_Some x k at) (id_same x.id) in
     ap (λ b. cond b 0 (suc (place_of (is_crate k.id) xs))) here
 own_crate r (i ∷ is) (x ∷ xs) z sorted (suc p) k at =
     let below = crate_below r i is xs p k z.1 sorted.0 at in
@@ -87,19 +87,19 @@ own_crate r (i ∷ is) (x ∷ xs) z sorted (suc p) k at =
 -- ---- features under theirs
 
 -- a feature of the outline by the id of its crate
-abbrev key : Named → Id × Text
+abbrev key : FeatureRow → Id × Text
 key n = (n.krate, n.name)
 
-feature_below : (f : Id × Text) (ns : List Named) (j : ℕ) (n : Named) → AllByRecursion (λ g. feature_order f g ≡ Less) (map key ns) → slice_get ns j ≡ Some n → feature_order f (key n) ≡ Less
+feature_below : (f : Id × Text) (ns : List FeatureRow) (j : ℕ) (n : FeatureRow) → AllByRecursion (λ g. feature_order f g ≡ Less) (map key ns) → slice_get ns j ≡ Some n → feature_order f (key n) ≡ Less
 feature_below f [] j n all at = absurd (none-some n at)
-feature_below f (x ∷ xs) zero n all at = subst (λ (q : Named). feature_order f (key q) ≡ Less) (same_Some x n at) all.0
+feature_below f (x ∷ xs) zero n all at = subst (λ (q : FeatureRow). feature_order f (key q) ≡ Less) (same_Some x n at) all.0
 feature_below f (x ∷ xs) (suc j) n all at = feature_below f xs j n all.1 at
 
-pub own_feature : (ns : List Named) → IsStrictlySortedBy feature_order (map key ns) → (j : ℕ) (n : Named) → slice_get ns j ≡ Some n → place_of (is_feature n.krate n.name) ns ≡ j
+pub own_feature : (ns : List FeatureRow) → IsStrictlySortedBy feature_order (map key ns) → (j : ℕ) (n : FeatureRow) → slice_get ns j ≡ Some n → place_of (is_feature n.krate n.name) ns ≡ j
 unfolding IsStrictlySortedBy
 own_feature [] sorted j n at = absurd (none-some n at)
 own_feature (x ∷ xs) sorted zero n at =
-    let here : is_feature n.krate n.name x ≡ true = subst (λ (q : Named). is_feature q.krate q.name x ≡ true) (same_Some x n at) (and_true _ _ (id_same x.krate) (text_same x.name)) in
+    let here : is_feature n.krate n.name x ≡ true = subst (λ (q : FeatureRow). is_feature q.krate q.name x ≡ true) (same_Some x n at) (and_true _ _ (id_same x.krate) (text_same x.name)) in
     ap (λ b. cond b 0 (suc (place_of (is_feature n.krate n.name) xs))) here
 own_feature (x ∷ xs) sorted (suc j) n at =
     let below = feature_below (key x) xs j n sorted.0 at in
@@ -109,7 +109,7 @@ own_feature (x ∷ xs) sorted (suc j) n at =
     ap (λ b. cond b 0 (suc (place_of (is_feature n.krate n.name) xs))) fails ∙ ap suc (own_feature xs sorted.1 j n at)
 
 -- the features of the outline are those of the selection
-same_keys : (r : Resolved) (whole : Bool) (kids : List Identity) (fs : List EnabledFeature) (ns : List Named) → AllZip (IsNamed r whole kids) fs ns → map (feature_by_id kids) fs ≡ map key ns
+same_keys : (r : Resolved) (whole : Bool) (kids : List Identity) (fs : List EnabledFeature) (ns : List FeatureRow) → AllZip (IsFeatureRow r whole kids) fs ns → map (feature_by_id kids) fs ≡ map key ns
 same_keys r whole kids [] [] z = refl
 same_keys r whole kids [] (n ∷ ns) z = absurd z
 same_keys r whole kids (f ∷ fs) [] z = absurd z
@@ -125,8 +125,8 @@ keys_sorted r s x t h w = subst (IsStrictlySortedBy feature_order) (same_keys r 
 
 -- a node is the node of a crate or of a feature
 data NodeAt (t : Outline) (p : ℕ) (s : PlannedNode) : Type 0 where
-  of_crate : (k : Krate) → slice_get t.krates p ≡ Some k → planned_crate t k ≡ s → NodeAt t p s
-  of_feature : (j : ℕ) (n : Named) → slice_get t.features j ≡ Some n → length t.krates + j ≡ p → planned_feature t n ≡ s → NodeAt t p s
+  of_crate : (k : CrateRow) → slice_get t.krates p ≡ Some k → planned_crate t k ≡ s → NodeAt t p s
+  of_feature : (j : ℕ) (n : FeatureRow) → slice_get t.features j ≡ Some n → length t.krates + j ≡ p → planned_feature t n ≡ s → NodeAt t p s
 
 record MappedAt {A B : Type 0} (f : A → B) (xs : List A) (k : ℕ) (y : B) : Type 0 where
   from : A
@@ -162,7 +162,7 @@ got_member (y ∷ ys) (suc k) x e = inr (got_member ys k x e)
 
 -- the crate of a node
 record CrateHere (t : Outline) (p : ℕ) (id : Id) (m : List (Option ℕ)) : Type 0 where
-  krate : Krate
+  krate : CrateRow
   member : Member t.krates krate
   number : crate_number t krate.id ≡ p
   id_is : krate.id ≡ id

@@ -15,7 +15,7 @@ use Rattle.krates_rules.specs.declared.kind.DepKind.{DepKind}
 use Rattle.krates_rules.specs.declared.kind.IgnoredKinds.{IgnoredKinds}
 use Rattle.krates_rules.specs.declared.kind.Scope.TheVariants as scopes
 use Rattle.krates_drawing.specs.Drawing.{Endpoint, AtCrate, AtFeature, EdgeModel, PlannedEdge, line, number, crate_number, planned_edges}
-use Rattle.krates_drawing.specs.Outline.{Link, Outline}
+use Rattle.krates_drawing.specs.Outline.{EdgeRow, Outline}
 use Rattle.krates_drawing.specs.Paths.{LeadsWithout, Passes, Reaches, begins, goes_on, IsMemberNumber, IsFiltered}
 use Rattle.krates_drawing.specs.Rebuilding.{HasMemberRoot, EnablesNoFeature, MembersAreRoots, FilteredHoldsRebuild}
 use Rattle.krates_drawing.proofs.DrawnEdges.{IsDrawnEdge, dep, dep_feature, toggles, own, names, names_crate, names_feature, KeepsEnds, edge_in, drawn_of}
@@ -47,7 +47,7 @@ along r k t from to tie ends planned passes here =
     goes_on {n = number t from} {m = number t to} here
     (record { line = line t from to tie; among = contains_of (planned_edges t) (line t from to tie) (edge_in t from to tie ends planned); passes = passes; from = refl; to = refl })
 
-child_reached : (r : Resolved) (s : SettingModel) (g : IgnoredKinds) (k : DepKind) (t : Outline) → Pair r s g k t → (l : Link) → Member t.links l → (kind_of l.edge.kind ≡ k → ⊥)
+child_reached : (r : Resolved) (s : SettingModel) (g : IgnoredKinds) (k : DepKind) (t : Outline) → Pair r s g k t → (l : EdgeRow) → Member t.links l → (kind_of l.edge.kind ≡ k → ⊥)
     → ReachesEnd r k t (AtCrate l.edge.parent) → ReachesEnd r k t (AtCrate l.edge.child)
 child_reached r s g k t w l at other here = by (front_of l.given)
   where

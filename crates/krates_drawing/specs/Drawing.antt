@@ -7,7 +7,7 @@ use Rattle.krates_cm.specs.Document.{Text}
 use Rattle.krates_rules.specs.Facts.{Id}
 use Rattle.krates_rules.specs.Kind.{kind_of}
 use Rattle.krates_rules.specs.declared.kind.DepKind.{DepKind}
-use Rattle.krates_drawing.specs.Outline.{Krate, Link, Meaning, OwnFeature, Crates, FeatureOf, Named, Toggle, Outline}
+use Rattle.krates_drawing.specs.Outline.{CrateRow, EdgeRow, Meaning, OwnFeature, Crates, FeatureOf, FeatureRow, Toggle, Outline}
 
 -- whether the ids are equal
 abbrev pub id_eq : Id → Id → Bool
@@ -26,11 +26,11 @@ pub data Endpoint : Type 0 where
   AtFeature : (krate : Id) (name : Text) → Endpoint
 
 -- whether the crate has this id
-abbrev pub is_crate : Id → Krate → Bool
+abbrev pub is_crate : Id → CrateRow → Bool
 is_crate q k = id_eq k.id q
 
 -- whether this is the feature of that name of the crate
-abbrev pub is_feature : Id → Text → Named → Bool
+abbrev pub is_feature : Id → Text → FeatureRow → Bool
 is_feature q f n = id_eq n.krate q && bytes_eq n.name f
 
 -- the place of a crate among the kept ones
@@ -67,16 +67,16 @@ line t from to tie = record { source = number t from; target = number t to; tie 
 -- ---- first part: what each crate uses
 
 -- a `Dep` if the kept edge gives no feature, otherwise a `DepFeature` for each that it gives
-unfoldable pub uses : Outline → Link → List Text → List PlannedEdge
+unfoldable pub uses : Outline → EdgeRow → List Text → List PlannedEdge
 uses t l [] = line t (AtCrate l.edge.parent) (AtCrate l.edge.child) (Dep (kind_of l.edge.kind) l.edge.cfg) ∷ []
 uses t l (f ∷ fs) = map (λ g. line t (AtCrate l.edge.parent) (AtFeature l.edge.child g) (DepFeature (kind_of l.edge.kind) l.edge.cfg)) (f ∷ fs)
 
 -- whether the edge leaves the crate
-abbrev pub is_from : Id → Link → Bool
+abbrev pub is_from : Id → EdgeRow → Bool
 is_from p l = id_eq l.edge.parent p
 
 -- whether the edge leads to the crate
-abbrev pub is_to : Id → Link → Bool
+abbrev pub is_to : Id → EdgeRow → Bool
 is_to q l = id_eq l.edge.child q
 
 -- whether the one crate toggles a feature of the other
@@ -84,41 +84,41 @@ abbrev pub is_between : Id → Id → Toggle → Bool
 is_between p q t = id_eq t.by p && id_eq t.krate q
 
 -- the kept edges from p
-abbrev pub from_crate : Outline → Id → List Link
+abbrev pub from_crate : Outline → Id → List EdgeRow
 from_crate t p = filter (is_from p) t.links
 
 -- of the kept edges `mine` from p those to q, then the features of q that p toggles
-unfoldable pub pair_lines : Outline → Id → List Link → Krate → List PlannedEdge
+unfoldable pub pair_lines : Outline → Id → List EdgeRow → CrateRow → List PlannedEdge
 pair_lines t p mine q =
     flat_map (λ l. uses t l l.given) (filter (is_to q.id) mine)
     ++ map (λ g. line t (AtCrate p) (AtFeature q.id g.name) Feature) (filter (is_between p q.id) t.toggled)
 
 -- an edge leads to q
-abbrev pub leads_to : List Link → Id → Bool
+abbrev pub leads_to : List EdgeRow → Id → Bool
 leads_to mine q = list_any (is_to q) mine
 
 -- to each crate with a kept edge from p, in id order
-unfoldable pub children_lines : Outline → Id → List Link → List PlannedEdge
+unfoldable pub children_lines : Outline → Id → List EdgeRow → List PlannedEdge
 children_lines t p mine = flat_map (pair_lines t p mine) (filter (λ q. leads_to mine q.id) t.krates)
 
 -- the edges that a crate has
-unfoldable pub crate_lines : Outline → Krate → List PlannedEdge
+unfoldable pub crate_lines : Outline → CrateRow → List PlannedEdge
 crate_lines t p = children_lines t p.id (from_crate t p.id)
 
 -- ---- second part: what each feature leads to
 
 -- what a reference of a feature of p names, over the kept edges `mine` from p
-abbrev pub targets : List Link → Id → Meaning → List Endpoint
+abbrev pub targets : List EdgeRow → Id → Meaning → List Endpoint
 targets mine p (OwnFeature g) = AtFeature p g ∷ []
 targets mine p (Crates ids) = map AtCrate (filter (leads_to mine) ids)
 targets mine p (FeatureOf ids g) = map (λ q. AtFeature q g) (filter (leads_to mine) ids)
 
 -- from a feature to what a reference of it names
-unfoldable pub meaning_lines : Outline → Named → List Link → Meaning → List PlannedEdge
+unfoldable pub meaning_lines : Outline → FeatureRow → List EdgeRow → Meaning → List PlannedEdge
 meaning_lines t n mine m = map (λ e. line t (AtFeature n.krate n.name) e Feature) (targets mine n.krate m)
 
 -- to its crate, then to what its references name
-unfoldable pub feature_lines : Outline → Named → List PlannedEdge
+unfoldable pub feature_lines : Outline → FeatureRow → List PlannedEdge
 feature_lines t n =
     line t (AtFeature n.krate n.name) (AtCrate n.krate) Feature
     ∷ flat_map (meaning_lines t n (from_crate t n.krate)) n.meanings
@@ -137,23 +137,23 @@ last_from o [] = o
 last_from o (x ∷ xs) = last_from (Some x) xs
 
 -- the edge leads to q, and has the declared dependency at k as its own
-abbrev pub claims_at : ℕ → Id → Link → Bool
+abbrev pub claims_at : ℕ → Id → EdgeRow → Bool
 claims_at k q l = is_to q l && (l.place == k)
 
 -- one of the edges leads to q and has the declared dependency at k as its own
-abbrev pub claims : List Link → ℕ → Krate → Bool
+abbrev pub claims : List EdgeRow → ℕ → CrateRow → Bool
 claims mine k q = list_any (claims_at k q.id) mine
 
 -- the greatest crate that claims the declared dependency at k: the last one in id order
-abbrev pub claimant : Outline → List Link → ℕ → Option Krate
+abbrev pub claimant : Outline → List EdgeRow → ℕ → Option CrateRow
 claimant t mine k = last_from None (filter (claims mine k) t.krates)
 
 -- the number of that crate
-abbrev pub mapped : Outline → List Link → ℕ → Option ℕ
+abbrev pub mapped : Outline → List EdgeRow → ℕ → Option ℕ
 mapped t mine k = option_map (λ q. crate_number t q.id) (claimant t mine k)
 
 -- one entry for each declared dependency of the package
-unfoldable pub mapping : Outline → Krate → List (Option ℕ)
+unfoldable pub mapping : Outline → CrateRow → List (Option ℕ)
 mapping t p = map (mapped t (from_crate t p.id)) (range_with_len 0 p.declared)
 
 -- ---- nodes with what they hold
@@ -164,11 +164,11 @@ pub data PlannedNode : Type 0 where
   PlannedFeature : (krate : ℕ) (name : Text) → PlannedNode
 
 -- the node of a crate
-abbrev pub planned_crate : Outline → Krate → PlannedNode
+abbrev pub planned_crate : Outline → CrateRow → PlannedNode
 planned_crate t p = PlannedCrate p.id (mapping t p)
 
 -- the node of a feature
-abbrev pub planned_feature : Outline → Named → PlannedNode
+abbrev pub planned_feature : Outline → FeatureRow → PlannedNode
 planned_feature t n = PlannedFeature (crate_number t n.krate) n.name
 
 -- kept crates in the order of their ids, then one node for each enabled feature, by crate and then by name

@@ -8,15 +8,15 @@ use Rattle.krates_drawing.specs.Drawing as drawing
 use Rattle.krates_drawing.specs.Drawing.{from_crate, leads_to, pair_lines}
 use Rattle.krates_drawing.specs.Outline.{toggle_of}
 use Rattle.krates_drawing.specs.OutlineOrder.{AreByChild, AreByKrate, HaveEnds, children_of, is_by}
-use Rattle.krates_drawing.specs.Views.{planned_edge_view, kids_in, link_view, outline_view}
+use Rattle.krates_drawing.specs.Views.{planned_edge_view, kids_in, edge_row_view, outline_view}
 use Rattle.krates_drawing.specs.declared.edge.PlannedEdge.{PlannedEdge}
 use Rattle.krates_drawing.specs.declared.edge_source.CrateSource.{CrateSource}
-use Rattle.krates_drawing.specs.declared.outline.Link.{Link}
+use Rattle.krates_drawing.specs.declared.outline.EdgeRow.{EdgeRow}
 use Rattle.krates_drawing.specs.declared.outline.Outline.{Outline}
 
 -- these are the kept edges from the crate of the number, by child
-pub record AreLinksFrom (t : Outline) (parent : ℕ) (mine : List Link) : Type 0 where
-  pub links : map (link_view (kids_in t)) mine ≡ from_crate (outline_view t) (id_at (kids_in t) parent)
+pub record AreLinksFrom (t : Outline) (parent : ℕ) (mine : List EdgeRow) : Type 0 where
+  pub links : map (edge_row_view (kids_in t)) mine ≡ from_crate (outline_view t) (id_at (kids_in t) parent)
   pub by_child : AreByChild mine
   pub ends : HaveEnds t mine
 
@@ -32,13 +32,13 @@ pub record AreToggledBy (t : Outline) (by : ℕ) (mine : List ToggledFeature) : 
   pub crates : All (HasCrates (length t.krates.items)) mine
 
 -- the number is that of the crate with this id, and one of the edges leads to it
-pub record IsNumberOfChild (t : Outline) (links : List Link) (i : Id) (n : ℕ) : Type 0 where
+pub record IsNumberOfChild (t : Outline) (links : List EdgeRow) (i : Id) (n : ℕ) : Type 0 where
   pub within : n < length t.krates.items
   pub id : id_at (kids_in t) n ≡ i
-  pub leads : leads_to (map (link_view (kids_in t)) links) i ≡ true
+  pub leads : leads_to (map (edge_row_view (kids_in t)) links) i ≡ true
 
 -- behind those lines stand the edges from the crate to all others to which these edges lead
-abbrev pub IsDrawnTo : Outline → CrateSource → List Link → List drawing.PlannedEdge → Vec PlannedEdge → Type 0
+abbrev pub IsDrawnTo : Outline → CrateSource → List EdgeRow → List drawing.PlannedEdge → Vec PlannedEdge → Type 0
 IsDrawnTo t h links before out =
-    let mine = map (link_view (kids_in t)) h.mine.now in
+    let mine = map (edge_row_view (kids_in t)) h.mine.now in
     map planned_edge_view out.items ≡ before ++ flat_map (pair_lines (outline_view t) (id_at (kids_in t) h.krate) mine) (children_of t links)

@@ -23,12 +23,12 @@ use Rattle.krates_selection.specs.declared.selection.ToggledFeature.{ToggledFeat
 -- ---- what is drawn from
 
 -- a kept crate, with the number of its declared dependencies
-pub record Krate : Type 0 where
+pub record CrateRow : Type 0 where
   pub id : Id
   pub declared : ℕ
 
 -- a kept edge, with the place of its declared dependency and the features that it gives
-pub record Link : Type 0 where
+pub record EdgeRow : Type 0 where
   pub edge : Edge
   pub place : ℕ
   pub given : List Text
@@ -40,7 +40,7 @@ pub data Meaning : Type 0 where
   FeatureOf : (ids : List Id) (name : Text) → Meaning
 
 -- an enabled feature, with what its references name
-pub record Named : Type 0 where
+pub record FeatureRow : Type 0 where
   pub krate : Id
   pub name : Text
   pub meanings : List Meaning
@@ -53,15 +53,15 @@ pub record Toggle : Type 0 where
 
 -- a selection's lists, with what the document says of their items
 pub record Outline : Type 0 where
-  pub krates : List Krate
-  pub links : List Link
-  pub features : List Named
+  pub krates : List CrateRow
+  pub links : List EdgeRow
+  pub features : List FeatureRow
   pub toggled : List Toggle
 
 -- ---- what the document says
 
 -- the outline's crate is this one, with the number of dependencies that its package declares
-pub record IsKrate (r : Resolved) (i : Identity) (k : Krate) : Type 0 where
+pub record IsCrateRow (r : Resolved) (i : Identity) (k : CrateRow) : Type 0 where
   pub id : k.id ≡ id_of i
   pub pkg : PackageModel
   pub has_package : HasPackage r k.id pkg
@@ -76,7 +76,7 @@ abbrev pub has_text : List Text → Text → Bool
 has_text texts t = list_any (bytes_eq t) texts
 
 -- Of the features that its declared dependency asks for, the edge gives those that the child's node lists.
-pub record IsLink (r : Resolved) (s : SettingModel) (kids : List Identity) (e : KeptEdge) (l : Link) : Type 0 where
+pub record IsEdgeRow (r : Resolved) (s : SettingModel) (kids : List Identity) (e : KeptEdge) (l : EdgeRow) : Type 0 where
   pub edge : l.edge ≡ edge_view kids e
   pub place : l.place ≡ e.declared
   pub dependency : DependencyModel
@@ -100,7 +100,7 @@ pub record IsMeaning (r : Resolved) (all : Bool) (i : Id) (text : Text) (m : Mea
   pub names : Names r all i reference m
 
 -- the outline's feature is this one, with what each of its references names, in the package's order
-pub record IsNamed (r : Resolved) (all : Bool) (kids : List Identity) (f : EnabledFeature) (n : Named) : Type 0 where
+pub record IsFeatureRow (r : Resolved) (all : Bool) (kids : List Identity) (f : EnabledFeature) (n : FeatureRow) : Type 0 where
   pub krate : n.krate ≡ id_at kids f.krate
   pub name : n.name ≡ text_view f.name
   pub pkg : PackageModel
@@ -113,7 +113,7 @@ toggle_of kids t = record { by = id_at kids t.by; krate = id_at kids t.krate; na
 
 -- the outline is that of the selection
 pub record IsOutline (r : Resolved) (s : SettingModel) (x : Selection) (t : Outline) : Type 0 where
-  pub krates : AllZip (IsKrate r) x.krates.items t.krates
-  pub links : AllZip (IsLink r s x.krates.items) x.edges.items t.links
-  pub features : AllZip (IsNamed r s.all_named x.krates.items) x.features.items t.features
+  pub krates : AllZip (IsCrateRow r) x.krates.items t.krates
+  pub links : AllZip (IsEdgeRow r s x.krates.items) x.edges.items t.links
+  pub features : AllZip (IsFeatureRow r s.all_named x.krates.items) x.features.items t.features
   pub toggled : t.toggled ≡ map (toggle_of x.krates.items) x.toggled.items

@@ -4,7 +4,7 @@ use Rattle.krates_rules.specs.Facts.{Id}
 use Rattle.krates_rules.specs.Resolved.{Resolved, IsMember}
 use Rattle.krates_rules.specs.declared.kind.DepKind.{DepKind}
 use Rattle.krates_drawing.specs.Drawing.{EdgeModel, Dep, Feature, DepFeature, PlannedEdge, crate_number, planned_edges}
-use Rattle.krates_drawing.specs.Outline.{Krate, Outline}
+use Rattle.krates_drawing.specs.Outline.{CrateRow, Outline}
 
 -- the edge has no kind, or another
 abbrev pub Passes : DepKind → EdgeModel → Type 0
@@ -27,7 +27,7 @@ pub data Reaches (Leads : ℕ → ℕ → Type 0) (Start : ℕ → Type 0) : ℕ
 
 -- the crate is kept
 pub record IsDrawn (t : Outline) (p : Id) : Type 0 where
-  pub krate : Krate
+  pub krate : CrateRow
   pub among : Contains t.krates krate
   pub id : krate.id ≡ p
 

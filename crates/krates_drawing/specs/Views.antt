@@ -16,34 +16,34 @@ use Rattle.krates_drawing.specs.declared.edge.Edge.{Edge}
 use Rattle.krates_drawing.specs.declared.edge.Edge.TheVariants as edge
 use Rattle.krates_drawing.specs.declared.nodes.PlannedNode as drawn
 use Rattle.krates_drawing.specs.declared.nodes.PlannedNode.TheVariants as planned
-use Rattle.krates_drawing.specs.declared.outline.Krate.{Krate}
-use Rattle.krates_drawing.specs.declared.outline.Link.{Link}
+use Rattle.krates_drawing.specs.declared.outline.CrateRow.{CrateRow}
+use Rattle.krates_drawing.specs.declared.outline.EdgeRow.{EdgeRow}
 use Rattle.krates_drawing.specs.declared.outline.Meaning.{Meaning}
 use Rattle.krates_drawing.specs.declared.outline.Meaning.TheVariants as meaning
-use Rattle.krates_drawing.specs.declared.outline.Named.{Named}
+use Rattle.krates_drawing.specs.declared.outline.FeatureRow.{FeatureRow}
 use Rattle.krates_drawing.specs.declared.outline.Outline.{Outline}
 
-abbrev pub krate_view : Krate → model.Krate
-krate_view k = record { id = id_of k.id; declared = k.declared }
+abbrev pub crate_row_view : CrateRow → model.CrateRow
+crate_row_view k = record { id = id_of k.id; declared = k.declared }
 
 -- the ids of the kept crates
-abbrev pub kids_of : List Krate → List Identity
+abbrev pub kids_of : List CrateRow → List Identity
 kids_of krates = map (λ k. k.id) krates
 
 abbrev pub kids_in : Outline → List Identity
 kids_in t = kids_of t.krates.items
 
 -- the crate under a number that none has
-abbrev pub no_krate : model.Krate
+abbrev pub no_krate : model.CrateRow
 no_krate = record { id = no_id; declared = 0 }
 
 -- the crate of a number
-abbrev pub krate_at : Outline → ℕ → model.Krate
-krate_at t n = get_or (map krate_view t.krates.items) n no_krate
+abbrev pub krate_at : Outline → ℕ → model.CrateRow
+krate_at t n = get_or (map crate_row_view t.krates.items) n no_krate
 
 -- an edge between these crates
-abbrev pub link_view : List Identity → Link → model.Link
-link_view kids l = record { edge = edge_view kids l.edge; place = l.edge.declared; given = map text_view l.given.items }
+abbrev pub edge_row_view : List Identity → EdgeRow → model.EdgeRow
+edge_row_view kids l = record { edge = edge_view kids l.edge; place = l.edge.declared; given = map text_view l.given.items }
 
 abbrev pub meaning_view : Meaning → model.Meaning
 meaning_view (meaning.OwnFeature name) = OwnFeature (text_view name)
@@ -54,14 +54,14 @@ abbrev pub meanings_view : Vec Meaning → List model.Meaning
 meanings_view v = map meaning_view v.items
 
 -- a feature of one of these crates
-abbrev pub named_view : List Identity → Named → model.Named
-named_view kids n = record { krate = id_at kids n.feature.krate; name = text_view n.feature.name; meanings = map meaning_view n.meanings.items }
+abbrev pub feature_row_view : List Identity → FeatureRow → model.FeatureRow
+feature_row_view kids n = record { krate = id_at kids n.feature.krate; name = text_view n.feature.name; meanings = map meaning_view n.meanings.items }
 
 abbrev pub outline_view : Outline → model.Outline
 outline_view t = record {
-  krates = map krate_view t.krates.items;
-  links = map (link_view (kids_in t)) t.links.items;
-  features = map (named_view (kids_in t)) t.features.items;
+  krates = map crate_row_view t.krates.items;
+  links = map (edge_row_view (kids_in t)) t.links.items;
+  features = map (feature_row_view (kids_in t)) t.features.items;
   toggled = map (toggle_of (kids_in t)) t.toggled.items;
 }
 

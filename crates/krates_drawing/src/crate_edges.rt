@@ -6,13 +6,13 @@ ghost use Rattle.krates_drawing.specs.EdgeSource.{IsDrawnTo, IsCrateSource, AreT
 ghost use Rattle.krates_drawing.specs.LinesFrom.{line_from};
 ghost use Rattle.krates_drawing.specs.Outline.{toggle_of};
 ghost use Rattle.krates_drawing.specs.OutlineOrder.{AreByChild, HaveEnds, IsFirstTo, IsOrdered};
-ghost use Rattle.krates_drawing.specs.Views.{kids_in, krate_at, link_view, outline_view, Draws, IsFew};
+ghost use Rattle.krates_drawing.specs.Views.{kids_in, krate_at, edge_row_view, outline_view, Draws, IsFew};
 
 use crate::edge::{Edge, PlannedEdge};
 use crate::edge_source::{CrateSource, source_at};
 use crate::equal_ranges::{links_to, toggled_by, toggled_in};
 use crate::numbers::{crate_number, feature_number};
-use crate::outline::{Link, Outline};
+use crate::outline::{EdgeRow, Outline};
 use krates_graph::graph::NodeId;
 use krates_rules::DepKind;
 use krates_selection::ToggledFeature;
@@ -23,7 +23,7 @@ use std::alloc::AllocError;
 fn draw_uses(
     outline: &Outline,
     source: NodeId,
-    link: &Link,
+    link: &EdgeRow,
     out: &mut Vec<PlannedEdge>,
 ) -> Result<(), AllocError>
     requires few { IsFew outline.now }
@@ -32,7 +32,8 @@ fn draw_uses(
     requires source { source ≡ number_of_crate (outline_view outline.now)
         (id_at (kids_in outline.now) link.now.edge.parent) }
     ensures { OnOk result (Draws out.old out.new (uses (outline_view outline.now)
-        (link_view (kids_in outline.now) link.now) (link_view (kids_in outline.now) link.now).given)) }
+        (edge_row_view (kids_in outline.now) link.now)
+        (edge_row_view (kids_in outline.now) link.now).given)) }
 {
     let edge = &link.edge;
     if link.given.is_empty() {
@@ -67,7 +68,7 @@ fn draw_uses(
 fn draw_kept(
     outline: &Outline,
     source: NodeId,
-    links: &[Link],
+    links: &[EdgeRow],
     out: &mut Vec<PlannedEdge>,
 ) -> Result<(), AllocError>
     requires few { IsFew outline.now }
@@ -76,7 +77,7 @@ fn draw_kept(
     requires source { All (λ l. source ≡ number_of_crate (outline_view outline.now)
         (id_at (kids_in outline.now) l.edge.parent)) links.now }
     ensures { OnOk result (Draws out.old out.new (flat_map (λ l. uses (outline_view outline.now) l l.given)
-        (map (link_view (kids_in outline.now)) links.now))) }
+        (map (edge_row_view (kids_in outline.now)) links.now))) }
 {
     for x in links {
         draw_uses(outline, source, x, out)?;
@@ -125,7 +126,8 @@ fn draw_pair(
     requires toggled { AreToggledBy outline.now from.now.krate toggled.now }
     requires within { child < length outline.now.krates.items }
     ensures { OnOk result (Draws out.old out.new (pair_lines (outline_view outline.now)
-        (id_at (kids_in outline.now) from.now.krate) (map (link_view (kids_in outline.now)) from.now.mine.now)
+        (id_at (kids_in outline.now) from.now.krate)
+        (map (edge_row_view (kids_in outline.now)) from.now.mine.now)
         (krate_at outline.now child))) }
 {
     let source = crate_number(outline, from.krate);
@@ -135,7 +137,7 @@ fn draw_pair(
 }
 
 /// Whether no edge before this place leads to the same crate.
-fn is_first(mine: &[Link], place: usize) -> bool
+fn is_first(mine: &[EdgeRow], place: usize) -> bool
     requires by_child { AreByChild mine.now }
     requires within { place < length mine.now }
     ensures { IsFirstTo mine.now place result }

@@ -30,7 +30,7 @@ pub fn divide(
     alloc: Global,
     packages: Vec<Package>,
     ids: Vec<Kid>,
-    selected: &[outline::Krate],
+    selected: &[outline::CrateRow],
 ) -> Result<Division, AllocError>
     requires read { AllZip Reads (map (λ p. id_view p.id) packages.items) ids.items }
     requires distinct { AreDistinct ids.items }
@@ -59,7 +59,7 @@ fn with_ids(alloc: Global, packages: Vec<Package>, ids: Vec<Kid>) -> Result<Vec<
 fn divided(
     alloc: Global,
     krates: Vec<Krate>,
-    selected: &[outline::Krate],
+    selected: &[outline::CrateRow],
 ) -> Result<Division, AllocError>
     requires { IsStrictlySortedBy id_cmp (outline_ids selected.now) }
     ensures kept { IfOk result
@@ -80,7 +80,7 @@ fn divided(
 }
 
 /// Whether an id is that of a crate, among crates in the order of their ids.
-fn has(krates: &[outline::Krate], id: &Kid) -> bool
+fn has(krates: &[outline::CrateRow], id: &Kid) -> bool
     requires { IsStrictlySortedBy id_cmp (outline_ids krates.now) }
     ensures { result ≡ has_same (outline_ids krates.now) id.now }
 {

@@ -1,6 +1,6 @@
 //! How many edges an outline has at most.
 
-use crate::outline::{Link, Meaning, Named, Outline};
+use crate::outline::{EdgeRow, FeatureRow, Meaning, Outline};
 
 /// How many edges are drawn of an outline at most: the list of them is made with this room, and grows no more. Time: O(n) for n kept edges
 /// and references.
@@ -11,7 +11,7 @@ pub(crate) fn edges_at_most(outline: &Outline) -> usize {
 }
 
 /// Each kept edge is drawn once, or once for each feature that it gives.
-fn edges_of_links(links: &[Link]) -> usize {
+fn edges_of_links(links: &[EdgeRow]) -> usize {
     let mut count: usize = 0;
     for link in links {
         count = count.saturating_add(link.given.len().max(1));
@@ -20,7 +20,7 @@ fn edges_of_links(links: &[Link]) -> usize {
 }
 
 /// A feature leads to its crate, and to what its references name.
-fn edges_of_features(features: &[Named]) -> usize {
+fn edges_of_features(features: &[FeatureRow]) -> usize {
     let mut count: usize = 0;
     for named in features {
         count = count

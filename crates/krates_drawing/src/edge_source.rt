@@ -4,14 +4,14 @@ ghost use Rattle.krates_drawing.specs.EdgeSource.{IsCrateSource};
 ghost use Rattle.krates_drawing.specs.OutlineOrder.{IsOrdered};
 
 use crate::equal_ranges::links_from;
-use crate::outline::{Link, Outline};
+use crate::outline::{EdgeRow, Outline};
 use krates_graph::graph::NodeId;
 
 /// A crate, with the kept edges from it, by child.
 #[derive(Clone, Copy)]
 pub(crate) struct CrateSource<'a> {
     pub krate: usize,
-    pub mine: &'a [Link],
+    pub mine: &'a [EdgeRow],
 }
 
 /// A feature's node from which edges are drawn, and its crate.

@@ -4,11 +4,11 @@ ghost use Rattle.std.specs.List.{list_any};
 ghost use Rattle.krates_drawing.specs.EdgeSource.{AreLinksFrom, AreToggledBy};
 ghost use Rattle.krates_drawing.specs.OutlineOrder.{AreByChild, AreByKrate, IsOrdered, has_child, has_krate};
 
-use crate::outline::{Link, Outline};
+use crate::outline::{EdgeRow, Outline};
 use krates_selection::ToggledFeature;
 
 /// The kept edges from a crate, by child.
-pub(crate) fn links_from(outline: &Outline, parent: usize) -> &[Link]
+pub(crate) fn links_from(outline: &Outline, parent: usize) -> &[EdgeRow]
     requires ordered { IsOrdered outline.now }
     requires within { parent < length outline.now.krates.items }
     ensures { AreLinksFrom outline.now parent result.now }
@@ -23,7 +23,7 @@ pub(crate) fn links_from(outline: &Outline, parent: usize) -> &[Link]
 }
 
 /// Those of the edges from a crate that lead to another.
-pub(crate) fn links_to(mine: &[Link], child: usize) -> &[Link]
+pub(crate) fn links_to(mine: &[EdgeRow], child: usize) -> &[EdgeRow]
     requires { AreByChild mine.now }
     ensures { result.now ≡ filter (has_child child) mine.now }
 {
@@ -35,7 +35,7 @@ pub(crate) fn links_to(mine: &[Link], child: usize) -> &[Link]
 }
 
 /// Whether one of the edges from a crate leads to another.
-pub(crate) fn leads_to(mine: &[Link], child: usize) -> bool
+pub(crate) fn leads_to(mine: &[EdgeRow], child: usize) -> bool
     requires { AreByChild mine.now }
     ensures { result ≡ list_any (has_child child) mine.now }
 {

@@ -6,23 +6,23 @@ ghost use Rattle.krates_drawing.specs.Drawing.{AtCrate, AtFeature, leads_to as l
 ghost use Rattle.krates_drawing.specs.EdgeSource.{IsCrateSource, IsNumberOfChild};
 ghost use Rattle.krates_drawing.specs.LinesFrom.{line_from, meant_from};
 ghost use Rattle.krates_drawing.specs.OutlineOrder.{AreByChild, HaveEnds, IsOrdered, IsPlaceOfFeature};
-ghost use Rattle.krates_drawing.specs.Views.{kids_in, link_view, meaning_view, named_view, outline_view, Draws, IsFew};
+ghost use Rattle.krates_drawing.specs.Views.{kids_in, edge_row_view, meaning_view, feature_row_view, outline_view, Draws, IsFew};
 
 use crate::edge::{Edge, PlannedEdge};
 use crate::edge_source::{CrateSource, FeatureSource, first_source, source_of};
 use crate::equal_ranges::leads_to;
 use crate::numbers::{crate_number, feature_number, number_at, place_of_crate};
-use crate::outline::{Link, Meaning, Named, Outline};
+use crate::outline::{EdgeRow, FeatureRow, Meaning, Outline};
 use krates_ids::Kid;
 use std::alloc::AllocError;
 
 /// The number of the crate with this id, where one of the edges leads to it.
-fn number_of_child(outline: &Outline, mine: &[Link], id: &Kid) -> Option<usize>
+fn number_of_child(outline: &Outline, mine: &[EdgeRow], id: &Kid) -> Option<usize>
     requires ordered { IsOrdered outline.now }
     requires by_child { AreByChild mine.now }
     requires ends { HaveEnds outline.now mine.now }
     ensures { MatchOption result
-        (leads (map (link_view (kids_in outline.now)) mine.now) (id_of id.now) ≡ false)
+        (leads (map (edge_row_view (kids_in outline.now)) mine.now) (id_of id.now) ≡ false)
         (IsNumberOfChild outline.now mine.now (id_of id.now)) }
 {
     let place = place_of_crate(&outline.krates, id);
@@ -44,7 +44,7 @@ fn draw_to_crates(
     requires ordered { IsOrdered outline.now }
     requires home { IsCrateSource outline.now from.now.home }
     ensures { OnOk result (Draws out.old out.new (map (line_from (outline_view outline.now) from.now.number)
-        (map AtCrate (filter (leads (map (link_view (kids_in outline.now)) from.now.home.mine.now))
+        (map AtCrate (filter (leads (map (edge_row_view (kids_in outline.now)) from.now.home.mine.now))
         (map id_of krates.now))))) }
 {
     for x in krates {
@@ -73,7 +73,7 @@ fn draw_to_features(
     requires home { IsCrateSource outline.now from.now.home }
     ensures { OnOk result (Draws out.old out.new (map (line_from (outline_view outline.now) from.now.number)
         (map (λ q. AtFeature q name.now)
-        (filter (leads (map (link_view (kids_in outline.now)) from.now.home.mine.now))
+        (filter (leads (map (edge_row_view (kids_in outline.now)) from.now.home.mine.now))
         (map id_of krates.now))))) }
 {
     for x in krates {
@@ -100,7 +100,7 @@ fn draw_meaning(
     requires ordered { IsOrdered outline.now }
     requires home { IsCrateSource outline.now from.now.home }
     ensures { OnOk result (Draws out.old out.new (meant_from (outline_view outline.now) from.now.number
-        (map (link_view (kids_in outline.now)) from.now.home.mine.now)
+        (map (edge_row_view (kids_in outline.now)) from.now.home.mine.now)
         (id_at (kids_in outline.now) from.now.home.krate) (meaning_view meaning.now))) }
 {
     match meaning {
@@ -131,7 +131,7 @@ fn draw_meanings(
     requires ordered { IsOrdered outline.now }
     requires home { IsCrateSource outline.now from.now.home }
     ensures { OnOk result (Draws out.old out.new (flat_map (meant_from (outline_view outline.now)
-        from.now.number (map (link_view (kids_in outline.now)) from.now.home.mine.now)
+        from.now.number (map (edge_row_view (kids_in outline.now)) from.now.home.mine.now)
         (id_at (kids_in outline.now) from.now.home.krate)) (map meaning_view meanings.now))) }
 {
     for x in meanings {
@@ -146,7 +146,7 @@ fn draw_feature(
     outline: &Outline,
     home: &CrateSource<'_>,
     place: usize,
-    named: &Named,
+    named: &FeatureRow,
     out: &mut Vec<PlannedEdge>,
 ) -> Result<(), AllocError>
     requires few { IsFew outline.now }
@@ -155,7 +155,7 @@ fn draw_feature(
     requires krate { home.now.krate ≡ named.now.feature.krate }
     requires place { IsPlaceOfFeature outline.now place named.now }
     ensures { OnOk result (Draws out.old out.new (feature_lines (outline_view outline.now)
-        (named_view (kids_in outline.now) named.now))) }
+        (feature_row_view (kids_in outline.now) named.now))) }
 {
     let from = FeatureSource {
         number: number_at(outline, place, named),

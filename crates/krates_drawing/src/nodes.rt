@@ -4,11 +4,11 @@ ghost use Rattle.std.specs.List.{range_with_len};
 ghost use Rattle.krates_selection.specs.CrateNumbers.{HasEnds};
 ghost use Rattle.krates_drawing.specs.Drawing.{planned_crate, planned_feature, mapped, mapping as mapping_of, planned_nodes};
 ghost use Rattle.krates_drawing.specs.OutlineOrder.{AreByChild, HaveEnds, IsClaimed, IsOrdered};
-ghost use Rattle.krates_drawing.specs.Views.{IsFew, kids_in, krate_at, link_view, planned_node_view, outline_view};
+ghost use Rattle.krates_drawing.specs.Views.{IsFew, kids_in, krate_at, edge_row_view, planned_node_view, outline_view};
 
 use crate::equal_ranges::links_from;
 use crate::numbers::crate_number;
-use crate::outline::{Link, Outline};
+use crate::outline::{EdgeRow, Outline};
 use krates_graph::graph::NodeId;
 use krates_ids::Kid;
 use std::alloc::{AllocError, Global};
@@ -29,11 +29,11 @@ pub enum PlannedNode {
 }
 
 /// Writes the number of the crate to which the edge leads at the place of its declared dependency.
-fn claim(outline: &Outline, link: &Link, mapping: &mut [Option<NodeId>])
+fn claim(outline: &Outline, link: &EdgeRow, mapping: &mut [Option<NodeId>])
     requires few { IsFew outline.now }
     requires ordered { IsOrdered outline.now }
     requires ends { HasEnds (length outline.now.krates.items) link.now.edge }
-    ensures { IsClaimed (outline_view outline.now) (link_view (kids_in outline.now) link.now) mapping.old
+    ensures { IsClaimed (outline_view outline.now) (edge_row_view (kids_in outline.now) link.now) mapping.old
         mapping.new }
 {
     let place = link.edge.declared;
@@ -46,7 +46,7 @@ fn claim(outline: &Outline, link: &Link, mapping: &mut [Option<NodeId>])
 fn mapping_over(
     alloc: Global,
     outline: &Outline,
-    mine: &[Link],
+    mine: &[EdgeRow],
     count: usize,
 ) -> Result<Vec<Option<NodeId>>, AllocError>
     requires few { IsFew outline.now }
@@ -54,7 +54,7 @@ fn mapping_over(
     requires by_child { AreByChild mine.now }
     requires ends { HaveEnds outline.now mine.now }
     ensures { IfOk result (λ v. v.items ≡ map (mapped (outline_view outline.now)
-        (map (link_view (kids_in outline.now)) mine.now)) (range_with_len 0 count)) }
+        (map (edge_row_view (kids_in outline.now)) mine.now)) (range_with_len 0 count)) }
 {
     let mut mapping = vec![in alloc; None; count]?;
     for link in mine {

@@ -9,9 +9,9 @@ ghost use Rattle.krates_selection.specs.CrateNumbers.{id_at};
 ghost use Rattle.krates_rules.specs.Resolved.{id_of};
 ghost use Rattle.krates_drawing.specs.Drawing.{crate_number as number_of_crate, feature_number as number_of_feature, is_crate, is_feature, place_of};
 ghost use Rattle.krates_drawing.specs.OutlineOrder.{IsOrdered, IsPlaceOfFeature};
-ghost use Rattle.krates_drawing.specs.Views.{IsFew, kids_in, kids_of, krate_view, named_view, outline_view};
+ghost use Rattle.krates_drawing.specs.Views.{IsFew, kids_in, kids_of, crate_row_view, feature_row_view, outline_view};
 
-use crate::outline::{Krate, Named, Outline};
+use crate::outline::{CrateRow, FeatureRow, Outline};
 use krates_graph::graph::NodeId;
 use krates_ids::{Kid, laws};
 use std::cmp::Ordering;
@@ -39,7 +39,7 @@ pub(crate) fn feature_number(outline: &Outline, krate: usize, name: &str) -> Nod
 }
 
 /// The number of the node of the feature that stands at this place among those of the outline.
-pub(crate) fn number_at(outline: &Outline, place: usize, named: &Named) -> NodeId
+pub(crate) fn number_at(outline: &Outline, place: usize, named: &FeatureRow) -> NodeId
     requires few { IsFew outline.now }
     requires ordered { IsOrdered outline.now }
     requires place { IsPlaceOfFeature outline.now place named.now }
@@ -50,9 +50,9 @@ pub(crate) fn number_at(outline: &Outline, place: usize, named: &Named) -> NodeI
 }
 
 /// The place of the crate, or the number of crates.
-pub(crate) fn place_of_crate(krates: &[Krate], id: &Kid) -> usize
+pub(crate) fn place_of_crate(krates: &[CrateRow], id: &Kid) -> usize
     requires { IsStrictlySortedBy id_cmp (kids_of krates.now) }
-    ensures place { result ≡ place_of (is_crate (id_of id.now)) (map krate_view krates.now) }
+    ensures place { result ≡ place_of (is_crate (id_of id.now)) (map crate_row_view krates.now) }
     ensures within { result ≤ length krates.now }
 {
     laws::comparison();
@@ -67,7 +67,7 @@ fn place_of_feature(outline: &Outline, krate: usize, name: &str) -> usize
     requires ordered { IsOrdered outline.now }
     requires within { krate < length outline.now.krates.items }
     ensures place { result ≡ place_of (is_feature (id_at (kids_in outline.now) krate) name.now)
-        (map (named_view (kids_in outline.now)) outline.now.features.items) }
+        (map (feature_row_view (kids_in outline.now)) outline.now.features.items) }
     ensures within { result ≤ length outline.now.features.items }
 {
     match outline
@@ -80,7 +80,7 @@ fn place_of_feature(outline: &Outline, krate: usize, name: &str) -> usize
 }
 
 /// How an enabled feature compares with that of this crate and name.
-fn feature_against(named: &Named, krate: usize, name: &str) -> Ordering
+fn feature_against(named: &FeatureRow, krate: usize, name: &str) -> Ordering
     ensures { result ≡ ordering_then (nat_cmp named.now.feature.krate krate) (slice_cmp nat_cmp
         (text_view named.now.feature.name) name.now) }
 {

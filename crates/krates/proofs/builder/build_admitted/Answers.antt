@@ -8,7 +8,7 @@ use Rattle.krates_cm.specs.declared.metadata.Metadata.{Metadata}
 use Rattle.krates_document.specs.Ids.{ids_view}
 use Rattle.krates_document.specs.declared.ids.Ids.{Ids}
 use Rattle.krates_drawing.specs.Views.{outline_view}
-use Rattle.krates_drawing.specs.declared.outline.Krate.{Krate as OutlineKrate}
+use Rattle.krates_drawing.specs.declared.outline.CrateRow.{CrateRow}
 use Rattle.krates_selection.specs.declared.kept.KeptStep.{KeptStep}
 use Rattle.krates_ids.specs.Identity.{Identity, id_cmp}
 use Rattle.krates_drawing.specs.Division.{IsDivision, outline_ids}
@@ -32,10 +32,10 @@ abbrev IsRestOf : Metadata → Ids → Rest → Type 0
 IsRestOf m ids p = p ≡ record { packages = m.packages; kids = ids.packages; members = ids.members; workspace_root = m.workspace_root }
 
 -- what is divided are the document's packages, by the crates of the outline
-divided_of : (m : Metadata) (ids : Ids) (rest : Rest) (krates ks : List OutlineKrate) (d : Division) → IsRestOf m ids rest → ks ≡ krates
+divided_of : (m : Metadata) (ids : Ids) (rest : Rest) (krates ks : List CrateRow) (d : Division) → IsRestOf m ids rest → ks ≡ krates
     → IsDivision rest.packages.items (outline_ids ks) d → IsDivision m.packages.items (outline_ids krates) d
 divided_of m ids rest krates ks d is same h =
-    subst (λ (ks : List OutlineKrate). IsDivision m.packages.items (outline_ids ks) d) same (subst (λ (p : Rest). IsDivision p.packages.items (outline_ids ks) d) is h)
+    subst (λ (ks : List CrateRow). IsDivision m.packages.items (outline_ids ks) d) same (subst (λ (p : Rest). IsDivision p.packages.items (outline_ids ks) d) is h)
 
 -- what holds of what was made holds of it as it is handed on
 handed : {A E : Type 0} (P : A → Type 0) (made : Result A E) (x : A) → Ok x ≡ made → IfOk made P → P x
@@ -48,7 +48,7 @@ pub divide-requires-clause-distinct : goal.divide-requires-clause-distinct
 divide-requires-clause-distinct g c = rw (c.rest_of-rest.ensures) (ids_distinct (metadata_view c.args.metadata) (ids_view c.args.ids) c.requires.admitted)
 
 pub divide-requires-clause-ascending : goal.divide-requires-clause-ascending
-divide-requires-clause-ascending g c = subst (λ (ks : List OutlineKrate). IsStrictlySortedBy id_cmp (outline_ids ks)) (sym c.deref.ensures.value) c.in_ok-sketch.ensures.sketched.ordered.krates
+divide-requires-clause-ascending g c = subst (λ (ks : List CrateRow). IsStrictlySortedBy id_cmp (outline_ids ks)) (sym c.deref.ensures.value) c.in_ok-sketch.ensures.sketched.ordered.krates
 
 pub returns-in_err-graph-clause-refused : goal.returns-in_err-graph-clause-refused
 returns-in_err-graph-clause-refused g c =

@@ -3,7 +3,7 @@ use Rattle.std.proofs.lemmas.List.Elements.{All-map}
 use Rattle.krates_drawing.specs.Drawing.{planned_edges, planned_nodes}
 use Rattle.krates_drawing.specs.Views.{planned_edge_view, kids_in, outline_view}
 use Rattle.krates_drawing.specs.declared.edge.PlannedEdge.{PlannedEdge}
-use Rattle.krates_drawing.specs.declared.outline.Named.{Named}
+use Rattle.krates_drawing.specs.declared.outline.FeatureRow.{FeatureRow}
 use Rattle.krates_selection.specs.CrateNumbers.{HasHome}
 use Rattle.krates_selection.specs.Selection.{feature_fact}
 use Rattle.krates_selection.specs.declared.selection.EnabledFeature.{EnabledFeature}
@@ -19,7 +19,7 @@ use Rattle.krates.proofs.drawn.graph_of.Goals as goal
 pub enabled_of-requires : goal.enabled_of-requires
 enabled_of-requires g c =
     let outline = c.args.outline in
-    let homes = All-map (HasHome (length outline.krates.items)) (λ (n : Named). n.feature) outline.features.items c.requires.ordered.homes in
+    let homes = All-map (HasHome (length outline.krates.items)) (λ (n : FeatureRow). n.feature) outline.features.items c.requires.ordered.homes in
     let as_many = as_many_crates c.args.krates.items outline.krates.items c.requires.ids in
     subst (λ n. All (HasHome n) c.in_ok-features.features.items) (as_many ∙ sym (c.len.ensures ∙ c.args.krates.ok.0)) (subst (All (HasHome (length outline.krates.items))) (sym c.in_ok-features.ensures) homes)
 
