@@ -11,7 +11,7 @@ use Rattle.krates_ids.specs.declared.error.Error.{Error}
 use Rattle.krates_ids.specs.declared.error.Error.TheVariants as errors
 use Rattle.krates_drawing.specs.declared.krate.Krate.{Krate}
 use Rattle.krates.specs.declared.nodes.DrawnFeature.{DrawnFeature}
-use Rattle.krates.specs.declared.nodes.Nodes.{Nodes}
+use Rattle.krates.specs.declared.nodes.DrawnNodes.{DrawnNodes}
 use Rattle.krates_drawing.specs.declared.node.Node.{Node}
 use Rattle.krates_drawing.specs.declared.node.Node.TheVariants as node
 
@@ -38,7 +38,7 @@ abbrev pub feature_node : {P : Type 0} → DrawnFeature → Node P
 feature_node f = node.Feature f.krate_index f.name
 
 -- the nodes that were drawn
-abbrev pub nodes_in : Nodes → List (Node Package)
+abbrev pub nodes_in : DrawnNodes → List (Node Package)
 nodes_in nodes = nodes.crates.items ++ map feature_node nodes.features.items
 
 -- ---- with packages

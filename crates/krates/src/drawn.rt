@@ -24,7 +24,7 @@ ghost use Rattle.krates.specs.MadeNodes.{IsMade, nodes_in};
 ghost use Rattle.krates.specs.Sketch.{IsSketchOf};
 
 use crate::enabled::enabled_of;
-use crate::nodes::{Nodes, nodes_of, parts_of, store_nodes};
+use crate::nodes::{DrawnNodes, nodes_of, parts_of, store_nodes};
 use krates_cm::Metadata;
 use krates_drawing::edge::PlannedEdge;
 use krates_drawing::krate::Krate;
@@ -109,7 +109,7 @@ fn features_in(alloc: Global, outline: Outline) -> Result<Vec<EnabledFeature>, A
 fn stored<N: FromPackage + Drop, E: FromEdge + Drop>(
     alloc: Global,
     limits: Limits,
-    nodes: Nodes,
+    nodes: DrawnNodes,
     planned_edges: &[PlannedEdge],
 ) -> Result<Graph<Node<N>, E>, Error>
     requires nodes { length (nodes_in nodes) ≤ limits.nodes }
