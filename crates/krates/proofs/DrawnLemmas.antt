@@ -37,7 +37,7 @@ use Rattle.krates_queries.specs.DirectDependents.{IsDependent}
 use Rattle.krates_drawing.specs.Division.{IsAmong, IsDivision, outline_ids}
 use Rattle.krates_selection.specs.Explanation.{explained_steps}
 use Rattle.krates_selection.specs.declared.kept.Explanation.{Explanation}
-use Rattle.krates_queries.specs.Explained.{IsExplainedBy}
+use Rattle.krates_queries.specs.KeptSteps.{IsExplainedBy}
 use Rattle.krates_queries.specs.Drawn.{IsNumbered, IsOutlineFor, planned_node}
 use Rattle.krates.specs.Enabled.{AreEnabledSets, numbered}
 use Rattle.krates_queries.specs.Kept.{AreFeatures, AreNodes, IsEnabledIn, IsNameAt, names_in_each}

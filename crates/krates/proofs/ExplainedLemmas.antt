@@ -43,7 +43,7 @@ use Rattle.krates_queries.proofs.NodeLemmas.{as_many_features, place_at}
 use Rattle.krates_rules.proofs.OrderedIds.{Compares, HasLike, one_order}
 use Rattle.krates.proofs.SelectionFacts.{Selects, crate_among, kept_among}
 use Rattle.krates_queries.specs.Drawn.{IsOutlineFor}
-use Rattle.krates_queries.specs.Explained.{AreExplained, AreStepsFor, HasStepOf, IsExplainedBy, node_says}
+use Rattle.krates_queries.specs.KeptSteps.{AreExplained, AreStepsFor, HasStepOf, IsExplainedBy, node_says}
 use Rattle.krates_queries.specs.Kept.{AreNodes, IsEnabledIn}
 use Rattle.krates.specs.KeptGraph.{IsGraphOf, named_fact}
 use Rattle.krates_drawing.specs.Krate.{krate_ids}

@@ -28,7 +28,7 @@ use Rattle.krates_selection.specs.declared.selection.Selection.{Selection}
 use Rattle.krates.specs.Indexed.{Answering, Sees}
 use Rattle.krates_drawing.specs.Listed.{AreThosePackages}
 use Rattle.krates_queries.specs.DirectDependents.{IsDependent}
-use Rattle.krates_queries.specs.Explained.{IsExplainedBy, steps_of}
+use Rattle.krates_queries.specs.KeptSteps.{IsExplainedBy, steps_of}
 use Rattle.krates_queries.specs.Drawn.{HasOutline, IsDrawn, IsNumbered, planned_node}
 use Rattle.krates_queries.specs.Kept.{KeptCrates, HasEnabled, ids_of, values_of}
 

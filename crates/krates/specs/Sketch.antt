@@ -4,7 +4,7 @@ use Rattle.krates_cm.specs.Document.{MetadataModel}
 use Rattle.krates_drawing.specs.OutlineOrder.{IsOrdered}
 use Rattle.krates_drawing.specs.Views.{outline_view}
 use Rattle.krates_queries.specs.Drawn.{IsOutlineFor}
-use Rattle.krates_queries.specs.Explained.{AreStepsFor}
+use Rattle.krates_queries.specs.KeptSteps.{AreStepsFor}
 use Rattle.krates_selection.specs.Selection.{IsSelectionOf}
 use Rattle.krates_selection.specs.declared.selection.Selection.{Selection}
 use Rattle.krates_rules.specs.Setting.{SettingModel}

@@ -11,7 +11,7 @@ use Rattle.krates_rules.specs.Facts.{Id, Crate as CrateFact}
 use Rattle.krates_rules.specs.Steps.{EndsIn}
 use Rattle.krates_queries.proofs.CrateIds.{crate_id}
 use Rattle.krates_queries.proofs.NodeLemmas.{place_at}
-use Rattle.krates_queries.specs.Explained.{AreExplained, node_says}
+use Rattle.krates_queries.specs.KeptSteps.{AreExplained, node_says}
 use Rattle.krates_queries.specs.Kept.{AreNodes, KeptCrates, ids_of}
 use Rattle.krates_drawing.specs.Node.{CratesFirst, crate_ids}
 use Rattle.krates_queries.specs.Why.{IsWhy, node_fact}

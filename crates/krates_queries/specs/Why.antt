@@ -13,7 +13,7 @@ use Rattle.krates_rules.specs.Resolved.{Resolved, id_of}
 use Rattle.krates_rules.specs.Setting.{SettingModel}
 use Rattle.krates_rules.specs.StepParts.{HaveOwnFacts, IsUsedLater}
 use Rattle.krates_rules.specs.Steps.{EachFollows, EndsIn, IsAccepted}
-use Rattle.krates_queries.specs.Explained.{steps_of}
+use Rattle.krates_queries.specs.KeptSteps.{steps_of}
 use Rattle.krates_queries.specs.Kept.{KeptCrates, ids_of}
 use Rattle.krates_drawing.specs.declared.node.Node.{Node}
 use Rattle.krates_drawing.specs.declared.node.Node.TheVariants.{Krate, Feature}

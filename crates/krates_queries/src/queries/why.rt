@@ -2,7 +2,7 @@
 
 ghost use Rattle.std.specs.Prelude.{◌≡◌, IfOk};
 ghost use Rattle.krates_selection.specs.KeptFacts.{subject_view};
-ghost use Rattle.krates_queries.specs.Explained.{node_says};
+ghost use Rattle.krates_queries.specs.KeptSteps.{node_says};
 ghost use Rattle.krates_queries.specs.Why.{TellsWhy};
 
 use crate::kept::Krates;
