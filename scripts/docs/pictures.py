@@ -28,7 +28,6 @@ ROOMS = {
         "#e9f7ec", ["krates_document", "krates_questions", "krates_selection", "krates_search", "krates_resolve"],
     ),
     "the graph": ("#e6f6f6", ["krates_graph", "krates_drawing", "krates_queries"]),
-    "why": ("#f1f0e4", ["krates_explain"]),
     "checkers without a search": (
         "#fdeaea", ["krates_derive", "krates_checkers", "krates_certificate", "krates_verdict", "krates_check"],
     ),

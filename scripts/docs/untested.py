@@ -56,9 +56,9 @@ SHOWN_BY = {
         " expand expand_entry links_of Links::kept Links::is_asked Links::let_wait kept_edges kept_features"
         " kept_toggled"
     ).split(),
-    # the graph of a build: its sheet, nodes and edges, and how they are stored
+    # the graph of a build: its outline, nodes and edges, and how they are stored
     "build_with_metadata": (
-        "count_of given_by meanings_by draw_nodes plan store_arrows in_order Krates::new divide handed_over"
+        "records_of count_of given_by meanings_by draw_nodes plan store_edges in_order Krates::new divide handed_over"
     ).split(),
     # the steps that a build keeps, and those of them that lead to a node
     "facts": ("kept_steps", "Document::lookup"),

@@ -8,8 +8,8 @@ use Rattle.std.specs.Str.{bytes_eq}
 use Rattle.krates_cm.specs.Document.{Text, PackageModel, MetadataModel, metadata_view, text_view}
 use Rattle.krates_cm.specs.declared.metadata.Metadata.{Metadata}
 use Rattle.krates_cm.specs.declared.package.Package.{Package}
-use Rattle.krates_drawing.specs.Alike.{DrawAlike, IsDrawnAlike, IsSheetThere}
-use Rattle.krates_drawing.specs.Sheet.{Sheet}
+use Rattle.krates_drawing.specs.Alike.{DrawAlike, IsDrawnAlike, IsOutlineThere}
+use Rattle.krates_drawing.specs.Outline.{Outline}
 use Rattle.krates_ids.specs.Identity.{id_cmp}
 use Rattle.krates_ids.specs.declared.error.Error.{Error}
 use Rattle.krates_ids.specs.declared.error.Error.TheVariants as errors
@@ -21,7 +21,7 @@ use Rattle.krates_rules.specs.Reordering.{Reorders, ResolveAlike, IsOrderFree}
 use Rattle.krates_rules.specs.Setting.{SettingModel}
 use Rattle.krates.specs.Build.{IsResolvable, IsDerived, KeepsCrate, DropsCrate, GraphRefusal, IsRefusedSeeing}
 use Rattle.krates.specs.BuildLaws.{BuildAlike, IsBuildOrderFree, IsSeenBy}
-use Rattle.krates_queries.specs.Drawn.{IsSheetFor}
+use Rattle.krates_queries.specs.Drawn.{IsOutlineFor}
 use Rattle.krates.specs.Indexed.{HasNames}
 use Rattle.krates.proofs.AdmittedAlike.{turned, resolvable_there}
 use Rattle.krates.proofs.CorrectedAlike.{OneCorrection, seen_alike}
@@ -73,23 +73,23 @@ names_same m n w names =
 
 -- ---- refusals
 
--- a sheet for the first document is one for the second, if no id is doubled in that
-pub sheet_for_there : IsSheetThere → (p q : MetadataModel) (s : SettingModel) (t : Sheet) → Reorders p q → IsResolvable q → IsSheetFor p s t → IsSheetFor q s t
-sheet_for_there law p q s t w r h =
+-- an outline for the first document is one for the second, if no id is doubled in that
+pub outline_for_there : IsOutlineThere → (p q : MetadataModel) (s : SettingModel) (t : Outline) → Reorders p q → IsResolvable q → IsOutlineFor p s t → IsOutlineFor q s t
+outline_for_there law p q s t w r h =
     let a = r.admitted in
-    let there = law p q w h.graph a.graph h.has_graph a.has_graph a.none_doubled s h.holds.selection h.holds.selected t h.holds.is_sheet in
-    record { graph = a.graph; has_graph = a.has_graph; holds = record { selection = h.holds.selection; selected = there.0; is_sheet = there.1 } }
+    let there = law p q w h.graph a.graph h.has_graph a.has_graph a.none_doubled s h.holds.selection h.holds.selected t h.holds.is_outline in
+    record { graph = a.graph; has_graph = a.has_graph; holds = record { selection = h.holds.selection; selected = there.0; is_outline = there.1 } }
 
 -- and both are drawn the same
-drawn_same : IsDrawnAlike → (p q : MetadataModel) (s : SettingModel) (t v : Sheet) → Reorders p q → IsResolvable q → IsSheetFor p s t → IsSheetFor q s v → DrawAlike t v
+drawn_same : IsDrawnAlike → (p q : MetadataModel) (s : SettingModel) (t v : Outline) → Reorders p q → IsResolvable q → IsOutlineFor p s t → IsOutlineFor q s v → DrawAlike t v
 drawn_same law p q s t v w r h k =
     let a = r.admitted in
     let none : NoneDoubled q k.graph = subst (NoneDoubled q) (same_Some a.graph k.graph (sym a.has_graph ∙ k.has_graph)) a.none_doubled in
-    law p q w h.graph k.graph h.has_graph k.has_graph none s h.holds.selection k.holds.selection h.holds.selected k.holds.selected t v h.holds.is_sheet k.holds.is_sheet
+    law p q w h.graph k.graph h.has_graph k.has_graph none s h.holds.selection k.holds.selection h.holds.selected k.holds.selected t v h.holds.is_outline k.holds.is_outline
 
-too_many_there : IsSheetThere → (p q : MetadataModel) (s : SettingModel) → Reorders p q → IsResolvable q → GraphRefusal p s errors.TooMany → GraphRefusal q s errors.TooMany
+too_many_there : IsOutlineThere → (p q : MetadataModel) (s : SettingModel) → Reorders p q → IsResolvable q → GraphRefusal p s errors.TooMany → GraphRefusal q s errors.TooMany
 too_many_there law p q s w r h =
-    let there = sheet_for_there law p q s h.holds.sheet w r (record { graph = h.graph; has_graph = h.has_graph; holds = h.holds.is_sheet }) in
+    let there = outline_for_there law p q s h.holds.outline w r (record { graph = h.graph; has_graph = h.has_graph; holds = h.holds.is_outline }) in
     let sel : Selects q s there.holds.selection = record { graph = there.graph; has_graph = there.has_graph; holds = there.holds.selected } in
     record {
       graph = there.graph;
@@ -97,13 +97,13 @@ too_many_there law p q s w r h =
       holds = record {
         none_lost = λ c d. none_lost q s there.holds.selection sel c (derived_of q s there.graph (Lost c) there.has_graph d);
         some = there.holds.selected.some;
-        sheet = h.holds.sheet;
-        is_sheet = there.holds;
+        outline = h.holds.outline;
+        is_outline = there.holds;
         many = h.holds.many;
       };
     }
 
-unbuilt_there : IsSheetThere → (p q : MetadataModel) (s : SettingModel) → ResolveAlike p q → Reorders p q → IsResolvable q → (e : Error) → GraphRefusal p s e → GraphRefusal q s e
+unbuilt_there : IsOutlineThere → (p q : MetadataModel) (s : SettingModel) → ResolveAlike p q → Reorders p q → IsResolvable q → (e : Error) → GraphRefusal p s e → GraphRefusal q s e
 unbuilt_there law p q s w moved r (errors.Lost what) h = (w.unselected s (errors.Lost what)).0 h
 unbuilt_there law p q s w moved r errors.NoRootKrates h = (w.unselected s errors.NoRootKrates).0 h
 unbuilt_there law p q s w moved r errors.TooMany h = too_many_there law p q s moved r h
@@ -114,7 +114,7 @@ unbuilt_there law p q s w moved r (errors.Doubled kid) h = absurd h
 unbuilt_there law p q s w moved r (errors.Metadata x) h = absurd h
 unbuilt_there law p q s w moved r (errors.InvalidPkgSpec x) h = absurd h
 
-pub refused_there : IsSheetThere → (m n p q : Metadata) (s : SettingModel) → (IsResolvable (metadata_view m) → IsResolvable (metadata_view n) × IsResolvable (metadata_view q)) → ResolveAlike (metadata_view m) (metadata_view n)
+pub refused_there : IsOutlineThere → (m n p q : Metadata) (s : SettingModel) → (IsResolvable (metadata_view m) → IsResolvable (metadata_view n) × IsResolvable (metadata_view q)) → ResolveAlike (metadata_view m) (metadata_view n)
     → ResolveAlike (metadata_view p) (metadata_view q) → Reorders (metadata_view p) (metadata_view q) → (e : Error) → IsRefusedSeeing m p s e → IsRefusedSeeing n q s e
 refused_there law m n p q s r given w moved errors.NoResolveGraph h = (given.refused errors.NoResolveGraph).0 h
 refused_there law m n p q s r given w moved (errors.InvalidId t) h = (given.refused (errors.InvalidId t)).0 h
@@ -131,7 +131,7 @@ refused_there law m n p q s r given w moved (errors.InvalidPkgSpec x) h = absurd
 not_kept_alike : (p q : MetadataModel) (s : SettingModel) → ((f : Fact) → IsDerived p s f ↔ IsDerived q s f) → (i : Id) → DropsCrate p s i ↔ DropsCrate q s i
 not_kept_alike p q s facts i = (λ none k. none ((facts (Crate i)).1 k), λ none k. none ((facts (Crate i)).0 k))
 
-builds_alike : IsDrawnAlike → IsSheetThere → IsOrderFree → ReadsOnce → IsTotalOrder id_cmp → (answer : Option IndexAnswer) (m n p q : Metadata) (s : SettingModel) → IsSeenBy answer m p → IsSeenBy answer n q → Reorders (metadata_view m) (metadata_view n) → Reorders (metadata_view p) (metadata_view q) → BuildAlike m n p q s
+builds_alike : IsDrawnAlike → IsOutlineThere → IsOrderFree → ReadsOnce → IsTotalOrder id_cmp → (answer : Option IndexAnswer) (m n p q : Metadata) (s : SettingModel) → IsSeenBy answer m p → IsSeenBy answer n q → Reorders (metadata_view m) (metadata_view n) → Reorders (metadata_view p) (metadata_view q) → BuildAlike m n p q s
 builds_alike same law free once o answer m n p q s x y given seen =
     let back = turned (metadata_view m) (metadata_view n) given in
     let seen_back = turned (metadata_view p) (metadata_view q) seen in
@@ -148,9 +148,9 @@ builds_alike same law free once o answer m n p q s x y given seen =
       kept = list_alike once o p q (KeepsCrate (metadata_view p) s) (KeepsCrate (metadata_view q) s) seen (λ i. facts (Crate i));
       reported = list_alike once o p q (DropsCrate (metadata_view p) s) (DropsCrate (metadata_view q) s) seen (not_kept_alike (metadata_view p) (metadata_view q) s facts);
       drawn = λ r t v. drawn_same same (metadata_view p) (metadata_view q) s t v seen (resolvable_seen answer n q y (there r));
-      sheets = λ r t. (
-        sheet_for_there law (metadata_view p) (metadata_view q) s t seen (resolvable_seen answer n q y (there r)),
-        sheet_for_there law (metadata_view q) (metadata_view p) s t seen_back (resolvable_seen answer m p x r),
+      outlines = λ r t. (
+        outline_for_there law (metadata_view p) (metadata_view q) s t seen (resolvable_seen answer n q y (there r)),
+        outline_for_there law (metadata_view q) (metadata_view p) s t seen_back (resolvable_seen answer m p x r),
       );
       refused = λ e. (
         refused_there law m n p q s (λ r. (there r, resolvable_seen answer n q y (there r))) there_given there_seen seen e,
@@ -158,7 +158,7 @@ builds_alike same law free once o answer m n p q s x y given seen =
       );
     }
 
-pub build_order_free : IsDrawnAlike → IsSheetThere → OneCorrection → ReadsOnce → IsTotalOrder id_cmp → IsOrderFree → IsBuildOrderFree
+pub build_order_free : IsDrawnAlike → IsOutlineThere → OneCorrection → ReadsOnce → IsTotalOrder id_cmp → IsOrderFree → IsBuildOrderFree
 build_order_free same law one once o free answer m n p q w x y =
     let seen = seen_alike one answer m n p q w x y in
     record {

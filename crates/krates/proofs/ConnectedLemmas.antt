@@ -1,12 +1,12 @@
--- The stored graph of a sheet is connected like the drawn one, and the direct queries agree on it.
+-- The stored graph of an outline is connected like the drawn one, and the direct queries agree on it.
 use Rattle.std.proofs.Common.{◌≡◌, ◌↔◌, ℕ, zero, suc, ◌<◌, ◌^◌, List, [], ◌∷◌, length, map, Option, Some, None, option_map, slice_get, refl, sym, ap, ◌∙◌, subst}
 use Rattle.std.proofs.lemmas.Option.{slice_get-map, same_Some}
 use Rattle.std.specs.List.{AllZip}
 use Rattle.krates_cm.specs.Document.{MetadataModel}
 use Rattle.krates_drawing.specs.Agreement.{DependsOn, LeadsTo, DependenciesAgree, OneEach}
 use Rattle.krates_drawing.specs.Connected as drawn
-use Rattle.krates_drawing.specs.Drawing.{CrateSpot, crate_number, lines, spots}
-use Rattle.krates_drawing.specs.Sheet.{Sheet}
+use Rattle.krates_drawing.specs.Drawing.{PlannedCrate, crate_number, planned_edges, planned_nodes}
+use Rattle.krates_drawing.specs.Outline.{Outline}
 use Rattle.krates_drawing.specs.Stored.{IsStoredAs, LeadsAlong}
 use Rattle.krates_drawing.specs.declared.edge.Edge.{Edge}
 use Rattle.krates_rules.proofs.Members.{member_of, contains_of, partner_of}
@@ -20,7 +20,7 @@ use Rattle.krates_rules.specs.Setting.{SettingModel}
 use Rattle.krates.specs.Build.{HasOneEach}
 use Rattle.krates_queries.specs.Direct.{AreConnected, value_at, value_in}
 use Rattle.krates_queries.specs.DirectDependents.{IsDependent}
-use Rattle.krates_queries.specs.Drawn.{IsDrawing, IsSheetFor, node_spot}
+use Rattle.krates_queries.specs.Drawn.{IsDrawing, IsOutlineFor, planned_node}
 use Rattle.krates_drawing.specs.Node.{crate_ids, CratesFirst}
 use Rattle.krates_drawing.specs.declared.node.Node.{Node}
 use Rattle.krates_drawing.specs.declared.node.Node.TheVariants.{Krate, Feature}
@@ -35,24 +35,24 @@ zip_length R (x ∷ xs) (y ∷ ys) z = ap suc (zip_length R xs ys z.1)
 
 -- ---- connected
 
-value_there : {N : Type 0} (o : Option (Node N)) (id : Id) (m : List (Option ℕ)) → option_map node_spot o ≡ Some (CrateSpot id m) → (x : N) × (value_in o ≡ Some x)
+value_there : {N : Type 0} (o : Option (Node N)) (id : Id) (m : List (Option ℕ)) → option_map planned_node o ≡ Some (PlannedCrate id m) → (x : N) × (value_in o ≡ Some x)
 value_there None id m e = absurd cc
 value_there (Some (Krate i krate features mapping)) id m e = (krate, refl)
 value_there (Some (Feature krate_index name)) id m e = absurd cc
 
-pub connects : {N E : Type 0} (made : Edge → E → Type 0) (m : MetadataModel) (s : SettingModel) (t : Sheet) (g : StoredGraph (Node N) E) → drawn.AreConnected → IsSheetFor m s t → IsDrawing made t g → length g.nodes < 2 ^ 32
+pub connects : {N E : Type 0} (made : Edge → E → Type 0) (m : MetadataModel) (s : SettingModel) (t : Outline) (g : StoredGraph (Node N) E) → drawn.AreConnected → IsOutlineFor m s t → IsDrawing made t g → length g.nodes < 2 ^ 32
     → AreConnected g.nodes g.edges
 connects made m s t g law h d few =
-    let c = law (resolved m h.graph) s h.holds.selection h.holds.selected t h.holds.is_sheet in
+    let c = law (resolved m h.graph) s h.holds.selection h.holds.selected t h.holds.is_outline in
     record {
       mappings = λ p k w.
           (let led = c.mappings p k (subst (λ ns. DependsOn ns p k) d.nodes w) in
-          let v = value_there (slice_get g.nodes k) led.id led.mapping (sym (slice_get-map node_spot g.nodes k) ∙ ap (λ ns. slice_get ns k) d.nodes ∙ led.at) in
-          let along = (stored_leads made (spots t) (lines t) g.edges p k d.edges).0 led.leads in
+          let v = value_there (slice_get g.nodes k) led.id led.mapping (sym (slice_get-map planned_node g.nodes k) ∙ ap (λ ns. slice_get ns k) d.nodes ∙ led.at) in
+          let along = (stored_leads made (planned_nodes t) (planned_edges t) g.edges p k d.edges).0 led.leads in
           record { krate = v.0; crate = v.1; leads = subst (λ ns. LeadsAlong ns g.edges p k) (sym d.nodes) along });
       features = λ n k name at.
           (let home = c.features n k name (ap (λ ns. slice_get ns n) (sym d.nodes) ∙ at) in
-          let w = partner_of (IsStoredAs made) (lines t) g.edges home.line d.edges (member_of (lines t) home.line home.among) in
+          let w = partner_of (IsStoredAs made) (planned_edges t) g.edges home.line d.edges (member_of (planned_edges t) home.line home.among) in
           record { edge = w.partner; among = contains_of g.edges w.partner w.member; from = w.related.source ∙ home.from; to = w.related.target ∙ home.to });
       numbered = few;
     }
@@ -60,39 +60,39 @@ connects made m s t g law h d few =
 -- ---- agreement
 
 -- the node of a crate
-record CrateSpotAt {N : Type 0} (nodes : List (Node N)) (n : ℕ) (id : Identity) : Type 0 where
+record PlannedCrateAt {N : Type 0} (nodes : List (Node N)) (n : ℕ) (id : Identity) : Type 0 where
   mapping : List (Option ℕ)
   krate : N
-  at : slice_get (map node_spot nodes) n ≡ Some (CrateSpot (id_of id) mapping)
+  at : slice_get (map planned_node nodes) n ≡ Some (PlannedCrate (id_of id) mapping)
   value : value_at nodes n ≡ Some krate
 
-crate_spot_at : {N : Type 0} (nodes : List (Node N)) (n : ℕ) (id : Identity) → CratesFirst nodes → slice_get (crate_ids nodes) n ≡ Some id → CrateSpotAt nodes n id
-crate_spot_at [] n id first e = absurd cc
-crate_spot_at (Krate i k f m ∷ nodes) zero id first e = record { mapping = m.items; krate = k; at = ap (λ (x : Identity). Some (CrateSpot (id_of x) m.items)) (same_Some i id e); value = refl }
-crate_spot_at (Krate i k f m ∷ nodes) (suc n) id first e = let w = crate_spot_at nodes n id first e in record { mapping = w.mapping; krate = w.krate; at = w.at; value = w.value }
-crate_spot_at (Feature krate_index name ∷ nodes) n id first e =
+planned_crate_at : {N : Type 0} (nodes : List (Node N)) (n : ℕ) (id : Identity) → CratesFirst nodes → slice_get (crate_ids nodes) n ≡ Some id → PlannedCrateAt nodes n id
+planned_crate_at [] n id first e = absurd cc
+planned_crate_at (Krate i k f m ∷ nodes) zero id first e = record { mapping = m.items; krate = k; at = ap (λ (x : Identity). Some (PlannedCrate (id_of x) m.items)) (same_Some i id e); value = refl }
+planned_crate_at (Krate i k f m ∷ nodes) (suc n) id first e = let w = planned_crate_at nodes n id first e in record { mapping = w.mapping; krate = w.krate; at = w.at; value = w.value }
+planned_crate_at (Feature krate_index name ∷ nodes) n id first e =
     let empty : List Identity = [] in
     let none : slice_get empty n ≡ Some id = subst (λ (ids : List Identity). slice_get ids n ≡ Some id) first e in
     absurd cc
 
-pub agrees : {N E : Type 0} (made : Edge → E → Type 0) (m : MetadataModel) (s : SettingModel) (t : Sheet) (g : StoredGraph (Node N) E) (ids : IdsModel) → drawn.AreConnected → DependenciesAgree → IsAdmitted m ids → IsSheetFor m s t → IsDrawing made t g
+pub agrees : {N E : Type 0} (made : Edge → E → Type 0) (m : MetadataModel) (s : SettingModel) (t : Outline) (g : StoredGraph (Node N) E) (ids : IdsModel) → drawn.AreConnected → DependenciesAgree → IsAdmitted m ids → IsOutlineFor m s t → IsDrawing made t g
     → CratesFirst g.nodes → (i : Id) → HasOneEach m s i → (p d : ℕ) → StandsAt (crate_ids g.nodes) i p → d < length (crate_ids g.nodes)
-    → DependsOn (map node_spot g.nodes) p d ↔ IsDependent g.nodes g.edges d p
+    → DependsOn (map planned_node g.nodes) p d ↔ IsDependent g.nodes g.edges d p
 agrees made m s t g ids law agree a h z first i o p d at lt =
     let r = resolved m h.graph in
-    let c = law r s h.holds.selection h.holds.selected t h.holds.is_sheet in
+    let c = law r s h.holds.selection h.holds.selected t h.holds.is_outline in
     let one : OneEach r s i = subst (λ x. OneEach (resolved m x) s i) (same_Some o.graph h.graph (sym o.has_graph ∙ h.has_graph)) o.holds in
     let none : NoneDoubled m h.graph = subst (NoneDoubled m) (same_Some a.graph h.graph (sym a.has_graph ∙ h.has_graph)) a.none_doubled in
-    let here = crate_spot_at g.nodes p at.there first at.at in
+    let here = planned_crate_at g.nodes p at.there first at.at in
     let from = c.crates p (id_of at.there) here.mapping (ap (λ ns. slice_get ns p) (sym z.nodes) ∙ here.at) in
     let other = got (crate_ids g.nodes) d lt in
-    let there = crate_spot_at g.nodes d other.0 first other.1 in
+    let there = planned_crate_at g.nodes d other.0 first other.1 in
     let to = c.crates d (id_of other.0) there.mapping (ap (λ ns. slice_get ns d) (sym z.nodes) ∙ there.at) in
-    let both = agree r s none h.holds.selection h.holds.selected t h.holds.is_sheet (id_of at.there) (id_of other.0) from.kept to.kept (subst (OneEach r s) (sym at.same) one) in
-    let numbered : DependsOn (spots t) p d ↔ LeadsTo (spots t) (lines t) p d =
-    subst (λ n. DependsOn (spots t) p n ↔ LeadsTo (spots t) (lines t) p n) to.number
-    (subst (λ n. DependsOn (spots t) n (crate_number t (id_of other.0)) ↔ LeadsTo (spots t) (lines t) n (crate_number t (id_of other.0))) from.number both) in
-    let stored = stored_leads made (spots t) (lines t) g.edges p d z.edges in (
+    let both = agree r s none h.holds.selection h.holds.selected t h.holds.is_outline (id_of at.there) (id_of other.0) from.kept to.kept (subst (OneEach r s) (sym at.same) one) in
+    let numbered : DependsOn (planned_nodes t) p d ↔ LeadsTo (planned_nodes t) (planned_edges t) p d =
+    subst (λ n. DependsOn (planned_nodes t) p n ↔ LeadsTo (planned_nodes t) (planned_edges t) p n) to.number
+    (subst (λ n. DependsOn (planned_nodes t) n (crate_number t (id_of other.0)) ↔ LeadsTo (planned_nodes t) (planned_edges t) n (crate_number t (id_of other.0))) from.number both) in
+    let stored = stored_leads made (planned_nodes t) (planned_edges t) g.edges p d z.edges in (
       λ w. record { krate = here.krate; crate = here.value; leads = subst (λ ns. LeadsAlong ns g.edges p d) (sym z.nodes) (stored.0 (numbered.0 (subst (λ ns. DependsOn ns p d) z.nodes w))) },
       λ w. subst (λ ns. DependsOn ns p d) (sym z.nodes) (numbered.1 (stored.1 (subst (λ ns. LeadsAlong ns g.edges p d) z.nodes w.leads))),
     )

@@ -11,17 +11,17 @@ use Rattle.krates_cm.specs.Document.{MetadataModel, Text, text_view, metadata_vi
 use Rattle.krates_cm.specs.declared.metadata.Metadata.{Metadata}
 use Rattle.krates_cm.specs.declared.package.Package.{Package}
 use Rattle.krates_drawing.specs.Agreement.{DependsOn}
-use Rattle.krates_drawing.specs.Drawing.{Line, lines, spots}
+use Rattle.krates_drawing.specs.Drawing.{PlannedEdge, planned_edges, planned_nodes}
 use Rattle.krates_drawing.specs.Ends.{EndsStand, HasEnds}
-use Rattle.krates_drawing.specs.Sheet as model
-use Rattle.krates_drawing.specs.Sheet.{IsKrate, IsNamed, IsSheet}
-use Rattle.krates_drawing.specs.SheetOrder.{IsOrdered}
+use Rattle.krates_drawing.specs.Outline as model
+use Rattle.krates_drawing.specs.Outline.{IsCrateRow, IsFeatureRow, IsOutline}
+use Rattle.krates_drawing.specs.OutlineOrder.{IsOrdered}
 use Rattle.krates_drawing.specs.Stored.{IsStoredAs}
-use Rattle.krates_drawing.specs.Views.{krate_view, named_view, sheet_view}
+use Rattle.krates_drawing.specs.Views.{crate_row_view, feature_row_view, outline_view}
 use Rattle.krates_drawing.specs.declared.edge.Edge.{Edge}
-use Rattle.krates_drawing.specs.declared.sheet.Krate.{Krate as SheetKrate}
-use Rattle.krates_drawing.specs.declared.sheet.Named.{Named}
-use Rattle.krates_drawing.specs.declared.sheet.Sheet.{Sheet}
+use Rattle.krates_drawing.specs.declared.outline.CrateRow.{CrateRow}
+use Rattle.krates_drawing.specs.declared.outline.FeatureRow.{FeatureRow}
+use Rattle.krates_drawing.specs.declared.outline.Outline.{Outline}
 use Rattle.krates_graph.specs.Graph.{StoredGraph}
 use Rattle.krates_ids.specs.Identity.{Identity, id_cmp}
 use Rattle.krates_selection.specs.CrateNumbers.{id_at, no_id}
@@ -34,11 +34,11 @@ use Rattle.krates_rules.specs.Setting.{SettingModel}
 use Rattle.krates.specs.Build.{AreKeptMembers, HasOneEach, IsBuilt, IsResolvable, KeepsCrate}
 use Rattle.krates_drawing.specs.Listed.{AreThosePackages}
 use Rattle.krates_queries.specs.DirectDependents.{IsDependent}
-use Rattle.krates_drawing.specs.Division.{IsAmong, IsDivision, sheet_ids}
-use Rattle.krates_explain.specs.Explanation.{explained_steps}
-use Rattle.krates_explain.specs.declared.kept.Explanation.{Explanation}
-use Rattle.krates_queries.specs.Explained.{IsExplainedBy}
-use Rattle.krates_queries.specs.Drawn.{IsNumbered, IsSheetFor, node_spot}
+use Rattle.krates_drawing.specs.Division.{IsAmong, IsDivision, outline_ids}
+use Rattle.krates_selection.specs.Explanation.{explained_steps}
+use Rattle.krates_selection.specs.declared.kept.Explanation.{Explanation}
+use Rattle.krates_queries.specs.KeptSteps.{IsExplainedBy}
+use Rattle.krates_queries.specs.Drawn.{IsNumbered, IsOutlineFor, planned_node}
 use Rattle.krates.specs.Enabled.{AreEnabledSets, numbered}
 use Rattle.krates_queries.specs.Kept.{AreFeatures, AreNodes, IsEnabledIn, IsNameAt, names_in_each}
 use Rattle.krates.specs.KeptGraph.{IsGraphOf, named_fact}
@@ -50,7 +50,7 @@ use Rattle.krates_drawing.specs.declared.krate.Krate.{Krate}
 use Rattle.krates_drawing.specs.declared.node.Node.{Node}
 use Rattle.krates.proofs.BuildLemmas.{Builds, builds, enabled}
 use Rattle.krates.proofs.MadeLemmas.{AreDrawnNodes, alike, first_alike, mapped_length}
-use Rattle.krates_drawing.proofs.DocumentSheets.{selected_in}
+use Rattle.krates_drawing.proofs.DocumentOutlines.{selected_in}
 use Rattle.krates_rules.proofs.Members.{Member, member_of, contains_of, mapped_of, member_map}
 use Rattle.krates.proofs.EnabledLemmas.{listed_at}
 use Rattle.krates.proofs.FeaturesDrawn.{are_features, id_here, stands_here, viewed_ids}
@@ -58,60 +58,60 @@ use Rattle.krates_drawing.proofs.DivisionLemmas.{ReadsOnce}
 use Rattle.krates_rules.proofs.OrderedIds.{Compares, HasLike, one_order}
 use Rattle.krates.proofs.SelectionFacts.{Selects, kept_among}
 
--- ---- the sheet
+-- ---- the outline
 
-pub sheet_told : (m : MetadataModel) (s : SettingModel) (x : Selection) (r : Resolved) (t : model.Sheet) → Selects m s x → HasGraphWith m (λ g. r ≡ resolved m g)
-    → (IsSelection r s x → IsSheet r s x t) → IsSheetFor m s t
-sheet_told m s x r t sel h f =
+pub outline_told : (m : MetadataModel) (s : SettingModel) (x : Selection) (r : Resolved) (t : model.Outline) → Selects m s x → HasGraphWith m (λ g. r ≡ resolved m g)
+    → (IsSelection r s x → IsOutline r s x t) → IsOutlineFor m s t
+outline_told m s x r t sel h f =
     let selected = selected_in m s x r sel h in
     record {
       graph = h.graph;
       has_graph = h.has_graph;
-      holds = record { selection = x; selected = rw (← h.holds) selected; is_sheet = rw (← h.holds) (f selected) };
+      holds = record { selection = x; selected = rw (← h.holds) selected; is_outline = rw (← h.holds) (f selected) };
     }
 
 -- for a call that may be refused
-pub if_sheet_told : {E : Type 0} (m : MetadataModel) (s : SettingModel) (x : Selection) (r : Resolved) (result : Result Sheet E) → HasGraphWith m (λ g. r ≡ resolved m g)
-    → IfOk result (λ t. IsSelection r s x → IsSheet r s x (sheet_view t)) → IfOk result (λ t. Selects m s x → IsSheetFor m s (sheet_view t))
-if_sheet_told m s x r (Ok t) h f = λ sel. sheet_told m s x r (sheet_view t) sel h f
-if_sheet_told m s x r (Err e) h f = tt
+pub if_outline_told : {E : Type 0} (m : MetadataModel) (s : SettingModel) (x : Selection) (r : Resolved) (result : Result Outline E) → HasGraphWith m (λ g. r ≡ resolved m g)
+    → IfOk result (λ t. IsSelection r s x → IsOutline r s x (outline_view t)) → IfOk result (λ t. Selects m s x → IsOutlineFor m s (outline_view t))
+if_outline_told m s x r (Ok t) h f = λ sel. outline_told m s x r (outline_view t) sel h f
+if_outline_told m s x r (Err e) h f = tt
 
-pub if_ordered : {E : Type 0} (m : MetadataModel) (s : SettingModel) (x : Selection) (r : Resolved) (result : Result Sheet E) → HasGraphWith m (λ g. r ≡ resolved m g)
+pub if_ordered : {E : Type 0} (m : MetadataModel) (s : SettingModel) (x : Selection) (r : Resolved) (result : Result Outline E) → HasGraphWith m (λ g. r ≡ resolved m g)
     → IfOk result (λ t. IsSelection r s x → IsOrdered t) → IfOk result (λ t. Selects m s x → IsOrdered t)
 if_ordered m s x r (Ok t) h f = λ sel. f (selected_in m s x r sel h)
 if_ordered m s x r (Err e) h f = tt
 
--- the ids of the sheet are those of the selection
-ids_same : (r : Resolved) (is : List Identity) (ks : List model.Krate) → AllZip (IsKrate r) is ks → map id_of is ≡ map (λ (k : model.Krate). k.id) ks
+-- the ids of the outline are those of the selection
+ids_same : (r : Resolved) (is : List Identity) (ks : List model.CrateRow) → AllZip (IsCrateRow r) is ks → map id_of is ≡ map (λ (k : model.CrateRow). k.id) ks
 ids_same r [] [] h = refl
 ids_same r [] (k ∷ ks) h = absurd h
 ids_same r (i ∷ is) [] h = absurd h
-ids_same r (i ∷ is) (k ∷ ks) h = ap (λ js. id_of i ∷ js) (ids_same r is ks h.1) ∙ ap (λ j. j ∷ map (λ (x : model.Krate). x.id) ks) (sym h.0.id)
+ids_same r (i ∷ is) (k ∷ ks) h = ap (λ js. id_of i ∷ js) (ids_same r is ks h.1) ∙ ap (λ j. j ∷ map (λ (x : model.CrateRow). x.id) ks) (sym h.0.id)
 
--- ---- the features of the sheet
+-- ---- the features of the outline
 
 -- features of crates whose ids are the same are the same facts
-pub facts_in : (ids kids : List Identity) (ns : List Named) → map id_of ids ≡ map id_of kids → map (feature_fact ids) (map (λ (n : Named). n.feature) ns) ≡ map named_fact (map (named_view kids) ns)
+pub facts_in : (ids kids : List Identity) (ns : List FeatureRow) → map id_of ids ≡ map id_of kids → map (feature_fact ids) (map (λ (n : FeatureRow). n.feature) ns) ≡ map named_fact (map (feature_row_view kids) ns)
 facts_in ids kids [] e = refl
 facts_in ids kids (n ∷ ns) e =
-    ap (λ fs. feature_fact ids n.feature ∷ fs) (facts_in ids kids ns e) ∙ ap (λ (is : List Id). Feature (get_or is n.feature.krate no_id) (text_view n.feature.name) ∷ map named_fact (map (named_view kids) ns)) e
+    ap (λ fs. feature_fact ids n.feature ∷ fs) (facts_in ids kids ns e) ∙ ap (λ (is : List Id). Feature (get_or is n.feature.krate no_id) (text_view n.feature.name) ∷ map named_fact (map (feature_row_view kids) ns)) e
 
-facts_same : (r : Resolved) (all : Bool) (kids : List Identity) (fs : List EnabledFeature) (ns : List model.Named) → AllZip (IsNamed r all kids) fs ns → map (feature_fact kids) fs ≡ map named_fact ns
+facts_same : (r : Resolved) (all : Bool) (kids : List Identity) (fs : List EnabledFeature) (ns : List model.FeatureRow) → AllZip (IsFeatureRow r all kids) fs ns → map (feature_fact kids) fs ≡ map named_fact ns
 facts_same r all kids [] [] h = refl
 facts_same r all kids [] (n ∷ ns) h = absurd h
 facts_same r all kids (f ∷ fs) [] h = absurd h
 facts_same r all kids (f ∷ fs) (n ∷ ns) h =
     ap (λ gs. feature_fact kids f ∷ gs) (facts_same r all kids fs ns h.1) ∙ ap (λ i. Feature i (text_view f.name) ∷ map named_fact ns) (sym h.0.krate) ∙ ap (λ t. Feature n.krate t ∷ map named_fact ns) (sym h.0.name)
 
--- the features of the selection are those of the sheet
-pub facts_named : (m : MetadataModel) (s : SettingModel) (t : Sheet) → (h : IsSheetFor m s (sheet_view t))
-    → map (feature_fact h.holds.selection.krates.items) h.holds.selection.features.items ≡ map named_fact (sheet_view t).features
-facts_named m s t h = facts_same (resolved m h.graph) s.all_named h.holds.selection.krates.items h.holds.selection.features.items (sheet_view t).features h.holds.is_sheet.features
+-- the features of the selection are those of the outline
+pub facts_named : (m : MetadataModel) (s : SettingModel) (t : Outline) → (h : IsOutlineFor m s (outline_view t))
+    → map (feature_fact h.holds.selection.krates.items) h.holds.selection.features.items ≡ map named_fact (outline_view t).features
+facts_named m s t h = facts_same (resolved m h.graph) s.all_named h.holds.selection.krates.items h.holds.selection.features.items (outline_view t).features h.holds.is_outline.features
 
--- the crates of a sheet are as many as those with the same ids
-pub as_many_crates : (krates : List Krate) (ks : List SheetKrate) → map id_of (krate_ids krates) ≡ map (λ (k : model.Krate). k.id) (map krate_view ks) → length ks ≡ length krates
+-- the crates of an outline are as many as those with the same ids
+pub as_many_crates : (krates : List Krate) (ks : List CrateRow) → map id_of (krate_ids krates) ≡ map (λ (k : model.CrateRow). k.id) (map crate_row_view ks) → length ks ≡ length krates
 as_many_crates krates ks e =
-    sym (length-map ks (λ (k : SheetKrate). k.id)) ∙ sym (length-map (sheet_ids ks) id_of) ∙ ap length (viewed_ids ks ∙ sym e) ∙ length-map (krate_ids krates) id_of ∙ mapped_length krates
+    sym (length-map ks (λ (k : CrateRow). k.id)) ∙ sym (length-map (outline_ids ks) id_of) ∙ ap length (viewed_ids ks ∙ sym e) ∙ length-map (krate_ids krates) id_of ∙ mapped_length krates
 
 -- what is enabled by number is enabled by id
 enabled_by_id : (ids : List Identity) (lists : List (List Text)) (features : List EnabledFeature) → length lists ≡ length ids → ((n : ℕ) (f : Text) → IsNameAt lists n f ↔ Contains (map numbered features) (n, f))
@@ -137,30 +137,30 @@ enabled_by_id ids lists features same so i f = (
       record { names = at.names; theirs = record { place = w.from.krate; stands = stands_here ids w.from.krate i within id; at = at.at }; among = at.among }),
 )
 
--- ---- the graph of the sheet
+-- ---- the graph of the outline
 
-pub graph_is : {N E : Type 0} (made : Package → N → Type 0) (made_edge : Edge → E → Type 0) (t : model.Sheet) (krates : List Krate) (sets : List (BTreeSet (String Global))) (features : List EnabledFeature)
-    (nodes : List (Node Package)) (arrows : List Line) → AreDrawnNodes t krates sets nodes → length sets ≡ length krates → AreEnabledSets features sets
-    → map (feature_fact (krate_ids krates)) features ≡ map named_fact t.features → arrows ≡ lines t → (g : StoredGraph (Node N) E) → AllZip (IsMade made) nodes g.nodes → AllZip (IsStoredAs made_edge) arrows g.edges → IsGraphOf made made_edge t krates g
-graph_is made made_edge t krates sets features nodes arrows d matched so facts e g stored edges =
+pub graph_is : {N E : Type 0} (made : Package → N → Type 0) (made_edge : Edge → E → Type 0) (t : model.Outline) (krates : List Krate) (sets : List (BTreeSet (String Global))) (features : List EnabledFeature)
+    (nodes : List (Node Package)) (planned : List PlannedEdge) → AreDrawnNodes t krates sets nodes → length sets ≡ length krates → AreEnabledSets features sets
+    → map (feature_fact (krate_ids krates)) features ≡ map named_fact t.features → planned ≡ planned_edges t → (g : StoredGraph (Node N) E) → AllZip (IsMade made) nodes g.nodes → AllZip (IsStoredAs made_edge) planned g.edges → IsGraphOf made made_edge t krates g
+graph_is made made_edge t krates sets features nodes planned d matched so facts e g stored edges =
     let w = alike made nodes g.nodes stored in
     let ids : crate_ids g.nodes ≡ krate_ids krates = w.ids ∙ d.made.ids in
     let names : crate_features g.nodes ≡ names_in_each sets = w.features ∙ d.made.features in
     let as_many : length (names_in_each sets) ≡ length (krate_ids krates) = length-map sets names_in ∙ matched ∙ sym (mapped_length krates) in
     record {
-      drawing = record { nodes = w.spots_are ∙ d.spots_are; edges = subst (λ ls. AllZip (IsStoredAs made_edge) ls g.edges) e edges };
+      drawing = record { nodes = w.planned_are ∙ d.planned_are; edges = subst (λ ls. AllZip (IsStoredAs made_edge) ls g.edges) e edges };
       ids = ids;
       values = subst (λ ps. AllZip made ps (crate_values g.nodes)) d.made.values w.values;
       enabled = λ i f. rw (ids, names, ← facts) (enabled_by_id (krate_ids krates) (names_in_each sets) features as_many so i f);
       first = first_alike made nodes g.nodes stored d.made.first;
     }
 
-pub if_graph : {N E X : Type 0} (made : Package → N → Type 0) (made_edge : Edge → E → Type 0) (t : model.Sheet) (krates : List Krate) (sets : List (BTreeSet (String Global))) (features : List EnabledFeature)
-    (nodes : List (Node Package)) (arrows : List Line) (result : Result (StoredGraph (Node N) E) X) → AreDrawnNodes t krates sets nodes → length sets ≡ length krates → AreEnabledSets features sets
-    → map (feature_fact (krate_ids krates)) features ≡ map named_fact t.features → arrows ≡ lines t → IfOk result (λ g. AllZip (IsMade made) nodes g.nodes) → IfOk result (λ g. AllZip (IsStoredAs made_edge) arrows g.edges)
+pub if_graph : {N E X : Type 0} (made : Package → N → Type 0) (made_edge : Edge → E → Type 0) (t : model.Outline) (krates : List Krate) (sets : List (BTreeSet (String Global))) (features : List EnabledFeature)
+    (nodes : List (Node Package)) (planned : List PlannedEdge) (result : Result (StoredGraph (Node N) E) X) → AreDrawnNodes t krates sets nodes → length sets ≡ length krates → AreEnabledSets features sets
+    → map (feature_fact (krate_ids krates)) features ≡ map named_fact t.features → planned ≡ planned_edges t → IfOk result (λ g. AllZip (IsMade made) nodes g.nodes) → IfOk result (λ g. AllZip (IsStoredAs made_edge) planned g.edges)
     → IfOk result (IsGraphOf made made_edge t krates)
-if_graph made made_edge t krates sets features nodes arrows (Ok g) d matched so facts e stored edges = graph_is made made_edge t krates sets features nodes arrows d matched so facts e g stored edges
-if_graph made made_edge t krates sets features nodes arrows (Err x) d matched so facts e stored edges = tt
+if_graph made made_edge t krates sets features nodes planned (Ok g) d matched so facts e stored edges = graph_is made made_edge t krates sets features nodes planned d matched so facts e g stored edges
+if_graph made made_edge t krates sets features nodes planned (Err x) d matched so facts e stored edges = tt
 
 -- ---- the nodes of a graph
 
@@ -179,32 +179,32 @@ are_nodes krates nodes e first s few features numbered =
     }
 
 -- ends that stand, for other lists of the same lengths
-pub stand_there : (n m : ℕ) (ls ks : List Line) → All (HasEnds n) ls → n ≡ m → ls ≡ ks → All (HasEnds m) ks
+pub stand_there : (n m : ℕ) (ls ks : List PlannedEdge) → All (HasEnds n) ls → n ≡ m → ls ≡ ks → All (HasEnds m) ks
 stand_there n m ls ks h e f = subst (λ xs. All (HasEnds m) xs) f (subst (λ x. All (HasEnds x) ls) e h)
 
 -- ---- the parts of a build
 
--- the ids of the sheet are those of the selection
-selected_ids : (m : MetadataModel) (s : SettingModel) (t : Sheet) → (h : IsSheetFor m s (sheet_view t)) → map id_of (sheet_ids t.krates.items) ≡ map id_of h.holds.selection.krates.items
-selected_ids m s t h = viewed_ids t.krates.items ∙ sym (ids_same (resolved m h.graph) h.holds.selection.krates.items (map krate_view t.krates.items) h.holds.is_sheet.krates)
+-- the ids of the outline are those of the selection
+selected_ids : (m : MetadataModel) (s : SettingModel) (t : Outline) → (h : IsOutlineFor m s (outline_view t)) → map id_of (outline_ids t.krates.items) ≡ map id_of h.holds.selection.krates.items
+selected_ids m s t h = viewed_ids t.krates.items ∙ sym (ids_same (resolved m h.graph) h.holds.selection.krates.items (map crate_row_view t.krates.items) h.holds.is_outline.krates)
 
-selects : (m : MetadataModel) (s : SettingModel) (t : model.Sheet) → (h : IsSheetFor m s t) → Selects m s h.holds.selection
+selects : (m : MetadataModel) (s : SettingModel) (t : model.Outline) → (h : IsOutlineFor m s t) → Selects m s h.holds.selection
 selects m s t h = record { graph = h.graph; has_graph = h.has_graph; holds = h.holds.selected }
 
--- dividing by a sheet gives what has to be kept and the rest
-pub builds_sheet : ReadsOnce → (m : Metadata) (s : SettingModel) (t : Sheet) (d : Division) → IsSheetFor (metadata_view m) s (sheet_view t)
-    → IsDivision m.packages.items (sheet_ids t.krates.items) d → Builds m s d
-builds_sheet once m s t d h div = builds once m s h.holds.selection (sheet_ids t.krates.items) d (selected_ids (metadata_view m) s t h) (selects (metadata_view m) s (sheet_view t) h) div
+-- dividing by an outline gives what has to be kept and the rest
+pub builds_outline : ReadsOnce → (m : Metadata) (s : SettingModel) (t : Outline) (d : Division) → IsOutlineFor (metadata_view m) s (outline_view t)
+    → IsDivision m.packages.items (outline_ids t.krates.items) d → Builds m s d
+builds_outline once m s t d h div = builds once m s h.holds.selection (outline_ids t.krates.items) d (selected_ids (metadata_view m) s t h) (selects (metadata_view m) s (outline_view t) h) div
 
--- the ids of the kept packages are those of the sheet, place by place
-pub kept_ids : Compares → (m : Metadata) (s : SettingModel) (t : Sheet) (d : Division) → IsSheetFor (metadata_view m) s (sheet_view t) → IsOrdered t → Builds m s d
-    → map id_of (krate_ids d.kept.items) ≡ map (λ (k : model.Krate). k.id) (sheet_view t).krates
+-- the ids of the kept packages are those of the outline, place by place
+pub kept_ids : Compares → (m : Metadata) (s : SettingModel) (t : Outline) (d : Division) → IsOutlineFor (metadata_view m) s (outline_view t) → IsOrdered t → Builds m s d
+    → map id_of (krate_ids d.kept.items) ≡ map (λ (k : model.CrateRow). k.id) (outline_view t).krates
 kept_ids o m s t d h ordered b =
     let x = h.holds.selection in
     let ids : List Identity = krate_ids d.kept.items in
-    let drawn : List Identity = sheet_ids t.krates.items in
+    let drawn : List Identity = outline_ids t.krates.items in
     let same = selected_ids (metadata_view m) s t h in
-    let sel = selects (metadata_view m) s (sheet_view t) h in
+    let sel = selects (metadata_view m) s (outline_view t) h in
     let there : HasLike ids drawn = λ i z.
     (let k = (kept_among (metadata_view m) s x sel i).0 ((b.kept i).1 (contains_of (map id_of ids) i z)) in
     member_of (map id_of drawn) i (subst (λ js. Contains js i) (sym same) k)) in
@@ -214,30 +214,30 @@ kept_ids o m s t d h ordered b =
     one_order o.total ids drawn b.packages.ascending ordered.krates there back ∙ viewed_ids t.krates.items
 
 -- the nodes of the graph are sorted
-pub graph_nodes : Compares → {N E : Type 0} (made : Package → N → Type 0) (made_edge : Edge → E → Type 0) (m : Metadata) (s : SettingModel) (t : Sheet) (d : Division) (g : StoredGraph (Node N) E)
-    → IsSheetFor (metadata_view m) s (sheet_view t) → IsOrdered t → Builds m s d → IsGraphOf made made_edge (sheet_view t) d.kept.items g → length d.kept.items < 2 ^ 32 → length g.nodes < 2 ^ 32 → AreNodes g.nodes
+pub graph_nodes : Compares → {N E : Type 0} (made : Package → N → Type 0) (made_edge : Edge → E → Type 0) (m : Metadata) (s : SettingModel) (t : Outline) (d : Division) (g : StoredGraph (Node N) E)
+    → IsOutlineFor (metadata_view m) s (outline_view t) → IsOrdered t → Builds m s d → IsGraphOf made made_edge (outline_view t) d.kept.items g → length d.kept.items < 2 ^ 32 → length g.nodes < 2 ^ 32 → AreNodes g.nodes
 graph_nodes o made made_edge m s t d g h ordered b w few numbered =
-    let ids : map id_of (crate_ids g.nodes) ≡ map (λ (k : model.Krate). k.id) (sheet_view t).krates = ap (λ (is : List Identity). map id_of is) w.ids ∙ kept_ids o m s t d h ordered b in
+    let ids : map id_of (crate_ids g.nodes) ≡ map (λ (k : model.CrateRow). k.id) (outline_view t).krates = ap (λ (is : List Identity). map id_of is) w.ids ∙ kept_ids o m s t d h ordered b in
     let ascending = subst (λ (is : List Identity). IsStrictlySortedBy id_cmp is) (sym w.ids) b.packages.ascending in
     let enabled_by = λ (i : Id) (f : Text).
-    subst (λ (is : List Identity). IsEnabledIn (crate_ids g.nodes) (crate_features g.nodes) i f ↔ (IsAmong is i × Contains (map named_fact (sheet_view t).features) (Feature i f))) (sym w.ids) (w.enabled i f) in
+    subst (λ (is : List Identity). IsEnabledIn (crate_ids g.nodes) (crate_features g.nodes) i f ↔ (IsAmong is i × Contains (map named_fact (outline_view t).features) (Feature i f))) (sym w.ids) (w.enabled i f) in
     are_nodes d.kept.items g.nodes w.ids w.first b.packages.ascending few (are_features o t g.nodes w.drawing.nodes ids ascending ordered enabled_by) numbered
 
--- both ends of each edge of a sheet are nodes
-pub sheet_stands : EndsStand → (m : MetadataModel) (s : SettingModel) (t : model.Sheet) → IsSheetFor m s t → All (HasEnds (length (spots t))) (lines t)
-sheet_stands stand m s t h = stand (resolved m h.graph) s h.holds.selection h.holds.selected t h.holds.is_sheet
+-- both ends of each edge of an outline are nodes
+pub outline_stands : EndsStand → (m : MetadataModel) (s : SettingModel) (t : model.Outline) → IsOutlineFor m s t → All (HasEnds (length (planned_nodes t))) (planned_edges t)
+outline_stands stand m s t h = stand (resolved m h.graph) s h.holds.selection h.holds.selected t h.holds.is_outline
 
 -- all that a build says about what it keeps and reports
-pub is_built : {F N E : Type 0} (filters : F → Package → F → Type 0) (made : Package → N → Type 0) (made_edge : Edge → E → Type 0) (m : Metadata) (s : SettingModel) (t : Sheet) (d : Division)
-    (g : StoredGraph (Node N) E) (members : List ℕ) (before after : F) (found : Selection) → IsSheetFor (metadata_view m) s (sheet_view t) → Builds m s d → IsGraphOf made made_edge (sheet_view t) d.kept.items g
+pub is_built : {F N E : Type 0} (filters : F → Package → F → Type 0) (made : Package → N → Type 0) (made_edge : Edge → E → Type 0) (m : Metadata) (s : SettingModel) (t : Outline) (d : Division)
+    (g : StoredGraph (Node N) E) (members : List ℕ) (before after : F) (found : Selection) → IsOutlineFor (metadata_view m) s (outline_view t) → Builds m s d → IsGraphOf made made_edge (outline_view t) d.kept.items g
     → FoldsTo filters before (krate_packages d.others.items) after → Selects (metadata_view m) s found → IsResolvable (metadata_view m) → IsNumbered g
     → AreKeptMembers (metadata_view m) (crate_ids g.nodes) members
-    → ((i : Id) → HasOneEach (metadata_view m) s i → (p q : ℕ) → StandsAt (crate_ids g.nodes) i p → q < length (crate_ids g.nodes) → DependsOn (map node_spot g.nodes) p q ↔ IsDependent g.nodes g.edges q p)
+    → ((i : Id) → HasOneEach (metadata_view m) s i → (p q : ℕ) → StandsAt (crate_ids g.nodes) i p → q < length (crate_ids g.nodes) → DependsOn (map planned_node g.nodes) p q ↔ IsDependent g.nodes g.edges q p)
     → (e : Explanation) → IsExplainedBy (metadata_view m) s (explained_steps e)
     → IsBuilt filters made made_edge m s before after (record { graph = g; members = members; workspace_root = text_view m.workspace_root; work = found.work; explanation = e })
 is_built filters made made_edge m s t d g members before after found h b w run selected resolvable numbered listed agree e explained =
     let x = h.holds.selection in
-    let facts = facts_same (resolved (metadata_view m) h.graph) s.all_named x.krates.items x.features.items (sheet_view t).features h.holds.is_sheet.features in
+    let facts = facts_same (resolved (metadata_view m) h.graph) s.all_named x.krates.items x.features.items (outline_view t).features h.holds.is_outline.features in
     record {
       resolvable = resolvable;
       kept = λ i. subst (λ ids. KeepsCrate (metadata_view m) s i ↔ Contains (map id_of ids) i) (sym w.ids) (b.kept i);
@@ -248,8 +248,8 @@ is_built filters made made_edge m s t d g members before after found h b w run s
         those = subst (λ ids. AreThosePackages m.packages.items (KeepsCrate (metadata_view m) s) ids (krate_packages d.kept.items)) (sym w.ids) b.packages;
         made_of = w.values;
       };
-      enabled = enabled m s x d (λ i f. IsEnabledIn (crate_ids g.nodes) (crate_features g.nodes) i f) (map named_fact (sheet_view t).features) (selects (metadata_view m) s (sheet_view t) h) b facts w.enabled;
-      drawn = record { sheet = sheet_view t; is_sheet = h; drawing = w.drawing };
+      enabled = enabled m s x d (λ i f. IsEnabledIn (crate_ids g.nodes) (crate_features g.nodes) i f) (map named_fact (outline_view t).features) (selects (metadata_view m) s (outline_view t) h) b facts w.enabled;
+      drawn = record { outline = outline_view t; is_outline = h; drawing = w.drawing };
       agree = agree;
       numbered = numbered;
       members = listed;

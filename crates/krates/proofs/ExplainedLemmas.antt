@@ -8,17 +8,17 @@ use Rattle.krates_cm.specs.Document.{MetadataModel, Text, metadata_view, text_vi
 use Rattle.krates_cm.specs.declared.metadata.Metadata.{Metadata}
 use Rattle.krates_cm.specs.declared.package.Package.{Package}
 use Rattle.krates_rules.proofs.Members.{contains_of, member_of}
-use Rattle.krates_drawing.specs.Views.{sheet_view}
+use Rattle.krates_drawing.specs.Views.{outline_view}
 use Rattle.krates_drawing.specs.declared.edge.Edge.{Edge}
-use Rattle.krates_drawing.specs.declared.sheet.Sheet.{Sheet}
-use Rattle.krates_explain.proofs.KeptCrates.{same_in}
-use Rattle.krates_explain.proofs.PickedSteps.{seen_back}
-use Rattle.krates_explain.specs.Explanation.{AreBelow, explained_steps}
+use Rattle.krates_drawing.specs.declared.outline.Outline.{Outline}
+use Rattle.krates_selection.proofs.KeptCrates.{same_in}
+use Rattle.krates_selection.proofs.PickedSteps.{seen_back}
+use Rattle.krates_selection.specs.Explanation.{AreBelow, explained_steps}
 use Rattle.krates_selection.specs.CrateNumbers.{id_at, no_id}
-use Rattle.krates_explain.specs.KeptFacts.{Enables, IsBelow, KeepsCrate, KeepsEdge, KeptModel, Toggles, fact_in, facts_in, kept_view, step_in, steps_in}
-use Rattle.krates_explain.specs.Tables.{AreStepsOf, IsKeptIn}
-use Rattle.krates_explain.specs.declared.kept.Explanation.{Explanation}
-use Rattle.krates_explain.specs.declared.kept.KeptStep.{KeptStep}
+use Rattle.krates_selection.specs.KeptFacts.{Enables, IsBelow, KeepsCrate, KeepsEdge, KeptModel, Toggles, fact_in, facts_in, kept_view, step_in, steps_in}
+use Rattle.krates_selection.specs.KeptTables.{AreStepsOf, IsKeptIn}
+use Rattle.krates_selection.specs.declared.kept.Explanation.{Explanation}
+use Rattle.krates_selection.specs.declared.kept.KeptStep.{KeptStep}
 use Rattle.krates_graph.specs.Graph.{StoredGraph}
 use Rattle.krates_ids.specs.Identity.{Identity, empty_identity, id_cmp}
 use Rattle.krates_selection.specs.Explained.{IsExplained, IsExplainedOf}
@@ -42,8 +42,8 @@ use Rattle.krates_queries.proofs.FeatureNodes.{feature_member}
 use Rattle.krates_queries.proofs.NodeLemmas.{as_many_features, place_at}
 use Rattle.krates_rules.proofs.OrderedIds.{Compares, HasLike, one_order}
 use Rattle.krates.proofs.SelectionFacts.{Selects, crate_among, kept_among}
-use Rattle.krates_queries.specs.Drawn.{IsSheetFor}
-use Rattle.krates_queries.specs.Explained.{AreExplained, AreStepsFor, HasStepOf, IsExplainedBy, node_says}
+use Rattle.krates_queries.specs.Drawn.{IsOutlineFor}
+use Rattle.krates_queries.specs.KeptSteps.{AreExplained, AreStepsFor, HasStepOf, IsExplainedBy, node_says}
 use Rattle.krates_queries.specs.Kept.{AreNodes, IsEnabledIn}
 use Rattle.krates.specs.KeptGraph.{IsGraphOf, named_fact}
 use Rattle.krates_drawing.specs.Krate.{krate_ids}
@@ -177,15 +177,15 @@ module _ {N : Type 0} (o : Compares) (nodes : List (Node N)) (steps : List KeptS
       let enabled_in : IsEnabledIn (crate_ids nodes) (crate_features nodes) (id_at (crate_ids nodes) k) (text_view name) = record { names = named.names; theirs = record { place = k; stands = stands; at = named.at }; among = named.among } in
       has_step o (crate_ids nodes) steps (Enables k (text_view name)) are.ordered.ascending all low (features (id_at (crate_ids nodes) k) (text_view name) enabled_in)
 
-pub explains : Compares → {N E : Type 0} (made : Package → N → Type 0) (made_edge : Edge → E → Type 0) (m : Metadata) (s : SettingModel) (t : Sheet) (d : Division) (g : StoredGraph (Node N) E) (x : Selection) (e : Explanation) (steps : List KeptStep)
-    → IsSheetFor (metadata_view m) s (sheet_view t) → Builds m s d → IsGraphOf made made_edge (sheet_view t) d.kept.items g → AreNodes g.nodes → Selects (metadata_view m) s x
+pub explains : Compares → {N E : Type 0} (made : Package → N → Type 0) (made_edge : Edge → E → Type 0) (m : Metadata) (s : SettingModel) (t : Outline) (d : Division) (g : StoredGraph (Node N) E) (x : Selection) (e : Explanation) (steps : List KeptStep)
+    → IsOutlineFor (metadata_view m) s (outline_view t) → Builds m s d → IsGraphOf made made_edge (outline_view t) d.kept.items g → AreNodes g.nodes → Selects (metadata_view m) s x
     → e.kids.items ≡ krate_ids d.kept.items → e.steps.items ≡ steps → AreStepsFor (metadata_view m) s x.krates.items steps → AreExplained g.nodes e
 explains o made made_edge m s t d g x e steps h b w are sel kids same a =
     let k = kept_steps o m s d x e steps b sel kids same a in
     let ids : e.kids.items ≡ crate_ids g.nodes = kids ∙ sym w.ids in
     let z = subst (λ (is : List Identity). AreStepsFor (metadata_view m) s is e.steps.items) ids k in
     let facts = facts_named (metadata_view m) s t h in
-    let enabled_is = enabled m s h.holds.selection d (λ i f. IsEnabledIn (crate_ids g.nodes) (crate_features g.nodes) i f) (map named_fact (sheet_view t).features) (record { graph = h.graph; has_graph = h.has_graph; holds = h.holds.selected }) b facts w.enabled in
+    let enabled_is = enabled m s h.holds.selection d (λ i f. IsEnabledIn (crate_ids g.nodes) (crate_features g.nodes) i f) (map named_fact (outline_view t).features) (record { graph = h.graph; has_graph = h.has_graph; holds = h.holds.selected }) b facts w.enabled in
     let crates : (i : Id) → Contains (map id_of (crate_ids g.nodes)) i → Contains (facts_in (steps_in (crate_ids g.nodes) e.steps.items)) (Crate i) = λ i c. (z.explained.facts (Crate i)).0 ((b.kept i).1 (subst (λ (is : List Identity). Contains (map id_of is) i) w.ids c)) in
     let features : (i : Id) (f : Text) → IsEnabledIn (crate_ids g.nodes) (crate_features g.nodes) i f → Contains (facts_in (steps_in (crate_ids g.nodes) e.steps.items)) (Feature i f) = λ i f c. (z.explained.facts (Feature i f)).0 ((enabled_is i f).1 c) in
     record {

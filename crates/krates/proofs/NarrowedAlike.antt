@@ -5,7 +5,7 @@ use Rattle.std.specs.List.{AllZip}
 use Rattle.krates_cm.specs.Document.{PackageModel, NodeModel, ResolveModel, MetadataModel, id_view, metadata_view}
 use Rattle.krates_cm.specs.declared.metadata.Metadata.{Metadata}
 use Rattle.krates_cm.specs.declared.package.Package.{Package}
-use Rattle.krates_drawing.specs.Alike.{IsSheetThere}
+use Rattle.krates_drawing.specs.Alike.{IsOutlineThere}
 use Rattle.krates_drawing.specs.Narrower.{NarrowerDrawsNoMore}
 use Rattle.krates_rules.proofs.Members.{member_of, contains_of}
 use Rattle.krates_ids.specs.Identity.{Identity}
@@ -18,11 +18,11 @@ use Rattle.krates_rules.specs.Setting.{SettingModel}
 use Rattle.krates.specs.Build.{IsDerived, IsResolvable, KeepsCrate}
 use Rattle.krates_drawing.specs.Listed.{AreThosePackages}
 use Rattle.krates.specs.BuildLaws.{IsBuildNamedPart, IsBuildNarrowing, KeepsPackages, ListsSame}
-use Rattle.krates.proofs.BuildsAlike.{sheet_for_there, refused_there}
+use Rattle.krates.proofs.BuildsAlike.{outline_for_there, refused_there}
 use Rattle.krates.proofs.CorrectedAlike.{OneCorrection, seen_alike}
 use Rattle.krates_drawing.proofs.DivisionLemmas.{ReadsOnce}
 use Rattle.krates.proofs.ListedAlike.{same_there}
-use Rattle.krates.proofs.NarrowedBuilds.{part, packages_part, sheets_part, refusals}
+use Rattle.krates.proofs.NarrowedBuilds.{part, packages_part, outlines_part, refusals}
 use Rattle.krates.proofs.SeenLemmas.{resolvable_seen}
 
 -- ---- a document differs from itself only in order
@@ -67,7 +67,7 @@ lists_same p q wide narrow back facts is js xs ys a b pkg c =
       same = s.same;
     }
 
-pub build_narrowing : OneCorrection → IsSheetThere → IsOrderFree → ReadsOnce → IsNarrowing → NarrowerDrawsNoMore → IsBuildNarrowing
+pub build_narrowing : OneCorrection → IsOutlineThere → IsOrderFree → ReadsOnce → IsNarrowing → NarrowerDrawsNoMore → IsBuildNarrowing
 build_narrowing one there free once law fewer answer m p q wide narrow step x y =
     let own = own_order (metadata_view m) in
     let back = seen_alike one answer m m q p own y x in
@@ -77,7 +77,7 @@ build_narrowing one there free once law fewer answer m p q wide narrow step x y 
     record {
       facts = facts;
       packages = lists_same p q wide narrow back facts;
-      drawn = λ r t v h k. sheets_part fewer (metadata_view p) wide narrow step (seen r) t v (sheet_for_there there (metadata_view q) (metadata_view p) narrow t back (seen r) h) k;
+      drawn = λ r t v h k. outlines_part fewer (metadata_view p) wide narrow step (seen r) t v (outline_for_there there (metadata_view q) (metadata_view p) narrow t back (seen r) h) k;
       refusals = λ ids s e h. refusals once law fewer m p wide narrow ids step s e (refused_there there m m q p narrow (λ r. (r, seen r)) (free (metadata_view m) (metadata_view m) own) alike back e h);
     }
 

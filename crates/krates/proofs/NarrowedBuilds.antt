@@ -5,9 +5,9 @@ use Rattle.krates_cm.specs.Document.{Text, NodeModel, ResolveModel, MetadataMode
 use Rattle.krates_cm.specs.Names.{version_named}
 use Rattle.krates_cm.specs.declared.metadata.Metadata.{Metadata}
 use Rattle.krates_cm.specs.declared.package.Package.{Package}
-use Rattle.krates_drawing.specs.Drawing.{lines, spots}
+use Rattle.krates_drawing.specs.Drawing.{planned_edges, planned_nodes}
 use Rattle.krates_drawing.specs.Narrower.{DrawsNoMore, NarrowerDrawsNoMore}
-use Rattle.krates_drawing.specs.Sheet.{Sheet}
+use Rattle.krates_drawing.specs.Outline.{Outline}
 use Rattle.krates_ids.specs.Identity.{Identity, Reads}
 use Rattle.krates_ids.specs.declared.error.Error.{Error}
 use Rattle.krates_ids.specs.declared.error.Error.TheVariants as errors
@@ -20,7 +20,7 @@ use Rattle.krates_rules.specs.Setting.{SettingModel}
 use Rattle.krates.specs.Build.{IsResolvable, IsDerived, KeepsCrate, GraphRefusal, IsRefusedSeeing}
 use Rattle.krates_drawing.specs.Listed.{AreThosePackages}
 use Rattle.krates.specs.BuildLaws.{Succeeds}
-use Rattle.krates_queries.specs.Drawn.{CanBeNumbered, HasSheet, IsSheetFor}
+use Rattle.krates_queries.specs.Drawn.{CanBeNumbered, HasOutline, IsOutlineFor}
 use Rattle.krates_drawing.proofs.DivisionLemmas.{ReadsOnce}
 use Rattle.krates_rules.proofs.Members.{Member, member_of}
 use Rattle.krates.proofs.SelectionFacts.{derived_of}
@@ -78,27 +78,27 @@ packages_part p wide narrow facts is js xs ys a b pkg c =
     (b.exactly pkg).1 (both.0, record { id = both.1.id; reads = both.1.reads; holds = facts (Crate both.1.id) both.1.holds })
 
 -- a part of what can be numbered can be numbered
-pub sheets_part : NarrowerDrawsNoMore → (p : MetadataModel) (wide narrow : SettingModel) → IsNarrower wide narrow → IsResolvable p → (t v : Sheet) → IsSheetFor p narrow t → IsSheetFor p wide v → DrawsNoMore t v
-sheets_part law p wide narrow step r t v a b =
+pub outlines_part : NarrowerDrawsNoMore → (p : MetadataModel) (wide narrow : SettingModel) → IsNarrower wide narrow → IsResolvable p → (t v : Outline) → IsOutlineFor p narrow t → IsOutlineFor p wide v → DrawsNoMore t v
+outlines_part law p wide narrow step r t v a b =
     let g = r.admitted.graph in
     let here : a.graph ≡ g = cc (a.has_graph, r.admitted.has_graph) in
     let there : b.graph ≡ g = cc (b.has_graph, r.admitted.has_graph) in
-    let first = subst (λ z. HasSheet (resolved p z) narrow t) here a.holds in
-    let second = subst (λ z. HasSheet (resolved p z) wide v) there b.holds in
-    law (resolved p g) r.admitted.none_doubled wide narrow step first.selection second.selection first.selected second.selected t v first.is_sheet second.is_sheet
+    let first = subst (λ z. HasOutline (resolved p z) narrow t) here a.holds in
+    let second = subst (λ z. HasOutline (resolved p z) wide v) there b.holds in
+    law (resolved p g) r.admitted.none_doubled wide narrow step first.selection second.selection first.selected second.selected t v first.is_outline second.is_outline
 
 too_few : (n k : ℕ) → n ≤ k → k < 2 ^ 32 → 2 ^ 32 ≤ n → ⊥
 too_few n k le lt many = absurd (omega (arith, le, lt, many))
 
-beyond : (t v : Sheet) → DrawsNoMore t v → CanBeNumbered v → (2 ^ 32 ≤ length (spots t)) ⊎ (2 ^ 32 ≤ length (lines t)) → ⊥
-beyond t v w n (inl nodes) = too_few (length (spots t)) (length (spots v)) w.nodes n.nodes nodes
-beyond t v w n (inr edges) = too_few (length (lines t)) (length (lines v)) w.edges n.edges edges
+beyond : (t v : Outline) → DrawsNoMore t v → CanBeNumbered v → (2 ^ 32 ≤ length (planned_nodes t)) ⊎ (2 ^ 32 ≤ length (planned_edges t)) → ⊥
+beyond t v w n (inl nodes) = too_few (length (planned_nodes t)) (length (planned_nodes v)) w.nodes n.nodes nodes
+beyond t v w n (inr edges) = too_few (length (planned_edges t)) (length (planned_edges v)) w.edges n.edges edges
 
 not_too_many : NarrowerDrawsNoMore → (m p : Metadata) (wide narrow : SettingModel) (ids : List Identity) → IsNarrower wide narrow → Succeeds m p wide ids → GraphRefusal (metadata_view p) narrow errors.TooMany → ⊥
 not_too_many law m p wide narrow ids step s h =
-    let t = h.holds.sheet in
-    let w = sheets_part law (metadata_view p) wide narrow step s.seen t s.sheet (record { graph = h.graph; has_graph = h.has_graph; holds = h.holds.is_sheet }) s.is_sheet in
-    beyond t s.sheet w s.numbered h.holds.many
+    let t = h.holds.outline in
+    let w = outlines_part law (metadata_view p) wide narrow step s.seen t s.outline (record { graph = h.graph; has_graph = h.has_graph; holds = h.holds.is_outline }) s.is_outline in
+    beyond t s.outline w s.numbered h.holds.many
 
 pub refusals : ReadsOnce → IsNarrowing → NarrowerDrawsNoMore → (m p : Metadata) (wide narrow : SettingModel) (ids : List Identity) → IsNarrower wide narrow → Succeeds m p wide ids → (e : Error) → IsRefusedSeeing m p narrow e
     → (e ≡ errors.NoRootKrates) ⊎ (e ≡ errors.Memory)

@@ -8,8 +8,8 @@ use Rattle.krates_cm.specs.Document.{MetadataModel, Text, metadata_view, text_vi
 use Rattle.krates_cm.specs.declared.metadata.Metadata.{Metadata}
 use Rattle.krates_cm.specs.declared.package.Package.{Package}
 use Rattle.krates_drawing.specs.Agreement.{DependsOn, OneEach}
-use Rattle.krates_drawing.specs.Drawing.{lines, spots}
-use Rattle.krates_drawing.specs.Sheet.{Sheet}
+use Rattle.krates_drawing.specs.Drawing.{planned_edges, planned_nodes}
+use Rattle.krates_drawing.specs.Outline.{Outline}
 use Rattle.krates_drawing.specs.declared.edge.Edge.{Edge}
 use Rattle.krates_ids.specs.Identity.{Identity}
 use Rattle.krates_ids.specs.declared.error.Error.{Error}
@@ -28,8 +28,8 @@ use Rattle.krates_selection.specs.declared.selection.Selection.{Selection}
 use Rattle.krates.specs.Indexed.{Answering, Sees}
 use Rattle.krates_drawing.specs.Listed.{AreThosePackages}
 use Rattle.krates_queries.specs.DirectDependents.{IsDependent}
-use Rattle.krates_queries.specs.Explained.{IsExplainedBy, steps_of}
-use Rattle.krates_queries.specs.Drawn.{HasSheet, IsDrawn, IsNumbered, node_spot}
+use Rattle.krates_queries.specs.KeptSteps.{IsExplainedBy, steps_of}
+use Rattle.krates_queries.specs.Drawn.{HasOutline, IsDrawn, IsNumbered, planned_node}
 use Rattle.krates_queries.specs.Kept.{KeptCrates, HasEnabled, ids_of, values_of}
 
 -- ---- the document
@@ -100,7 +100,7 @@ HasOneEach m s i = HasGraphWith m (λ g. OneEach (resolved m g) s i)
 
 -- number d is among the direct dependencies of p exactly if p is among the direct dependents of d
 abbrev pub AgreeDirectly : {N E : Type 0} → KeptCrates N E → ℕ → ℕ → Type 0
-AgreeDirectly k p d = DependsOn (map node_spot k.graph.nodes) p d ↔ IsDependent k.graph.nodes k.graph.edges d p
+AgreeDirectly k p d = DependsOn (map planned_node k.graph.nodes) p d ↔ IsDependent k.graph.nodes k.graph.edges d p
 
 -- All that is true of what a build keeps of a document, and of what it reports.
 pub record IsBuilt {F N E : Type 0} (filters : F → Package → F → Type 0) (made : Package → N → Type 0) (made_edge : Edge → E → Type 0) (m : Metadata) (s : SettingModel) (before after : F) (k : KeptCrates N E) : Type 0 where
@@ -133,9 +133,9 @@ pub record IsBuilt {F N E : Type 0} (filters : F → Package → F → Type 0) (
 pub record HasTooMany (r : Resolved) (s : SettingModel) : Type 0 where
   pub none_lost : (c : Cause) → Derivable (questions r s) (Lost c) → ⊥
   pub some : (i : Id) × Derivable (questions r s) (Crate i)
-  pub sheet : Sheet
-  pub is_sheet : HasSheet r s sheet
-  pub many : (2 ^ 32 ≤ length (spots sheet)) ⊎ (2 ^ 32 ≤ length (lines sheet))
+  pub outline : Outline
+  pub is_outline : HasOutline r s outline
+  pub many : (2 ^ 32 ≤ length (planned_nodes outline)) ⊎ (2 ^ 32 ≤ length (planned_edges outline))
 
 -- why nothing is built of a document that can be resolved; memory may always run out
 abbrev pub GraphRefusal : MetadataModel → SettingModel → Error → Type 0

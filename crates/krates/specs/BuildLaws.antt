@@ -6,7 +6,7 @@ use Rattle.krates_cm.specs.declared.metadata.Metadata.{Metadata}
 use Rattle.krates_cm.specs.declared.package.Package.{Package}
 use Rattle.krates_drawing.specs.Alike.{DrawAlike}
 use Rattle.krates_drawing.specs.Narrower.{DrawsNoMore}
-use Rattle.krates_drawing.specs.Sheet.{Sheet}
+use Rattle.krates_drawing.specs.Outline.{Outline}
 use Rattle.krates_ids.specs.Identity.{Identity}
 use Rattle.krates_ids.specs.declared.error.Error.{Error}
 use Rattle.krates_ids.specs.declared.error.Error.TheVariants.{NoRootKrates, Memory}
@@ -21,7 +21,7 @@ use Rattle.krates_rules.specs.Setting.{SettingModel}
 use Rattle.krates.specs.Build.{IsResolvable, IsDerived, KeepsCrate, DropsCrate, IsLost, IsRefusedSeeing}
 use Rattle.krates_drawing.specs.Listed.{AreThosePackages}
 use Rattle.krates_document.specs.CorrectedDocument.{IsCorrectedDocument}
-use Rattle.krates_queries.specs.Drawn.{CanBeNumbered, IsSheetFor}
+use Rattle.krates_queries.specs.Drawn.{CanBeNumbered, IsOutlineFor}
 use Rattle.krates.specs.Indexed.{HasNames}
 use Rattle.krates_queries.specs.Kept.{AreOrdered}
 
@@ -53,9 +53,9 @@ pub record BuildAlike (m n p q : Metadata) (s : SettingModel) : Type 0 where
   pub kept : ListAlike p q (KeepsCrate (metadata_view p) s) (KeepsCrate (metadata_view q) s)
   pub reported : ListAlike p q (DropsCrate (metadata_view p) s) (DropsCrate (metadata_view q) s)
   -- the same graph is drawn of both: the nodes with their mappings and the edges are equal, number by number
-  pub drawn : IsResolvable (metadata_view m) → (t v : Sheet) → IsSheetFor (metadata_view p) s t → IsSheetFor (metadata_view q) s v → DrawAlike t v
+  pub drawn : IsResolvable (metadata_view m) → (t v : Outline) → IsOutlineFor (metadata_view p) s t → IsOutlineFor (metadata_view q) s v → DrawAlike t v
   -- and what is drawn of the one may be drawn of the other
-  pub sheets : IsResolvable (metadata_view m) → (t : Sheet) → IsSheetFor (metadata_view p) s t ↔ IsSheetFor (metadata_view q) s t
+  pub outlines : IsResolvable (metadata_view m) → (t : Outline) → IsOutlineFor (metadata_view p) s t ↔ IsOutlineFor (metadata_view q) s t
   pub refused : (e : Error) → IsRefusedSeeing m p s e ↔ IsRefusedSeeing n q s e
 
 -- What is resolved of two documents differs only in order, so it resolves alike and builds alike.
@@ -80,9 +80,9 @@ pub record Succeeds (m p : Metadata) (s : SettingModel) (ids : List Identity) : 
   pub none_lost : (c : Cause) → IsLost (metadata_view p) s c → ⊥
   pub kept : (i : Id) → KeepsCrate (metadata_view p) s i ↔ Contains (map id_of ids) i
   pub ordered : AreOrdered ids
-  pub sheet : Sheet
-  pub is_sheet : IsSheetFor (metadata_view p) s sheet
-  pub numbered : CanBeNumbered sheet
+  pub outline : Outline
+  pub is_outline : IsOutlineFor (metadata_view p) s outline
+  pub numbered : CanBeNumbered outline
 
 -- the same package is listed, but for the order of its features
 pub record ListsSame (listed : List Package) (pkg : Package) : Type 0 where
@@ -98,7 +98,7 @@ pub record KeepsPart (m p q : Metadata) (wide narrow : SettingModel) : Type 0 wh
   pub packages : (is js : List Identity) (xs ys : List Package) → AreThosePackages q.packages.items (KeepsCrate (metadata_view q) narrow) is xs
       → AreThosePackages p.packages.items (KeepsCrate (metadata_view p) wide) js ys → (pkg : Package) → Contains xs pkg → ListsSame ys pkg
   -- the crates, the edges and the features that are drawn are a part, and no more nodes and edges are
-  pub drawn : IsResolvable (metadata_view m) → (t v : Sheet) → IsSheetFor (metadata_view q) narrow t → IsSheetFor (metadata_view p) wide v → DrawsNoMore t v
+  pub drawn : IsResolvable (metadata_view m) → (t v : Outline) → IsOutlineFor (metadata_view q) narrow t → IsOutlineFor (metadata_view p) wide v → DrawsNoMore t v
   -- if the wider build succeeds, the narrower is refused only because no crate is left, or when out of memory
   pub refusals : (ids : List Identity) → Succeeds m p wide ids → (e : Error) → IsRefusedSeeing m q narrow e
       → (e ≡ NoRootKrates) ⊎ (e ≡ Memory)

@@ -1,9 +1,9 @@
--- The stored graph of a sheet, with the packages of its crates.
+-- The stored graph of an outline, with the packages of its crates.
 use Rattle.std.specs.Prelude.{◌≡◌, ◌↔◌, List, Contains, map}
 use Rattle.std.specs.List.{AllZip}
 use Rattle.krates_cm.specs.Document.{Text}
 use Rattle.krates_cm.specs.declared.package.Package.{Package}
-use Rattle.krates_drawing.specs.Sheet.{Named, Sheet}
+use Rattle.krates_drawing.specs.Outline.{FeatureRow, Outline}
 use Rattle.krates_drawing.specs.declared.edge.Edge.{Edge}
 use Rattle.krates_graph.specs.Graph.{StoredGraph}
 use Rattle.krates_rules.specs.Facts.{Id, Fact, Feature}
@@ -15,12 +15,12 @@ use Rattle.krates_drawing.specs.Node.{crate_ids, crate_values, crate_features, C
 use Rattle.krates_drawing.specs.declared.krate.Krate.{Krate}
 use Rattle.krates_drawing.specs.declared.node.Node.{Node}
 
-abbrev pub named_fact : Named → Fact
+abbrev pub named_fact : FeatureRow → Fact
 named_fact n = Feature n.krate n.name
 
--- The graph is the drawing of the sheet; its crates are these, with what is made from their packages, and their enabled features
--- are those of the sheet.
-pub record IsGraphOf {N E : Type 0} (made : Package → N → Type 0) (made_edge : Edge → E → Type 0) (t : Sheet) (krates : List Krate) (g : StoredGraph (Node N) E) : Type 0 where
+-- The graph is the drawing of the outline; its crates are these, with what is made from their packages, and their enabled features
+-- are those of the outline.
+pub record IsGraphOf {N E : Type 0} (made : Package → N → Type 0) (made_edge : Edge → E → Type 0) (t : Outline) (krates : List Krate) (g : StoredGraph (Node N) E) : Type 0 where
   pub drawing : IsDrawing made_edge t g
   pub ids : crate_ids g.nodes ≡ krate_ids krates
   pub values : AllZip made (krate_packages krates) (crate_values g.nodes)

@@ -341,7 +341,11 @@ fn build_admitted<N: FromPackage + Drop, E: FromEdge + Drop, F: OnFilter>(
         edges: u32::MAX,
     };
     let sketch = sketch_of(alloc, &metadata, &ids, setting)?;
-    let Sketch { sheet, steps, work } = sketch;
+    let Sketch {
+        outline,
+        steps,
+        work,
+    } = sketch;
     let rest = rest_of(metadata, ids);
     let Rest {
         packages,
@@ -349,11 +353,11 @@ fn build_admitted<N: FromPackage + Drop, E: FromEdge + Drop, F: OnFilter>(
         members,
         workspace_root,
     } = rest;
-    let division = divide(alloc, packages, kids, &sheet.krates)?;
+    let division = divide(alloc, packages, kids, &outline.krates)?;
     let Division { kept, others } = division;
     let count = kept.len();
     let explanation = explanation_of(alloc, &kept, steps)?;
-    let graph = graph_of(alloc, limits, sheet, kept)?;
+    let graph = graph_of(alloc, limits, outline, kept)?;
     let found = members_of(alloc, graph.raw_nodes(), &members);
     let members = handed_over(found, others, filter)?;
     let findings = Findings { work, explanation };

@@ -4,16 +4,16 @@ ghost use Rattle.std.specs.Prelude.{◌≡◌, ◌≤◌, All, IfErr, IfOk, leng
 ghost use Rattle.std.specs.List.{AllZip};
 ghost use Rattle.krates_cm.specs.Document.{metadata_view};
 ghost use Rattle.krates_document.specs.Ids.{ids_view};
-ghost use Rattle.krates_drawing.specs.Drawing.{lines, spots};
+ghost use Rattle.krates_drawing.specs.Drawing.{planned_edges, planned_nodes};
 ghost use Rattle.krates_drawing.specs.Ends.{HasEnds};
 ghost use Rattle.krates_drawing.specs.Limits.{DrawingRefusal, HasLimits, IsWithin};
-ghost use Rattle.krates_drawing.specs.SheetOrder.{IsOrdered};
+ghost use Rattle.krates_drawing.specs.OutlineOrder.{IsOrdered};
 ghost use Rattle.krates_drawing.specs.Stored.{IsStoredAs};
-ghost use Rattle.krates_drawing.specs.Views.{arrow_view, sheet_view};
+ghost use Rattle.krates_drawing.specs.Views.{planned_edge_view, outline_view};
 ghost use Rattle.krates_ids.specs.declared.error.Error.TheVariants.{Memory};
 ghost use Rattle.krates_rules.specs.Admission.{IsAdmitted};
 ghost use Rattle.krates_rules.specs.NamedIds.{NamesReadIds};
-ghost use Rattle.krates_explain.specs.Tables.{AreStepsOf};
+ghost use Rattle.krates_selection.specs.KeptTables.{AreStepsOf};
 ghost use Rattle.krates_questions.specs.DocumentModel.{as_resolved};
 ghost use Rattle.krates_selection.specs.Explained.{IsExplained};
 ghost use Rattle.krates_selection.specs.Selection.{IsSelection, RefusesSelection};
@@ -24,32 +24,31 @@ ghost use Rattle.krates.specs.MadeNodes.{IsMade, nodes_in};
 ghost use Rattle.krates.specs.Sketch.{IsSketchOf};
 
 use crate::enabled::enabled_of;
-use crate::nodes::{Nodes, nodes_of, parts_of, store_nodes};
+use crate::nodes::{DrawnNodes, nodes_of, parts_of, store_nodes};
 use krates_cm::Metadata;
-use krates_drawing::edge::Arrow;
-use krates_drawing::gather::sheet_of;
+use krates_drawing::edge::PlannedEdge;
 use krates_drawing::krate::Krate;
 use krates_drawing::limits::{Limits, Plan, plan_within};
 use krates_drawing::node::Node;
-use krates_drawing::sheet::Sheet;
-use krates_drawing::store::{FromEdge, StoreError, store_arrows};
-use krates_explain::{KeptStep, kept_steps};
+use krates_drawing::outline::{Outline, outline_of};
+use krates_drawing::store::{FromEdge, StoreError, store_edges};
 use krates_graph::graph::Graph;
 use krates_ids::Error;
 use krates_queries::from_package::FromPackage;
 use krates_questions::context::Context;
 use krates_resolve::{Document, EnabledFeature, Ids, Selection, Setting, Work, select_in};
+use krates_selection::{KeptStep, kept_steps};
 use std::alloc::{AllocError, Global};
 
 /// What is drawn of a selection, the steps that explain it, and the work that it was.
 #[derive(Drop)]
 pub(crate) struct Sketch {
-    pub(crate) sheet: Sheet,
+    pub(crate) outline: Outline,
     pub(crate) steps: Vec<KeptStep>,
     pub(crate) work: Work,
 }
 
-/// What is selected of a document that was admitted with these ids, as a sheet, with its steps. It is refused as `select` is.
+/// What is selected of a document that was admitted with these ids, as an outline, with its steps. It is refused as `select` is.
 ///
 /// The document is looked up once, for all of that.
 pub(crate) fn sketch_of(
@@ -67,8 +66,12 @@ pub(crate) fn sketch_of(
     let selection = select_in(alloc, document.lookup(), setting)?;
     let work = selection.work;
     let steps = steps_of(alloc, &document, setting, &selection)?;
-    let sheet = sheet_of(alloc, &document, setting, selection)?;
-    Ok(Sketch { sheet, steps, work })
+    let outline = outline_of(alloc, &document, setting, selection)?;
+    Ok(Sketch {
+        outline,
+        steps,
+        work,
+    })
 }
 
 /// The steps of a selection, with its crates by number.
@@ -91,11 +94,11 @@ fn steps_of(
     kept_steps(&context, &selection.krates, &selection.steps)
 }
 
-/// The enabled features of a sheet.
-fn features_in(alloc: Global, sheet: Sheet) -> Result<Vec<EnabledFeature>, AllocError>
-    ensures { IfOk result (λ features. features.items ≡ map (λ n. n.feature) sheet.features.items) }
+/// The enabled features of an outline.
+fn features_in(alloc: Global, outline: Outline) -> Result<Vec<EnabledFeature>, AllocError>
+    ensures { IfOk result (λ features. features.items ≡ map (λ n. n.feature) outline.features.items) }
 {
-    sheet
+    outline
         .features
         .into_iter()
         .map(|named| named.feature)
@@ -106,49 +109,56 @@ fn features_in(alloc: Global, sheet: Sheet) -> Result<Vec<EnabledFeature>, Alloc
 fn stored<N: FromPackage + Drop, E: FromEdge + Drop>(
     alloc: Global,
     limits: Limits,
-    nodes: Nodes,
-    arrows: &[Arrow],
+    nodes: DrawnNodes,
+    planned_edges: &[PlannedEdge],
 ) -> Result<Graph<Node<N>, E>, Error>
     requires nodes { length (nodes_in nodes) ≤ limits.nodes }
-    requires edges { length arrows.now ≤ limits.edges }
-    requires stand { All (HasEnds (length (nodes_in nodes))) (map arrow_view arrows.now) }
+    requires edges { length planned_edges.now ≤ limits.edges }
+    requires stand { All (HasEnds (length (nodes_in nodes))) (map planned_edge_view planned_edges.now) }
     ensures nodes { IfOk result (λ graph. AllZip (IsMade N.made_from) (nodes_in nodes) graph.nodes) }
-    ensures edges { IfOk result
-        (λ graph. AllZip (IsStoredAs E.made_from_edge) (map arrow_view arrows.now) graph.edges) }
+    ensures edges { IfOk result (λ graph. AllZip (IsStoredAs E.made_from_edge)
+        (map planned_edge_view planned_edges.now) graph.edges) }
     ensures limits { IfOk result (HasLimits limits) }
     ensures refused { IfErr result (λ e. e ≡ Memory) }
 {
     let mut graph = Graph::with_limits(alloc, limits.nodes, limits.edges);
-    graph.reserve(nodes.crates.len() + nodes.features.len(), arrows.len())?;
+    graph.reserve(
+        nodes.crates.len() + nodes.features.len(),
+        planned_edges.len(),
+    )?;
     store_nodes(alloc, nodes, &mut graph)?;
-    match store_arrows(alloc, arrows, &mut graph) {
+    match store_edges(alloc, planned_edges, &mut graph) {
         Ok(()) => Ok(graph),
         Err(StoreError::TooMany) => Err(Error::TooMany),
         Err(StoreError::Memory) => Err(Error::Memory),
     }
 }
 
-/// The graph of a sheet, whose crates are these. It is refused as `TooMany` exactly where it has more nodes or more edges than
+/// The graph of an outline, whose crates are these. It is refused as `TooMany` exactly where it has more nodes or more edges than
 /// the limits allow. It may instead return `Memory`.
 pub(crate) fn graph_of<N: FromPackage + Drop, E: FromEdge + Drop>(
     alloc: Global,
     limits: Limits,
-    sheet: Sheet,
+    outline: Outline,
     krates: Vec<Krate>,
 ) -> Result<Graph<Node<N>, E>, Error>
-    requires ordered { IsOrdered sheet }
-    requires ids { map id_of (krate_ids krates.items) ≡ map (λ k. k.id) (sheet_view sheet).krates }
-    requires stand { All (HasEnds (length (spots (sheet_view sheet)))) (lines (sheet_view sheet)) }
-    ensures graph { IfOk result (IsGraphOf N.made_from E.made_from_edge (sheet_view sheet) krates.items) }
-    ensures within { IfOk result (λ _. IsWithin limits (sheet_view sheet)) }
+    requires ordered { IsOrdered outline }
+    requires ids { map id_of (krate_ids krates.items) ≡ map (λ k. k.id) (outline_view outline).krates }
+    requires stand { All (HasEnds (length (planned_nodes (outline_view outline))))
+        (planned_edges (outline_view outline)) }
+    ensures graph { IfOk result (IsGraphOf N.made_from E.made_from_edge (outline_view outline) krates.items) }
+    ensures within { IfOk result (λ _. IsWithin limits (outline_view outline)) }
     ensures limits { IfOk result (HasLimits limits) }
-    ensures refused { IfErr result (DrawingRefusal limits (sheet_view sheet)) }
+    ensures refused { IfErr result (DrawingRefusal limits (outline_view outline)) }
 {
-    let plan = plan_within(alloc, &sheet, limits)?;
-    let Plan { spots, arrows } = plan;
-    let features = features_in(alloc, sheet)?;
+    let plan = plan_within(alloc, &outline, limits)?;
+    let Plan {
+        planned_nodes,
+        planned_edges,
+    } = plan;
+    let features = features_in(alloc, outline)?;
     let sets = enabled_of(alloc, krates.len(), features)?;
-    let parts = parts_of(alloc, spots)?;
+    let parts = parts_of(alloc, planned_nodes)?;
     let nodes = nodes_of(alloc, krates, sets, parts)?;
-    stored(alloc, limits, nodes, &arrows)
+    stored(alloc, limits, nodes, &planned_edges)
 }

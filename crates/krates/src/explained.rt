@@ -4,7 +4,7 @@ ghost use Rattle.std.specs.Prelude.{◌≡◌, IfOk};
 ghost use Rattle.krates_drawing.specs.Krate.{krate_ids};
 
 use krates_drawing::krate::Krate;
-use krates_explain::{Explanation, KeptStep};
+use krates_selection::{Explanation, KeptStep};
 use std::alloc::{AllocError, Global};
 
 /// These steps, with the ids of these crates.

@@ -4,7 +4,7 @@
 ghost use Rattle.krates.specs.BuildLaws.{IsBuildNamedPart, IsBuildNarrowing, IsBuildOrderFree, KeepsPackages};
 
 pub use krates_drawing::laws::filtered_holds_rebuild;
-use krates_drawing::laws::{drawn_alike, narrower_draws_no_more, sheet_there};
+use krates_drawing::laws::{drawn_alike, narrower_draws_no_more, outline_there};
 use krates_ids::laws::{comparison, one_correction, one_reading};
 pub use krates_queries::laws::dependents_reach;
 use krates_resolve::laws as resolution;
@@ -24,7 +24,7 @@ pub fn reordering()
     comparison();
     resolution::reordering();
     drawn_alike();
-    sheet_there();
+    outline_there();
 }
 
 /// A build under a setting that excludes more packages, ignores one more kind, or asks for targets where none was asked
@@ -43,7 +43,7 @@ pub fn narrowing()
     resolution::narrowing();
     resolution::reordering();
     narrower_draws_no_more();
-    sheet_there();
+    outline_there();
 }
 
 /// A build where a dependency's name in a feature reference means the least, by id, of the dependencies that answer to it, keeps

@@ -10,7 +10,7 @@ ghost use Rattle.krates.specs.MadeNodes.{CountRefusal, IsMade, crate_node, featu
 use krates_cm::Package;
 use krates_drawing::krate::Krate;
 use krates_drawing::node::{EnabledFeatures, Node};
-use krates_drawing::nodes::Spot;
+use krates_drawing::nodes::PlannedNode;
 use krates_graph::graph::{Graph, GraphError, NodeId};
 use krates_ids::Error;
 use krates_queries::from_package::FromPackage;
@@ -27,7 +27,7 @@ pub(crate) struct DrawnFeature {
 
 /// What was drawn, without the packages: the mappings of the crates, and the features.
 #[derive(Drop)]
-pub(crate) struct Parts {
+pub(crate) struct DrawnParts {
     /// The mappings of the crates.
     pub(crate) mappings: Vec<Vec<Option<NodeId>>>,
     /// The features.
@@ -36,7 +36,7 @@ pub(crate) struct Parts {
 
 /// The nodes that were drawn: first those of the crates, with their packages, and then the features.
 #[derive(Drop)]
-pub(crate) struct Nodes {
+pub(crate) struct DrawnNodes {
     /// The crates.
     pub(crate) crates: Vec<Node<Package>>,
     /// The features.
@@ -44,35 +44,38 @@ pub(crate) struct Nodes {
 }
 
 /// The mappings of the crates and the features, each in the order in which they were drawn.
-pub(crate) fn parts_of(alloc: Global, spots: Vec<Spot>) -> Result<Parts, AllocError>
+pub(crate) fn parts_of(
+    alloc: Global,
+    planned_nodes: Vec<PlannedNode>,
+) -> Result<DrawnParts, AllocError>
     ensures mappings { IfOk result
-        (λ parts. map (λ m. m.items) parts.mappings.items ≡ flat_map mapping_in spots.items) }
-    ensures features { IfOk result (λ parts. parts.features.items ≡ flat_map feature_in spots.items) }
+        (λ parts. map (λ m. m.items) parts.mappings.items ≡ flat_map mapping_in planned_nodes.items) }
+    ensures features { IfOk result (λ parts. parts.features.items ≡ flat_map feature_in planned_nodes.items) }
 {
     let mut mappings = Vec::new(alloc);
-    let mut features = Vec::with_capacity(alloc, spots.len())?;
-    for spot in spots {
-        push_part(spot, &mut mappings, &mut features)?;
+    let mut features = Vec::with_capacity(alloc, planned_nodes.len())?;
+    for planned in planned_nodes {
+        push_part(planned, &mut mappings, &mut features)?;
     }
-    Ok(Parts { mappings, features })
+    Ok(DrawnParts { mappings, features })
 }
 
 /// Puts a mapping to the mappings, or a feature to the features.
 fn push_part(
-    spot: Spot,
+    planned: PlannedNode,
     mappings: &mut Vec<Vec<Option<NodeId>>>,
     features: &mut Vec<DrawnFeature>,
 ) -> Result<(), AllocError>
     ensures mappings { OnOk result (map (λ m. m.items) mappings.new.items
-        ≡ map (λ m. m.items) mappings.old.items ++ mapping_in spot) }
-    ensures features { OnOk result (features.new.items ≡ features.old.items ++ feature_in spot) }
+        ≡ map (λ m. m.items) mappings.old.items ++ mapping_in planned) }
+    ensures features { OnOk result (features.new.items ≡ features.old.items ++ feature_in planned) }
 {
-    match spot {
-        Spot::Krate { id, mapping } => {
+    match planned {
+        PlannedNode::Krate { id, mapping } => {
             drop(id);
             mappings.push(mapping)?;
         }
-        Spot::Feature { krate_index, name } => {
+        PlannedNode::Feature { krate_index, name } => {
             features.push(DrawnFeature { krate_index, name })?;
         }
     }
@@ -106,15 +109,15 @@ pub(crate) fn nodes_of(
     alloc: Global,
     krates: Vec<Krate>,
     sets: Vec<EnabledFeatures>,
-    parts: Parts,
-) -> Result<Nodes, AllocError>
+    parts: DrawnParts,
+) -> Result<DrawnNodes, AllocError>
     ensures { IfOk result
         (λ nodes. nodes_in nodes ≡ map crate_node (zip krates.items (zip sets.items parts.mappings.items))
         ++ map feature_node parts.features.items) }
 {
-    let Parts { mappings, features } = parts;
+    let DrawnParts { mappings, features } = parts;
     let crates = crates_with(alloc, krates, sets, mappings)?;
-    Ok(Nodes { crates, features })
+    Ok(DrawnNodes { crates, features })
 }
 
 /// The node with a value in the place of its package.
@@ -141,7 +144,7 @@ fn made<N: FromPackage + Drop>(alloc: Global, node: Node<Package>) -> Result<Nod
 /// only where there are more than the graph may have.
 pub(crate) fn store_nodes<N: FromPackage + Drop, E: Drop>(
     alloc: Global,
-    nodes: Nodes,
+    nodes: DrawnNodes,
     graph: &mut Graph<Node<N>, E>,
 ) -> Result<(), Error>
     requires empty { graph.old.nodes ≡ [] }
@@ -149,7 +152,7 @@ pub(crate) fn store_nodes<N: FromPackage + Drop, E: Drop>(
     ensures rest { graph.new ≡ record graph.old { nodes = graph.new.nodes } }
     ensures refused { IfErr result (CountRefusal graph.old.node_limit (length (nodes_in nodes))) }
 {
-    let Nodes { crates, features } = nodes;
+    let DrawnNodes { crates, features } = nodes;
     store_crates(alloc, crates, graph)?;
     store_features(features, graph)
 }

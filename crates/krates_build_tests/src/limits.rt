@@ -4,13 +4,12 @@
 //! with the text of the refusal.
 
 ghost use Rattle.std.specs.Prelude.{IfOk};
-ghost use Rattle.krates_drawing.specs.SheetOrder.{IsOrdered};
+ghost use Rattle.krates_drawing.specs.OutlineOrder.{IsOrdered};
 
 use crate::real_documents::metadata_of;
 use krates_cm::Metadata;
-use krates_drawing::gather::sheet_of;
 use krates_drawing::limits::{Limits, plan_within};
-use krates_drawing::sheet::Sheet;
+use krates_drawing::outline::{Outline, outline_of};
 use krates_resolve::{Document, Setting, admit, select};
 use krates_samples::documents::section;
 use krates_samples::table::{Question, Row, hold};
@@ -27,23 +26,23 @@ fn limits_of(line: &str) -> Result<Limits, Fail> {
     })
 }
 
-/// The sheet of what is kept of a document without any setting.
-fn sheet(alloc: Global, metadata: &Metadata) -> Result<Sheet, Fail>
+/// The outline of what is kept of a document without any setting.
+fn outline(alloc: Global, metadata: &Metadata) -> Result<Outline, Fail>
     ensures { IfOk result IsOrdered }
 {
     let ids = admit(alloc, metadata)?;
     let setting = Setting::new(alloc);
     let selection = select(alloc, metadata, &ids, &setting)?;
     let document = Document::new(alloc, metadata, &ids)?;
-    Ok(sheet_of(alloc, &document, &setting, selection)?)
+    Ok(outline_of(alloc, &document, &setting, selection)?)
 }
 
 /// How many nodes and edges are drawn of a document within these limits, or why nothing is.
 fn drawn_within(alloc: Global, metadata: &Metadata, limits: Limits) -> Result<String, Fail> {
-    let sheet = sheet(alloc, metadata)?;
-    let told = match plan_within(alloc, &sheet, limits) {
+    let outline = outline(alloc, metadata)?;
+    let told = match plan_within(alloc, &outline, limits) {
         Ok(plan) => {
-            let (nodes, edges) = (plan.spots.len(), plan.arrows.len());
+            let (nodes, edges) = (plan.planned_nodes.len(), plan.planned_edges.len());
             format!(in alloc; "{nodes} nodes, {edges} edges")
         }
         Err(error) => error.to_string(alloc),

@@ -13,9 +13,9 @@ use Rattle.krates_rules.specs.Questions.{IsDeclaredAt, questions}
 use Rattle.krates_rules.specs.Resolved.{Resolved, HasPackage}
 use Rattle.krates_rules.specs.Setting.{SettingModel}
 use Rattle.krates_drawing.specs.Agreement.{KeptAt, OneEach, DependsOn, LeadsTo, DependenciesAgree}
-use Rattle.krates_drawing.specs.Drawing.{id_eq, End, AtCrate, AtFeature, Tie, Dep, DepFeature, Line, line, number, crate_number, from_crate, lines, last_from, claims_at, claims, claimant, mapped, mapping, Spot, CrateSpot, FeatureSpot, spots}
-use Rattle.krates_drawing.specs.Sheet.{Krate, Link, Sheet}
-use Rattle.krates_drawing.proofs.Arrows.{IsArrow, dep, dep_feature, toggles, own, names, names_crate, names_feature, Between, from_of, in_from, arrow_in, drawn_of}
+use Rattle.krates_drawing.specs.Drawing.{id_eq, Endpoint, AtCrate, AtFeature, EdgeModel, Dep, DepFeature, PlannedEdge, line, number, crate_number, from_crate, planned_edges, last_from, claims_at, claims, claimant, mapped, mapping, PlannedNode, PlannedCrate, PlannedFeature, planned_nodes}
+use Rattle.krates_drawing.specs.Outline.{CrateRow, EdgeRow, Outline}
+use Rattle.krates_drawing.proofs.DrawnEdges.{IsDrawnEdge, dep, dep_feature, toggles, own, names, names_crate, names_feature, Between, from_of, in_from, edge_in, drawn_of}
 use Rattle.krates_drawing.proofs.Closed.{keeps_ends, given_enabled, ends_stand}
 use Rattle.krates_drawing.proofs.Derivations.{crate_of_feature}
 use Rattle.krates_drawing.proofs.Holding.{Holds, holds}
@@ -28,29 +28,29 @@ use Rattle.krates_rules.proofs.OnlyOne.{one_package}
 -- ---- ends that belong to one crate
 
 -- the crate that an end belongs to
-abbrev owner : End → Id
+abbrev owner : Endpoint → Id
 owner (AtCrate q) = q
 owner (AtFeature q f) = q
 
-one_crate : (t : Sheet) (p q : Id) → HasCrate t p → HasCrate t q → crate_number t p ≡ crate_number t q → p ≡ q
+one_crate : (t : Outline) (p q : Id) → HasCrate t p → HasCrate t q → crate_number t p ≡ crate_number t q → p ≡ q
 one_crate t p q a b e = ap owner (one_number t (AtCrate p) (AtCrate q) (crate_stands {p = p} a) (crate_stands {p = q} b) e)
 
-owner_kept : (r : Resolved) (s : SettingModel) (t : Sheet) (e : End) → Holds r s t → Stands t e → HasCrate t (owner e)
+owner_kept : (r : Resolved) (s : SettingModel) (t : Outline) (e : Endpoint) → Holds r s t → Stands t e → HasCrate t (owner e)
 owner_kept r s t _ h (crate_stands {p} m) = m
 owner_kept r s t _ h (feature_stands {p} {f} m) =
     let d = crate_of_feature (questions r s) m.named.krate m.named.name (h.feature_of m.named m.member) in
     subst (HasCrate t) m.krate (h.crate_in m.named.krate d)
 
 -- the mapping that a node holds
-abbrev mapping_at : Spot → List (Option ℕ)
-mapping_at (CrateSpot id m) = m
-mapping_at (FeatureSpot q f) = []
+abbrev mapping_at : PlannedNode → List (Option ℕ)
+mapping_at (PlannedCrate id m) = m
+mapping_at (PlannedFeature q f) = []
 
-mapping_of : (a : Id) (m : List (Option ℕ)) (s : Spot) → s ≡ CrateSpot a m → m ≡ mapping_at s
+mapping_of : (a : Id) (m : List (Option ℕ)) (s : PlannedNode) → s ≡ PlannedCrate a m → m ≡ mapping_at s
 mapping_of a m s e = ap mapping_at (sym e)
 
 -- a node that is a feature of the crate of this number
-feature_owner : (t : Sheet) (e : End) (d : ℕ) (f : Text) → Stands t e → slice_get (spots t) (number t e) ≡ Some (FeatureSpot d f) → crate_number t (owner e) ≡ d
+feature_owner : (t : Outline) (e : Endpoint) (d : ℕ) (f : Text) → Stands t e → slice_get (planned_nodes t) (number t e) ≡ Some (PlannedFeature d f) → crate_number t (owner e) ≡ d
 feature_owner t _ d f (crate_stands {p} m) e = let w = crate_node t p m in absurd (cc (w.at, e))
 feature_owner t _ d f (feature_stands {p} {f = g} m) e = let w = feature_node t p g m in cc (w, e)
 
@@ -69,31 +69,31 @@ last_there o [] y m = absurd m
 last_there o (x ∷ xs) y m = last_some x xs
 
 -- an edge from `p` to `q` whose declared dependency is at `k`
-pub record Claim (t : Sheet) (p q : Id) (k : ℕ) : Type 0 where
+pub record Claim (t : Outline) (p q : Id) (k : ℕ) : Type 0 where
   pub between : Between t p q
   pub at : between.link.place ≡ k
 
-claim_of : (t : Sheet) (p q : Id) (k : ℕ) → list_any (claims_at k q) (from_crate t p) ≡ true → Claim t p q k
+claim_of : (t : Outline) (p q : Id) (k : ℕ) → list_any (claims_at k q) (from_crate t p) ≡ true → Claim t p q k
 claim_of t p q k h =
     let w = passing_of (claims_at k q) (from_crate t p) h in
     let f = from_of t p w.from w.member in
     let e = both _ _ w.passes in
     record { between = record { link = w.from; member = f.0; parent = f.1; child = id_is w.from.edge.child q e.0 }; at = (Decides-eqb w.from.place k).0 e.1 }
 
-claim_by : (t : Sheet) (p q : Id) (k : ℕ) → Claim t p q k → list_any (claims_at k q) (from_crate t p) ≡ true
+claim_by : (t : Outline) (p q : Id) (k : ℕ) → Claim t p q k → list_any (claims_at k q) (from_crate t p) ≡ true
 claim_by t p q k w =
     let b = w.between in
     member_any (claims_at k q) (from_crate t p) b.link (in_from t p b.link b.member b.parent)
     (and_true _ _ (subst (λ i. id_eq b.link.edge.child i ≡ true) b.child (id_same b.link.edge.child)) ((Decides-eqb b.link.place k).1 w.at))
 
-pub claimant_of : (t : Sheet) (p : Id) (k : ℕ) (q : Krate) → claimant t (from_crate t p) k ≡ Some q → Member t.krates q × Claim t p q.id k
+pub claimant_of : (t : Outline) (p : Id) (k : ℕ) (q : CrateRow) → claimant t (from_crate t p) k ≡ Some q → Member t.krates q × Claim t p q.id k
 claimant_of t p k q e = elim (last_of None (filter (claims (from_crate t p) k) t.krates) q e) [
   | inl none ↦ absurd (none-some q none)
   | inr m ↦ (let w = kept_of (claims (from_crate t p) k) t.krates q m in (w.0, claim_of t p q.id k w.1))
 ]
 
 -- if any crate claims the place, one does so last
-some_claimant : (t : Sheet) (p : Id) (k : ℕ) (q : Krate) → Member t.krates q → Claim t p q.id k → (z : Krate) × (claimant t (from_crate t p) k ≡ Some z)
+some_claimant : (t : Outline) (p : Id) (k : ℕ) (q : CrateRow) → Member t.krates q → Claim t p q.id k → (z : CrateRow) × (claimant t (from_crate t p) k ≡ Some z)
 some_claimant t p k q m w = last_there None (filter (claims (from_crate t p) k) t.krates) q (member_filter (claims (from_crate t p) k) t.krates q (claim_by t p q.id k w) m)
 
 pub image_of : {A B : Type 0} (f : A → B) (o : Option A) (y : B) → option_map f o ≡ Some y → (x : A) × (o ≡ Some x) × (f x ≡ y)
@@ -109,32 +109,32 @@ in_range a (suc n) k le lt = elim (cases_lt a k) [
 
 -- ---- an edge leads where a mapping names
 
-abbrev LeadsBetween : Sheet → Id → Id → Type 0
-LeadsBetween t p d = LeadsTo (spots t) (lines t) (crate_number t p) (crate_number t d)
+abbrev LeadsBetween : Outline → Id → Id → Type 0
+LeadsBetween t p d = LeadsTo (planned_nodes t) (planned_edges t) (crate_number t p) (crate_number t d)
 
-link_leads : (r : Resolved) (s : SettingModel) (t : Sheet) → Holds r s t → (l : Link) → Member t.links l → LeadsBetween t l.edge.parent l.edge.child
+link_leads : (r : Resolved) (s : SettingModel) (t : Outline) → Holds r s t → (l : EdgeRow) → Member t.links l → LeadsBetween t l.edge.parent l.edge.child
 link_leads r s t h l at = by (front_of l.given)
   where
     by : Front l.given → LeadsBetween t l.edge.parent l.edge.child
     by (members.empty none) =
         let x = line t (AtCrate l.edge.parent) (AtCrate l.edge.child) (Dep (kind_of l.edge.kind) l.edge.cfg) in
-        record { line = x; among = contains_of (lines t) x (arrow_in t _ _ _ (keeps_ends r s t h) (dep l at none)); from = refl; to = inl refl }
+        record { line = x; among = contains_of (planned_edges t) x (edge_in t _ _ _ (keeps_ends r s t h) (dep l at none)); from = refl; to = inl refl }
     by (members.begins f fs is) =
         let gives : Member l.given f = subst (λ z. Member z f) (sym is) (inl refl) in
         let x = line t (AtCrate l.edge.parent) (AtFeature l.edge.child f) (DepFeature (kind_of l.edge.kind) l.edge.cfg) in
         let there = h.feature_in l.edge.child f (given_enabled r s t l f h at gives) in
-        record { line = x; among = contains_of (lines t) x (arrow_in t _ _ _ (keeps_ends r s t h) (dep_feature l f at gives)); from = refl; to = inr (f, feature_node t l.edge.child f there) }
+        record { line = x; among = contains_of (planned_edges t) x (edge_in t _ _ _ (keeps_ends r s t h) (dep_feature l f at gives)); from = refl; to = inr (f, feature_node t l.edge.child f there) }
 
-pub between_leads : (r : Resolved) (s : SettingModel) (t : Sheet) (p d : Id) → Holds r s t → Between t p d → LeadsBetween t p d
+pub between_leads : (r : Resolved) (s : SettingModel) (t : Outline) (p d : Id) → Holds r s t → Between t p d → LeadsBetween t p d
 between_leads r s t p d h b =
     subst (λ i. LeadsBetween t p i) b.child (subst (λ i. LeadsBetween t i b.link.edge.child) b.parent (link_leads r s t h b.link b.member))
 
-leads : (r : Resolved) (s : SettingModel) (t : Sheet) (p d : Id) → Holds r s t → HasCrate t p → HasCrate t d → DependsOn (spots t) (crate_number t p) (crate_number t d) → LeadsBetween t p d
+leads : (r : Resolved) (s : SettingModel) (t : Outline) (p d : Id) → Holds r s t → HasCrate t p → HasCrate t d → DependsOn (planned_nodes t) (crate_number t p) (crate_number t d) → LeadsBetween t p d
 unfolding mapping
 leads r s t p d h at_p at_d w =
     let node = crate_node t p at_p in
     let here = same_Some _ _ (sym w.at ∙ node.at) in
-    let same : w.mapping ≡ mapping t node.krate = mapping_of w.id w.mapping (CrateSpot node.krate.id (mapping t node.krate)) (sym here) in
+    let same : w.mapping ≡ mapping t node.krate = mapping_of w.id w.mapping (PlannedCrate node.krate.id (mapping t node.krate)) (sym here) in
     let mine = from_crate t node.krate.id in
     let entry = mapped_of (mapped t mine) (range_with_len 0 node.krate.declared) (Some (crate_number t d)) (member_of (mapping t node.krate) (Some (crate_number t d)) (subst (λ m. Contains m (Some (crate_number t d))) same w.among)) in
     let q = image_of (λ z. crate_number t z.id) (claimant t mine entry.from) (crate_number t d) entry.is in
@@ -145,29 +145,29 @@ leads r s t p d h at_p at_d w =
 
 -- ---- a mapping names where an edge leads
 
-arrow_between : (t : Sheet) (from to : End) (tie : Tie) (p : Id) → IsArrow t from to tie → from ≡ AtCrate p → Between t p (owner to)
-arrow_between t _ _ _ p (dep l at none) e = record { link = l; member = at; parent = ap owner e; child = refl }
-arrow_between t _ _ _ p (dep_feature l g at gives) e = record { link = l; member = at; parent = ap owner e; child = refl }
-arrow_between t _ _ _ p (toggles g l at kept by theirs) e = record { link = l; member = kept; parent = by ∙ ap owner e; child = theirs }
-arrow_between t _ _ _ p (own n at) e = absurd (cc e)
-arrow_between t _ _ _ p (names n g at among) e = absurd (cc e)
-arrow_between t _ _ _ p (names_crate n ids l at among means kept same) e = absurd (cc e)
-arrow_between t _ _ _ p (names_feature n ids g l at among means kept same) e = absurd (cc e)
+edge_between : (t : Outline) (from to : Endpoint) (tie : EdgeModel) (p : Id) → IsDrawnEdge t from to tie → from ≡ AtCrate p → Between t p (owner to)
+edge_between t _ _ _ p (dep l at none) e = record { link = l; member = at; parent = ap owner e; child = refl }
+edge_between t _ _ _ p (dep_feature l g at gives) e = record { link = l; member = at; parent = ap owner e; child = refl }
+edge_between t _ _ _ p (toggles g l at kept by theirs) e = record { link = l; member = kept; parent = by ∙ ap owner e; child = theirs }
+edge_between t _ _ _ p (own n at) e = absurd (cc e)
+edge_between t _ _ _ p (names n g at among) e = absurd (cc e)
+edge_between t _ _ _ p (names_crate n ids l at among means kept same) e = absurd (cc e)
+edge_between t _ _ _ p (names_feature n ids g l at among means kept same) e = absurd (cc e)
 
-line_between : (r : Resolved) (s : SettingModel) (t : Sheet) (p d : Id) → Holds r s t → HasCrate t p → HasCrate t d → LeadsBetween t p d → Between t p d
+line_between : (r : Resolved) (s : SettingModel) (t : Outline) (p d : Id) → Holds r s t → HasCrate t p → HasCrate t d → LeadsBetween t p d → Between t p d
 line_between r s t p d h at_p at_d w =
-    let x = drawn_of t w.line (member_of (lines t) w.line w.among) in
-    let stand = ends_stand r s t x.from x.to x.tie h x.arrow in
-    let source : number t x.from ≡ crate_number t p = ap (λ (l : Line). l.source) x.is ∙ w.from in
+    let x = drawn_of t w.line (member_of (planned_edges t) w.line w.among) in
+    let stand = ends_stand r s t x.from x.to x.tie h x.planned in
+    let source : number t x.from ≡ crate_number t p = ap (λ (l : PlannedEdge). l.source) x.is ∙ w.from in
     let from : x.from ≡ AtCrate p = one_number t x.from (AtCrate p) stand.0 (crate_stands {p = p} at_p) source in
-    let target : number t x.to ≡ w.line.target = ap (λ (l : Line). l.target) x.is in
+    let target : number t x.to ≡ w.line.target = ap (λ (l : PlannedEdge). l.target) x.is in
     let of_d : owner x.to ≡ d = elim w.to [
       | inl is ↦ ap owner (one_number t x.to (AtCrate d) stand.1 (crate_stands {p = d} at_d) (target ∙ is))
-      | inr f ↦ one_crate t (owner x.to) d (owner_kept r s t x.to h stand.1) at_d (feature_owner t x.to (crate_number t d) f.0 stand.1 (ap (slice_get (spots t)) target ∙ f.1))
+      | inr f ↦ one_crate t (owner x.to) d (owner_kept r s t x.to h stand.1) at_d (feature_owner t x.to (crate_number t d) f.0 stand.1 (ap (slice_get (planned_nodes t)) target ∙ f.1))
     ] in
-    subst (λ i. Between t p i) of_d (arrow_between t x.from x.to x.tie p x.arrow from)
+    subst (λ i. Between t p i) of_d (edge_between t x.from x.to x.tie p x.planned from)
 
-kept_at : (r : Resolved) (s : SettingModel) (t : Sheet) (p q : Id) (k : ℕ) → Holds r s t → (w : Claim t p q k) → KeptAt r s p k w.between.link.edge
+kept_at : (r : Resolved) (s : SettingModel) (t : Outline) (p q : Id) (k : ℕ) → Holds r s t → (w : Claim t p q k) → KeptAt r s p k w.between.link.edge
 kept_at r s t p q k h w =
     let l = w.between.link in
     let e = (h.edge_of l w.between.member).is_link in
@@ -178,7 +178,7 @@ declared_here : (declared : List DependencyModel) (place : ℕ) (d : DependencyM
 declared_here declared place d P Q A B (inl x) = slice_get_within declared place d x.1.here
 declared_here declared place d P Q A B (inr x) = slice_get_within declared place d x.1.here
 
-place_below : (r : Resolved) (s : SettingModel) (t : Sheet) (k : Krate) (l : Link) → NoneDoubled r.metadata r.graph → Holds r s t → Member t.krates k → Member t.links l → l.edge.parent ≡ k.id → l.place < k.declared
+place_below : (r : Resolved) (s : SettingModel) (t : Outline) (k : CrateRow) (l : EdgeRow) → NoneDoubled r.metadata r.graph → Holds r s t → Member t.krates k → Member t.links l → l.edge.parent ≡ k.id → l.place < k.declared
 place_below r s t k l none h at among e =
     let w = (h.edge_of l among).is_link.declared.declares in
     let c = h.count_of k at in
@@ -187,16 +187,16 @@ place_below r s t k l none h at among e =
     subst (λ n. l.place < n) (ap (λ (z : PackageModel). length z.dependencies) same ∙ sym c.declared) below
 
 -- only one crate claims a declared dependency
-one_claims : (r : Resolved) (s : SettingModel) (t : Sheet) (p q z : Id) (k : ℕ) → Holds r s t → OneEach r s p → Claim t p q k → Claim t p z k → q ≡ z
+one_claims : (r : Resolved) (s : SettingModel) (t : Outline) (p q z : Id) (k : ℕ) → Holds r s t → OneEach r s p → Claim t p q k → Claim t p z k → q ≡ z
 one_claims r s t p q z k h one a b =
     let same : a.between.link.edge.child ≡ b.between.link.edge.child = one k a.between.link.edge b.between.link.edge (kept_at r s t p q k h a) (kept_at r s t p z k h b) in
     subst (λ i. q ≡ i) b.between.child (subst (λ i. i ≡ b.between.link.edge.child) a.between.child same)
 
-mapped_is : (t : Sheet) (mine : List Link) (k : ℕ) (q : Krate) (d : Id) → claimant t mine k ≡ Some q → q.id ≡ d → mapped t mine k ≡ Some (crate_number t d)
-mapped_is t mine k q d e is = ap (option_map (λ (z : Krate). crate_number t z.id)) e ∙ ap (λ i. Some (crate_number t i)) is
+mapped_is : (t : Outline) (mine : List EdgeRow) (k : ℕ) (q : CrateRow) (d : Id) → claimant t mine k ≡ Some q → q.id ≡ d → mapped t mine k ≡ Some (crate_number t d)
+mapped_is t mine k q d e is = ap (option_map (λ (z : CrateRow). crate_number t z.id)) e ∙ ap (λ i. Some (crate_number t i)) is
 
-depends : (r : Resolved) (s : SettingModel) (t : Sheet) (p d : Id) → NoneDoubled r.metadata r.graph → Holds r s t → HasCrate t p → HasCrate t d → OneEach r s p → LeadsBetween t p d
-    → DependsOn (spots t) (crate_number t p) (crate_number t d)
+depends : (r : Resolved) (s : SettingModel) (t : Outline) (p d : Id) → NoneDoubled r.metadata r.graph → Holds r s t → HasCrate t p → HasCrate t d → OneEach r s p → LeadsBetween t p d
+    → DependsOn (planned_nodes t) (crate_number t p) (crate_number t d)
 unfolding mapping
 depends r s t p d none h at_p at_d one w =
     let node = crate_node t p at_p in
@@ -216,8 +216,8 @@ depends r s t p d none h at_p at_d one w =
 -- ---- the law
 
 pub agreed : DependenciesAgree
-agreed r s none x selected t sheet p d at_p at_d one =
-    let h = holds r s x t selected sheet in
+agreed r s none x selected t outline p d at_p at_d one =
+    let h = holds r s x t selected outline in
     let p_kept = has_drawn t p at_p in
     let d_kept = has_drawn t d at_d in
     (λ w. leads r s t p d h p_kept d_kept w, λ w. depends r s t p d none h p_kept d_kept one w)

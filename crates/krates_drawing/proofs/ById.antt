@@ -22,7 +22,7 @@ use Rattle.krates_selection.specs.declared.selection.ToggledFeature.{ToggledFeat
 use Rattle.krates_rules.specs.Facts.{Id, Edge}
 use Rattle.krates_rules.specs.Referent.{id_order}
 use Rattle.krates_rules.specs.Resolved.{id_of}
-use Rattle.krates_drawing.specs.Sheet.{Toggle, toggle_of}
+use Rattle.krates_drawing.specs.Outline.{Toggle, toggle_of}
 use Rattle.krates_rules.proofs.Members.{Member}
 use Rattle.krates_drawing.proofs.Ordered.{Respects, alike, equal_zip}
 use Rattle.krates_drawing.proofs.Parts.{LikePart, like_nothing, like_keeps, like_leaves, likes_part}

@@ -14,9 +14,9 @@ use Rattle.krates_rules.specs.Resolved.{Resolved, HasPackage}
 use Rattle.krates_rules.specs.Rules as rules
 use Rattle.krates_rules.specs.Rules.{Questions, default_name}
 use Rattle.krates_rules.specs.Setting.{SettingModel}
-use Rattle.krates_drawing.specs.Drawing.{End, AtFeature, Tie, is_feature}
-use Rattle.krates_drawing.specs.Sheet.{Link, asked_by, has_text, Meaning, OwnFeature, FeatureOf, Named, IsMeaning, Names, Sheet}
-use Rattle.krates_drawing.proofs.Arrows.{IsArrow, dep, dep_feature, toggles, own, names, names_crate, names_feature, KeepsEnds}
+use Rattle.krates_drawing.specs.Drawing.{Endpoint, AtFeature, EdgeModel, is_feature}
+use Rattle.krates_drawing.specs.Outline.{EdgeRow, asked_by, has_text, Meaning, OwnFeature, FeatureOf, FeatureRow, IsMeaning, Names, Outline}
+use Rattle.krates_drawing.proofs.DrawnEdges.{IsDrawnEdge, dep, dep_feature, toggles, own, names, names_crate, names_feature, KeepsEnds}
 use Rattle.krates_drawing.proofs.Derivations.{one, two, crate_of_feature, child_kept, kept_by}
 use Rattle.krates_drawing.proofs.Holding.{Holds}
 use Rattle.krates_rules.proofs.Members.{Member, contains_of, member_append, kept_of, passing_of, member_any, partner_of, swapped}
@@ -24,7 +24,7 @@ use Rattle.krates_drawing.proofs.NodeNumbers.{text_is, text_same, feature_is, fe
 
 -- ---- kept edges
 
-pub keeps_ends : (r : Resolved) (s : SettingModel) (t : Sheet) → Holds r s t → KeepsEnds t
+pub keeps_ends : (r : Resolved) (s : SettingModel) (t : Outline) → Holds r s t → KeepsEnds t
 keeps_ends r s t h l m =
     let d = h.link_of l m in
     (h.crate_in l.edge.parent (kept_by (questions r s) l.edge d).parent, h.crate_in l.edge.child (child_kept (questions r s) l.edge d))
@@ -53,7 +53,7 @@ text_there texts t h = let w = passing_of (bytes_eq t) texts h in subst (Member 
 pub text_has : (texts : List Text) (t : Text) → Member texts t → has_text texts t ≡ true
 text_has texts t m = member_any (bytes_eq t) texts t m (text_same t)
 
-pub given_enabled : (r : Resolved) (s : SettingModel) (t : Sheet) (l : Link) (g : Text) → Holds r s t → Member t.links l → Member l.given g → Derivable (questions r s) (Feature l.edge.child g)
+pub given_enabled : (r : Resolved) (s : SettingModel) (t : Outline) (l : EdgeRow) (g : Text) → Holds r s t → Member t.links l → Member l.given g → Derivable (questions r s) (Feature l.edge.child g)
 unfolding questions
 given_enabled r s t l g h at m =
     let q = questions r s in
@@ -71,8 +71,8 @@ given_enabled r s t l g h at m =
 
 -- ---- a feature that is asked for is enabled, since nothing is lost
 
--- a feature that is enabled if it is listed and lost otherwise is one of the sheet
-found_step : (r : Resolved) (s : SettingModel) (t : Sheet) (i : Id) (g : Text) (b : Bool) → list_any (is_feature i g) t.features ≡ b → Holds r s t
+-- a feature that is enabled if it is listed and lost otherwise is one of the outline
+found_step : (r : Resolved) (s : SettingModel) (t : Outline) (i : Id) (g : Text) (b : Bool) → list_any (is_feature i g) t.features ≡ b → Holds r s t
     → (ListsFeature r i g → Derivable (questions r s) (Feature i g)) → (LacksFeature r i g → Derivable (questions r s) (Lost (LostFeature i g))) → HasFeature t i g
 found_step r s t i g true e h enabled lost =
     let w = passing_of (is_feature i g) t.features e in
@@ -83,19 +83,19 @@ found_step r s t i g false e h enabled lost = absurd (h.none_lost (LostFeature i
     let yes = member_any (is_feature i g) t.features there.named there.member (feature_passes t i g there) in
     cc (yes, e))))
 
-found : (r : Resolved) (s : SettingModel) (t : Sheet) (i : Id) (g : Text) → Holds r s t
+found : (r : Resolved) (s : SettingModel) (t : Outline) (i : Id) (g : Text) → Holds r s t
     → (ListsFeature r i g → Derivable (questions r s) (Feature i g)) → (LacksFeature r i g → Derivable (questions r s) (Lost (LostFeature i g))) → HasFeature t i g
 found r s t i g h enabled lost = found_step r s t i g (list_any (is_feature i g) t.features) refl h enabled lost
 
 -- ---- the references of a feature
 
 -- the feature has a reference that names this
-record IsNaming (r : Resolved) (s : SettingModel) (n : Named) (m : Meaning) : Type 0 where
+record IsNaming (r : Resolved) (s : SettingModel) (n : FeatureRow) (m : Meaning) : Type 0 where
   reference : Reference
   has : HasReference r n.krate n.name reference
   names_it : Names r s.all_named n.krate reference m
 
-naming_in : (r : Resolved) (s : SettingModel) (n : Named) (m : Meaning) (p : PackageModel) (o : Option (List Text)) → named p.features n.name ≡ o → HasPackage r n.krate p → AllZip (IsMeaning r s.all_named n.krate) (unwrap_or o []) n.meanings
+naming_in : (r : Resolved) (s : SettingModel) (n : FeatureRow) (m : Meaning) (p : PackageModel) (o : Option (List Text)) → named p.features n.name ≡ o → HasPackage r n.krate p → AllZip (IsMeaning r s.all_named n.krate) (unwrap_or o []) n.meanings
     → Member n.meanings m → IsNaming r s n m
 naming_in r s n m p None e h z at = let w = partner_of (λ m text. IsMeaning r s.all_named n.krate text m) n.meanings [] m (swapped (IsMeaning r s.all_named n.krate) [] n.meanings z) at in absurd w.member
 naming_in r s n m p (Some values) e h z at =
@@ -106,12 +106,12 @@ naming_in r s n m p (Some values) e h z at =
       names_it = w.related.names;
     }
 
-naming : (r : Resolved) (s : SettingModel) (t : Sheet) (n : Named) (m : Meaning) → Holds r s t → Member t.features n → Member n.meanings m → IsNaming r s n m
+naming : (r : Resolved) (s : SettingModel) (t : Outline) (n : FeatureRow) (m : Meaning) → Holds r s t → Member t.features n → Member n.meanings m → IsNaming r s n m
 naming r s t n m h at among = let w = (h.named_of n at).is_named in naming_in r s n m w.pkg (named w.pkg.features n.name) refl w.has_package w.meanings among
 
 -- ---- what a reference names is enabled
 
-own_enabled : (r : Resolved) (s : SettingModel) (t : Sheet) (n : Named) (g : Text) (reference : Reference) → Holds r s t → Derivable (questions r s) (Feature n.krate n.name) → HasReference r n.krate n.name reference → Names r s.all_named n.krate reference (OwnFeature g)
+own_enabled : (r : Resolved) (s : SettingModel) (t : Outline) (n : FeatureRow) (g : Text) (reference : Reference) → Holds r s t → Derivable (questions r s) (Feature n.krate n.name) → HasReference r n.krate n.name reference → Names r s.all_named n.krate reference (OwnFeature g)
     → HasFeature t n.krate g
 unfolding questions
 own_enabled r s t n g (references.simple f) h d has is =
@@ -127,7 +127,7 @@ pub toggle_enabled : (q : Questions) (p c : Id) (g : Text) → Derivable q (Togg
 toggle_enabled q p c g d = follows (rules.toggled_feature {p = p} {c = c} {g = g}) (one q (Toggled p c g) d)
 
 -- a reference from a feature of the parent to a feature of the child enables that feature, if the edge is kept
-other_enabled : (r : Resolved) (s : SettingModel) (t : Sheet) (e : Edge) (f g : Text) (ids : List Id) (reference : Reference) → Holds r s t → Derivable (questions r s) (Kept e) → Derivable (questions r s) (Feature e.parent f)
+other_enabled : (r : Resolved) (s : SettingModel) (t : Outline) (e : Edge) (f g : Text) (ids : List Id) (reference : Reference) → Holds r s t → Derivable (questions r s) (Kept e) → Derivable (questions r s) (Feature e.parent f)
     → HasReference r e.parent f reference → Names r s.all_named e.parent reference (FeatureOf ids g) → Member ids e.child → HasFeature t e.child g
 unfolding questions
 other_enabled r s t e f g ids (references.strong c x) h kept d has is m =
@@ -149,7 +149,7 @@ other_enabled r s t e f g ids (references.weak c x) h kept d has is m =
 other_enabled r s t e f g ids (references.simple c) h kept d has is m = absurd is
 other_enabled r s t e f g ids (references.krate c) h kept d has is m = absurd is
 
-named_enabled : (r : Resolved) (s : SettingModel) (t : Sheet) (n : Named) (ids : List Id) (g : Text) (l : Link) → Holds r s t → Member t.features n → Member n.meanings (FeatureOf ids g) → Member ids l.edge.child → Member t.links l → l.edge.parent ≡ n.krate
+named_enabled : (r : Resolved) (s : SettingModel) (t : Outline) (n : FeatureRow) (ids : List Id) (g : Text) (l : EdgeRow) → Holds r s t → Member t.features n → Member n.meanings (FeatureOf ids g) → Member ids l.edge.child → Member t.links l → l.edge.parent ≡ n.krate
     → HasFeature t l.edge.child g
 named_enabled r s t n ids g l h at among means kept e =
     let w = naming r s t n (FeatureOf ids g) h at among in
@@ -158,12 +158,12 @@ named_enabled r s t n ids g l h at among means kept e =
     let is = subst (λ i. Names r s.all_named i w.reference (FeatureOf ids g)) (sym e) w.names_it in
     other_enabled r s t l.edge n.name g ids w.reference h (h.link_of l kept) d has is means
 
--- ---- both ends of each arrow
+-- ---- both ends of each planned
 
-feature_there : (t : Sheet) (n : Named) → Member t.features n → Stands t (AtFeature n.krate n.name)
+feature_there : (t : Outline) (n : FeatureRow) → Member t.features n → Stands t (AtFeature n.krate n.name)
 feature_there t n at = feature_stands {p = n.krate} {f = n.name} (record { named = n; member = at; krate = refl; name = refl })
 
-pub ends_stand : (r : Resolved) (s : SettingModel) (t : Sheet) (from to : End) (tie : Tie) → Holds r s t → IsArrow t from to tie → Stands t from × Stands t to
+pub ends_stand : (r : Resolved) (s : SettingModel) (t : Outline) (from to : Endpoint) (tie : EdgeModel) → Holds r s t → IsDrawnEdge t from to tie → Stands t from × Stands t to
 ends_stand r s t _ _ _ h (dep l at none) =
     let k = keeps_ends r s t h l at in (crate_stands {p = l.edge.parent} k.0, crate_stands {p = l.edge.child} k.1)
 ends_stand r s t _ _ _ h (dep_feature l g at gives) =

@@ -1,4 +1,4 @@
--- A feature of a sheet stands where a search finds it.
+-- A feature of an outline stands where a search finds it.
 use Rattle.std.proofs.Common.{◌≡◌, ◌<◌, ℕ, List, Some, Ok, All, Result, length, map, ◌&&◌, sym, ap, ◌∙◌, subst}
 use Rattle.std.proofs.lemmas.Cmp.{tied_itself}
 use Rattle.std.proofs.lemmas.Option.{get_or_from_slice_get, slice_get_within}
@@ -10,37 +10,37 @@ use Rattle.krates_cm.specs.Document.{Text, text_view}
 use Rattle.krates_selection.specs.CrateNumbers.{HasHome, id_at}
 use Rattle.krates_selection.specs.SelectionOrder.{feature_cmp}
 use Rattle.krates_drawing.specs.Drawing.{is_feature, place_of}
-use Rattle.krates_drawing.specs.Views.{kids_of, named_view}
-use Rattle.krates_drawing.specs.declared.sheet.Krate.{Krate}
-use Rattle.krates_drawing.specs.declared.sheet.Named.{Named}
+use Rattle.krates_drawing.specs.Views.{kids_of, feature_row_view}
+use Rattle.krates_drawing.specs.declared.outline.CrateRow.{CrateRow}
+use Rattle.krates_drawing.specs.declared.outline.FeatureRow.{FeatureRow}
 use Rattle.krates_drawing.proofs.CratePlaces.{AreInOrder, same_ids}
 use Rattle.krates_drawing.proofs.EqualRanges.{place_in, searched}
 use Rattle.krates_drawing.proofs.Tests.{equal_named, feature_key, features_in_order, named_cmp, named_total, place_seen}
 
 -- a feature is looked for by number and name
-feature_seen : (ks : List Krate) (xs : List Named) (q : ℕ) (f : Text) → AreInOrder ks → q < length ks → All (λ n. HasHome (length ks) n.feature) xs
-    → place_of (is_feature (id_at (kids_of ks) q) f) (map (named_view (kids_of ks)) xs) ≡ place_of (λ (n : Named). is_eq (named_cmp (feature_key n) (q, f))) xs
+feature_seen : (ks : List CrateRow) (xs : List FeatureRow) (q : ℕ) (f : Text) → AreInOrder ks → q < length ks → All (λ n. HasHome (length ks) n.feature) xs
+    → place_of (is_feature (id_at (kids_of ks) q) f) (map (feature_row_view (kids_of ks)) xs) ≡ place_of (λ (n : FeatureRow). is_eq (named_cmp (feature_key n) (q, f))) xs
 feature_seen ks xs q f sorted lt homes =
-    place_seen (λ (n : Named). HasHome (length ks) n.feature) (named_view (kids_of ks)) (is_feature (id_at (kids_of ks) q) f) (λ (n : Named). is_eq (named_cmp (feature_key n) (q, f))) xs homes
+    place_seen (λ (n : FeatureRow). HasHome (length ks) n.feature) (feature_row_view (kids_of ks)) (is_feature (id_at (kids_of ks) q) f) (λ (n : FeatureRow). is_eq (named_cmp (feature_key n) (q, f))) xs homes
     (λ n h. equal_named n.feature.krate q (text_view n.feature.name) f ∙ ap (λ b. b && bytes_eq (text_view n.feature.name) f) (same_ids ks n.feature.krate q sorted h lt))
 
 -- and stands at the place that a search returns
-pub place_found : (ks : List Krate) (xs ys : List Named) (q : ℕ) (f : Text) (r : Result ℕ ℕ) → AreInOrder ks → q < length ks → All (λ n. HasHome (length ks) n.feature) xs → IsStrictlySortedBy feature_cmp (map (λ (m : Named). m.feature) xs)
-    → ys ≡ xs → IsSearchInRange r (length ys) → IsBinarySearchResult (λ (n : Named). named_cmp (feature_key n) (q, f)) ys r → place_in (length xs) r ≡ place_of (is_feature (id_at (kids_of ks) q) f) (map (named_view (kids_of ks)) xs)
+pub place_found : (ks : List CrateRow) (xs ys : List FeatureRow) (q : ℕ) (f : Text) (r : Result ℕ ℕ) → AreInOrder ks → q < length ks → All (λ n. HasHome (length ks) n.feature) xs → IsStrictlySortedBy feature_cmp (map (λ (m : FeatureRow). m.feature) xs)
+    → ys ≡ xs → IsSearchInRange r (length ys) → IsBinarySearchResult (λ (n : FeatureRow). named_cmp (feature_key n) (q, f)) ys r → place_in (length xs) r ≡ place_of (is_feature (id_at (kids_of ks) q) f) (map (feature_row_view (kids_of ks)) xs)
 place_found ks xs ys q f r sorted lt homes in_order same bound at =
-    let range = subst (λ (l : List Named). IsSearchInRange r (length l)) same bound in
-    let found = subst (λ (l : List Named). IsBinarySearchResult (λ (n : Named). named_cmp (feature_key n) (q, f)) l r) same at in
+    let range = subst (λ (l : List FeatureRow). IsSearchInRange r (length l)) same bound in
+    let found = subst (λ (l : List FeatureRow). IsBinarySearchResult (λ (n : FeatureRow). named_cmp (feature_key n) (q, f)) l r) same at in
     sym (feature_seen ks xs q f sorted lt homes ∙ searched named_total feature_key xs (q, f) r (features_in_order xs in_order) range found)
 
 -- the place of a feature is where it stands
-pub own_place : (ks : List Krate) (xs : List Named) (place : ℕ) (n : Named) → AreInOrder ks → All (λ n. HasHome (length ks) n.feature) xs → IsStrictlySortedBy feature_cmp (map (λ (m : Named). m.feature) xs)
-    → slice_get xs place ≡ Some n → place_of (is_feature (id_at (kids_of ks) n.feature.krate) (text_view n.feature.name)) (map (named_view (kids_of ks)) xs) ≡ place
+pub own_place : (ks : List CrateRow) (xs : List FeatureRow) (place : ℕ) (n : FeatureRow) → AreInOrder ks → All (λ n. HasHome (length ks) n.feature) xs → IsStrictlySortedBy feature_cmp (map (λ (m : FeatureRow). m.feature) xs)
+    → slice_get xs place ≡ Some n → place_of (is_feature (id_at (kids_of ks) n.feature.krate) (text_view n.feature.name)) (map (feature_row_view (kids_of ks)) xs) ≡ place
 own_place ks xs place n sorted homes in_order at =
     let q = n.feature.krate in
     let f = text_view n.feature.name in
     feature_seen ks xs q f sorted (home_at xs place n homes at) homes
     ∙ searched named_total feature_key xs (q, f) (Ok place) (features_in_order xs in_order) (slice_get_within xs place n at)
-    (λ d. ap (λ (m : Named). named_cmp (feature_key m) (q, f)) (get_or_from_slice_get xs place n d at) ∙ tied_itself named_total (q, f))
+    (λ d. ap (λ (m : FeatureRow). named_cmp (feature_key m) (q, f)) (get_or_from_slice_get xs place n d at) ∙ tied_itself named_total (q, f))
   where
-    home_at : (xs : List Named) (place : ℕ) (n : Named) → All (λ n. HasHome (length ks) n.feature) xs → slice_get xs place ≡ Some n → HasHome (length ks) n.feature
-    home_at xs place n homes at = subst (λ (m : Named). HasHome (length ks) m.feature) (get_or_from_slice_get xs place n n at) (homes place n (slice_get_within xs place n at))
+    home_at : (xs : List FeatureRow) (place : ℕ) (n : FeatureRow) → All (λ n. HasHome (length ks) n.feature) xs → slice_get xs place ≡ Some n → HasHome (length ks) n.feature
+    home_at xs place n homes at = subst (λ (m : FeatureRow). HasHome (length ks) m.feature) (get_or_from_slice_get xs place n n at) (homes place n (slice_get_within xs place n at))

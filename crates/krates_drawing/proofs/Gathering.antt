@@ -1,4 +1,4 @@
--- What is gathered from a selection is its sheet.
+-- What is gathered from a selection is its outline.
 use Rattle.std.proofs.Common.{◌≡◌, Bool, inl, inr, ℕ, zero, suc, ◌<◌, List, [], ◌∷◌, All, length, map, zip, Option, Some, None, slice_get, refl, sym, ap, ◌∙◌, subst, arith}
 use Rattle.std.proofs.lemmas.List.{length-map}
 use Rattle.std.proofs.lemmas.List.Elements.{All-contains, All-from_recursion}
@@ -24,17 +24,17 @@ use Rattle.krates_selection.specs.SelectionOrder.{place_cmp, feature_cmp, toggle
 use Rattle.krates_selection.specs.declared.selection.EnabledFeature.{EnabledFeature}
 use Rattle.krates_selection.specs.declared.selection.KeptEdge.{KeptEdge}
 use Rattle.krates_selection.specs.declared.selection.Selection.{Selection}
-use Rattle.krates_drawing.specs.Gathered.{MeaningsTold, AreMeant, count_in, declared_in, dependency_in, given_in, listed_of, values_in}
-use Rattle.krates_drawing.specs.Sheet.{IsKrate, IsLink, IsMeaning, IsNamed, IsSheet, toggle_of}
-use Rattle.krates_drawing.specs.SheetOrder.{IsOrdered}
-use Rattle.krates_drawing.specs.Told.{IsToldOf, node_at, node_in, of_crate, package_at, package_in}
-use Rattle.krates_drawing.specs.Views.{kids_in, krate_view, link_view, meanings_view, named_view, sheet_view}
-use Rattle.krates_drawing.specs.declared.sheet.Krate.{Krate}
-use Rattle.krates_drawing.specs.declared.sheet.Link.{Link}
-use Rattle.krates_drawing.specs.declared.sheet.Meaning.{Meaning}
-use Rattle.krates_drawing.specs.declared.sheet.Named.{Named}
-use Rattle.krates_drawing.specs.declared.sheet.Sheet.{Sheet}
-use Rattle.krates_drawing.specs.declared.told.Told.{Told}
+use Rattle.krates_drawing.specs.Gathered.{MeaningsRecorded, AreMeant, count_in, declared_in, dependency_in, given_in, listed_of, values_in}
+use Rattle.krates_drawing.specs.Outline.{IsCrateRow, IsEdgeRow, IsMeaning, IsFeatureRow, IsOutline, toggle_of}
+use Rattle.krates_drawing.specs.OutlineOrder.{IsOrdered}
+use Rattle.krates_drawing.specs.CrateRecord.{IsRecordOf, node_at, node_in, of_crate, package_at, package_in}
+use Rattle.krates_drawing.specs.Views.{kids_in, crate_row_view, edge_row_view, meanings_view, feature_row_view, outline_view}
+use Rattle.krates_drawing.specs.declared.outline.CrateRow.{CrateRow}
+use Rattle.krates_drawing.specs.declared.outline.EdgeRow.{EdgeRow}
+use Rattle.krates_drawing.specs.declared.outline.Meaning.{Meaning}
+use Rattle.krates_drawing.specs.declared.outline.FeatureRow.{FeatureRow}
+use Rattle.krates_drawing.specs.declared.outline.Outline.{Outline}
+use Rattle.krates_drawing.specs.declared.crate_record.CrateRecord.{CrateRecord}
 use Rattle.krates_document.proofs.DeclaredOnce.{declared_stands}
 use Rattle.krates_drawing.proofs.ById.{zip_by}
 use Rattle.krates_drawing.proofs.Derivations.{child_kept, crate_of_feature, kept_stands}
@@ -46,31 +46,31 @@ use Rattle.krates_rules.proofs.OnlyOne.{one_package}
 -- ---- what is gathered
 
 -- what is put beside the crates, edges and features of a selection
-pub record AreGathered (r : Resolved) (s : SettingModel) (x : Selection) (told : List Told) (ns : List ℕ) (gs : List (Vec (String Global))) (ms : List (Vec Meaning)) : Type 0 where
-  pub each : AllZip (IsToldOf r) x.krates.items told
-  pub counts : ns ≡ map count_in told
-  pub givens : map texts_view gs ≡ map (given_in told) x.edges.items
-  pub names : AllZip (MeaningsTold r s.all_named told) x.features.items (map meanings_view ms)
+pub record AreGathered (r : Resolved) (s : SettingModel) (x : Selection) (records : List CrateRecord) (ns : List ℕ) (gs : List (Vec (String Global))) (ms : List (Vec Meaning)) : Type 0 where
+  pub each : AllZip (IsRecordOf r) x.krates.items records
+  pub counts : ns ≡ map count_in records
+  pub givens : map texts_view gs ≡ map (given_in records) x.edges.items
+  pub names : AllZip (MeaningsRecorded r s.all_named records) x.features.items (map meanings_view ms)
 
--- the sheet has each item of the selection with what is beside it
-pub record IsMadeOf (x : Selection) (ns : List ℕ) (gs : List (Vec (String Global))) (ms : List (Vec Meaning)) (t : Sheet) : Type 0 where
+-- the outline has each item of the selection with what is beside it
+pub record IsMadeOf (x : Selection) (ns : List ℕ) (gs : List (Vec (String Global))) (ms : List (Vec Meaning)) (t : Outline) : Type 0 where
   pub krates : t.krates.items ≡ map (λ pair. record { id = pair.0; declared = pair.1 }) (zip x.krates.items ns)
   pub links : t.links.items ≡ map (λ pair. record { edge = pair.0; given = pair.1 }) (zip x.edges.items gs)
   pub features : t.features.items ≡ map (λ pair. record { feature = pair.0; meanings = pair.1 }) (zip x.features.items ms)
   pub toggled : t.toggled ≡ x.toggled
 
 -- the count beside a crate
-record CountTold (r : Resolved) (i : Identity) (n : ℕ) : Type 0 where
-  told : Told
-  is : IsToldOf r i told
-  count : n ≡ count_in told
+record CountRecorded (r : Resolved) (i : Identity) (n : ℕ) : Type 0 where
+  found : CrateRecord
+  is : IsRecordOf r i found
+  count : n ≡ count_in found
 
 -- item by item
-counts_told : (r : Resolved) (kids : List Identity) (told : List Told) → AllZip (IsToldOf r) kids told → AllZip (CountTold r) kids (map count_in told)
-counts_told r [] [] z = tt
-counts_told r [] (t ∷ ts) z = absurd z
-counts_told r (i ∷ is) [] z = absurd z
-counts_told r (i ∷ is) (t ∷ ts) z = (record { told = t; is = z.0; count = refl }, counts_told r is ts z.1)
+counts_recorded : (r : Resolved) (kids : List Identity) (records : List CrateRecord) → AllZip (IsRecordOf r) kids records → AllZip (CountRecorded r) kids (map count_in records)
+counts_recorded r [] [] z = tt
+counts_recorded r [] (t ∷ ts) z = absurd z
+counts_recorded r (i ∷ is) [] z = absurd z
+counts_recorded r (i ∷ is) (t ∷ ts) z = (record { found = t; is = z.0; count = refl }, counts_recorded r is ts z.1)
 
 zip_unmapped : {A B C : Type 0} (R : A → C → Type 0) (g : B → C) (xs : List A) (ys : List B) → AllZip R xs (map g ys) → AllZip (λ x y. R x (g y)) xs ys
 zip_unmapped R g [] [] z = tt
@@ -80,19 +80,19 @@ zip_unmapped R g (x ∷ xs) (y ∷ ys) z = (z.0, zip_unmapped R g xs ys z.1)
 
 -- ---- what the document has for the crate of a number
 
-record ToldAt (r : Resolved) (kids : List Identity) (told : List Told) (n : ℕ) : Type 0 where
-  here : Told
-  at : slice_get told n ≡ Some here
+record RecordAt (r : Resolved) (kids : List Identity) (records : List CrateRecord) (n : ℕ) : Type 0 where
+  here : CrateRecord
+  at : slice_get records n ≡ Some here
   krate : id_of here.krate.now ≡ id_at kids n
   pkg : TellsPackage r (id_at kids n) here.pkg
   node : TellsNode r (id_at kids n) here.node
 
-told_at : (r : Resolved) (kids : List Identity) (told : List Told) (n : ℕ) → AllZip (IsToldOf r) kids told → n < length kids → ToldAt r kids told n
-told_at r [] ts n z lt = absurd (omega (arith, lt))
-told_at r (i ∷ is) [] n z lt = absurd z
-told_at r (i ∷ is) (t ∷ ts) zero z lt = record { here = t; at = refl; krate = ap id_of z.0.krate; pkg = z.0.pkg; node = z.0.node }
-told_at r (i ∷ is) (t ∷ ts) (suc n) z lt =
-    let w = told_at r is ts n z.1 (omega (arith, lt)) in
+record_at : (r : Resolved) (kids : List Identity) (records : List CrateRecord) (n : ℕ) → AllZip (IsRecordOf r) kids records → n < length kids → RecordAt r kids records n
+record_at r [] ts n z lt = absurd (omega (arith, lt))
+record_at r (i ∷ is) [] n z lt = absurd z
+record_at r (i ∷ is) (t ∷ ts) zero z lt = record { here = t; at = refl; krate = ap id_of z.0.krate; pkg = z.0.pkg; node = z.0.node }
+record_at r (i ∷ is) (t ∷ ts) (suc n) z lt =
+    let w = record_at r is ts n z.1 (omega (arith, lt)) in
     record { here = w.here; at = w.at; krate = w.krate; pkg = w.pkg; node = w.node }
 
 some_package : (r : Resolved) (i : Id) (o : Option PackageModel) → IsPackageOf r i o → (NoPackage r i → ⊥) → (p : PackageModel) × (o ≡ Some p) × HasPackage r i p
@@ -105,9 +105,9 @@ some_node r i (Some n) h some = (n, refl, h)
 
 -- ---- one element
 
-krate_told : (r : Resolved) (i : Identity) (n : ℕ) → (NoPackage r (id_of i) → ⊥) → CountTold r i n → IsKrate r i (krate_view (record { id = i; declared = n }))
-krate_told r i n some w =
-    let p = some_package r (id_of i) (package_in w.told) w.is.pkg some in
+krate_recorded : (r : Resolved) (i : Identity) (n : ℕ) → (NoPackage r (id_of i) → ⊥) → CountRecorded r i n → IsCrateRow r i (crate_row_view (record { id = i; declared = n }))
+krate_recorded r i n some w =
+    let p = some_package r (id_of i) (package_in w.found) w.is.pkg some in
     record { id = refl; pkg = p.0; has_package = p.2; declared = w.count ∙ ap declared_in p.1 }
 
 -- the declared dependency of an edge stands at its place in the list of the parent's package
@@ -119,17 +119,17 @@ at_place r s kids e w p none h =
     subst (λ (z : PackageModel). slice_get z.dependencies e.declared ≡ Some w.dependency) same
     (declared_stands a.pkg.dependencies (dependency_entry (id_at kids e.child) a.dep) (kind_info_of (edge_view kids e)) e.declared w.dependency a.declared)
 
-link_told : (r : Resolved) (s : SettingModel) (kids : List Identity) (told : List Told) (e : KeptEdge) (v : Vec (String Global)) → NoneDoubled r.metadata r.graph → AllZip (IsToldOf r) kids told → HasEnds (length kids) e → IsPlaced r s kids e
-    → (NoNode r (id_at kids e.child) → ⊥) → given_in told e ≡ texts_view v → IsLink r s kids e (link_view kids (record { edge = e; given = v }))
-link_told r s kids told e v none z ends w some is =
+link_recorded : (r : Resolved) (s : SettingModel) (kids : List Identity) (records : List CrateRecord) (e : KeptEdge) (v : Vec (String Global)) → NoneDoubled r.metadata r.graph → AllZip (IsRecordOf r) kids records → HasEnds (length kids) e → IsPlaced r s kids e
+    → (NoNode r (id_at kids e.child) → ⊥) → given_in records e ≡ texts_view v → IsEdgeRow r s kids e (edge_row_view kids (record { edge = e; given = v }))
+link_recorded r s kids records e v none z ends w some is =
     let a = w.declared.declares in
-    let parent = told_at r kids told e.parent z ends.parent in
-    let child = told_at r kids told e.child z ends.child in
+    let parent = record_at r kids records e.parent z ends.parent in
+    let child = record_at r kids records e.child z ends.child in
     let p = some_package r (id_at kids e.parent) (package_in parent.here) parent.pkg (λ gone. gone a.pkg a.has_package) in
     let n = some_node r (id_at kids e.child) (node_in child.here) child.node some in
-    let declared : dependency_in (package_at told e.parent) e.declared ≡ Some w.dependency =
+    let declared : dependency_in (package_at records e.parent) e.declared ≡ Some w.dependency =
     ap (λ o. dependency_in (of_crate package_in o) e.declared) parent.at ∙ (ap (λ o. dependency_in o e.declared) p.1 ∙ at_place r s kids e w p.0 none p.2) in
-    let node : node_at told e.child ≡ Some n.0 = ap (of_crate node_in) child.at ∙ n.1 in
+    let node : node_at records e.child ≡ Some n.0 = ap (of_crate node_in) child.at ∙ n.1 in
     record {
       edge = refl;
       place = refl;
@@ -137,13 +137,13 @@ link_told r s kids told e v none z ends w some is =
       declared = w.declared;
       node = n.0;
       has_node = n.2;
-      given = sym is ∙ (ap (λ o. listed_of o (node_at told e.child)) declared ∙ ap (listed_of (Some w.dependency)) node);
+      given = sym is ∙ (ap (λ o. listed_of o (node_at records e.child)) declared ∙ ap (listed_of (Some w.dependency)) node);
     }
 
-named_told : (r : Resolved) (all : Bool) (kids : List Identity) (told : List Told) (f : EnabledFeature) (v : Vec Meaning) → AllZip (IsToldOf r) kids told → HasHome (length kids) f → (NoPackage r (id_at kids f.krate) → ⊥)
-    → MeaningsTold r all told f (meanings_view v) → IsNamed r all kids f (named_view kids (record { feature = f; meanings = v }))
-named_told r all kids told f v z home some h =
-    let here = told_at r kids told f.krate z home in
+named_recorded : (r : Resolved) (all : Bool) (kids : List Identity) (records : List CrateRecord) (f : EnabledFeature) (v : Vec Meaning) → AllZip (IsRecordOf r) kids records → HasHome (length kids) f → (NoPackage r (id_at kids f.krate) → ⊥)
+    → MeaningsRecorded r all records f (meanings_view v) → IsFeatureRow r all kids f (feature_row_view kids (record { feature = f; meanings = v }))
+named_recorded r all kids records f v z home some h =
+    let here = record_at r kids records f.krate z home in
     let i = id_at kids f.krate in
     let p = some_package r i (package_in here.here) here.pkg some in
     let name = text_view f.name in
@@ -171,7 +171,7 @@ has_node : (r : Resolved) (s : SettingModel) (i : Id) → Derivable (questions r
 unfolding questions
 has_node r s i d none = let w = kept_stands (questions r s) i d in none w.node w.has_node
 
--- ---- the sheet
+-- ---- the outline
 
 -- the first parts of the pairs that are made are the first list
 first_parts : {A C D : Type 0} (R : A → C → Type 0) (make : A → C → D) (back : D → A) (xs : List A) (zs : List C) → ((x : A) (z : C) → back (make x z) ≡ x) → AllZip R xs zs
@@ -186,79 +186,79 @@ first_parts R make back (x ∷ xs) (z ∷ zs) same h =
 all_under : {A B : Type 0} (f : A → B) (P : B → Type 0) (xs : List A) → All P (map f xs) → All (λ x. P (f x)) xs
 all_under f P xs h = All-from_recursion (λ x. P (f x)) xs (each (λ x. P (f x)) xs (λ x m. All-contains P (map f xs) (f x) h (contains_of (map f xs) (f x) (member_map f xs x m))))
 
-abbrev make_krate : Identity → ℕ → Krate
+abbrev make_krate : Identity → ℕ → CrateRow
 make_krate i n = record { id = i; declared = n }
 
-abbrev make_link : KeptEdge → Vec (String Global) → Link
+abbrev make_link : KeptEdge → Vec (String Global) → EdgeRow
 make_link e v = record { edge = e; given = v }
 
-abbrev make_named : EnabledFeature → Vec Meaning → Named
+abbrev make_named : EnabledFeature → Vec Meaning → FeatureRow
 make_named f v = record { feature = f; meanings = v }
 
-module _ (r : Resolved) (s : SettingModel) (x : Selection) (told : List Told) (ns : List ℕ) (gs : List (Vec (String Global))) (ms : List (Vec Meaning)) (t : Sheet) (h : IsSelection r s x) (w : AreGathered r s x told ns gs ms) (m : IsMadeOf x ns gs ms t) where
-  counts : AllZip (CountTold r) x.krates.items ns
-  counts = subst (AllZip (CountTold r) x.krates.items) (sym w.counts) (counts_told r x.krates.items told w.each)
+module _ (r : Resolved) (s : SettingModel) (x : Selection) (records : List CrateRecord) (ns : List ℕ) (gs : List (Vec (String Global))) (ms : List (Vec Meaning)) (t : Outline) (h : IsSelection r s x) (w : AreGathered r s x records ns gs ms) (m : IsMadeOf x ns gs ms t) where
+  counts : AllZip (CountRecorded r) x.krates.items ns
+  counts = subst (AllZip (CountRecorded r) x.krates.items) (sym w.counts) (counts_recorded r x.krates.items records w.each)
 
-  givens : AllZip (λ e v. given_in told e ≡ texts_view v) x.edges.items gs
-  givens = zip_by (given_in told) texts_view x.edges.items gs (sym w.givens)
+  givens : AllZip (λ e v. given_in records e ≡ texts_view v) x.edges.items gs
+  givens = zip_by (given_in records) texts_view x.edges.items gs (sym w.givens)
 
-  names : AllZip (λ f v. MeaningsTold r s.all_named told f (meanings_view v)) x.features.items ms
-  names = zip_unmapped (MeaningsTold r s.all_named told) meanings_view x.features.items ms w.names
+  names : AllZip (λ f v. MeaningsRecorded r s.all_named records f (meanings_view v)) x.features.items ms
+  names = zip_unmapped (MeaningsRecorded r s.all_named records) meanings_view x.features.items ms w.names
 
   same_kids : kids_in t ≡ x.krates.items
-  same_kids = ap (map (λ (k : Krate). k.id)) m.krates ∙ first_parts (CountTold r) make_krate (λ (k : Krate). k.id) x.krates.items ns (λ i n. refl) counts
+  same_kids = ap (map (λ (k : CrateRow). k.id)) m.krates ∙ first_parts (CountRecorded r) make_krate (λ (k : CrateRow). k.id) x.krates.items ns (λ i n. refl) counts
 
-  same_edges : map (λ (l : Link). l.edge) t.links.items ≡ x.edges.items
-  same_edges = ap (map (λ (l : Link). l.edge)) m.links ∙ first_parts (λ e v. given_in told e ≡ texts_view v) make_link (λ (l : Link). l.edge) x.edges.items gs (λ e v. refl) givens
+  same_edges : map (λ (l : EdgeRow). l.edge) t.links.items ≡ x.edges.items
+  same_edges = ap (map (λ (l : EdgeRow). l.edge)) m.links ∙ first_parts (λ e v. given_in records e ≡ texts_view v) make_link (λ (l : EdgeRow). l.edge) x.edges.items gs (λ e v. refl) givens
 
-  same_features : map (λ (n : Named). n.feature) t.features.items ≡ x.features.items
-  same_features = ap (map (λ (n : Named). n.feature)) m.features ∙ first_parts (λ f v. MeaningsTold r s.all_named told f (meanings_view v)) make_named (λ (n : Named). n.feature) x.features.items ms (λ f v. refl) names
+  same_features : map (λ (n : FeatureRow). n.feature) t.features.items ≡ x.features.items
+  same_features = ap (map (λ (n : FeatureRow). n.feature)) m.features ∙ first_parts (λ f v. MeaningsRecorded r s.all_named records f (meanings_view v)) make_named (λ (n : FeatureRow). n.feature) x.features.items ms (λ f v. refl) names
 
   as_many : length x.krates.items ≡ length t.krates.items
-  as_many = sym (ap length same_kids) ∙ length-map t.krates.items (λ (k : Krate). k.id)
+  as_many = sym (ap length same_kids) ∙ length-map t.krates.items (λ (k : CrateRow). k.id)
 
   -- the lists with what is beside them
-  krates_made : AllZip (IsKrate r) x.krates.items (map krate_view (map (λ pair. make_krate pair.0 pair.1) (zip x.krates.items ns)))
-  krates_made = made_zip (CountTold r) (IsKrate r) make_krate krate_view x.krates.items ns
-      (λ i n at c. krate_told r i n (has_package r s (id_of i) ((h.facts (crate_fact i)).1 (crate_there x i at))) c) counts
+  krates_made : AllZip (IsCrateRow r) x.krates.items (map crate_row_view (map (λ pair. make_krate pair.0 pair.1) (zip x.krates.items ns)))
+  krates_made = made_zip (CountRecorded r) (IsCrateRow r) make_krate crate_row_view x.krates.items ns
+      (λ i n at c. krate_recorded r i n (has_package r s (id_of i) ((h.facts (crate_fact i)).1 (crate_there x i at))) c) counts
 
-  links_made : NoneDoubled r.metadata r.graph → AllZip (IsLink r s x.krates.items) x.edges.items (map (link_view x.krates.items) (map (λ pair. make_link pair.0 pair.1) (zip x.edges.items gs)))
-  links_made none = made_zip (λ e v. given_in told e ≡ texts_view v) (IsLink r s x.krates.items) make_link (link_view x.krates.items) x.edges.items gs
+  links_made : NoneDoubled r.metadata r.graph → AllZip (IsEdgeRow r s x.krates.items) x.edges.items (map (edge_row_view x.krates.items) (map (λ pair. make_link pair.0 pair.1) (zip x.edges.items gs)))
+  links_made none = made_zip (λ e v. given_in records e ≡ texts_view v) (IsEdgeRow r s x.krates.items) make_link (edge_row_view x.krates.items) x.edges.items gs
       (λ e v at is. (
       let among = contains_of x.edges.items e at in
       let kept = (h.facts (edge_fact x.krates.items e)).1 (edge_there x e at) in
-      link_told r s x.krates.items told e v none w.each (All-contains (HasEnds (length x.krates.items)) x.edges.items e h.ends among) (All-contains (IsPlaced r s x.krates.items) x.edges.items e h.placed among)
+      link_recorded r s x.krates.items records e v none w.each (All-contains (HasEnds (length x.krates.items)) x.edges.items e h.ends among) (All-contains (IsPlaced r s x.krates.items) x.edges.items e h.placed among)
       (has_node r s (id_at x.krates.items e.child) (child_kept (questions r s) (edge_view x.krates.items e) kept)) is)) givens
 
-  features_made : AllZip (IsNamed r s.all_named x.krates.items) x.features.items (map (named_view x.krates.items) (map (λ pair. make_named pair.0 pair.1) (zip x.features.items ms)))
-  features_made = made_zip (λ f v. MeaningsTold r s.all_named told f (meanings_view v)) (IsNamed r s.all_named x.krates.items) make_named (named_view x.krates.items) x.features.items ms
+  features_made : AllZip (IsFeatureRow r s.all_named x.krates.items) x.features.items (map (feature_row_view x.krates.items) (map (λ pair. make_named pair.0 pair.1) (zip x.features.items ms)))
+  features_made = made_zip (λ f v. MeaningsRecorded r s.all_named records f (meanings_view v)) (IsFeatureRow r s.all_named x.krates.items) make_named (feature_row_view x.krates.items) x.features.items ms
       (λ f v at is. (
       let home = All-contains (HasHome (length x.krates.items)) x.features.items f h.homes (contains_of x.features.items f at) in
       let i = id_at x.krates.items f.krate in
       let kept = crate_of_feature (questions r s) i (text_view f.name) ((h.facts (feature_fact x.krates.items f)).1 (feature_there x f at)) in
-      named_told r s.all_named x.krates.items told f v w.each home (has_package r s i kept) is)) names
+      named_recorded r s.all_named x.krates.items records f v w.each home (has_package r s i kept) is)) names
 
-  pub gathered : NoneDoubled r.metadata r.graph → IsSheet r s x (sheet_view t)
+  pub gathered : NoneDoubled r.metadata r.graph → IsOutline r s x (outline_view t)
   gathered none = record {
-    krates = subst (λ zs. AllZip (IsKrate r) x.krates.items (map krate_view zs)) (sym m.krates) krates_made;
-    links = subst (λ ks. AllZip (IsLink r s x.krates.items) x.edges.items (map (link_view ks) t.links.items)) (sym same_kids)
-        (subst (λ zs. AllZip (IsLink r s x.krates.items) x.edges.items (map (link_view x.krates.items) zs)) (sym m.links) (links_made none));
-    features = subst (λ ks. AllZip (IsNamed r s.all_named x.krates.items) x.features.items (map (named_view ks) t.features.items)) (sym same_kids)
-        (subst (λ zs. AllZip (IsNamed r s.all_named x.krates.items) x.features.items (map (named_view x.krates.items) zs)) (sym m.features) features_made);
+    krates = subst (λ zs. AllZip (IsCrateRow r) x.krates.items (map crate_row_view zs)) (sym m.krates) krates_made;
+    links = subst (λ ks. AllZip (IsEdgeRow r s x.krates.items) x.edges.items (map (edge_row_view ks) t.links.items)) (sym same_kids)
+        (subst (λ zs. AllZip (IsEdgeRow r s x.krates.items) x.edges.items (map (edge_row_view x.krates.items) zs)) (sym m.links) (links_made none));
+    features = subst (λ ks. AllZip (IsFeatureRow r s.all_named x.krates.items) x.features.items (map (feature_row_view ks) t.features.items)) (sym same_kids)
+        (subst (λ zs. AllZip (IsFeatureRow r s.all_named x.krates.items) x.features.items (map (feature_row_view x.krates.items) zs)) (sym m.features) features_made);
     toggled = ap (λ v. map (toggle_of (kids_in t)) v.items) m.toggled ∙ ap (λ ks. map (toggle_of ks) x.toggled.items) same_kids;
   }
 
-  -- ---- the order of the sheet
+  -- ---- the order of the outline
 
   pub ordered : IsOrdered t
   ordered = record {
     krates = subst (IsStrictlySortedBy id_cmp) (sym same_kids) h.krates;
     links = subst (IsStrictlySortedBy place_cmp) (sym same_edges) h.edges;
-    ends = subst (λ n. All (λ (l : Link). HasEnds n l.edge) t.links.items) as_many
-        (all_under (λ (l : Link). l.edge) (HasEnds (length x.krates.items)) t.links.items (subst (All (HasEnds (length x.krates.items))) (sym same_edges) h.ends));
+    ends = subst (λ n. All (λ (l : EdgeRow). HasEnds n l.edge) t.links.items) as_many
+        (all_under (λ (l : EdgeRow). l.edge) (HasEnds (length x.krates.items)) t.links.items (subst (All (HasEnds (length x.krates.items))) (sym same_edges) h.ends));
     features = subst (IsStrictlySortedBy feature_cmp) (sym same_features) h.features;
-    homes = subst (λ k. All (λ (n : Named). HasHome k n.feature) t.features.items) as_many
-        (all_under (λ (n : Named). n.feature) (HasHome (length x.krates.items)) t.features.items (subst (All (HasHome (length x.krates.items))) (sym same_features) h.homes));
+    homes = subst (λ k. All (λ (n : FeatureRow). HasHome k n.feature) t.features.items) as_many
+        (all_under (λ (n : FeatureRow). n.feature) (HasHome (length x.krates.items)) t.features.items (subst (All (HasHome (length x.krates.items))) (sym same_features) h.homes));
     toggled = subst (λ v. IsStrictlySortedBy toggled_cmp v.items) (sym m.toggled) h.toggled;
     toggled_crates = subst (λ n. All (HasCrates n) t.toggled.items) as_many (subst (λ v. All (HasCrates (length x.krates.items)) v.items) (sym m.toggled) h.toggled_crates);
   }

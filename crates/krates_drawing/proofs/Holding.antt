@@ -1,4 +1,4 @@
--- What the lists of a sheet hold, by derivations.
+-- What the lists of an outline hold, by derivations.
 use Rattle.std.proofs.Common.{◌≡◌, inl, inr, List, length, map, Contains, sym, ap, ◌∙◌, subst}
 use Rattle.krates_cm.specs.Document.{Text, PackageModel, text_view}
 use Rattle.krates_ids.specs.Identity.{Identity}
@@ -13,51 +13,51 @@ use Rattle.krates_selection.specs.declared.selection.EnabledFeature.{EnabledFeat
 use Rattle.krates_selection.specs.declared.selection.KeptEdge.{KeptEdge}
 use Rattle.krates_selection.specs.declared.selection.Selection.{Selection}
 use Rattle.krates_selection.specs.declared.selection.ToggledFeature.{ToggledFeature}
-use Rattle.krates_drawing.specs.Sheet.{Krate, IsKrate, Link, IsLink, Named, IsNamed, Toggle, toggle_of, Sheet, IsSheet}
+use Rattle.krates_drawing.specs.Outline.{CrateRow, IsCrateRow, EdgeRow, IsEdgeRow, FeatureRow, IsFeatureRow, Toggle, toggle_of, Outline, IsOutline}
 use Rattle.krates_rules.proofs.Members.{Member, member_of, contains_of, member_append, member_left, member_right, mapped_of, member_map, Partner, partner_of, swapped}
 use Rattle.krates_drawing.proofs.NodeNumbers.{HasCrate, HasFeature}
 
 -- the link of a kept edge
-pub record LinkOf (t : Sheet) (e : Edge) : Type 0 where
-  pub link : Link
+pub record LinkOf (t : Outline) (e : Edge) : Type 0 where
+  pub link : EdgeRow
   pub member : Member t.links link
   pub is : link.edge ≡ e
 
--- a toggled feature of the sheet
-pub record ToggleOf (t : Sheet) (p q : Id) (f : Text) : Type 0 where
+-- a toggled feature of the outline
+pub record ToggleOf (t : Outline) (p q : Id) (f : Text) : Type 0 where
   pub toggle : Toggle
   pub member : Member t.toggled toggle
   pub is : toggle ≡ record { by = p; krate = q; name = f }
 
 -- the kept edge of a link
-pub record EdgeOf (r : Resolved) (s : SettingModel) (l : Link) : Type 0 where
+pub record EdgeOf (r : Resolved) (s : SettingModel) (l : EdgeRow) : Type 0 where
   pub kids : List Identity
   pub edge : KeptEdge
-  pub is_link : IsLink r s kids edge l
+  pub is_link : IsEdgeRow r s kids edge l
 
 -- the enabled feature of a named one
-pub record FeatureOfSheet (r : Resolved) (s : SettingModel) (n : Named) : Type 0 where
+pub record FeatureOfOutline (r : Resolved) (s : SettingModel) (n : FeatureRow) : Type 0 where
   pub kids : List Identity
   pub feature : EnabledFeature
-  pub is_named : IsNamed r s.all_named kids feature n
+  pub is_named : IsFeatureRow r s.all_named kids feature n
 
 -- the number of declared dependencies of a crate
-pub record CountOf (r : Resolved) (k : Krate) : Type 0 where
+pub record CountOf (r : Resolved) (k : CrateRow) : Type 0 where
   pub pkg : PackageModel
   pub has_package : HasPackage r k.id pkg
   pub declared : k.declared ≡ length pkg.dependencies
 
 -- the lists hold exactly what is derivable
-pub record Holds (r : Resolved) (s : SettingModel) (t : Sheet) : Type 0 where
+pub record Holds (r : Resolved) (s : SettingModel) (t : Outline) : Type 0 where
   pub crate_in : (p : Id) → Derivable (questions r s) (Crate p) → HasCrate t p
-  pub crate_of : (k : Krate) → Member t.krates k → Derivable (questions r s) (Crate k.id)
-  pub count_of : (k : Krate) → Member t.krates k → CountOf r k
+  pub crate_of : (k : CrateRow) → Member t.krates k → Derivable (questions r s) (Crate k.id)
+  pub count_of : (k : CrateRow) → Member t.krates k → CountOf r k
   pub link_in : (e : Edge) → Derivable (questions r s) (Kept e) → LinkOf t e
-  pub link_of : (l : Link) → Member t.links l → Derivable (questions r s) (Kept l.edge)
-  pub edge_of : (l : Link) → Member t.links l → EdgeOf r s l
+  pub link_of : (l : EdgeRow) → Member t.links l → Derivable (questions r s) (Kept l.edge)
+  pub edge_of : (l : EdgeRow) → Member t.links l → EdgeOf r s l
   pub feature_in : (p : Id) (f : Text) → Derivable (questions r s) (Feature p f) → HasFeature t p f
-  pub feature_of : (n : Named) → Member t.features n → Derivable (questions r s) (Feature n.krate n.name)
-  pub named_of : (n : Named) → Member t.features n → FeatureOfSheet r s n
+  pub feature_of : (n : FeatureRow) → Member t.features n → Derivable (questions r s) (Feature n.krate n.name)
+  pub named_of : (n : FeatureRow) → Member t.features n → FeatureOfOutline r s n
   pub toggle_in : (p q : Id) (f : Text) → Derivable (questions r s) (Toggled p q f) → ToggleOf t p q f
   pub toggle_of : (g : Toggle) → Member t.toggled g → Derivable (questions r s) (Toggled g.by g.krate g.name)
   pub none_lost : (c : Cause) → Derivable (questions r s) (Lost c) → ⊥
@@ -136,22 +136,22 @@ none_lost_from x c (from_toggled a m e) = cc e
 pub same_toggle : (i p j q : Id) (f g : Text) → i ≡ p → j ≡ q → f ≡ g → (let a : Toggle = record { by = i; krate = j; name = f } in a) ≡ record { by = p; krate = q; name = g }
 same_toggle i p j q f g a b c = ap (λ (z : Id). record { by = z; krate = j; name = f }) a ∙ ap (λ (z : Id). record { by = p; krate = z; name = f }) b ∙ ap (λ (z : Text). record { by = p; krate = q; name = z }) c
 
--- ---- the sheet
+-- ---- the outline
 
-krate_of : (r : Resolved) (s : SettingModel) (x : Selection) (t : Sheet) (k : Krate) → IsSheet r s x t → Member t.krates k → Partner (λ k i. IsKrate r i k) k x.krates.items
-krate_of r s x t k w m = partner_of (λ k i. IsKrate r i k) t.krates x.krates.items k (swapped (IsKrate r) x.krates.items t.krates w.krates) m
+krate_of : (r : Resolved) (s : SettingModel) (x : Selection) (t : Outline) (k : CrateRow) → IsOutline r s x t → Member t.krates k → Partner (λ k i. IsCrateRow r i k) k x.krates.items
+krate_of r s x t k w m = partner_of (λ k i. IsCrateRow r i k) t.krates x.krates.items k (swapped (IsCrateRow r) x.krates.items t.krates w.krates) m
 
-edge_of : (r : Resolved) (s : SettingModel) (x : Selection) (t : Sheet) (l : Link) → IsSheet r s x t → Member t.links l → Partner (λ l e. IsLink r s x.krates.items e l) l x.edges.items
-edge_of r s x t l w m = partner_of (λ l e. IsLink r s x.krates.items e l) t.links x.edges.items l (swapped (IsLink r s x.krates.items) x.edges.items t.links w.links) m
+edge_of : (r : Resolved) (s : SettingModel) (x : Selection) (t : Outline) (l : EdgeRow) → IsOutline r s x t → Member t.links l → Partner (λ l e. IsEdgeRow r s x.krates.items e l) l x.edges.items
+edge_of r s x t l w m = partner_of (λ l e. IsEdgeRow r s x.krates.items e l) t.links x.edges.items l (swapped (IsEdgeRow r s x.krates.items) x.edges.items t.links w.links) m
 
-enabled_of : (r : Resolved) (s : SettingModel) (x : Selection) (t : Sheet) (n : Named) → IsSheet r s x t → Member t.features n → Partner (λ n f. IsNamed r s.all_named x.krates.items f n) n x.features.items
-enabled_of r s x t n w m = partner_of (λ n f. IsNamed r s.all_named x.krates.items f n) t.features x.features.items n (swapped (IsNamed r s.all_named x.krates.items) x.features.items t.features w.features) m
+enabled_of : (r : Resolved) (s : SettingModel) (x : Selection) (t : Outline) (n : FeatureRow) → IsOutline r s x t → Member t.features n → Partner (λ n f. IsFeatureRow r s.all_named x.krates.items f n) n x.features.items
+enabled_of r s x t n w m = partner_of (λ n f. IsFeatureRow r s.all_named x.krates.items f n) t.features x.features.items n (swapped (IsFeatureRow r s.all_named x.krates.items) x.features.items t.features w.features) m
 
-pub holds : (r : Resolved) (s : SettingModel) (x : Selection) (t : Sheet) → IsSelection r s x → IsSheet r s x t → Holds r s t
+pub holds : (r : Resolved) (s : SettingModel) (x : Selection) (t : Outline) → IsSelection r s x → IsOutline r s x t → Holds r s t
 holds r s x t h w = record {
   crate_in = λ p d.
       (let a = crate_from x p (from_of x (Crate p) ((h.facts (Crate p)).0 d)) in
-      let k = partner_of (IsKrate r) x.krates.items t.krates a.0 w.krates a.1 in
+      let k = partner_of (IsCrateRow r) x.krates.items t.krates a.0 w.krates a.1 in
       record { krate = k.partner; member = k.member; id = k.related.id ∙ a.2 });
   crate_of = λ k m.
       (let a = krate_of r s x t k w m in
@@ -159,7 +159,7 @@ holds r s x t h w = record {
   count_of = λ k m. (let a = krate_of r s x t k w m in record { pkg = a.related.pkg; has_package = a.related.has_package; declared = a.related.declared });
   link_in = λ e d.
       (let a = link_from x e (from_of x (Kept e) ((h.facts (Kept e)).0 d)) in
-      let k = partner_of (IsLink r s x.krates.items) x.edges.items t.links a.0 w.links a.1 in
+      let k = partner_of (IsEdgeRow r s x.krates.items) x.edges.items t.links a.0 w.links a.1 in
       record { link = k.partner; member = k.member; is = k.related.edge ∙ a.2 });
   link_of = λ l m.
       (let a = edge_of r s x t l w m in
@@ -167,7 +167,7 @@ holds r s x t h w = record {
   edge_of = λ l m. (let a = edge_of r s x t l w m in record { kids = x.krates.items; edge = a.partner; is_link = a.related });
   feature_in = λ p f d.
       (let a = feature_from x p f (from_of x (Feature p f) ((h.facts (Feature p f)).0 d)) in
-      let k = partner_of (IsNamed r s.all_named x.krates.items) x.features.items t.features a.0 w.features a.1 in
+      let k = partner_of (IsFeatureRow r s.all_named x.krates.items) x.features.items t.features a.0 w.features a.1 in
       record { named = k.partner; member = k.member; krate = k.related.krate ∙ a.2; name = k.related.name ∙ a.3 });
   feature_of = λ n m.
       (let a = enabled_of r s x t n w m in

@@ -14,11 +14,11 @@ use Rattle.krates_rules.specs.Setting.{SettingModel}
 use Rattle.krates_rules.specs.declared.kind.DepKind.{DepKind}
 use Rattle.krates_rules.specs.declared.kind.IgnoredKinds.{IgnoredKinds}
 use Rattle.krates_rules.specs.declared.kind.Scope.TheVariants as scopes
-use Rattle.krates_drawing.specs.Drawing.{End, AtCrate, AtFeature, Tie, Line, line, number, crate_number, lines}
-use Rattle.krates_drawing.specs.Sheet.{Link, Sheet}
+use Rattle.krates_drawing.specs.Drawing.{Endpoint, AtCrate, AtFeature, EdgeModel, PlannedEdge, line, number, crate_number, planned_edges}
+use Rattle.krates_drawing.specs.Outline.{EdgeRow, Outline}
 use Rattle.krates_drawing.specs.Paths.{LeadsWithout, Passes, Reaches, begins, goes_on, IsMemberNumber, IsFiltered}
 use Rattle.krates_drawing.specs.Rebuilding.{HasMemberRoot, EnablesNoFeature, MembersAreRoots, FilteredHoldsRebuild}
-use Rattle.krates_drawing.proofs.Arrows.{IsArrow, dep, dep_feature, toggles, own, names, names_crate, names_feature, KeepsEnds, arrow_in, drawn_of}
+use Rattle.krates_drawing.proofs.DrawnEdges.{IsDrawnEdge, dep, dep_feature, toggles, own, names, names_crate, names_feature, KeepsEnds, edge_in, drawn_of}
 use Rattle.krates_drawing.proofs.Closed.{keeps_ends, given_enabled, ends_stand, toggle_enabled}
 use Rattle.krates_drawing.proofs.Derivations.{one, crate_of_feature, kept_by, needed_by, kept_stands}
 use Rattle.krates_drawing.proofs.Drawn.{drawn_in, has_drawn}
@@ -31,23 +31,23 @@ use Rattle.krates_drawing.proofs.NodeNumbers.{Stands, crate_stands, one_number}
 -- ---- the two builds
 
 -- a selection under the first setting, beside a setting that ignores one more kind
-record Pair (r : Resolved) (s : SettingModel) (g : IgnoredKinds) (k : DepKind) (t : Sheet) : Type 0 where
+record Pair (r : Resolved) (s : SettingModel) (g : IgnoredKinds) (k : DepKind) (t : Outline) : Type 0 where
   more : IgnoresMore s.ignored g k scopes.All
   holds : Holds r s t
   within : (f : Fact) → Derivable (questions r (ignoring s g)) f → Derivable (questions r s) f
 
 -- the node is reached without edges of the kind
-abbrev ReachesEnd : Resolved → DepKind → Sheet → End → Type 0
-ReachesEnd r k t e = Reaches (LeadsWithout k (lines t)) (IsMemberNumber r t) (number t e)
+abbrev ReachesEnd : Resolved → DepKind → Outline → Endpoint → Type 0
+ReachesEnd r k t e = Reaches (LeadsWithout k (planned_edges t)) (IsMemberNumber r t) (number t e)
 
 -- ---- every crate that the second keeps is reached
 
-along : (r : Resolved) (k : DepKind) (t : Sheet) (from to : End) (tie : Tie) → KeepsEnds t → IsArrow t from to tie → Passes k tie → ReachesEnd r k t from → ReachesEnd r k t to
-along r k t from to tie ends arrow passes here =
+along : (r : Resolved) (k : DepKind) (t : Outline) (from to : Endpoint) (tie : EdgeModel) → KeepsEnds t → IsDrawnEdge t from to tie → Passes k tie → ReachesEnd r k t from → ReachesEnd r k t to
+along r k t from to tie ends planned passes here =
     goes_on {n = number t from} {m = number t to} here
-    (record { line = line t from to tie; among = contains_of (lines t) (line t from to tie) (arrow_in t from to tie ends arrow); passes = passes; from = refl; to = refl })
+    (record { line = line t from to tie; among = contains_of (planned_edges t) (line t from to tie) (edge_in t from to tie ends planned); passes = passes; from = refl; to = refl })
 
-child_reached : (r : Resolved) (s : SettingModel) (g : IgnoredKinds) (k : DepKind) (t : Sheet) → Pair r s g k t → (l : Link) → Member t.links l → (kind_of l.edge.kind ≡ k → ⊥)
+child_reached : (r : Resolved) (s : SettingModel) (g : IgnoredKinds) (k : DepKind) (t : Outline) → Pair r s g k t → (l : EdgeRow) → Member t.links l → (kind_of l.edge.kind ≡ k → ⊥)
     → ReachesEnd r k t (AtCrate l.edge.parent) → ReachesEnd r k t (AtCrate l.edge.child)
 child_reached r s g k t w l at other here = by (front_of l.given)
   where
@@ -68,7 +68,7 @@ kept_kind : (r : Resolved) (s : SettingModel) (g : IgnoredKinds) (k : DepKind) (
 unfolding questions
 kept_kind r s g k e more d = other_kind r s g k e more (kept_by (questions r (ignoring s g)) e d).opened.wanted.declared.not_ignored
 
-edge_reached : (r : Resolved) (s : SettingModel) (g : IgnoredKinds) (k : DepKind) (t : Sheet) → Pair r s g k t → (e : Edge) → Derivable (questions r (ignoring s g)) (Kept e)
+edge_reached : (r : Resolved) (s : SettingModel) (g : IgnoredKinds) (k : DepKind) (t : Outline) → Pair r s g k t → (e : Edge) → Derivable (questions r (ignoring s g)) (Kept e)
     → ReachesEnd r k t (AtCrate e.parent) → ReachesEnd r k t (AtCrate e.child)
 edge_reached r s g k t w e d here =
     let l = w.holds.link_in e (w.within (Kept e) d) in
@@ -77,7 +77,7 @@ edge_reached r s g k t w e d here =
     (child_reached r s g k t w l.link l.member (λ same. other (ap (λ (z : Edge). kind_of z.kind) (sym l.is) ∙ same)) (subst (λ (z : Edge). ReachesEnd r k t (AtCrate z.parent)) (sym l.is) here))
 
 -- the crate of a fact is reached
-abbrev ReachedFor : Resolved → DepKind → Sheet → Fact → Type 0
+abbrev ReachedFor : Resolved → DepKind → Outline → Fact → Type 0
 ReachedFor r k t (Crate p) = ReachesEnd r k t (AtCrate p)
 ReachedFor r k t (Feature p f) = ReachesEnd r k t (AtCrate p)
 ReachedFor r k t (Kept e) = ReachesEnd r k t (AtCrate e.child)
@@ -89,7 +89,7 @@ root_member r s p has (of_graph {t} none off is reads) = has t p is reads
 root_member r s p has (of_workspace asks member) = member
 root_member r s p has (of_manifests not member h) = member
 
-root_reached : (r : Resolved) (s : SettingModel) (g : IgnoredKinds) (k : DepKind) (t : Sheet) → Pair r s g k t → HasMemberRoot r → (p : Id) → (questions r (ignoring s g)).Root p
+root_reached : (r : Resolved) (s : SettingModel) (g : IgnoredKinds) (k : DepKind) (t : Outline) → Pair r s g k t → HasMemberRoot r → (p : Id) → (questions r (ignoring s g)).Root p
     → Derivable (questions r (ignoring s g)) (Crate p) → ReachesEnd r k t (AtCrate p)
 unfolding questions
 root_reached r s g k t w has p root d = begins {n = crate_number t p} (record {
@@ -99,7 +99,7 @@ root_reached r s g k t w has p root d = begins {n = crate_number t p} (record {
   number = refl;
 })
 
-reached_by : (r : Resolved) (s : SettingModel) (g : IgnoredKinds) (k : DepKind) (t : Sheet) → Pair r s g k t → HasMemberRoot r → (n : ℕ) (ps : List Fact) (f : Fact) → Rule (questions r (ignoring s g)) n ps f
+reached_by : (r : Resolved) (s : SettingModel) (g : IgnoredKinds) (k : DepKind) (t : Outline) → Pair r s g k t → HasMemberRoot r → (n : ℕ) (ps : List Fact) (f : Fact) → Rule (questions r (ignoring s g)) n ps f
     → Derivable (questions r (ignoring s g)) f → ((h : Fact) → Among h ps → ReachedFor r k t h) → ReachedFor r k t f
 reached_by r s g k t w has _ _ _ (rules.root_crate {p} root stands) d ps = root_reached r s g k t w has p root d
 reached_by r s g k t w has _ _ _ (rules.root_feature {p} {f} root stands lists) d ps = root_reached r s g k t w has p root (crate_of_feature (questions r (ignoring s g)) p f d)
@@ -115,10 +115,10 @@ reached_by r s g k t w has _ _ _ (rules.toggled_weakly {e} {f} {g = h} {c = i} x
 reached_by r s g k t w has _ _ _ (rules.toggled_feature {p} {c = i} {g = h}) d ps = ps (Toggled p i h) (inl refl)
 reached_by r s g k t w has _ _ _ _ d ps = tt
 
-all_reached : (r : Resolved) (s : SettingModel) (g : IgnoredKinds) (k : DepKind) (t : Sheet) → Pair r s g k t → HasMemberRoot r → (f : Fact) → Derivable (questions r (ignoring s g)) f → ReachedFor r k t f
+all_reached : (r : Resolved) (s : SettingModel) (g : IgnoredKinds) (k : DepKind) (t : Outline) → Pair r s g k t → HasMemberRoot r → (f : Fact) → Derivable (questions r (ignoring s g)) f → ReachedFor r k t f
 all_reached r s g k t w has _ (follows {rule} {premises} {f} x ds) = reached_by r s g k t w has rule premises f x (follows x ds) (λ h m. all_reached r s g k t w has h (ds h m))
 
-filtered_in : (r : Resolved) (s : SettingModel) (g : IgnoredKinds) (k : DepKind) (t : Sheet) → Pair r s g k t → HasMemberRoot r → (p : Id) → Derivable (questions r (ignoring s g)) (Crate p) → IsFiltered r t k p
+filtered_in : (r : Resolved) (s : SettingModel) (g : IgnoredKinds) (k : DepKind) (t : Outline) → Pair r s g k t → HasMemberRoot r → (p : Id) → Derivable (questions r (ignoring s g)) (Crate p) → IsFiltered r t k p
 filtered_in r s g k t w has p d = record {
   kept = drawn_in t p (w.holds.crate_in p (w.within (Crate p) d));
   reached = all_reached r s g k t w has (Crate p) d;
@@ -127,11 +127,11 @@ filtered_in r s g k t w has p d = record {
 -- ---- and no other, where no feature is enabled and each member is a root
 
 -- the crate is kept under the second setting, with no feature enabled
-abbrev KeepsEnd : Questions → End → Type 0
+abbrev KeepsEnd : Questions → Endpoint → Type 0
 KeepsEnd q (AtCrate p) = Derivable q (Crate p)
 KeepsEnd q (AtFeature p f) = ⊥
 
-child_kept_too : (r : Resolved) (s : SettingModel) (g : IgnoredKinds) (k : DepKind) (t : Sheet) → Pair r s g k t → EnablesNoFeature (questions r s) → (e : Edge) → Derivable (questions r s) (Kept e) → (kind_of e.kind ≡ k → ⊥)
+child_kept_too : (r : Resolved) (s : SettingModel) (g : IgnoredKinds) (k : DepKind) (t : Outline) → Pair r s g k t → EnablesNoFeature (questions r s) → (e : Edge) → Derivable (questions r s) (Kept e) → (kind_of e.kind ≡ k → ⊥)
     → Derivable (questions r (ignoring s g)) (Crate e.parent) → Derivable (questions r (ignoring s g)) (Crate e.child)
 unfolding questions
 child_kept_too r s g k t w none e d other parent =
@@ -141,24 +141,24 @@ child_kept_too r s g k t w none e d other parent =
     let kept : Derivable q (Kept e) = follows (rules.required {e = e} {d = n.dep} opened n.needed) (one q (Crate e.parent) parent) in
     follows (rules.target {e = e}) (one q (Kept e) kept)
 
-arrow_keeps : (r : Resolved) (s : SettingModel) (g : IgnoredKinds) (k : DepKind) (t : Sheet) → Pair r s g k t → EnablesNoFeature (questions r s) → (from to : End) (tie : Tie) → IsArrow t from to tie → Passes k tie
+edge_keeps : (r : Resolved) (s : SettingModel) (g : IgnoredKinds) (k : DepKind) (t : Outline) → Pair r s g k t → EnablesNoFeature (questions r s) → (from to : Endpoint) (tie : EdgeModel) → IsDrawnEdge t from to tie → Passes k tie
     → KeepsEnd (questions r (ignoring s g)) from → KeepsEnd (questions r (ignoring s g)) to
-arrow_keeps r s g k t w none _ _ _ (dep l at no_given) passes here = child_kept_too r s g k t w none l.edge (w.holds.link_of l at) passes here
-arrow_keeps r s g k t w none _ _ _ (dep_feature l f at gives) passes here = none l.edge.child f (given_enabled r s t l f w.holds at gives)
-arrow_keeps r s g k t w none _ _ _ (toggles x l at kept by theirs) passes here = none x.krate x.name (toggle_enabled (questions r s) x.by x.krate x.name (w.holds.toggle_of x at))
-arrow_keeps r s g k t w none _ _ _ (own n at) passes here = absurd here
-arrow_keeps r s g k t w none _ _ _ (names n f at among) passes here = absurd here
-arrow_keeps r s g k t w none _ _ _ (names_crate n ids l at among means kept e) passes here = absurd here
-arrow_keeps r s g k t w none _ _ _ (names_feature n ids f l at among means kept e) passes here = absurd here
+edge_keeps r s g k t w none _ _ _ (dep l at no_given) passes here = child_kept_too r s g k t w none l.edge (w.holds.link_of l at) passes here
+edge_keeps r s g k t w none _ _ _ (dep_feature l f at gives) passes here = none l.edge.child f (given_enabled r s t l f w.holds at gives)
+edge_keeps r s g k t w none _ _ _ (toggles x l at kept by theirs) passes here = none x.krate x.name (toggle_enabled (questions r s) x.by x.krate x.name (w.holds.toggle_of x at))
+edge_keeps r s g k t w none _ _ _ (own n at) passes here = absurd here
+edge_keeps r s g k t w none _ _ _ (names n f at among) passes here = absurd here
+edge_keeps r s g k t w none _ _ _ (names_crate n ids l at among means kept e) passes here = absurd here
+edge_keeps r s g k t w none _ _ _ (names_feature n ids f l at among means kept e) passes here = absurd here
 
 -- the number of a node that is kept under the second setting
-record KeptNumber (r : Resolved) (s : SettingModel) (g : IgnoredKinds) (t : Sheet) (n : ℕ) : Type 0 where
-  end : End
+record KeptNumber (r : Resolved) (s : SettingModel) (g : IgnoredKinds) (t : Outline) (n : ℕ) : Type 0 where
+  end : Endpoint
   stands : Stands t end
   number_is : number t end ≡ n
   keeps : KeepsEnd (questions r (ignoring s g)) end
 
-start_kept : (r : Resolved) (s : SettingModel) (g : IgnoredKinds) (k : DepKind) (t : Sheet) → Pair r s g k t → MembersAreRoots r s → (n : ℕ) → IsMemberNumber r t n → KeptNumber r s g t n
+start_kept : (r : Resolved) (s : SettingModel) (g : IgnoredKinds) (k : DepKind) (t : Outline) → Pair r s g k t → MembersAreRoots r s → (n : ℕ) → IsMemberNumber r t n → KeptNumber r s g t n
 unfolding questions
 start_kept r s g k t w roots n m =
     let q = questions r (ignoring s g) in
@@ -172,29 +172,29 @@ start_kept r s g k t w roots n m =
       keeps = follows (rules.root_crate {p = m.member} (root_alike r s g m.member (roots m.member m.is_member)) (stands_alike r s g m.member stands)) (λ h x. absurd x);
     }
 
-step_kept : (r : Resolved) (s : SettingModel) (g : IgnoredKinds) (k : DepKind) (t : Sheet) → Pair r s g k t → EnablesNoFeature (questions r s) → (l : Line) → KeptNumber r s g t l.source → Contains (lines t) l → Passes k l.tie
+step_kept : (r : Resolved) (s : SettingModel) (g : IgnoredKinds) (k : DepKind) (t : Outline) → Pair r s g k t → EnablesNoFeature (questions r s) → (l : PlannedEdge) → KeptNumber r s g t l.source → Contains (planned_edges t) l → Passes k l.tie
     → KeptNumber r s g t l.target
 step_kept r s g k t w none l here among passes =
-    let d = drawn_of t l (member_of (lines t) l among) in
-    let stand = ends_stand r s t d.from d.to d.tie w.holds d.arrow in
-    let source : number t here.end ≡ number t d.from = here.number_is ∙ ap (λ (x : Line). x.source) (sym d.is) in
+    let d = drawn_of t l (member_of (planned_edges t) l among) in
+    let stand = ends_stand r s t d.from d.to d.tie w.holds d.planned in
+    let source : number t here.end ≡ number t d.from = here.number_is ∙ ap (λ (x : PlannedEdge). x.source) (sym d.is) in
     let same : here.end ≡ d.from = one_number t here.end d.from here.stands stand.0 source in
     let from = subst (KeepsEnd (questions r (ignoring s g))) same here.keeps in
     record {
       end = d.to;
       stands = stand.1;
-      number_is = ap (λ (x : Line). x.target) d.is;
-      keeps = arrow_keeps r s g k t w none d.from d.to d.tie d.arrow (subst (λ (x : Line). Passes k x.tie) (sym d.is) passes) from;
+      number_is = ap (λ (x : PlannedEdge). x.target) d.is;
+      keeps = edge_keeps r s g k t w none d.from d.to d.tie d.planned (subst (λ (x : PlannedEdge). Passes k x.tie) (sym d.is) passes) from;
     }
 
-number_kept : (r : Resolved) (s : SettingModel) (g : IgnoredKinds) (k : DepKind) (t : Sheet) → Pair r s g k t → EnablesNoFeature (questions r s) → MembersAreRoots r s → (n : ℕ) → Reaches (LeadsWithout k (lines t)) (IsMemberNumber r t) n
+number_kept : (r : Resolved) (s : SettingModel) (g : IgnoredKinds) (k : DepKind) (t : Outline) → Pair r s g k t → EnablesNoFeature (questions r s) → MembersAreRoots r s → (n : ℕ) → Reaches (LeadsWithout k (planned_edges t)) (IsMemberNumber r t) n
     → KeptNumber r s g t n
 number_kept r s g k t w none roots _ (begins {n} m) = start_kept r s g k t w roots n m
 number_kept r s g k t w none roots _ (goes_on {n} before leads) =
     let here = number_kept r s g k t w none roots n before in
     subst (KeptNumber r s g t) leads.to (step_kept r s g k t w none leads.line (subst (KeptNumber r s g t) (sym leads.from) here) leads.among leads.passes)
 
-filtered_of : (r : Resolved) (s : SettingModel) (g : IgnoredKinds) (k : DepKind) (t : Sheet) → Pair r s g k t → EnablesNoFeature (questions r s) → MembersAreRoots r s → (p : Id) → IsFiltered r t k p
+filtered_of : (r : Resolved) (s : SettingModel) (g : IgnoredKinds) (k : DepKind) (t : Outline) → Pair r s g k t → EnablesNoFeature (questions r s) → MembersAreRoots r s → (p : Id) → IsFiltered r t k p
     → Derivable (questions r (ignoring s g)) (Crate p)
 filtered_of r s g k t w none roots p x =
     let n = number_kept r s g k t w none roots (crate_number t p) x.reached in
@@ -204,9 +204,9 @@ filtered_of r s g k t w none roots p x =
 -- ---- the law
 
 pub holds_rebuild : IsNarrowing → FilteredHoldsRebuild
-holds_rebuild narrowing r s k g more x selected t sheet =
+holds_rebuild narrowing r s k g more x selected t outline =
     let within : (f : Fact) → Derivable (questions r (ignoring s g)) f → Derivable (questions r s) f = (narrowing r s (ignoring s g) (ignores_more g k scopes.All more)).facts in
-    let w : Pair r s g k t = record { more = more; holds = holds r s x t selected sheet; within = within } in
+    let w : Pair r s g k t = record { more = more; holds = holds r s x t selected outline; within = within } in
     record {
       all = λ has p d. filtered_in r s g k t w has p d;
       no_other = λ none roots p f. filtered_of r s g k t w none roots p f;

@@ -3,13 +3,13 @@ use Rattle.std.proofs.Common.{◌↔◌, ℕ, List, sym, ◌∙◌, subst}
 use Rattle.std.specs.List.{AllZip}
 use Rattle.krates_graph.specs.declared.graph.edge.GraphEdge.{GraphEdge}
 use Rattle.krates_drawing.specs.Agreement.{IsOf, LeadsTo}
-use Rattle.krates_drawing.specs.Drawing.{Line, Spot}
+use Rattle.krates_drawing.specs.Drawing.{PlannedEdge, PlannedNode}
 use Rattle.krates_drawing.specs.Stored.{IsStoredAs, LeadsAlong}
 use Rattle.krates_drawing.specs.declared.edge.Edge.{Edge}
 use Rattle.krates_rules.proofs.Members.{member_of, contains_of, partner_of, swapped}
 
 -- stored edges lead where drawn ones lead
-pub stored_leads : {E : Type 0} (made : Edge → E → Type 0) (nodes : List Spot) (ls : List Line) (gs : List (GraphEdge E)) (p d : ℕ) → AllZip (IsStoredAs made) ls gs → LeadsTo nodes ls p d ↔ LeadsAlong nodes gs p d
+pub stored_leads : {E : Type 0} (made : Edge → E → Type 0) (nodes : List PlannedNode) (ls : List PlannedEdge) (gs : List (GraphEdge E)) (p d : ℕ) → AllZip (IsStoredAs made) ls gs → LeadsTo nodes ls p d ↔ LeadsAlong nodes gs p d
 stored_leads {E} made nodes ls gs p d z = (
   λ w.
       (let g = partner_of (IsStoredAs made) ls gs w.line z (member_of ls w.line w.among) in

@@ -17,9 +17,9 @@ use Rattle.krates_rules.specs.Facts.{Id}
 use Rattle.krates_rules.specs.Referent.{id_order}
 use Rattle.krates_rules.specs.Resolved.{id_of}
 use Rattle.krates_drawing.specs.Drawing.{id_eq, place_of}
-use Rattle.krates_drawing.specs.SheetOrder.{AreByChild, AreByKrate, has_child, has_krate}
-use Rattle.krates_drawing.specs.declared.sheet.Link.{Link}
-use Rattle.krates_drawing.specs.declared.sheet.Named.{Named}
+use Rattle.krates_drawing.specs.OutlineOrder.{AreByChild, AreByKrate, has_child, has_krate}
+use Rattle.krates_drawing.specs.declared.outline.EdgeRow.{EdgeRow}
+use Rattle.krates_drawing.specs.declared.outline.FeatureRow.{FeatureRow}
 use Rattle.krates_drawing.proofs.EqualRanges.{IsCut, below_later, cut_is, rises_weakly, stands_in}
 
 -- ---- tests
@@ -144,12 +144,12 @@ unfolding IsStrictlySortedBy
 sorted_as R S f g same [] h = tt
 sorted_as R S f g same (x ∷ xs) h = (all_as R S f g same x xs h.0, sorted_as R S f g same xs h.1)
 
-abbrev pub feature_key : Named → ℕ × Text
+abbrev pub feature_key : FeatureRow → ℕ × Text
 feature_key n = (n.feature.krate, text_view n.feature.name)
 
 -- features in order, by crate and name
-pub features_in_order : (xs : List Named) → IsStrictlySortedBy feature_cmp (map (λ n. n.feature) xs) → IsStrictlySortedBy named_cmp (map feature_key xs)
-features_in_order xs h = sorted_as feature_cmp named_cmp (λ (n : Named). n.feature) feature_key (λ a b. refl) xs h
+pub features_in_order : (xs : List FeatureRow) → IsStrictlySortedBy feature_cmp (map (λ n. n.feature) xs) → IsStrictlySortedBy named_cmp (map feature_key xs)
+features_in_order xs h = sorted_as feature_cmp named_cmp (λ (n : FeatureRow). n.feature) feature_key (λ a b. refl) xs h
 
 -- ---- kept edges and toggled features in order
 
@@ -174,12 +174,12 @@ not_high m n le Equal e g = cc g
 not_high m n le Greater e g = let gt = ranked m n Greater e in omega (arith, le, gt)
 
 -- edges in order rise by parent
-pub links_by_parent : (xs : List Link) (p : ℕ) → IsStrictlySortedBy place_cmp (map (λ l. l.edge) xs) → IsNonDecreasingBy (λ (l : Link). ordering_index (nat_cmp l.edge.parent p)) xs
-links_by_parent xs p sorted = rises_weakly nat_cmp_total (λ (l : Link). l.edge.parent) xs p (λ i j d l lt. first_low _ _ (below_later place_cmp (λ (l : Link). l.edge) xs i j d sorted l lt))
+pub links_by_parent : (xs : List EdgeRow) (p : ℕ) → IsStrictlySortedBy place_cmp (map (λ l. l.edge) xs) → IsNonDecreasingBy (λ (l : EdgeRow). ordering_index (nat_cmp l.edge.parent p)) xs
+links_by_parent xs p sorted = rises_weakly nat_cmp_total (λ (l : EdgeRow). l.edge.parent) xs p (λ i j d l lt. first_low _ _ (below_later place_cmp (λ (l : EdgeRow). l.edge) xs i j d sorted l lt))
 
 -- edges from a crate in order rise by child
-pub links_by_child : (mine : List Link) (q : ℕ) → AreByChild mine → IsNonDecreasingBy (λ (l : Link). ordering_index (nat_cmp l.edge.child q)) mine
-links_by_child mine q by = rises_weakly nat_cmp_total (λ (l : Link). l.edge.child) mine q (λ i j d l lt. not_high _ _ (by i j d l lt) _ refl)
+pub links_by_child : (mine : List EdgeRow) (q : ℕ) → AreByChild mine → IsNonDecreasingBy (λ (l : EdgeRow). ordering_index (nat_cmp l.edge.child q)) mine
+links_by_child mine q by = rises_weakly nat_cmp_total (λ (l : EdgeRow). l.edge.child) mine q (λ i j d l lt. not_high _ _ (by i j d l lt) _ refl)
 
 itself : {A : Type 0} (xs : List A) → map (λ x. x) xs ≡ xs
 itself [] = refl
@@ -219,33 +219,33 @@ cut_by_krate xs mine p sorted w i j d l lt =
     subst (λ (z : ToggledFeature). z.krate ≤ (get_or mine j d).krate) (sym here.same) (subst (λ (z : ToggledFeature). a.krate ≤ z.krate) (sym there.same) low)
 
 -- the edges from a crate are in order by child
-pub cut_by_child : (xs mine : List Link) (p : ℕ) → IsStrictlySortedBy place_cmp (map (λ l. l.edge) xs) → IsCut (λ (l : Link). nat_cmp l.edge.parent p) xs mine → AreByChild mine
+pub cut_by_child : (xs mine : List EdgeRow) (p : ℕ) → IsStrictlySortedBy place_cmp (map (λ l. l.edge) xs) → IsCut (λ (l : EdgeRow). nat_cmp l.edge.parent p) xs mine → AreByChild mine
 cut_by_child xs mine p sorted w i j d l lt =
-    let ord : Link → Ordering = λ l. nat_cmp l.edge.parent p in
+    let ord : EdgeRow → Ordering = λ l. nat_cmp l.edge.parent p in
     let here = stands_in ord xs mine w i d (omega (arith, l, lt)) in
     let there = stands_in ord xs mine w j d lt in
     let a = get_or xs (w.n + i) d in
     let b = get_or xs (w.n + j) d in
-    let less : place_cmp a.edge b.edge ≡ Less = below_later place_cmp (λ (l : Link). l.edge) xs (w.n + i) (w.n + j) d sorted (omega (arith, l)) there.within in
+    let less : place_cmp a.edge b.edge ≡ Less = below_later place_cmp (λ (l : EdgeRow). l.edge) xs (w.n + i) (w.n + j) d sorted (omega (arith, l)) there.within in
     let same : nat_cmp a.edge.parent b.edge.parent ≡ Equal = equal_both a.edge.parent b.edge.parent p here.equal there.equal in
     let low : a.edge.child ≤ b.edge.child = low_of a.edge.child b.edge.child (nat_cmp a.edge.child b.edge.child) refl (second_low (nat_cmp a.edge.parent b.edge.parent) (nat_cmp a.edge.child b.edge.child) (nat_cmp a.edge.place b.edge.place) same less) in
-    subst (λ (z : Link). z.edge.child ≤ (get_or mine j d).edge.child) (sym here.same) (subst (λ (z : Link). a.edge.child ≤ z.edge.child) (sym there.same) low)
+    subst (λ (z : EdgeRow). z.edge.child ≤ (get_or mine j d).edge.child) (sym here.same) (subst (λ (z : EdgeRow). a.edge.child ≤ z.edge.child) (sym there.same) low)
 
 -- ---- runs, by number
 
 -- whether the crate of this number has the edge
-abbrev pub has_parent : ℕ → Link → Bool
+abbrev pub has_parent : ℕ → EdgeRow → Bool
 has_parent parent l = l.edge.parent == parent
 
 -- whether it toggles the feature
 abbrev pub has_by : ℕ → ToggledFeature → Bool
 has_by by t = t.by == by
 
-pub cut_parent : (xs mine : List Link) (p : ℕ) → IsCut (λ (l : Link). nat_cmp l.edge.parent p) xs mine → mine ≡ filter (has_parent p) xs
-cut_parent xs mine p w = cut_is (λ (l : Link). nat_cmp l.edge.parent p) xs mine w ∙ filter_same (λ (l : Link). is_eq (nat_cmp l.edge.parent p)) (has_parent p) xs (λ l. sym (unsigned_ties l.edge.parent p))
+pub cut_parent : (xs mine : List EdgeRow) (p : ℕ) → IsCut (λ (l : EdgeRow). nat_cmp l.edge.parent p) xs mine → mine ≡ filter (has_parent p) xs
+cut_parent xs mine p w = cut_is (λ (l : EdgeRow). nat_cmp l.edge.parent p) xs mine w ∙ filter_same (λ (l : EdgeRow). is_eq (nat_cmp l.edge.parent p)) (has_parent p) xs (λ l. sym (unsigned_ties l.edge.parent p))
 
-pub cut_child : (xs mine : List Link) (q : ℕ) → IsCut (λ (l : Link). nat_cmp l.edge.child q) xs mine → mine ≡ filter (has_child q) xs
-cut_child xs mine q w = cut_is (λ (l : Link). nat_cmp l.edge.child q) xs mine w ∙ filter_same (λ (l : Link). is_eq (nat_cmp l.edge.child q)) (has_child q) xs (λ l. sym (unsigned_ties l.edge.child q))
+pub cut_child : (xs mine : List EdgeRow) (q : ℕ) → IsCut (λ (l : EdgeRow). nat_cmp l.edge.child q) xs mine → mine ≡ filter (has_child q) xs
+cut_child xs mine q w = cut_is (λ (l : EdgeRow). nat_cmp l.edge.child q) xs mine w ∙ filter_same (λ (l : EdgeRow). is_eq (nat_cmp l.edge.child q)) (has_child q) xs (λ l. sym (unsigned_ties l.edge.child q))
 
 pub cut_by : (xs mine : List ToggledFeature) (p : ℕ) → IsCut (λ (t : ToggledFeature). nat_cmp t.by p) xs mine → mine ≡ filter (has_by p) xs
 cut_by xs mine p w = cut_is (λ (t : ToggledFeature). nat_cmp t.by p) xs mine w ∙ filter_same (λ (t : ToggledFeature). is_eq (nat_cmp t.by p)) (has_by p) xs (λ t. sym (unsigned_ties t.by p))

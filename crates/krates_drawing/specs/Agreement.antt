@@ -9,9 +9,9 @@ use Rattle.krates_rules.specs.Resolved.{Resolved}
 use Rattle.krates_selection.specs.Selection.{IsSelection}
 use Rattle.krates_rules.specs.Setting.{SettingModel}
 use Rattle.krates_selection.specs.declared.selection.Selection.{Selection}
-use Rattle.krates_drawing.specs.Drawing.{Line, Spot, CrateSpot, FeatureSpot, crate_number, lines, spots}
+use Rattle.krates_drawing.specs.Drawing.{PlannedEdge, PlannedNode, PlannedCrate, PlannedFeature, crate_number, planned_edges, planned_nodes}
 use Rattle.krates_drawing.specs.Paths.{IsDrawn}
-use Rattle.krates_drawing.specs.Sheet.{Sheet, IsSheet}
+use Rattle.krates_drawing.specs.Outline.{Outline, IsOutline}
 
 -- a kept edge of the crate, with the place of its declared dependency
 pub record KeptAt (r : Resolved) (s : SettingModel) (p : Id) (place : ℕ) (e : Edge) : Type 0 where
@@ -25,27 +25,27 @@ abbrev pub OneEach : Resolved → SettingModel → Id → Type 0
 OneEach r s p = (place : ℕ) (e f : Edge) → KeptAt r s p place e → KeptAt r s p place f → e.child ≡ f.child
 
 -- the crate with number p has number d among the entries of its mapping
-pub record DependsOn (nodes : List Spot) (p d : ℕ) : Type 0 where
+pub record DependsOn (nodes : List PlannedNode) (p d : ℕ) : Type 0 where
   pub id : Id
   pub mapping : List (Option ℕ)
-  pub at : slice_get nodes p ≡ Some (CrateSpot id mapping)
+  pub at : slice_get nodes p ≡ Some (PlannedCrate id mapping)
   pub among : Contains mapping (Some d)
 
 -- the number is d's, or that of a feature of d
-abbrev pub IsOf : List Spot → ℕ → ℕ → Type 0
-IsOf nodes d n = (n ≡ d) ⊎ ((name : Text) × (slice_get nodes n ≡ Some (FeatureSpot d name)))
+abbrev pub IsOf : List PlannedNode → ℕ → ℕ → Type 0
+IsOf nodes d n = (n ≡ d) ⊎ ((name : Text) × (slice_get nodes n ≡ Some (PlannedFeature d name)))
 
 -- an edge leads from number p to number d or to a feature of it
-pub record LeadsTo (nodes : List Spot) (edges : List Line) (p d : ℕ) : Type 0 where
-  pub line : Line
+pub record LeadsTo (nodes : List PlannedNode) (edges : List PlannedEdge) (p d : ℕ) : Type 0 where
+  pub line : PlannedEdge
   pub among : Contains edges line
   pub from : line.source ≡ p
   pub to : IsOf nodes d line.target
 
 -- the kept crate depends on the kept crates to which its edges lead, and on no other
-abbrev pub Agrees : Sheet → Id → Id → Type 0
-Agrees t p d = DependsOn (spots t) (crate_number t p) (crate_number t d) ↔ LeadsTo (spots t) (lines t) (crate_number t p) (crate_number t d)
+abbrev pub Agrees : Outline → Id → Id → Type 0
+Agrees t p d = DependsOn (planned_nodes t) (crate_number t p) (crate_number t d) ↔ LeadsTo (planned_nodes t) (planned_edges t) (crate_number t p) (crate_number t d)
 
 abbrev pub DependenciesAgree : Type 0
-DependenciesAgree = (r : Resolved) (s : SettingModel) → NoneDoubled r.metadata r.graph → (x : Selection) → IsSelection r s x → (t : Sheet) → IsSheet r s x t
+DependenciesAgree = (r : Resolved) (s : SettingModel) → NoneDoubled r.metadata r.graph → (x : Selection) → IsSelection r s x → (t : Outline) → IsOutline r s x t
     → (p d : Id) → IsDrawn t p → IsDrawn t d → OneEach r s p → Agrees t p d

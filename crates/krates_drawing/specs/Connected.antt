@@ -7,37 +7,37 @@ use Rattle.krates_rules.specs.Setting.{SettingModel}
 use Rattle.krates_selection.specs.Selection.{IsSelection}
 use Rattle.krates_selection.specs.declared.selection.Selection.{Selection}
 use Rattle.krates_drawing.specs.Agreement.{DependsOn, LeadsTo}
-use Rattle.krates_drawing.specs.Drawing.{Line, Spot, CrateSpot, FeatureSpot, crate_number, lines, spots}
+use Rattle.krates_drawing.specs.Drawing.{PlannedEdge, PlannedNode, PlannedCrate, PlannedFeature, crate_number, planned_edges, planned_nodes}
 use Rattle.krates_drawing.specs.Paths.{IsDrawn}
-use Rattle.krates_drawing.specs.Sheet.{Sheet, IsSheet}
+use Rattle.krates_drawing.specs.Outline.{Outline, IsOutline}
 
 -- number d is that of a crate, and an edge leads from p to it or to a feature of it
-pub record IsLedInto (nodes : List Spot) (edges : List Line) (p d : ℕ) : Type 0 where
+pub record IsLedInto (nodes : List PlannedNode) (edges : List PlannedEdge) (p d : ℕ) : Type 0 where
   pub id : Id
   pub mapping : List (Option ℕ)
-  pub at : slice_get nodes d ≡ Some (CrateSpot id mapping)
+  pub at : slice_get nodes d ≡ Some (PlannedCrate id mapping)
   pub leads : LeadsTo nodes edges p d
 
 -- an edge leads from number n to number d
-pub record LeadsHome (edges : List Line) (n d : ℕ) : Type 0 where
-  pub line : Line
+pub record LeadsHome (edges : List PlannedEdge) (n d : ℕ) : Type 0 where
+  pub line : PlannedEdge
   pub among : Contains edges line
   pub from : line.source ≡ n
   pub to : line.target ≡ d
 
 -- the kept crate has this number
-pub record IsNumbered (t : Sheet) (id : Id) (n : ℕ) : Type 0 where
+pub record IsNumbered (t : Outline) (id : Id) (n : ℕ) : Type 0 where
   pub kept : IsDrawn t id
   pub number : crate_number t id ≡ n
 
-pub record IsConnected (t : Sheet) : Type 0 where
+pub record IsConnected (t : Outline) : Type 0 where
   -- what a mapping names is a crate, into which an edge leads
-  pub mappings : (p d : ℕ) → DependsOn (spots t) p d → IsLedInto (spots t) (lines t) p d
+  pub mappings : (p d : ℕ) → DependsOn (planned_nodes t) p d → IsLedInto (planned_nodes t) (planned_edges t) p d
   -- each feature leads to its crate
-  pub features : (n d : ℕ) (name : Text) → slice_get (spots t) n ≡ Some (FeatureSpot d name) → LeadsHome (lines t) n d
+  pub features : (n d : ℕ) (name : Text) → slice_get (planned_nodes t) n ≡ Some (PlannedFeature d name) → LeadsHome (planned_edges t) n d
   -- the node of a crate has the number of the crate
-  pub crates : (p : ℕ) (id : Id) (mapping : List (Option ℕ)) → slice_get (spots t) p ≡ Some (CrateSpot id mapping) → IsNumbered t id p
+  pub crates : (p : ℕ) (id : Id) (mapping : List (Option ℕ)) → slice_get (planned_nodes t) p ≡ Some (PlannedCrate id mapping) → IsNumbered t id p
 
--- it holds of the sheet of every selection
+-- it holds of the outline of every selection
 abbrev pub AreConnected : Type 0
-AreConnected = (r : Resolved) (s : SettingModel) (x : Selection) → IsSelection r s x → (t : Sheet) → IsSheet r s x t → IsConnected t
+AreConnected = (r : Resolved) (s : SettingModel) (x : Selection) → IsSelection r s x → (t : Outline) → IsOutline r s x t → IsConnected t

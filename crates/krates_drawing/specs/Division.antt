@@ -3,7 +3,7 @@ use Rattle.std.specs.Prelude.{Bool, List, Contains, map}
 use Rattle.std.specs.List.{list_any}
 use Rattle.std.specs.Ordering.{is_eq}
 use Rattle.krates_cm.specs.declared.package.Package.{Package}
-use Rattle.krates_drawing.specs.declared.sheet.Krate.{Krate as SheetKrate}
+use Rattle.krates_drawing.specs.declared.outline.CrateRow.{CrateRow}
 use Rattle.krates_ids.specs.Identity.{Identity, id_cmp}
 use Rattle.krates_rules.specs.Facts.{Id}
 use Rattle.krates_rules.specs.Resolved.{id_of}
@@ -13,9 +13,9 @@ use Rattle.krates_drawing.specs.Krate.{krate_packages}
 use Rattle.krates_drawing.specs.declared.division.Division.{Division}
 use Rattle.krates_drawing.specs.declared.krate.Krate.{Krate}
 
--- the ids of the crates of a sheet
-abbrev pub sheet_ids : List SheetKrate → List Identity
-sheet_ids krates = map (λ k. k.id) krates
+-- the ids of the crates of an outline
+abbrev pub outline_ids : List CrateRow → List Identity
+outline_ids krates = map (λ k. k.id) krates
 
 -- the id is one of the list
 abbrev pub IsAmong : List Identity → Id → Type 0

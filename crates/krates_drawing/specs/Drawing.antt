@@ -7,7 +7,7 @@ use Rattle.krates_cm.specs.Document.{Text}
 use Rattle.krates_rules.specs.Facts.{Id}
 use Rattle.krates_rules.specs.Kind.{kind_of}
 use Rattle.krates_rules.specs.declared.kind.DepKind.{DepKind}
-use Rattle.krates_drawing.specs.Sheet.{Krate, Link, Meaning, OwnFeature, Crates, FeatureOf, Named, Toggle, Sheet}
+use Rattle.krates_drawing.specs.Outline.{CrateRow, EdgeRow, Meaning, OwnFeature, Crates, FeatureOf, FeatureRow, Toggle, Outline}
 
 -- whether the ids are equal
 abbrev pub id_eq : Id → Id → Bool
@@ -21,62 +21,62 @@ place_of p (x ∷ xs) = if p x then 0 else suc (place_of p xs)
 -- ---- nodes
 
 -- a node: a kept crate, or an enabled feature of one
-pub data End : Type 0 where
-  AtCrate : (id : Id) → End
-  AtFeature : (krate : Id) (name : Text) → End
+pub data Endpoint : Type 0 where
+  AtCrate : (id : Id) → Endpoint
+  AtFeature : (krate : Id) (name : Text) → Endpoint
 
 -- whether the crate has this id
-abbrev pub is_crate : Id → Krate → Bool
+abbrev pub is_crate : Id → CrateRow → Bool
 is_crate q k = id_eq k.id q
 
 -- whether this is the feature of that name of the crate
-abbrev pub is_feature : Id → Text → Named → Bool
+abbrev pub is_feature : Id → Text → FeatureRow → Bool
 is_feature q f n = id_eq n.krate q && bytes_eq n.name f
 
 -- the place of a crate among the kept ones
-abbrev pub crate_number : Sheet → Id → ℕ
+abbrev pub crate_number : Outline → Id → ℕ
 crate_number t q = place_of (is_crate q) t.krates
 
 -- after all crates, the place of a feature among the enabled ones
-abbrev pub feature_number : Sheet → Id → Text → ℕ
+abbrev pub feature_number : Outline → Id → Text → ℕ
 feature_number t q f = length t.krates + place_of (is_feature q f) t.features
 
 -- kept crates in the order of their ids, then the enabled features, by crate and then by name
-abbrev pub number : Sheet → End → ℕ
+abbrev pub number : Outline → Endpoint → ℕ
 number t (AtCrate q) = crate_number t q
 number t (AtFeature q f) = feature_number t q f
 
 -- ---- edges
 
 -- what an edge of the graph says
-pub data Tie : Type 0 where
-  Dep : (kind : DepKind) (cfg : Option Text) → Tie
-  Feature : Tie
-  DepFeature : (kind : DepKind) (cfg : Option Text) → Tie
+pub data EdgeModel : Type 0 where
+  Dep : (kind : DepKind) (cfg : Option Text) → EdgeModel
+  Feature : EdgeModel
+  DepFeature : (kind : DepKind) (cfg : Option Text) → EdgeModel
 
 -- an edge of the graph, from number to number
-pub record Line : Type 0 where
+pub record PlannedEdge : Type 0 where
   pub source : ℕ
   pub target : ℕ
-  pub tie : Tie
+  pub tie : EdgeModel
 
 -- the edge between two nodes, by their numbers
-abbrev pub line : Sheet → End → End → Tie → Line
+abbrev pub line : Outline → Endpoint → Endpoint → EdgeModel → PlannedEdge
 line t from to tie = record { source = number t from; target = number t to; tie = tie }
 
 -- ---- first part: what each crate uses
 
 -- a `Dep` if the kept edge gives no feature, otherwise a `DepFeature` for each that it gives
-unfoldable pub uses : Sheet → Link → List Text → List Line
+unfoldable pub uses : Outline → EdgeRow → List Text → List PlannedEdge
 uses t l [] = line t (AtCrate l.edge.parent) (AtCrate l.edge.child) (Dep (kind_of l.edge.kind) l.edge.cfg) ∷ []
 uses t l (f ∷ fs) = map (λ g. line t (AtCrate l.edge.parent) (AtFeature l.edge.child g) (DepFeature (kind_of l.edge.kind) l.edge.cfg)) (f ∷ fs)
 
 -- whether the edge leaves the crate
-abbrev pub is_from : Id → Link → Bool
+abbrev pub is_from : Id → EdgeRow → Bool
 is_from p l = id_eq l.edge.parent p
 
 -- whether the edge leads to the crate
-abbrev pub is_to : Id → Link → Bool
+abbrev pub is_to : Id → EdgeRow → Bool
 is_to q l = id_eq l.edge.child q
 
 -- whether the one crate toggles a feature of the other
@@ -84,41 +84,41 @@ abbrev pub is_between : Id → Id → Toggle → Bool
 is_between p q t = id_eq t.by p && id_eq t.krate q
 
 -- the kept edges from p
-abbrev pub from_crate : Sheet → Id → List Link
+abbrev pub from_crate : Outline → Id → List EdgeRow
 from_crate t p = filter (is_from p) t.links
 
 -- of the kept edges `mine` from p those to q, then the features of q that p toggles
-unfoldable pub pair_lines : Sheet → Id → List Link → Krate → List Line
+unfoldable pub pair_lines : Outline → Id → List EdgeRow → CrateRow → List PlannedEdge
 pair_lines t p mine q =
     flat_map (λ l. uses t l l.given) (filter (is_to q.id) mine)
     ++ map (λ g. line t (AtCrate p) (AtFeature q.id g.name) Feature) (filter (is_between p q.id) t.toggled)
 
 -- an edge leads to q
-abbrev pub leads_to : List Link → Id → Bool
+abbrev pub leads_to : List EdgeRow → Id → Bool
 leads_to mine q = list_any (is_to q) mine
 
 -- to each crate with a kept edge from p, in id order
-unfoldable pub children_lines : Sheet → Id → List Link → List Line
+unfoldable pub children_lines : Outline → Id → List EdgeRow → List PlannedEdge
 children_lines t p mine = flat_map (pair_lines t p mine) (filter (λ q. leads_to mine q.id) t.krates)
 
 -- the edges that a crate has
-unfoldable pub crate_lines : Sheet → Krate → List Line
+unfoldable pub crate_lines : Outline → CrateRow → List PlannedEdge
 crate_lines t p = children_lines t p.id (from_crate t p.id)
 
 -- ---- second part: what each feature leads to
 
 -- what a reference of a feature of p names, over the kept edges `mine` from p
-abbrev pub targets : List Link → Id → Meaning → List End
+abbrev pub targets : List EdgeRow → Id → Meaning → List Endpoint
 targets mine p (OwnFeature g) = AtFeature p g ∷ []
 targets mine p (Crates ids) = map AtCrate (filter (leads_to mine) ids)
 targets mine p (FeatureOf ids g) = map (λ q. AtFeature q g) (filter (leads_to mine) ids)
 
 -- from a feature to what a reference of it names
-unfoldable pub meaning_lines : Sheet → Named → List Link → Meaning → List Line
+unfoldable pub meaning_lines : Outline → FeatureRow → List EdgeRow → Meaning → List PlannedEdge
 meaning_lines t n mine m = map (λ e. line t (AtFeature n.krate n.name) e Feature) (targets mine n.krate m)
 
 -- to its crate, then to what its references name
-unfoldable pub feature_lines : Sheet → Named → List Line
+unfoldable pub feature_lines : Outline → FeatureRow → List PlannedEdge
 feature_lines t n =
     line t (AtFeature n.krate n.name) (AtCrate n.krate) Feature
     ∷ flat_map (meaning_lines t n (from_crate t n.krate)) n.meanings
@@ -126,8 +126,8 @@ feature_lines t n =
 -- ---- all edges
 
 -- the edges that the crates have, then those that the features have
-unfoldable pub lines : Sheet → List Line
-lines t = flat_map (crate_lines t) t.krates ++ flat_map (feature_lines t) t.features
+unfoldable pub planned_edges : Outline → List PlannedEdge
+planned_edges t = flat_map (crate_lines t) t.krates ++ flat_map (feature_lines t) t.features
 
 -- ---- the mapping of a crate
 
@@ -137,40 +137,40 @@ last_from o [] = o
 last_from o (x ∷ xs) = last_from (Some x) xs
 
 -- the edge leads to q, and has the declared dependency at k as its own
-abbrev pub claims_at : ℕ → Id → Link → Bool
+abbrev pub claims_at : ℕ → Id → EdgeRow → Bool
 claims_at k q l = is_to q l && (l.place == k)
 
 -- one of the edges leads to q and has the declared dependency at k as its own
-abbrev pub claims : List Link → ℕ → Krate → Bool
+abbrev pub claims : List EdgeRow → ℕ → CrateRow → Bool
 claims mine k q = list_any (claims_at k q.id) mine
 
 -- the greatest crate that claims the declared dependency at k: the last one in id order
-abbrev pub claimant : Sheet → List Link → ℕ → Option Krate
+abbrev pub claimant : Outline → List EdgeRow → ℕ → Option CrateRow
 claimant t mine k = last_from None (filter (claims mine k) t.krates)
 
 -- the number of that crate
-abbrev pub mapped : Sheet → List Link → ℕ → Option ℕ
+abbrev pub mapped : Outline → List EdgeRow → ℕ → Option ℕ
 mapped t mine k = option_map (λ q. crate_number t q.id) (claimant t mine k)
 
 -- one entry for each declared dependency of the package
-unfoldable pub mapping : Sheet → Krate → List (Option ℕ)
+unfoldable pub mapping : Outline → CrateRow → List (Option ℕ)
 mapping t p = map (mapped t (from_crate t p.id)) (range_with_len 0 p.declared)
 
 -- ---- nodes with what they hold
 
 -- a node with what it holds: a crate its mapping, a feature the number of its crate
-pub data Spot : Type 0 where
-  CrateSpot : (id : Id) (mapping : List (Option ℕ)) → Spot
-  FeatureSpot : (krate : ℕ) (name : Text) → Spot
+pub data PlannedNode : Type 0 where
+  PlannedCrate : (id : Id) (mapping : List (Option ℕ)) → PlannedNode
+  PlannedFeature : (krate : ℕ) (name : Text) → PlannedNode
 
 -- the node of a crate
-abbrev pub crate_spot : Sheet → Krate → Spot
-crate_spot t p = CrateSpot p.id (mapping t p)
+abbrev pub planned_crate : Outline → CrateRow → PlannedNode
+planned_crate t p = PlannedCrate p.id (mapping t p)
 
 -- the node of a feature
-abbrev pub feature_spot : Sheet → Named → Spot
-feature_spot t n = FeatureSpot (crate_number t n.krate) n.name
+abbrev pub planned_feature : Outline → FeatureRow → PlannedNode
+planned_feature t n = PlannedFeature (crate_number t n.krate) n.name
 
 -- kept crates in the order of their ids, then one node for each enabled feature, by crate and then by name
-abbrev pub spots : Sheet → List Spot
-spots t = map (crate_spot t) t.krates ++ map (feature_spot t) t.features
+abbrev pub planned_nodes : Outline → List PlannedNode
+planned_nodes t = map (planned_crate t) t.krates ++ map (planned_feature t) t.features

@@ -4,13 +4,13 @@ use Rattle.krates_rules.specs.Resolved.{Resolved}
 use Rattle.krates_selection.specs.Selection.{IsSelection}
 use Rattle.krates_rules.specs.Setting.{SettingModel}
 use Rattle.krates_selection.specs.declared.selection.Selection.{Selection}
-use Rattle.krates_drawing.specs.Drawing.{Line, lines, spots}
-use Rattle.krates_drawing.specs.Sheet.{Sheet, IsSheet}
+use Rattle.krates_drawing.specs.Drawing.{PlannedEdge, planned_edges, planned_nodes}
+use Rattle.krates_drawing.specs.Outline.{Outline, IsOutline}
 
 -- both ends are among the first n numbers
-abbrev pub HasEnds : ℕ → Line → Type 0
+abbrev pub HasEnds : ℕ → PlannedEdge → Type 0
 HasEnds n l = (l.source < n) × (l.target < n)
 
 -- each drawn edge leads from a node to a node
 abbrev pub EndsStand : Type 0
-EndsStand = (r : Resolved) (s : SettingModel) (x : Selection) → IsSelection r s x → (t : Sheet) → IsSheet r s x t → All (HasEnds (length (spots t))) (lines t)
+EndsStand = (r : Resolved) (s : SettingModel) (x : Selection) → IsSelection r s x → (t : Outline) → IsOutline r s x t → All (HasEnds (length (planned_nodes t))) (planned_edges t)

@@ -6,16 +6,16 @@ use Rattle.krates_rules.specs.Resolved.{Resolved, id_of}
 use Rattle.krates_selection.specs.declared.selection.EnabledFeature.{EnabledFeature}
 use Rattle.krates_selection.specs.declared.selection.KeptEdge.{KeptEdge}
 use Rattle.krates_questions.specs.FeatureValues.{values_of}
-use Rattle.krates_drawing.specs.Sheet.{Meaning, IsMeaning, asked_by, has_text}
-use Rattle.krates_drawing.specs.Told.{node_at, package_at, package_in}
-use Rattle.krates_drawing.specs.declared.told.Told.{Told}
+use Rattle.krates_drawing.specs.Outline.{Meaning, IsMeaning, asked_by, has_text}
+use Rattle.krates_drawing.specs.CrateRecord.{node_at, package_at, package_in}
+use Rattle.krates_drawing.specs.declared.crate_record.CrateRecord.{CrateRecord}
 
 -- how many dependencies a package declares; none where there is no package
 abbrev pub declared_in : Option PackageModel → ℕ
 declared_in None = 0
 declared_in (Some pkg) = length pkg.dependencies
 
-abbrev pub count_in : Told → ℕ
+abbrev pub count_in : CrateRecord → ℕ
 count_in t = declared_in (package_in t)
 
 -- the declared dependency at a place; none where there is no package
@@ -29,8 +29,8 @@ listed_of (Some d) (Some n) = filter (has_text n.features) (asked_by d)
 listed_of _ _ = []
 
 -- what a kept edge gives
-abbrev pub given_in : List Told → KeptEdge → List Text
-given_in told e = listed_of (dependency_in (package_at told e.parent) e.declared) (node_at told e.child)
+abbrev pub given_in : List CrateRecord → KeptEdge → List Text
+given_in records e = listed_of (dependency_in (package_at records e.parent) e.declared) (node_at records e.child)
 
 -- the values that a package has under a feature's name; none where there is no package
 abbrev pub values_in : Option PackageModel → Text → List Text
@@ -38,9 +38,9 @@ values_in None name = []
 values_in (Some pkg) name = values_of pkg.features name
 
 -- what the references of a feature of this name mean for a crate; nothing where there is no such crate
-abbrev pub AreMeant : Resolved → Bool → Option Told → Text → List Meaning → Type 0
+abbrev pub AreMeant : Resolved → Bool → Option CrateRecord → Text → List Meaning → Type 0
 AreMeant r all None name meanings = meanings ≡ []
 AreMeant r all (Some t) name meanings = AllZip (IsMeaning r all (id_of t.krate.now)) (values_in (package_in t) name) meanings
 
-abbrev pub MeaningsTold : Resolved → Bool → List Told → EnabledFeature → List Meaning → Type 0
-MeaningsTold r all told f meanings = AreMeant r all (slice_get told f.krate) (text_view f.name) meanings
+abbrev pub MeaningsRecorded : Resolved → Bool → List CrateRecord → EnabledFeature → List Meaning → Type 0
+MeaningsRecorded r all records f meanings = AreMeant r all (slice_get records f.krate) (text_view f.name) meanings

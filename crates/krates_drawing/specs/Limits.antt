@@ -1,16 +1,16 @@
--- How many nodes and edges are drawn of a sheet, beside how many there may be.
+-- How many nodes and edges are drawn of an outline, beside how many there may be.
 use Rattle.std.specs.Prelude.{◌≡◌, ◌⊎◌, ◌<◌, ◌≤◌, length, ⊤}
 use Rattle.krates_graph.specs.Graph.{StoredGraph}
 use Rattle.krates_ids.specs.declared.error.Error.{Error}
 use Rattle.krates_ids.specs.declared.error.Error.TheVariants as errors
-use Rattle.krates_drawing.specs.Drawing.{lines, spots}
-use Rattle.krates_drawing.specs.Sheet.{Sheet}
+use Rattle.krates_drawing.specs.Drawing.{planned_edges, planned_nodes}
+use Rattle.krates_drawing.specs.Outline.{Outline}
 use Rattle.krates_drawing.specs.declared.limits.Limits.{Limits}
 
 -- no more nodes and no more edges are drawn than there may be
-pub record IsWithin (limits : Limits) (t : Sheet) : Type 0 where
-  pub nodes : length (spots t) ≤ limits.nodes
-  pub edges : length (lines t) ≤ limits.edges
+pub record IsWithin (limits : Limits) (t : Outline) : Type 0 where
+  pub nodes : length (planned_nodes t) ≤ limits.nodes
+  pub edges : length (planned_edges t) ≤ limits.edges
 
 -- the graph takes so many nodes and so many edges
 pub record HasLimits {N E : Type 0} (limits : Limits) (g : StoredGraph N E) : Type 0 where
@@ -18,11 +18,11 @@ pub record HasLimits {N E : Type 0} (limits : Limits) (g : StoredGraph N E) : Ty
   pub edges : g.edge_limit ≡ limits.edges
 
 -- more nodes are drawn than there may be, or more edges
-abbrev pub IsBeyond : Limits → Sheet → Type 0
-IsBeyond limits t = (limits.nodes < length (spots t)) ⊎ (limits.edges < length (lines t))
+abbrev pub IsBeyond : Limits → Outline → Type 0
+IsBeyond limits t = (limits.nodes < length (planned_nodes t)) ⊎ (limits.edges < length (planned_edges t))
 
--- why the sheet isn't drawn within the limits; memory may always run out
-abbrev pub DrawingRefusal : Limits → Sheet → Error → Type 0
+-- why the outline isn't drawn within the limits; memory may always run out
+abbrev pub DrawingRefusal : Limits → Outline → Error → Type 0
 DrawingRefusal limits t errors.TooMany = IsBeyond limits t
 DrawingRefusal limits t errors.Memory = ⊤
 DrawingRefusal limits t _ = ⊥

@@ -15,7 +15,7 @@ use Rattle.krates_rules.specs.declared.kind.IgnoredKinds.{IgnoredKinds}
 use Rattle.krates_rules.specs.declared.kind.Scope.TheVariants as scopes
 use Rattle.krates_selection.specs.declared.selection.Selection.{Selection}
 use Rattle.krates_drawing.specs.Paths.{IsFiltered}
-use Rattle.krates_drawing.specs.Sheet.{Sheet, IsSheet}
+use Rattle.krates_drawing.specs.Outline.{Outline, IsOutline}
 
 -- the graph has no root, or its root is a member
 abbrev pub HasMemberRoot : Resolved → Type 0
@@ -28,7 +28,7 @@ abbrev pub MembersAreRoots : Resolved → SettingModel → Type 0
 MembersAreRoots r s = (m : Id) → IsMember r m → IsRoot r s m
 
 -- what is reached in the graph of the first setting without the kind, beside what the second keeps, which ignores it
-pub record HoldsRebuild (r : Resolved) (first second : SettingModel) (k : DepKind) (t : Sheet) : Type 0 where
+pub record HoldsRebuild (r : Resolved) (first second : SettingModel) (k : DepKind) (t : Outline) : Type 0 where
   -- every crate that the second keeps is reached
   pub all : HasMemberRoot r → (p : Id) → Derivable (questions r second) (Crate p) → IsFiltered r t k p
   -- and no other, where the first enables no feature and each member is one of its roots
@@ -38,5 +38,5 @@ pub record HoldsRebuild (r : Resolved) (first second : SettingModel) (k : DepKin
 -- for every document and setting, and every kind that is ignored beside what the setting ignores
 abbrev pub FilteredHoldsRebuild : Type 0
 FilteredHoldsRebuild = (r : Resolved) (s : SettingModel) (k : DepKind) (ignored : IgnoredKinds) → IgnoresMore s.ignored ignored k scopes.All
-    → (x : Selection) → IsSelection r s x → (t : Sheet) → IsSheet r s x t
+    → (x : Selection) → IsSelection r s x → (t : Outline) → IsOutline r s x t
     → HoldsRebuild r s (record s { ignored = ignored }) k t

@@ -2,12 +2,12 @@
 use Rattle.std.specs.Prelude.{◌≡◌, ℕ, List, [], ◌∷◌, ◌++◌, Contains}
 use Rattle.krates_graph.specs.declared.graph.edge.GraphEdge.{GraphEdge}
 use Rattle.krates_drawing.specs.Agreement.{IsOf}
-use Rattle.krates_drawing.specs.Drawing.{Line, Spot}
+use Rattle.krates_drawing.specs.Drawing.{PlannedEdge, PlannedNode}
 use Rattle.krates_drawing.specs.Views.{tie_view}
 use Rattle.krates_drawing.specs.declared.edge.Edge.{Edge}
 
 -- the stored edge is the drawn one, and carries what is made of it
-pub record IsStoredAs {E : Type 0} (made : Edge → E → Type 0) (l : Line) (g : GraphEdge E) : Type 0 where
+pub record IsStoredAs {E : Type 0} (made : Edge → E → Type 0) (l : PlannedEdge) (g : GraphEdge E) : Type 0 where
   pub source : g.source ≡ l.source
   pub target : g.target ≡ l.target
   pub edge : Edge
@@ -15,14 +15,14 @@ pub record IsStoredAs {E : Type 0} (made : Edge → E → Type 0) (l : Line) (g 
   pub made_from : made edge g.weight
 
 -- a stored edge leads from number p to number d or to a feature of it
-pub record LeadsAlong {E : Type 0} (nodes : List Spot) (edges : List (GraphEdge E)) (p d : ℕ) : Type 0 where
+pub record LeadsAlong {E : Type 0} (nodes : List PlannedNode) (edges : List (GraphEdge E)) (p d : ℕ) : Type 0 where
   pub edge : GraphEdge E
   pub among : Contains edges edge
   pub from : edge.source ≡ p
   pub to : IsOf nodes d edge.target
 
 -- one edge more is stored, which is the line
-pub record Appends {E : Type 0} (made : Edge → E → Type 0) (old new : List (GraphEdge E)) (l : Line) : Type 0 where
+pub record Appends {E : Type 0} (made : Edge → E → Type 0) (old new : List (GraphEdge E)) (l : PlannedEdge) : Type 0 where
   pub stored : GraphEdge E
   pub is : IsStoredAs made l stored
   pub appended : new ≡ old ++ stored ∷ []

@@ -1,4 +1,4 @@
--- The sheet and the planned edges of the program, as clauses see them.
+-- The outline and the planned edges of the program, as clauses see them.
 use Rattle.std.specs.Prelude.{◌≡◌, ℕ, ◌+◌, ◌<◌, ◌^◌, List, [], ◌∷◌, ◌++◌, Option, Some, None, get_or, map, length}
 use Rattle.std.specs.Option.{option_map}
 use Rattle.std.specs.Global.{Vec}
@@ -7,42 +7,43 @@ use Rattle.krates_rules.specs.Resolved.{id_of}
 use Rattle.krates_ids.specs.Identity.{Identity}
 use Rattle.krates_selection.specs.CrateNumbers.{id_at, no_id}
 use Rattle.krates_selection.specs.Selection.{edge_view}
-use Rattle.krates_drawing.specs.Drawing.{Tie, Dep, Feature, DepFeature, Line, Spot, CrateSpot, FeatureSpot}
-use Rattle.krates_drawing.specs.Sheet as model
-use Rattle.krates_drawing.specs.Sheet.{OwnFeature, Crates, FeatureOf, toggle_of}
-use Rattle.krates_drawing.specs.declared.edge.Arrow.{Arrow}
+use Rattle.krates_drawing.specs.Drawing as drawing
+use Rattle.krates_drawing.specs.Drawing.{EdgeModel, Dep, Feature, DepFeature, PlannedCrate, PlannedFeature}
+use Rattle.krates_drawing.specs.Outline as model
+use Rattle.krates_drawing.specs.Outline.{OwnFeature, Crates, FeatureOf, toggle_of}
+use Rattle.krates_drawing.specs.declared.edge.PlannedEdge.{PlannedEdge}
 use Rattle.krates_drawing.specs.declared.edge.Edge.{Edge}
 use Rattle.krates_drawing.specs.declared.edge.Edge.TheVariants as edge
-use Rattle.krates_drawing.specs.declared.nodes.Spot as drawn
-use Rattle.krates_drawing.specs.declared.nodes.Spot.TheVariants as spot
-use Rattle.krates_drawing.specs.declared.sheet.Krate.{Krate}
-use Rattle.krates_drawing.specs.declared.sheet.Link.{Link}
-use Rattle.krates_drawing.specs.declared.sheet.Meaning.{Meaning}
-use Rattle.krates_drawing.specs.declared.sheet.Meaning.TheVariants as meaning
-use Rattle.krates_drawing.specs.declared.sheet.Named.{Named}
-use Rattle.krates_drawing.specs.declared.sheet.Sheet.{Sheet}
+use Rattle.krates_drawing.specs.declared.nodes.PlannedNode as drawn
+use Rattle.krates_drawing.specs.declared.nodes.PlannedNode.TheVariants as planned
+use Rattle.krates_drawing.specs.declared.outline.CrateRow.{CrateRow}
+use Rattle.krates_drawing.specs.declared.outline.EdgeRow.{EdgeRow}
+use Rattle.krates_drawing.specs.declared.outline.Meaning.{Meaning}
+use Rattle.krates_drawing.specs.declared.outline.Meaning.TheVariants as meaning
+use Rattle.krates_drawing.specs.declared.outline.FeatureRow.{FeatureRow}
+use Rattle.krates_drawing.specs.declared.outline.Outline.{Outline}
 
-abbrev pub krate_view : Krate → model.Krate
-krate_view k = record { id = id_of k.id; declared = k.declared }
+abbrev pub crate_row_view : CrateRow → model.CrateRow
+crate_row_view k = record { id = id_of k.id; declared = k.declared }
 
 -- the ids of the kept crates
-abbrev pub kids_of : List Krate → List Identity
+abbrev pub kids_of : List CrateRow → List Identity
 kids_of krates = map (λ k. k.id) krates
 
-abbrev pub kids_in : Sheet → List Identity
+abbrev pub kids_in : Outline → List Identity
 kids_in t = kids_of t.krates.items
 
 -- the crate under a number that none has
-abbrev pub no_krate : model.Krate
+abbrev pub no_krate : model.CrateRow
 no_krate = record { id = no_id; declared = 0 }
 
 -- the crate of a number
-abbrev pub krate_at : Sheet → ℕ → model.Krate
-krate_at t n = get_or (map krate_view t.krates.items) n no_krate
+abbrev pub krate_at : Outline → ℕ → model.CrateRow
+krate_at t n = get_or (map crate_row_view t.krates.items) n no_krate
 
 -- an edge between these crates
-abbrev pub link_view : List Identity → Link → model.Link
-link_view kids l = record { edge = edge_view kids l.edge; place = l.edge.declared; given = map text_view l.given.items }
+abbrev pub edge_row_view : List Identity → EdgeRow → model.EdgeRow
+edge_row_view kids l = record { edge = edge_view kids l.edge; place = l.edge.declared; given = map text_view l.given.items }
 
 abbrev pub meaning_view : Meaning → model.Meaning
 meaning_view (meaning.OwnFeature name) = OwnFeature (text_view name)
@@ -53,38 +54,38 @@ abbrev pub meanings_view : Vec Meaning → List model.Meaning
 meanings_view v = map meaning_view v.items
 
 -- a feature of one of these crates
-abbrev pub named_view : List Identity → Named → model.Named
-named_view kids n = record { krate = id_at kids n.feature.krate; name = text_view n.feature.name; meanings = map meaning_view n.meanings.items }
+abbrev pub feature_row_view : List Identity → FeatureRow → model.FeatureRow
+feature_row_view kids n = record { krate = id_at kids n.feature.krate; name = text_view n.feature.name; meanings = map meaning_view n.meanings.items }
 
-abbrev pub sheet_view : Sheet → model.Sheet
-sheet_view t = record {
-  krates = map krate_view t.krates.items;
-  links = map (link_view (kids_in t)) t.links.items;
-  features = map (named_view (kids_in t)) t.features.items;
+abbrev pub outline_view : Outline → model.Outline
+outline_view t = record {
+  krates = map crate_row_view t.krates.items;
+  links = map (edge_row_view (kids_in t)) t.links.items;
+  features = map (feature_row_view (kids_in t)) t.features.items;
   toggled = map (toggle_of (kids_in t)) t.toggled.items;
 }
 
 -- what an edge says, as the drawing has it
-abbrev pub tie_view : Edge → Tie
+abbrev pub tie_view : Edge → EdgeModel
 tie_view (edge.Dep kind cfg) = Dep kind (option_map text_view cfg)
 tie_view edge.Feature = Feature
 tie_view (edge.DepFeature kind cfg) = DepFeature kind (option_map text_view cfg)
 
 -- a planned edge, as the drawing has it
-abbrev pub arrow_view : Arrow → Line
-arrow_view a = record { source = a.source; target = a.target; tie = tie_view a.edge }
+abbrev pub planned_edge_view : PlannedEdge → drawing.PlannedEdge
+planned_edge_view a = record { source = a.source; target = a.target; tie = tie_view a.edge }
 
 -- these lines were appended
-abbrev pub Draws : Vec Arrow → Vec Arrow → List Line → Type 0
-Draws old new ls = map arrow_view new.items ≡ map arrow_view old.items ++ ls
+abbrev pub Draws : Vec PlannedEdge → Vec PlannedEdge → List drawing.PlannedEdge → Type 0
+Draws old new ls = map planned_edge_view new.items ≡ map planned_edge_view old.items ++ ls
 
 -- there are few enough nodes
-abbrev pub IsFew : Sheet → Type 0
+abbrev pub IsFew : Outline → Type 0
 IsFew t = length t.krates.items + length t.features.items < 2 ^ 32
 
-abbrev pub spot_view : drawn.Spot → Spot
-spot_view (spot.Krate id mapping) = CrateSpot (id_of id) mapping.items
-spot_view (spot.Feature krate_index name) = FeatureSpot krate_index (text_view name)
+abbrev pub planned_node_view : drawn.PlannedNode → drawing.PlannedNode
+planned_node_view (planned.Krate id mapping) = PlannedCrate (id_of id) mapping.items
+planned_node_view (planned.Feature krate_index name) = PlannedFeature krate_index (text_view name)
 
 -- what there is, as a list
 abbrev pub listed : {A : Type 0} → Option A → List A

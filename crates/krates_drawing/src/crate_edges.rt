@@ -1,18 +1,18 @@
 //! The edges from crates.
 ghost use Rattle.std.specs.Prelude.{All, ◌≡◌, ◌+◌, ◌<◌, List, map, length, take, flat_map, OnOk};
 ghost use Rattle.krates_selection.specs.CrateNumbers.{HasEnds, id_at};
-ghost use Rattle.krates_drawing.specs.Drawing.{AtFeature, Line, crate_lines, crate_number as number_of_crate, pair_lines, uses};
-ghost use Rattle.krates_drawing.specs.Home.{IsDrawnTo, IsHome, AreToggledBy};
-ghost use Rattle.krates_drawing.specs.Origin.{line_from};
-ghost use Rattle.krates_drawing.specs.Sheet.{toggle_of};
-ghost use Rattle.krates_drawing.specs.SheetOrder.{AreByChild, HaveEnds, IsFirstTo, IsOrdered};
-ghost use Rattle.krates_drawing.specs.Views.{kids_in, krate_at, link_view, sheet_view, Draws, IsFew};
+ghost use Rattle.krates_drawing.specs.Drawing.{AtFeature, PlannedEdge as DrawnEdge, crate_lines, crate_number as number_of_crate, pair_lines, uses};
+ghost use Rattle.krates_drawing.specs.EdgeSource.{IsDrawnTo, IsCrateSource, AreToggledBy};
+ghost use Rattle.krates_drawing.specs.LinesFrom.{line_from};
+ghost use Rattle.krates_drawing.specs.Outline.{toggle_of};
+ghost use Rattle.krates_drawing.specs.OutlineOrder.{AreByChild, HaveEnds, IsFirstTo, IsOrdered};
+ghost use Rattle.krates_drawing.specs.Views.{kids_in, krate_at, edge_row_view, outline_view, Draws, IsFew};
 
-use crate::edge::{Arrow, Edge};
+use crate::edge::{Edge, PlannedEdge};
+use crate::edge_source::{CrateSource, source_at};
 use crate::equal_ranges::{links_to, toggled_by, toggled_in};
 use crate::numbers::{crate_number, feature_number};
-use crate::origin::{Home, home_at};
-use crate::sheet::{Link, Sheet};
+use crate::outline::{EdgeRow, Outline};
 use krates_graph::graph::NodeId;
 use krates_rules::DepKind;
 use krates_selection::ToggledFeature;
@@ -21,24 +21,25 @@ use std::alloc::AllocError;
 /// Draws what the kept edge gives, from the node of its parent.
 #[tactic(auto, unfolding(crate::specs::Drawing::uses))]
 fn draw_uses(
-    sheet: &Sheet,
+    outline: &Outline,
     source: NodeId,
-    link: &Link,
-    out: &mut Vec<Arrow>,
+    link: &EdgeRow,
+    out: &mut Vec<PlannedEdge>,
 ) -> Result<(), AllocError>
-    requires few { IsFew sheet.now }
-    requires ordered { IsOrdered sheet.now }
-    requires ends { HasEnds (length sheet.now.krates.items) link.now.edge }
-    requires source { source ≡ number_of_crate (sheet_view sheet.now)
-        (id_at (kids_in sheet.now) link.now.edge.parent) }
-    ensures { OnOk result (Draws out.old out.new (uses (sheet_view sheet.now)
-        (link_view (kids_in sheet.now) link.now) (link_view (kids_in sheet.now) link.now).given)) }
+    requires few { IsFew outline.now }
+    requires ordered { IsOrdered outline.now }
+    requires ends { HasEnds (length outline.now.krates.items) link.now.edge }
+    requires source { source ≡ number_of_crate (outline_view outline.now)
+        (id_at (kids_in outline.now) link.now.edge.parent) }
+    ensures { OnOk result (Draws out.old out.new (uses (outline_view outline.now)
+        (edge_row_view (kids_in outline.now) link.now)
+        (edge_row_view (kids_in outline.now) link.now).given)) }
 {
     let edge = &link.edge;
     if link.given.is_empty() {
-        let target = crate_number(sheet, edge.child);
+        let target = crate_number(outline, edge.child);
         let kind = DepKind::from(edge.kind);
-        out.push(Arrow {
+        out.push(PlannedEdge {
             source,
             target,
             edge: Edge::Dep {
@@ -49,9 +50,9 @@ fn draw_uses(
         return Ok(());
     }
     for x in &link.given {
-        let target = feature_number(sheet, edge.child, x.as_str());
+        let target = feature_number(outline, edge.child, x.as_str());
         let kind = DepKind::from(edge.kind);
-        out.push(Arrow {
+        out.push(PlannedEdge {
             source,
             target,
             edge: Edge::DepFeature {
@@ -65,43 +66,43 @@ fn draw_uses(
 
 /// Draws kept edges of one crate, from its node.
 fn draw_kept(
-    sheet: &Sheet,
+    outline: &Outline,
     source: NodeId,
-    links: &[Link],
-    out: &mut Vec<Arrow>,
+    links: &[EdgeRow],
+    out: &mut Vec<PlannedEdge>,
 ) -> Result<(), AllocError>
-    requires few { IsFew sheet.now }
-    requires ordered { IsOrdered sheet.now }
-    requires ends { HaveEnds sheet.now links.now }
-    requires source { All (λ l. source ≡ number_of_crate (sheet_view sheet.now)
-        (id_at (kids_in sheet.now) l.edge.parent)) links.now }
-    ensures { OnOk result (Draws out.old out.new (flat_map (λ l. uses (sheet_view sheet.now) l l.given)
-        (map (link_view (kids_in sheet.now)) links.now))) }
+    requires few { IsFew outline.now }
+    requires ordered { IsOrdered outline.now }
+    requires ends { HaveEnds outline.now links.now }
+    requires source { All (λ l. source ≡ number_of_crate (outline_view outline.now)
+        (id_at (kids_in outline.now) l.edge.parent)) links.now }
+    ensures { OnOk result (Draws out.old out.new (flat_map (λ l. uses (outline_view outline.now) l l.given)
+        (map (edge_row_view (kids_in outline.now)) links.now))) }
 {
     for x in links {
-        draw_uses(sheet, source, x, out)?;
+        draw_uses(outline, source, x, out)?;
     }
     Ok(())
 }
 
 /// Draws the features of the child that the parent toggles.
 fn draw_toggled(
-    sheet: &Sheet,
+    outline: &Outline,
     source: NodeId,
     child: usize,
     toggled: &[ToggledFeature],
-    out: &mut Vec<Arrow>,
+    out: &mut Vec<PlannedEdge>,
 ) -> Result<(), AllocError>
-    requires few { IsFew sheet.now }
-    requires ordered { IsOrdered sheet.now }
-    requires within { child < length sheet.now.krates.items }
-    ensures { OnOk result (Draws out.old out.new (map (λ g. line_from (sheet_view sheet.now) source
-        (AtFeature (id_at (kids_in sheet.now) child) g.name))
-        (map (toggle_of (kids_in sheet.now)) toggled.now))) }
+    requires few { IsFew outline.now }
+    requires ordered { IsOrdered outline.now }
+    requires within { child < length outline.now.krates.items }
+    ensures { OnOk result (Draws out.old out.new (map (λ g. line_from (outline_view outline.now) source
+        (AtFeature (id_at (kids_in outline.now) child) g.name))
+        (map (toggle_of (kids_in outline.now)) toggled.now))) }
 {
     for x in toggled {
-        let target = feature_number(sheet, child, x.name.as_str());
-        out.push(Arrow {
+        let target = feature_number(outline, child, x.name.as_str());
+        out.push(PlannedEdge {
             source,
             target,
             edge: Edge::Feature,
@@ -113,29 +114,30 @@ fn draw_toggled(
 /// Draws the edges between two crates, of which the one toggles these features.
 #[tactic(auto, unfolding(crate::specs::Drawing::pair_lines))]
 fn draw_pair(
-    sheet: &Sheet,
-    from: &Home<'_>,
+    outline: &Outline,
+    from: &CrateSource<'_>,
     toggled: &[ToggledFeature],
     child: usize,
-    out: &mut Vec<Arrow>,
+    out: &mut Vec<PlannedEdge>,
 ) -> Result<(), AllocError>
-    requires few { IsFew sheet.now }
-    requires ordered { IsOrdered sheet.now }
-    requires home { IsHome sheet.now from.now }
-    requires toggled { AreToggledBy sheet.now from.now.krate toggled.now }
-    requires within { child < length sheet.now.krates.items }
-    ensures { OnOk result (Draws out.old out.new (pair_lines (sheet_view sheet.now)
-        (id_at (kids_in sheet.now) from.now.krate) (map (link_view (kids_in sheet.now)) from.now.mine.now)
-        (krate_at sheet.now child))) }
+    requires few { IsFew outline.now }
+    requires ordered { IsOrdered outline.now }
+    requires home { IsCrateSource outline.now from.now }
+    requires toggled { AreToggledBy outline.now from.now.krate toggled.now }
+    requires within { child < length outline.now.krates.items }
+    ensures { OnOk result (Draws out.old out.new (pair_lines (outline_view outline.now)
+        (id_at (kids_in outline.now) from.now.krate)
+        (map (edge_row_view (kids_in outline.now)) from.now.mine.now)
+        (krate_at outline.now child))) }
 {
-    let source = crate_number(sheet, from.krate);
-    draw_kept(sheet, source, links_to(from.mine, child), out)?;
-    draw_toggled(sheet, source, child, toggled_in(toggled, child), out)?;
+    let source = crate_number(outline, from.krate);
+    draw_kept(outline, source, links_to(from.mine, child), out)?;
+    draw_toggled(outline, source, child, toggled_in(toggled, child), out)?;
     Ok(())
 }
 
 /// Whether no edge before this place leads to the same crate.
-fn is_first(mine: &[Link], place: usize) -> bool
+fn is_first(mine: &[EdgeRow], place: usize) -> bool
     requires by_child { AreByChild mine.now }
     requires within { place < length mine.now }
     ensures { IsFirstTo mine.now place result }
@@ -146,53 +148,53 @@ fn is_first(mine: &[Link], place: usize) -> bool
 /// Draws the edges from a crate, which toggles these features, to the one that its edge at a place leads to, where no edge before
 /// it does.
 fn draw_child(
-    sheet: &Sheet,
-    from: &Home<'_>,
+    outline: &Outline,
+    from: &CrateSource<'_>,
     toggled: &[ToggledFeature],
     place: usize,
-    out: &mut Vec<Arrow>,
+    out: &mut Vec<PlannedEdge>,
 ) -> Result<(), AllocError>
-    requires few { IsFew sheet.now }
-    requires ordered { IsOrdered sheet.now }
-    requires home { IsHome sheet.now from.now }
-    requires toggled { AreToggledBy sheet.now from.now.krate toggled.now }
+    requires few { IsFew outline.now }
+    requires ordered { IsOrdered outline.now }
+    requires home { IsCrateSource outline.now from.now }
+    requires toggled { AreToggledBy outline.now from.now.krate toggled.now }
     requires place { place < length from.now.mine.now }
-    ensures { OnOk result ((before : List Line)
-        → IsDrawnTo sheet.now from.now (take place from.now.mine.now) before out.old
-        → IsDrawnTo sheet.now from.now (take (place + 1) from.now.mine.now) before out.new) }
+    ensures { OnOk result ((before : List DrawnEdge)
+        → IsDrawnTo outline.now from.now (take place from.now.mine.now) before out.old
+        → IsDrawnTo outline.now from.now (take (place + 1) from.now.mine.now) before out.new) }
 {
     if is_first(from.mine, place) {
-        draw_pair(sheet, from, toggled, from.mine[place].edge.child, out)?;
+        draw_pair(outline, from, toggled, from.mine[place].edge.child, out)?;
     }
     Ok(())
 }
 
 /// Draws the edges from a crate.
 #[tactic(auto, unfolding(crate::specs::Drawing::crate_lines, crate::specs::Drawing::children_lines))]
-fn draw_crate(sheet: &Sheet, krate: usize, out: &mut Vec<Arrow>) -> Result<(), AllocError>
-    requires few { IsFew sheet.now }
-    requires ordered { IsOrdered sheet.now }
-    requires within { krate < length sheet.now.krates.items }
-    ensures { OnOk result (Draws out.old out.new (crate_lines (sheet_view sheet.now)
-        (krate_at sheet.now krate))) }
+fn draw_crate(outline: &Outline, krate: usize, out: &mut Vec<PlannedEdge>) -> Result<(), AllocError>
+    requires few { IsFew outline.now }
+    requires ordered { IsOrdered outline.now }
+    requires within { krate < length outline.now.krates.items }
+    ensures { OnOk result (Draws out.old out.new (crate_lines (outline_view outline.now)
+        (krate_at outline.now krate))) }
 {
-    let from = home_at(sheet, krate);
-    let toggled = toggled_by(sheet, krate);
+    let from = source_at(outline, krate);
+    let toggled = toggled_by(outline, krate);
     for place in 0..from.mine.len() {
-        draw_child(sheet, &from, toggled, place, out)?;
+        draw_child(outline, &from, toggled, place, out)?;
     }
     Ok(())
 }
 
 /// Draws the edges from all crates.
-pub(crate) fn draw_crates(sheet: &Sheet, out: &mut Vec<Arrow>) -> Result<(), AllocError>
-    requires few { IsFew sheet.now }
-    requires ordered { IsOrdered sheet.now }
-    ensures { OnOk result (Draws out.old out.new (flat_map (crate_lines (sheet_view sheet.now))
-        (sheet_view sheet.now).krates)) }
+pub(crate) fn draw_crates(outline: &Outline, out: &mut Vec<PlannedEdge>) -> Result<(), AllocError>
+    requires few { IsFew outline.now }
+    requires ordered { IsOrdered outline.now }
+    ensures { OnOk result (Draws out.old out.new (flat_map (crate_lines (outline_view outline.now))
+        (outline_view outline.now).krates)) }
 {
-    for krate in 0..sheet.krates.len() {
-        draw_crate(sheet, krate, out)?;
+    for krate in 0..outline.krates.len() {
+        draw_crate(outline, krate, out)?;
     }
     Ok(())
 }

@@ -6,11 +6,11 @@ ghost use Rattle.std.specs.List.Sorted.{IsStrictlySortedBy};
 ghost use Rattle.krates_cm.specs.Document.{id_view};
 ghost use Rattle.krates_ids.specs.Identity.{Reads, id_cmp};
 ghost use Rattle.krates_rules.specs.DistinctIds.{AreDistinct};
-ghost use Rattle.krates_drawing.specs.Division.{IsDivision, has_same, is_selected, sheet_ids};
+ghost use Rattle.krates_drawing.specs.Division.{IsDivision, has_same, is_selected, outline_ids};
 ghost use Rattle.krates_drawing.specs.Krate.{paired};
 
 use crate::krate::Krate;
-use crate::sheet;
+use crate::outline;
 use krates_cm::Package;
 use krates_ids::{Kid, laws};
 use std::alloc::{AllocError, Global};
@@ -30,12 +30,12 @@ pub fn divide(
     alloc: Global,
     packages: Vec<Package>,
     ids: Vec<Kid>,
-    selected: &[sheet::Krate],
+    selected: &[outline::CrateRow],
 ) -> Result<Division, AllocError>
     requires read { AllZip Reads (map (λ p. id_view p.id) packages.items) ids.items }
     requires distinct { AreDistinct ids.items }
-    requires ascending { IsStrictlySortedBy id_cmp (sheet_ids selected.now) }
-    ensures { IfOk result (IsDivision packages.items (sheet_ids selected.now)) }
+    requires ascending { IsStrictlySortedBy id_cmp (outline_ids selected.now) }
+    ensures { IfOk result (IsDivision packages.items (outline_ids selected.now)) }
 {
     laws::one_reading();
     laws::comparison();
@@ -59,13 +59,13 @@ fn with_ids(alloc: Global, packages: Vec<Package>, ids: Vec<Kid>) -> Result<Vec<
 fn divided(
     alloc: Global,
     krates: Vec<Krate>,
-    selected: &[sheet::Krate],
+    selected: &[outline::CrateRow],
 ) -> Result<Division, AllocError>
-    requires { IsStrictlySortedBy id_cmp (sheet_ids selected.now) }
+    requires { IsStrictlySortedBy id_cmp (outline_ids selected.now) }
     ensures kept { IfOk result
-        (λ d. d.kept.items ≡ filter (is_selected (sheet_ids selected.now)) krates.items) }
+        (λ d. d.kept.items ≡ filter (is_selected (outline_ids selected.now)) krates.items) }
     ensures others { IfOk result
-        (λ d. d.others.items ≡ filter (λ k. not (is_selected (sheet_ids selected.now) k)) krates.items) }
+        (λ d. d.others.items ≡ filter (λ k. not (is_selected (outline_ids selected.now) k)) krates.items) }
 {
     let mut kept = Vec::with_capacity(alloc, selected.len())?;
     let mut others = Vec::new(alloc);
@@ -80,9 +80,9 @@ fn divided(
 }
 
 /// Whether an id is that of a crate, among crates in the order of their ids.
-fn has(krates: &[sheet::Krate], id: &Kid) -> bool
-    requires { IsStrictlySortedBy id_cmp (sheet_ids krates.now) }
-    ensures { result ≡ has_same (sheet_ids krates.now) id.now }
+fn has(krates: &[outline::CrateRow], id: &Kid) -> bool
+    requires { IsStrictlySortedBy id_cmp (outline_ids krates.now) }
+    ensures { result ≡ has_same (outline_ids krates.now) id.now }
 {
     laws::comparison();
     match krates.binary_search_by(|krate| krate.id.cmp(id)) {

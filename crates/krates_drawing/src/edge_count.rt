@@ -1,17 +1,17 @@
-//! How many edges a sheet has at most.
+//! How many edges an outline has at most.
 
-use crate::sheet::{Link, Meaning, Named, Sheet};
+use crate::outline::{EdgeRow, FeatureRow, Meaning, Outline};
 
-/// How many edges are drawn of a sheet at most: the list of them is made with this room, and grows no more. Time: O(n) for n kept edges
+/// How many edges are drawn of an outline at most: the list of them is made with this room, and grows no more. Time: O(n) for n kept edges
 /// and references.
-pub(crate) fn edges_at_most(sheet: &Sheet) -> usize {
-    edges_of_links(&sheet.links)
-        .saturating_add(sheet.toggled.len())
-        .saturating_add(edges_of_features(&sheet.features))
+pub(crate) fn edges_at_most(outline: &Outline) -> usize {
+    edges_of_links(&outline.links)
+        .saturating_add(outline.toggled.len())
+        .saturating_add(edges_of_features(&outline.features))
 }
 
 /// Each kept edge is drawn once, or once for each feature that it gives.
-fn edges_of_links(links: &[Link]) -> usize {
+fn edges_of_links(links: &[EdgeRow]) -> usize {
     let mut count: usize = 0;
     for link in links {
         count = count.saturating_add(link.given.len().max(1));
@@ -20,7 +20,7 @@ fn edges_of_links(links: &[Link]) -> usize {
 }
 
 /// A feature leads to its crate, and to what its references name.
-fn edges_of_features(features: &[Named]) -> usize {
+fn edges_of_features(features: &[FeatureRow]) -> usize {
     let mut count: usize = 0;
     for named in features {
         count = count

@@ -1,29 +1,29 @@
-//! Ranges of equal elements in the lists of a sheet, found by binary search.
+//! Ranges of equal elements in the lists of an outline, found by binary search.
 ghost use Rattle.std.specs.Prelude.{◌≡◌, ◌<◌, filter, length};
 ghost use Rattle.std.specs.List.{list_any};
-ghost use Rattle.krates_drawing.specs.Home.{AreLinksFrom, AreToggledBy};
-ghost use Rattle.krates_drawing.specs.SheetOrder.{AreByChild, AreByKrate, IsOrdered, has_child, has_krate};
+ghost use Rattle.krates_drawing.specs.EdgeSource.{AreLinksFrom, AreToggledBy};
+ghost use Rattle.krates_drawing.specs.OutlineOrder.{AreByChild, AreByKrate, IsOrdered, has_child, has_krate};
 
-use crate::sheet::{Link, Sheet};
+use crate::outline::{EdgeRow, Outline};
 use krates_selection::ToggledFeature;
 
 /// The kept edges from a crate, by child.
-pub(crate) fn links_from(sheet: &Sheet, parent: usize) -> &[Link]
-    requires ordered { IsOrdered sheet.now }
-    requires within { parent < length sheet.now.krates.items }
-    ensures { AreLinksFrom sheet.now parent result.now }
+pub(crate) fn links_from(outline: &Outline, parent: usize) -> &[EdgeRow]
+    requires ordered { IsOrdered outline.now }
+    requires within { parent < length outline.now.krates.items }
+    ensures { AreLinksFrom outline.now parent result.now }
 {
-    let below = sheet
+    let below = outline
         .links
         .partition_point(|link| link.edge.parent.cmp(&parent).is_lt());
-    let (_, rest) = sheet.links.split_at(below);
+    let (_, rest) = outline.links.split_at(below);
     let count = rest.partition_point(|link| link.edge.parent.cmp(&parent).is_eq());
     let (mine, _) = rest.split_at(count);
     mine
 }
 
 /// Those of the edges from a crate that lead to another.
-pub(crate) fn links_to(mine: &[Link], child: usize) -> &[Link]
+pub(crate) fn links_to(mine: &[EdgeRow], child: usize) -> &[EdgeRow]
     requires { AreByChild mine.now }
     ensures { result.now ≡ filter (has_child child) mine.now }
 {
@@ -35,7 +35,7 @@ pub(crate) fn links_to(mine: &[Link], child: usize) -> &[Link]
 }
 
 /// Whether one of the edges from a crate leads to another.
-pub(crate) fn leads_to(mine: &[Link], child: usize) -> bool
+pub(crate) fn leads_to(mine: &[EdgeRow], child: usize) -> bool
     requires { AreByChild mine.now }
     ensures { result ≡ list_any (has_child child) mine.now }
 {
@@ -43,15 +43,15 @@ pub(crate) fn leads_to(mine: &[Link], child: usize) -> bool
 }
 
 /// The features that a crate toggles, grouped by the crate that they belong to.
-pub(crate) fn toggled_by(sheet: &Sheet, by: usize) -> &[ToggledFeature]
-    requires ordered { IsOrdered sheet.now }
-    requires within { by < length sheet.now.krates.items }
-    ensures { AreToggledBy sheet.now by result.now }
+pub(crate) fn toggled_by(outline: &Outline, by: usize) -> &[ToggledFeature]
+    requires ordered { IsOrdered outline.now }
+    requires within { by < length outline.now.krates.items }
+    ensures { AreToggledBy outline.now by result.now }
 {
-    let below = sheet
+    let below = outline
         .toggled
         .partition_point(|toggled| toggled.by.cmp(&by).is_lt());
-    let (_, rest) = sheet.toggled.split_at(below);
+    let (_, rest) = outline.toggled.split_at(below);
     let count = rest.partition_point(|toggled| toggled.by.cmp(&by).is_eq());
     let (mine, _) = rest.split_at(count);
     mine

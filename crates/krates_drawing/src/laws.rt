@@ -1,6 +1,6 @@
 //! Laws of the drawn graph, for all documents and settings. Each is the contract of a function that does nothing.
 ghost use Rattle.krates_drawing.specs.Agreement.{DependenciesAgree};
-ghost use Rattle.krates_drawing.specs.Alike.{IsDrawnAlike, IsSheetThere};
+ghost use Rattle.krates_drawing.specs.Alike.{IsDrawnAlike, IsOutlineThere};
 ghost use Rattle.krates_drawing.specs.Connected.{AreConnected};
 ghost use Rattle.krates_drawing.specs.Ends.{EndsStand};
 ghost use Rattle.krates_drawing.specs.Narrower.{NarrowerDrawsNoMore};
@@ -38,9 +38,9 @@ pub fn drawn_alike()
 }
 
 /// What is selected of one of two documents that differ in order alone is selected of the other too, and drawn from
-/// the same sheet.
-pub fn sheet_there()
-    ensures { IsSheetThere }
+/// the same outline.
+pub fn outline_there()
+    ensures { IsOutlineThere }
 {
     laws::reordering();
 }

@@ -4,13 +4,14 @@
 #![tactic(auto)]
 
 mod crate_edges;
+pub mod crate_record;
 pub mod division;
 pub mod edge;
 mod edge_count;
+mod edge_source;
 mod equal_ranges;
 mod feature_edges;
 pub mod filter;
-pub mod gather;
 pub mod krate;
 pub mod laws;
 pub mod limits;
@@ -18,11 +19,9 @@ mod meanings;
 pub mod node;
 pub mod nodes;
 mod numbers;
-mod origin;
+pub mod outline;
 pub mod plan;
-pub mod sheet;
 pub mod store;
 mod text_set;
-pub mod told;
 
 pub use filter::{FilterFn, NoneFilter, OnFilter};

@@ -1,15 +1,15 @@
 //! A selection's graph, drawn within limits to the numbers of its nodes and edges.
 ghost use Rattle.std.specs.Prelude.{◌≡◌, ◌<◌, ◌≤◌, IfErr, IfOk, length, map};
 ghost use Rattle.std.specs.Bool.{MatchBool};
-ghost use Rattle.krates_drawing.specs.Drawing.{lines, spots};
+ghost use Rattle.krates_drawing.specs.Drawing.{planned_edges, planned_nodes};
 ghost use Rattle.krates_drawing.specs.Limits.{DrawingRefusal, IsWithin};
-ghost use Rattle.krates_drawing.specs.SheetOrder.{IsOrdered};
-ghost use Rattle.krates_drawing.specs.Views.{arrow_view, sheet_view, spot_view};
+ghost use Rattle.krates_drawing.specs.OutlineOrder.{IsOrdered};
+ghost use Rattle.krates_drawing.specs.Views.{planned_edge_view, outline_view, planned_node_view};
 
-use crate::edge::Arrow;
-use crate::nodes::{Spot, draw_nodes};
+use crate::edge::PlannedEdge;
+use crate::nodes::{PlannedNode, draw_nodes};
+use crate::outline::Outline;
 use crate::plan::plan;
-use crate::sheet::Sheet;
 use krates_ids::Error;
 use std::alloc::Global;
 
@@ -22,44 +22,49 @@ pub struct Limits {
     pub edges: u32,
 }
 
-/// The nodes and edges of a sheet, by number.
+/// The nodes and edges of an outline, by number.
 #[derive(Drop)]
 pub struct Plan {
     /// The nodes, before packages are put into them.
-    pub spots: Vec<Spot>,
+    pub planned_nodes: Vec<PlannedNode>,
     /// The edges.
-    pub arrows: Vec<Arrow>,
+    pub planned_edges: Vec<PlannedEdge>,
 }
 
-/// Whether there may be so many nodes as a sheet has.
-fn has_room(sheet: &Sheet, nodes: u32) -> bool
-    ensures { MatchBool result (length (spots (sheet_view sheet.now)) ≤ nodes)
-        (nodes < length (spots (sheet_view sheet.now))) }
+/// Whether there may be so many nodes as an outline has.
+fn has_room(outline: &Outline, nodes: u32) -> bool
+    ensures { MatchBool result (length (planned_nodes (outline_view outline.now)) ≤ nodes)
+        (nodes < length (planned_nodes (outline_view outline.now))) }
 {
-    let krates = sheet.krates.len();
+    let krates = outline.krates.len();
     let most = nodes as usize;
-    krates <= most && sheet.features.len() <= most - krates
+    krates <= most && outline.features.len() <= most - krates
 }
 
-/// Draws the nodes and the edges of a sheet. It is refused as `TooMany` exactly where there are more nodes or more edges than the
+/// Draws the nodes and the edges of an outline. It is refused as `TooMany` exactly where there are more nodes or more edges than the
 /// limits allow; the nodes are counted before they are drawn, and the edges as they are planned. It may instead return
 /// `Memory`.
 ///
 /// Time: O(n log n) for n nodes and edges.
-pub fn plan_within(alloc: Global, sheet: &Sheet, limits: Limits) -> Result<Plan, Error>
-    requires ordered { IsOrdered sheet.now }
-    ensures nodes { IfOk result (λ p. map spot_view p.spots.items ≡ spots (sheet_view sheet.now)) }
-    ensures edges { IfOk result (λ p. map arrow_view p.arrows.items ≡ lines (sheet_view sheet.now)) }
-    ensures within { IfOk result (λ _. IsWithin limits (sheet_view sheet.now)) }
-    ensures refused { IfErr result (DrawingRefusal limits (sheet_view sheet.now)) }
+pub fn plan_within(alloc: Global, outline: &Outline, limits: Limits) -> Result<Plan, Error>
+    requires ordered { IsOrdered outline.now }
+    ensures nodes { IfOk result (λ p. map planned_node_view p.planned_nodes.items
+        ≡ planned_nodes (outline_view outline.now)) }
+    ensures edges { IfOk result (λ p. map planned_edge_view p.planned_edges.items
+        ≡ planned_edges (outline_view outline.now)) }
+    ensures within { IfOk result (λ _. IsWithin limits (outline_view outline.now)) }
+    ensures refused { IfErr result (DrawingRefusal limits (outline_view outline.now)) }
 {
-    if !has_room(sheet, limits.nodes) {
+    if !has_room(outline, limits.nodes) {
         return Err(Error::TooMany);
     }
-    let spots = draw_nodes(alloc, sheet)?;
-    let arrows = plan(alloc, sheet)?;
-    if arrows.len() > limits.edges as usize {
+    let planned_nodes = draw_nodes(alloc, outline)?;
+    let planned_edges = plan(alloc, outline)?;
+    if planned_edges.len() > limits.edges as usize {
         return Err(Error::TooMany);
     }
-    Ok(Plan { spots, arrows })
+    Ok(Plan {
+        planned_nodes,
+        planned_edges,
+    })
 }

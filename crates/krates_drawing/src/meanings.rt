@@ -7,10 +7,10 @@ ghost use Rattle.krates_questions.specs.DocumentModel.{as_resolved};
 ghost use Rattle.krates_rules.specs.Resolved.{id_of};
 ghost use Rattle.krates_questions.specs.ReferentPlace.{referent_id};
 ghost use Rattle.krates_rules.specs.Referent.{AreReferents};
-ghost use Rattle.krates_drawing.specs.Sheet.{IsMeaning, asked_by, has_text as has};
+ghost use Rattle.krates_drawing.specs.Outline.{IsMeaning, asked_by, has_text as has};
 ghost use Rattle.krates_drawing.specs.Views.{meaning_view};
 
-use crate::sheet::Meaning;
+use crate::outline::Meaning;
 use crate::text_set::TextSet;
 use krates_cm::{Dependency, Node};
 use krates_document::Setting;

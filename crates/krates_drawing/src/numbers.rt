@@ -8,51 +8,51 @@ ghost use Rattle.krates_ids.specs.Identity.{id_cmp};
 ghost use Rattle.krates_selection.specs.CrateNumbers.{id_at};
 ghost use Rattle.krates_rules.specs.Resolved.{id_of};
 ghost use Rattle.krates_drawing.specs.Drawing.{crate_number as number_of_crate, feature_number as number_of_feature, is_crate, is_feature, place_of};
-ghost use Rattle.krates_drawing.specs.SheetOrder.{IsOrdered, IsPlaceOfFeature};
-ghost use Rattle.krates_drawing.specs.Views.{IsFew, kids_in, kids_of, krate_view, named_view, sheet_view};
+ghost use Rattle.krates_drawing.specs.OutlineOrder.{IsOrdered, IsPlaceOfFeature};
+ghost use Rattle.krates_drawing.specs.Views.{IsFew, kids_in, kids_of, crate_row_view, feature_row_view, outline_view};
 
-use crate::sheet::{Krate, Named, Sheet};
+use crate::outline::{CrateRow, FeatureRow, Outline};
 use krates_graph::graph::NodeId;
 use krates_ids::{Kid, laws};
 use std::cmp::Ordering;
 
 /// The number of a crate's node: the crate's own.
-pub(crate) fn crate_number(sheet: &Sheet, krate: usize) -> NodeId
-    requires few { IsFew sheet.now }
-    requires ordered { IsOrdered sheet.now }
-    requires within { krate < length sheet.now.krates.items }
-    ensures { result ≡ number_of_crate (sheet_view sheet.now) (id_at (kids_in sheet.now) krate) }
+pub(crate) fn crate_number(outline: &Outline, krate: usize) -> NodeId
+    requires few { IsFew outline.now }
+    requires ordered { IsOrdered outline.now }
+    requires within { krate < length outline.now.krates.items }
+    ensures { result ≡ number_of_crate (outline_view outline.now) (id_at (kids_in outline.now) krate) }
 {
     NodeId::new(krate as u32)
 }
 
 /// The number of the feature's node, or the number of nodes where it isn't enabled.
-pub(crate) fn feature_number(sheet: &Sheet, krate: usize, name: &str) -> NodeId
-    requires few { IsFew sheet.now }
-    requires ordered { IsOrdered sheet.now }
-    requires within { krate < length sheet.now.krates.items }
-    ensures { result ≡ number_of_feature (sheet_view sheet.now) (id_at (kids_in sheet.now) krate)
+pub(crate) fn feature_number(outline: &Outline, krate: usize, name: &str) -> NodeId
+    requires few { IsFew outline.now }
+    requires ordered { IsOrdered outline.now }
+    requires within { krate < length outline.now.krates.items }
+    ensures { result ≡ number_of_feature (outline_view outline.now) (id_at (kids_in outline.now) krate)
         name.now }
 {
-    let place = place_of_feature(sheet, krate, name);
-    NodeId::new((sheet.krates.len() + place) as u32)
+    let place = place_of_feature(outline, krate, name);
+    NodeId::new((outline.krates.len() + place) as u32)
 }
 
-/// The number of the node of the feature that stands at this place among those of the sheet.
-pub(crate) fn number_at(sheet: &Sheet, place: usize, named: &Named) -> NodeId
-    requires few { IsFew sheet.now }
-    requires ordered { IsOrdered sheet.now }
-    requires place { IsPlaceOfFeature sheet.now place named.now }
-    ensures { result ≡ number_of_feature (sheet_view sheet.now)
-        (id_at (kids_in sheet.now) named.now.feature.krate) (text_view named.now.feature.name) }
+/// The number of the node of the feature that stands at this place among those of the outline.
+pub(crate) fn number_at(outline: &Outline, place: usize, named: &FeatureRow) -> NodeId
+    requires few { IsFew outline.now }
+    requires ordered { IsOrdered outline.now }
+    requires place { IsPlaceOfFeature outline.now place named.now }
+    ensures { result ≡ number_of_feature (outline_view outline.now)
+        (id_at (kids_in outline.now) named.now.feature.krate) (text_view named.now.feature.name) }
 {
-    NodeId::new((sheet.krates.len() + place) as u32)
+    NodeId::new((outline.krates.len() + place) as u32)
 }
 
 /// The place of the crate, or the number of crates.
-pub(crate) fn place_of_crate(krates: &[Krate], id: &Kid) -> usize
+pub(crate) fn place_of_crate(krates: &[CrateRow], id: &Kid) -> usize
     requires { IsStrictlySortedBy id_cmp (kids_of krates.now) }
-    ensures place { result ≡ place_of (is_crate (id_of id.now)) (map krate_view krates.now) }
+    ensures place { result ≡ place_of (is_crate (id_of id.now)) (map crate_row_view krates.now) }
     ensures within { result ≤ length krates.now }
 {
     laws::comparison();
@@ -63,24 +63,24 @@ pub(crate) fn place_of_crate(krates: &[Krate], id: &Kid) -> usize
 }
 
 /// The place of the feature, or the number of features.
-fn place_of_feature(sheet: &Sheet, krate: usize, name: &str) -> usize
-    requires ordered { IsOrdered sheet.now }
-    requires within { krate < length sheet.now.krates.items }
-    ensures place { result ≡ place_of (is_feature (id_at (kids_in sheet.now) krate) name.now)
-        (map (named_view (kids_in sheet.now)) sheet.now.features.items) }
-    ensures within { result ≤ length sheet.now.features.items }
+fn place_of_feature(outline: &Outline, krate: usize, name: &str) -> usize
+    requires ordered { IsOrdered outline.now }
+    requires within { krate < length outline.now.krates.items }
+    ensures place { result ≡ place_of (is_feature (id_at (kids_in outline.now) krate) name.now)
+        (map (feature_row_view (kids_in outline.now)) outline.now.features.items) }
+    ensures within { result ≤ length outline.now.features.items }
 {
-    match sheet
+    match outline
         .features
         .binary_search_by(|named| feature_against(named, krate, name))
     {
         Ok(place) => place,
-        Err(_) => sheet.features.len(),
+        Err(_) => outline.features.len(),
     }
 }
 
 /// How an enabled feature compares with that of this crate and name.
-fn feature_against(named: &Named, krate: usize, name: &str) -> Ordering
+fn feature_against(named: &FeatureRow, krate: usize, name: &str) -> Ordering
     ensures { result ≡ ordering_then (nat_cmp named.now.feature.krate krate) (slice_cmp nat_cmp
         (text_view named.now.feature.name) name.now) }
 {

@@ -3,11 +3,11 @@ ghost use Rattle.std.specs.Prelude.{◌≡◌, ◌<◌, ◌≤◌, ◌^◌, [], 
 ghost use Rattle.std.specs.List.{AllZip};
 ghost use Rattle.krates_drawing.specs.Ends.{HasEnds};
 ghost use Rattle.krates_drawing.specs.Stored.{IsStoredAs, Appends};
-ghost use Rattle.krates_drawing.specs.Views.{arrow_view, tie_view};
+ghost use Rattle.krates_drawing.specs.Views.{planned_edge_view, tie_view};
 ghost use Rattle.krates_drawing.specs.declared.edge.Edge.{Edge};
 ghost use Rattle.krates_drawing.specs.declared.store.StoreError.TheVariants.{TooMany};
 
-use crate::edge::{Arrow, Edge};
+use crate::edge::{Edge, PlannedEdge};
 use krates_graph::graph::{Graph, GraphError};
 use std::alloc::{AllocError, Global};
 
@@ -56,20 +56,20 @@ fn weight_of<E: FromEdge>(alloc: Global, edge: &Edge) -> Result<E, StoreError>
     }
 }
 
-fn store_arrow<N, E: FromEdge + Drop>(
+fn store_edge<N, E: FromEdge + Drop>(
     alloc: Global,
-    arrow: &Arrow,
+    planned: &PlannedEdge,
     graph: &mut Graph<N, E>,
 ) -> Result<(), StoreError>
-    requires stands { HasEnds (length graph.old.nodes) (arrow_view arrow.now) }
+    requires stands { HasEnds (length graph.old.nodes) (planned_edge_view planned.now) }
     requires few { length graph.old.nodes < 2 ^ 32 }
     ensures drawn { OnOk result (Appends E.made_from_edge graph.old.edges graph.new.edges
-        (arrow_view arrow.now)) }
+        (planned_edge_view planned.now)) }
     ensures rest { graph.new ≡ record graph.old { edges = graph.new.edges } }
     ensures refused { IfErr result (λ e. e ≡ TooMany → graph.old.edge_limit ≤ length graph.old.edges) }
 {
-    match weight_of(alloc, &arrow.edge) {
-        Ok(weight) => match graph.add_edge(arrow.source, arrow.target, weight) {
+    match weight_of(alloc, &planned.edge) {
+        Ok(weight) => match graph.add_edge(planned.source, planned.target, weight) {
             Ok(_) => Ok(()),
             Err(GraphError::Full(_)) => Err(StoreError::TooMany),
             Err(GraphError::Memory(_)) => Err(StoreError::Memory),
@@ -80,21 +80,21 @@ fn store_arrow<N, E: FromEdge + Drop>(
 
 /// Puts the planned edges, in their order, into a graph that has the nodes and no edge yet. It is refused as
 /// `TooMany` only where there are more than the graph takes, or as `Memory`. Time O(edges).
-pub fn store_arrows<N, E: FromEdge + Drop>(
+pub fn store_edges<N, E: FromEdge + Drop>(
     alloc: Global,
-    arrows: &[Arrow],
+    planned_edges: &[PlannedEdge],
     graph: &mut Graph<N, E>,
 ) -> Result<(), StoreError>
-    requires stand { All (HasEnds (length graph.old.nodes)) (map arrow_view arrows.now) }
+    requires stand { All (HasEnds (length graph.old.nodes)) (map planned_edge_view planned_edges.now) }
     requires few { length graph.old.nodes < 2 ^ 32 }
     requires empty { graph.old.edges ≡ [] }
     ensures drawn { OnOk result (AllZip (IsStoredAs E.made_from_edge)
-        (map arrow_view arrows.now) graph.new.edges) }
+        (map planned_edge_view planned_edges.now) graph.new.edges) }
     ensures rest { graph.new ≡ record graph.old { edges = graph.new.edges } }
-    ensures refused { IfErr result (λ e. e ≡ TooMany → graph.old.edge_limit < length arrows.now) }
+    ensures refused { IfErr result (λ e. e ≡ TooMany → graph.old.edge_limit < length planned_edges.now) }
 {
-    for x in arrows {
-        store_arrow(alloc, x, graph)?;
+    for x in planned_edges {
+        store_edge(alloc, x, graph)?;
     }
     Ok(())
 }

@@ -9,12 +9,12 @@ use Rattle.krates_cli.proofs.ListingLemmas.{split_by}
 use Rattle.krates_cli.specs.Lines.{IsListedOf}
 use Rattle.krates_cli.specs.declared.listed.Listed.{Listed}
 use Rattle.krates_drawing.specs.Drawing as drawing
-use Rattle.krates_drawing.specs.Drawing.{Line, Spot, spots}
+use Rattle.krates_drawing.specs.Drawing.{PlannedEdge, PlannedNode, planned_nodes}
 use Rattle.krates_drawing.specs.Stored.{IsStoredAs}
 use Rattle.krates_drawing.specs.Views.{tie_view}
 use Rattle.krates_drawing.specs.declared.edge.Edge.{Edge}
 use Rattle.krates_graph.specs.declared.graph.edge.GraphEdge.{GraphEdge}
-use Rattle.krates_queries.specs.Drawn.{node_spot}
+use Rattle.krates_queries.specs.Drawn.{planned_node}
 use Rattle.krates_queries.specs.Kept.{KeptCrates}
 use Rattle.krates_drawing.specs.Node.{crate_values}
 use Rattle.krates_drawing.specs.declared.node.Node.{Node}
@@ -25,7 +25,7 @@ use Rattle.krates_foreign.specs.DrawnLines.{DrawsPackages, crate_line, edge_line
 use Rattle.krates_foreign.specs.StoredLines.{line_view, stored_edge_lines, stored_node_lines}
 
 -- what is listed of packages has the lines of these
-nodes_written : (packages : List Package) (stored : List (Node Listed)) → AllZip IsListedOf packages (crate_values stored) → stored_node_lines stored ≡ node_lines (map node_spot stored) packages
+nodes_written : (packages : List Package) (stored : List (Node Listed)) → AllZip IsListedOf packages (crate_values stored) → stored_node_lines stored ≡ node_lines (map planned_node stored) packages
 nodes_written packages [] zip = refl
 nodes_written packages (nodes.Feature krate name ∷ stored) zip = ap (λ lines. feature_line krate (text_view name) ++ lines) (nodes_written packages stored zip)
 nodes_written [] (nodes.Krate id krate features mapping ∷ stored) zip = absurd zip
@@ -38,10 +38,10 @@ abbrev pub IsCopied : Edge → Edge → Type 0
 IsCopied edge made = made ≡ edge
 
 -- so what is stored is the drawn edge
-same_line : (l : Line) (stored : GraphEdge Edge) → IsStoredAs IsCopied l stored → line_view stored ≡ l
+same_line : (l : PlannedEdge) (stored : GraphEdge Edge) → IsStoredAs IsCopied l stored → line_view stored ≡ l
 same_line l stored h = let tie = ap tie_view h.made_from ∙ h.says in λ i. record { source = h.source i; target = h.target i; tie = tie i }
 
-edges_written : (ls : List Line) (stored : List (GraphEdge Edge)) → AllZip (IsStoredAs IsCopied) ls stored → stored_edge_lines stored ≡ edge_lines ls
+edges_written : (ls : List PlannedEdge) (stored : List (GraphEdge Edge)) → AllZip (IsStoredAs IsCopied) ls stored → stored_edge_lines stored ≡ edge_lines ls
 edges_written [] [] zip = refl
 edges_written [] (edge ∷ stored) zip = absurd zip
 edges_written (l ∷ ls) [] zip = absurd zip
@@ -52,14 +52,14 @@ edges_written (l ∷ ls) (edge ∷ stored) zip =
 pub draws : {F : Type 0} (filters : F → Package → F → Type 0) (s : SettingModel) (m : Metadata) (kept : KeptCrates Listed Edge) (before after : F) (lines : Text) → IsResolvable (metadata_view m)
     → IsBuilt filters IsListedOf IsCopied m s before after kept → lines ≡ stored_node_lines kept.graph.nodes ++ stored_edge_lines kept.graph.edges → DrawsPackages s m lines
 draws filters s m kept before after lines resolvable built written =
-    let sheet = built.drawn.sheet in
+    let outline = built.drawn.outline in
     let packages = built.values.packages in
     let nodes = nodes_written packages kept.graph.nodes built.values.made_of ∙ ap (λ drawn. node_lines drawn packages) built.drawn.drawing.nodes in
-    let edges = edges_written (drawing.lines sheet) kept.graph.edges built.drawn.drawing.edges in record {
+    let edges = edges_written (drawing.planned_edges outline) kept.graph.edges built.drawn.drawing.edges in record {
       kept = packages;
       others = built.reported.others;
       split = split_by filters IsListedOf IsCopied s m kept before after resolvable built;
-      sheet = sheet;
-      is_sheet = built.drawn.is_sheet;
-      written = written ∙ ap (λ front. front ++ stored_edge_lines kept.graph.edges) nodes ∙ ap (λ rest. node_lines (spots sheet) packages ++ rest) edges;
+      outline = outline;
+      is_outline = built.drawn.is_outline;
+      written = written ∙ ap (λ front. front ++ stored_edge_lines kept.graph.edges) nodes ∙ ap (λ rest. node_lines (planned_nodes outline) packages ++ rest) edges;
     }

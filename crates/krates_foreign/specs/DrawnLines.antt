@@ -7,9 +7,9 @@ use Rattle.krates_cm.specs.declared.metadata.Metadata.{Metadata}
 use Rattle.krates_cm.specs.declared.package.Package.{Package}
 use Rattle.krates_cli.specs.Listing.{IsSplit}
 use Rattle.krates_drawing.specs.Drawing as drawing
-use Rattle.krates_drawing.specs.Drawing.{CrateSpot, Dep, DepFeature, Feature, FeatureSpot, Line, Spot, Tie, spots}
-use Rattle.krates_drawing.specs.Sheet.{Sheet}
-use Rattle.krates_queries.specs.Drawn.{IsSheetFor}
+use Rattle.krates_drawing.specs.Drawing.{PlannedCrate, Dep, DepFeature, Feature, PlannedFeature, PlannedEdge, PlannedNode, EdgeModel, planned_nodes}
+use Rattle.krates_drawing.specs.Outline.{Outline}
+use Rattle.krates_queries.specs.Drawn.{IsOutlineFor}
 use Rattle.krates_rules.specs.Setting.{SettingModel}
 use Rattle.krates_rules.specs.declared.kind.DepKind.{DepKind}
 use Rattle.krates_rules.specs.declared.kind.DepKind.TheVariants as kinds
@@ -34,11 +34,11 @@ abbrev pub feature_line : ℕ → Text → Text
 feature_line krate name = codes "feature " ++ (decimal krate ++ (codes " " ++ (measured_text name ++ 10 ∷ [])))
 
 -- those of the nodes, where the crates among them are these packages
-abbrev pub node_lines : List Spot → List Package → Text
+abbrev pub node_lines : List PlannedNode → List Package → Text
 node_lines [] packages = []
-node_lines (FeatureSpot krate name ∷ nodes) packages = feature_line krate name ++ node_lines nodes packages
-node_lines (CrateSpot id mapping ∷ nodes) [] = []
-node_lines (CrateSpot id mapping ∷ nodes) (pkg ∷ packages) = crate_line (id_view pkg.id) mapping ++ node_lines nodes packages
+node_lines (PlannedFeature krate name ∷ nodes) packages = feature_line krate name ++ node_lines nodes packages
+node_lines (PlannedCrate id mapping ∷ nodes) [] = []
+node_lines (PlannedCrate id mapping ∷ nodes) (pkg ∷ packages) = crate_line (id_view pkg.id) mapping ++ node_lines nodes packages
 
 -- ---- edges
 
@@ -53,16 +53,16 @@ cfg_text None = []
 cfg_text (Some cfg) = codes " " ++ measured_text cfg
 
 -- what an edge says
-abbrev pub tie_text : Tie → Text
+abbrev pub tie_text : EdgeModel → Text
 tie_text (Dep kind cfg) = codes " dep" ++ (kind_text kind ++ cfg_text cfg)
 tie_text (DepFeature kind cfg) = codes " depfeature" ++ (kind_text kind ++ cfg_text cfg)
 tie_text Feature = codes " feature"
 
 -- the numbers of the nodes that an edge leaves and enters, and what it says
-abbrev pub edge_line : Line → Text
+abbrev pub edge_line : PlannedEdge → Text
 edge_line l = codes "edge " ++ (decimal l.source ++ (codes " " ++ (decimal l.target ++ (tie_text l.tie ++ 10 ∷ []))))
 
-abbrev pub edge_lines : List Line → Text
+abbrev pub edge_lines : List PlannedEdge → Text
 edge_lines lines = flat_map edge_line lines
 
 -- ---- of a document
@@ -73,6 +73,6 @@ pub record DrawsPackages (s : SettingModel) (m : Metadata) (lines : Text) : Type
   pub kept : List Package
   pub others : List Package
   pub split : IsSplit s m kept others
-  pub sheet : Sheet
-  pub is_sheet : IsSheetFor (metadata_view m) s sheet
-  pub written : lines ≡ node_lines (spots sheet) kept ++ edge_lines (drawing.lines sheet)
+  pub outline : Outline
+  pub is_outline : IsOutlineFor (metadata_view m) s outline
+  pub written : lines ≡ node_lines (planned_nodes outline) kept ++ edge_lines (drawing.planned_edges outline)

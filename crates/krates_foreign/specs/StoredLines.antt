@@ -3,7 +3,7 @@ use Rattle.std.specs.Prelude.{List}
 use Rattle.std.specs.List.{flat_map}
 use Rattle.krates_cm.specs.Document.{Text, id_view, text_view}
 use Rattle.krates_cli.specs.declared.listed.Listed.{Listed}
-use Rattle.krates_drawing.specs.Drawing.{Line}
+use Rattle.krates_drawing.specs.Drawing.{PlannedEdge}
 use Rattle.krates_drawing.specs.Views.{tie_view}
 use Rattle.krates_drawing.specs.declared.edge.Edge.{Edge}
 use Rattle.krates_graph.specs.declared.graph.edge.GraphEdge.{GraphEdge}
@@ -20,7 +20,7 @@ abbrev pub stored_node_lines : List (Node Listed) → Text
 stored_node_lines stored = flat_map stored_node_line stored
 
 -- the edge that is stored, as the drawing has it
-abbrev pub line_view : GraphEdge Edge → Line
+abbrev pub line_view : GraphEdge Edge → PlannedEdge
 line_view edge = record { source = edge.source; target = edge.target; tie = tie_view edge.weight }
 
 -- its line

@@ -10,7 +10,7 @@ use Rattle.std.specs.Option.{option_map}
 use Rattle.std.specs.Ordering.{nat_cmp}
 use Rattle.krates_cm.specs.Document.{Text, text_view}
 use Rattle.krates_drawing.specs.Agreement.{DependsOn, IsOf}
-use Rattle.krates_drawing.specs.Drawing.{CrateSpot, FeatureSpot}
+use Rattle.krates_drawing.specs.Drawing.{PlannedCrate, PlannedFeature}
 use Rattle.krates_drawing.specs.Stored.{LeadsAlong}
 use Rattle.krates_ids.specs.Identity.{Identity}
 use Rattle.krates_rules.specs.Facts.{Id}
@@ -21,7 +21,7 @@ use Rattle.krates_graph.specs.Graph.{numbers_at}
 use Rattle.krates_queries.specs.Direct.{id_and_value_at, id_and_value_in, value_at, value_in, Joined, IsLeastEdge, AreJoined, is_feature_in, is_feature_of, joined_by, joined_all, AreConnected}
 use Rattle.krates_queries.specs.DirectDependencies.{AreDependencies, home, home_in, numbers_in, named_by, target_in, targets_from}
 use Rattle.krates_queries.specs.DirectDependents.{AreDependents, IsDependent, source_in, sources_into, sources_over, sources_to}
-use Rattle.krates_queries.specs.Drawn.{node_spot}
+use Rattle.krates_queries.specs.Drawn.{planned_node}
 use Rattle.krates_queries.specs.Neighbours.{AreInOrder, first_edge}
 use Rattle.krates_drawing.specs.declared.node.Node.{Node}
 use Rattle.krates_drawing.specs.declared.node.Node.TheVariants.{Krate, Feature}
@@ -32,22 +32,22 @@ use Rattle.krates_rules.proofs.Members.{Member, member_of, contains_of, member_a
 
 -- ---- where an edge leads
 
-feature_spot : {N : Type 0} (o : Option (Node N)) (d : ℕ) → is_feature_in d o ≡ true → (name : Text) × (option_map node_spot o ≡ Some (FeatureSpot d name))
-feature_spot None d h = absurd cc
-feature_spot (Some (Krate id krate features mapping)) d h = absurd cc
-feature_spot (Some (Feature krate_index name)) d h = (text_view name, ap (λ k. Some (FeatureSpot k (text_view name))) ((Decides-eqb krate_index d).0 h))
+planned_feature : {N : Type 0} (o : Option (Node N)) (d : ℕ) → is_feature_in d o ≡ true → (name : Text) × (option_map planned_node o ≡ Some (PlannedFeature d name))
+planned_feature None d h = absurd cc
+planned_feature (Some (Krate id krate features mapping)) d h = absurd cc
+planned_feature (Some (Feature krate_index name)) d h = (text_view name, ap (λ k. Some (PlannedFeature k (text_view name))) ((Decides-eqb krate_index d).0 h))
 
-spot_feature : {N : Type 0} (o : Option (Node N)) (d : ℕ) (name : Text) → option_map node_spot o ≡ Some (FeatureSpot d name) → is_feature_in d o ≡ true
-spot_feature None d name h = absurd cc
-spot_feature (Some (Krate id krate features mapping)) d name h = absurd cc
-spot_feature (Some (Feature krate_index f)) d name h = (Decides-eqb krate_index d).1 cc
+planned_feature : {N : Type 0} (o : Option (Node N)) (d : ℕ) (name : Text) → option_map planned_node o ≡ Some (PlannedFeature d name) → is_feature_in d o ≡ true
+planned_feature None d name h = absurd cc
+planned_feature (Some (Krate id krate features mapping)) d name h = absurd cc
+planned_feature (Some (Feature krate_index f)) d name h = (Decides-eqb krate_index d).1 cc
 
 -- the node is a feature of `d`
-pub of_feature : {N : Type 0} (nodes : List (Node N)) (d n : ℕ) → is_feature_of nodes d n ≡ true → (name : Text) × (slice_get (map node_spot nodes) n ≡ Some (FeatureSpot d name))
-of_feature nodes d n h = let w = feature_spot (slice_get nodes n) d h in (w.0, slice_get-map node_spot nodes n ∙ w.1)
+pub of_feature : {N : Type 0} (nodes : List (Node N)) (d n : ℕ) → is_feature_of nodes d n ≡ true → (name : Text) × (slice_get (map planned_node nodes) n ≡ Some (PlannedFeature d name))
+of_feature nodes d n h = let w = planned_feature (slice_get nodes n) d h in (w.0, slice_get-map planned_node nodes n ∙ w.1)
 
-pub feature_of : {N : Type 0} (nodes : List (Node N)) (d n : ℕ) (name : Text) → slice_get (map node_spot nodes) n ≡ Some (FeatureSpot d name) → is_feature_of nodes d n ≡ true
-feature_of nodes d n name h = spot_feature (slice_get nodes n) d name (sym (slice_get-map node_spot nodes n) ∙ h)
+pub feature_of : {N : Type 0} (nodes : List (Node N)) (d n : ℕ) (name : Text) → slice_get (map planned_node nodes) n ≡ Some (PlannedFeature d name) → is_feature_of nodes d n ≡ true
+feature_of nodes d n name h = planned_feature (slice_get nodes n) d name (sym (slice_get-map planned_node nodes n) ∙ h)
 
 home_step : {N : Type 0} (o : Option (Node N)) (t d : ℕ) → home_in t o ≡ d → (t ≡ d) ⊎ (is_feature_in d o ≡ true)
 home_step None t d h = inl h
@@ -55,7 +55,7 @@ home_step (Some (Krate id krate features mapping)) t d h = inl h
 home_step (Some (Feature krate_index name)) t d h = inr ((Decides-eqb krate_index d).1 h)
 
 -- a node whose home is `d` is `d` or a feature of it
-of_home : {N : Type 0} (nodes : List (Node N)) (d t : ℕ) → home nodes t ≡ d → IsOf (map node_spot nodes) d t
+of_home : {N : Type 0} (nodes : List (Node N)) (d t : ℕ) → home nodes t ≡ d → IsOf (map planned_node nodes) d t
 of_home nodes d t h = elim (home_step (slice_get nodes t) t d h) [
   | inl same ↦ inl same
   | inr feature ↦ inr (of_feature nodes d t feature)
@@ -72,7 +72,7 @@ home_feature (Some (Krate id krate features mapping)) t d h = absurd cc
 home_feature (Some (Feature krate_index name)) t d h = (Decides-eqb krate_index d).0 h
 
 -- and the home of a crate and of its features is the crate
-home_of : {N : Type 0} (nodes : List (Node N)) (d t : ℕ) (x : N) → value_at nodes d ≡ Some x → IsOf (map node_spot nodes) d t → home nodes t ≡ d
+home_of : {N : Type 0} (nodes : List (Node N)) (d t : ℕ) (x : N) → value_at nodes d ≡ Some x → IsOf (map planned_node nodes) d t → home nodes t ≡ d
 home_of nodes d t x v (inl same) = ap (home nodes) same ∙ home_own (slice_get nodes d) d x v
 home_of nodes d t x v (inr w) = home_feature (slice_get nodes t) t d (feature_of nodes d t w.0 w.1)
 
@@ -83,14 +83,14 @@ pub record Leads {N E : Type 0} (nodes : List (Node N)) (edges : List (GraphEdge
   pub edge : GraphEdge E
   pub at : slice_get edges k ≡ Some edge
   pub from : edge.source ≡ p
-  pub to : IsOf (map node_spot nodes) d edge.target
+  pub to : IsOf (map planned_node nodes) d edge.target
 
 -- an edge that leads from `p` to `d` or to a feature of `d` has a number
-leading : {N E : Type 0} (nodes : List (Node N)) (edges : List (GraphEdge E)) (p d : ℕ) → LeadsAlong (map node_spot nodes) edges p d → (k : ℕ) × Leads nodes edges p d k
+leading : {N E : Type 0} (nodes : List (Node N)) (edges : List (GraphEdge E)) (p d : ℕ) → LeadsAlong (map planned_node nodes) edges p d → (k : ℕ) × Leads nodes edges p d k
 leading nodes edges p d w =
     (w.among.0, record { edge = w.edge; at = slice_get-get_or edges w.among.0 w.edge w.among.1 ∙ ap (λ e. Some e) w.among.2; from = w.from; to = w.to })
 
-pub least_leads : {N E : Type 0} (nodes : List (Node N)) (edges : List (GraphEdge E)) (p d k : ℕ) → IsLeastEdge nodes edges p d k → LeadsAlong (map node_spot nodes) edges p d
+pub least_leads : {N E : Type 0} (nodes : List (Node N)) (edges : List (GraphEdge E)) (p d k : ℕ) → IsLeastEdge nodes edges p d k → LeadsAlong (map planned_node nodes) edges p d
 least_leads nodes edges p d k w = record { edge = w.edge; among = contains_got edges k w.edge w.at; from = w.from; to = w.to }
 
 -- the neighbours are in order, and are exactly the crates that edges join so
@@ -343,13 +343,13 @@ named_entry : (mapping : List (Option ℕ)) (d : ℕ) → Member (numbers_in map
 named_entry [] d m = absurd m
 named_entry (o ∷ os) d m = named_step o os d m (named_entry os d)
 
-depends_at : {N : Type 0} (o : Option (Node N)) (d : ℕ) → Contains (named_by o) d → (id : Id) × (mapping : List (Option ℕ)) × (option_map node_spot o ≡ Some (CrateSpot id mapping)) × Contains mapping (Some d)
+depends_at : {N : Type 0} (o : Option (Node N)) (d : ℕ) → Contains (named_by o) d → (id : Id) × (mapping : List (Option ℕ)) × (option_map planned_node o ≡ Some (PlannedCrate id mapping)) × Contains mapping (Some d)
 depends_at None d c = absurd (member_of [] d c)
 depends_at (Some (Krate id krate features mapping)) d c =
     (id_of id, mapping.items, refl, contains_of mapping.items (Some d) (named_entry mapping.items d (member_of (numbers_in mapping.items) d c)))
 depends_at (Some (Feature krate_index name)) d c = absurd (member_of [] d c)
 
-depends_of : {N : Type 0} (o : Option (Node N)) (d : ℕ) (id : Id) (mapping : List (Option ℕ)) → option_map node_spot o ≡ Some (CrateSpot id mapping) → Contains mapping (Some d) → Contains (named_by o) d
+depends_of : {N : Type 0} (o : Option (Node N)) (d : ℕ) (id : Id) (mapping : List (Option ℕ)) → option_map planned_node o ≡ Some (PlannedCrate id mapping) → Contains mapping (Some d) → Contains (named_by o) d
 depends_of None d id mapping e c = absurd cc
 depends_of (Some (Krate i krate features m)) d id mapping e c =
     let same : mapping ≡ m.items = cc in
@@ -357,10 +357,10 @@ depends_of (Some (Krate i krate features m)) d id mapping e c =
 depends_of (Some (Feature krate_index name)) d id mapping e c = absurd cc
 
 -- a crate depends on exactly the crates that its mapping names
-pub depends_iff : {N : Type 0} (nodes : List (Node N)) (p d : ℕ) → Contains (named_by (slice_get nodes p)) d ↔ DependsOn (map node_spot nodes) p d
+pub depends_iff : {N : Type 0} (nodes : List (Node N)) (p d : ℕ) → Contains (named_by (slice_get nodes p)) d ↔ DependsOn (map planned_node nodes) p d
 depends_iff nodes p d = (
-  λ c. (let w = depends_at (slice_get nodes p) d c in record { id = w.0; mapping = w.1; at = slice_get-map node_spot nodes p ∙ w.2; among = w.3 }),
-  λ w. depends_of (slice_get nodes p) d w.id w.mapping (sym (slice_get-map node_spot nodes p) ∙ w.at) w.among,
+  λ c. (let w = depends_at (slice_get nodes p) d c in record { id = w.0; mapping = w.1; at = slice_get-map planned_node nodes p ∙ w.2; among = w.3 }),
+  λ w. depends_of (slice_get nodes p) d w.id w.mapping (sym (slice_get-map planned_node nodes p) ∙ w.at) w.among,
 )
 
 pub are_dependencies : {N E : Type 0} (nodes : List (Node N)) (edges : List (GraphEdge E)) (p : ℕ) (xs : List Neighbour) (ns : List ℕ) → AreConnected nodes edges → AreInOrder xs

@@ -3,7 +3,7 @@ use Rattle.std.proofs.Common.{◌≡◌, ◌↔◌, ℕ, ◌<◌, List, length, 
 use Rattle.std.proofs.lemmas.Bool.Decides.{Decides-eqb}
 use Rattle.std.specs.Bool.{⊤}
 use Rattle.std.specs.List.{list_any}
-use Rattle.krates_drawing.specs.Drawing.{Line}
+use Rattle.krates_drawing.specs.Drawing.{PlannedEdge}
 use Rattle.krates_drawing.specs.Paths.{LeadsWithout, Passes, Reaches, begins, goes_on}
 use Rattle.krates_drawing.specs.Views.{tie_view}
 use Rattle.krates_drawing.specs.declared.edge.Edge.{Edge}
@@ -47,9 +47,9 @@ stored kind edges n m w =
     record {
       edge = s.from;
       among = contains_of edges s.from s.member;
-      passes = subst (λ (l : Line). Passes kind l.tie) (sym s.is) w.passes;
-      near = ap (λ (l : Line). l.source) s.is ∙ w.from;
-      far = ap (λ (l : Line). l.target) s.is ∙ w.to;
+      passes = subst (λ (l : PlannedEdge). Passes kind l.tie) (sym s.is) w.passes;
+      near = ap (λ (l : PlannedEdge). l.source) s.is ∙ w.from;
+      far = ap (λ (l : PlannedEdge). l.target) s.is ∙ w.to;
     }
 
 -- from the same starts the same is reached

@@ -4,14 +4,14 @@ use Rattle.std.proofs.lemmas.Option.{slice_get-map}
 use Rattle.std.specs.List.{slice_get}
 use Rattle.krates_rules.specs.StepViews.{steps_view}
 use Rattle.krates_rules.specs.declared.derivation.Step.{Step}
-use Rattle.krates_explain.specs.Explanation.{HasTheseIds, IsDerivationOf, IsStepOf, explained_steps}
-use Rattle.krates_explain.specs.KeptFacts.{fact_in, step_in}
+use Rattle.krates_selection.specs.Explanation.{HasTheseIds, IsDerivationOf, IsStepOf, explained_steps}
+use Rattle.krates_selection.specs.KeptFacts.{fact_in, step_in}
 use Rattle.krates_ids.specs.Identity.{Identity}
 use Rattle.krates_rules.specs.Facts.{Id, Crate as CrateFact}
 use Rattle.krates_rules.specs.Steps.{EndsIn}
 use Rattle.krates_queries.proofs.CrateIds.{crate_id}
 use Rattle.krates_queries.proofs.NodeLemmas.{place_at}
-use Rattle.krates_queries.specs.Explained.{AreExplained, node_says}
+use Rattle.krates_queries.specs.KeptSteps.{AreExplained, node_says}
 use Rattle.krates_queries.specs.Kept.{AreNodes, KeptCrates, ids_of}
 use Rattle.krates_drawing.specs.Node.{CratesFirst, crate_ids}
 use Rattle.krates_queries.specs.Why.{IsWhy, node_fact}

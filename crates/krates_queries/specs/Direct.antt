@@ -5,12 +5,12 @@ use Rattle.std.specs.List.Sorted.{IsStrictlySortedBy}
 use Rattle.std.specs.Ordering.{nat_cmp}
 use Rattle.krates_cm.specs.Document.{Text}
 use Rattle.krates_drawing.specs.Agreement.{DependsOn, IsOf}
-use Rattle.krates_drawing.specs.Drawing.{FeatureSpot}
+use Rattle.krates_drawing.specs.Drawing.{PlannedFeature}
 use Rattle.krates_drawing.specs.Stored.{LeadsAlong}
 use Rattle.krates_graph.specs.declared.graph.edge.GraphEdge.{GraphEdge}
 use Rattle.krates_drawing.specs.Node.{is_own_feature}
 use Rattle.krates_ids.specs.Identity.{Identity}
-use Rattle.krates_queries.specs.Drawn.{node_spot}
+use Rattle.krates_queries.specs.Drawn.{planned_node}
 use Rattle.krates_queries.specs.declared.queries.direct.JoinedKrate.{JoinedKrate}
 use Rattle.krates_drawing.specs.declared.node.Node.{Node}
 use Rattle.krates_drawing.specs.declared.node.Node.TheVariants.{Krate, Feature}
@@ -54,8 +54,8 @@ pub record IsLeastEdge {N E : Type 0} (nodes : List (Node N)) (edges : List (Gra
   pub edge : GraphEdge E
   pub at : slice_get edges k ≡ Some edge
   pub from : edge.source ≡ p
-  pub to : IsOf (map node_spot nodes) d edge.target
-  pub least : (j : ℕ) (e : GraphEdge E) → slice_get edges j ≡ Some e → e.source ≡ p → IsOf (map node_spot nodes) d e.target → k ≤ j
+  pub to : IsOf (map planned_node nodes) d edge.target
+  pub least : (j : ℕ) (e : GraphEdge E) → slice_get edges j ≡ Some e → e.source ≡ p → IsOf (map planned_node nodes) d e.target → k ≤ j
 
 -- These are exactly the crates whose numbers have the property, each once, by number, each with its id, its value and such an edge.
 pub record AreJoined {N : Type 0} (nodes : List (Node N)) (Is : ℕ → Type 0) (IsEdge : ℕ → ℕ → Type 0) (joined : List (Joined N)) : Type 0 where
@@ -70,7 +70,7 @@ pub record AreJoined {N : Type 0} (nodes : List (Node N)) (Is : ℕ → Type 0) 
 pub record IsLedTo {N E : Type 0} (nodes : List (Node N)) (edges : List (GraphEdge E)) (p d : ℕ) : Type 0 where
   pub krate : N
   pub crate : value_at nodes d ≡ Some krate
-  pub leads : LeadsAlong (map node_spot nodes) edges p d
+  pub leads : LeadsAlong (map planned_node nodes) edges p d
 
 -- an edge leads from number p to number d
 pub record HasEdge {E : Type 0} (edges : List (GraphEdge E)) (p d : ℕ) : Type 0 where
@@ -82,8 +82,8 @@ pub record HasEdge {E : Type 0} (edges : List (GraphEdge E)) (p d : ℕ) : Type 
 -- What a mapping names is a crate, and an edge leads into it; from each feature an edge leads to its crate; and the nodes can be
 -- numbered.
 pub record AreConnected {N E : Type 0} (nodes : List (Node N)) (edges : List (GraphEdge E)) : Type 0 where
-  pub mappings : (p d : ℕ) → DependsOn (map node_spot nodes) p d → IsLedTo nodes edges p d
-  pub features : (n d : ℕ) (name : Text) → slice_get (map node_spot nodes) n ≡ Some (FeatureSpot d name) → HasEdge edges n d
+  pub mappings : (p d : ℕ) → DependsOn (map planned_node nodes) p d → IsLedTo nodes edges p d
+  pub features : (n d : ℕ) (name : Text) → slice_get (map planned_node nodes) n ≡ Some (PlannedFeature d name) → HasEdge edges n d
   pub numbered : length nodes < 2 ^ 32
 
 -- ---- steps

@@ -6,7 +6,7 @@ use Rattle.krates_graph.specs.declared.graph.edge.Direction.TheVariants.{Outgoin
 use Rattle.krates_graph.specs.declared.graph.edge.GraphEdge.{GraphEdge}
 use Rattle.krates_graph.specs.Graph.{numbers_at}
 use Rattle.krates_queries.specs.Direct.{Joined, AreJoined, IsLeastEdge}
-use Rattle.krates_queries.specs.Drawn.{node_spot}
+use Rattle.krates_queries.specs.Drawn.{planned_node}
 use Rattle.krates_drawing.specs.declared.node.Node.{Node}
 use Rattle.krates_drawing.specs.declared.node.Node.TheVariants.{Krate, Feature}
 use Rattle.krates_queries.specs.declared.queries.neighbours.Neighbour.{Neighbour}
@@ -14,7 +14,7 @@ use Rattle.krates_queries.specs.declared.queries.neighbours.Neighbour.{Neighbour
 -- These are the crates that the mapping of p names, each with the least edge from p to it or to a feature of it. A feature has no
 -- mapping, so there are none.
 abbrev pub AreDependencies : {N E : Type 0} → List (Node N) → List (GraphEdge E) → ℕ → List (Joined N) → Type 0
-AreDependencies nodes edges p joined = AreJoined nodes (DependsOn (map node_spot nodes) p) (IsLeastEdge nodes edges p) joined
+AreDependencies nodes edges p joined = AreJoined nodes (DependsOn (map planned_node nodes) p) (IsLeastEdge nodes edges p) joined
 
 -- ---- steps
 

@@ -6,7 +6,7 @@ use Rattle.krates_graph.specs.declared.graph.edge.Direction.TheVariants.{Incomin
 use Rattle.krates_graph.specs.declared.graph.edge.GraphEdge.{GraphEdge}
 use Rattle.krates_graph.specs.Graph.{numbers_at}
 use Rattle.krates_queries.specs.Direct.{Joined, AreJoined, IsLeastEdge, is_feature_of, value_at}
-use Rattle.krates_queries.specs.Drawn.{node_spot}
+use Rattle.krates_queries.specs.Drawn.{planned_node}
 use Rattle.krates_drawing.specs.declared.node.Node.{Node}
 use Rattle.krates_queries.specs.declared.queries.neighbours.Neighbour.{Neighbour}
 
@@ -15,7 +15,7 @@ use Rattle.krates_queries.specs.declared.queries.neighbours.Neighbour.{Neighbour
 pub record IsDependent {N E : Type 0} (nodes : List (Node N)) (edges : List (GraphEdge E)) (d p : ℕ) : Type 0 where
   pub krate : N
   pub crate : value_at nodes p ≡ Some krate
-  pub leads : LeadsAlong (map node_spot nodes) edges p d
+  pub leads : LeadsAlong (map planned_node nodes) edges p d
 
 -- these are those crates, each with the least of such edges
 abbrev pub AreDependents : {N E : Type 0} → List (Node N) → List (GraphEdge E) → ℕ → List (Joined N) → Type 0

@@ -2,8 +2,8 @@
 use Rattle.std.specs.Prelude.{◌≡◌, ◌<◌, ◌-◌, ◌^◌, length, map}
 use Rattle.std.specs.List.{AllZip}
 use Rattle.krates_cm.specs.Document.{MetadataModel, text_view}
-use Rattle.krates_drawing.specs.Drawing.{Spot, CrateSpot, FeatureSpot, lines, spots}
-use Rattle.krates_drawing.specs.Sheet.{Sheet, IsSheet}
+use Rattle.krates_drawing.specs.Drawing.{PlannedNode, PlannedCrate, PlannedFeature, planned_edges, planned_nodes}
+use Rattle.krates_drawing.specs.Outline.{Outline, IsOutline}
 use Rattle.krates_drawing.specs.Stored.{IsStoredAs}
 use Rattle.krates_drawing.specs.declared.edge.Edge.{Edge}
 use Rattle.krates_graph.specs.Graph.{StoredGraph}
@@ -15,30 +15,30 @@ use Rattle.krates_drawing.specs.declared.node.Node.{Node}
 use Rattle.krates_drawing.specs.declared.node.Node.TheVariants.{Krate, Feature}
 
 -- the drawn node that a node stands for: a crate with its mapping, or a feature of the crate of a number
-abbrev pub node_spot : {N : Type 0} → Node N → Spot
-node_spot (Krate id krate features mapping) = CrateSpot (id_of id) mapping.items
-node_spot (Feature krate_index name) = FeatureSpot krate_index (text_view name)
+abbrev pub planned_node : {N : Type 0} → Node N → PlannedNode
+planned_node (Krate id krate features mapping) = PlannedCrate (id_of id) mapping.items
+planned_node (Feature krate_index name) = PlannedFeature krate_index (text_view name)
 
 -- the nodes and the edges are the drawn ones, number by number, and the edges carry what is made from them
-pub record IsDrawing {N E : Type 0} (made : Edge → E → Type 0) (t : Sheet) (g : StoredGraph (Node N) E) : Type 0 where
-  pub nodes : map node_spot g.nodes ≡ spots t
-  pub edges : AllZip (IsStoredAs made) (lines t) g.edges
+pub record IsDrawing {N E : Type 0} (made : Edge → E → Type 0) (t : Outline) (g : StoredGraph (Node N) E) : Type 0 where
+  pub nodes : map planned_node g.nodes ≡ planned_nodes t
+  pub edges : AllZip (IsStoredAs made) (planned_edges t) g.edges
 
--- the sheet is that of exactly what is derivable
-pub record HasSheet (r : Resolved) (s : SettingModel) (t : Sheet) : Type 0 where
+-- the outline is that of exactly what is derivable
+pub record HasOutline (r : Resolved) (s : SettingModel) (t : Outline) : Type 0 where
   pub selection : Selection
   pub selected : IsSelection r s selection
-  pub is_sheet : IsSheet r s selection t
+  pub is_outline : IsOutline r s selection t
 
--- the sheet is that of what is selected of the document
-abbrev pub IsSheetFor : MetadataModel → SettingModel → Sheet → Type 0
-IsSheetFor m s t = HasGraphWith m (λ g. HasSheet (resolved m g) s t)
+-- the outline is that of what is selected of the document
+abbrev pub IsOutlineFor : MetadataModel → SettingModel → Outline → Type 0
+IsOutlineFor m s t = HasGraphWith m (λ g. HasOutline (resolved m g) s t)
 
 -- The graph is the drawing of exactly what is derivable.
 pub record IsDrawn {N E : Type 0} (made : Edge → E → Type 0) (m : MetadataModel) (s : SettingModel) (g : StoredGraph (Node N) E) : Type 0 where
-  pub sheet : Sheet
-  pub is_sheet : IsSheetFor m s sheet
-  pub drawing : IsDrawing made sheet g
+  pub outline : Outline
+  pub is_outline : IsOutlineFor m s outline
+  pub drawing : IsDrawing made outline g
 
 -- there are no more nodes and no more edges than can be numbered, and the graph takes no more
 pub record IsNumbered {N E : Type 0} (g : StoredGraph (Node N) E) : Type 0 where
@@ -48,6 +48,6 @@ pub record IsNumbered {N E : Type 0} (g : StoredGraph (Node N) E) : Type 0 where
   pub edge_limit : g.edge_limit ≡ 2 ^ 32 - 1
 
 -- the same for what is drawn
-pub record CanBeNumbered (t : Sheet) : Type 0 where
-  pub nodes : length (spots t) < 2 ^ 32
-  pub edges : length (lines t) < 2 ^ 32
+pub record CanBeNumbered (t : Outline) : Type 0 where
+  pub nodes : length (planned_nodes t) < 2 ^ 32
+  pub edges : length (planned_edges t) < 2 ^ 32

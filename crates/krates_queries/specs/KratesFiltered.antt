@@ -3,7 +3,7 @@ use Rattle.std.specs.Prelude.{◌≡◌, ◌↔◌, ℕ, List, Contains, map}
 use Rattle.std.specs.List.{filter_map}
 use Rattle.std.specs.List.Sorted.{IsStrictlySortedBy}
 use Rattle.std.specs.Ordering.{nat_cmp}
-use Rattle.krates_drawing.specs.Drawing.{Line}
+use Rattle.krates_drawing.specs.Drawing.{PlannedEdge}
 use Rattle.krates_drawing.specs.Paths.{LeadsWithout, Reaches}
 use Rattle.krates_drawing.specs.Views.{tie_view}
 use Rattle.krates_drawing.specs.declared.edge.Edge.{Edge}
@@ -13,7 +13,7 @@ use Rattle.krates_queries.specs.Direct.{value_at}
 use Rattle.krates_drawing.specs.declared.node.Node.{Node}
 
 -- the stored edge, as the definition of paths sees it
-abbrev pub line_view : GraphEdge Edge → Line
+abbrev pub line_view : GraphEdge Edge → PlannedEdge
 line_view e = record { source = e.source; target = e.target; tie = tie_view e.weight }
 
 -- the node stands at the end of a path that begins at a member and whose edges have no kind or another

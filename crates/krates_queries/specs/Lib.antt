@@ -4,10 +4,10 @@ pub mod Direct
 pub mod DirectDependencies
 pub mod DirectDependents
 pub mod Drawn
-pub mod Explained
 pub mod GetDeps
 pub mod GetNode
 pub mod Kept
+pub mod KeptSteps
 pub mod KrateNodes
 pub mod KratesFiltered
 pub mod Matches

@@ -4,7 +4,7 @@ use Rattle.krates_cm.specs.Document.{text_view}
 use Rattle.krates_rules.specs.StepViews.{steps_view}
 use Rattle.krates_rules.specs.declared.derivation.Derivation.{Derivation}
 use Rattle.krates_rules.specs.declared.derivation.Step.{Step}
-use Rattle.krates_explain.specs.Explanation.{HasTheseIds}
+use Rattle.krates_selection.specs.Explanation.{HasTheseIds}
 use Rattle.krates_selection.specs.CrateNumbers.{id_at}
 use Rattle.krates_ids.specs.Identity.{Identity}
 use Rattle.krates_rules.specs.Facts.{Crate as CrateFact, Fact, Feature as FeatureFact}
@@ -13,7 +13,7 @@ use Rattle.krates_rules.specs.Resolved.{Resolved, id_of}
 use Rattle.krates_rules.specs.Setting.{SettingModel}
 use Rattle.krates_rules.specs.StepParts.{HaveOwnFacts, IsUsedLater}
 use Rattle.krates_rules.specs.Steps.{EachFollows, EndsIn, IsAccepted}
-use Rattle.krates_queries.specs.Explained.{steps_of}
+use Rattle.krates_queries.specs.KeptSteps.{steps_of}
 use Rattle.krates_queries.specs.Kept.{KeptCrates, ids_of}
 use Rattle.krates_drawing.specs.declared.node.Node.{Node}
 use Rattle.krates_drawing.specs.declared.node.Node.TheVariants.{Krate, Feature}

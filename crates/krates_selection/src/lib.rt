@@ -1,13 +1,34 @@
-//! Selections: what is kept of a document under a setting, in which order, how much work it was, and the steps by which it was found.
+//! What a search found of a document under a setting, the steps by which, and the derivations told from them.
 //!
-//! A search makes them, in the crate that resolves; what is drawn, explained or asked of a graph needs no more than what is said here.
+//! What a search found is a selection: what is kept, in which order, and how much work it was, with a step for each fact. The crate that resolves
+//! makes it; what is drawn or asked of a graph needs no more than what is said here.
+//!
+//! A build keeps the steps: each fact once, by the numbers of the kept crates. Of these the derivation of one fact is told, with ids.
+//! Parts of lists of steps are told by number alone: those on which one step stands, and the first step of each fact. What a step says is
+//! another's concern: a part of a list of steps that follow follows too, whatever they say.
 #![tactic(auto)]
 
+mod choosing;
 pub mod comparisons;
+mod derivation;
+mod explaining;
+mod firsts;
+pub mod kept;
+mod key;
+mod keys;
+mod laws;
+mod marking;
+mod numbering;
+mod part_of_steps;
 pub mod selection;
+mod shortening;
+mod telling;
 pub mod trace;
 pub mod work;
 
+pub use derivation::{derivation_of, facts_of};
+pub use explaining::kept_steps;
+pub use kept::{CrateOrFeature, Explanation, KeptFact, KeptStep, step_of};
 pub use selection::{EnabledFeature, KeptEdge, Selection, ToggledFeature};
 pub use trace::{NumberedFact, NumberedStep, Reason};
 pub use work::Work;

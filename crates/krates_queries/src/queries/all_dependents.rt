@@ -1,33 +1,18 @@
 //! The crates from which a path of edges leads to a node.
 
-ghost use Rattle.std.specs.Prelude.{◌≡◌, ◌++◌, IfOk, OnOk, map, option_map};
+ghost use Rattle.std.specs.Prelude.{◌≡◌, ◌++◌, IfOk, OnOk, map};
 ghost use Rattle.std.specs.List.{filter_map};
 ghost use Rattle.krates_drawing.specs.Views.{listed};
 ghost use Rattle.krates_queries.specs.AllDependents.{AreAllDependents, match_at};
 ghost use Rattle.krates_queries.specs.KrateNodes.{match_view};
 
 use crate::kept::Krates;
-use crate::queries::krate_nodes::KrateMatch;
+use crate::queries::krate_nodes::{KrateMatch, krate_at};
 use crate::queries::reached::nodes_put;
 use crate::queries::reaches::leading_to;
 use krates_drawing::node::Node;
 use krates_graph::graph::NodeId;
 use std::alloc::{AllocError, Global};
-
-/// The crate of a number; `None` for a feature, and where there is no node.
-fn crate_at<N>(nodes: &[Node<N>], number: NodeId) -> Option<KrateMatch<'_, N>>
-    ensures { option_map match_view result ≡ match_at nodes.now number }
-{
-    match nodes.get(number.index()) {
-        Some(Node::Krate { id, krate, .. }) => Some(KrateMatch {
-            krate,
-            kid: id,
-            node_id: number,
-        }),
-        Some(Node::Feature { .. }) => None,
-        None => None,
-    }
-}
 
 /// Adds the crate of a number, if it is one.
 fn push_crate<'a, N>(
@@ -38,7 +23,7 @@ fn push_crate<'a, N>(
     ensures { OnOk result (map match_view found.new.items
         ≡ map match_view found.old.items ++ listed (match_at nodes.now number)) }
 {
-    match crate_at(nodes, number) {
+    match krate_at(nodes, number) {
         Some(krate) => match found.push(krate) {
             Ok(()) => Ok(()),
             Err(_) => Err(AllocError),

@@ -1,30 +1,18 @@
 //! Crates that are joined by an edge.
 
-ghost use Rattle.std.specs.Prelude.{◌≡◌, ◌++◌, ◌↔◌, ℕ, Contains, IfOk, OnOk, map, option_map};
+ghost use Rattle.std.specs.Prelude.{◌≡◌, ◌++◌, ◌↔◌, ℕ, Contains, IfOk, OnOk, map};
 ghost use Rattle.std.specs.List.Sorted.{IsStrictlySortedBy};
 ghost use Rattle.std.specs.Ordering.{nat_cmp};
 ghost use Rattle.krates_drawing.specs.Views.{listed};
-ghost use Rattle.krates_queries.specs.Direct.{id_and_value_at, is_feature_of as is_feature, joined_all, joined_by, joined_view, value_at};
+ghost use Rattle.krates_queries.specs.Direct.{id_and_value_at, is_feature_of as is_feature, joined_all, joined_by, joined_view};
 ghost use Rattle.krates_queries.specs.Neighbours.{AreInOrder, first_edge};
 
+use crate::queries::krate_nodes::{KrateMatch, krate_at};
 use crate::queries::neighbours::{Neighbour, edge_of};
 use krates_drawing::node::Node;
 use krates_graph::graph::{EdgeId, NodeId};
 use krates_ids::Kid;
 use std::alloc::{AllocError, Global};
-
-/// The id of the crate of a number, and what stands for it; `None` for a feature, and where there is no node.
-pub(crate) fn krate_at<N>(nodes: &[Node<N>], number: NodeId) -> Option<(&Kid, &N)>
-    ensures both { option_map (λ found. (found.0.now, found.1.now)) result
-        ≡ id_and_value_at nodes.now number }
-    ensures value { option_map (λ found. found.1.now) result ≡ value_at nodes.now number }
-{
-    match nodes.get(number.index()) {
-        Some(Node::Krate { id, krate, .. }) => Some((id, krate)),
-        Some(Node::Feature { .. }) => None,
-        None => None,
-    }
-}
 
 /// Whether the number is that of a feature of the crate of another.
 pub(crate) fn is_feature_of<N>(nodes: &[Node<N>], krate: NodeId, number: NodeId) -> bool
@@ -60,7 +48,7 @@ fn push_joined<'a, N>(
     ensures { OnOk result (map joined_view found.new.items ≡ map joined_view found.old.items
         ++ listed (joined_by number (id_and_value_at nodes.now number) (first_edge neighbours.now number))) }
 {
-    let Some((kid, krate)) = krate_at(nodes, number) else {
+    let Some(KrateMatch { krate, kid, .. }) = krate_at(nodes, number) else {
         return Ok(());
     };
     let Some(edge_id) = edge_of(neighbours, number) else {

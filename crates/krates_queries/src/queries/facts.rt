@@ -1,16 +1,16 @@
 //! All that is kept, as facts.
 
 ghost use Rattle.std.specs.Prelude.{◌≡◌, All, IfOk};
-ghost use Rattle.krates_explain.specs.Explanation.{HasTheseIds};
-ghost use Rattle.krates_explain.specs.KeptFacts.{facts_in};
+ghost use Rattle.krates_selection.specs.Explanation.{HasTheseIds};
+ghost use Rattle.krates_selection.specs.KeptFacts.{facts_in};
 ghost use Rattle.krates_rules.specs.StepParts.{HaveOwnFacts};
-ghost use Rattle.krates_queries.specs.Explained.{steps_of};
+ghost use Rattle.krates_queries.specs.KeptSteps.{steps_of};
 ghost use Rattle.krates_queries.specs.Kept.{ids_of};
 ghost use Rattle.krates_rules.specs.StepViews.{facts_view};
 
 use crate::kept::Krates;
-use krates_explain::facts_of;
 use krates_rules::Fact;
+use krates_selection::facts_of;
 use std::alloc::AllocError;
 
 impl<N, E> Krates<N, E> {

@@ -23,7 +23,7 @@ impl<N, E> Index<NodeId> for Krates<N, E> {
     ghost index_gives = { λ krates id krate. slice_get (values_of krates) id ≡ Some krate };
 
     fn index(&self, id: NodeId) -> &N {
-        krate_at(self.nodes(), id.index())
+        value_at(self.nodes(), id.index())
     }
 }
 
@@ -42,12 +42,12 @@ impl<N, E> Index<usize> for Krates<N, E> {
     ghost index_gives = { λ krates number krate. slice_get (values_of krates) number ≡ Some krate };
 
     fn index(&self, number: usize) -> &N {
-        krate_at(self.nodes(), number)
+        value_at(self.nodes(), number)
     }
 }
 
 /// What stands for the package of the crate of this number.
-fn krate_at<N>(nodes: &[Node<N>], number: usize) -> &N
+fn value_at<N>(nodes: &[Node<N>], number: usize) -> &N
     requires first { AreNodes nodes.now }
     requires stands { number < length (crate_ids nodes.now) }
     ensures { slice_get (crate_values nodes.now) number ≡ Some result.now }

@@ -1,8 +1,10 @@
 //! The kept crates, each with its number and its id.
 
-ghost use Rattle.std.specs.Prelude.{◌≡◌, ◌<◌, All, length, map};
+ghost use Rattle.std.specs.Prelude.{◌≡◌, ◌<◌, All, length, map, option_map};
 ghost use Rattle.std.specs.Iterator.{YieldsFirstBy, item_count};
 ghost use Rattle.std.specs.List.{range_with_len};
+ghost use Rattle.krates_queries.specs.AllDependents.{match_at};
+ghost use Rattle.krates_queries.specs.Direct.{id_and_value_at, value_at};
 ghost use Rattle.krates_queries.specs.Kept.{AreOrdered, ids_of, values_of};
 ghost use Rattle.krates_queries.specs.KrateNodes.{crates_of, match_view};
 
@@ -21,6 +23,24 @@ pub struct KrateMatch<'a, N> {
     pub kid: &'a Kid,
     /// The number of its node.
     pub node_id: NodeId,
+}
+
+/// The crate of a number; `None` for a feature, and where there is no node.
+pub(crate) fn krate_at<N>(nodes: &[Node<N>], number: NodeId) -> Option<KrateMatch<'_, N>>
+    ensures is { option_map match_view result ≡ match_at nodes.now number }
+    ensures both { option_map (λ found. (found.kid.now, found.krate.now)) result
+        ≡ id_and_value_at nodes.now number }
+    ensures value { option_map (λ found. found.krate.now) result ≡ value_at nodes.now number }
+{
+    match nodes.get(number.index()) {
+        Some(Node::Krate { id, krate, .. }) => Some(KrateMatch {
+            krate,
+            kid: id,
+            node_id: number,
+        }),
+        Some(Node::Feature { .. }) => None,
+        None => None,
+    }
 }
 
 impl<N, E> Krates<N, E> {

@@ -8,7 +8,7 @@ ghost use Rattle.krates_queries.specs.KratesFiltered.{AreReached, IsReached};
 ghost use Rattle.krates_queries.specs.Reached.{Grows};
 
 use crate::kept::Krates;
-use crate::queries::direct::krate_at;
+use crate::queries::krate_nodes::krate_at;
 use crate::queries::reached::{WithoutKind, nodes_put, put_reached};
 use krates_drawing::edge::Edge;
 use krates_drawing::node::Node;
@@ -61,7 +61,7 @@ fn push_krate<'a, N>(
         ≡ map (λ krate. krate.now) krates.old.items ++ listed (value_at nodes.now number)) }
 {
     match krate_at(nodes, number) {
-        Some((_, krate)) => match krates.push(krate) {
+        Some(found) => match krates.push(found.krate) {
             Ok(()) => Ok(()),
             Err(_) => Err(AllocError),
         },

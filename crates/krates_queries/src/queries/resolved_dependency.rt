@@ -4,7 +4,7 @@ ghost use Rattle.std.specs.Prelude.{◌≡◌, Some, option_map};
 ghost use Rattle.krates_queries.specs.ResolvedDependency.{number_in, resolved_at};
 
 use crate::kept::Krates;
-use crate::queries::direct::krate_at;
+use crate::queries::krate_nodes::krate_at;
 use krates_drawing::node::Node;
 use krates_graph::graph::NodeId;
 
@@ -32,7 +32,10 @@ impl<N, E> Krates<N, E> {
     {
         let nodes = self.graph().raw_nodes();
         let number = number_at(nodes.get(node.index())?, place)?;
-        let (_, krate) = krate_at(nodes, number)?;
-        Some(krate)
+        // What `?` makes of no crate would have to own references.
+        let Some(found) = krate_at(nodes, number) else {
+            return None;
+        };
+        Some(found.krate)
     }
 }

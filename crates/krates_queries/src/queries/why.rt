@@ -1,16 +1,16 @@
 //! Why a node is there.
 
 ghost use Rattle.std.specs.Prelude.{◌≡◌, IfOk};
-ghost use Rattle.krates_explain.specs.KeptFacts.{subject_view};
-ghost use Rattle.krates_queries.specs.Explained.{node_says};
+ghost use Rattle.krates_selection.specs.KeptFacts.{subject_view};
+ghost use Rattle.krates_queries.specs.KeptSteps.{node_says};
 ghost use Rattle.krates_queries.specs.Why.{TellsWhy};
 
 use crate::kept::Krates;
 use crate::numbers::node_at;
 use krates_drawing::node::Node;
-use krates_explain::{Subject, derivation_of, step_of};
 use krates_graph::graph::NodeId;
 use krates_rules::Derivation;
+use krates_selection::{CrateOrFeature, derivation_of, step_of};
 use std::alloc::AllocError;
 
 impl<N, E> Krates<N, E> {
@@ -44,11 +44,14 @@ impl<N, E> Krates<N, E> {
 }
 
 /// What the node of a number says.
-fn subject_of<N>(number: usize, node: &Node<N>) -> Subject<'_>
+fn subject_of<N>(number: usize, node: &Node<N>) -> CrateOrFeature<'_>
     ensures { subject_view result ≡ node_says number node.now }
 {
     match node {
-        Node::Krate { .. } => Subject::Crate(number),
-        Node::Feature { krate_index, name } => Subject::Feature(krate_index.index(), name.as_str()),
+        Node::Krate { .. } => CrateOrFeature::Crate(number),
+        Node::Feature { krate_index, name } => CrateOrFeature::Feature(
+            krate_index.index(),
+            name.as_str(),
+        ),
     }
 }

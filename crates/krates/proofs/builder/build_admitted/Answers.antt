@@ -7,11 +7,11 @@ use Rattle.krates_cm.specs.Document.{metadata_view}
 use Rattle.krates_cm.specs.declared.metadata.Metadata.{Metadata}
 use Rattle.krates_document.specs.Ids.{ids_view}
 use Rattle.krates_document.specs.declared.ids.Ids.{Ids}
-use Rattle.krates_drawing.specs.Views.{sheet_view}
-use Rattle.krates_drawing.specs.declared.sheet.Krate.{Krate as SheetKrate}
-use Rattle.krates_explain.specs.declared.kept.KeptStep.{KeptStep}
+use Rattle.krates_drawing.specs.Views.{outline_view}
+use Rattle.krates_drawing.specs.declared.outline.CrateRow.{CrateRow}
+use Rattle.krates_selection.specs.declared.kept.KeptStep.{KeptStep}
 use Rattle.krates_ids.specs.Identity.{Identity, id_cmp}
-use Rattle.krates_drawing.specs.Division.{IsDivision, sheet_ids}
+use Rattle.krates_drawing.specs.Division.{IsDivision, outline_ids}
 use Rattle.krates_queries.specs.Kept.{AreNodes}
 use Rattle.krates_drawing.specs.Krate.{krate_ids, krate_packages}
 use Rattle.krates.specs.declared.builder.Rest.{Rest}
@@ -20,7 +20,7 @@ use Rattle.krates.specs.Members.{AreNumbersOf}
 use Rattle.krates_drawing.specs.Node.{crate_ids}
 use Rattle.krates.proofs.BuildLemmas.{package_ids, ids_distinct, resolvable}
 use Rattle.krates.proofs.ConnectedLemmas.{agrees, connects}
-use Rattle.krates.proofs.DrawnLemmas.{builds_sheet, is_built, kept_ids, sheet_stands}
+use Rattle.krates.proofs.DrawnLemmas.{builds_outline, is_built, kept_ids, outline_stands}
 use Rattle.krates.proofs.ExplainedLemmas.{explained_by, explains}
 use Rattle.krates.proofs.Numbered.{numbered, numbered_graph, undrawn, undrawn_names}
 use Rattle.krates.proofs.MemberLemmas.{crate_numbers, kept_members}
@@ -31,11 +31,11 @@ use Rattle.krates.proofs.builder.build_admitted.Goals as goal
 abbrev IsRestOf : Metadata → Ids → Rest → Type 0
 IsRestOf m ids p = p ≡ record { packages = m.packages; kids = ids.packages; members = ids.members; workspace_root = m.workspace_root }
 
--- what is divided are the document's packages, by the crates of the sheet
-divided_of : (m : Metadata) (ids : Ids) (rest : Rest) (krates ks : List SheetKrate) (d : Division) → IsRestOf m ids rest → ks ≡ krates
-    → IsDivision rest.packages.items (sheet_ids ks) d → IsDivision m.packages.items (sheet_ids krates) d
+-- what is divided are the document's packages, by the crates of the outline
+divided_of : (m : Metadata) (ids : Ids) (rest : Rest) (krates ks : List CrateRow) (d : Division) → IsRestOf m ids rest → ks ≡ krates
+    → IsDivision rest.packages.items (outline_ids ks) d → IsDivision m.packages.items (outline_ids krates) d
 divided_of m ids rest krates ks d is same h =
-    subst (λ (ks : List SheetKrate). IsDivision m.packages.items (sheet_ids ks) d) same (subst (λ (p : Rest). IsDivision p.packages.items (sheet_ids ks) d) is h)
+    subst (λ (ks : List CrateRow). IsDivision m.packages.items (outline_ids ks) d) same (subst (λ (p : Rest). IsDivision p.packages.items (outline_ids ks) d) is h)
 
 -- what holds of what was made holds of it as it is handed on
 handed : {A E : Type 0} (P : A → Type 0) (made : Result A E) (x : A) → Ok x ≡ made → IfOk made P → P x
@@ -48,19 +48,19 @@ pub divide-requires-clause-distinct : goal.divide-requires-clause-distinct
 divide-requires-clause-distinct g c = rw (c.rest_of-rest.ensures) (ids_distinct (metadata_view c.args.metadata) (ids_view c.args.ids) c.requires.admitted)
 
 pub divide-requires-clause-ascending : goal.divide-requires-clause-ascending
-divide-requires-clause-ascending g c = subst (λ (ks : List SheetKrate). IsStrictlySortedBy id_cmp (sheet_ids ks)) (sym c.deref.ensures.value) c.in_ok-sketch.ensures.sketched.ordered.krates
+divide-requires-clause-ascending g c = subst (λ (ks : List CrateRow). IsStrictlySortedBy id_cmp (outline_ids ks)) (sym c.deref.ensures.value) c.in_ok-sketch.ensures.sketched.ordered.krates
 
 pub returns-in_err-graph-clause-refused : goal.returns-in_err-graph-clause-refused
 returns-in_err-graph-clause-refused g c =
     let error = c.in_err-graph.field-0.0 in
-    let refused = undrawn (metadata_view c.args.metadata) c.args.setting.now (sheet_view c.in_ok-sketch.sketch.sheet) c.in_ok-sketch.ensures.sketched.sheet error c.in_err-graph.ensures.refused in
+    let refused = undrawn (metadata_view c.args.metadata) c.args.setting.now (outline_view c.in_ok-sketch.sketch.outline) c.in_ok-sketch.ensures.sketched.outline error c.in_err-graph.ensures.refused in
     let p = err_from_is_err_and c.from_residual-in_err-graph.result c.from_residual-in_err-graph.ensures.1 in
     rw (p.1, p.2) refused
 
 pub returns-in_err-graph-clause-named : goal.returns-in_err-graph-clause-named
 returns-in_err-graph-clause-named g c =
     let error = c.in_err-graph.field-0.0 in
-    let named = undrawn_names (metadata_view c.args.metadata) (sheet_view c.in_ok-sketch.sketch.sheet) error c.in_err-graph.ensures.refused in
+    let named = undrawn_names (metadata_view c.args.metadata) (outline_view c.in_ok-sketch.sketch.outline) error c.in_err-graph.ensures.refused in
     let p = err_from_is_err_and c.from_residual-in_err-graph.result c.from_residual-in_err-graph.ensures.1 in
     rw (p.1, p.2) named
 
@@ -68,26 +68,26 @@ pub graph_of-requires-clause-ids : goal.graph_of-requires-clause-ids
 graph_of-requires-clause-ids g c =
     let o : Compares = record { total = c.comparison.ensures.total; tells = c.comparison.ensures.order } in
     let division = c.in_ok-division.division in
-    let divided = divided_of c.args.metadata c.args.ids c.rest_of-rest.result c.in_ok-sketch.sketch.sheet.krates.items c.deref.result.now division c.rest_of-rest.ensures c.deref.ensures.value c.in_ok-division.ensures in
-    let b = builds_sheet c.one_reading.ensures.once c.args.metadata c.args.setting.now c.in_ok-sketch.sketch.sheet division c.in_ok-sketch.ensures.sketched.sheet divided in
-    kept_ids o c.args.metadata c.args.setting.now c.in_ok-sketch.sketch.sheet division c.in_ok-sketch.ensures.sketched.sheet c.in_ok-sketch.ensures.sketched.ordered b
+    let divided = divided_of c.args.metadata c.args.ids c.rest_of-rest.result c.in_ok-sketch.sketch.outline.krates.items c.deref.result.now division c.rest_of-rest.ensures c.deref.ensures.value c.in_ok-division.ensures in
+    let b = builds_outline c.one_reading.ensures.once c.args.metadata c.args.setting.now c.in_ok-sketch.sketch.outline division c.in_ok-sketch.ensures.sketched.outline divided in
+    kept_ids o c.args.metadata c.args.setting.now c.in_ok-sketch.sketch.outline division c.in_ok-sketch.ensures.sketched.outline c.in_ok-sketch.ensures.sketched.ordered b
 
 pub graph_of-requires-clause-ordered : goal.graph_of-requires-clause-ordered
 graph_of-requires-clause-ordered g c = c.in_ok-sketch.ensures.sketched.ordered
 
 pub graph_of-requires-clause-stand : goal.graph_of-requires-clause-stand
-graph_of-requires-clause-stand g c = sheet_stands c.ends_stand.ensures (metadata_view c.args.metadata) c.args.setting.now (sheet_view c.in_ok-sketch.sketch.sheet) c.in_ok-sketch.ensures.sketched.sheet
+graph_of-requires-clause-stand g c = outline_stands c.ends_stand.ensures (metadata_view c.args.metadata) c.args.setting.now (outline_view c.in_ok-sketch.sketch.outline) c.in_ok-sketch.ensures.sketched.outline
 
 pub members_of-found-requires : goal.members_of-found-requires
 members_of-found-requires g c =
     let o : Compares = record { total = c.comparison.ensures.total; tells = c.comparison.ensures.order } in
     let division = c.in_ok-division.division in
     let graph = c.in_ok-graph.ensures.graph in
-    let sheet_is = c.in_ok-sketch.ensures.sketched.sheet in
-    let divided = divided_of c.args.metadata c.args.ids c.rest_of-rest.result c.in_ok-sketch.sketch.sheet.krates.items c.deref.result.now division c.rest_of-rest.ensures c.deref.ensures.value c.in_ok-division.ensures in
-    let b = builds_sheet c.one_reading.ensures.once c.args.metadata c.args.setting.now c.in_ok-sketch.sketch.sheet division sheet_is divided in
-    let n = numbered g.E.FromEdge.made_from_edge (sheet_view c.in_ok-sketch.sketch.sheet) c.in_ok-graph.graph graph.drawing c.in_ok-graph.ensures.within c.in_ok-graph.ensures.limits in
-    let nodes = numbered_graph o g.N.FromPackage.made_from g.E.FromEdge.made_from_edge c.args.metadata c.args.setting.now c.in_ok-sketch.sketch.sheet division c.in_ok-graph.graph sheet_is
+    let outline_is = c.in_ok-sketch.ensures.sketched.outline in
+    let divided = divided_of c.args.metadata c.args.ids c.rest_of-rest.result c.in_ok-sketch.sketch.outline.krates.items c.deref.result.now division c.rest_of-rest.ensures c.deref.ensures.value c.in_ok-division.ensures in
+    let b = builds_outline c.one_reading.ensures.once c.args.metadata c.args.setting.now c.in_ok-sketch.sketch.outline division outline_is divided in
+    let n = numbered g.E.FromEdge.made_from_edge (outline_view c.in_ok-sketch.sketch.outline) c.in_ok-graph.graph graph.drawing c.in_ok-graph.ensures.within c.in_ok-graph.ensures.limits in
+    let nodes = numbered_graph o g.N.FromPackage.made_from g.E.FromEdge.made_from_edge c.args.metadata c.args.setting.now c.in_ok-sketch.sketch.outline division c.in_ok-graph.graph outline_is
     c.in_ok-sketch.ensures.sketched.ordered b graph n in
     subst (λ ns. AreNodes ns) (sym c.raw_nodes.ensures.nodes) nodes
 
@@ -96,11 +96,11 @@ new-requires-clause-nodes g c =
     let o : Compares = record { total = c.comparison.ensures.total; tells = c.comparison.ensures.order } in
     let division = c.in_ok-division.division in
     let graph = c.in_ok-graph.ensures.graph in
-    let sheet_is = c.in_ok-sketch.ensures.sketched.sheet in
-    let divided = divided_of c.args.metadata c.args.ids c.rest_of-rest.result c.in_ok-sketch.sketch.sheet.krates.items c.deref.result.now division c.rest_of-rest.ensures c.deref.ensures.value c.in_ok-division.ensures in
-    let b = builds_sheet c.one_reading.ensures.once c.args.metadata c.args.setting.now c.in_ok-sketch.sketch.sheet division sheet_is divided in
-    let n = numbered g.E.FromEdge.made_from_edge (sheet_view c.in_ok-sketch.sketch.sheet) c.in_ok-graph.graph graph.drawing c.in_ok-graph.ensures.within c.in_ok-graph.ensures.limits in
-    numbered_graph o g.N.FromPackage.made_from g.E.FromEdge.made_from_edge c.args.metadata c.args.setting.now c.in_ok-sketch.sketch.sheet division c.in_ok-graph.graph sheet_is
+    let outline_is = c.in_ok-sketch.ensures.sketched.outline in
+    let divided = divided_of c.args.metadata c.args.ids c.rest_of-rest.result c.in_ok-sketch.sketch.outline.krates.items c.deref.result.now division c.rest_of-rest.ensures c.deref.ensures.value c.in_ok-division.ensures in
+    let b = builds_outline c.one_reading.ensures.once c.args.metadata c.args.setting.now c.in_ok-sketch.sketch.outline division outline_is divided in
+    let n = numbered g.E.FromEdge.made_from_edge (outline_view c.in_ok-sketch.sketch.outline) c.in_ok-graph.graph graph.drawing c.in_ok-graph.ensures.within c.in_ok-graph.ensures.limits in
+    numbered_graph o g.N.FromPackage.made_from g.E.FromEdge.made_from_edge c.args.metadata c.args.setting.now c.in_ok-sketch.sketch.outline division c.in_ok-graph.graph outline_is
     c.in_ok-sketch.ensures.sketched.ordered b graph n
 
 pub new-requires-clause-members : goal.new-requires-clause-members
@@ -114,30 +114,30 @@ new-requires-clause-members g c =
 
 pub new-requires-clause-connected : goal.new-requires-clause-connected
 new-requires-clause-connected g c =
-    connects g.E.FromEdge.made_from_edge (metadata_view c.args.metadata) c.args.setting.now (sheet_view c.in_ok-sketch.sketch.sheet) c.in_ok-graph.graph c.connected.ensures
-    c.in_ok-sketch.ensures.sketched.sheet c.in_ok-graph.ensures.graph.drawing
-    (numbered g.E.FromEdge.made_from_edge (sheet_view c.in_ok-sketch.sketch.sheet) c.in_ok-graph.graph c.in_ok-graph.ensures.graph.drawing c.in_ok-graph.ensures.within c.in_ok-graph.ensures.limits).nodes
+    connects g.E.FromEdge.made_from_edge (metadata_view c.args.metadata) c.args.setting.now (outline_view c.in_ok-sketch.sketch.outline) c.in_ok-graph.graph c.connected.ensures
+    c.in_ok-sketch.ensures.sketched.outline c.in_ok-graph.ensures.graph.drawing
+    (numbered g.E.FromEdge.made_from_edge (outline_view c.in_ok-sketch.sketch.outline) c.in_ok-graph.graph c.in_ok-graph.ensures.graph.drawing c.in_ok-graph.ensures.within c.in_ok-graph.ensures.limits).nodes
 
 pub new-requires-clause-explained : goal.new-requires-clause-explained
 new-requires-clause-explained g c =
     let o : Compares = record { total = c.comparison.ensures.total; tells = c.comparison.ensures.order } in
     let division = c.in_ok-division.division in
     let graph = c.in_ok-graph.ensures.graph in
-    let sheet_is = c.in_ok-sketch.ensures.sketched.sheet in
-    let divided = divided_of c.args.metadata c.args.ids c.rest_of-rest.result c.in_ok-sketch.sketch.sheet.krates.items c.deref.result.now division c.rest_of-rest.ensures c.deref.ensures.value c.in_ok-division.ensures in
-    let b = builds_sheet c.one_reading.ensures.once c.args.metadata c.args.setting.now c.in_ok-sketch.sketch.sheet division sheet_is divided in
-    let n = numbered g.E.FromEdge.made_from_edge (sheet_view c.in_ok-sketch.sketch.sheet) c.in_ok-graph.graph graph.drawing c.in_ok-graph.ensures.within c.in_ok-graph.ensures.limits in
-    let nodes = numbered_graph o g.N.FromPackage.made_from g.E.FromEdge.made_from_edge c.args.metadata c.args.setting.now c.in_ok-sketch.sketch.sheet division c.in_ok-graph.graph sheet_is
+    let outline_is = c.in_ok-sketch.ensures.sketched.outline in
+    let divided = divided_of c.args.metadata c.args.ids c.rest_of-rest.result c.in_ok-sketch.sketch.outline.krates.items c.deref.result.now division c.rest_of-rest.ensures c.deref.ensures.value c.in_ok-division.ensures in
+    let b = builds_outline c.one_reading.ensures.once c.args.metadata c.args.setting.now c.in_ok-sketch.sketch.outline division outline_is divided in
+    let n = numbered g.E.FromEdge.made_from_edge (outline_view c.in_ok-sketch.sketch.outline) c.in_ok-graph.graph graph.drawing c.in_ok-graph.ensures.within c.in_ok-graph.ensures.limits in
+    let nodes = numbered_graph o g.N.FromPackage.made_from g.E.FromEdge.made_from_edge c.args.metadata c.args.setting.now c.in_ok-sketch.sketch.outline division c.in_ok-graph.graph outline_is
     c.in_ok-sketch.ensures.sketched.ordered b graph n in
     let kids = c.in_ok-explanation.ensures.ids ∙ ap krate_ids c.deref-2.ensures.value in
-    explains o g.N.FromPackage.made_from g.E.FromEdge.made_from_edge c.args.metadata c.args.setting.now c.in_ok-sketch.sketch.sheet division c.in_ok-graph.graph c.in_ok-sketch.ensures.sketched.selection c.in_ok-explanation.explanation
-    c.in_ok-sketch.sketch.steps.items sheet_is b graph nodes c.in_ok-sketch.ensures.sketched.selected kids (ap (λ (v : Vec KeptStep). v.items) c.in_ok-explanation.ensures.steps) c.in_ok-sketch.ensures.sketched.steps
+    explains o g.N.FromPackage.made_from g.E.FromEdge.made_from_edge c.args.metadata c.args.setting.now c.in_ok-sketch.sketch.outline division c.in_ok-graph.graph c.in_ok-sketch.ensures.sketched.selection c.in_ok-explanation.explanation
+    c.in_ok-sketch.sketch.steps.items outline_is b graph nodes c.in_ok-sketch.ensures.sketched.selected kids (ap (λ (v : Vec KeptStep). v.items) c.in_ok-explanation.ensures.steps) c.in_ok-sketch.ensures.sketched.steps
 
 pub returns-clause-built : goal.returns-clause-built
 returns-clause-built g c =
     let division = c.in_ok-division.division in
-    let divided = divided_of c.args.metadata c.args.ids c.rest_of-rest.result c.in_ok-sketch.sketch.sheet.krates.items c.deref.result.now division c.rest_of-rest.ensures c.deref.ensures.value c.in_ok-division.ensures in
-    let b = builds_sheet c.one_reading.ensures.once c.args.metadata c.args.setting.now c.in_ok-sketch.sketch.sheet division c.in_ok-sketch.ensures.sketched.sheet divided in
+    let divided = divided_of c.args.metadata c.args.ids c.rest_of-rest.result c.in_ok-sketch.sketch.outline.krates.items c.deref.result.now division c.rest_of-rest.ensures c.deref.ensures.value c.in_ok-division.ensures in
+    let b = builds_outline c.one_reading.ensures.once c.args.metadata c.args.setting.now c.in_ok-sketch.sketch.outline division c.in_ok-sketch.ensures.sketched.outline divided in
     let those = c.in_ok-members.members in
     let numbers = those.items in
     let ascending = handed (λ (v : Vec ℕ). IsStrictlyIncreasing v.items) c.members_of-found.result those c.in_ok-members.ensures.same c.members_of-found.ensures.ascending in
@@ -145,13 +145,13 @@ returns-clause-built g c =
     let there = subst (λ ns. AreNumbersOf (crate_ids ns) c.deref-3.result.now numbers) c.raw_nodes.ensures.nodes exactly in
     let listed = subst (λ (is : List Identity). AreNumbersOf (crate_ids c.in_ok-graph.graph.nodes) is numbers) (c.deref-3.ensures.value ∙ ap (λ (p : Rest). p.members.items) c.rest_of-rest.ensures) there in
     let members = kept_members c.one_reading.ensures.once (metadata_view c.args.metadata) (ids_view c.args.ids) (crate_ids c.in_ok-graph.graph.nodes) numbers c.requires.admitted ascending listed in
-    let agree = agrees g.E.FromEdge.made_from_edge (metadata_view c.args.metadata) c.args.setting.now (sheet_view c.in_ok-sketch.sketch.sheet) c.in_ok-graph.graph (ids_view c.args.ids) c.connected.ensures c.dependencies_agree.ensures c.requires.admitted
-    c.in_ok-sketch.ensures.sketched.sheet c.in_ok-graph.ensures.graph.drawing c.in_ok-graph.ensures.graph.first in
+    let agree = agrees g.E.FromEdge.made_from_edge (metadata_view c.args.metadata) c.args.setting.now (outline_view c.in_ok-sketch.sketch.outline) c.in_ok-graph.graph (ids_view c.args.ids) c.connected.ensures c.dependencies_agree.ensures c.requires.admitted
+    c.in_ok-sketch.ensures.sketched.outline c.in_ok-graph.ensures.graph.drawing c.in_ok-graph.ensures.graph.first in
     let o : Compares = record { total = c.comparison.ensures.total; tells = c.comparison.ensures.order } in
     let kids = c.in_ok-explanation.ensures.ids ∙ ap krate_ids c.deref-2.ensures.value in
     let explained = explained_by o c.args.metadata c.args.setting.now division c.in_ok-sketch.ensures.sketched.selection c.in_ok-explanation.explanation c.in_ok-sketch.sketch.steps.items b c.in_ok-sketch.ensures.sketched.selected kids
     (ap (λ (v : Vec KeptStep). v.items) c.in_ok-explanation.ensures.steps) c.in_ok-sketch.ensures.sketched.steps in
     let run = handed (λ _. FoldsTo g.F.OnFilter.filters c.args.filter.now (krate_packages division.others.items) c.handed_over.new.filter) c.members_of-found.result those c.in_ok-members.ensures.same c.in_ok-members.ensures.run in
-    rw (c.new.ensures, c.in_ok-sketch.ensures.sketched.work, c.rest_of-rest.ensures) (is_built g.F.OnFilter.filters g.N.FromPackage.made_from g.E.FromEdge.made_from_edge c.args.metadata c.args.setting.now c.in_ok-sketch.sketch.sheet division c.in_ok-graph.graph numbers c.args.filter.now c.handed_over.new.filter c.in_ok-sketch.ensures.sketched.selection
-    c.in_ok-sketch.ensures.sketched.sheet b c.in_ok-graph.ensures.graph run c.in_ok-sketch.ensures.sketched.selected
-    (resolvable (metadata_view c.args.metadata) (ids_view c.args.ids) c.requires.admitted) (numbered g.E.FromEdge.made_from_edge (sheet_view c.in_ok-sketch.sketch.sheet) c.in_ok-graph.graph c.in_ok-graph.ensures.graph.drawing c.in_ok-graph.ensures.within c.in_ok-graph.ensures.limits) members agree c.in_ok-explanation.explanation explained)
+    rw (c.new.ensures, c.in_ok-sketch.ensures.sketched.work, c.rest_of-rest.ensures) (is_built g.F.OnFilter.filters g.N.FromPackage.made_from g.E.FromEdge.made_from_edge c.args.metadata c.args.setting.now c.in_ok-sketch.sketch.outline division c.in_ok-graph.graph numbers c.args.filter.now c.handed_over.new.filter c.in_ok-sketch.ensures.sketched.selection
+    c.in_ok-sketch.ensures.sketched.outline b c.in_ok-graph.ensures.graph run c.in_ok-sketch.ensures.sketched.selected
+    (resolvable (metadata_view c.args.metadata) (ids_view c.args.ids) c.requires.admitted) (numbered g.E.FromEdge.made_from_edge (outline_view c.in_ok-sketch.sketch.outline) c.in_ok-graph.graph c.in_ok-graph.ensures.graph.drawing c.in_ok-graph.ensures.within c.in_ok-graph.ensures.limits) members agree c.in_ok-explanation.explanation explained)

@@ -1,13 +1,13 @@
 use Rattle.std.proofs.Common.{◌≡◌, ◌∙◌, ◌≤◌, All, List, length, map, sym, ap, subst}
 use Rattle.std.proofs.lemmas.List.Elements.{All-map}
-use Rattle.krates_drawing.specs.Drawing.{lines, spots}
-use Rattle.krates_drawing.specs.Views.{arrow_view, kids_in, sheet_view}
-use Rattle.krates_drawing.specs.declared.edge.Arrow.{Arrow}
-use Rattle.krates_drawing.specs.declared.sheet.Named.{Named}
+use Rattle.krates_drawing.specs.Drawing.{planned_edges, planned_nodes}
+use Rattle.krates_drawing.specs.Views.{planned_edge_view, kids_in, outline_view}
+use Rattle.krates_drawing.specs.declared.edge.PlannedEdge.{PlannedEdge}
+use Rattle.krates_drawing.specs.declared.outline.FeatureRow.{FeatureRow}
 use Rattle.krates_selection.specs.CrateNumbers.{HasHome}
 use Rattle.krates_selection.specs.Selection.{feature_fact}
 use Rattle.krates_selection.specs.declared.selection.EnabledFeature.{EnabledFeature}
-use Rattle.krates_queries.specs.Drawn.{node_spot}
+use Rattle.krates_queries.specs.Drawn.{planned_node}
 use Rattle.krates_drawing.specs.Krate.{krate_ids}
 use Rattle.krates.specs.MadeNodes.{nodes_in}
 use Rattle.krates.proofs.DrawnLemmas.{as_many_crates, facts_in, if_graph, stand_there}
@@ -18,45 +18,45 @@ use Rattle.krates.proofs.drawn.graph_of.Goals as goal
 
 pub enabled_of-requires : goal.enabled_of-requires
 enabled_of-requires g c =
-    let sheet = c.args.sheet in
-    let homes = All-map (HasHome (length sheet.krates.items)) (λ (n : Named). n.feature) sheet.features.items c.requires.ordered.homes in
-    let as_many = as_many_crates c.args.krates.items sheet.krates.items c.requires.ids in
-    subst (λ n. All (HasHome n) c.in_ok-features.features.items) (as_many ∙ sym (c.len.ensures ∙ c.args.krates.ok.0)) (subst (All (HasHome (length sheet.krates.items))) (sym c.in_ok-features.ensures) homes)
+    let outline = c.args.outline in
+    let homes = All-map (HasHome (length outline.krates.items)) (λ (n : FeatureRow). n.feature) outline.features.items c.requires.ordered.homes in
+    let as_many = as_many_crates c.args.krates.items outline.krates.items c.requires.ids in
+    subst (λ n. All (HasHome n) c.in_ok-features.features.items) (as_many ∙ sym (c.len.ensures ∙ c.args.krates.ok.0)) (subst (All (HasHome (length outline.krates.items))) (sym c.in_ok-features.ensures) homes)
 
 pub stored-requires-clause-nodes : goal.stored-requires-clause-nodes
 stored-requires-clause-nodes g c =
     let matched = c.in_ok-sets.ensures.matched ∙ (c.len.ensures ∙ c.args.krates.ok.0) in
-    let d = drawn_from (sheet_view c.args.sheet) c.args.krates.items c.in_ok-sets.sets.items c.in_ok-plan.plan.spots.items c.in_ok-parts.parts.mappings.items c.in_ok-parts.parts.features.items (nodes_in c.in_ok-nodes.nodes) matched c.in_ok-plan.ensures.nodes c.requires.ids c.in_ok-parts.ensures.mappings c.in_ok-parts.ensures.features c.in_ok-nodes.ensures in
-    let count = count_of node_spot (nodes_in c.in_ok-nodes.nodes) (spots (sheet_view c.args.sheet)) d.spots_are in
+    let d = drawn_from (outline_view c.args.outline) c.args.krates.items c.in_ok-sets.sets.items c.in_ok-plan.plan.planned_nodes.items c.in_ok-parts.parts.mappings.items c.in_ok-parts.parts.features.items (nodes_in c.in_ok-nodes.nodes) matched c.in_ok-plan.ensures.nodes c.requires.ids c.in_ok-parts.ensures.mappings c.in_ok-parts.ensures.features c.in_ok-nodes.ensures in
+    let count = count_of planned_node (nodes_in c.in_ok-nodes.nodes) (planned_nodes (outline_view c.args.outline)) d.planned_are in
     subst (λ n. n ≤ c.args.limits.nodes) (sym count) c.in_ok-plan.ensures.within.nodes
 
 pub stored-requires-clause-edges : goal.stored-requires-clause-edges
 stored-requires-clause-edges g c =
-    let same : map arrow_view c.deref.result.now ≡ lines (sheet_view c.args.sheet) = ap (λ (xs : List Arrow). map arrow_view xs) c.deref.ensures.value ∙ c.in_ok-plan.ensures.edges in
-    let count = count_of arrow_view c.deref.result.now (lines (sheet_view c.args.sheet)) same in
+    let same : map planned_edge_view c.deref.result.now ≡ planned_edges (outline_view c.args.outline) = ap (λ (xs : List PlannedEdge). map planned_edge_view xs) c.deref.ensures.value ∙ c.in_ok-plan.ensures.edges in
+    let count = count_of planned_edge_view c.deref.result.now (planned_edges (outline_view c.args.outline)) same in
     subst (λ n. n ≤ c.args.limits.edges) (sym count) c.in_ok-plan.ensures.within.edges
 
 pub stored-requires-clause-stand : goal.stored-requires-clause-stand
 stored-requires-clause-stand g c =
     let matched = c.in_ok-sets.ensures.matched ∙ (c.len.ensures ∙ c.args.krates.ok.0) in
-    let d = drawn_from (sheet_view c.args.sheet) c.args.krates.items c.in_ok-sets.sets.items c.in_ok-plan.plan.spots.items c.in_ok-parts.parts.mappings.items c.in_ok-parts.parts.features.items (nodes_in c.in_ok-nodes.nodes) matched c.in_ok-plan.ensures.nodes c.requires.ids c.in_ok-parts.ensures.mappings c.in_ok-parts.ensures.features c.in_ok-nodes.ensures in
-    let count = count_of node_spot (nodes_in c.in_ok-nodes.nodes) (spots (sheet_view c.args.sheet)) d.spots_are in
-    let same : map arrow_view c.deref.result.now ≡ lines (sheet_view c.args.sheet) = ap (λ (xs : List Arrow). map arrow_view xs) c.deref.ensures.value ∙ c.in_ok-plan.ensures.edges in
+    let d = drawn_from (outline_view c.args.outline) c.args.krates.items c.in_ok-sets.sets.items c.in_ok-plan.plan.planned_nodes.items c.in_ok-parts.parts.mappings.items c.in_ok-parts.parts.features.items (nodes_in c.in_ok-nodes.nodes) matched c.in_ok-plan.ensures.nodes c.requires.ids c.in_ok-parts.ensures.mappings c.in_ok-parts.ensures.features c.in_ok-nodes.ensures in
+    let count = count_of planned_node (nodes_in c.in_ok-nodes.nodes) (planned_nodes (outline_view c.args.outline)) d.planned_are in
+    let same : map planned_edge_view c.deref.result.now ≡ planned_edges (outline_view c.args.outline) = ap (λ (xs : List PlannedEdge). map planned_edge_view xs) c.deref.ensures.value ∙ c.in_ok-plan.ensures.edges in
     stand_there _ _ _ _ c.requires.stand (sym count) (sym same)
 
 pub returns-clause-graph : goal.returns-clause-graph
 returns-clause-graph g c =
     let matched = c.in_ok-sets.ensures.matched ∙ (c.len.ensures ∙ c.args.krates.ok.0) in
-    let d = drawn_from (sheet_view c.args.sheet) c.args.krates.items c.in_ok-sets.sets.items c.in_ok-plan.plan.spots.items c.in_ok-parts.parts.mappings.items c.in_ok-parts.parts.features.items (nodes_in c.in_ok-nodes.nodes) matched c.in_ok-plan.ensures.nodes c.requires.ids c.in_ok-parts.ensures.mappings c.in_ok-parts.ensures.features c.in_ok-nodes.ensures in
-    let same : map arrow_view c.deref.result.now ≡ lines (sheet_view c.args.sheet) = ap (λ (xs : List Arrow). map arrow_view xs) c.deref.ensures.value ∙ c.in_ok-plan.ensures.edges in
-    let kids = kids_in c.args.sheet in
+    let d = drawn_from (outline_view c.args.outline) c.args.krates.items c.in_ok-sets.sets.items c.in_ok-plan.plan.planned_nodes.items c.in_ok-parts.parts.mappings.items c.in_ok-parts.parts.features.items (nodes_in c.in_ok-nodes.nodes) matched c.in_ok-plan.ensures.nodes c.requires.ids c.in_ok-parts.ensures.mappings c.in_ok-parts.ensures.features c.in_ok-nodes.ensures in
+    let same : map planned_edge_view c.deref.result.now ≡ planned_edges (outline_view c.args.outline) = ap (λ (xs : List PlannedEdge). map planned_edge_view xs) c.deref.ensures.value ∙ c.in_ok-plan.ensures.edges in
+    let kids = kids_in c.args.outline in
     let ids = krate_ids c.args.krates.items in
-    let facts = ap (λ (fs : List EnabledFeature). map (feature_fact ids) fs) c.in_ok-features.ensures ∙ facts_in ids kids c.args.sheet.features.items (c.requires.ids ∙ sym (viewed_ids c.args.sheet.krates.items)) in
-    if_graph g.N.FromPackage.made_from g.E.FromEdge.made_from_edge (sheet_view c.args.sheet) c.args.krates.items c.in_ok-sets.sets.items c.in_ok-features.features.items (nodes_in c.in_ok-nodes.nodes)
-    (map arrow_view c.deref.result.now) c.stored.result d matched c.in_ok-sets.ensures.enabled facts same c.stored.ensures.nodes c.stored.ensures.edges
+    let facts = ap (λ (fs : List EnabledFeature). map (feature_fact ids) fs) c.in_ok-features.ensures ∙ facts_in ids kids c.args.outline.features.items (c.requires.ids ∙ sym (viewed_ids c.args.outline.krates.items)) in
+    if_graph g.N.FromPackage.made_from g.E.FromEdge.made_from_edge (outline_view c.args.outline) c.args.krates.items c.in_ok-sets.sets.items c.in_ok-features.features.items (nodes_in c.in_ok-nodes.nodes)
+    (map planned_edge_view c.deref.result.now) c.stored.result d matched c.in_ok-sets.ensures.enabled facts same c.stored.ensures.nodes c.stored.ensures.edges
 
 pub returns-clause-within : goal.returns-clause-within
-returns-clause-within g c = if_within c.args.limits (sheet_view c.args.sheet) c.stored.result c.in_ok-plan.ensures.within
+returns-clause-within g c = if_within c.args.limits (outline_view c.args.outline) c.stored.result c.in_ok-plan.ensures.within
 
 pub returns-clause-refused : goal.returns-clause-refused
-returns-clause-refused g c = if_memory c.args.limits (sheet_view c.args.sheet) c.stored.result c.stored.ensures.refused
+returns-clause-refused g c = if_memory c.args.limits (outline_view c.args.outline) c.stored.result c.stored.ensures.refused

@@ -2,9 +2,9 @@ use Rattle.std.proofs.Common.{◌≡◌, refl, ◌∙◌, subst}
 use Rattle.std.proofs.lemmas.Result.{err_from_is_err_and}
 use Rattle.krates_cm.specs.Document.{metadata_view}
 use Rattle.krates_document.specs.Ids.{ids_view}
-use Rattle.krates_drawing.specs.Views.{sheet_view}
+use Rattle.krates_drawing.specs.Views.{outline_view}
 use Rattle.krates_questions.specs.DocumentModel.{as_resolved}
-use Rattle.krates_drawing.proofs.DocumentSheets.{none_doubled_in}
+use Rattle.krates_drawing.proofs.DocumentOutlines.{none_doubled_in}
 use Rattle.krates_questions.specs.Lookup.{resolved_view}
 use Rattle.krates_selection.specs.Explained.{IsExplained, IsExplainedOf}
 use Rattle.krates_selection.specs.Selection.{IsSelection, IsSelectionOf, RefusesSelection}
@@ -13,7 +13,7 @@ use Rattle.krates_rules.specs.NamedIds.{NamesIdsOf, named_ids}
 use Rattle.krates_rules.specs.Questions.{questions}
 use Rattle.krates_rules.specs.Resolved.{Resolved, resolved}
 use Rattle.krates_rules.specs.SelectionRefusals.{SelectionRefusal}
-use Rattle.krates.proofs.DrawnLemmas.{sheet_told}
+use Rattle.krates.proofs.DrawnLemmas.{outline_told}
 use Rattle.krates.proofs.ExplainedLemmas.{steps_for}
 use Rattle.krates.proofs.drawn.sketch_of.Goals as goal
 
@@ -44,8 +44,8 @@ steps_of-requires-clause-selected c = subst (λ (r : Resolved). IsSelection r c.
 pub steps_of-requires-clause-explained : goal.steps_of-requires-clause-explained
 steps_of-requires-clause-explained c = subst (λ (r : Resolved). IsExplained r c.args.setting.now c.in_ok-selection.selection) c.lookup.ensures.document c.in_ok-selection.ensures.explained
 
-pub sheet_of-requires : goal.sheet_of-requires
-sheet_of-requires c = record { distinct = none_doubled_in (metadata_view c.args.metadata.now) (ids_view c.args.ids.now) (as_resolved c.in_ok-document.document) c.requires.admitted c.in_ok-document.ensures }
+pub outline_of-requires : goal.outline_of-requires
+outline_of-requires c = record { distinct = none_doubled_in (metadata_view c.args.metadata.now) (ids_view c.args.ids.now) (as_resolved c.in_ok-document.document) c.requires.admitted c.in_ok-document.ensures }
 
 pub returns-clause-sketched : goal.returns-clause-sketched
 returns-clause-sketched c =
@@ -61,8 +61,8 @@ returns-clause-sketched c =
     record {
       selection = x;
       selected = of;
-      sheet = sheet_told m s x r (sheet_view c.in_ok-sheet.sheet) of d c.in_ok-sheet.ensures.sheet;
-      ordered = c.in_ok-sheet.ensures.ordered selected;
+      outline = outline_told m s x r (outline_view c.in_ok-outline.outline) of d c.in_ok-outline.ensures.outline;
+      ordered = c.in_ok-outline.ensures.ordered selected;
       steps = steps_for m s x r c.in_ok-steps.steps.items of shown d c.in_ok-steps.ensures;
       work = refl;
     }

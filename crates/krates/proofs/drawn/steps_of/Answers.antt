@@ -1,5 +1,5 @@
 use Rattle.std.proofs.Common.{List, sym, subst}
-use Rattle.krates_explain.specs.Tables.{IsKeptIn}
+use Rattle.krates_selection.specs.KeptTables.{IsKeptIn}
 use Rattle.krates_ids.specs.Identity.{Identity}
 use Rattle.krates_questions.specs.DocumentModel.{as_resolved}
 use Rattle.krates_rules.specs.Derivation.{Derivable}

@@ -1,5 +1,5 @@
 use Rattle.std.proofs.Common.{subst, List, IsPermutation}
-use Rattle.krates_drawing.specs.Division.{sheet_ids}
+use Rattle.krates_drawing.specs.Division.{outline_ids}
 use Rattle.krates_drawing.specs.Krate.{paired}
 use Rattle.krates_drawing.specs.declared.krate.Krate.{Krate}
 use Rattle.krates_drawing.proofs.DivisionLemmas.{if_divides}
@@ -9,5 +9,5 @@ pub returns : goal.returns
 returns c =
     let perm : IsPermutation (paired c.args.packages.items c.args.ids.items) c.sort_unstable.new.self.items = subst (λ (ks : List Krate). IsPermutation ks c.sort_unstable.new.self.items) c.in_ok-krates.ensures c.sort_unstable.ensures.permutation in
     if_divides (record { total = c.comparison.ensures.total; tells = c.comparison.ensures.order }) c.one_reading.ensures.once
-    c.args.packages.items c.args.ids.items (sheet_ids c.args.selected.now) c.sort_unstable.new.self.items c.divided.result
+    c.args.packages.items c.args.ids.items (outline_ids c.args.selected.now) c.sort_unstable.new.self.items c.divided.result
     c.requires.read c.requires.distinct perm c.sort_unstable.ensures.sorted c.divided.ensures.kept c.divided.ensures.others

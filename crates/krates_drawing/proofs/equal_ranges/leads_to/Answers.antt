@@ -1,5 +1,5 @@
 use Rattle.std.proofs.Common.{◌==◌, length, not, ap, sym, ◌∙◌}
-use Rattle.krates_drawing.specs.SheetOrder.{has_child}
+use Rattle.krates_drawing.specs.OutlineOrder.{has_child}
 use Rattle.krates_drawing.proofs.Tests.{any_filter}
 use Rattle.krates_drawing.proofs.equal_ranges.leads_to.Goals as goal
 

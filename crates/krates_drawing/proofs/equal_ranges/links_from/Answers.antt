@@ -3,9 +3,9 @@ use Rattle.std.proofs.lemmas.Fn.{always_returns_same}
 use Rattle.std.proofs.lemmas.List.Elements.{All-filter}
 use Rattle.std.specs.Ordering.{is_eq, is_lt, nat_cmp}
 use Rattle.krates_selection.specs.CrateNumbers.{HasEnds}
-use Rattle.krates_drawing.specs.SheetOrder.{HaveEnds}
-use Rattle.krates_drawing.specs.Views.{kids_in, link_view}
-use Rattle.krates_drawing.specs.declared.sheet.Link.{Link}
+use Rattle.krates_drawing.specs.OutlineOrder.{HaveEnds}
+use Rattle.krates_drawing.specs.Views.{kids_in, edge_row_view}
+use Rattle.krates_drawing.specs.declared.outline.EdgeRow.{EdgeRow}
 use Rattle.krates_drawing.proofs.CratePlaces.{seen_from}
 use Rattle.krates_drawing.proofs.EqualRanges.{cut}
 use Rattle.krates_drawing.proofs.Tests.{cut_by_child, cut_parent, has_parent, links_by_parent}
@@ -13,17 +13,17 @@ use Rattle.krates_drawing.proofs.equal_ranges.links_from.Goals as goal
 
 pub returns : goal.returns
 returns c =
-    let t = c.args.sheet.now in
+    let t = c.args.outline.now in
     let o = c.requires.ordered in
     let xs = t.links.items in
     let p = c.args.parent in
-    let low = c.partition_point-below.ensures.partitioned (λ (l : Link). is_lt (nat_cmp l.edge.parent p)) (always_returns_same _ _ _ (λ a r q called. search rules)) in
-    let high = c.partition_point-count.ensures.partitioned (λ (l : Link). is_eq (nat_cmp l.edge.parent p)) (always_returns_same _ _ _ (λ a r q called. search rules)) in
-    let found = cut (λ (l : Link). nat_cmp l.edge.parent p) xs c.deref.result.now c.deref-2.result.now c.split_at.result.1.now c.split_at-2.result.0.now c.partition_point-below.result c.partition_point-count.result
+    let low = c.partition_point-below.ensures.partitioned (λ (l : EdgeRow). is_lt (nat_cmp l.edge.parent p)) (always_returns_same _ _ _ (λ a r q called. search rules)) in
+    let high = c.partition_point-count.ensures.partitioned (λ (l : EdgeRow). is_eq (nat_cmp l.edge.parent p)) (always_returns_same _ _ _ (λ a r q called. search rules)) in
+    let found = cut (λ (l : EdgeRow). nat_cmp l.edge.parent p) xs c.deref.result.now c.deref-2.result.now c.split_at.result.1.now c.split_at-2.result.0.now c.partition_point-below.result c.partition_point-count.result
     c.deref.ensures.value c.deref-2.ensures.value c.split_at.ensures.back c.split_at-2.ensures.front (links_by_parent xs p o.links) low high in
     let is = cut_parent xs c.split_at-2.result.0.now p found in
     record {
-      links = ap (map (link_view (kids_in t))) is ∙ sym (seen_from t.krates.items p xs o.krates c.requires.within o.ends);
+      links = ap (map (edge_row_view (kids_in t))) is ∙ sym (seen_from t.krates.items p xs o.krates c.requires.within o.ends);
       by_child = cut_by_child xs c.split_at-2.result.0.now p o.links found;
-      ends = subst (HaveEnds t) (sym is) (All-filter (has_parent p) (λ (l : Link). HasEnds (length t.krates.items) l.edge) xs o.ends);
+      ends = subst (HaveEnds t) (sym is) (All-filter (has_parent p) (λ (l : EdgeRow). HasEnds (length t.krates.items) l.edge) xs o.ends);
     }

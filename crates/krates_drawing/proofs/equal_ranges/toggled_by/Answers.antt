@@ -5,7 +5,7 @@ use Rattle.std.specs.List.{All}
 use Rattle.std.specs.Ordering.{is_eq, is_lt, nat_cmp}
 use Rattle.krates_selection.specs.CrateNumbers.{HasCrates}
 use Rattle.krates_selection.specs.declared.selection.ToggledFeature.{ToggledFeature}
-use Rattle.krates_drawing.specs.Sheet.{toggle_of}
+use Rattle.krates_drawing.specs.Outline.{toggle_of}
 use Rattle.krates_drawing.specs.Views.{kids_in}
 use Rattle.krates_drawing.proofs.CratePlaces.{seen_by}
 use Rattle.krates_drawing.proofs.EqualRanges.{cut}
@@ -14,7 +14,7 @@ use Rattle.krates_drawing.proofs.equal_ranges.toggled_by.Goals as goal
 
 pub returns : goal.returns
 returns c =
-    let t = c.args.sheet.now in
+    let t = c.args.outline.now in
     let o = c.requires.ordered in
     let xs = t.toggled.items in
     let p = c.args.by in

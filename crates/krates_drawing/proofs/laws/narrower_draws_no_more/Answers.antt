@@ -1,4 +1,4 @@
-use Rattle.krates_drawing.proofs.NarrowerSheet as parts
+use Rattle.krates_drawing.proofs.NarrowerOutline as parts
 use Rattle.krates_drawing.proofs.laws.narrower_draws_no_more.Goals as goal
 
 pub returns : goal.returns

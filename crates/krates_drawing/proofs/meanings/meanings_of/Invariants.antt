@@ -3,7 +3,7 @@ use Rattle.std.specs.List.{AllZip}
 use Rattle.krates_cm.specs.Document.{text_view}
 use Rattle.krates_questions.specs.DocumentModel.{as_resolved}
 use Rattle.krates_rules.specs.Resolved.{id_of}
-use Rattle.krates_drawing.specs.Sheet.{IsMeaning}
+use Rattle.krates_drawing.specs.Outline.{IsMeaning}
 use Rattle.krates_drawing.specs.Views.{meaning_view}
 use Rattle.krates_drawing.proofs.meanings.meanings_of.Given as goal
 

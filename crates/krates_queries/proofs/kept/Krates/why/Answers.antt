@@ -1,10 +1,10 @@
 use Rattle.std.proofs.Common.{◌≡◌, ◌∙◌, List, Some, option_map, rules, sym, subst, ap}
 use Rattle.std.specs.List.{slice_get}
-use Rattle.krates_explain.specs.Explanation.{IsDerivationOf, IsStepOf}
-use Rattle.krates_explain.specs.declared.kept.Explanation.{Explanation}
-use Rattle.krates_explain.specs.declared.kept.KeptStep.{KeptStep}
+use Rattle.krates_selection.specs.Explanation.{IsDerivationOf, IsStepOf}
+use Rattle.krates_selection.specs.declared.kept.Explanation.{Explanation}
+use Rattle.krates_selection.specs.declared.kept.KeptStep.{KeptStep}
 use Rattle.krates_queries.proofs.WhyLemmas.{is_why}
-use Rattle.krates_queries.specs.Explained.{AreExplained, node_says}
+use Rattle.krates_queries.specs.KeptSteps.{AreExplained, node_says}
 use Rattle.krates_queries.specs.Kept.{AreNodes}
 use Rattle.krates_queries.proofs.kept.Krates.why.Goals as goal
 

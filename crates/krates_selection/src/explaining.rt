@@ -1,0 +1,86 @@
+//! The steps of a selection, by the numbers of the kept crates, each fact once.
+
+ghost use Rattle.std.specs.Prelude.{◌≡◌, ◌<◌, All, IfOk, length, map};
+ghost use Rattle.std.specs.List.Sorted.{IsStrictlySortedBy};
+ghost use Rattle.krates_selection.specs.Chosen.{AreChosen};
+ghost use Rattle.krates_selection.specs.KeptTables.{AreStepsOf, IsKeptIn};
+ghost use Rattle.krates_ids.specs.Identity.{id_cmp};
+ghost use Rattle.krates_questions.specs.Lookup.{IsLookup};
+ghost use Rattle.krates_questions.specs.Context.{Derives, document_of};
+ghost use Rattle.krates_selection.specs.Trace.{IsTrace};
+ghost use Rattle.krates_rules.specs.Facts.{Crate, Id};
+
+use crate::firsts::first_steps;
+use crate::kept::KeptStep;
+use crate::key::{KeptFactKey, fact_of};
+use crate::keys::{KeptTables, keys_of};
+use crate::laws as step_laws;
+use crate::numbering::numbers_of;
+use crate::part_of_steps::PartOfSteps;
+use crate::trace::NumberedStep;
+use krates_ids::{Kid, laws};
+use krates_questions::context::Context;
+use krates_questions::crate_table::numbers_of as crate_numbers_of;
+use krates_rules::Uses;
+use std::alloc::{AllocError, Global};
+
+/// The steps of a selection, with its crates by number: of each fact the first step, which uses the first steps of its premises.
+///
+/// The only error is want of memory. Time: O(n log n) for n steps.
+pub fn kept_steps<'a>(
+    context: &Context<'a, '_>,
+    krates: &[Kid],
+    steps: &[NumberedStep],
+) -> Result<Vec<KeptStep>, AllocError>
+    requires lookup { IsLookup context.now.lookup.now }
+    requires ascending { IsStrictlySortedBy id_cmp krates.now }
+    requires trace { IsTrace (document_of context.now) context.now.setting.now steps.now }
+    requires crates { (i : Id) → Derives context.now (Crate i) → IsKeptIn krates.now i }
+    ensures { IfOk result (λ kept. AreStepsOf (document_of context.now) context.now.setting.now krates.now
+        steps.now kept.items) }
+{
+    laws::one_reading();
+    laws::comparison();
+    step_laws::firsts();
+    let krate_numbers = crate_numbers_of(context.alloc, krates, &context.lookup.table.ids)?;
+    let tables = KeptTables {
+        lookup: context.lookup,
+        krates,
+        numbers: &krate_numbers,
+    };
+    let keys = keys_of(context.alloc, &tables, steps)?;
+    let numbers = numbers_of(context.alloc, krates.len(), &keys)?;
+    let uses = uses_of(context.alloc, steps)?;
+    let part = first_steps(context.alloc, &uses, &numbers, keys.len())?;
+    chosen(context.alloc, &keys, steps, &part)
+}
+
+/// What each step uses.
+fn uses_of(alloc: Global, steps: &[NumberedStep]) -> Result<Vec<Uses>, AllocError>
+    ensures { IfOk result (λ uses. uses.items ≡ map (λ x. x.reason.uses) steps.now) }
+{
+    steps.iter().map(|step| step.reason.uses).collect(alloc)
+}
+
+/// The chosen steps, whose facts are those of the keys at their places.
+fn chosen(
+    alloc: Global,
+    keys: &[KeptFactKey<'_>],
+    steps: &[NumberedStep],
+    part: &PartOfSteps,
+) -> Result<Vec<KeptStep>, AllocError>
+    requires long { length keys.now ≡ length steps.now }
+    requires matched { length part.now.uses.items ≡ length part.now.chosen.items }
+    requires within { All (λ n. n < length steps.now) part.now.chosen.items }
+    ensures { IfOk result (λ kept. AreChosen keys.now steps.now part.now.chosen.items part.now.uses.items kept.items) }
+{
+    let mut kept = Vec::with_capacity(alloc, part.chosen.len())?;
+    for (place, number) in part.chosen.iter().enumerate() {
+        kept.push(KeptStep {
+            fact: fact_of(alloc, &keys[*number])?,
+            rule: steps[*number].reason.rule,
+            uses: part.uses[place],
+        })?;
+    }
+    Ok(kept)
+}
