@@ -14,7 +14,7 @@ import re
 from krates_sources import ROOT, libraries, public_calls
 
 # What only tests use, and what programs do on their machine, which the cases of the programs show.
-LEFT_OUT = ("krates_samples", "krates_stand_in", "krates_host")
+LEFT_OUT = ("krates_samples", "krates_host")
 
 # The files whose public functions are laws.
 LAWS = ("laws.rt", "comparisons.rt")

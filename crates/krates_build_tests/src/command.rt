@@ -3,7 +3,7 @@
 use crate::table::{Question, Row, compare, compare_beginning, hold, hold_beginnings};
 use krates_cargo::{Cmd, Features, LockOptions, MetadataCommand};
 use krates_cm::{Error, Metadata};
-use krates_stand_in::DOCUMENT;
+use krates_samples::stand_in::DOCUMENT;
 use std::alloc::{AllocError, Global};
 use std::process::Command;
 use std::test::Fail;

@@ -3,7 +3,7 @@
 use crate::table::{Question, Row, hold_beginnings};
 use krates_cargo::MetadataCommand;
 use krates_cm::Error;
-use krates_stand_in::answer;
+use krates_samples::stand_in::answer;
 use std::io::Write;
 use std::test::Fail;
 

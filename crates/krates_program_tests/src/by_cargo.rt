@@ -2,7 +2,7 @@
 
 use krates_cli::{Counted, Options, RunError, program, run_by_cargo};
 use krates_samples::table::{Row, compare};
-use krates_stand_in::DOCUMENT;
+use krates_samples::stand_in::DOCUMENT;
 use std::alloc::Global;
 use std::test::Fail;
 use std::{env, str};
