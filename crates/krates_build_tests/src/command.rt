@@ -214,43 +214,43 @@ fn barred_copy(alloc: Global, command: &MetadataCommand) -> Result<String, Alloc
     barred(alloc, &copy)
 }
 
-/// What is shown of a command.
-trait Shown {
-    /// What is shown of this one.
-    fn shown(alloc: Global, command: &MetadataCommand) -> Result<String, Fail>;
+/// What is told of a command.
+trait ToldOfCommand {
+    /// What is told of this one.
+    fn told_of_command(alloc: Global, command: &MetadataCommand) -> Result<String, Fail>;
 }
 
-/// Sets what each word says, and adds the refusals of setters and then what is shown of the command.
-fn push_shown<S: Shown>(
+/// Sets what each word says, and adds the refusals of setters and then what is told of the command.
+fn push_told<T: ToldOfCommand>(
     told: &mut String,
     alloc: Global,
     command: &mut MetadataCommand,
     line: &str,
 ) -> Result<(), Fail> {
     try_set_all(told, alloc, command, line)?;
-    told.push_str(S::shown(alloc, command)?.as_str())?;
+    told.push_str(T::told_of_command(alloc, command)?.as_str())?;
     Ok(())
 }
 
-/// Asks what is shown of a command with these settings, after the refusals of its setters.
-struct OfCommand<S: Shown> {
-    of: PhantomData<S>,
+/// Asks what is told of a command with these settings, after the refusals of its setters.
+struct OfCommand<T: ToldOfCommand> {
+    of: PhantomData<T>,
 }
 
-impl<S: Shown> Question for OfCommand<S> {
+impl<T: ToldOfCommand> Question for OfCommand<T> {
     fn told(rt: &HostRuntime, line: &str) -> Result<String, Fail> {
         let mut told = String::new(rt.alloc());
         let mut command = MetadataCommand::new(rt.alloc());
-        push_shown::<S>(&mut told, rt.alloc(), &mut command, line)?;
+        push_told::<T>(&mut told, rt.alloc(), &mut command, line)?;
         Ok(told)
     }
 }
 
 /// Its words, which those of its copy equal.
-struct Words;
+struct OwnWords;
 
-impl Shown for Words {
-    fn shown(alloc: Global, command: &MetadataCommand) -> Result<String, Fail> {
+impl ToldOfCommand for OwnWords {
+    fn told_of_command(alloc: Global, command: &MetadataCommand) -> Result<String, Fail> {
         let words = barred(alloc, command)?;
         let copied = barred_copy(alloc, command)?;
         compare("the words of the copy", copied.as_str(), words.as_str())?;
@@ -260,7 +260,7 @@ impl Shown for Words {
 
 #[test]
 fn words_of_a_command(rt: HostRuntime) -> Result<(), Fail> {
-    hold::<OfCommand<Words>>(&rt, WORDS)
+    hold::<OfCommand<OwnWords>>(&rt, WORDS)
 }
 
 /// Sets the program, the manifest's path or the directory of a tool's options.
@@ -351,10 +351,10 @@ fn shown(alloc: Global, command: &MetadataCommand) -> Result<String, Error> {
 }
 
 /// The process of its copy.
-struct Process;
+struct OwnProcess;
 
-impl Shown for Process {
-    fn shown(alloc: Global, command: &MetadataCommand) -> Result<String, Fail> {
+impl ToldOfCommand for OwnProcess {
+    fn told_of_command(alloc: Global, command: &MetadataCommand) -> Result<String, Fail> {
         let copy = command.clone()?;
         Ok(shown(alloc, &copy)?)
     }
@@ -362,7 +362,7 @@ impl Shown for Process {
 
 #[test]
 fn process_of_a_command(rt: HostRuntime) -> Result<(), Fail> {
-    hold::<OfCommand<Process>>(&rt, PROCESSES)
+    hold::<OfCommand<OwnProcess>>(&rt, PROCESSES)
 }
 
 /// What the command shows that a tool's options become.
