@@ -10,7 +10,7 @@ use crate::versions::VERSIONS;
 use krates::Metadata;
 use krates::cm::MetadataCommand;
 use krates::target::Target;
-use krates_report::{Answer, Reporter};
+use krates_report::{Report, Reporter};
 use krates_samples::documents::metadata;
 use krates_samples::table::{Question, Row, hold};
 use krates_words::{Asked, Choice, asked_of};
@@ -62,8 +62,8 @@ fn printed_of(alloc: Global, mut asked: Asked, documents: &str) -> Result<String
     let other = other_of(alloc, second)?;
     let document = document_of(alloc, first)?;
     match Reporter::new(alloc, &asked).answer(document, other) {
-        Ok(Answer { text, is_yes: true }) => Ok(text),
-        Ok(Answer { text, .. }) => Ok(format!(in alloc; "no: {text}")?),
+        Ok(Report { text, is_yes: true }) => Ok(text),
+        Ok(Report { text, .. }) => Ok(format!(in alloc; "no: {text}")?),
         Err(refusal) => Ok(format!(in alloc; "refused: {refusal}")?),
     }
 }
