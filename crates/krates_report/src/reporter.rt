@@ -171,24 +171,40 @@ impl Reporter<'_> {
     /// What is printed of one document.
     fn of_one(&self, metadata: Metadata) -> Result<Report, ReportError> {
         match &self.asked.word {
-            Word::List { ids } => self.list(metadata, *ids),
-            Word::Tree { spec } => self.tree(metadata, spec.as_ref()),
-            Word::Dependents { spec } => self.dependents(metadata, spec.as_str()),
-            Word::Why { spec, steps } => self.why(metadata, spec.as_str(), *steps),
-            Word::Features { spec } => self.features(metadata, spec.as_str()),
-            Word::Duplicates => self.duplicates(metadata),
-            Word::Licences => self.licences(metadata),
-            Word::Uses => self.uses(metadata),
-            Word::Sbom => self.bill(metadata),
-            Word::Graph => self.graph(metadata),
+            Word::List { .. } | Word::Duplicates | Word::Licences | Word::Graph => {
+                self.of_graph(metadata)
+            }
+            Word::Tree { .. }
+            | Word::Dependents { .. }
+            | Word::Why { .. }
+            | Word::Features { .. }
+            | Word::Certify { .. } => self.of_divided(metadata),
+            Word::Uses | Word::Sbom => self.of_builds(metadata),
             Word::Queries => self.queries(metadata),
-            Word::Certify { spec } => self.certificate(metadata, spec.as_ref()),
             Word::Unreachable { spec } => self.unreachable(metadata, spec.as_str()),
             Word::Diff { .. } => {
                 metadata.let_go();
                 Err(ReportError::NoOther)
             }
         }
+    }
+
+    /// What is printed of the graph of a document.
+    fn of_graph(&self, metadata: Metadata) -> Result<Report, ReportError> {
+        let krates = self.built(metadata)?;
+        self.in_graph(&krates)
+    }
+
+    /// What is printed of the graph of a document and the packages that it doesn't keep.
+    fn of_divided(&self, metadata: Metadata) -> Result<Report, ReportError> {
+        let divided = self.divided(metadata)?;
+        self.in_divided(&divided)
+    }
+
+    /// What is printed of the three graphs of a document.
+    fn of_builds(&self, metadata: Metadata) -> Result<Report, ReportError> {
+        let builds = builds(self.alloc, &self.asked.choice, metadata)?;
+        self.in_builds(&builds)
     }
 
     /// What is printed of an answer that is a yes, if there was memory to make it.
@@ -201,11 +217,6 @@ impl Reporter<'_> {
     /// The graph of a document.
     fn built(&self, metadata: Metadata) -> Result<Krates, ReportError> {
         built(self.alloc, &self.asked.choice, &[], metadata)
-    }
-
-    /// The three graphs of a document by which uses are told.
-    fn builds(&self, metadata: Metadata) -> Result<Builds, ReportError> {
-        builds(self.alloc, &self.asked.choice, metadata)
     }
 
     /// The graph of a document and the packages that it doesn't keep.
@@ -224,63 +235,6 @@ impl Reporter<'_> {
         self.asked.choice.setting(self.alloc, &[])
     }
 
-    /// The kept crates.
-    fn list(&self, metadata: Metadata, has_ids: bool) -> Result<Report, ReportError> {
-        let krates = self.built(metadata)?;
-        self.shown(Ok(List {
-            krates: &krates,
-            has_ids,
-        }))
-    }
-
-    /// The tree of what a crate needs, or the members where none is named.
-    fn tree(&self, metadata: Metadata, spec: Option<&String>) -> Result<Report, ReportError> {
-        let divided = self.divided(metadata)?;
-        self.tree_below(&divided, spec)
-    }
-
-    /// The tree of those that need a crate.
-    fn dependents(&self, metadata: Metadata, spec: &str) -> Result<Report, ReportError> {
-        let divided = self.divided(metadata)?;
-        self.tree_above(&divided, spec)
-    }
-
-    /// Why a crate is kept.
-    fn why(&self, metadata: Metadata, spec: &str, has_steps: bool) -> Result<Report, ReportError> {
-        let divided = self.divided(metadata)?;
-        self.why_in(&divided, spec, has_steps)
-    }
-
-    /// The enabled features of a crate.
-    fn features(&self, metadata: Metadata, spec: &str) -> Result<Report, ReportError> {
-        let divided = self.divided(metadata)?;
-        self.features_in(&divided, spec)
-    }
-
-    /// The names that several kept crates have.
-    fn duplicates(&self, metadata: Metadata) -> Result<Report, ReportError> {
-        let krates = self.built(metadata)?;
-        self.shown(Duplicates::of(self.alloc, &krates))
-    }
-
-    /// The licences of the kept crates.
-    fn licences(&self, metadata: Metadata) -> Result<Report, ReportError> {
-        let krates = self.built(metadata)?;
-        self.shown(Licences::of(self.alloc, &krates))
-    }
-
-    /// What the kept crates are used for.
-    fn uses(&self, metadata: Metadata) -> Result<Report, ReportError> {
-        let builds = self.builds(metadata)?;
-        self.shown(UsedKrates::of(self.alloc, &builds))
-    }
-
-    /// The bill of materials.
-    fn bill(&self, metadata: Metadata) -> Result<Report, ReportError> {
-        let builds = self.builds(metadata)?;
-        self.shown(Bill::of(self.alloc, &builds))
-    }
-
     /// What the graphs of two documents have alone.
     fn difference(&self, first: Metadata, second: Metadata) -> Result<Report, ReportError> {
         match self.built(first) {
@@ -296,12 +250,6 @@ impl Reporter<'_> {
     fn difference_from(&self, first: &Krates, second: Metadata) -> Result<Report, ReportError> {
         let second = self.built(second)?;
         self.shown(Difference::between(self.alloc, first, &second))
-    }
-
-    /// The drawn graph, number by number.
-    fn graph(&self, metadata: Metadata) -> Result<Report, ReportError> {
-        let krates = self.built(metadata)?;
-        self.graph_lines(&krates)
     }
 
     /// What each query answers.
@@ -333,20 +281,48 @@ impl Reporter<'_> {
         let divided = self.divided(metadata.clone()?)?;
         self.certainty(metadata, &divided, spec)
     }
-
-    /// A certificate: that a crate is kept; or, of all crates and of one that isn't kept, that nothing else is.
-    fn certificate(
-        &self,
-        metadata: Metadata,
-        spec: Option<&String>,
-    ) -> Result<Report, ReportError> {
-        let divided = self.divided(metadata)?;
-        self.certificate_in(&divided, spec)
-    }
 }
 
 /// What is printed of what was built. Nothing large is owned here, so that no refusal has to let it go.
 impl Reporter<'_> {
+    /// What a word that asks for the graph alone is answered: the kept crates, the names that several of them have, their licences, or
+    /// the drawn graph, number by number.
+    fn in_graph(&self, krates: &Krates) -> Result<Report, ReportError> {
+        match &self.asked.word {
+            Word::List { ids } => self.shown(Ok(List {
+                krates,
+                has_ids: *ids,
+            })),
+            Word::Duplicates => self.shown(Duplicates::of(self.alloc, krates)),
+            Word::Licences => self.shown(Licences::of(self.alloc, krates)),
+            // the word `graph`
+            _ => self.graph_lines(krates),
+        }
+    }
+
+    /// What a word about one crate is answered: the tree of what it needs or of those that need it, why it is kept, its enabled features,
+    /// or a certificate.
+    fn in_divided(&self, divided: &Divided) -> Result<Report, ReportError> {
+        match &self.asked.word {
+            Word::Tree { spec } => self.tree_below(divided, spec.as_ref()),
+            Word::Dependents { spec } => self.tree_above(divided, spec.as_str()),
+            Word::Why { spec, steps } => self.why_in(divided, spec.as_str(), *steps),
+            Word::Features { spec } => self.features_in(divided, spec.as_str()),
+            Word::Certify { spec } => self.certificate_in(divided, spec.as_ref()),
+            // no other word comes here but one that lacks its second document
+            _ => Err(ReportError::NoOther),
+        }
+    }
+
+    /// What the kept crates are used for, or the bill of materials.
+    fn in_builds(&self, builds: &Builds) -> Result<Report, ReportError> {
+        match &self.asked.word {
+            Word::Uses => self.shown(UsedKrates::of(self.alloc, builds)),
+            // the word `sbom`
+            _ => self.shown(Bill::of(self.alloc, builds)),
+        }
+    }
+
     /// The tree of what a crate needs, or the members where none is named.
     fn tree_below(&self, divided: &Divided, spec: Option<&String>) -> Result<Report, ReportError> {
         let roots = match spec {
