@@ -6,6 +6,7 @@ mod names;
 mod reasons;
 mod trees;
 
+use crate::listing::words_of;
 use crate::versions::VERSIONS;
 use krates::Metadata;
 use krates::cm::MetadataCommand;
@@ -32,15 +33,6 @@ fn other_of(alloc: Global, line: Option<&str>) -> Result<Option<Metadata>, Fail>
         Some(line) => Ok(Some(document_of(alloc, line)?)),
         None => Ok(None),
     }
-}
-
-/// The words of a line, with a blank for each tilde.
-pub(crate) fn words_of(alloc: Global, line: &str) -> Result<Vec<String>, Fail> {
-    let mut words = Vec::new(alloc);
-    for word in line.split_whitespace() {
-        words.push(word.replace(alloc, '~', " ")?)?;
-    }
-    Ok(words)
 }
 
 /// The targets that the words name, of those that are known by their triple.

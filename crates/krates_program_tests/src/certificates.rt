@@ -1,6 +1,7 @@
 //! Certificates as `cargo krates` writes them, and what the program says that checks them.
 
-use crate::asked::{Answered, add_targets, answered_of, document_of, words_of};
+use crate::asked::{Answered, add_targets, answered_of, document_of};
+use crate::listing::words_of;
 use krates_samples::table::{Question, Row, hold};
 use krates_verdict::{CertificateSubject, run};
 use krates_words::{CheckWords, check_words_of};
