@@ -43,7 +43,7 @@ ROOMS = {
 
 def shown(name):
     """Whether a crate is part of the way from bytes to bytes: neither tests nor what tests stand on."""
-    return not name.endswith("_tests") and name not in {"krates_samples", "krates_stand_in", "fake_cargo"}
+    return not name.endswith("_tests") and name not in {"krates_samples", "fake_cargo"}
 
 
 def reaches(stands_on, start):

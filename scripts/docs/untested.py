@@ -14,7 +14,7 @@ import re
 from krates_sources import ROOT, libraries, public_calls
 
 # What only tests use, and what programs do on their machine, which the cases of the programs show.
-LEFT_OUT = ("krates_samples", "krates_stand_in", "krates_host")
+LEFT_OUT = ("krates_samples", "krates_host")
 
 # The files whose public functions are laws.
 LAWS = ("laws.rt", "comparisons.rt")
@@ -64,15 +64,15 @@ SHOWN_BY = {
     "facts": ("kept_steps", "Document::lookup"),
     "why": ("derivation_of", "step_of"),
     # what is read as a document is listed, and what is read as a certificate is judged
-    "run": ("listing_of", "Subject::judge", "Subject::judge_bytes"),
+    "run": ("listing_of", "CertificateSubject::judge", "CertificateSubject::judge_bytes"),
     # a refusal is handed over with its status
-    "hand_over": ("Refusal::status",),
+    "hand_over": ("CallRefusal::status",),
     # what a word of `cargo krates` answers is made of values, which its text and its JSON show
     "Reporter::answer": (
         "fitting duplicates lacking lost_dependencies materials is_unreachable Links::dependents Links::dependencies"
         " Links::of Links::leads Links::tree Builds::use_of Builds::uses Packages::one Packages::any Bill::of"
         " Changed::between Difference::between Duplicates::of licences Tree::of_dependencies Tree::of_dependents"
-        " Features::of"
+        " ExplainedFeatures::of"
     ).split(),
 }
 

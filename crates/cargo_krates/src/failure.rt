@@ -1,14 +1,14 @@
 //! Why there is no answer.
 
-use krates_report::Refusal;
+use krates_report::ReportError;
 
 /// Why there is no answer.
 #[derive(Debug, Drop, thiserror::Error)]
-pub(crate) enum Failure {
+pub(crate) enum AnswerFailure {
     /// There is no document or target to answer about.
     #[error("{0}")]
     Host(#[from] krates_host::Failure),
     /// The question has no answer.
     #[error("{0}")]
-    Refused(#[from] Refusal),
+    Refused(#[from] ReportError),
 }

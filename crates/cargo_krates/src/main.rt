@@ -5,16 +5,16 @@
 
 mod failure;
 
-use crate::failure::Failure;
+use crate::failure::AnswerFailure;
 use krates::Package;
 use krates_host::program::{NO, print, refuse_asked, refuse_words, words_of};
 use krates_host::{document, said, targets};
-use krates_report::{Answer, Reporter};
+use krates_report::{Report, Reporter};
 use krates_words::{Asked, Choice, asked_of};
 use std::process::ExitCode;
 
 /// The answer to what is asked.
-fn answer_of(rt: &HostRuntime, mut asked: Asked) -> Result<Answer, Failure> {
+fn answer_of(rt: &HostRuntime, mut asked: Asked) -> Result<Report, AnswerFailure> {
     asked.choice.targets = targets::targets_of(rt, &asked.choice)?;
     note_host(rt, &asked.choice);
     let other = document::other(rt, &asked.word)?;

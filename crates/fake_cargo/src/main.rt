@@ -1,7 +1,7 @@
 //! `fake-cargo`: stands in for cargo where cargo itself isn't to be run. Its last word chooses what it writes.
 #![tactic(auto)]
 
-use krates_stand_in::{Output, answer};
+use krates_samples::stand_in::{Output, answer};
 use std::io::Write;
 use std::process::ExitCode;
 use std::{env, io};

@@ -9,7 +9,7 @@ use Rattle.krates_rules.specs.Facts.{Id}
 use Rattle.krates_rules.specs.Resolved.{StandsAt, id_of}
 use Rattle.krates_answers.specs.Links.{Needs}
 use Rattle.krates_answers.specs.Those.{AreThose}
-use Rattle.krates_answers.specs.declared.difference.Dependency.{Dependency}
+use Rattle.krates_answers.specs.declared.difference.DependencyEdge.{DependencyEdge}
 
 -- these are exactly the crates that the first keeps and the second doesn't, by number
 abbrev pub AreLacking : {N E : Type 0} → KeptCrates N E → KeptCrates N E → List (Match N) → Type 0
@@ -21,7 +21,7 @@ pub record Pair (N : Type 0) : Type 0 where
   pub child : Match N
 
 -- the crates that a dependency shows
-abbrev pub dependency_view : Dependency → Pair Package
+abbrev pub dependency_view : DependencyEdge → Pair Package
 dependency_view d = record { parent = match_view d.parent; child = match_view d.child }
 
 -- each of these crates before the child

@@ -15,7 +15,7 @@ use std::marker::Model;
 
 /// A crate that depends directly on another, with that one.
 #[derive(Debug, Drop)]
-pub struct Dependency<'a> {
+pub struct DependencyEdge<'a> {
     /// The crate that depends.
     pub parent: KrateMatch<'a, Package>,
     /// The crate on which it depends.
@@ -88,10 +88,10 @@ pub fn lacking<'a>(
 fn dependency_of<'a>(
     child: &KrateMatch<'a, Package>,
     dependent: &DirectDependent<'a, Package>,
-) -> Dependency<'a>
+) -> DependencyEdge<'a>
     ensures { dependency_view result ≡ pair_of (match_view child.now) dependent.now }
 {
-    Dependency {
+    DependencyEdge {
         parent: KrateMatch {
             krate: dependent.krate,
             kid: dependent.kid,
@@ -110,7 +110,7 @@ fn push_if_lost<'a>(
     there: &There<'_, Package, Edge>,
     child: &KrateMatch<'a, Package>,
     dependent: &DirectDependent<'a, Package>,
-    lost: &mut Vec<Dependency<'a>>,
+    lost: &mut Vec<DependencyEdge<'a>>,
 ) -> Result<(), AllocError>
     ensures { OnOk result (AddsThose (IsMissing there.now) (pair_of (match_view child.now) dependent.now ∷ [])
         (map dependency_view lost.old.items) (map dependency_view lost.new.items)) }
@@ -126,7 +126,7 @@ fn push_lost<'a>(
     there: &There<'_, Package, Edge>,
     child: &KrateMatch<'a, Package>,
     dependents: &[DirectDependent<'a, Package>],
-    lost: &mut Vec<Dependency<'a>>,
+    lost: &mut Vec<DependencyEdge<'a>>,
 ) -> Result<(), AllocError>
     ensures { OnOk result (AddsThose (IsMissing there.now) (map (pair_of (match_view child.now)) dependents.now)
         (map dependency_view lost.old.items) (map dependency_view lost.new.items)) }
@@ -144,7 +144,7 @@ pub fn lost_dependencies<'a>(
     alloc: Global,
     here: &'a Krates,
     there: &Krates,
-) -> Result<Vec<Dependency<'a>>, AllocError>
+) -> Result<Vec<DependencyEdge<'a>>, AllocError>
     ensures { IfOk result (λ found. AreLost here.now there.now (map dependency_view found.items)) }
 {
     let there = There::new(alloc, there)?;

@@ -113,12 +113,12 @@ fn id_of(alloc: Global, word: &str) -> Result<Option<Kid>, AllocError> {
 
 /// What a word means: a package specification, and the first numbers of the version where the word has no more of it.
 #[derive(Drop)]
-struct Wanted {
+struct WordMeaning {
     spec: PkgSpec,
     numbers: Option<VersionReq>,
 }
 
-impl Wanted {
+impl WordMeaning {
     /// Whether a package has the version, as far as the word has it apart from the specification. First numbers fit no pre-release,
     /// which has to be named whole.
     fn has_version_of(&self, pkg: &Package) -> bool {
@@ -140,7 +140,7 @@ fn without_numbers(word: &str) -> Option<(&str, &str)> {
 }
 
 /// What a word means whose version lacks its last numbers, if it is one: they are required to be these.
-fn wanted_by_numbers(alloc: Global, word: &str) -> Result<Option<Wanted>, AllocError> {
+fn meaning_by_numbers(alloc: Global, word: &str) -> Result<Option<WordMeaning>, AllocError> {
     let Some((named, numbers)) = without_numbers(word) else {
         return Ok(None);
     };
@@ -149,7 +149,7 @@ fn wanted_by_numbers(alloc: Global, word: &str) -> Result<Option<Wanted>, AllocE
         PkgSpec::from_str(alloc, named),
         VersionReq::parse(alloc, required.as_str()),
     ) {
-        (Ok(spec), Ok(numbers)) => Ok(Some(Wanted {
+        (Ok(spec), Ok(numbers)) => Ok(Some(WordMeaning {
             spec,
             numbers: Some(numbers),
         })),
@@ -158,10 +158,10 @@ fn wanted_by_numbers(alloc: Global, word: &str) -> Result<Option<Wanted>, AllocE
 }
 
 /// What a word means, as cargo's `--package` takes it.
-fn wanted_of(alloc: Global, word: &str) -> Result<Wanted, NamingError> {
+fn meaning_of(alloc: Global, word: &str) -> Result<WordMeaning, NamingError> {
     let what = match PkgSpec::from_str(alloc, word) {
         Ok(spec) => {
-            return Ok(Wanted {
+            return Ok(WordMeaning {
                 spec,
                 numbers: None,
             });
@@ -169,7 +169,7 @@ fn wanted_of(alloc: Global, word: &str) -> Result<Wanted, NamingError> {
         Err(Error::InvalidPkgSpec(what)) => what,
         Err(_) => return Err(NamingError::Memory),
     };
-    match wanted_by_numbers(alloc, word)? {
+    match meaning_by_numbers(alloc, word)? {
         Some(wanted) => Ok(wanted),
         None => Err(NamingError::Unread {
             word: String::from_str(alloc, word)?,
@@ -268,8 +268,8 @@ fn several(
 
 /// What a word means, and the packages that it fits.
 #[derive(Drop)]
-struct Candidates<'a> {
-    wanted: Wanted,
+struct FittingPackages<'a> {
+    wanted: WordMeaning,
     kept: Vec<KrateMatch<'a, Package>>,
     /// Those that aren't kept.
     others: Vec<&'a Package>,
@@ -315,7 +315,7 @@ impl<'a> Packages<'a> {
         alloc: Global,
         word: &str,
     ) -> Result<KrateMatch<'a, Package>, NamingError> {
-        let mut found = self.candidates(alloc, word)?;
+        let mut found = self.fitting_packages(alloc, word)?;
         if found.kept.len() > 1 {
             let refusal = several(alloc, word, &found.kept, &[]);
             Err(refusal.unwrap_or(NamingError::Memory))
@@ -329,7 +329,7 @@ impl<'a> Packages<'a> {
 
     /// The one package of the document that a word fits.
     fn any_fitting(&self, alloc: Global, word: &str) -> Result<Meant<'a>, NamingError> {
-        let mut found = self.candidates(alloc, word)?;
+        let mut found = self.fitting_packages(alloc, word)?;
         if found.kept.len().saturating_add(found.others.len()) > 1 {
             let refusal = several(alloc, word, &found.kept, &found.others);
             Err(refusal.unwrap_or(NamingError::Memory))
@@ -343,11 +343,15 @@ impl<'a> Packages<'a> {
     }
 
     /// What a word means, and the packages that it fits.
-    fn candidates(&self, alloc: Global, word: &str) -> Result<Candidates<'a>, NamingError> {
-        let wanted = wanted_of(alloc, word)?;
+    fn fitting_packages(
+        &self,
+        alloc: Global,
+        word: &str,
+    ) -> Result<FittingPackages<'a>, NamingError> {
+        let wanted = meaning_of(alloc, word)?;
         let kept = self.kept_fitting(alloc, &wanted)?;
         let others = self.others_fitting(alloc, &wanted)?;
-        Ok(Candidates {
+        Ok(FittingPackages {
             wanted,
             kept,
             others,
@@ -355,7 +359,7 @@ impl<'a> Packages<'a> {
     }
 
     /// Why no kept crate fits.
-    fn none(&self, alloc: Global, word: &str, found: &Candidates<'_>) -> NamingError {
+    fn none(&self, alloc: Global, word: &str, found: &FittingPackages<'_>) -> NamingError {
         let refusal = if found.others.is_empty() {
             self.unknown(alloc, word, &found.wanted.spec)
         } else {
@@ -380,7 +384,7 @@ impl<'a> Packages<'a> {
     fn kept_fitting(
         &self,
         alloc: Global,
-        wanted: &Wanted,
+        wanted: &WordMeaning,
     ) -> Result<Vec<KrateMatch<'a, Package>>, AllocError> {
         let mut kept = fitting(alloc, self.krates, &wanted.spec)?;
         kept.retain(|found| wanted.has_version_of(found.krate));
@@ -391,7 +395,7 @@ impl<'a> Packages<'a> {
     fn others_fitting(
         &self,
         alloc: Global,
-        wanted: &Wanted,
+        wanted: &WordMeaning,
     ) -> Result<Vec<&'a Package>, AllocError> {
         let mut others = Vec::new(alloc);
         for pkg in self.others {

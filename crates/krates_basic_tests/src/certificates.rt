@@ -1,7 +1,7 @@
 //! Certificates as JSON: what is written for steps and facts in the small language of facts (`krates_samples::facts`), what is read, and
 //! why a text is refused.
 
-use krates_certificate::{Certificate, CertificateError, Part};
+use krates_certificate::{Certificate, CertificateError, CertificatePart};
 use krates_rules::Fact;
 use krates_samples::facts::{facts_of, steps_of};
 use krates_samples::table::{Question, Row, hold};

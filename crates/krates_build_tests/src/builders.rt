@@ -1,4 +1,4 @@
-//! Both checks by a builder under a setting.
+//! A builder under what the sections of a line set, what it builds of the document of the line, and both checks by it.
 
 ghost use Rattle.std.specs.Prelude.{◌≡◌, IfOk, None};
 
@@ -6,38 +6,17 @@ use crate::closed_lists::{ADDED, LOST};
 use crate::derivations::{DECLARED, ORDERED, STRONG};
 use crate::lists::{Ask, Facts, Given, List, OfLine, Sections, Steps, list_in};
 use crate::real_documents::metadata_of;
-use krates::resolve::Setting;
-use krates::{Builder, DepKind, Krates, NoneFilter, Scope};
-use krates_samples::documents::kind_named;
-use krates_samples::settings::package_specs;
+use crate::setting::setting_of;
+use krates::{Builder, FromPackage, Krates, NoneFilter};
 use krates_samples::table::hold;
 use std::alloc::Global;
 use std::test::Fail;
-
-/// Sets what a section of a line asks.
-fn set(alloc: Global, setting: &mut Setting, section: &str) -> Result<(), Fail> {
-    let (setter, text) = section.split_once(' ').unwrap_or((section, ""));
-    if setter == "ignore" {
-        setting.ignore_kind(DepKind::from(kind_named(text)), Scope::All);
-    }
-    if setter == "names" {
-        setting.all_named(text == "all");
-    }
-    if setter == "without" {
-        setting.exclude(package_specs(alloc, text)?)?;
-    }
-    Ok(())
-}
 
 /// A builder under what the sections of a line ask, without an index.
 pub(crate) fn builder_of(alloc: Global, line: &str) -> Result<Builder, Fail>
     ensures no_index { IfOk result (λ builder. builder.index ≡ None) }
 {
-    let mut setting = Setting::new(alloc);
-    for section in line.split(" / ") {
-        set(alloc, &mut setting, section)?;
-    }
-    Ok(Builder::under(alloc, setting))
+    Ok(Builder::under(alloc, setting_of(alloc, line)?))
 }
 
 impl Sections for Builder {
@@ -47,10 +26,16 @@ impl Sections for Builder {
 }
 
 /// What is built of the document of a line under what its sections set.
-pub(crate) fn krates_of(alloc: Global, line: &str) -> Result<Box<Krates>, Fail> {
+pub(crate) fn krates_of<N: FromPackage + Drop>(
+    alloc: Global,
+    line: &str,
+) -> Result<Box<Krates<N>>, Fail> {
     let metadata = metadata_of(alloc, line)?;
     let builder = builder_of(alloc, line)?;
-    let krates: Krates = builder.build_with_metadata(Box::into_inner(metadata), &mut NoneFilter)?;
+    let krates: Krates<N> = builder.build_with_metadata(
+        Box::into_inner(metadata),
+        &mut NoneFilter,
+    )?;
     Ok(Box::new(alloc, krates)?)
 }
 

@@ -2,11 +2,12 @@
 
 ghost use Rattle.std.specs.Prelude.{◌≡◌, None, ⊤};
 
+use crate::builders::builder_of;
 use crate::of_graph::{OfGraph, Told, push_features, push_marked, push_number};
-use crate::setters::build_as;
+use crate::real_documents::metadata_of;
 use krates::cm::Metadata;
 use krates::{Builder, Error, Krates, OnFilter, Package};
-use krates_samples::documents::{kid_of, metadata, word_of};
+use krates_samples::documents::{kid_of, word_of};
 use krates_samples::table::{Question, Row, hold};
 use std::alloc::{AllocError, Global};
 use std::test::Fail;
@@ -97,10 +98,9 @@ pub(crate) struct Built;
 
 impl Question for Built {
     fn told(alloc: Global, line: &str) -> Result<String, Fail> {
-        let mut builder = Builder::new(alloc);
-        build_as(alloc, &mut builder, line)?;
-        let metadata = metadata(alloc, line)?;
-        outcome(alloc, builder, metadata)
+        let metadata = metadata_of(alloc, line)?;
+        let builder = builder_of(alloc, line)?;
+        outcome(alloc, builder, Box::into_inner(metadata))
     }
 }
 

@@ -1,10 +1,12 @@
 //! The command: the words that cargo is run with, the command of a tool's options, and what is read from cargo's output.
 
+use crate::starved_commands::parts;
 use crate::table::{Question, Row, compare, compare_beginning, hold, hold_beginnings};
 use krates_cargo::{Cmd, Features, LockOptions, MetadataCommand};
 use krates_cm::{Error, Metadata};
-use krates_stand_in::DOCUMENT;
+use krates_samples::stand_in::DOCUMENT;
 use std::alloc::{AllocError, Global};
+use std::marker::PhantomData;
 use std::process::Command;
 use std::test::Fail;
 
@@ -123,15 +125,6 @@ const READ: &[(bool, &[u8], &[u8], &str)] = &[
     ),
 ];
 
-/// The parts between commas.
-fn parts(alloc: Global, text: &str) -> Result<Vec<String>, AllocError> {
-    let mut parts = Vec::new(alloc);
-    for part in text.split(',') {
-        parts.push(String::from_str(alloc, part)?)?;
-    }
-    Ok(parts)
-}
-
 /// The words of a command, with a bar between each two.
 fn barred(alloc: Global, command: &MetadataCommand) -> Result<String, AllocError> {
     let words = command.args()?;
@@ -163,7 +156,7 @@ fn choose(
     let features = match choice {
         "all" => Features::All,
         "no-default" => Features::NoDefault,
-        _ => Features::Selected(parts(alloc, names)?),
+        _ => Features::Selected(parts(alloc, names, ',')?),
     };
     command.features(features)?;
     Ok(())
@@ -182,17 +175,9 @@ fn set(alloc: Global, command: &mut MetadataCommand, word: &str) -> Result<(), E
             command.env(name, value)?;
         }
         "other" => {
-            command.other_options(parts(alloc, value)?);
+            command.other_options(parts(alloc, value, ',')?);
         }
         _ => set_text(command, setter, String::from_str(alloc, value)?),
-    }
-    Ok(())
-}
-
-/// Sets what each word says.
-fn set_all(alloc: Global, command: &mut MetadataCommand, line: &str) -> Result<(), Error> {
-    for word in line.split_whitespace() {
-        set(alloc, command, word)?;
     }
     Ok(())
 }
@@ -229,41 +214,53 @@ fn barred_copy(alloc: Global, command: &MetadataCommand) -> Result<String, Alloc
     barred(alloc, &copy)
 }
 
-/// The words of a command, which those of its copy equal.
-fn words(alloc: Global, command: &MetadataCommand) -> Result<String, Fail> {
-    let words = barred(alloc, command)?;
-    let copied = barred_copy(alloc, command)?;
-    compare("the words of the copy", copied.as_str(), words.as_str())?;
-    Ok(words)
+/// What is told of a command.
+trait ToldOfCommand {
+    /// What is told of this one.
+    fn told_of_command(alloc: Global, command: &MetadataCommand) -> Result<String, Fail>;
 }
 
-/// Sets what each word says, and adds the refusals of setters and then the words of the command.
-fn push_words(
+/// Sets what each word says, and adds the refusals of setters and then what is told of the command.
+fn push_told<T: ToldOfCommand>(
     told: &mut String,
     alloc: Global,
     command: &mut MetadataCommand,
     line: &str,
 ) -> Result<(), Fail> {
     try_set_all(told, alloc, command, line)?;
-    told.push_str(words(alloc, command)?.as_str())?;
+    told.push_str(T::told_of_command(alloc, command)?.as_str())?;
     Ok(())
 }
 
-/// Asks for the words of a command with these settings, after the refusals of its setters.
-struct CommandWords;
+/// Asks what is told of a command with these settings, after the refusals of its setters.
+struct OfCommand<T: ToldOfCommand> {
+    of: PhantomData<T>,
+}
 
-impl Question for CommandWords {
+impl<T: ToldOfCommand> Question for OfCommand<T> {
     fn told(rt: &HostRuntime, line: &str) -> Result<String, Fail> {
         let mut told = String::new(rt.alloc());
         let mut command = MetadataCommand::new(rt.alloc());
-        push_words(&mut told, rt.alloc(), &mut command, line)?;
+        push_told::<T>(&mut told, rt.alloc(), &mut command, line)?;
         Ok(told)
+    }
+}
+
+/// Its words, which those of its copy equal.
+struct OwnWords;
+
+impl ToldOfCommand for OwnWords {
+    fn told_of_command(alloc: Global, command: &MetadataCommand) -> Result<String, Fail> {
+        let words = barred(alloc, command)?;
+        let copied = barred_copy(alloc, command)?;
+        compare("the words of the copy", copied.as_str(), words.as_str())?;
+        Ok(words)
     }
 }
 
 #[test]
 fn words_of_a_command(rt: HostRuntime) -> Result<(), Fail> {
-    hold::<CommandWords>(&rt, WORDS)
+    hold::<OfCommand<OwnWords>>(&rt, WORDS)
 }
 
 /// Sets the program, the manifest's path or the directory of a tool's options.
@@ -299,10 +296,10 @@ fn ask(alloc: Global, cmd: &mut Cmd, word: &str) -> Result<(), AllocError> {
             });
         }
         "feature" => {
-            cmd.features(parts(alloc, value)?)?;
+            cmd.features(parts(alloc, value, ',')?)?;
         }
         "other" => {
-            cmd.other_options(parts(alloc, value)?)?;
+            cmd.other_options(parts(alloc, value, ',')?)?;
         }
         _ => ask_text(cmd, setter, String::from_str(alloc, value)?),
     }
@@ -317,17 +314,21 @@ fn ask_all(alloc: Global, cmd: &mut Cmd, line: &str) -> Result<(), AllocError> {
     Ok(())
 }
 
-/// Adds the variables that a process gets, each with its value.
-fn push_variables(text: &mut String, process: &Command) -> Result<(), AllocError> {
+/// Adds the variables that a process gets, each with its value and a text behind it.
+pub(crate) fn push_variables(
+    text: &mut String,
+    process: &Command,
+    behind: &str,
+) -> Result<(), AllocError> {
     for (name, value) in process.get_envs() {
-        write!(text, "{name}={} ", value.unwrap_or(""))?;
+        write!(text, "{name}={}{behind}", value.unwrap_or(""))?;
     }
     Ok(())
 }
 
 /// Adds the variables of a process, its program and its directory.
 fn push_process(text: &mut String, process: &Command) -> Result<(), AllocError> {
-    push_variables(text, process)?;
+    push_variables(text, process, " ")?;
     let dir = match process.get_current_dir() {
         Some(dir) => dir.as_str(),
         None => "none",
@@ -349,26 +350,19 @@ fn shown(alloc: Global, command: &MetadataCommand) -> Result<String, Error> {
     Ok(text)
 }
 
-/// What a copy of a command shows.
-fn shown_copy(alloc: Global, command: &MetadataCommand) -> Result<String, Error> {
-    let copy = command.clone()?;
-    shown(alloc, &copy)
-}
+/// The process of its copy.
+struct OwnProcess;
 
-/// Asks for the process of a command with these settings.
-struct CommandProcess;
-
-impl Question for CommandProcess {
-    fn told(rt: &HostRuntime, line: &str) -> Result<String, Fail> {
-        let mut command = MetadataCommand::new(rt.alloc());
-        set_all(rt.alloc(), &mut command, line)?;
-        Ok(shown_copy(rt.alloc(), &command)?)
+impl ToldOfCommand for OwnProcess {
+    fn told_of_command(alloc: Global, command: &MetadataCommand) -> Result<String, Fail> {
+        let copy = command.clone()?;
+        Ok(shown(alloc, &copy)?)
     }
 }
 
 #[test]
 fn process_of_a_command(rt: HostRuntime) -> Result<(), Fail> {
-    hold::<CommandProcess>(&rt, PROCESSES)
+    hold::<OfCommand<OwnProcess>>(&rt, PROCESSES)
 }
 
 /// What the command shows that a tool's options become.
@@ -396,8 +390,8 @@ fn options_become_a_command(rt: HostRuntime) -> Result<(), Fail> {
     hold::<OptionsCommand>(&rt, BECOMES)
 }
 
-/// What is read, or why nothing is.
-fn read(alloc: Global, parsed: Result<Metadata, Error>) -> Result<String, AllocError> {
+/// How many packages are read, or why nothing is.
+pub(crate) fn read(alloc: Global, parsed: Result<Metadata, Error>) -> Result<String, AllocError> {
     match parsed {
         Ok(metadata) => format!(in alloc; "{} packages", metadata.packages.len()),
         Err(error) => format!(in alloc; "{error}"),
@@ -478,7 +472,7 @@ fn shown_copy_of(alloc: Global, features: &Features) -> Result<String, AllocErro
 
 #[test]
 fn a_copy_of_features_holds_the_same(rt: HostRuntime) -> Result<(), Fail> {
-    let features = Features::Selected(parts(rt.alloc(), "x,y")?);
+    let features = Features::Selected(parts(rt.alloc(), "x,y", ',')?);
     let copy = shown_copy_of(rt.alloc(), &features)?;
     assert_eq!(rt; copy.as_str(), "Selected([\"x\", \"y\"])");
     Ok(())

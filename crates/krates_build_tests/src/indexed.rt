@@ -119,7 +119,7 @@ pub(crate) fn answer_with(
 }
 
 /// What an index knows of a version, as `VERSION NAME=REFERENCE` says.
-fn known_version(alloc: Global, text: &str) -> Result<IndexKrateVersion, Fail> {
+pub(crate) fn known_version(alloc: Global, text: &str) -> Result<IndexKrateVersion, Fail> {
     let (version, feature) = text.split_once(' ').unwrap_or((text, ""));
     let version = Version::parse(alloc, version)?;
     let features = features_of(alloc, feature)?;

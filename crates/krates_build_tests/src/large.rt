@@ -3,8 +3,9 @@
 ghost use Rattle.std.specs.Prelude.{◌≡◌, None};
 
 use crate::builds_by_cargo::Count;
+use crate::starved_checks::push_step;
 use krates::cm::MetadataCommand;
-use krates::derive::{Derivation, Fact, Step, check, check_closed};
+use krates::derive::{Derivation, Fact, check, check_closed};
 use krates::{Builder, DepKind, Krates, Metadata, NodeId, OnFilter, Package};
 use krates_samples::documents::kid_of;
 use krates_samples::large::{FEATURES, PACKAGES, large_document, long_name};
@@ -79,36 +80,22 @@ fn feature(alloc: Global, number: u32) -> Result<Fact, Fail> {
     })
 }
 
-/// Adds the step of a feature, by the step before it.
-fn push_step(steps: &mut Vec<Step>, alloc: Global, number: u32) -> Result<(), Fail> {
-    let uses = vec![in alloc; steps.len().saturating_sub(1)]?;
-    let fact = feature(alloc, number)?;
-    steps.push(Step {
-        rule: 3,
-        fact,
-        uses,
-    })?;
-    Ok(())
-}
-
 /// Adds a step for each feature behind the first.
-fn push_steps(steps: &mut Vec<Step>, alloc: Global) -> Result<(), Fail> {
+fn push_steps(alloc: Global, derivation: &mut Derivation) -> Result<(), Fail> {
     for number in FEATURES {
-        push_step(steps, alloc, number.saturating_add(1))?;
+        let fact = feature(alloc, number.saturating_add(1))?;
+        push_step(alloc, derivation, 3, fact)?;
     }
     Ok(())
 }
 
 /// A step for each feature, each by the one before it.
 fn steps(alloc: Global) -> Result<Derivation, Fail> {
-    let first = Step {
-        rule: 1,
-        fact: feature(alloc, 1_000)?,
-        uses: Vec::new(alloc),
-    };
-    let mut steps = vec![in alloc; first]?;
-    push_steps(&mut steps, alloc)?;
-    Ok(Derivation { steps })
+    let steps = Vec::new(alloc);
+    let mut derivation = Derivation { steps };
+    push_step(alloc, &mut derivation, 1, feature(alloc, 1_000)?)?;
+    push_steps(alloc, &mut derivation)?;
+    Ok(derivation)
 }
 
 /// Adds the edge to a crate that the member needs, and that crate.

@@ -3,18 +3,17 @@
 ghost use Rattle.std.specs.Prelude.{◌≡◌, OnOk};
 
 use crate::builds_by_cargo::Count;
+use crate::indexed::{answer_with, known_version};
 use crate::large::built;
 use crate::starved_commands::parts;
 use krates::cm::{Features, MetadataCommand};
-use krates::index::{CachingIndex, IndexAnswer, IndexKrate, IndexKrateVersion};
-use krates::semver::Version;
+use krates::index::CachingIndex;
 use krates::{Builder, Cmd, Kid, Metadata, Package, PackageId};
 use krates_samples::documents::metadata;
 use krates_samples::large::{large_document, push_features, push_names};
 use krates_samples::settings;
 use krates_samples::settings::{package_specs, targets_of};
 use std::alloc::Global;
-use std::collections::BTreeMap;
 use std::test::Fail;
 
 /// The names of many packages, each behind this text, with blanks between them.
@@ -107,23 +106,11 @@ fn a_large_command(rt: HostRuntime) -> Result<(), Fail> {
     Ok(())
 }
 
-/// What an index knows of a crate of the version 1.0.0, with a feature without references.
-fn known(alloc: Global) -> Result<IndexKrate, Fail> {
-    let version = Version::parse(alloc, "1.0.0")?;
-    let mut features = BTreeMap::new(alloc);
-    drop(features.insert(String::from_str(alloc, "std")?, Vec::new(alloc))?);
-    let versions = vec![in alloc; IndexKrateVersion { version, features }]?;
-    Ok(IndexKrate { versions })
-}
-
-/// An index that knows this of `p`.
+/// An index that knows a feature without references of the version 1.0.0 of `p`.
 fn index(alloc: Global) -> Result<CachingIndex, Fail> {
-    let known = known(alloc)?;
-    let mut krates = BTreeMap::new(alloc);
-    drop(krates.insert(String::from_str(alloc, "p")?, Some(known))?);
-    Ok(CachingIndex {
-        answer: IndexAnswer { krates },
-    })
+    let known = known_version(alloc, "1.0.0 std")?;
+    let answer = answer_with(alloc, "p", known)?;
+    Ok(CachingIndex { answer })
 }
 
 /// The document of a package with the many features.

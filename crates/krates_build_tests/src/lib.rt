@@ -88,8 +88,6 @@ mod reports;
 #[cfg(test)]
 mod selection;
 #[cfg(test)]
-mod setters;
-#[cfg(test)]
 mod setting;
 #[cfg(test)]
 mod settings;

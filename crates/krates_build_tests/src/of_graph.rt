@@ -1,6 +1,6 @@
 //! Questions to the graph that is built of a line, and what several of them add to their answers.
 
-use crate::setters::krates_of;
+use crate::builders::krates_of;
 use krates::{EnabledFeatures, FromPackage, Krates, NodeId, Package};
 use krates_samples::table::Question;
 use std::alloc::{AllocError, Global};
@@ -20,7 +20,7 @@ pub(crate) struct OfGraph<T: Told<N>, N = Package> {
 
 impl<T: Told<N>, N: FromPackage + Drop> Question for OfGraph<T, N> {
     fn told(alloc: Global, line: &str) -> Result<String, Fail> {
-        let krates = krates_of(alloc, line)?;
+        let krates = krates_of::<N>(alloc, line)?;
         let mut text = String::new(alloc);
         T::push(&mut text, &krates, line)?;
         Ok(text)

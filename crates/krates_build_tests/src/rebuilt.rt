@@ -6,9 +6,9 @@
 ghost use Rattle.std.specs.Prelude.{IfOk, map};
 ghost use Rattle.krates_build_tests.specs.Rebuilt.{HoldsRebuilt};
 
+use crate::builders::krates_of;
 use crate::building::{push_krates, push_package};
 use crate::of_graph::{OfGraph, Told};
-use crate::setters::krates_of;
 use krates::{DepKind, Krates, Package, laws};
 use krates_drawing::laws as drawing;
 use krates_samples::documents::{kind_named, section};
@@ -38,7 +38,7 @@ fn filtered_beside<'a, N, M>(
 
 /// Builds the document of a line again, without the kind of dependency of this name. The document is read anew, since a build
 /// takes it, and is the same; so the graphs are those of a build and its rebuild.
-fn rebuilt(alloc: Global, line: &str, name: &str) -> Result<Krates, Fail> {
+fn rebuilt(alloc: Global, line: &str, name: &str) -> Result<Box<Krates>, Fail> {
     let again = format!(in alloc; "{line} / ignore {name} all")?;
     krates_of(alloc, again.as_str())
 }

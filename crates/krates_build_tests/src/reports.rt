@@ -1,33 +1,12 @@
 //! Reports that people ask for, as a caller writes them.
 
-use crate::builders::krates_of;
-use crate::setters;
+use crate::of_graph::{OfGraph, Told};
 use krates::cm::SourceKind;
 use krates::{DepKind, DirectDependent, KrateDetails, Krates, NodeId, Package};
 use krates_samples::documents::section;
-use krates_samples::table::{Question, Row, hold};
+use krates_samples::table::{Row, hold};
 use std::alloc::{AllocError, Global};
 use std::test::Fail;
-
-/// What people ask of a graph.
-trait Report {
-    /// Adds what the graph tells of the line.
-    fn push(text: &mut String, krates: &Krates, line: &str) -> Result<(), AllocError>;
-}
-
-/// What the graph of a line tells.
-struct Reported<R> {
-    report: R,
-}
-
-impl<R: Report> Question for Reported<R> {
-    fn told(alloc: Global, line: &str) -> Result<String, Fail> {
-        let krates = krates_of(alloc, line)?;
-        let mut text = String::new(alloc);
-        R::push(&mut text, &krates, line)?;
-        Ok(text)
-    }
-}
 
 /// Adds a crate that depends on another, with the edge by which it does.
 fn push_dependent(
@@ -52,8 +31,8 @@ fn push_dependents(text: &mut String, krates: &Krates, node: NodeId) -> Result<(
 /// Who depends on the crates of the name in the section `of`.
 struct Dependents;
 
-impl Report for Dependents {
-    fn push(text: &mut String, krates: &Krates, line: &str) -> Result<(), AllocError> {
+impl Told<Package> for Dependents {
+    fn push(text: &mut String, krates: &Krates, line: &str) -> Result<(), Fail> {
         for asked in krates.krates_by_name(section(line, "of ").unwrap_or("")) {
             push_dependents(text, krates, asked.node_id)?;
         }
@@ -99,8 +78,8 @@ fn push_other(
 /// The crates that only dev dependencies bring.
 struct ForTests;
 
-impl Report for ForTests {
-    fn push(text: &mut String, krates: &Krates, _: &str) -> Result<(), AllocError> {
+impl Told<Package> for ForTests {
+    fn push(text: &mut String, krates: &Krates, _line: &str) -> Result<(), Fail> {
         let needed = krates.krates_filtered(DepKind::Dev)?;
         let mut place = 0usize;
         for krate in krates.krates() {
@@ -138,26 +117,19 @@ fn origin_of(krate: &Package) -> &'static str {
     }
 }
 
-/// Adds each kept crate, with its number, where it is from, and how many crates lead to it, itself among them.
-fn push_shipped(text: &mut String, krates: &Krates) -> Result<(), AllocError> {
-    for found in krates.krate_nodes() {
-        let number = found.node_id.index();
-        let above = krates.all_dependents(found.node_id)?.len();
-        let origin = origin_of(found.krate);
-        write!(text, "{number} {} {origin} {above}, ", found.kid.name())?;
-    }
-    Ok(())
-}
-
-/// The crates that are shipped to the target of the line.
+/// The crates that are shipped to the target of the line, each with its number, where it is from, and how many crates lead to it, itself
+/// among them.
 struct Shipped;
 
-impl Question for Shipped {
-    fn told(alloc: Global, line: &str) -> Result<String, Fail> {
-        let krates = setters::krates_of(alloc, line)?;
-        let mut text = String::new(alloc);
-        push_shipped(&mut text, &krates)?;
-        Ok(text)
+impl Told<Package> for Shipped {
+    fn push(text: &mut String, krates: &Krates, _line: &str) -> Result<(), Fail> {
+        for found in krates.krate_nodes() {
+            let number = found.node_id.index();
+            let above = krates.all_dependents(found.node_id)?.len();
+            let origin = origin_of(found.krate);
+            write!(text, "{number} {} {origin} {above}, ", found.kid.name())?;
+        }
+        Ok(())
     }
 }
 
@@ -175,7 +147,7 @@ const SHIPPED: &[Row] = &[
 
 #[test]
 fn reports(rt: HostRuntime) -> Result<(), Fail> {
-    hold::<Reported<Dependents>>(rt.alloc(), DEPENDENTS)?;
-    hold::<Reported<ForTests>>(rt.alloc(), FOR_TESTS)?;
-    hold::<Shipped>(rt.alloc(), SHIPPED)
+    hold::<OfGraph<Dependents>>(rt.alloc(), DEPENDENTS)?;
+    hold::<OfGraph<ForTests>>(rt.alloc(), FOR_TESTS)?;
+    hold::<OfGraph<Shipped>>(rt.alloc(), SHIPPED)
 }

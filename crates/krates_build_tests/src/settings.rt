@@ -1,8 +1,8 @@
 //! What a build keeps and reports under each setting of the builder.
 
 use crate::building::{Built, outcome};
+use crate::real_documents::metadata_of;
 use krates::{Builder, DepKind, Scope};
-use krates_samples::documents::metadata;
 use krates_samples::settings::package_specs;
 use krates_samples::table::{Question, Row, hold};
 use std::alloc::Global;
@@ -96,23 +96,29 @@ const SETTINGS: &[Row] = &[
     ),
 ];
 
-/// What is kept and reported of a document under three setters that are chained.
+/// What is kept and reported of a document under setters that are chained.
 struct Chained;
 
 impl Question for Chained {
     fn told(alloc: Global, line: &str) -> Result<String, Fail> {
         let specs = package_specs(alloc, "e")?;
+        let metadata = metadata_of(alloc, line)?;
         let mut builder = Builder::new(alloc);
         builder
             .exclude(specs)?
             .workspace(true)
-            .ignore_kind(DepKind::Build, Scope::All);
-        let metadata = metadata(alloc, line)?;
-        outcome(alloc, builder, metadata)
+            .ignore_kind(DepKind::Build, Scope::All)
+            .ignore_kind(DepKind::Dev, Scope::Workspace)
+            .ignore_kind(DepKind::Normal, Scope::NonWorkspace);
+        outcome(alloc, builder, Box::into_inner(metadata))
     }
 }
 
-const CHAINED: &[Row] = &[("a b&build|b|c|e / members a c e / root a", "+a+c-b-e")];
+const CHAINED: &[Row] = &[
+    ("a b&build|b|c|e / members a c e / root a", "+a+c-b-e"),
+    // what a member needs for its tests, and what another crate needs
+    ("a b d&dev|b f|d|f", "+a+b-d-f"),
+];
 
 #[test]
 fn settings_and_the_order_of_versions(rt: HostRuntime) -> Result<(), Fail> {

@@ -1,9 +1,10 @@
 //! The runs, and what stands in for cargo in them.
 
+use crate::command::read;
 use crate::table::{Question, Row, hold_beginnings};
 use krates_cargo::MetadataCommand;
 use krates_cm::Error;
-use krates_stand_in::answer;
+use krates_samples::stand_in::answer;
 use std::io::Write;
 use std::test::Fail;
 
@@ -82,12 +83,7 @@ pub(crate) fn command(rt: &HostRuntime, last: &str) -> Result<MetadataCommand, F
 
 /// What is read of a run.
 fn told(rt: &HostRuntime, command: &MetadataCommand) -> Result<String, Fail> {
-    let alloc = rt.alloc();
-    let told = match command.exec(None, rt) {
-        Ok(metadata) => format!(in alloc; "{} packages", metadata.packages.len()),
-        Err(error) => format!(in alloc; "{error}"),
-    };
-    Ok(told?)
+    Ok(read(rt.alloc(), command.exec(None, rt))?)
 }
 
 /// What is read of a run with this last word.

@@ -1,10 +1,9 @@
 //! Builds, with an index and without one.
 
-ghost use Rattle.std.specs.Prelude.{⊤};
-
+use crate::builds_by_cargo::Count;
 use crate::starved_ids::answer;
 use krates::index::{BuildIndexCache, IndexAnswer, PackageNames};
-use krates::{Builder, Error, Krates, Metadata, OnFilter, Package};
+use krates::{Builder, Error, Krates, Metadata};
 use krates_samples::documents::metadata;
 use krates_samples::starving::{Call, granted, other_refusal, refused, starved};
 use std::alloc::Global;
@@ -15,21 +14,6 @@ use std::test::Fail;
 /// The first crate needs the second where a feature of its own is enabled, and a reference that is no reason to need it enables a
 /// feature of that; nobody needs the third.
 pub(crate) const FEATURES: &str = "a b?;b=dep:b w=b?/j|b;j=|c / nodes a b;b w|b;j|c";
-
-/// Counts the packages that aren't kept.
-#[derive(Drop)]
-struct Count {
-    packages: usize,
-}
-
-impl OnFilter for Count {
-    ghost filters = { λ _ _ _. ⊤ };
-
-    fn filtered(&mut self, pkg: Package) {
-        self.packages = self.packages.saturating_add(1);
-        drop(pkg);
-    }
-}
 
 /// Whether the edges of a graph lead to these nodes.
 fn leads_to(krates: &Krates, targets: &[usize]) -> bool {

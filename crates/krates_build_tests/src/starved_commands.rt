@@ -1,11 +1,11 @@
 //! Commands: what grows in them, their words, and the command that a tool's options mean.
 
+use crate::command::push_variables;
 use krates_cargo::{Cmd, Features, MetadataCommand};
 use krates_cm::Error;
 use krates_samples::starving::{Call, granted, other_refusal, refused, starved};
 use std::alloc::{AllocError, Global};
 use std::mem::replace;
-use std::process::Command;
 use std::test::Fail;
 
 /// Names for which a list that has one has to grow.
@@ -18,14 +18,6 @@ pub(crate) fn parts(alloc: Global, text: &str, between: char) -> Result<Vec<Stri
         parts.push(String::from_str(alloc, part)?)?;
     }
     Ok(parts)
-}
-
-/// Adds the variables that a command sets, each with its value and a bar behind it.
-fn push_variables(text: &mut String, command: &Command) -> Result<(), AllocError> {
-    for (name, value) in command.get_envs() {
-        write!(text, "{name}={}|", value.unwrap_or(""))?;
-    }
-    Ok(())
 }
 
 /// Adds the words behind `metadata --format-version 1`, each with a bar behind it.
@@ -46,7 +38,7 @@ fn are_told(alloc: Global, words: &[String], expected: &str) -> Result<bool, All
 /// Adds the variables that cargo is started with.
 fn push_environment(text: &mut String, command: &MetadataCommand) -> Result<(), Fail> {
     let cargo = command.cargo_command(None)?;
-    Ok(push_variables(text, &cargo)?)
+    Ok(push_variables(text, &cargo, "|")?)
 }
 
 /// Compares the variables that a command sets, and its words, with what is known.

@@ -3,8 +3,8 @@
 use krates_cm::{Error, Metadata, Package, PackageId, WorkspaceDefaultMembers};
 use krates_cm_json::parse;
 use krates_samples::documents::metadata;
+use krates_samples::stand_in::DOCUMENT;
 use krates_samples::starving::{Call, answered, granted, other_refusal, refused, starved};
-use krates_stand_in::DOCUMENT;
 use std::alloc::{AllocError, Global};
 use std::test::Fail;
 

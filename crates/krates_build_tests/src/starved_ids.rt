@@ -1,11 +1,10 @@
 //! Ids, and the correction of a package by an index.
 
+use crate::indexed::answer_with;
 use crate::starved_commands::parts;
 use crate::starved_documents::boxed;
 use krates_cm::{Metadata, PackageId};
-use krates_ids::{
-    CachingIndex, FeaturesMap, IdError, IndexAnswer, IndexKrate, IndexKrateVersion, Kid,
-};
+use krates_ids::{CachingIndex, FeaturesMap, IdError, IndexAnswer, IndexKrateVersion, Kid};
 use krates_samples::starving::{Call, granted, other_refusal, refused, starved};
 use semver::Version;
 use std::alloc::{AllocError, Global};
@@ -70,10 +69,7 @@ fn known(alloc: Global) -> Result<FeaturesMap, Fail> {
 pub(crate) fn answer(alloc: Global) -> Result<IndexAnswer, Fail> {
     let features = known(alloc)?;
     let version = Version::parse(alloc, "1.0.0")?;
-    let versions = vec![in alloc; IndexKrateVersion { version, features }]?;
-    let mut krates = BTreeMap::new(alloc);
-    drop(krates.insert(String::from_str(alloc, "p")?, Some(IndexKrate { versions }))?);
-    Ok(IndexAnswer { krates })
+    answer_with(alloc, "p", IndexKrateVersion { version, features })
 }
 
 /// A package that the index has, alone in its document.

@@ -14,7 +14,7 @@ use Rattle.krates_ids.specs.declared.id_error.IdError.TheVariants as errors
 use Rattle.krates_ids.proofs.ComparisonLemmas.{same_id-iff}
 use Rattle.krates_ids.proofs.IdentityLemmas.{Reads-no_fault, Reads-once}
 use Rattle.krates_rules.specs.Resolved.{id_of, ReadsAs}
-use Rattle.krates_certificate.specs.Refusals.{IsOfMemory}
+use Rattle.krates_certificate.specs.CertificateRefusals.{IsOfMemory}
 use Rattle.krates_certificate.specs.Written.{parts_text, IsTextFor}
 
 -- ---- ids that aren't read

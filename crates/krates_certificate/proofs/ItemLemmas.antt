@@ -8,8 +8,8 @@ use Rattle.krates_cm.specs.Document.{Text}
 use Rattle.krates_cm_json.specs.Faults.{out_of_memory}
 use Rattle.krates_cm_json.specs.Objects.{Writer, EachWritten, ListWritten}
 use Rattle.krates_cm_json.proofs.ItemReading.{array_items}
-use Rattle.krates_certificate.specs.Fields.{ItemsFault}
-use Rattle.krates_certificate.specs.Refusals.{Fault, read}
+use Rattle.krates_certificate.specs.CertificateFields.{ItemsFault}
+use Rattle.krates_certificate.specs.CertificateRefusals.{Fault, read}
 
 -- the items of what counts them are its list
 pub whole_list : {A : Type 0} (Is : Writer A) (v : Data) (n : ℕ) → Some n ≡ option_map items_len (as_array v) → (xs : List A) → EachWritten Is xs (array_items v) → ListWritten Is xs v

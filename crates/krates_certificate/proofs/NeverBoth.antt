@@ -8,11 +8,11 @@ use Rattle.krates_cm_json.specs.Faults as document
 use Rattle.krates_cm_json.specs.Objects.{Writer, EachWritten, ListWritten}
 use Rattle.krates_cm_json.specs.Reading.{Reader, applied, items, found, refused, text, whole, list, nullable}
 use Rattle.krates_ids.specs.Identity.{Identity, Reads}
-use Rattle.krates_certificate.specs.Fields.{Field, IdField, NameField, RuleField, PartField, ListField, FieldFault, IdFault, NameFault, RuleFault, PartFault, ItemsFault, ListFault}
-use Rattle.krates_certificate.specs.Refusals.{Fault, not_json, read, bad_id, unknown_name, too_large}
-use Rattle.krates_certificate.specs.RoundTrip.{NeverBoth}
-use Rattle.krates_certificate.specs.Tables.{IsFact, FactFault, in_name, in_crate, in_feature, in_kept, in_toggled, IsStep, StepFault, IsCertificate, CertificateFault, in_kind, in_setting, in_steps, in_facts}
-use Rattle.krates_certificate.specs.Told.{ToldFact, told_crate, told_feature, told_kept, told_toggled, ToldCertificate, told_derivation, told_closed, fact_name, kind_name, certificate_name}
+use Rattle.krates_certificate.specs.CertificateFields.{Field, IdField, NameField, RuleField, PartField, ListField, FieldFault, IdFault, NameFault, RuleFault, PartFault, ItemsFault, ListFault}
+use Rattle.krates_certificate.specs.CertificateRefusals.{Fault, not_json, read, bad_id, unknown_name, too_large}
+use Rattle.krates_certificate.specs.CertificateRoundTrip.{NeverBoth}
+use Rattle.krates_certificate.specs.CertificateTables.{IsFact, FactFault, in_name, in_crate, in_feature, in_kept, in_toggled, IsStep, StepFault, IsCertificate, CertificateFault, in_kind, in_setting, in_steps, in_facts}
+use Rattle.krates_certificate.specs.CertificateViews.{ToldFact, told_crate, told_feature, told_kept, told_toggled, ToldCertificate, told_derivation, told_closed, fact_name, kind_name, certificate_name}
 use Rattle.krates_certificate.proofs.OneReading.{apart, one_field, fact_named, certificate_named}
 
 -- ---- what the document's readers refuse isn't read

@@ -13,9 +13,9 @@ use Rattle.krates_ids.proofs.CorrectionLemmas.{true_from_eq}
 use Rattle.krates_ids.proofs.IdentityLemmas.{Reads-once}
 use Rattle.krates_rules.specs.declared.kind.DepKind.{DepKind}
 use Rattle.krates_rules.specs.declared.kind.DepKind.TheVariants as kinds
-use Rattle.krates_certificate.specs.Fields.{Field, IdField, NameField}
-use Rattle.krates_certificate.specs.Tables.{IsFact, IsStep, IsCertificate}
-use Rattle.krates_certificate.specs.Told.{ToldFact, told_crate, told_feature, told_kept, told_toggled, ToldStep, ToldCertificate, told_derivation, told_closed, fact_name, kind_name, certificate_name}
+use Rattle.krates_certificate.specs.CertificateFields.{Field, IdField, NameField}
+use Rattle.krates_certificate.specs.CertificateTables.{IsFact, IsStep, IsCertificate}
+use Rattle.krates_certificate.specs.CertificateViews.{ToldFact, told_crate, told_feature, told_kept, told_toggled, ToldStep, ToldCertificate, told_derivation, told_closed, fact_name, kind_name, certificate_name}
 
 -- ---- fields
 

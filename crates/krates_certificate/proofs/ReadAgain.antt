@@ -10,10 +10,10 @@ use Rattle.krates_cm_json.specs.Reading.{text, whole, list, nullable}
 use Rattle.krates_cm_json.proofs.ReadAgain.{text_again, whole_again, list_again, nullable_again, text_never_null, required_again, told}
 use Rattle.krates_ids.specs.Identity.{Identity}
 use Rattle.krates_rules.specs.Resolved.{id_of}
-use Rattle.krates_certificate.specs.Fields.{Field, IdField, PartField}
-use Rattle.krates_certificate.specs.RoundTrip.{WasRead, IsWritableFact, IsWritableStep, IsWritable, IsSameFact, IsSameStep, IsSameCertificate, WrittenIsRead}
-use Rattle.krates_certificate.specs.Tables.{IsFact, IsStep, IsCertificate}
-use Rattle.krates_certificate.specs.Told.{told_crate, told_feature, told_kept, told_toggled, told_derivation, told_closed, kind_name, said_fact, said_step}
+use Rattle.krates_certificate.specs.CertificateFields.{Field, IdField, PartField}
+use Rattle.krates_certificate.specs.CertificateRoundTrip.{WasRead, IsWritableFact, IsWritableStep, IsWritable, IsSameFact, IsSameStep, IsSameCertificate, WrittenIsRead}
+use Rattle.krates_certificate.specs.CertificateTables.{IsFact, IsStep, IsCertificate}
+use Rattle.krates_certificate.specs.CertificateViews.{told_crate, told_feature, told_kept, told_toggled, told_derivation, told_closed, kind_name, said_fact, said_step}
 use Rattle.krates_certificate.specs.Written.{IdWritten, IsTextFor, fact_table, FactWritten, step_table, StepWritten, certificate_table, CertificateWritten}
 
 -- ---- fields

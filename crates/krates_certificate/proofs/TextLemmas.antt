@@ -3,9 +3,9 @@ use Rattle.std.proofs.Common.{◌≡◌, ◌⊎◌, inl, inr, Some, Result, Ok, 
 use Rattle.serde_json.specs.Data.{Data}
 use Rattle.serde_json.specs.Read as json
 use Rattle.krates_cm.specs.Document.{Text}
-use Rattle.krates_certificate.specs.Refusals.{Gives, IsMemory, fault_of}
-use Rattle.krates_certificate.specs.Tables.{IsCertificate, IsNoCertificate, CertificateFault, IsCertificateText, TextFault, in_data}
-use Rattle.krates_certificate.specs.Told.{certificate_told}
+use Rattle.krates_certificate.specs.CertificateRefusals.{Gives, IsMemory, fault_of}
+use Rattle.krates_certificate.specs.CertificateTables.{IsCertificate, IsNoCertificate, CertificateFault, IsCertificateText, TextFault, in_data}
+use Rattle.krates_certificate.specs.CertificateViews.{certificate_told}
 use Rattle.krates_certificate.proofs.NeverBoth.{never_certificate}
 use Rattle.krates_certificate.specs.declared.certificate.Certificate.{Certificate}
 use Rattle.krates_certificate.specs.declared.certificate_error.CertificateError.{CertificateError}

@@ -1,6 +1,6 @@
-pub mod Fields
-pub mod Refusals
-pub mod RoundTrip
-pub mod Tables
-pub mod Told
+pub mod CertificateFields
+pub mod CertificateRefusals
+pub mod CertificateRoundTrip
+pub mod CertificateTables
+pub mod CertificateViews
 pub mod Written

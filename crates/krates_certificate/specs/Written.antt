@@ -7,7 +7,7 @@ use Rattle.krates_cm.specs.Document.{Text}
 use Rattle.krates_ids.specs.Identity.{Identity, Reads}
 use Rattle.krates_ids.specs.Separators.{blank, hash_sign, opening, closing}
 use Rattle.krates_rules.specs.Resolved.{id_of, ReadsAs}
-use Rattle.krates_certificate.specs.Told.{ToldFact, told_crate, told_feature, told_kept, told_toggled, ToldStep, ToldCertificate, told_derivation, told_closed, kind_name}
+use Rattle.krates_certificate.specs.CertificateViews.{ToldFact, told_crate, told_feature, told_kept, told_toggled, ToldStep, ToldCertificate, told_derivation, told_closed, kind_name}
 use Rattle.krates_certificate.specs.declared.write.object.Object.{Object}
 
 abbrev pub members_of : Object → Members

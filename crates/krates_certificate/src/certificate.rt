@@ -3,13 +3,13 @@
 ghost use Rattle.std.specs.Prelude.{IfOk, MatchOption, map};
 ghost use Rattle.serde_json.specs.View.{view as data_of};
 ghost use Rattle.krates_cm.specs.Document.{texts_view};
-ghost use Rattle.krates_certificate.specs.Refusals.{Gives};
-ghost use Rattle.krates_certificate.specs.Tables.{IsCertificate, IsNoCertificate, CertificateFault, IsCertificateText, IsNoCertificateText, TextFault};
-ghost use Rattle.krates_certificate.specs.Told.{ToldCertificate, told_derivation, told_closed, certificate_told, step_told, fact_told};
+ghost use Rattle.krates_certificate.specs.CertificateRefusals.{Gives};
+ghost use Rattle.krates_certificate.specs.CertificateTables.{IsCertificate, IsNoCertificate, CertificateFault, IsCertificateText, IsNoCertificateText, TextFault};
+ghost use Rattle.krates_certificate.specs.CertificateViews.{ToldCertificate, told_derivation, told_closed, certificate_told, step_told, fact_told};
 ghost use Rattle.krates_certificate.specs.Written.{CertificateWritten};
 
 use crate::certificate_error::CertificateError;
-use crate::part::Part;
+use crate::part::CertificatePart;
 use crate::read::fields::{field, list};
 use crate::write::list::array;
 use crate::write::object::Object;
@@ -63,7 +63,7 @@ impl Certificate {
     }
 }
 
-impl Part for Certificate {
+impl CertificatePart for Certificate {
     ghost Model = { ToldCertificate };
 
     ghost view = { certificate_told };

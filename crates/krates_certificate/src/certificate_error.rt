@@ -2,7 +2,7 @@
 
 ghost use Rattle.std.specs.Prelude.{◌≡◌, ◌↔◌, IsTrue};
 ghost use Rattle.krates_cm.specs.declared.read_error.ReadError.TheVariants as read_errors;
-ghost use Rattle.krates_certificate.specs.Refusals.{IsMemory, fault_of};
+ghost use Rattle.krates_certificate.specs.CertificateRefusals.{IsMemory, fault_of};
 ghost use Rattle.krates_certificate.specs.declared.certificate_error.CertificateError.TheVariants as errors;
 
 use krates_cm::ReadError;
@@ -68,7 +68,7 @@ impl<T: Drop> From<AllocFailed<T>> for CertificateError {
 }
 
 impl From<serde_json::Error> for CertificateError {
-    ghost use Rattle.krates_certificate.specs.Refusals.{JsonBecomes};
+    ghost use Rattle.krates_certificate.specs.CertificateRefusals.{JsonBecomes};
 
     ghost from_gives = { JsonBecomes };
 

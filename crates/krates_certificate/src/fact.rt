@@ -1,11 +1,11 @@
 //! Facts as JSON.
 
-ghost use Rattle.krates_certificate.specs.Tables.{IsFact, FactFault};
-ghost use Rattle.krates_certificate.specs.Told.{ToldFact, fact_told};
+ghost use Rattle.krates_certificate.specs.CertificateTables.{IsFact, FactFault};
+ghost use Rattle.krates_certificate.specs.CertificateViews.{ToldFact, fact_told};
 ghost use Rattle.krates_certificate.specs.Written.{FactWritten};
 
 use crate::certificate_error::CertificateError;
-use crate::part::Part;
+use crate::part::CertificatePart;
 use crate::read::facts as reading;
 use crate::read::fields::field;
 use crate::write::facts as writing;
@@ -14,7 +14,7 @@ use krates_rules::Fact;
 use serde_json::Value;
 use std::alloc::{AllocError, Global};
 
-impl Part for Fact {
+impl CertificatePart for Fact {
     ghost Model = { ToldFact };
 
     ghost view = { fact_told };

@@ -1,7 +1,7 @@
 //! Laws of what is read and written, for all data and all parts. Each is the contract of a function that does nothing.
 
-ghost use Rattle.krates_certificate.specs.RoundTrip.{WrittenIsRead, ReadsOnce, NeverBoth, IsWritableFact, IsWritableStep, IsWritable, IsSameFact, IsSameStep, IsSameCertificate};
-ghost use Rattle.krates_certificate.specs.Tables.{IsFact, FactFault, IsStep, StepFault, IsCertificate, CertificateFault};
+ghost use Rattle.krates_certificate.specs.CertificateRoundTrip.{WrittenIsRead, ReadsOnce, NeverBoth, IsWritableFact, IsWritableStep, IsWritable, IsSameFact, IsSameStep, IsSameCertificate};
+ghost use Rattle.krates_certificate.specs.CertificateTables.{IsFact, FactFault, IsStep, StepFault, IsCertificate, CertificateFault};
 ghost use Rattle.krates_certificate.specs.Written.{FactWritten, StepWritten, CertificateWritten};
 
 /// Whatever is written for a part is read as the same part, if each id in it was read of some text: all its texts and numbers

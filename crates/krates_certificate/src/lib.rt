@@ -13,4 +13,4 @@ mod write;
 
 pub use certificate::Certificate;
 pub use certificate_error::CertificateError;
-pub use part::Part;
+pub use part::CertificatePart;

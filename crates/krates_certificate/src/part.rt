@@ -3,7 +3,7 @@
 ghost use Rattle.std.specs.Prelude.{IfOk};
 ghost use Rattle.serde_json.specs.Data.{Data};
 ghost use Rattle.serde_json.specs.View.{view as data_of};
-ghost use Rattle.krates_certificate.specs.Refusals.{Fault, Gives};
+ghost use Rattle.krates_certificate.specs.CertificateRefusals.{Fault, Gives};
 
 use crate::certificate_error::CertificateError;
 use krates_cm_json::{JsonRef, Owned};
@@ -11,7 +11,7 @@ use serde_json::Value;
 use std::alloc::{AllocError, Global};
 
 /// A part of a certificate, which is read from a JSON value and written as one.
-pub trait Part: Sized + Drop {
+pub trait CertificatePart: Sized + Drop {
     /// What clauses see of the part.
     ghost Model: { Type 0 };
 

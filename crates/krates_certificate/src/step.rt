@@ -1,11 +1,11 @@
 //! Steps as JSON.
 
-ghost use Rattle.krates_certificate.specs.Tables.{IsStep, StepFault};
-ghost use Rattle.krates_certificate.specs.Told.{ToldStep, step_told};
+ghost use Rattle.krates_certificate.specs.CertificateTables.{IsStep, StepFault};
+ghost use Rattle.krates_certificate.specs.CertificateViews.{ToldStep, step_told};
 ghost use Rattle.krates_certificate.specs.Written.{StepWritten};
 
 use crate::certificate_error::CertificateError;
-use crate::part::Part;
+use crate::part::CertificatePart;
 use crate::read::fields::{field, part, rule};
 use crate::write::object::Object;
 use krates_cm_json::{JsonRef, ToValue};
@@ -13,7 +13,7 @@ use krates_rules::Step;
 use serde_json::Value;
 use std::alloc::{AllocError, Global};
 
-impl Part for Step {
+impl CertificatePart for Step {
     ghost Model = { ToldStep };
 
     ghost view = { step_told };

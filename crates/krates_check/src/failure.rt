@@ -5,7 +5,7 @@ use std::alloc::AllocError;
 
 /// Why there is no yes.
 #[derive(Debug, Drop, thiserror::Error)]
-pub(crate) enum Failure {
+pub(crate) enum CheckFailure {
     /// There is no document or target to check against.
     #[error("{0}")]
     Host(#[from] krates_host::Failure),
@@ -17,8 +17,8 @@ pub(crate) enum Failure {
     Memory,
 }
 
-impl From<AllocError> for Failure {
-    fn from(_error: AllocError) -> Failure {
-        Failure::Memory
+impl From<AllocError> for CheckFailure {
+    fn from(_error: AllocError) -> CheckFailure {
+        CheckFailure::Memory
     }
 }

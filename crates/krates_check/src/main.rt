@@ -7,17 +7,17 @@
 
 mod failure;
 
-use crate::failure::Failure;
+use crate::failure::CheckFailure;
 use krates_cm::Metadata;
 use krates_host::program::{NO, refuse_asked, refuse_words, words_of};
 use krates_host::{document, said, targets};
-use krates_verdict::{Subject, run};
+use krates_verdict::{CertificateSubject, run};
 use krates_words::{CheckWords, Choice, check_words_of};
 use std::io::IsTerminal;
 use std::process::ExitCode;
 
 /// Checks the certificate in standard input, and prints what it says where it holds.
-fn check(rt: &HostRuntime, mut asked: CheckWords) -> Result<(), Failure> {
+fn check(rt: &HostRuntime, mut asked: CheckWords) -> Result<(), CheckFailure> {
     asked.choice.targets = targets::targets_of(rt, &asked.choice)?;
     let metadata = document::in_file(rt, asked.document.as_str())?;
     if rt.stdin().is_terminal() {
@@ -29,10 +29,14 @@ fn check(rt: &HostRuntime, mut asked: CheckWords) -> Result<(), Failure> {
 }
 
 /// The same, of the document that was read.
-fn check_against(rt: &HostRuntime, choice: &Choice, metadata: &Metadata) -> Result<(), Failure> {
+fn check_against(
+    rt: &HostRuntime,
+    choice: &Choice,
+    metadata: &Metadata,
+) -> Result<(), CheckFailure> {
     let setting = choice.setting(rt.alloc(), &[])?;
     let words = choice.words(rt.alloc())?;
-    let subject = Subject {
+    let subject = CertificateSubject {
         metadata,
         setting: &setting,
         words: &words,

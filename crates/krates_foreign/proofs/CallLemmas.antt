@@ -17,13 +17,13 @@ use Rattle.krates_rules.specs.Setting.{SettingModel}
 use Rattle.krates_foreign.specs.Asked.{AsksFor, IsUnasked}
 use Rattle.krates_foreign.specs.Calls.{CheckRefusal, Explains, IsListedIn, IsNoId, IsUndrawnIn, IsUnlistedIn, JudgedRefusal, LacksCrate, ListRefusal, Lists, NamesCrate, ReadRefusal, WhyRefusal, subject_of}
 use Rattle.krates_foreign.specs.Documents.{IsDocumentIn, IsNoDocumentIn}
-use Rattle.krates_foreign.specs.RefusalText.{BuildErrorBecomes, ListingErrorBecomes}
-use Rattle.krates_foreign.specs.declared.refusal.Refusal.{Refusal}
-use Rattle.krates_foreign.specs.declared.refusal.Refusal.TheVariants as refusals
+use Rattle.krates_foreign.specs.CallRefusalText.{BuildErrorBecomes, ListingErrorBecomes}
+use Rattle.krates_foreign.specs.declared.refusal.CallRefusal.{CallRefusal}
+use Rattle.krates_foreign.specs.declared.refusal.CallRefusal.TheVariants as refusals
 
 -- ---- words and documents that aren't read
 
-pub unasked : (bytes words : Text) (e : Refusal) → IsUnasked words e → ReadRefusal bytes words e
+pub unasked : (bytes words : Text) (e : CallRefusal) → IsUnasked words e → ReadRefusal bytes words e
 unasked bytes words refusals.Words h = h
 unasked bytes words refusals.Id h = absurd h
 unasked bytes words refusals.Utf8 h = absurd h
@@ -33,7 +33,7 @@ unasked bytes words (refusals.NotKept _) h = absurd h
 unasked bytes words (refusals.Certificate _) h = absurd h
 unasked bytes words refusals.Memory h = tt
 
-pub no_document : (bytes words : Text) (e : Refusal) → IsNoDocumentIn bytes e → ReadRefusal bytes words e
+pub no_document : (bytes words : Text) (e : CallRefusal) → IsNoDocumentIn bytes e → ReadRefusal bytes words e
 no_document bytes words refusals.Words h = absurd h
 no_document bytes words refusals.Id h = absurd h
 no_document bytes words refusals.Utf8 h = h
@@ -44,7 +44,7 @@ no_document bytes words (refusals.Certificate _) h = absurd h
 no_document bytes words refusals.Memory h = tt
 
 -- so no call has an answer
-pub no_listing : (bytes words : Text) (e : Refusal) → ReadRefusal bytes words e → ListRefusal bytes words e
+pub no_listing : (bytes words : Text) (e : CallRefusal) → ReadRefusal bytes words e → ListRefusal bytes words e
 no_listing bytes words refusals.Words h = h
 no_listing bytes words refusals.Id h = absurd h
 no_listing bytes words refusals.Utf8 h = h
@@ -54,7 +54,7 @@ no_listing bytes words (refusals.NotKept _) h = absurd h
 no_listing bytes words (refusals.Certificate _) h = absurd h
 no_listing bytes words refusals.Memory h = tt
 
-pub no_reason : (bytes words id : Text) (e : Refusal) → ReadRefusal bytes words e → WhyRefusal bytes words id e
+pub no_reason : (bytes words id : Text) (e : CallRefusal) → ReadRefusal bytes words e → WhyRefusal bytes words id e
 no_reason bytes words id refusals.Words h = h
 no_reason bytes words id refusals.Id h = absurd h
 no_reason bytes words id refusals.Utf8 h = h
@@ -64,7 +64,7 @@ no_reason bytes words id (refusals.NotKept _) h = absurd h
 no_reason bytes words id (refusals.Certificate _) h = absurd h
 no_reason bytes words id refusals.Memory h = tt
 
-pub no_verdict : (bytes words certificate : Text) (e : Refusal) → ReadRefusal bytes words e → CheckRefusal bytes words certificate e
+pub no_verdict : (bytes words certificate : Text) (e : CallRefusal) → ReadRefusal bytes words e → CheckRefusal bytes words certificate e
 no_verdict bytes words certificate refusals.Words h = h
 no_verdict bytes words certificate refusals.Id h = absurd h
 no_verdict bytes words certificate refusals.Utf8 h = h
@@ -74,7 +74,7 @@ no_verdict bytes words certificate (refusals.NotKept _) h = absurd h
 no_verdict bytes words certificate (refusals.Certificate _) h = absurd h
 no_verdict bytes words certificate refusals.Memory h = tt
 
-pub no_id : (bytes words id : Text) (e : Refusal) → IsNoId id e → WhyRefusal bytes words id e
+pub no_id : (bytes words id : Text) (e : CallRefusal) → IsNoId id e → WhyRefusal bytes words id e
 no_id bytes words id refusals.Words h = absurd h
 no_id bytes words id refusals.Id h = h
 no_id bytes words id refusals.Utf8 h = absurd h
@@ -86,7 +86,7 @@ no_id bytes words id refusals.Memory h = tt
 
 -- ---- listings
 
-pub unlisted : (a : Request) (bytes : Text) (m : Metadata) (cause : RunError) (e : Refusal) → IsDocumentIn bytes m → IsUnlisted a m cause → ListingErrorBecomes cause e → IsUnlistedIn a bytes e
+pub unlisted : (a : Request) (bytes : Text) (m : Metadata) (cause : RunError) (e : CallRefusal) → IsDocumentIn bytes m → IsUnlisted a m cause → ListingErrorBecomes cause e → IsUnlistedIn a bytes e
 unlisted a bytes m (runs.Build cause) e document h is = subst (IsUnlistedIn a bytes) (sym is) (m, document, h)
 unlisted a bytes m (runs.NotKept krate) e document h is = subst (IsUnlistedIn a bytes) (sym is) (m, document, h)
 unlisted a bytes m runs.Memory e document h is = subst (IsUnlistedIn a bytes) (sym is) tt
@@ -95,7 +95,7 @@ unlisted a bytes m runs.Utf8 e document h is = absurd h
 unlisted a bytes m (runs.Parse _) e document h is = absurd h
 unlisted a bytes m runs.Write e document h is = absurd h
 
-pub unread : (a : Request) (bytes : Text) (e : Refusal) → IsNoDocumentIn bytes e → IsUnlistedIn a bytes e
+pub unread : (a : Request) (bytes : Text) (e : CallRefusal) → IsNoDocumentIn bytes e → IsUnlistedIn a bytes e
 unread a bytes refusals.Words h = absurd h
 unread a bytes refusals.Id h = absurd h
 unread a bytes refusals.Utf8 h = h
@@ -111,7 +111,7 @@ lists bytes words lines o asks (m, document, listing) =
     let packages = subst (λ (krate : Option Identity). MatchOption krate (ListsPackages (setting_of o) m lines) (λ k. ExplainsCrate (setting_of o) m k lines)) asks.alone.no_crate listing in
     (o, asks, (m, document, packages))
 
-pub list_refused : (bytes words : Text) (o : OptionsModel) → AsksFor words o → (e : Refusal) → IsUnlistedIn (request_of o) bytes e → ListRefusal bytes words e
+pub list_refused : (bytes words : Text) (o : OptionsModel) → AsksFor words o → (e : CallRefusal) → IsUnlistedIn (request_of o) bytes e → ListRefusal bytes words e
 list_refused bytes words o asks refusals.Words h = absurd h
 list_refused bytes words o asks refusals.Id h = absurd h
 list_refused bytes words o asks refusals.Utf8 h = h
@@ -132,7 +132,7 @@ lacks : (bytes words id : Text) (o : OptionsModel) (krate same : Identity) → s
 lacks bytes words id o krate same is asks names (m, document, h) =
     (subst (NamesCrate id) (sym is) names, (o, asks, (m, document, subst (λ (k : Identity). IsUnkept (record { setting = setting_of o; explaining = Some k }) m same) (sym is) h)))
 
-pub why_refused : (bytes words id : Text) (o : OptionsModel) (krate : Identity) → AsksFor words o → NamesCrate id krate → (e : Refusal) → IsUnlistedIn (request_of (explaining o krate)) bytes e → WhyRefusal bytes words id e
+pub why_refused : (bytes words id : Text) (o : OptionsModel) (krate : Identity) → AsksFor words o → NamesCrate id krate → (e : CallRefusal) → IsUnlistedIn (request_of (explaining o krate)) bytes e → WhyRefusal bytes words id e
 why_refused bytes words id o krate asks names refusals.Words h = absurd h
 why_refused bytes words id o krate asks names refusals.Id h = absurd h
 why_refused bytes words id o krate asks names refusals.Utf8 h = h
@@ -145,7 +145,7 @@ why_refused bytes words id o krate asks names refusals.Memory h = tt
 -- ---- graphs and certificates
 
 -- a document whose build is refused has no graph, for the same reason
-pub unbuilt : (s : SettingModel) (bytes : Text) (m : Metadata) (cause : build.Error) (e : Refusal) → IsDocumentIn bytes m → BuildRefusalAsGiven m s cause → BuildErrorBecomes cause e → IsUndrawnIn s bytes e
+pub unbuilt : (s : SettingModel) (bytes : Text) (m : Metadata) (cause : build.Error) (e : CallRefusal) → IsDocumentIn bytes m → BuildRefusalAsGiven m s cause → BuildErrorBecomes cause e → IsUndrawnIn s bytes e
 unbuilt s bytes m cause (refusals.Build same) document refused becomes =
     (m, document, record { refused = subst (BuildRefusalAsGiven m s) (sym becomes.0) refused; not_memory = λ is_memory. becomes.1 (sym becomes.0 ∙ is_memory) })
 unbuilt s bytes m cause refusals.Memory document refused becomes = tt
@@ -156,7 +156,7 @@ unbuilt s bytes m cause (refusals.Parse _) document refused becomes = absurd bec
 unbuilt s bytes m cause (refusals.NotKept _) document refused becomes = absurd becomes
 unbuilt s bytes m cause (refusals.Certificate _) document refused becomes = absurd becomes
 
-pub undrawn : (s : SettingModel) (bytes : Text) (e : Refusal) → IsNoDocumentIn bytes e → IsUndrawnIn s bytes e
+pub undrawn : (s : SettingModel) (bytes : Text) (e : CallRefusal) → IsNoDocumentIn bytes e → IsUndrawnIn s bytes e
 undrawn s bytes refusals.Words h = absurd h
 undrawn s bytes refusals.Id h = absurd h
 undrawn s bytes refusals.Utf8 h = h
@@ -166,7 +166,7 @@ undrawn s bytes (refusals.NotKept _) h = absurd h
 undrawn s bytes (refusals.Certificate _) h = absurd h
 undrawn s bytes refusals.Memory h = tt
 
-pub graph_refused : (bytes words : Text) (o : OptionsModel) → AsksFor words o → (e : Refusal) → IsUndrawnIn (setting_of o) bytes e → ListRefusal bytes words e
+pub graph_refused : (bytes words : Text) (o : OptionsModel) → AsksFor words o → (e : CallRefusal) → IsUndrawnIn (setting_of o) bytes e → ListRefusal bytes words e
 graph_refused bytes words o asks refusals.Words h = absurd h
 graph_refused bytes words o asks refusals.Id h = absurd h
 graph_refused bytes words o asks refusals.Utf8 h = h
@@ -176,7 +176,7 @@ graph_refused bytes words o asks (refusals.NotKept _) h = absurd h
 graph_refused bytes words o asks (refusals.Certificate _) h = absurd h
 graph_refused bytes words o asks refusals.Memory h = tt
 
-pub check_refused : (bytes words certificate : Text) (o : OptionsModel) (m : Metadata) → AsksFor words o → IsDocumentIn bytes m → (e : Refusal) → JudgedRefusal (subject_of m o) certificate e → CheckRefusal bytes words certificate e
+pub check_refused : (bytes words certificate : Text) (o : OptionsModel) (m : Metadata) → AsksFor words o → IsDocumentIn bytes m → (e : CallRefusal) → JudgedRefusal (subject_of m o) certificate e → CheckRefusal bytes words certificate e
 check_refused bytes words certificate o m asks document refusals.Words h = absurd h
 check_refused bytes words certificate o m asks document refusals.Id h = absurd h
 check_refused bytes words certificate o m asks document refusals.Utf8 h = absurd h

@@ -16,8 +16,8 @@ use Rattle.krates_foreign.proofs.AskedLemmas.{AskOnce}
 use Rattle.krates_foreign.specs.Asked.{AsksFor, Under}
 use Rattle.krates_foreign.specs.Calls.{Draws, Explains, IsOutside, ListRefusal, Lists, WhyRefusal}
 use Rattle.krates_foreign.specs.Documents.{OfDocument}
-use Rattle.krates_foreign.specs.declared.refusal.Refusal.{Refusal}
-use Rattle.krates_foreign.specs.declared.refusal.Refusal.TheVariants as refusals
+use Rattle.krates_foreign.specs.declared.refusal.CallRefusal.{CallRefusal}
+use Rattle.krates_foreign.specs.declared.refusal.CallRefusal.TheVariants as refusals
 use Rattle.krates_rules.proofs.Readings.{ReadsOnce}
 
 -- a text that has a listing is refused by a run for a cause that isn't the text's
@@ -35,12 +35,12 @@ HasListing a bytes lines = OfDocument bytes (λ m. IsListingOf a m lines)
 listing_in : (a : Request) (bytes lines : Text) → HasListing a bytes lines → IsListing a bytes lines
 listing_in a bytes lines (m, document, lists) = record { metadata = m; document = document.document; lists = lists }
 
-unbuilt : ListsOrRefuses → (a : Request) (bytes lines : Text) (e : Refusal) (cause : build.Error) → e ≡ refusals.Build cause → HasListing a bytes lines → OfDocument bytes (λ m. IsUnbuilt a.setting m cause) → IsOutside e
+unbuilt : ListsOrRefuses → (a : Request) (bytes lines : Text) (e : CallRefusal) (cause : build.Error) → e ≡ refusals.Build cause → HasListing a bytes lines → OfDocument bytes (λ m. IsUnbuilt a.setting m cause) → IsOutside e
 unbuilt law a bytes lines e cause is has (n, document, h) =
     subst IsOutside (sym is) (law a bytes lines (runs.Build cause) document.is_text (listing_in a bytes lines has) (document.is_text, record { metadata = n; document = document.document; unbuilt = h }))
 
 -- a listing under the options, and a refusal that speaks of the words and the document
-refused : ListsOrRefuses → AskOnce → (a : Request) (bytes words lines : Text) (o : OptionsModel) (e : Refusal) → a.setting ≡ setting_of o → AsksFor words o → HasListing a bytes lines → ListRefusal bytes words e → IsOutside e
+refused : ListsOrRefuses → AskOnce → (a : Request) (bytes words lines : Text) (o : OptionsModel) (e : CallRefusal) → a.setting ≡ setting_of o → AsksFor words o → HasListing a bytes lines → ListRefusal bytes words e → IsOutside e
 refused law once a bytes words lines o refusals.Words same asks has h = absurd (h o asks)
 refused law once a bytes words lines o refusals.Utf8 same asks has h = absurd (h has.1.is_text)
 refused law once a bytes words lines o (refusals.Parse cause) same asks has h = absurd (law a bytes lines (runs.Parse cause) h.0 (listing_in a bytes lines has) h)
@@ -52,10 +52,10 @@ refused law once a bytes words lines o refusals.Id same asks has h = absurd h
 refused law once a bytes words lines o (refusals.NotKept _) same asks has h = absurd h
 refused law once a bytes words lines o (refusals.Certificate _) same asks has h = absurd h
 
-pub listed_refused : ListsOrRefuses → AskOnce → (bytes words lines : Text) (e : Refusal) → Lists bytes words lines → ListRefusal bytes words e → IsOutside e
+pub listed_refused : ListsOrRefuses → AskOnce → (bytes words lines : Text) (e : CallRefusal) → Lists bytes words lines → ListRefusal bytes words e → IsOutside e
 listed_refused law once bytes words lines e (o, asks, has) h = refused law once (record { setting = setting_of o; explaining = None }) bytes words lines o e refl asks has h
 
-pub drawn_refused : ListsOrRefuses → AskOnce → (bytes words lines : Text) (e : Refusal) → Draws bytes words lines → ListRefusal bytes words e → IsOutside e
+pub drawn_refused : ListsOrRefuses → AskOnce → (bytes words lines : Text) (e : CallRefusal) → Draws bytes words lines → ListRefusal bytes words e → IsOutside e
 drawn_refused law once bytes words lines e (o, asks, (m, document, draws)) h =
     let packages : ListsPackages (setting_of o) m (lines_of draws.kept draws.others) = record { kept = draws.kept; others = draws.others; split = draws.split; written = refl } in
     listed_refused law once bytes words (lines_of draws.kept draws.others) e (o, asks, (m, document, packages)) h
@@ -69,7 +69,7 @@ kept law once bytes words lines o krate asks has lacks =
     let w = under once words o lacking asks lacks in
     law a bytes lines (runs.NotKept krate) w.1.is_text (listing_in a bytes lines has) (w.1.is_text, record { metadata = w.0; document = w.1.document; unkept = w.2 })
 
-pub explained_refused : ListsOrRefuses → AskOnce → ReadsOnce → (bytes words id lines : Text) (e : Refusal) → Explains bytes words id lines → WhyRefusal bytes words id e → IsOutside e
+pub explained_refused : ListsOrRefuses → AskOnce → ReadsOnce → (bytes words id lines : Text) (e : CallRefusal) → Explains bytes words id lines → WhyRefusal bytes words id e → IsOutside e
 explained_refused law once reads bytes words id lines refusals.Id (krate, names, rest) h = absurd (h krate names)
 explained_refused law once reads bytes words id lines (refusals.NotKept other) (krate, names, (o, asks, has)) (also, lacks) =
     let that = reads id other krate also.1 names.1 in

@@ -8,8 +8,8 @@ use Rattle.krates_ids.specs.SpecificationText.{spec_text}
 use Rattle.krates_rules.specs.Setting.{SettingModel}
 use Rattle.krates_text.specs.TargetTable.{printed, target_named}
 use Rattle.krates_words.specs.SettingWords.{flag_words, kind_word}
-use Rattle.krates_foreign.specs.declared.refusal.Refusal.{Refusal}
-use Rattle.krates_foreign.specs.declared.refusal.Refusal.TheVariants as refusals
+use Rattle.krates_foreign.specs.declared.refusal.CallRefusal.{CallRefusal}
+use Rattle.krates_foreign.specs.declared.refusal.CallRefusal.TheVariants as refusals
 
 -- the options ask for no program, and for no crate that is to be explained
 pub record AskAlone (o : OptionsModel) : Type 0 where
@@ -31,14 +31,14 @@ abbrev pub AskForNone : Text → Type 0
 AskForNone words = (o : OptionsModel) → AsksFor words o → ⊥
 
 -- why no setting is read from the words
-abbrev pub IsUnasked : Text → Refusal → Type 0
+abbrev pub IsUnasked : Text → CallRefusal → Type 0
 IsUnasked words refusals.Words = AskForNone words
 IsUnasked words refusals.Memory = ⊤
 IsUnasked words _ = ⊥
 
 -- ---- of options that were read
 
-abbrev pub IsAloneRefused : OptionsModel → Refusal → Type 0
+abbrev pub IsAloneRefused : OptionsModel → CallRefusal → Type 0
 IsAloneRefused o refusals.Words = AskAlone o → ⊥
 IsAloneRefused o _ = ⊥
 

@@ -9,7 +9,7 @@ use Rattle.krates_cli.specs.Request.{Request}
 use Rattle.krates_ids.specs.Identity.{Identity, Reads}
 use Rattle.krates_ids.specs.declared.error.Error.TheVariants as build_errors
 use Rattle.krates_rules.specs.Setting.{SettingModel}
-use Rattle.krates_verdict.specs.Running.{IsUnheld, IsVerdictOf}
+use Rattle.krates_verdict.specs.VerdictRunning.{IsUnheld, IsVerdictOf}
 use Rattle.krates_verdict.specs.Subject.{SubjectModel}
 use Rattle.krates_verdict.specs.VerdictText.{verdict_line}
 use Rattle.krates_verdict.specs.declared.refusal.Refusal.TheVariants as verdicts
@@ -17,8 +17,8 @@ use Rattle.krates_verdict.specs.declared.verdict.Verdict.{Verdict}
 use Rattle.krates_foreign.specs.Asked.{AskForNone, AsksFor, Under, setting_words}
 use Rattle.krates_foreign.specs.Documents.{IsNoDocumentIn, OfDocument}
 use Rattle.krates_foreign.specs.DrawnLines.{DrawsPackages}
-use Rattle.krates_foreign.specs.declared.refusal.Refusal.{Refusal}
-use Rattle.krates_foreign.specs.declared.refusal.Refusal.TheVariants as refusals
+use Rattle.krates_foreign.specs.declared.refusal.CallRefusal.{CallRefusal}
+use Rattle.krates_foreign.specs.declared.refusal.CallRefusal.TheVariants as refusals
 
 -- ---- answers
 
@@ -55,14 +55,14 @@ Checks bytes words certificate line =
 -- ---- refusals; memory may always run out
 
 -- no setting is read from the words, or no document from the bytes
-abbrev pub ReadRefusal : Text → Text → Refusal → Type 0
+abbrev pub ReadRefusal : Text → Text → CallRefusal → Type 0
 ReadRefusal bytes words refusals.Words = AskForNone words
 ReadRefusal bytes words refusals.Utf8 = IsUtf8 bytes → ⊥
 ReadRefusal bytes words (refusals.Parse cause) = IsUtf8 bytes × ParseRefusal bytes cause
 ReadRefusal bytes words refusals.Memory = ⊤
 ReadRefusal bytes words _ = ⊥
 
-abbrev pub ListRefusal : Text → Text → Refusal → Type 0
+abbrev pub ListRefusal : Text → Text → CallRefusal → Type 0
 ListRefusal bytes words (refusals.Build cause) = Under words (λ s. OfDocument bytes (λ m. IsUnbuilt s m cause))
 ListRefusal bytes words refusal = ReadRefusal bytes words refusal
 
@@ -71,18 +71,18 @@ abbrev pub LacksCrate : Text → Text → Text → Identity → Type 0
 LacksCrate bytes words id krate = NamesCrate id krate
     × Under words (λ s. OfDocument bytes (λ m. IsUnkept (record { setting = s; explaining = Some krate }) m krate))
 
-abbrev pub WhyRefusal : Text → Text → Text → Refusal → Type 0
+abbrev pub WhyRefusal : Text → Text → Text → CallRefusal → Type 0
 WhyRefusal bytes words id refusals.Id = (krate : Identity) → NamesCrate id krate → ⊥
 WhyRefusal bytes words id (refusals.NotKept krate) = LacksCrate bytes words id krate
 WhyRefusal bytes words id refusal = ListRefusal bytes words refusal
 
-abbrev pub CheckRefusal : Text → Text → Text → Refusal → Type 0
+abbrev pub CheckRefusal : Text → Text → Text → CallRefusal → Type 0
 CheckRefusal bytes words certificate (refusals.Certificate cause) =
     (o : OptionsModel) × AsksFor words o × OfDocument bytes (λ m. IsUnheld (subject_of m o) certificate cause × (cause ≡ verdicts.Memory → ⊥))
 CheckRefusal bytes words certificate refusal = ReadRefusal bytes words refusal
 
 -- the cause isn't the document's or the words': memory ran out, or there are more nodes or edges than can be numbered
-abbrev pub IsOutside : Refusal → Type 0
+abbrev pub IsOutside : CallRefusal → Type 0
 IsOutside (refusals.Build cause) = cause ≡ build_errors.TooMany
 IsOutside refusals.Memory = ⊤
 IsOutside _ = ⊥
@@ -94,22 +94,22 @@ abbrev pub IsListedIn : Request → Text → Text → Type 0
 IsListedIn a bytes lines = OfDocument bytes (λ m. IsListingOf a m lines)
 
 -- why they have no listing
-abbrev pub IsUnlistedIn : Request → Text → Refusal → Type 0
+abbrev pub IsUnlistedIn : Request → Text → CallRefusal → Type 0
 IsUnlistedIn a bytes (refusals.Build cause) = OfDocument bytes (λ m. IsUnbuilt a.setting m cause)
 IsUnlistedIn a bytes (refusals.NotKept krate) = OfDocument bytes (λ m. IsUnkept a m krate)
 IsUnlistedIn a bytes refusal = IsNoDocumentIn bytes refusal
 
 -- why they have no graph
-abbrev pub IsUndrawnIn : SettingModel → Text → Refusal → Type 0
+abbrev pub IsUndrawnIn : SettingModel → Text → CallRefusal → Type 0
 IsUndrawnIn s bytes (refusals.Build cause) = OfDocument bytes (λ m. IsUnbuilt s m cause)
 IsUndrawnIn s bytes refusal = IsNoDocumentIn bytes refusal
 
-abbrev pub IsNoId : Text → Refusal → Type 0
+abbrev pub IsNoId : Text → CallRefusal → Type 0
 IsNoId id refusals.Id = (krate : Identity) → NamesCrate id krate → ⊥
 IsNoId id refusals.Memory = ⊤
 IsNoId id _ = ⊥
 
-abbrev pub JudgedRefusal : SubjectModel → Text → Refusal → Type 0
+abbrev pub JudgedRefusal : SubjectModel → Text → CallRefusal → Type 0
 JudgedRefusal subject certificate (refusals.Certificate cause) = IsUnheld subject certificate cause × (cause ≡ verdicts.Memory → ⊥)
 JudgedRefusal subject certificate refusals.Memory = ⊤
 JudgedRefusal subject certificate _ = ⊥

@@ -2,11 +2,11 @@
 use Rattle.std.specs.Prelude.{◌≡◌, ◌⊎◌, ◌++◌, ◌<◌, ◌≤◌, [], IfSome, Ok, Err, Result, String, drop, length, string_bytes}
 use Rattle.std.specs.declared.alloc.Global.{Global}
 use Rattle.krates_cm.specs.Document.{Text}
-use Rattle.krates_foreign.specs.RefusalText.{refusal_text}
+use Rattle.krates_foreign.specs.CallRefusalText.{refusal_text}
 use Rattle.krates_foreign.specs.Status.{number_of, status_of}
 use Rattle.krates_foreign.specs.declared.handing.Answer.{Answer}
-use Rattle.krates_foreign.specs.declared.refusal.Refusal.{Refusal}
-use Rattle.krates_foreign.specs.declared.refusal.Refusal.TheVariants as refusals
+use Rattle.krates_foreign.specs.declared.refusal.CallRefusal.{CallRefusal}
+use Rattle.krates_foreign.specs.declared.refusal.CallRefusal.TheVariants as refusals
 use Rattle.krates_foreign.specs.declared.status.Status.{Status}
 use Rattle.krates_foreign.specs.declared.status.Status.TheVariants as statuses
 
@@ -36,15 +36,15 @@ abbrev pub Hands : (Status → Text → Type 0) → Answer → Text → Text →
 Hands MayTell answer old new = (status : Status) × (text : Text) × MayTell status text × IsHanded status text answer old new
 
 -- What is told of a refusal: what is printed of it, where that is stated.
-abbrev pub TellsRefusal : Refusal → Text → Type 0
+abbrev pub TellsRefusal : CallRefusal → Text → Type 0
 TellsRefusal refusal text = (refusal ≡ refusals.Memory → ⊥) × IfSome (refusal_text refusal) (λ stated. text ≡ stated)
 
 -- An answer is told, or a refusal with its status; where memory runs out, no text.
-pub data Tells (Answers : Text → Type 0) (Refuses : Refusal → Type 0) : Status → Text → Type 0 where
+pub data Tells (Answers : Text → Type 0) (Refuses : CallRefusal → Type 0) : Status → Text → Type 0 where
   answered : {text : Text} → Answers text → Tells Answers Refuses statuses.Answered text
-  refused : {text : Text} {refusal : Refusal} → Refuses refusal → TellsRefusal refusal text → Tells Answers Refuses (status_of refusal) text
+  refused : {text : Text} {refusal : CallRefusal} → Refuses refusal → TellsRefusal refusal text → Tells Answers Refuses (status_of refusal) text
   no_memory : Tells Answers Refuses statuses.Memory []
 
 -- what is told of the answer of a call
-abbrev pub TellsOf : Result (String Global) Refusal → Status → Text → Type 0
+abbrev pub TellsOf : Result (String Global) CallRefusal → Status → Text → Type 0
 TellsOf told = Tells (λ text. (s : String Global) × (told ≡ Ok s) × (string_bytes s ≡ text)) (λ refusal. told ≡ Err refusal)

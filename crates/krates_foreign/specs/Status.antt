@@ -1,7 +1,7 @@
 -- The numbers by which other languages know how a call ended, and which refusal has which.
 use Rattle.std.specs.Prelude.{ℕ}
-use Rattle.krates_foreign.specs.declared.refusal.Refusal.{Refusal}
-use Rattle.krates_foreign.specs.declared.refusal.Refusal.TheVariants as refusals
+use Rattle.krates_foreign.specs.declared.refusal.CallRefusal.{CallRefusal}
+use Rattle.krates_foreign.specs.declared.refusal.CallRefusal.TheVariants as refusals
 use Rattle.krates_foreign.specs.declared.status.Status.{Status}
 use Rattle.krates_foreign.specs.declared.status.Status.TheVariants as statuses
 
@@ -18,7 +18,7 @@ number_of statuses.TooShort = 8
 number_of statuses.Memory = 9
 
 -- the status of a refusal
-abbrev pub status_of : Refusal → Status
+abbrev pub status_of : CallRefusal → Status
 status_of refusals.Words = statuses.Words
 status_of refusals.Id = statuses.Id
 status_of refusals.Utf8 = statuses.Utf8

@@ -5,7 +5,7 @@ ghost use Rattle.std.specs.Str.Lines.{lines};
 ghost use Rattle.krates_cli.specs.Options.{options_view};
 ghost use Rattle.krates_foreign.specs.Asked.{AsksFor, IsAloneRefused, IsUnasked, AskAlone};
 
-use crate::refusal::Refusal;
+use crate::refusal::CallRefusal;
 use krates_cli::{Options, OptionsError, laws, options_of};
 use std::alloc::{AllocError, Global};
 use std::str;
@@ -13,19 +13,19 @@ use std::str;
 /// The options that words ask for, one word a line: those of `krates-list` that ask for a setting. It is refused as `Words` where
 /// they are no UTF-8, are no options, or ask for a program or for a crate that is to be explained, and only there. It may instead
 /// return `Memory`.
-pub(crate) fn options_in(alloc: Global, words: &[u8]) -> Result<Options, Refusal>
+pub(crate) fn options_in(alloc: Global, words: &[u8]) -> Result<Options, CallRefusal>
     ensures asked { IfOk result (λ options. AsksFor words.now (options_view options)) }
     ensures refused { IfErr result (IsUnasked words.now) }
 {
     laws::one_command_line();
     let Ok(text) = str::from_utf8(words) else {
-        return Err(Refusal::Words);
+        return Err(CallRefusal::Words);
     };
     let words = words_in(alloc, text)?;
     match options_of(alloc, &words) {
         Ok(options) => alone(options),
-        Err(OptionsError::Unknown) => Err(Refusal::Words),
-        Err(OptionsError::Memory) => Err(Refusal::Memory),
+        Err(OptionsError::Unknown) => Err(CallRefusal::Words),
+        Err(OptionsError::Memory) => Err(CallRefusal::Memory),
     }
 }
 
@@ -41,12 +41,12 @@ fn words_in(alloc: Global, text: &str) -> Result<Vec<String>, AllocError>
 }
 
 /// The options, where they ask for a setting alone.
-fn alone(options: Options) -> Result<Options, Refusal>
+fn alone(options: Options) -> Result<Options, CallRefusal>
     ensures same { IfOk result (λ same. (same ≡ options) × AskAlone (options_view options)) }
     ensures refused { IfErr result (IsAloneRefused (options_view options)) }
 {
     if options.cargo.is_some() || options.why.is_some() {
-        return Err(Refusal::Words);
+        return Err(CallRefusal::Words);
     }
     Ok(options)
 }

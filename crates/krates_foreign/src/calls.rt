@@ -11,7 +11,7 @@ use crate::asked::options_in;
 use crate::document::document_in;
 use crate::drawn_lines::{EdgeLines, NodeLines};
 use crate::judged::judged;
-use crate::refusal::Refusal;
+use crate::refusal::CallRefusal;
 use krates::resolve::Setting;
 use krates::{Builder, Kid, Krates, NoneFilter};
 use krates_cli::{Listed, Options, OptionsError, kid_of, listing_of};
@@ -27,7 +27,7 @@ use std::str;
 /// ```text
 /// let lines = list(alloc, document, b"--workspace\n--ignore-kind\ndev\n")?;
 /// ```
-pub fn list(alloc: Global, document: &[u8], words: &[u8]) -> Result<String, Refusal>
+pub fn list(alloc: Global, document: &[u8], words: &[u8]) -> Result<String, CallRefusal>
     ensures listed { IfOk result (λ lines. Lists document.now words.now (string_bytes lines)) }
     ensures refused { IfErr result (ListRefusal document.now words.now) }
 {
@@ -37,7 +37,7 @@ pub fn list(alloc: Global, document: &[u8], words: &[u8]) -> Result<String, Refu
 
 /// The lines that the options ask for, of the document that the bytes are. It is refused as `Utf8`, `Parse`, `Build`, `NotKept` or
 /// `Memory`.
-fn listed(alloc: Global, options: &Options, document: &[u8]) -> Result<String, Refusal>
+fn listed(alloc: Global, options: &Options, document: &[u8]) -> Result<String, CallRefusal>
     ensures listed { IfOk result
         (λ lines. IsListedIn (meant_request options.now) document.now (string_bytes lines)) }
     ensures refused { IfErr result (IsUnlistedIn (meant_request options.now) document.now) }
@@ -45,7 +45,7 @@ fn listed(alloc: Global, options: &Options, document: &[u8]) -> Result<String, R
     let metadata = document_in(alloc, document)?;
     match listing_of(alloc, options, metadata) {
         Ok(lines) => Ok(lines),
-        Err(cause) => Err(Refusal::of_listing(cause)),
+        Err(cause) => Err(CallRefusal::of_listing(cause)),
     }
 }
 
@@ -57,7 +57,7 @@ fn listed(alloc: Global, options: &Options, document: &[u8]) -> Result<String, R
 /// ```text
 /// let lines = why(alloc, document, b"", b"path+file:///w/b#0.1.0")?;
 /// ```
-pub fn why(alloc: Global, document: &[u8], words: &[u8], id: &[u8]) -> Result<String, Refusal>
+pub fn why(alloc: Global, document: &[u8], words: &[u8], id: &[u8]) -> Result<String, CallRefusal>
     ensures explained { IfOk result (λ lines. Explains document.now words.now id.now (string_bytes lines)) }
     ensures refused { IfErr result (WhyRefusal document.now words.now id.now) }
 {
@@ -67,17 +67,17 @@ pub fn why(alloc: Global, document: &[u8], words: &[u8], id: &[u8]) -> Result<St
 }
 
 /// The id that the bytes are. It is refused as `Id` where they are none, or as `Memory`.
-fn kid_in(alloc: Global, id: &[u8]) -> Result<Kid, Refusal>
+fn kid_in(alloc: Global, id: &[u8]) -> Result<Kid, CallRefusal>
     ensures read { IfOk result (NamesCrate id.now) }
     ensures refused { IfErr result (IsNoId id.now) }
 {
     let Ok(text) = str::from_utf8(id) else {
-        return Err(Refusal::Id);
+        return Err(CallRefusal::Id);
     };
     match kid_of(alloc, text) {
         Ok(kid) => Ok(kid),
-        Err(OptionsError::Unknown) => Err(Refusal::Id),
-        Err(OptionsError::Memory) => Err(Refusal::Memory),
+        Err(OptionsError::Unknown) => Err(CallRefusal::Id),
+        Err(OptionsError::Memory) => Err(CallRefusal::Memory),
     }
 }
 
@@ -92,7 +92,7 @@ fn kid_in(alloc: Global, id: &[u8]) -> Result<Kid, Refusal>
 /// ```
 ///
 /// A text stands behind its length in bytes and a colon. It is refused as `list` is. Time: that of reading and of the build.
-pub fn graph(alloc: Global, document: &[u8], words: &[u8]) -> Result<String, Refusal>
+pub fn graph(alloc: Global, document: &[u8], words: &[u8]) -> Result<String, CallRefusal>
     ensures drawn { IfOk result (λ lines. Draws document.now words.now (string_bytes lines)) }
     ensures refused { IfErr result (ListRefusal document.now words.now) }
 {
@@ -102,7 +102,7 @@ pub fn graph(alloc: Global, document: &[u8], words: &[u8]) -> Result<String, Ref
 }
 
 /// The lines of the graph of the document that the bytes are, under a setting. It is refused as `Utf8`, `Parse`, `Build` or `Memory`.
-fn drawn(alloc: Global, setting: Setting, document: &[u8]) -> Result<String, Refusal>
+fn drawn(alloc: Global, setting: Setting, document: &[u8]) -> Result<String, CallRefusal>
     ensures drawn { IfOk result
         (λ lines. OfDocument document.now (λ m. DrawsPackages setting m (string_bytes lines))) }
     ensures refused { IfErr result (IsUndrawnIn setting document.now) }
@@ -129,7 +129,7 @@ pub fn check(
     document: &[u8],
     words: &[u8],
     certificate: &[u8],
-) -> Result<String, Refusal>
+) -> Result<String, CallRefusal>
     ensures checked { IfOk result
         (λ line. Checks document.now words.now certificate.now (string_bytes line)) }
     ensures refused { IfErr result (CheckRefusal document.now words.now certificate.now) }

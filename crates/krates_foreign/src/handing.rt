@@ -3,7 +3,7 @@
 ghost use Rattle.std.specs.Prelude.{Err, IfErr, IfOk, length, string_bytes};
 ghost use Rattle.krates_foreign.specs.Handing.{Hands, IsHanded, TellsOf, TellsRefusal};
 
-use crate::refusal::Refusal;
+use crate::refusal::CallRefusal;
 use crate::status::Status;
 use std::alloc::{AllocError, Global};
 
@@ -40,14 +40,14 @@ fn hand(status: Status, text: &[u8], room: &mut [u8]) -> Answer
 /// ```text
 /// let answer = hand_over(alloc, list(alloc, document, words), &mut room);
 /// ```
-pub fn hand_over(alloc: Global, told: Result<String, Refusal>, room: &mut [u8]) -> Answer
+pub fn hand_over(alloc: Global, told: Result<String, CallRefusal>, room: &mut [u8]) -> Answer
     ensures { Hands (TellsOf told) result room.old room.new }
 {
     hand_result(alloc, &told, room)
 }
 
 /// The same of what is lent, so that it is let go in one place.
-fn hand_result(alloc: Global, told: &Result<String, Refusal>, room: &mut [u8]) -> Answer
+fn hand_result(alloc: Global, told: &Result<String, CallRefusal>, room: &mut [u8]) -> Answer
     ensures { Hands (TellsOf told.now) result room.old room.new }
 {
     match told {
@@ -57,7 +57,7 @@ fn hand_result(alloc: Global, told: &Result<String, Refusal>, room: &mut [u8]) -
 }
 
 /// Hands over what is printed of a refusal.
-fn hand_refusal(alloc: Global, refusal: &Refusal, room: &mut [u8]) -> Answer
+fn hand_refusal(alloc: Global, refusal: &CallRefusal, room: &mut [u8]) -> Answer
     ensures { Hands (TellsOf (Err refusal.now)) result room.old room.new }
 {
     match text_of(alloc, refusal) {
@@ -67,11 +67,11 @@ fn hand_refusal(alloc: Global, refusal: &Refusal, room: &mut [u8]) -> Answer
 }
 
 /// What is printed of a refusal, or nothing where memory ran out.
-fn text_of(alloc: Global, refusal: &Refusal) -> Result<String, AllocError>
+fn text_of(alloc: Global, refusal: &CallRefusal) -> Result<String, AllocError>
     ensures { IfOk result (λ text. TellsRefusal refusal.now (string_bytes text)) }
 {
     match refusal {
-        Refusal::Memory => Err(AllocError),
+        CallRefusal::Memory => Err(AllocError),
         _ => refusal.to_string(alloc),
     }
 }

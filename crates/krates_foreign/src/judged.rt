@@ -7,10 +7,10 @@ ghost use Rattle.krates_foreign.specs.Asked.{setting_words};
 ghost use Rattle.krates_foreign.specs.Calls.{JudgedRefusal, Upholds, subject_of};
 ghost use Rattle.krates_words.specs.SettingWords.{words_of};
 
-use crate::refusal::Refusal;
+use crate::refusal::CallRefusal;
 use krates::Metadata;
 use krates_cli::{Options, targets_of};
-use krates_verdict::Subject;
+use krates_verdict::CertificateSubject;
 use krates_words::Choice;
 use std::alloc::{AllocError, Global};
 
@@ -20,7 +20,7 @@ pub(crate) fn judged(
     options: &Options,
     metadata: &Metadata,
     certificate: &[u8],
-) -> Result<String, Refusal>
+) -> Result<String, CallRefusal>
     ensures upholds { IfOk result
         (λ line. Upholds (subject_of metadata.now (options_view options.now)) certificate.now
         (string_bytes line)) }
@@ -29,7 +29,7 @@ pub(crate) fn judged(
 {
     let setting = options.setting(alloc)?;
     let words = words_for(alloc, options)?;
-    let subject = Subject {
+    let subject = CertificateSubject {
         metadata,
         setting: &setting,
         words: &words,

@@ -2,7 +2,7 @@
 
 ghost use Rattle.krates_cm.specs.Document.{Text};
 ghost use Rattle.krates_foreign.specs.Calls.{Draws, Explains, IsOutside, ListRefusal, Lists, WhyRefusal};
-ghost use Rattle.krates_foreign.specs.declared.refusal.Refusal.{Refusal};
+ghost use Rattle.krates_foreign.specs.declared.refusal.CallRefusal.{CallRefusal};
 
 use krates_cli::laws as listings;
 use krates_ids::laws as ids;
@@ -10,11 +10,11 @@ use krates_ids::laws as ids;
 /// Where a document has an answer under the words, no refusal of the call is true but that memory ran out, or that there are more
 /// nodes or edges than can be numbered. So it is answered exactly where there is an answer, these aside.
 pub fn answered_or_refused()
-    ensures listed { (bytes words lines : Text) (cause : Refusal)
+    ensures listed { (bytes words lines : Text) (cause : CallRefusal)
         → Lists bytes words lines → ListRefusal bytes words cause → IsOutside cause }
-    ensures drawn { (bytes words lines : Text) (cause : Refusal)
+    ensures drawn { (bytes words lines : Text) (cause : CallRefusal)
         → Draws bytes words lines → ListRefusal bytes words cause → IsOutside cause }
-    ensures explained { (bytes words id lines : Text) (cause : Refusal)
+    ensures explained { (bytes words id lines : Text) (cause : CallRefusal)
         → Explains bytes words id lines → WhyRefusal bytes words id cause → IsOutside cause }
 {
     listings::listed_or_refused();

@@ -14,5 +14,5 @@ mod status;
 
 pub use calls::{check, graph, list, why};
 pub use handing::{Answer, hand_over};
-pub use refusal::Refusal;
+pub use refusal::CallRefusal;
 pub use status::Status;

@@ -1,9 +1,9 @@
 //! Why a call has no answer.
 
 ghost use Rattle.std.specs.Prelude.{◌≡◌};
-ghost use Rattle.krates_foreign.specs.RefusalText.{IsOfListing, ListingErrorBecomes, refusal_text};
+ghost use Rattle.krates_foreign.specs.CallRefusalText.{IsOfListing, ListingErrorBecomes, refusal_text};
 ghost use Rattle.krates_foreign.specs.Status.{status_of};
-ghost use Rattle.krates_foreign.specs.declared.refusal.Refusal.TheVariants.{Memory};
+ghost use Rattle.krates_foreign.specs.declared.refusal.CallRefusal.TheVariants.{Memory};
 
 use crate::status::Status;
 use krates::cm::Error as ParseError;
@@ -14,7 +14,7 @@ use std::fmt;
 
 /// Why a call has no answer. Of several that are true the first counts, but memory may run out at each of them.
 #[derive(Debug, Drop)]
-pub enum Refusal {
+pub enum CallRefusal {
     /// The words are no UTF-8, or aren't options, or ask for more than a setting.
     Words,
     /// The id of the crate that is to be explained can't be read.
@@ -33,99 +33,99 @@ pub enum Refusal {
     Memory,
 }
 
-impl Refusal {
+impl CallRefusal {
     /// Its status. Time O(1).
     pub fn status(&self) -> Status
         ensures { result ≡ status_of self.now }
     {
         match self {
-            Refusal::Words => Status::Words,
-            Refusal::Id => Status::Id,
-            Refusal::Utf8 => Status::Utf8,
-            Refusal::Parse(_) => Status::Parse,
-            Refusal::Build(_) => Status::Build,
-            Refusal::NotKept(_) => Status::NotKept,
-            Refusal::Certificate(_) => Status::Certificate,
-            Refusal::Memory => Status::Memory,
+            CallRefusal::Words => Status::Words,
+            CallRefusal::Id => Status::Id,
+            CallRefusal::Utf8 => Status::Utf8,
+            CallRefusal::Parse(_) => Status::Parse,
+            CallRefusal::Build(_) => Status::Build,
+            CallRefusal::NotKept(_) => Status::NotKept,
+            CallRefusal::Certificate(_) => Status::Certificate,
+            CallRefusal::Memory => Status::Memory,
         }
     }
 
     /// That of a document that has no listing for this cause.
-    pub(crate) fn of_listing(cause: RunError) -> Refusal
+    pub(crate) fn of_listing(cause: RunError) -> CallRefusal
         requires { IsOfListing cause }
         ensures { ListingErrorBecomes cause result }
     {
         match cause {
-            RunError::Build(cause) => Refusal::Build(cause),
-            RunError::NotKept(krate) => Refusal::NotKept(krate),
-            RunError::Memory => Refusal::Memory,
+            RunError::Build(cause) => CallRefusal::Build(cause),
+            RunError::NotKept(krate) => CallRefusal::NotKept(krate),
+            RunError::Memory => CallRefusal::Memory,
             _ => unreachable!(),
         }
     }
 }
 
-impl fmt::Display for Refusal {
+impl fmt::Display for CallRefusal {
     ghost output = { refusal_text };
 
     fn fmt<W: fmt::Write>(&self, f: &mut fmt::Formatter<W>) -> fmt::Result {
         match self {
-            Refusal::Words => f.write_str("the options are not those of a setting"),
-            Refusal::Id => f.write_str("the text is not a package id"),
-            Refusal::Utf8 => f.write_str("the document is not UTF-8"),
-            Refusal::Parse(cause) => write!(f, "{cause}"),
-            Refusal::Build(cause) => write!(f, "{cause}"),
-            Refusal::NotKept(krate) => write!(f, "not kept: {krate}"),
-            Refusal::Certificate(cause) => write!(f, "{cause}"),
-            Refusal::Memory => f.write_str("out of memory"),
+            CallRefusal::Words => f.write_str("the options are not those of a setting"),
+            CallRefusal::Id => f.write_str("the text is not a package id"),
+            CallRefusal::Utf8 => f.write_str("the document is not UTF-8"),
+            CallRefusal::Parse(cause) => write!(f, "{cause}"),
+            CallRefusal::Build(cause) => write!(f, "{cause}"),
+            CallRefusal::NotKept(krate) => write!(f, "not kept: {krate}"),
+            CallRefusal::Certificate(cause) => write!(f, "{cause}"),
+            CallRefusal::Memory => f.write_str("out of memory"),
         }
     }
 }
 
-impl std::error::Error for Refusal {}
+impl std::error::Error for CallRefusal {}
 
-impl From<ParseError> for Refusal {
-    ghost use Rattle.krates_foreign.specs.RefusalText.{ParseErrorBecomes};
+impl From<ParseError> for CallRefusal {
+    ghost use Rattle.krates_foreign.specs.CallRefusalText.{ParseErrorBecomes};
 
     ghost from_gives = { ParseErrorBecomes };
 
-    fn from(error: ParseError) -> Refusal {
+    fn from(error: ParseError) -> CallRefusal {
         match error {
-            ParseError::Memory => Refusal::Memory,
-            _ => Refusal::Parse(error),
+            ParseError::Memory => CallRefusal::Memory,
+            _ => CallRefusal::Parse(error),
         }
     }
 }
 
-impl From<BuildError> for Refusal {
-    ghost use Rattle.krates_foreign.specs.RefusalText.{BuildErrorBecomes};
+impl From<BuildError> for CallRefusal {
+    ghost use Rattle.krates_foreign.specs.CallRefusalText.{BuildErrorBecomes};
 
     ghost from_gives = { BuildErrorBecomes };
 
-    fn from(error: BuildError) -> Refusal {
+    fn from(error: BuildError) -> CallRefusal {
         match error {
-            BuildError::Memory => Refusal::Memory,
-            _ => Refusal::Build(error),
+            BuildError::Memory => CallRefusal::Memory,
+            _ => CallRefusal::Build(error),
         }
     }
 }
 
-impl From<krates_verdict::Refusal> for Refusal {
-    ghost use Rattle.krates_foreign.specs.RefusalText.{VerdictErrorBecomes};
+impl From<krates_verdict::Refusal> for CallRefusal {
+    ghost use Rattle.krates_foreign.specs.CallRefusalText.{VerdictErrorBecomes};
 
     ghost from_gives = { VerdictErrorBecomes };
 
-    fn from(error: krates_verdict::Refusal) -> Refusal {
+    fn from(error: krates_verdict::Refusal) -> CallRefusal {
         match error {
-            krates_verdict::Refusal::Memory => Refusal::Memory,
-            _ => Refusal::Certificate(error),
+            krates_verdict::Refusal::Memory => CallRefusal::Memory,
+            _ => CallRefusal::Certificate(error),
         }
     }
 }
 
-impl From<AllocError> for Refusal {
+impl From<AllocError> for CallRefusal {
     ghost from_gives = { λ _ e. e ≡ Memory };
 
-    fn from(_error: AllocError) -> Refusal {
-        Refusal::Memory
+    fn from(_error: AllocError) -> CallRefusal {
+        CallRefusal::Memory
     }
 }

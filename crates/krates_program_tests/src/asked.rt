@@ -6,11 +6,12 @@ mod names;
 mod reasons;
 mod trees;
 
+use crate::listing::words_of;
 use crate::versions::VERSIONS;
 use krates::Metadata;
 use krates::cm::MetadataCommand;
 use krates::target::Target;
-use krates_report::{Answer, Reporter};
+use krates_report::{Report, Reporter};
 use krates_samples::documents::metadata;
 use krates_samples::table::{Question, Row, hold};
 use krates_words::{Asked, Choice, asked_of};
@@ -34,15 +35,6 @@ fn other_of(alloc: Global, line: Option<&str>) -> Result<Option<Metadata>, Fail>
     }
 }
 
-/// The words of a line, with a blank for each tilde.
-pub(crate) fn words_of(alloc: Global, line: &str) -> Result<Vec<String>, Fail> {
-    let mut words = Vec::new(alloc);
-    for word in line.split_whitespace() {
-        words.push(word.replace(alloc, '~', " ")?)?;
-    }
-    Ok(words)
-}
-
 /// The targets that the words name, of those that are known by their triple.
 pub(crate) fn add_targets(alloc: Global, choice: &mut Choice) -> Result<(), Fail> {
     for triple in &choice.triples {
@@ -62,8 +54,8 @@ fn printed_of(alloc: Global, mut asked: Asked, documents: &str) -> Result<String
     let other = other_of(alloc, second)?;
     let document = document_of(alloc, first)?;
     match Reporter::new(alloc, &asked).answer(document, other) {
-        Ok(Answer { text, is_yes: true }) => Ok(text),
-        Ok(Answer { text, .. }) => Ok(format!(in alloc; "no: {text}")?),
+        Ok(Report { text, is_yes: true }) => Ok(text),
+        Ok(Report { text, .. }) => Ok(format!(in alloc; "no: {text}")?),
         Err(refusal) => Ok(format!(in alloc; "refused: {refusal}")?),
     }
 }

@@ -1,8 +1,8 @@
 //! Runs of the program over the document that a stand-in for cargo writes.
 
 use krates_cli::{Counted, Options, RunError, program, run_by_cargo};
+use krates_samples::stand_in::DOCUMENT;
 use krates_samples::table::{Row, compare};
-use krates_stand_in::DOCUMENT;
 use std::alloc::Global;
 use std::test::Fail;
 use std::{env, str};

@@ -1,8 +1,9 @@
 //! Certificates as `cargo krates` writes them, and what the program says that checks them.
 
-use crate::asked::{Answered, add_targets, answered_of, document_of, words_of};
+use crate::asked::{Answered, add_targets, answered_of, document_of};
+use crate::listing::words_of;
 use krates_samples::table::{Question, Row, hold};
-use krates_verdict::{Subject, run};
+use krates_verdict::{CertificateSubject, run};
 use krates_words::{CheckWords, check_words_of};
 use std::alloc::Global;
 use std::test::Fail;
@@ -41,7 +42,7 @@ fn written(
     let metadata = document_of(alloc, document)?;
     let setting = asked.choice.setting(alloc, &[])?;
     let words = asked.choice.words(alloc)?;
-    let subject = Subject {
+    let subject = CertificateSubject {
         metadata: &metadata,
         setting: &setting,
         words: &words,

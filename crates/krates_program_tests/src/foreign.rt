@@ -1,6 +1,6 @@
 //! Calls over bytes, as other languages make them: what stands in the room that the caller lends.
 
-use krates_foreign::{Refusal, Status, check, graph, hand_over, list, why};
+use krates_foreign::{CallRefusal, Status, check, graph, hand_over, list, why};
 use krates_samples::documents::{document, section};
 use krates_samples::table::{Question, Row, hold};
 use std::alloc::Global;
@@ -39,7 +39,7 @@ impl<'l> Asked<'l> {
     }
 
     /// What the call answers of a document under words, one a line; the id and the certificate stand in sections.
-    fn called(self, alloc: Global, json: &[u8], words: &[u8]) -> Result<String, Refusal> {
+    fn called(self, alloc: Global, json: &[u8], words: &[u8]) -> Result<String, CallRefusal> {
         match self.call {
             "list" => list(alloc, json, words),
             "graph" => graph(alloc, json, words),
@@ -67,7 +67,11 @@ fn lines_of(alloc: Global, words: &str) -> Result<String, Fail> {
 }
 
 /// What is handed over in a room of so many bytes, each of them a full stop before: the status, the length, and the room.
-fn room_of(alloc: Global, told: Result<String, Refusal>, length: usize) -> Result<String, Fail> {
+fn room_of(
+    alloc: Global,
+    told: Result<String, CallRefusal>,
+    length: usize,
+) -> Result<String, Fail> {
     let mut room = Vec::from_elem(alloc, b'.', length)?;
     let answer = hand_over(alloc, told, &mut room);
     let room = str::from_utf8(&room)?;

@@ -8,7 +8,7 @@ use krates::cm::{Error as MetadataError, MetadataCommand};
 use krates::{Builder, Error, Krates, OnFilter, Package};
 use krates_cli::{Counted, Options, RunError, run};
 use krates_samples::documents::document;
-use krates_stand_in::DOCUMENT;
+use krates_samples::stand_in::DOCUMENT;
 use std::alloc::Global;
 use std::test::Fail;
 

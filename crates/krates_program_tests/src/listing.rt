@@ -9,11 +9,11 @@ use std::io::{ErrorKind, Read, Write};
 use std::test::Fail;
 use std::{io, str};
 
-/// The words between blanks.
-pub(crate) fn words_of(alloc: Global, texts: &str) -> Result<Vec<String>, Fail> {
+/// The words of a line, with a blank for each tilde.
+pub(crate) fn words_of(alloc: Global, line: &str) -> Result<Vec<String>, Fail> {
     let mut words = Vec::new(alloc);
-    for text in texts.split_whitespace() {
-        words.push(String::from_str(alloc, text)?)?;
+    for word in line.split_whitespace() {
+        words.push(word.replace(alloc, '~', " ")?)?;
     }
     Ok(words)
 }

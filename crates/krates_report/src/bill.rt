@@ -1,8 +1,8 @@
 //! The bill of materials as CycloneDX 1.5 (ECMA-424; <https://cyclonedx.org/docs/1.5/json/>).
 
 use crate::crate_name::{directory_of, url_of};
+use crate::json::{JsonObject, Values, list_of, string};
 use crate::krate_json::ids_json;
-use crate::members::{Members, Values, list_of, string};
 use crate::shown::{Shown, pretty};
 use krates::Package;
 use krates::cm::{Source, SourceKind, Target, TargetKind};
@@ -118,19 +118,19 @@ fn scope_of(usage: Use) -> &'static str {
 /// The list of a licence that is an expression, in which an old `/` stands for `OR` (Cargo Book, "The license and license-file fields").
 fn expression_json(alloc: Global, expression: &str) -> Result<Value, AllocError> {
     let expression = string(expression.replace(alloc, "/", " OR "));
-    let licence = Members::new(alloc).put("expression", expression);
+    let licence = JsonObject::new(alloc).put("expression", expression);
     list_of(alloc, licence.object())
 }
 
 /// The list of a licence that is a file.
 fn licence_file_json(alloc: Global, file: &str) -> Result<Value, AllocError> {
-    let name = Members::new(alloc).text("name", file);
-    let licence = Members::new(alloc).put("license", name.object());
+    let name = JsonObject::new(alloc).text("name", file);
+    let licence = JsonObject::new(alloc).put("license", name.object());
     list_of(alloc, licence.object())
 }
 
 /// These members with the licences of a crate: its expression, or else its file.
-fn with_licences(alloc: Global, krate: &Package, members: Members) -> Members {
+fn with_licences(alloc: Global, krate: &Package, members: JsonObject) -> JsonObject {
     match (&krate.license, &krate.license_file) {
         (Some(expression), _) => {
             members.put("licenses", expression_json(alloc, expression.as_str()))
@@ -145,7 +145,7 @@ impl Bill<'_> {
     fn component(&self, alloc: Global, material: &Material<'_>) -> Result<Value, AllocError> {
         let krate = material.krate.krate;
         let usage = self.builds.use_of(material.krate.kid);
-        let members = Members::new(alloc)
+        let members = JsonObject::new(alloc)
             .text("type", type_of(krate))
             .text("bom-ref", krate.id.repr.as_str())
             .text("name", krate.name.as_str())
@@ -167,7 +167,7 @@ impl Bill<'_> {
     /// A crate with those on which it depends directly.
     fn dependency(&self, alloc: Global, material: &Material<'_>) -> Result<Value, AllocError> {
         let needed = &material.depends_on;
-        Members::new(alloc)
+        JsonObject::new(alloc)
             .text("ref", material.krate.krate.id.repr.as_str())
             .put("dependsOn", ids_json(alloc, &self.builds.all, needed))
             .object()
@@ -192,7 +192,7 @@ impl Shown for Bill<'_> {
     /// `components`, the kept crates, and `dependencies`, with an entry for each of them. There is no time and no serial number in it, so
     /// that the same document gives the same bytes.
     fn json(&self, alloc: Global) -> Result<Value, AllocError> {
-        Members::new(alloc)
+        JsonObject::new(alloc)
             .text("$schema", "http://cyclonedx.org/schema/bom-1.5.schema.json")
             .text("bomFormat", "CycloneDX")
             .text("specVersion", "1.5")

@@ -4,7 +4,7 @@ ghost use Rattle.std.specs.Prelude.{IfOk};
 ghost use Rattle.krates_cm.specs.Document.{metadata_view};
 ghost use Rattle.krates_report.specs.Builds.{AreBuildsOf, IsBuildOf};
 
-use crate::refusal::Refusal;
+use crate::error::ReportError;
 use krates::{Builder, DepKind, Krates, Metadata, NoneFilter};
 use krates_answers::uses::Builds;
 use krates_words::Choice;
@@ -17,7 +17,7 @@ pub fn built(
     choice: &Choice,
     also_ignored: &[DepKind],
     metadata: Metadata,
-) -> Result<Krates, Refusal>
+) -> Result<Krates, ReportError>
     ensures { IfOk result (IsBuildOf (metadata_view metadata) choice.now also_ignored.now) }
 {
     match choice.setting(alloc, also_ignored) {
@@ -28,7 +28,7 @@ pub fn built(
         }
         Err(AllocError) => {
             metadata.let_go();
-            Err(Refusal::Memory)
+            Err(ReportError::Memory)
         }
     }
 }
@@ -39,7 +39,7 @@ fn copy_built(
     choice: &Choice,
     also_ignored: &[DepKind],
     metadata: &Metadata,
-) -> Result<Krates, Refusal>
+) -> Result<Krates, ReportError>
     ensures { IfOk result (IsBuildOf (metadata_view metadata.now) choice.now also_ignored.now) }
 {
     let copy = metadata.clone()?;
@@ -47,7 +47,7 @@ fn copy_built(
 }
 
 /// The three builds of a document by which it is known what crates are used for. It is refused as `built` is.
-pub fn builds(alloc: Global, choice: &Choice, metadata: Metadata) -> Result<Builds, Refusal>
+pub fn builds(alloc: Global, choice: &Choice, metadata: Metadata) -> Result<Builds, ReportError>
     ensures { IfOk result (AreBuildsOf (metadata_view metadata) choice.now) }
 {
     let builds = builds_of_copies(alloc, choice, &metadata);
@@ -56,7 +56,11 @@ pub fn builds(alloc: Global, choice: &Choice, metadata: Metadata) -> Result<Buil
 }
 
 /// The same of copies of the document.
-fn builds_of_copies(alloc: Global, choice: &Choice, metadata: &Metadata) -> Result<Builds, Refusal>
+fn builds_of_copies(
+    alloc: Global,
+    choice: &Choice,
+    metadata: &Metadata,
+) -> Result<Builds, ReportError>
     ensures { IfOk result (AreBuildsOf (metadata_view metadata.now) choice.now) }
 {
     let all = copy_built(alloc, choice, &[], metadata)?;

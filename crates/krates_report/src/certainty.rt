@@ -1,7 +1,7 @@
 //! Whether a package can be reached, as it is shown.
 
 use crate::crate_name::ShortName;
-use crate::members::Members;
+use crate::json::JsonObject;
 use crate::shown::Shown;
 use krates::Package;
 use serde_json::Value;
@@ -34,7 +34,7 @@ impl Shown for Certainty<'_> {
 
     /// An object with `id` and `unreachable`.
     fn json(&self, alloc: Global) -> Result<Value, AllocError> {
-        Members::new(alloc)
+        JsonObject::new(alloc)
             .text("id", self.package.id.repr.as_str())
             .put("unreachable", Ok(Value::Bool(self.is_unreachable)))
             .object()

@@ -1,13 +1,13 @@
 //! The difference of two graphs as it is shown.
 
 use crate::crate_name::{ShortId, ShortName};
+use crate::json::{JsonObject, Values, string};
 use crate::krate_json::krates_json;
-use crate::members::{Members, Values, string};
 use crate::shown::Shown;
 use krates::semver::Version;
 use krates::{KrateMatch, Krates, Package};
 use krates_answers::changed::Changed;
-use krates_answers::difference::{Dependency, lacking, lost_dependencies};
+use krates_answers::difference::{DependencyEdge, lacking, lost_dependencies};
 use serde_json::Value;
 use std::alloc::{AllocError, Global};
 
@@ -19,9 +19,9 @@ pub struct Difference<'a> {
     /// The crates that only the second keeps, by number.
     pub added: Vec<KrateMatch<'a, Package>>,
     /// The direct dependencies that only the first has.
-    pub removed_dependencies: Vec<Dependency<'a>>,
+    pub removed_dependencies: Vec<DependencyEdge<'a>>,
     /// The direct dependencies that only the second has.
-    pub added_dependencies: Vec<Dependency<'a>>,
+    pub added_dependencies: Vec<DependencyEdge<'a>>,
     /// The names under which crates went and others came.
     pub changed: Vec<Changed<'a>>,
 }
@@ -78,7 +78,7 @@ fn versions_json(alloc: Global, versions: &[&Version]) -> Result<Value, AllocErr
 
 /// What JSON says of a name under which versions changed.
 fn changed_json(alloc: Global, changed: &Changed<'_>) -> Result<Value, AllocError> {
-    Members::new(alloc)
+    JsonObject::new(alloc)
         .text("name", changed.name)
         .put("from", versions_json(alloc, &changed.from))
         .put("to", versions_json(alloc, &changed.to))
@@ -100,7 +100,7 @@ fn push_krates(
 /// Adds a line for each dependency.
 fn push_dependencies(
     mark: &str,
-    dependencies: &[Dependency<'_>],
+    dependencies: &[DependencyEdge<'_>],
     lines: &mut String,
 ) -> Result<(), AllocError> {
     for dependency in dependencies {
@@ -111,15 +111,18 @@ fn push_dependencies(
 }
 
 /// What JSON says of a dependency: the ids of both crates.
-fn dependency_json(alloc: Global, dependency: &Dependency<'_>) -> Result<Value, AllocError> {
-    Members::new(alloc)
+fn dependency_json(alloc: Global, dependency: &DependencyEdge<'_>) -> Result<Value, AllocError> {
+    JsonObject::new(alloc)
         .text("from", dependency.parent.krate.id.repr.as_str())
         .text("to", dependency.child.krate.id.repr.as_str())
         .object()
 }
 
 /// That of each of these.
-fn dependencies_json(alloc: Global, dependencies: &[Dependency<'_>]) -> Result<Value, AllocError> {
+fn dependencies_json(
+    alloc: Global,
+    dependencies: &[DependencyEdge<'_>],
+) -> Result<Value, AllocError> {
     let mut values = Values::new(alloc);
     for dependency in dependencies {
         values.add(dependency_json(alloc, dependency));
@@ -158,7 +161,7 @@ impl Shown for Difference<'_> {
     fn json(&self, alloc: Global) -> Result<Value, AllocError> {
         let lost = &self.removed_dependencies;
         let won = &self.added_dependencies;
-        Members::new(alloc)
+        JsonObject::new(alloc)
             .put("changed", self.changed_json(alloc))
             .put("removed", krates_json(alloc, &self.removed))
             .put("added", krates_json(alloc, &self.added))

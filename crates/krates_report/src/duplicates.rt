@@ -1,8 +1,8 @@
 //! Duplicate versions as they are shown.
 
 use crate::crate_name::ShortName;
+use crate::json::{JsonObject, Values};
 use crate::krate_json::{ids_json, krate_json};
-use crate::members::{Members, Values};
 use crate::shown::Shown;
 use krates::{KrateMatch, Krates, NodeId, Package};
 use krates_answers::duplicates::{Duplicate, duplicates};
@@ -66,7 +66,7 @@ impl<'a> Duplicates<'a> {
         krate: &KrateMatch<'_, Package>,
     ) -> Result<Value, AllocError> {
         let dependents = self.dependents_of(krate);
-        Members::new(alloc)
+        JsonObject::new(alloc)
             .put("crate", krate_json(alloc, krate.krate))
             .put("dependents", ids_json(alloc, self.krates, dependents))
             .object()
@@ -83,7 +83,7 @@ impl<'a> Duplicates<'a> {
 
     /// What JSON says of a name.
     fn name_json(&self, alloc: Global, name: &Duplicate<'_>) -> Result<Value, AllocError> {
-        Members::new(alloc)
+        JsonObject::new(alloc)
             .text("name", name.name)
             .put("crates", self.krates_json(alloc, name))
             .object()

@@ -1,6 +1,6 @@
 //! What JSON says of a crate.
 
-use crate::members::{Members, Values, string};
+use crate::json::{JsonObject, Values, string};
 use krates::cm::Source;
 use krates::{KrateMatch, Krates, NodeId, Package};
 use serde_json::Value;
@@ -8,7 +8,7 @@ use std::alloc::{AllocError, Global};
 
 /// `id`, `name`, `version` and `source` of a crate; the source is null where the package is of this machine.
 pub(crate) fn krate_json(alloc: Global, krate: &Package) -> Result<Value, AllocError> {
-    Members::new(alloc)
+    JsonObject::new(alloc)
         .text("id", krate.id.repr.as_str())
         .text("name", krate.name.as_str())
         .put("version", string(krate.version.to_string(alloc)))

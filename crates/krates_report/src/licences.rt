@@ -1,8 +1,8 @@
 //! The licences of the kept crates as they are shown.
 
 use crate::crate_name::ShortName;
+use crate::json::{JsonObject, Values};
 use crate::krate_json::krates_json;
-use crate::members::{Members, Values};
 use crate::shown::Shown;
 use krates::Krates;
 use krates_answers::licences::{Licence, licences};
@@ -49,7 +49,7 @@ fn text_json(alloc: Global, text: &str) -> Result<Value, AllocError> {
 
 /// What JSON says of a licence.
 fn licence_json(alloc: Global, licence: &Licence<'_>) -> Result<Value, AllocError> {
-    Members::new(alloc)
+    JsonObject::new(alloc)
         .put("licence", text_json(alloc, licence.text))
         .put("crates", krates_json(alloc, &licence.krates))
         .object()

@@ -1,8 +1,8 @@
 //! The list of the kept crates.
 
 use crate::crate_name::ShortName;
+use crate::json::Values;
 use crate::krate_json::krate_json;
-use crate::members::Values;
 use crate::shown::Shown;
 use krates::Krates;
 use serde_json::Value;

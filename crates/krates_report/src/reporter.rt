@@ -6,36 +6,36 @@ use crate::certainty::Certainty;
 use crate::difference::Difference;
 use crate::dump::{push_answers, push_graph};
 use crate::duplicates::Duplicates;
+use crate::error::ReportError;
 use crate::licences::Licences;
 use crate::list::List;
-use crate::refusal::Refusal;
 use crate::shown::{Shown, pretty, printed};
 use crate::tree::Tree;
-use crate::uses::Uses;
-use crate::why::{Features, Why};
+use crate::uses::UsedKrates;
+use crate::why::{ExplainedFeatures, Why};
 use krates::derive::{Derivation, Fact};
 use krates::resolve::Setting;
 use krates::{Builder, Kid, Krates, Metadata, Node, NodeId, OnFilter, Package, PackageId};
 use krates_answers::naming::{Meant, Packages};
 use krates_answers::unreachable::is_unreachable;
 use krates_answers::uses::Builds;
-use krates_certificate::{Certificate, Part};
+use krates_certificate::{Certificate, CertificatePart};
 use krates_words::{Asked, Word};
 use std::alloc::{AllocError, Global};
 
 /// What is printed, and whether it is a yes.
 #[derive(Debug, Drop)]
-pub struct Answer {
+pub struct Report {
     /// The lines, or the JSON.
     pub text: String,
     /// Whether what was asked is so: false only where a crate is asked to be unreachable and isn't.
     pub is_yes: bool,
 }
 
-impl Answer {
+impl Report {
     /// A yes.
-    fn yes(text: String) -> Answer {
-        Answer { text, is_yes: true }
+    fn yes(text: String) -> Report {
+        Report { text, is_yes: true }
     }
 }
 
@@ -69,14 +69,14 @@ impl Others {
         alloc: Global,
         setting: Setting,
         metadata: Metadata,
-    ) -> Result<Divided, Refusal> {
+    ) -> Result<Divided, ReportError> {
         let builder = Builder::under(alloc, setting);
         let krates = builder.build_with_metadata(metadata, &mut self)?;
         self.beside(krates)
     }
 
     /// These and the graph that doesn't keep them, if there was memory for all of them.
-    fn beside(self, krates: Krates) -> Result<Divided, Refusal> {
+    fn beside(self, krates: Krates) -> Result<Divided, ReportError> {
         let Others { packages, is_whole } = self;
         if is_whole {
             Ok(Divided {
@@ -84,7 +84,7 @@ impl Others {
                 others: packages,
             })
         } else {
-            Err(Refusal::Memory)
+            Err(ReportError::Memory)
         }
     }
 }
@@ -146,7 +146,11 @@ impl Reporter<'_> {
     /// What is printed of a document, and of a second one where two are compared. It is refused as `Build` where a document can't be
     /// built, as `Naming` where a word doesn't mean one package, as `Check` where the checker doesn't accept the facts of the build,
     /// as `NoOther` where a second document is missing; it may instead return `Memory`. Time: that of the builds, and of the answer.
-    pub fn answer(&self, metadata: Metadata, other: Option<Metadata>) -> Result<Answer, Refusal> {
+    pub fn answer(
+        &self,
+        metadata: Metadata,
+        other: Option<Metadata>,
+    ) -> Result<Report, ReportError> {
         match other {
             Some(other) => self.of_both(metadata, other),
             None => self.of_one(metadata),
@@ -154,7 +158,7 @@ impl Reporter<'_> {
     }
 
     /// What is printed of two documents; only a word that compares takes the second one.
-    fn of_both(&self, metadata: Metadata, other: Metadata) -> Result<Answer, Refusal> {
+    fn of_both(&self, metadata: Metadata, other: Metadata) -> Result<Report, ReportError> {
         match &self.asked.word {
             Word::Diff { .. } => self.difference(metadata, other),
             _ => {
@@ -165,52 +169,63 @@ impl Reporter<'_> {
     }
 
     /// What is printed of one document.
-    fn of_one(&self, metadata: Metadata) -> Result<Answer, Refusal> {
+    fn of_one(&self, metadata: Metadata) -> Result<Report, ReportError> {
         match &self.asked.word {
-            Word::List { ids } => self.list(metadata, *ids),
-            Word::Tree { spec } => self.tree(metadata, spec.as_ref()),
-            Word::Dependents { spec } => self.dependents(metadata, spec.as_str()),
-            Word::Why { spec, steps } => self.why(metadata, spec.as_str(), *steps),
-            Word::Features { spec } => self.features(metadata, spec.as_str()),
-            Word::Duplicates => self.duplicates(metadata),
-            Word::Licences => self.licences(metadata),
-            Word::Uses => self.uses(metadata),
-            Word::Sbom => self.bill(metadata),
-            Word::Graph => self.graph(metadata),
+            Word::List { .. } | Word::Duplicates | Word::Licences | Word::Graph => {
+                self.of_graph(metadata)
+            }
+            Word::Tree { .. }
+            | Word::Dependents { .. }
+            | Word::Why { .. }
+            | Word::Features { .. }
+            | Word::Certify { .. } => self.of_divided(metadata),
+            Word::Uses | Word::Sbom => self.of_builds(metadata),
             Word::Queries => self.queries(metadata),
-            Word::Certify { spec } => self.certificate(metadata, spec.as_ref()),
             Word::Unreachable { spec } => self.unreachable(metadata, spec.as_str()),
             Word::Diff { .. } => {
                 metadata.let_go();
-                Err(Refusal::NoOther)
+                Err(ReportError::NoOther)
             }
         }
     }
 
+    /// What is printed of the graph of a document.
+    fn of_graph(&self, metadata: Metadata) -> Result<Report, ReportError> {
+        let krates = self.built(metadata)?;
+        self.in_graph(&krates)
+    }
+
+    /// What is printed of the graph of a document and the packages that it doesn't keep.
+    fn of_divided(&self, metadata: Metadata) -> Result<Report, ReportError> {
+        let divided = self.divided(metadata)?;
+        self.in_divided(&divided)
+    }
+
+    /// What is printed of the three graphs of a document.
+    fn of_builds(&self, metadata: Metadata) -> Result<Report, ReportError> {
+        let builds = builds(self.alloc, &self.asked.choice, metadata)?;
+        self.in_builds(&builds)
+    }
+
     /// What is printed of an answer that is a yes, if there was memory to make it.
-    fn shown<T: Shown + Drop>(&self, answer: Result<T, AllocError>) -> Result<Answer, Refusal> {
+    fn shown<T: Shown + Drop>(&self, answer: Result<T, AllocError>) -> Result<Report, ReportError> {
         let answer = answer?;
         let text = printed(self.alloc, &answer, self.asked.is_json)?;
-        Ok(Answer::yes(text))
+        Ok(Report::yes(text))
     }
 
     /// The graph of a document.
-    fn built(&self, metadata: Metadata) -> Result<Krates, Refusal> {
+    fn built(&self, metadata: Metadata) -> Result<Krates, ReportError> {
         built(self.alloc, &self.asked.choice, &[], metadata)
     }
 
-    /// The three graphs of a document by which uses are told.
-    fn builds(&self, metadata: Metadata) -> Result<Builds, Refusal> {
-        builds(self.alloc, &self.asked.choice, metadata)
-    }
-
     /// The graph of a document and the packages that it doesn't keep.
-    fn divided(&self, metadata: Metadata) -> Result<Divided, Refusal> {
+    fn divided(&self, metadata: Metadata) -> Result<Divided, ReportError> {
         match self.setting() {
             Ok(setting) => Others::new(self.alloc).divided(self.alloc, setting, metadata),
             Err(AllocError) => {
                 metadata.let_go();
-                Err(Refusal::Memory)
+                Err(ReportError::Memory)
             }
         }
     }
@@ -220,65 +235,8 @@ impl Reporter<'_> {
         self.asked.choice.setting(self.alloc, &[])
     }
 
-    /// The kept crates.
-    fn list(&self, metadata: Metadata, has_ids: bool) -> Result<Answer, Refusal> {
-        let krates = self.built(metadata)?;
-        self.shown(Ok(List {
-            krates: &krates,
-            has_ids,
-        }))
-    }
-
-    /// The tree of what a crate needs, or the members where none is named.
-    fn tree(&self, metadata: Metadata, spec: Option<&String>) -> Result<Answer, Refusal> {
-        let divided = self.divided(metadata)?;
-        self.tree_below(&divided, spec)
-    }
-
-    /// The tree of those that need a crate.
-    fn dependents(&self, metadata: Metadata, spec: &str) -> Result<Answer, Refusal> {
-        let divided = self.divided(metadata)?;
-        self.tree_above(&divided, spec)
-    }
-
-    /// Why a crate is kept.
-    fn why(&self, metadata: Metadata, spec: &str, has_steps: bool) -> Result<Answer, Refusal> {
-        let divided = self.divided(metadata)?;
-        self.why_in(&divided, spec, has_steps)
-    }
-
-    /// The enabled features of a crate.
-    fn features(&self, metadata: Metadata, spec: &str) -> Result<Answer, Refusal> {
-        let divided = self.divided(metadata)?;
-        self.features_in(&divided, spec)
-    }
-
-    /// The names that several kept crates have.
-    fn duplicates(&self, metadata: Metadata) -> Result<Answer, Refusal> {
-        let krates = self.built(metadata)?;
-        self.shown(Duplicates::of(self.alloc, &krates))
-    }
-
-    /// The licences of the kept crates.
-    fn licences(&self, metadata: Metadata) -> Result<Answer, Refusal> {
-        let krates = self.built(metadata)?;
-        self.shown(Licences::of(self.alloc, &krates))
-    }
-
-    /// What the kept crates are used for.
-    fn uses(&self, metadata: Metadata) -> Result<Answer, Refusal> {
-        let builds = self.builds(metadata)?;
-        self.shown(Uses::of(self.alloc, &builds))
-    }
-
-    /// The bill of materials.
-    fn bill(&self, metadata: Metadata) -> Result<Answer, Refusal> {
-        let builds = self.builds(metadata)?;
-        self.shown(Bill::of(self.alloc, &builds))
-    }
-
     /// What the graphs of two documents have alone.
-    fn difference(&self, first: Metadata, second: Metadata) -> Result<Answer, Refusal> {
+    fn difference(&self, first: Metadata, second: Metadata) -> Result<Report, ReportError> {
         match self.built(first) {
             Ok(first) => self.difference_from(&first, second),
             Err(refusal) => {
@@ -289,58 +247,84 @@ impl Reporter<'_> {
     }
 
     /// What the graph of a document and another graph have alone.
-    fn difference_from(&self, first: &Krates, second: Metadata) -> Result<Answer, Refusal> {
+    fn difference_from(&self, first: &Krates, second: Metadata) -> Result<Report, ReportError> {
         let second = self.built(second)?;
         self.shown(Difference::between(self.alloc, first, &second))
     }
 
-    /// The drawn graph, number by number.
-    fn graph(&self, metadata: Metadata) -> Result<Answer, Refusal> {
-        let krates = self.built(metadata)?;
-        self.graph_lines(&krates)
-    }
-
     /// What each query answers.
-    fn queries(&self, metadata: Metadata) -> Result<Answer, Refusal> {
+    fn queries(&self, metadata: Metadata) -> Result<Report, ReportError> {
         match ids_of(self.alloc, &metadata.packages) {
             Ok(ids) => self.queries_of(metadata, &ids),
             Err(AllocError) => {
                 metadata.let_go();
-                Err(Refusal::Memory)
+                Err(ReportError::Memory)
             }
         }
     }
 
     /// The same, where the packages of the document have these ids.
-    fn queries_of(&self, metadata: Metadata, ids: &[PackageId]) -> Result<Answer, Refusal> {
+    fn queries_of(&self, metadata: Metadata, ids: &[PackageId]) -> Result<Report, ReportError> {
         let krates = self.built(metadata)?;
         self.query_lines(&krates, ids)
     }
 
     /// Whether a package is certain not to be reached.
-    fn unreachable(&self, metadata: Metadata, spec: &str) -> Result<Answer, Refusal> {
+    fn unreachable(&self, metadata: Metadata, spec: &str) -> Result<Report, ReportError> {
         let answer = self.unreachable_in(&metadata, spec);
         metadata.let_go();
         answer
     }
 
     /// The same, of a document that stays.
-    fn unreachable_in(&self, metadata: &Metadata, spec: &str) -> Result<Answer, Refusal> {
+    fn unreachable_in(&self, metadata: &Metadata, spec: &str) -> Result<Report, ReportError> {
         let divided = self.divided(metadata.clone()?)?;
         self.certainty(metadata, &divided, spec)
-    }
-
-    /// A certificate: that a crate is kept; or, of all crates and of one that isn't kept, that nothing else is.
-    fn certificate(&self, metadata: Metadata, spec: Option<&String>) -> Result<Answer, Refusal> {
-        let divided = self.divided(metadata)?;
-        self.certificate_in(&divided, spec)
     }
 }
 
 /// What is printed of what was built. Nothing large is owned here, so that no refusal has to let it go.
 impl Reporter<'_> {
+    /// What a word that asks for the graph alone is answered: the kept crates, the names that several of them have, their licences, or
+    /// the drawn graph, number by number.
+    fn in_graph(&self, krates: &Krates) -> Result<Report, ReportError> {
+        match &self.asked.word {
+            Word::List { ids } => self.shown(Ok(List {
+                krates,
+                has_ids: *ids,
+            })),
+            Word::Duplicates => self.shown(Duplicates::of(self.alloc, krates)),
+            Word::Licences => self.shown(Licences::of(self.alloc, krates)),
+            // the word `graph`
+            _ => self.graph_lines(krates),
+        }
+    }
+
+    /// What a word about one crate is answered: the tree of what it needs or of those that need it, why it is kept, its enabled features,
+    /// or a certificate.
+    fn in_divided(&self, divided: &Divided) -> Result<Report, ReportError> {
+        match &self.asked.word {
+            Word::Tree { spec } => self.tree_below(divided, spec.as_ref()),
+            Word::Dependents { spec } => self.tree_above(divided, spec.as_str()),
+            Word::Why { spec, steps } => self.why_in(divided, spec.as_str(), *steps),
+            Word::Features { spec } => self.features_in(divided, spec.as_str()),
+            Word::Certify { spec } => self.certificate_in(divided, spec.as_ref()),
+            // no other word comes here but one that lacks its second document
+            _ => Err(ReportError::NoOther),
+        }
+    }
+
+    /// What the kept crates are used for, or the bill of materials.
+    fn in_builds(&self, builds: &Builds) -> Result<Report, ReportError> {
+        match &self.asked.word {
+            Word::Uses => self.shown(UsedKrates::of(self.alloc, builds)),
+            // the word `sbom`
+            _ => self.shown(Bill::of(self.alloc, builds)),
+        }
+    }
+
     /// The tree of what a crate needs, or the members where none is named.
-    fn tree_below(&self, divided: &Divided, spec: Option<&String>) -> Result<Answer, Refusal> {
+    fn tree_below(&self, divided: &Divided, spec: Option<&String>) -> Result<Report, ReportError> {
         let roots = match spec {
             Some(spec) => self.root(divided, spec.as_str())?,
             None => members_of(self.alloc, &divided.krates)?,
@@ -349,19 +333,24 @@ impl Reporter<'_> {
     }
 
     /// The tree of those that need a crate.
-    fn tree_above(&self, divided: &Divided, spec: &str) -> Result<Answer, Refusal> {
+    fn tree_above(&self, divided: &Divided, spec: &str) -> Result<Report, ReportError> {
         let roots = self.root(divided, spec)?;
         self.shown(Tree::of_dependents(self.alloc, &divided.krates, &roots))
     }
 
     /// The number of the crate that a word means, as a list.
-    fn root(&self, divided: &Divided, spec: &str) -> Result<Vec<NodeId>, Refusal> {
+    fn root(&self, divided: &Divided, spec: &str) -> Result<Vec<NodeId>, ReportError> {
         let found = divided.packages().one(self.alloc, spec)?;
         Ok(vec![in self.alloc; found.node_id]?)
     }
 
     /// Why a crate is kept.
-    fn why_in(&self, divided: &Divided, spec: &str, has_steps: bool) -> Result<Answer, Refusal> {
+    fn why_in(
+        &self,
+        divided: &Divided,
+        spec: &str,
+        has_steps: bool,
+    ) -> Result<Report, ReportError> {
         let found = divided.packages().one(self.alloc, spec)?;
         match divided.krates.why(found.node_id)? {
             Some(derivation) => self.shown(Ok(Why {
@@ -369,28 +358,28 @@ impl Reporter<'_> {
                 derivation,
                 has_steps,
             })),
-            None => Ok(Answer::yes(String::new(self.alloc))),
+            None => Ok(Report::yes(String::new(self.alloc))),
         }
     }
 
     /// The enabled features of a crate.
-    fn features_in(&self, divided: &Divided, spec: &str) -> Result<Answer, Refusal> {
+    fn features_in(&self, divided: &Divided, spec: &str) -> Result<Report, ReportError> {
         let found = divided.packages().one(self.alloc, spec)?;
-        self.shown(Features::of(self.alloc, &divided.krates, found))
+        self.shown(ExplainedFeatures::of(self.alloc, &divided.krates, found))
     }
 
     /// The drawn graph, number by number.
-    fn graph_lines(&self, krates: &Krates) -> Result<Answer, Refusal> {
+    fn graph_lines(&self, krates: &Krates) -> Result<Report, ReportError> {
         let mut lines = String::new(self.alloc);
         push_graph(&mut lines, krates.graph())?;
-        Ok(Answer::yes(lines))
+        Ok(Report::yes(lines))
     }
 
     /// What each query answers, where packages have these ids.
-    fn query_lines(&self, krates: &Krates, ids: &[PackageId]) -> Result<Answer, Refusal> {
+    fn query_lines(&self, krates: &Krates, ids: &[PackageId]) -> Result<Report, ReportError> {
         let mut lines = String::new(self.alloc);
         push_answers(self.alloc, &mut lines, krates, ids)?;
-        Ok(Answer::yes(lines))
+        Ok(Report::yes(lines))
     }
 
     /// Whether a package is certain not to be reached.
@@ -399,7 +388,7 @@ impl Reporter<'_> {
         metadata: &Metadata,
         divided: &Divided,
         spec: &str,
-    ) -> Result<Answer, Refusal> {
+    ) -> Result<Report, ReportError> {
         let package = match divided.packages().any(self.alloc, spec)? {
             Meant::Kept(found) => found.krate,
             Meant::Other(package) => package,
@@ -421,20 +410,24 @@ impl Reporter<'_> {
         metadata: &Metadata,
         facts: &[Fact],
         package: &Package,
-    ) -> Result<bool, Refusal> {
+    ) -> Result<bool, ReportError> {
         // each id of a document that is built is read, so that only memory may lack
         let Ok(kid) = Kid::try_from(package.id.clone()?) else {
-            return Err(Refusal::Memory);
+            return Err(ReportError::Memory);
         };
         let builder = Builder::under(self.alloc, self.setting()?);
         Ok(is_unreachable(metadata, &builder, facts, &kid)?)
     }
 
     /// The certificate that is asked for, as JSON.
-    fn certificate_in(&self, divided: &Divided, spec: Option<&String>) -> Result<Answer, Refusal> {
+    fn certificate_in(
+        &self,
+        divided: &Divided,
+        spec: Option<&String>,
+    ) -> Result<Report, ReportError> {
         let certificate = self.certificate_of(divided, spec)?;
         let text = pretty(self.alloc, certificate.to_value(self.alloc))?;
-        Ok(Answer::yes(text))
+        Ok(Report::yes(text))
     }
 
     /// The certificate that is asked for.
@@ -442,7 +435,7 @@ impl Reporter<'_> {
         &self,
         divided: &Divided,
         spec: Option<&String>,
-    ) -> Result<Certificate, Refusal> {
+    ) -> Result<Certificate, ReportError> {
         let setting = self.asked.choice.words(self.alloc)?;
         match self.derivation(divided, spec)? {
             Some(derivation) => Ok(Certificate::Derivation {
@@ -461,7 +454,7 @@ impl Reporter<'_> {
         &self,
         divided: &Divided,
         spec: Option<&String>,
-    ) -> Result<Option<Derivation>, Refusal> {
+    ) -> Result<Option<Derivation>, ReportError> {
         let Some(spec) = spec else {
             return Ok(None);
         };

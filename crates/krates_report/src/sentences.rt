@@ -10,7 +10,7 @@ const ROOT: u8 = 1;
 
 /// What a step says, and from what it follows.
 #[derive(Clone, Copy)]
-struct Reason<'a> {
+struct StepSentence<'a> {
     step: &'a Step,
     /// The first step that it uses.
     from: Option<&'a Step>,
@@ -25,14 +25,14 @@ fn first_used<'a>(derivation: &'a Derivation, step: &Step) -> Option<&'a Step> {
 }
 
 /// The step of a number, with what it uses first.
-fn reason_at(derivation: &Derivation, number: usize) -> Option<Reason<'_>> {
+fn sentence_at(derivation: &Derivation, number: usize) -> Option<StepSentence<'_>> {
     let step = derivation.steps.get(number)?;
     let from = first_used(derivation, step);
     let before = match from {
         Some(from) => first_used(derivation, from),
         None => None,
     };
-    Some(Reason { step, from, before })
+    Some(StepSentence { step, from, before })
 }
 
 /// The fact of a step.
@@ -52,7 +52,7 @@ fn purpose(kind: DepKind) -> &'static str {
     }
 }
 
-impl Reason<'_> {
+impl StepSentence<'_> {
     /// Adds what enables a feature.
     fn push_enabling(&self, krate: &Kid, name: &str, lines: &mut String) -> Result<(), AllocError> {
         match fact_of(self.from) {
@@ -136,8 +136,8 @@ pub(crate) fn push_sentences(
     lines: &mut String,
 ) -> Result<(), AllocError> {
     for number in 0..derivation.steps.len() {
-        if let Some(reason) = reason_at(derivation, number) {
-            reason.push(lines)?;
+        if let Some(sentence) = sentence_at(derivation, number) {
+            sentence.push(lines)?;
         }
     }
     Ok(())
@@ -149,9 +149,9 @@ pub(crate) fn push_last_reason(
     lines: &mut String,
 ) -> Result<(), AllocError> {
     let last = derivation.steps.len().saturating_sub(1);
-    match reason_at(derivation, last) {
-        Some(reason) => match &reason.step.fact {
-            Fact::Feature { krate, name } => reason.push_enabling(krate, name.as_str(), lines),
+    match sentence_at(derivation, last) {
+        Some(sentence) => match &sentence.step.fact {
+            Fact::Feature { krate, name } => sentence.push_enabling(krate, name.as_str(), lines),
             _ => Ok(()),
         },
         None => Ok(()),

@@ -1,7 +1,7 @@
 //! Trees of crates as they are shown.
 
 use crate::crate_name::ShortName;
-use crate::members::{Members, Values};
+use crate::json::{JsonObject, Values};
 use crate::shown::Shown;
 use krates::{Krates, NodeId};
 use krates_answers::links::Links;
@@ -93,7 +93,7 @@ impl<'a> Tree<'a> {
         } else {
             ""
         };
-        Members::new(alloc)
+        JsonObject::new(alloc)
             .put("depth", Ok(Value::from(line.depth as u64)))
             .text("id", id)
             .put("repeated", Ok(Value::Bool(self.is_repeated(line))))

@@ -1,8 +1,8 @@
 //! What crates are used for as it is shown.
 
 use crate::crate_name::ShortName;
+use crate::json::{JsonObject, Values};
 use crate::krate_json::krate_json;
-use crate::members::{Members, Values};
 use crate::shown::Shown;
 use krates_answers::uses::{Builds, Use, UsedKrate};
 use serde_json::Value;
@@ -10,20 +10,20 @@ use std::alloc::{AllocError, Global};
 
 /// The kept crates, each with what it is used for.
 #[derive(Drop)]
-pub struct Uses<'a> {
+pub struct UsedKrates<'a> {
     /// The crates, by number.
     pub used: Vec<UsedKrate<'a>>,
 }
 
-impl<'a> Uses<'a> {
+impl<'a> UsedKrates<'a> {
     /// Those by these builds.
-    pub(crate) fn of(alloc: Global, builds: &'a Builds) -> Result<Uses<'a>, AllocError> {
+    pub(crate) fn of(alloc: Global, builds: &'a Builds) -> Result<UsedKrates<'a>, AllocError> {
         let used = builds.uses(alloc)?;
-        Ok(Uses { used })
+        Ok(UsedKrates { used })
     }
 }
 
-impl Uses<'_> {
+impl UsedKrates<'_> {
     /// How many are used for this.
     fn count(&self, usage: Use) -> usize {
         self.used.iter().filter(|used| used.usage == usage).count()
@@ -52,7 +52,7 @@ impl Uses<'_> {
     }
 }
 
-impl Shown for Uses<'_> {
+impl Shown for UsedKrates<'_> {
     /// `shipped`, `build only` and `dev only`, each with the number of its crates, and below it the crates.
     fn text(&self, alloc: Global) -> Result<String, AllocError> {
         let mut lines = String::new(alloc);
@@ -64,7 +64,7 @@ impl Shown for Uses<'_> {
 
     /// An object with the crates of `shipped`, `build` and `dev`.
     fn json(&self, alloc: Global) -> Result<Value, AllocError> {
-        Members::new(alloc)
+        JsonObject::new(alloc)
             .put("shipped", self.json_of(alloc, Use::Shipped))
             .put("build", self.json_of(alloc, Use::Build))
             .put("dev", self.json_of(alloc, Use::Dev))

@@ -1,7 +1,7 @@
 //! Why a crate is kept, and why its features are enabled.
 
 use crate::crate_name::ShortName;
-use crate::members::{Members, Values, string};
+use crate::json::{JsonObject, Values, string};
 use crate::sentences::{push_last_reason, push_sentences};
 use crate::shown::Shown;
 use krates::derive::{Derivation, Step};
@@ -31,7 +31,7 @@ fn uses_json(alloc: Global, uses: &[usize]) -> Result<Value, AllocError> {
 
 /// What JSON says of a step.
 fn step_json(alloc: Global, step: &Step) -> Result<Value, AllocError> {
-    Members::new(alloc)
+    JsonObject::new(alloc)
         .put("rule", Ok(Value::from(step.rule as u64)))
         .put("fact", string(format!(in alloc; "{}", step.fact)))
         .put("uses", uses_json(alloc, &step.uses))
@@ -60,7 +60,7 @@ impl Shown for Why<'_> {
 
     /// `id` and `steps`, each with `rule`, `fact` and `uses`.
     fn json(&self, alloc: Global) -> Result<Value, AllocError> {
-        Members::new(alloc)
+        JsonObject::new(alloc)
             .text("id", self.krate.id.repr.as_str())
             .put("steps", steps_json(alloc, &self.derivation.steps))
             .object()
@@ -69,7 +69,7 @@ impl Shown for Why<'_> {
 
 /// An enabled feature, and why it is.
 #[derive(Drop)]
-pub struct EnabledFeature<'a> {
+pub struct ExplainedFeature<'a> {
     /// Its name.
     pub name: &'a str,
     /// One reason.
@@ -78,11 +78,11 @@ pub struct EnabledFeature<'a> {
 
 /// The enabled features of a crate.
 #[derive(Drop)]
-pub struct Features<'a> {
+pub struct ExplainedFeatures<'a> {
     /// The crate.
     pub krate: &'a Package,
     /// Its enabled features, by name.
-    pub features: Vec<EnabledFeature<'a>>,
+    pub features: Vec<ExplainedFeature<'a>>,
 }
 
 /// Adds the feature that a node is, where it is one of this crate.
@@ -91,7 +91,7 @@ fn push_feature<'a>(
     krates: &'a Krates,
     krate: NodeId,
     node: NodeId,
-    features: &mut Vec<EnabledFeature<'a>>,
+    features: &mut Vec<ExplainedFeature<'a>>,
 ) -> Result<(), AllocError> {
     match krates.graph().raw_nodes().get(node.index()) {
         Some(Node::Feature { krate_index, name }) if krate_index.index() == krate.index() => {
@@ -99,7 +99,7 @@ fn push_feature<'a>(
             if let Some(derivation) = krates.why(node)? {
                 push_last_reason(&derivation, &mut reason)?;
             }
-            features.push(EnabledFeature {
+            features.push(ExplainedFeature {
                 name: name.as_str(),
                 reason,
             })?;
@@ -109,20 +109,20 @@ fn push_feature<'a>(
     }
 }
 
-impl<'a> Features<'a> {
+impl<'a> ExplainedFeatures<'a> {
     /// The enabled features of a crate, each with one reason. The only refusal is running out of memory. Time O(n + f s) for n nodes, f
     /// features of the crate and s steps of the build.
     pub fn of(
         alloc: Global,
         krates: &'a Krates,
         found: KrateMatch<'a, Package>,
-    ) -> Result<Features<'a>, AllocError> {
+    ) -> Result<ExplainedFeatures<'a>, AllocError> {
         let mut features = Vec::new(alloc);
         for number in krates.len()..krates.graph().node_count() {
             let node = NodeId::new(number as u32);
             push_feature(alloc, krates, found.node_id, node, &mut features)?;
         }
-        Ok(Features {
+        Ok(ExplainedFeatures {
             krate: found.krate,
             features,
         })
@@ -130,15 +130,15 @@ impl<'a> Features<'a> {
 }
 
 /// What JSON says of a feature.
-fn feature_json(alloc: Global, feature: &EnabledFeature<'_>) -> Result<Value, AllocError> {
-    Members::new(alloc)
+fn feature_json(alloc: Global, feature: &ExplainedFeature<'_>) -> Result<Value, AllocError> {
+    JsonObject::new(alloc)
         .text("name", feature.name)
         .text("reason", feature.reason.as_str())
         .object()
 }
 
 /// That of each of these.
-fn features_json(alloc: Global, features: &[EnabledFeature<'_>]) -> Result<Value, AllocError> {
+fn features_json(alloc: Global, features: &[ExplainedFeature<'_>]) -> Result<Value, AllocError> {
     let mut values = Values::new(alloc);
     for feature in features {
         values.add(feature_json(alloc, feature));
@@ -146,7 +146,7 @@ fn features_json(alloc: Global, features: &[EnabledFeature<'_>]) -> Result<Value
     values.list()
 }
 
-impl Shown for Features<'_> {
+impl Shown for ExplainedFeatures<'_> {
     /// The crate, and below it a line for each feature: its name, and why it is enabled.
     fn text(&self, alloc: Global) -> Result<String, AllocError> {
         let mut lines = format!(in alloc; "{}\n", ShortName(self.krate))?;
@@ -158,7 +158,7 @@ impl Shown for Features<'_> {
 
     /// `id` and `features`, each with `name` and `reason`.
     fn json(&self, alloc: Global) -> Result<Value, AllocError> {
-        Members::new(alloc)
+        JsonObject::new(alloc)
             .text("id", self.krate.id.repr.as_str())
             .put("features", features_json(alloc, &self.features))
             .object()

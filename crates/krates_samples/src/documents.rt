@@ -186,7 +186,7 @@ fn first_kind(word: &str) -> &'static str {
     "null"
 }
 
-/// Writes what every declared dependency has, up to the list of its features.
+/// Writes what every declared dependency has, up to the first of its features.
 fn push_declared(json: &mut String, word: &str) -> Result<(), AllocError> {
     let comma = comma(json.as_str());
     let (name, _) = named(word);
@@ -194,7 +194,7 @@ fn push_declared(json: &mut String, word: &str) -> Result<(), AllocError> {
     let (optional, defaults) = (is_marked(word, '?'), is_marked(word, '!'));
     write!(
         json,
-        "{comma}{{\"name\":{name:?},\"req\":\"*\",\"kind\":{kind},\"optional\":{optional},\"uses_default_features\":{defaults},\"features\":"
+        "{comma}{{\"name\":{name:?},\"req\":\"*\",\"kind\":{kind},\"optional\":{optional},\"uses_default_features\":{defaults},\"features\":["
     )
 }
 
@@ -209,7 +209,6 @@ fn push_options(json: &mut String, word: &str) -> Result<(), AllocError> {
 /// Writes a declared dependency.
 fn push_declaration(json: &mut String, word: &str) -> Result<(), AllocError> {
     push_declared(json, word)?;
-    json.push('[')?;
     push_texts(json, option_of(word, "with=").unwrap_or(""))?;
     json.push(']')?;
     push_options(json, word)?;
@@ -270,34 +269,44 @@ fn push_manifest_feature(json: &mut String, word: &str) -> Result<(), AllocError
     json.push(']')
 }
 
-/// Writes the features of a manifest.
-fn push_manifest_features(json: &mut String, features: &str) -> Result<(), AllocError> {
-    for word in features.split_whitespace() {
-        push_manifest_feature(json, word)?;
-    }
-    Ok(())
+/// Writes a member of the workspace.
+fn push_workspace_member(json: &mut String, word: &str) -> Result<(), AllocError> {
+    let comma = comma(json.as_str());
+    json.push_str(comma)?;
+    push_quoted_id(json, word)
 }
 
-/// Writes the names of features, of a manifest or of a node.
-fn push_feature_names(json: &mut String, features: &str) -> Result<(), AllocError> {
-    for word in features.split_whitespace() {
-        push_text(json, feature_of(word).0)?;
-    }
-    Ok(())
+/// What words are written as.
+#[derive(Clone, Copy)]
+enum Item {
+    /// The declared dependencies of a package.
+    Declaration,
+    /// The dependencies of a node.
+    Dependency,
+    /// The features of a manifest.
+    Feature,
+    /// The names of features, of a manifest or of a node.
+    FeatureName,
+    /// The members of the workspace.
+    Member,
 }
 
-/// Writes the declared dependencies of these words.
-fn push_declarations(json: &mut String, words: &str) -> Result<(), AllocError> {
+/// Writes a word as this.
+fn push_item(json: &mut String, item: Item, word: &str) -> Result<(), AllocError> {
+    match item {
+        Item::Declaration => push_declaration(json, word),
+        Item::Dependency => push_dependency(json, word),
+        Item::Feature => push_manifest_feature(json, word),
+        Item::FeatureName => push_text(json, feature_of(word).0),
+        Item::Member => push_workspace_member(json, word),
+    }
+}
+
+/// Writes how a list begins, and each word as this.
+fn push_items(json: &mut String, begin: &str, item: Item, words: &str) -> Result<(), AllocError> {
+    json.push_str(begin)?;
     for word in words.split_whitespace() {
-        push_declaration(json, word)?;
-    }
-    Ok(())
-}
-
-/// Writes the dependencies of a node of these words.
-fn push_dependencies(json: &mut String, words: &str) -> Result<(), AllocError> {
-    for word in words.split_whitespace() {
-        push_dependency(json, word)?;
+        push_item(json, item, word)?;
     }
     Ok(())
 }
@@ -322,15 +331,15 @@ fn push_named(json: &mut String, word: &str) -> Result<(), AllocError> {
     write!(json, ",\"manifest_path\":\"/w/{name}/Cargo.toml\"")
 }
 
-/// Writes the library of a package, where its word has one.
-fn push_library(json: &mut String, word: &str) -> Result<(), AllocError> {
-    let Some(library) = option_of(word, "lib=") else {
-        return Ok(());
-    };
-    write!(
-        json,
-        "{{\"name\":{library:?},\"kind\":[\"lib\"],\"src_path\":\"lib.rs\"}}"
-    )
+/// Writes the end of the features, and the targets of a package: its library, where its word has one.
+fn push_targets(json: &mut String, word: &str) -> Result<(), AllocError> {
+    match option_of(word, "lib=") {
+        Some(library) => write!(
+            json,
+            "}},\"targets\":[{{\"name\":{library:?},\"kind\":[\"lib\"],\"src_path\":\"lib.rs\"}}]"
+        ),
+        None => json.push_str("},\"targets\":[]"),
+    }
 }
 
 /// The source of the package of a word.
@@ -343,13 +352,9 @@ fn source_of(word: &str) -> Option<&'static str> {
 fn push_package(json: &mut String, item: &str) -> Result<(), AllocError> {
     let (word, needs, features) = parts_of(item);
     push_named(json, word)?;
-    json.push_str(",\"dependencies\":[")?;
-    push_declarations(json, needs)?;
-    json.push_str("],\"features\":{")?;
-    push_manifest_features(json, features)?;
-    json.push_str("},\"targets\":[")?;
-    push_library(json, word)?;
-    json.push(']')?;
+    push_items(json, ",\"dependencies\":[", Item::Declaration, needs)?;
+    push_items(json, "],\"features\":{", Item::Feature, features)?;
+    push_targets(json, word)?;
     push_member(json, "source", source_of(word))?;
     json.push('}')
 }
@@ -360,10 +365,9 @@ fn push_node(json: &mut String, item: &str) -> Result<(), AllocError> {
     let (word, needs, features) = parts_of(item);
     write!(json, "{comma}{{\"id\":")?;
     push_quoted_id(json, word)?;
-    json.push_str(",\"dependencies\":[\"x\"],\"features\":[")?;
-    push_feature_names(json, features)?;
-    json.push_str("],\"deps\":[")?;
-    push_dependencies(json, needs)?;
+    let begin = ",\"dependencies\":[\"x\"],\"features\":[";
+    push_items(json, begin, Item::FeatureName, features)?;
+    push_items(json, "],\"deps\":[", Item::Dependency, needs)?;
     json.push_str("]}")
 }
 
@@ -387,21 +391,6 @@ fn push_nodes(json: &mut String, nodes: &str) -> Result<(), AllocError> {
     Ok(())
 }
 
-/// Writes a member of the workspace.
-fn push_workspace_member(json: &mut String, word: &str) -> Result<(), AllocError> {
-    let comma = comma(json.as_str());
-    json.push_str(comma)?;
-    push_quoted_id(json, word)
-}
-
-/// Writes the members of the workspace.
-fn push_workspace_members(json: &mut String, words: &str) -> Result<(), AllocError> {
-    for word in words.split_whitespace() {
-        push_workspace_member(json, word)?;
-    }
-    Ok(())
-}
-
 /// Writes the id of the root, or null where there is none.
 fn push_root(json: &mut String, line: &str) -> Result<(), AllocError> {
     match section(line, "root ") {
@@ -410,21 +399,21 @@ fn push_root(json: &mut String, line: &str) -> Result<(), AllocError> {
     }
 }
 
-/// Writes the resolved graph of these nodes.
+/// Writes the end of the list of members, and the resolved graph of these nodes.
 fn push_resolved(json: &mut String, line: &str, nodes: &str) -> Result<(), AllocError> {
-    json.push_str(",\"resolve\":{\"nodes\":[")?;
+    json.push_str("],\"resolve\":{\"nodes\":[")?;
     push_nodes(json, nodes)?;
     json.push_str("],\"root\":")?;
     push_root(json, line)?;
     json.push('}')
 }
 
-/// Writes the resolved graph, or null in its place, or neither.
+/// Writes the end of the list of members, and behind it the resolved graph, or null in its place, or neither.
 fn push_graph(json: &mut String, line: &str, packages: &str) -> Result<(), AllocError> {
     if section(line, "null graph").is_some() {
-        json.push_str(",\"resolve\":null")
+        json.push_str("],\"resolve\":null")
     } else if section(line, "no graph").is_some() {
-        Ok(())
+        json.push(']')
     } else {
         push_resolved(json, line, section(line, "nodes").unwrap_or(packages))
     }
@@ -437,9 +426,8 @@ fn push_document(json: &mut String, line: &str) -> Result<(), AllocError> {
         "{\"workspace_root\":\"/w\",\"target_directory\":\"/t\",\"workspace_default_members\":[\"x\"],\"packages\":[",
     )?;
     push_packages(json, packages)?;
-    json.push_str("],\"workspace_members\":[")?;
-    push_workspace_members(json, section(line, "members").unwrap_or("a"))?;
-    json.push(']')?;
+    let members = section(line, "members").unwrap_or("a");
+    push_items(json, "],\"workspace_members\":[", Item::Member, members)?;
     push_graph(json, line, packages)?;
     json.push('}')
 }

@@ -1,10 +1,11 @@
 //! The small languages of documents, settings and facts in which worked examples are written, the tables that one function walks, a
-//! document that is large, and calls with little memory.
+//! document that is large, calls with little memory, and what stands in for cargo.
 #![tactic(auto)]
 
 pub mod documents;
 pub mod facts;
 pub mod large;
 pub mod settings;
+pub mod stand_in;
 pub mod starving;
 pub mod table;

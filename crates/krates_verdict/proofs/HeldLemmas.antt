@@ -3,10 +3,10 @@ use Rattle.std.proofs.Common.{◌≡◌, List, [], ◌∷◌, map, refl, sym, ap
 use Rattle.std.proofs.lemmas.Option.{none-some, same_Some}
 use Rattle.serde_json.specs.Data.{Data}
 use Rattle.krates_cm.specs.Document.{Text}
-use Rattle.krates_certificate.specs.Refusals.{Fault}
-use Rattle.krates_certificate.specs.RoundTrip.{NeverBoth, ReadsOnce as CertificateOnce}
-use Rattle.krates_certificate.specs.Tables.{CertificateFault, IsCertificate, IsCertificateText, TextFault, in_data, no_data}
-use Rattle.krates_certificate.specs.Told.{ToldCertificate, certificate_told, fact_told, said_fact, said_step, step_told, told_closed, told_derivation}
+use Rattle.krates_certificate.specs.CertificateRefusals.{Fault}
+use Rattle.krates_certificate.specs.CertificateRoundTrip.{NeverBoth, ReadsOnce as CertificateOnce}
+use Rattle.krates_certificate.specs.CertificateTables.{CertificateFault, IsCertificate, IsCertificateText, TextFault, in_data, no_data}
+use Rattle.krates_certificate.specs.CertificateViews.{ToldCertificate, certificate_told, fact_told, said_fact, said_step, step_told, told_closed, told_derivation}
 use Rattle.krates_certificate.specs.declared.certificate.Certificate.{Certificate}
 use Rattle.krates_certificate.specs.declared.certificate.Certificate.TheVariants as certificates
 use Rattle.krates_checkers.specs.CheckRefusals.{IsCheckRefused, IsClosedRefused}
@@ -23,8 +23,8 @@ use Rattle.krates_rules.specs.declared.derivation.Fact.{Fact}
 use Rattle.krates_rules.specs.declared.derivation.Fact.TheVariants as facts
 use Rattle.krates_rules.specs.declared.derivation.Step.{Step}
 use Rattle.krates_verdict.specs.Holding.{IsAccepted, words_of}
-use Rattle.krates_verdict.specs.Refusals.{IsCheckedNot}
-use Rattle.krates_verdict.specs.Running.{IsOutside, IsRefusalOf, IsVerdictOf}
+use Rattle.krates_verdict.specs.VerdictRefusals.{IsCheckedNot}
+use Rattle.krates_verdict.specs.VerdictRunning.{IsOutside, IsRefusalOf, IsVerdictOf}
 use Rattle.krates_verdict.specs.Subject.{SubjectModel}
 use Rattle.krates_verdict.specs.declared.refusal.Refusal.{Refusal}
 use Rattle.krates_verdict.specs.declared.refusal.Refusal.TheVariants as refusals

@@ -6,7 +6,7 @@ use Rattle.krates_checkers.specs.CheckedDocument.{HoldsOfChecked}
 use Rattle.krates_checkers.specs.declared.check_error.CheckError.{CheckError}
 use Rattle.krates_checkers.specs.declared.check_error.CheckError.TheVariants as causes
 use Rattle.krates_verdict.specs.RefusalText.{CheckErrorBecomes}
-use Rattle.krates_verdict.specs.Refusals.{IsObjection}
+use Rattle.krates_verdict.specs.VerdictRefusals.{IsObjection}
 use Rattle.krates_verdict.specs.declared.refusal.Refusal.{Refusal}
 use Rattle.krates_verdict.specs.declared.refusal.Refusal.TheVariants as refusals
 

@@ -1,14 +1,14 @@
 -- What is known of bytes, and of what was read, where there is no verdict.
 use Rattle.std.proofs.Common.{◌≡◌, ◌⊎◌, IfErr, IfSome, IsUtf8, None, [], Option, Result, Some, Ok, Err, inl, inr, refl, subst, sym}
 use Rattle.krates_cm.specs.Document.{Text}
-use Rattle.krates_certificate.specs.Refusals.{IsMemory, fault_of}
-use Rattle.krates_certificate.specs.Tables.{IsCertificateText, TextFault}
-use Rattle.krates_certificate.specs.Told.{certificate_told}
+use Rattle.krates_certificate.specs.CertificateRefusals.{IsMemory, fault_of}
+use Rattle.krates_certificate.specs.CertificateTables.{IsCertificateText, TextFault}
+use Rattle.krates_certificate.specs.CertificateViews.{certificate_told}
 use Rattle.krates_certificate.specs.declared.certificate.Certificate.{Certificate}
 use Rattle.krates_certificate.specs.declared.certificate_error.CertificateError.{CertificateError}
 use Rattle.krates_verdict.specs.RefusalText.{CertificateErrorBecomes}
-use Rattle.krates_verdict.specs.Refusals.{IsOfReader, JudgeRefusal}
-use Rattle.krates_verdict.specs.Running.{IsRefusalOf, IsUnheld, RunRefusal}
+use Rattle.krates_verdict.specs.VerdictRefusals.{IsOfReader, JudgeRefusal}
+use Rattle.krates_verdict.specs.VerdictRunning.{IsRefusalOf, IsUnheld, RunRefusal}
 use Rattle.krates_verdict.specs.Subject.{SubjectModel}
 use Rattle.krates_verdict.specs.declared.refusal.Refusal.{Refusal}
 use Rattle.krates_verdict.specs.declared.refusal.Refusal.TheVariants as refusals

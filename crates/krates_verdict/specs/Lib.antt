@@ -1,8 +1,8 @@
 pub mod CratesOfFacts
 pub mod Holding
 pub mod RefusalText
-pub mod Refusals
-pub mod Running
 pub mod Subject
 pub mod Truth
+pub mod VerdictRefusals
+pub mod VerdictRunning
 pub mod VerdictText

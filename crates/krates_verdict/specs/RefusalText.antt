@@ -2,7 +2,7 @@
 use Rattle.std.specs.Prelude.{◌≡◌, List, [], ◌∷◌, ◌++◌, Option, Some, None, codes}
 use Rattle.std.specs.Fmt.{decimal, option_append}
 use Rattle.krates_cm.specs.Document.{Text, texts_view}
-use Rattle.krates_certificate.specs.Refusals.{IsMemory, fault_of}
+use Rattle.krates_certificate.specs.CertificateRefusals.{IsMemory, fault_of}
 use Rattle.krates_certificate.specs.contracts.certificate_error.CertificateErrorDisplay.TheImpl.{ghosts as certificate_display}
 use Rattle.krates_certificate.specs.declared.certificate_error.CertificateError.{CertificateError}
 use Rattle.krates_checkers.specs.declared.check_error.CheckError.{CheckError}

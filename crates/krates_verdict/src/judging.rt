@@ -2,13 +2,13 @@
 
 ghost use Rattle.std.specs.Prelude.{IfErr, IfOk, IfSome, OnOk, ◌≡◌};
 ghost use Rattle.std.specs.Io.KnownBytes.{IsAtEnd};
-ghost use Rattle.krates_verdict.specs.Refusals.{IsOfReader};
-ghost use Rattle.krates_verdict.specs.Running.{Leaves};
-ghost use Rattle.krates_verdict.specs.Running.{RunRefusal, WritesVerdict};
+ghost use Rattle.krates_verdict.specs.VerdictRefusals.{IsOfReader};
+ghost use Rattle.krates_verdict.specs.VerdictRunning.{Leaves};
+ghost use Rattle.krates_verdict.specs.VerdictRunning.{RunRefusal, WritesVerdict};
 ghost use Rattle.krates_verdict.specs.Subject.{subject_view};
 
 use crate::refusal::Refusal;
-use crate::subject::Subject;
+use crate::subject::CertificateSubject;
 use std::alloc::Global;
 use std::io::{Read, Write};
 
@@ -19,14 +19,14 @@ use std::io::{Read, Write};
 /// the reader, of what was read, or of the writer. It may instead return `Memory`. The whole line is made before its first byte is
 /// written, so after each refusal but `Write` nothing was written.
 ///
-/// Time: O(n) for n bytes, and that of `Subject::judge_bytes`.
+/// Time: O(n) for n bytes, and that of `CertificateSubject::judge_bytes`.
 ///
 /// ```text
 /// run(rt.alloc(), &subject, &mut stdin(&rt), &mut stdout(&rt))?;
 /// ```
 pub fn run<R: Read, W: Write>(
     alloc: Global,
-    subject: &Subject<'_>,
+    subject: &CertificateSubject<'_>,
     input: &mut R,
     output: &mut W,
 ) -> Result<(), Refusal>

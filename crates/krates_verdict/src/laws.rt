@@ -9,7 +9,7 @@ ghost use Rattle.krates_rules.specs.Resolved.{id_of};
 ghost use Rattle.krates_rules.specs.StepViews.{fact_view};
 ghost use Rattle.krates_rules.specs.declared.derivation.Fact.{Fact};
 ghost use Rattle.krates_verdict.specs.Holding.{Holds};
-ghost use Rattle.krates_verdict.specs.Running.{IsOutside, IsRefusalOf, IsVerdictOf};
+ghost use Rattle.krates_verdict.specs.VerdictRunning.{IsOutside, IsRefusalOf, IsVerdictOf};
 ghost use Rattle.krates_verdict.specs.Subject.{SubjectModel};
 ghost use Rattle.krates_verdict.specs.Truth.{AreAllReachable, IsDerivable};
 ghost use Rattle.krates_verdict.specs.declared.refusal.Refusal.{Refusal};

@@ -11,5 +11,5 @@ pub mod verdict;
 
 pub use judging::run;
 pub use refusal::Refusal;
-pub use subject::Subject;
+pub use subject::CertificateSubject;
 pub use verdict::Verdict;

@@ -4,7 +4,7 @@ ghost use Rattle.std.specs.Prelude.{◌≡◌, Some, map};
 ghost use Rattle.krates_cm.specs.Document.{text_view};
 ghost use Rattle.krates_verdict.specs.RefusalText.{CertificateErrorBecomes, CheckErrorBecomes};
 ghost use Rattle.krates_verdict.specs.RefusalText.{check_text, refusal_text, words_text};
-ghost use Rattle.krates_verdict.specs.Refusals.{IsOfReader};
+ghost use Rattle.krates_verdict.specs.VerdictRefusals.{IsOfReader};
 ghost use Rattle.krates_verdict.specs.declared.refusal.Refusal.TheVariants.{Memory};
 
 use krates_certificate::CertificateError;

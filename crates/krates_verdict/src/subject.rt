@@ -7,8 +7,8 @@ ghost use Rattle.krates_checkers.specs.declared.check_error.CheckError.TheVarian
 ghost use Rattle.krates_rules.specs.Checks.{IsAcceptedFor, IsClosedFor};
 ghost use Rattle.krates_rules.specs.StepViews.{facts_view, steps_view};
 ghost use Rattle.krates_verdict.specs.Holding.{Holds, StepsSay};
-ghost use Rattle.krates_verdict.specs.Refusals.{IsObjection, IsOtherSetting, JudgeRefusal};
-ghost use Rattle.krates_verdict.specs.Running.{IsUnheld, IsVerdictOf};
+ghost use Rattle.krates_verdict.specs.VerdictRefusals.{IsObjection, IsOtherSetting, JudgeRefusal};
+ghost use Rattle.krates_verdict.specs.VerdictRunning.{IsUnheld, IsVerdictOf};
 ghost use Rattle.krates_verdict.specs.Subject.{subject_view};
 ghost use Rattle.krates_verdict.specs.declared.refusal.Refusal.TheVariants as refusals;
 
@@ -25,7 +25,7 @@ use std::str;
 
 /// What a certificate is judged against: a document, a setting, and the words that mean this setting, as a command line has them.
 #[derive(Clone, Copy)]
-pub struct Subject<'a> {
+pub struct CertificateSubject<'a> {
     /// The document.
     pub metadata: &'a Metadata,
     /// The setting.
@@ -34,7 +34,7 @@ pub struct Subject<'a> {
     pub words: &'a [String],
 }
 
-impl Subject<'_> {
+impl CertificateSubject<'_> {
     /// Judges a certificate: it was made under the words of the subject's setting, and the checkers accept its steps or its facts
     /// for the document and the setting. Then it says what its last step says, or how many crates its facts name.
     ///

@@ -1,10 +1,10 @@
 //! Facts, by the names of their forms.
 
 ghost use Rattle.std.specs.Prelude.{codes};
-ghost use Rattle.krates_certificate.specs.Fields.{NameField};
-ghost use Rattle.krates_certificate.specs.Refusals.{Gives};
-ghost use Rattle.krates_certificate.specs.Tables.{IsFact, FactFault};
-ghost use Rattle.krates_certificate.specs.Told.{fact_told};
+ghost use Rattle.krates_certificate.specs.CertificateFields.{NameField};
+ghost use Rattle.krates_certificate.specs.CertificateRefusals.{Gives};
+ghost use Rattle.krates_certificate.specs.CertificateTables.{IsFact, FactFault};
+ghost use Rattle.krates_certificate.specs.CertificateViews.{fact_told};
 
 use crate::certificate_error::CertificateError;
 use crate::read::fields::{field, id, kind};

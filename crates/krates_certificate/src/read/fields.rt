@@ -2,12 +2,12 @@
 
 ghost use Rattle.std.specs.Prelude.{◌↔◌, IsTrue, codes, map};
 ghost use Rattle.krates_cm_json.specs.Objects.{ListWritten};
-ghost use Rattle.krates_certificate.specs.Fields.{Field, IdField, NameField, RuleField, PartField, ListField, FieldFault, IdFault, NameFault, RuleFault, PartFault, ListFault, ItemsFault};
-ghost use Rattle.krates_certificate.specs.Refusals.{Gives, IsOfMemory};
-ghost use Rattle.krates_certificate.specs.Told.{kind_name};
+ghost use Rattle.krates_certificate.specs.CertificateFields.{Field, IdField, NameField, RuleField, PartField, ListField, FieldFault, IdFault, NameFault, RuleFault, PartFault, ListFault, ItemsFault};
+ghost use Rattle.krates_certificate.specs.CertificateRefusals.{Gives, IsOfMemory};
+ghost use Rattle.krates_certificate.specs.CertificateViews.{kind_name};
 
 use crate::certificate_error::CertificateError;
-use crate::part::Part;
+use crate::part::CertificatePart;
 use krates_cm::{PackageId, ReadError};
 use krates_cm_json::{FromValue, JsonRef};
 use krates_ids::{IdError, Kid};
@@ -84,7 +84,7 @@ pub(crate) fn rule<J: JsonRef>(alloc: Global, object: J) -> Result<u8, Certifica
 }
 
 /// Reads a part that stands under a key.
-pub(crate) fn part<T: Part, J: JsonRef>(
+pub(crate) fn part<T: CertificatePart, J: JsonRef>(
     alloc: Global,
     object: J,
     key: &'static str,
@@ -99,7 +99,7 @@ pub(crate) fn part<T: Part, J: JsonRef>(
 }
 
 /// Reads a list of parts that stands under a key.
-pub(crate) fn list<T: Part, J: JsonRef>(
+pub(crate) fn list<T: CertificatePart, J: JsonRef>(
     alloc: Global,
     object: J,
     key: &'static str,
@@ -114,7 +114,7 @@ pub(crate) fn list<T: Part, J: JsonRef>(
 }
 
 /// Reads the items of an array.
-fn items<T: Part, J: JsonRef>(
+fn items<T: CertificatePart, J: JsonRef>(
     alloc: Global,
     value: J,
     key: &'static str,

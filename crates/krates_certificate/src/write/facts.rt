@@ -2,7 +2,7 @@
 
 ghost use Rattle.std.specs.Prelude.{IfOk, option_map, string_bytes};
 ghost use Rattle.serde_json.specs.View.{view as data_of};
-ghost use Rattle.krates_certificate.specs.Told.{told_crate, told_feature, told_kept, told_toggled};
+ghost use Rattle.krates_certificate.specs.CertificateViews.{told_crate, told_feature, told_kept, told_toggled};
 ghost use Rattle.krates_certificate.specs.Written.{FactWritten};
 
 use crate::write::names::kind_name;

@@ -2,7 +2,7 @@
 
 ghost use Rattle.std.specs.Prelude.{◌≡◌, ◌↔◌, IsTrue, IfOk, string_bytes};
 ghost use Rattle.krates_rules.specs.Resolved.{id_of, ReadsAs};
-ghost use Rattle.krates_certificate.specs.Refusals.{IsOfMemory};
+ghost use Rattle.krates_certificate.specs.CertificateRefusals.{IsOfMemory};
 ghost use Rattle.krates_certificate.specs.Written.{parts_text, IsTextFor};
 
 use crate::read::fields::is_of_memory;

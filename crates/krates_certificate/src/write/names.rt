@@ -1,7 +1,7 @@
 //! The names that are written.
 
 ghost use Rattle.std.specs.Prelude.{◌≡◌};
-ghost use Rattle.krates_certificate.specs.Told.{kind_name};
+ghost use Rattle.krates_certificate.specs.CertificateViews.{kind_name};
 
 use krates_rules::DepKind;
 

@@ -1,4 +1,4 @@
-use Rattle.krates_certificate.specs.Refusals.{IsMemory, fault_of}
+use Rattle.krates_certificate.specs.CertificateRefusals.{IsMemory, fault_of}
 use Rattle.krates_certificate.proofs.IdLemmas.{told_false}
 use Rattle.krates_certificate.proofs.TextLemmas.{none_read}
 use Rattle.krates_certificate.proofs.certificate.certificate_of.Goals as goal

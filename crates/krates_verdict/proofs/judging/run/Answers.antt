@@ -1,7 +1,7 @@
 use Rattle.std.proofs.Common.{subst}
 use Rattle.std.proofs.lemmas.Result.{err_from_is_err_and}
 use Rattle.krates_cm.specs.Document.{Text}
-use Rattle.krates_verdict.specs.Running.{IsUnheld}
+use Rattle.krates_verdict.specs.VerdictRunning.{IsUnheld}
 use Rattle.krates_verdict.specs.Subject.{subject_view}
 use Rattle.krates_verdict.proofs.RunLemmas.{run_refused, run_unread}
 use Rattle.krates_verdict.proofs.judging.run.Goals as goal

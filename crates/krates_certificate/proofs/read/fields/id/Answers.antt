@@ -1,6 +1,6 @@
 use Rattle.std.proofs.Common.{inr, refl}
 use Rattle.krates_cm.specs.Document.{id_view}
-use Rattle.krates_certificate.specs.Refusals.{IsOfMemory}
+use Rattle.krates_certificate.specs.CertificateRefusals.{IsOfMemory}
 use Rattle.krates_certificate.proofs.IdLemmas.{unread, told_false}
 use Rattle.krates_certificate.proofs.read.fields.id.Goals as goal
 

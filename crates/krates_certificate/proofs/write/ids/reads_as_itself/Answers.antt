@@ -1,7 +1,7 @@
 use Rattle.std.proofs.Common.{◌≡◌, string_bytes, rules, subst, sym}
 use Rattle.krates_cm.specs.Document.{Text}
 use Rattle.krates_ids.specs.Identity.{Reads}
-use Rattle.krates_certificate.specs.Refusals.{IsOfMemory}
+use Rattle.krates_certificate.specs.CertificateRefusals.{IsOfMemory}
 use Rattle.krates_certificate.proofs.IdLemmas.{unread, told_false, never_true, same_read}
 use Rattle.krates_certificate.proofs.write.ids.reads_as_itself.Goals as goal
 

@@ -5,8 +5,8 @@ use Rattle.serde_json.specs.Data.{Data}
 use Rattle.krates_cm.specs.Document.{Text}
 use Rattle.krates_cm_json.specs.Objects.{Writer}
 use Rattle.krates_ids.specs.Identity.{Identity, Reads}
-use Rattle.krates_certificate.specs.Refusals.{Fault}
-use Rattle.krates_certificate.specs.Told.{ToldFact, told_crate, told_feature, told_kept, told_toggled, ToldStep, ToldCertificate, told_derivation, told_closed, said_fact, said_step}
+use Rattle.krates_certificate.specs.CertificateRefusals.{Fault}
+use Rattle.krates_certificate.specs.CertificateViews.{ToldFact, told_crate, told_feature, told_kept, told_toggled, ToldStep, ToldCertificate, told_derivation, told_closed, said_fact, said_step}
 
 -- ---- what can be written: parts whose ids were read of some text, and whose rules have numbers of a byte
 

@@ -4,7 +4,7 @@ use Rattle.krates_checkers.specs.CheckRefusals.{IsCheckRefused}
 use Rattle.krates_rules.specs.Checks.{IsAcceptedFor}
 use Rattle.krates_rules.specs.StepViews.{steps_view}
 use Rattle.krates_verdict.proofs.JudgeLemmas.{as_given, objects}
-use Rattle.krates_verdict.proofs.subject.Subject.expect_steps.Goals as goal
+use Rattle.krates_verdict.proofs.subject.CertificateSubject.expect_steps.Goals as goal
 
 pub returns-clause-accepted : goal.returns-clause-accepted
 returns-clause-accepted c =

@@ -4,9 +4,9 @@ use Rattle.serde_json.specs.Data.{Data}
 use Rattle.serde_json.specs.Read as json
 use Rattle.krates_cm.specs.Document.{Text}
 use Rattle.krates_cm_json.specs.Reading.{text, whole, list, nullable}
-use Rattle.krates_certificate.specs.Fields.{Field, IdField, NameField, RuleField, PartField, ListField, FieldFault, IdFault, NameFault, RuleFault, PartFault, ListFault}
-use Rattle.krates_certificate.specs.Refusals.{Fault, not_json}
-use Rattle.krates_certificate.specs.Told.{ToldFact, told_crate, told_feature, told_kept, told_toggled, ToldStep, ToldCertificate, told_derivation, told_closed, fact_name, kind_name, certificate_name}
+use Rattle.krates_certificate.specs.CertificateFields.{Field, IdField, NameField, RuleField, PartField, ListField, FieldFault, IdFault, NameFault, RuleFault, PartFault, ListFault}
+use Rattle.krates_certificate.specs.CertificateRefusals.{Fault, not_json}
+use Rattle.krates_certificate.specs.CertificateViews.{ToldFact, told_crate, told_feature, told_kept, told_toggled, ToldStep, ToldCertificate, told_derivation, told_closed, fact_name, kind_name, certificate_name}
 
 -- ---- facts
 

@@ -2,12 +2,12 @@
 use Rattle.std.specs.Prelude.{◌≡◌, IfSome, IsUtf8, Option, ⊤}
 use Rattle.std.specs.Io.KnownBytes.{Appends}
 use Rattle.krates_cm.specs.Document.{Text}
-use Rattle.krates_certificate.specs.Refusals.{fault_of}
-use Rattle.krates_certificate.specs.Tables.{IsCertificateText, TextFault}
-use Rattle.krates_certificate.specs.Told.{certificate_told}
+use Rattle.krates_certificate.specs.CertificateRefusals.{fault_of}
+use Rattle.krates_certificate.specs.CertificateTables.{IsCertificateText, TextFault}
+use Rattle.krates_certificate.specs.CertificateViews.{certificate_told}
 use Rattle.krates_certificate.specs.declared.certificate.Certificate.{Certificate}
 use Rattle.krates_verdict.specs.Holding.{Holds}
-use Rattle.krates_verdict.specs.Refusals.{JudgeRefusal}
+use Rattle.krates_verdict.specs.VerdictRefusals.{JudgeRefusal}
 use Rattle.krates_verdict.specs.Subject.{SubjectModel}
 use Rattle.krates_verdict.specs.VerdictText.{verdict_line}
 use Rattle.krates_verdict.specs.declared.refusal.Refusal.{Refusal}

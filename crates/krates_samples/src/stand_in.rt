@@ -1,9 +1,8 @@
 //! What a program that stands in for cargo writes: its last word chooses it.
-#![tactic(auto)]
 
 ghost use Rattle.std.specs.Prelude.{◌≡◌, ◌++◌, ◌∷◌, [], IfOk, map, string_bytes};
 ghost use Rattle.std.specs.Option.{option_map};
-ghost use Rattle.krates_stand_in.specs.Answer.{answer, answer_view, documented, in_lines, last_word};
+ghost use Rattle.krates_samples.specs.StandIn.{answer, answer_view, documented, in_lines, last_word};
 
 use std::alloc::{AllocError, Global};
 

@@ -8,17 +8,17 @@ use std::alloc::{AllocError, Global};
 
 /// The members of an object that is being made.
 #[derive(Drop)]
-pub(crate) struct Members {
+pub(crate) struct JsonObject {
     alloc: Global,
     members: Map<String, Value>,
     /// Whether there was memory for all of them.
     is_whole: bool,
 }
 
-impl Members {
+impl JsonObject {
     /// None.
-    pub(crate) fn new(alloc: Global) -> Members {
-        Members {
+    pub(crate) fn new(alloc: Global) -> JsonObject {
+        JsonObject {
             alloc,
             members: Map::new(alloc),
             is_whole: true,
@@ -26,13 +26,13 @@ impl Members {
     }
 
     /// These, and a value.
-    pub(crate) fn put(mut self, key: &'static str, value: Result<Value, AllocError>) -> Members {
+    pub(crate) fn put(mut self, key: &'static str, value: Result<Value, AllocError>) -> JsonObject {
         self.is_whole = self.has_put(key, value) && self.is_whole;
         self
     }
 
     /// These, and a text.
-    pub(crate) fn text(self, key: &'static str, text: &str) -> Members {
+    pub(crate) fn text(self, key: &'static str, text: &str) -> JsonObject {
         let value = Value::try_from_str(self.alloc, text);
         self.put(key, value)
     }

@@ -7,7 +7,7 @@ use Rattle.krates_cm_json.specs.Faults as document
 use Rattle.krates_cm_json.specs.Objects.{ListWritten}
 use Rattle.krates_cm_json.specs.Reading.{Reader, required, text, whole}
 use Rattle.krates_ids.specs.Identity.{Identity, Reads}
-use Rattle.krates_certificate.specs.Refusals.{Fault, read, bad_id, unknown_name, too_large}
+use Rattle.krates_certificate.specs.CertificateRefusals.{Fault, read, bad_id, unknown_name, too_large}
 
 -- ---- what stands there
 

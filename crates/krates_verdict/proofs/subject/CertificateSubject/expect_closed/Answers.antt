@@ -4,7 +4,7 @@ use Rattle.krates_checkers.specs.CheckRefusals.{IsClosedRefused}
 use Rattle.krates_rules.specs.Checks.{IsClosedFor}
 use Rattle.krates_rules.specs.StepViews.{facts_view}
 use Rattle.krates_verdict.proofs.JudgeLemmas.{as_given, objects}
-use Rattle.krates_verdict.proofs.subject.Subject.expect_closed.Goals as goal
+use Rattle.krates_verdict.proofs.subject.CertificateSubject.expect_closed.Goals as goal
 
 pub returns-clause-closed : goal.returns-clause-closed
 returns-clause-closed c =

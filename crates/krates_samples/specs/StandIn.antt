@@ -3,8 +3,8 @@ use Rattle.std.specs.Prelude.{ℕ, ◌-◌, List, [], ◌∷◌, ◌++◌, Optio
 use Rattle.std.specs.List.{flat_map}
 use Rattle.std.specs.Option.{unwrap_or}
 use Rattle.std.specs.Str.{bytes_eq}
-use Rattle.krates_stand_in.specs.declared.Output.{Output}
-use Rattle.krates_stand_in.specs.declared.TheConstants.{DOCUMENT}
+use Rattle.krates_samples.specs.declared.stand_in.Output.{Output}
+use Rattle.krates_samples.specs.declared.stand_in.TheConstants.{DOCUMENT}
 
 abbrev pub Text : Type 0
 Text = List ℕ

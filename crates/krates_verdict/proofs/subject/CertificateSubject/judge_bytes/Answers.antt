@@ -1,11 +1,11 @@
 use Rattle.std.proofs.Common.{subst}
 use Rattle.std.proofs.lemmas.Result.{IfOk-weaker, err_from_is_err_and}
 use Rattle.krates_cm.specs.Document.{Text}
-use Rattle.krates_certificate.specs.Tables.{IsCertificateText}
-use Rattle.krates_certificate.specs.Told.{certificate_told}
+use Rattle.krates_certificate.specs.CertificateTables.{IsCertificateText}
+use Rattle.krates_certificate.specs.CertificateViews.{certificate_told}
 use Rattle.krates_verdict.specs.Subject.{subject_view}
 use Rattle.krates_verdict.proofs.RunLemmas.{bytes_refused, no_certificate}
-use Rattle.krates_verdict.proofs.subject.Subject.judge_bytes.Goals as goal
+use Rattle.krates_verdict.proofs.subject.CertificateSubject.judge_bytes.Goals as goal
 
 pub returns-in_err-certificate-clause-refused : goal.returns-in_err-certificate-clause-refused
 returns-in_err-certificate-clause-refused c =

@@ -1,6 +1,0 @@
-use Rattle.std.proofs.Common.{◌≡◌}
-use Rattle.krates_build_tests.proofs.setters.build_as.Given as goal
-
--- no section sets an index
-abbrev pub invariant-loop-section : goal.invariant-loop-section
-invariant-loop-section g l = l.builder.index ≡ l.fn.builder.index
