@@ -42,7 +42,7 @@ SHOWN_BY = {
     "Document::new": (
         "lookup_of node_place child_place crate_number at_number package_place_at package_at node_place_at child_number"
     ).split(),
-    "Document::is_root": ("is_member",),
+    "Document::is_root": ("is_member", "is_same"),
     "Document::lists": ("feature_number",),
     "Document::values": ("feature_values",),
     "Document::referent": ("referent_of", "is_library_rename"),
