@@ -95,7 +95,7 @@ fn lines(alloc: Global, words: &[String]) -> Result<String, AllocError>
 }
 
 /// A warning, and then the document.
-#[tactic(auto, unfolding(crate::specs::Answer::documented))]
+#[tactic(auto, unfolding(crate::specs::StandIn::documented))]
 fn documented(alloc: Global) -> Result<Output, AllocError>
     ensures { IfOk result (λ a. answer_view a ≡ documented) }
 {
