@@ -37,17 +37,17 @@ planned_feature None d h = absurd cc
 planned_feature (Some (Krate id krate features mapping)) d h = absurd cc
 planned_feature (Some (Feature krate_index name)) d h = (text_view name, ap (λ k. Some (PlannedFeature k (text_view name))) ((Decides-eqb krate_index d).0 h))
 
-planned_feature : {N : Type 0} (o : Option (Node N)) (d : ℕ) (name : Text) → option_map planned_node o ≡ Some (PlannedFeature d name) → is_feature_in d o ≡ true
-planned_feature None d name h = absurd cc
-planned_feature (Some (Krate id krate features mapping)) d name h = absurd cc
-planned_feature (Some (Feature krate_index f)) d name h = (Decides-eqb krate_index d).1 cc
+feature_planned : {N : Type 0} (o : Option (Node N)) (d : ℕ) (name : Text) → option_map planned_node o ≡ Some (PlannedFeature d name) → is_feature_in d o ≡ true
+feature_planned None d name h = absurd cc
+feature_planned (Some (Krate id krate features mapping)) d name h = absurd cc
+feature_planned (Some (Feature krate_index f)) d name h = (Decides-eqb krate_index d).1 cc
 
 -- the node is a feature of `d`
 pub of_feature : {N : Type 0} (nodes : List (Node N)) (d n : ℕ) → is_feature_of nodes d n ≡ true → (name : Text) × (slice_get (map planned_node nodes) n ≡ Some (PlannedFeature d name))
 of_feature nodes d n h = let w = planned_feature (slice_get nodes n) d h in (w.0, slice_get-map planned_node nodes n ∙ w.1)
 
 pub feature_of : {N : Type 0} (nodes : List (Node N)) (d n : ℕ) (name : Text) → slice_get (map planned_node nodes) n ≡ Some (PlannedFeature d name) → is_feature_of nodes d n ≡ true
-feature_of nodes d n name h = planned_feature (slice_get nodes n) d name (sym (slice_get-map planned_node nodes n) ∙ h)
+feature_of nodes d n name h = feature_planned (slice_get nodes n) d name (sym (slice_get-map planned_node nodes n) ∙ h)
 
 home_step : {N : Type 0} (o : Option (Node N)) (t d : ℕ) → home_in t o ≡ d → (t ≡ d) ⊎ (is_feature_in d o ≡ true)
 home_step None t d h = inl h
