@@ -24,6 +24,8 @@ LAWS = ("laws.rt", "comparisons.rt")
 SHOWN_BY = {
     # the line that a command reads of what cargo wrote
     "MetadataCommand::json_line": ("first_object_line",),
+    # a struct of many fields is copied four fields at a time
+    "TargetInfo::clone": ("four_copies",),
     # what a setting has is asked of the setting
     "ignores": ("IgnoredKinds::with", "IgnoredKinds::has"),
     # a checker with an index looks at the corrected document, and asks what each fact of a list gives

@@ -14,6 +14,7 @@ ghost use Rattle.krates_cargo.specs.Setters.{IsChosen, IsNotChosen, RestsCommand
 use crate::words::{push_all, push_flag, push_listed, push_valued, push_word};
 use krates_cm::{Error, Metadata};
 use krates_cm_json::parse;
+use krates_text::copies::four_copies;
 use std::alloc::{AllocError, Global};
 use std::collections::BTreeMap;
 use std::marker::Model;
@@ -94,14 +95,22 @@ impl Clone for MetadataCommand {
 
     /// A copy that is equal in all that is set.
     fn clone(&self) -> Result<MetadataCommand, AllocError> {
+        let places = four_copies(
+            &self.cargo_path,
+            &self.manifest_path,
+            &self.current_dir,
+            &self.features,
+        )?;
+        let other_options = self.other_options.clone()?;
+        let variables = self.variables.clone()?;
         Ok(MetadataCommand {
             alloc: self.alloc,
-            cargo_path: self.cargo_path.clone()?,
-            manifest_path: self.manifest_path.clone()?,
-            current_dir: self.current_dir.clone()?,
-            features: self.features.clone()?,
-            other_options: self.other_options.clone()?,
-            variables: self.variables.clone()?,
+            cargo_path: places.0,
+            manifest_path: places.1,
+            current_dir: places.2,
+            features: places.3,
+            other_options,
+            variables,
             has_no_deps: self.has_no_deps,
             has_all_features: self.has_all_features,
             has_no_default_features: self.has_no_default_features,

@@ -12,6 +12,7 @@ use crate::package_id::PackageId;
 use crate::package_parts::{About, Settings};
 use crate::resolve::{DepKindInfo, Node, NodeDep, Resolve};
 use crate::target::Target;
+use krates_text::copies::four_copies;
 use std::alloc::AllocError;
 
 impl Clone for PackageId {
@@ -85,18 +86,20 @@ impl Clone for Dependency {
     ghost is_clone = { λ dep copy. dependency_view copy ≡ dependency_view dep };
 
     fn clone(&self) -> Result<Dependency, AllocError> {
+        let named = four_copies(&self.name, &self.source, &self.req, &self.features)?;
+        let told = four_copies(&self.target, &self.rename, &self.registry, &self.path)?;
         Ok(Dependency {
-            name: self.name.clone()?,
-            source: self.source.clone()?,
-            req: self.req.clone()?,
+            name: named.0,
+            source: named.1,
+            req: named.2,
             kind: self.kind,
             optional: self.optional,
             uses_default_features: self.uses_default_features,
-            features: self.features.clone()?,
-            target: self.target.clone()?,
-            rename: self.rename.clone()?,
-            registry: self.registry.clone()?,
-            path: self.path.clone()?,
+            features: named.3,
+            target: told.0,
+            rename: told.1,
+            registry: told.2,
+            path: told.3,
         })
     }
 }
@@ -105,12 +108,19 @@ impl Clone for Target {
     ghost is_clone = { λ target copy. target_view copy ≡ target_view target };
 
     fn clone(&self) -> Result<Target, AllocError> {
+        let named = four_copies(
+            &self.name,
+            &self.kind,
+            &self.crate_types,
+            &self.required_features,
+        )?;
+        let src_path = self.src_path.clone()?;
         Ok(Target {
-            name: self.name.clone()?,
-            kind: self.kind.clone()?,
-            crate_types: self.crate_types.clone()?,
-            required_features: self.required_features.clone()?,
-            src_path: self.src_path.clone()?,
+            name: named.0,
+            kind: named.1,
+            crate_types: named.2,
+            required_features: named.3,
+            src_path,
             edition: self.edition,
             doctest: self.doctest,
             test: self.test,
@@ -123,29 +133,28 @@ impl Clone for Package {
     ghost is_clone = { λ pkg copy. package_view copy ≡ package_view pkg };
 
     fn clone(&self) -> Result<Package, AllocError> {
-        let name = self.name.clone()?;
-        let version = self.version.clone()?;
-        let id = self.id.clone()?;
-        let source = self.source.clone()?;
-        let dependencies = self.dependencies.clone()?;
-        let targets = self.targets.clone()?;
-        let features = self.features.clone()?;
-        let manifest_path = self.manifest_path.clone()?;
+        let named = four_copies(&self.name, &self.version, &self.id, &self.source)?;
+        let parts = four_copies(
+            &self.dependencies,
+            &self.targets,
+            &self.features,
+            &self.manifest_path,
+        )?;
         let about = about_of(self)?;
         let settings = settings_of(self)?;
         Ok(Package {
-            name,
-            version,
+            name: named.0,
+            version: named.1,
             authors: about.authors,
-            id,
-            source,
+            id: named.2,
+            source: named.3,
             description: about.description,
-            dependencies,
+            dependencies: parts.0,
             license: about.license,
             license_file: about.license_file,
-            targets,
-            features,
-            manifest_path,
+            targets: parts.1,
+            features: parts.2,
+            manifest_path: parts.3,
             categories: about.categories,
             keywords: about.keywords,
             readme: about.readme,
@@ -166,17 +175,31 @@ impl Clone for Package {
 fn about_of(pkg: &Package) -> Result<About, AllocError>
     ensures { IfOk result (λ about. about_view about ≡ parts.about_of (package_view pkg.now)) }
 {
+    let authors = pkg.authors.clone()?;
+    let description = pkg.description.clone()?;
+    let rights = four_copies(
+        &pkg.license,
+        &pkg.license_file,
+        &pkg.categories,
+        &pkg.keywords,
+    )?;
+    let places = four_copies(
+        &pkg.readme,
+        &pkg.repository,
+        &pkg.homepage,
+        &pkg.documentation,
+    )?;
     Ok(About {
-        authors: pkg.authors.clone()?,
-        description: pkg.description.clone()?,
-        license: pkg.license.clone()?,
-        license_file: pkg.license_file.clone()?,
-        categories: pkg.categories.clone()?,
-        keywords: pkg.keywords.clone()?,
-        readme: pkg.readme.clone()?,
-        repository: pkg.repository.clone()?,
-        homepage: pkg.homepage.clone()?,
-        documentation: pkg.documentation.clone()?,
+        authors,
+        description,
+        license: rights.0,
+        license_file: rights.1,
+        categories: rights.2,
+        keywords: rights.3,
+        readme: places.0,
+        repository: places.1,
+        homepage: places.2,
+        documentation: places.3,
     })
 }
 
@@ -184,13 +207,20 @@ fn about_of(pkg: &Package) -> Result<About, AllocError>
 fn settings_of(pkg: &Package) -> Result<Settings, AllocError>
     ensures { IfOk result (λ settings. settings_view settings ≡ parts.settings_of (package_view pkg.now)) }
 {
+    let metadata = pkg.metadata.clone()?;
+    let told = four_copies(
+        &pkg.links,
+        &pkg.publish,
+        &pkg.default_run,
+        &pkg.rust_version,
+    )?;
     Ok(Settings {
         edition: pkg.edition,
-        metadata: pkg.metadata.clone()?,
-        links: pkg.links.clone()?,
-        publish: pkg.publish.clone()?,
-        default_run: pkg.default_run.clone()?,
-        rust_version: pkg.rust_version.clone()?,
+        metadata,
+        links: told.0,
+        publish: told.1,
+        default_run: told.2,
+        rust_version: told.3,
     })
 }
 
@@ -206,15 +236,27 @@ impl Clone for Metadata {
     ghost is_clone = { λ m copy. metadata_view copy ≡ metadata_view m };
 
     fn clone(&self) -> Result<Metadata, AllocError> {
+        let graph = four_copies(
+            &self.packages,
+            &self.workspace_members,
+            &self.workspace_default_members,
+            &self.resolve,
+        )?;
+        let places = four_copies(
+            &self.workspace_root,
+            &self.target_directory,
+            &self.build_directory,
+            &self.workspace_metadata,
+        )?;
         Ok(Metadata {
-            packages: self.packages.clone()?,
-            workspace_members: self.workspace_members.clone()?,
-            workspace_default_members: self.workspace_default_members.clone()?,
-            resolve: self.resolve.clone()?,
-            workspace_root: self.workspace_root.clone()?,
-            target_directory: self.target_directory.clone()?,
-            build_directory: self.build_directory.clone()?,
-            workspace_metadata: self.workspace_metadata.clone()?,
+            packages: graph.0,
+            workspace_members: graph.1,
+            workspace_default_members: graph.2,
+            resolve: graph.3,
+            workspace_root: places.0,
+            target_directory: places.1,
+            build_directory: places.2,
+            workspace_metadata: places.3,
             version: self.version,
         })
     }

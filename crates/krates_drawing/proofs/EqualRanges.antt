@@ -7,6 +7,7 @@ use Rattle.std.specs.Cmp.{IsTotalOrder}
 use Rattle.std.specs.List.Sorted.{IsBinarySearchResult, IsNonDecreasingBy, IsPartitionedBy, IsPartitionPoint, IsSearchInRange, IsStrictlySortedBy}
 use Rattle.std.specs.Ordering.{is_eq, is_lt, ordering_index, ordering_reverse}
 use Rattle.krates_drawing.specs.Drawing.{place_of}
+use Rattle.krates_rules.proofs.BinarySearch.{step}
 
 -- ---- a run
 
@@ -80,20 +81,6 @@ stretch ord xs n m low high =
 -- ---- the order of a list, relative to the element sought
 
 module _ {K : Type 0} {R : K → K → Ordering} (o : IsTotalOrder R) where
-  step : (x y q : K) (r s : Ordering) → R x q ≡ r → R y q ≡ s → R x y ≡ Less → ordering_index r ≤ ordering_index s
-  step x y q Less Less a b h = omega arith
-  step x y q Less Equal a b h = omega arith
-  step x y q Less Greater a b h = omega arith
-  step x y q Equal Less a b h =
-      let other : R x y ≡ Greater = o.congr x q y a ∙ o.antisymm q y ∙ ap ordering_reverse b in
-      absurd (cc (h, other))
-  step x y q Equal Equal a b h = omega arith
-  step x y q Equal Greater a b h = omega arith
-  step x y q Greater s a b h =
-      let below : R q y ≡ Less = o.trans q x y (o.antisymm q x ∙ ap ordering_reverse a) h in
-      let above : Greater ≡ s = sym (o.antisymm y q ∙ ap ordering_reverse below) ∙ b in
-      subst (λ t. 2 ≤ ordering_index t) above (omega arith)
-
   pub rises : {A : Type 0} (key : A → K) (xs : List A) (q : K) → IsStrictlySortedBy R (map key xs) → IsNonDecreasingBy (λ y. ordering_index (R (key y) q)) xs
   rises key xs q sorted i j d le lt = elim (cases_lt i j) [
     | inl l ↦ (
@@ -101,7 +88,7 @@ module _ {K : Type 0} {R : K → K → Ordering} (o : IsTotalOrder R) where
         let x = get_or-map key xs i d (key d) (omega (arith, l, lt)) in
         let y = get_or-map key xs j d (key d) lt in
         let less : R (key (get_or xs i d)) (key (get_or xs j d)) ≡ Less = ap (λ z. R z (key (get_or xs j d))) (sym x) ∙ ap (λ z. R (get_or (map key xs) i (key d)) z) (sym y) ∙ later in
-        step (key (get_or xs i d)) (key (get_or xs j d)) q (R (key (get_or xs i d)) q) (R (key (get_or xs j d)) q) refl refl less)
+        step o (key (get_or xs i d)) (key (get_or xs j d)) q (R (key (get_or xs i d)) q) (R (key (get_or xs j d)) q) refl refl less)
     | inr ge ↦ (
         let e : i ≡ j = omega (arith, le, ge) in
         subst (λ k. ordering_index (R (key (get_or xs i d)) q) ≤ ordering_index (R (key (get_or xs k d)) q)) e (omega arith))
@@ -109,7 +96,7 @@ module _ {K : Type 0} {R : K → K → Ordering} (o : IsTotalOrder R) where
 
   -- an element that isn't above compares no higher
   pub weakly : (x y q : K) (r : Ordering) → R x y ≡ r → (r ≡ Greater → ⊥) → ordering_index (R x q) ≤ ordering_index (R y q)
-  weakly x y q Less e low = step x y q (R x q) (R y q) refl refl e
+  weakly x y q Less e low = step o x y q (R x q) (R y q) refl refl e
   weakly x y q Equal e low = let same : R x q ≡ R y q = o.congr x y q e in subst (λ r. ordering_index (R x q) ≤ ordering_index r) same (omega arith)
   weakly x y q Greater e low = absurd (low refl)
 

@@ -4,7 +4,7 @@ pub mod FeatureReference
 pub mod PathLemmas
 pub mod TargetTable
 pub mod RustcCfg
-pub mod Copies
+pub mod CopiedTexts
 pub mod CfgReading
 pub mod CfgFrames
 pub mod CfgSteps

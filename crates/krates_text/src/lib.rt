@@ -3,6 +3,7 @@
 #![tactic(auto)]
 
 pub mod cfg;
+pub mod copies;
 pub mod features;
 pub mod json_line;
 pub mod laws;

@@ -5,6 +5,7 @@ ghost use Rattle.std.specs.Str.{bytes_eq};
 ghost use Rattle.krates_text.specs.TargetTable.{table, row_of, description_of, is_described, target_of, target_named, printed};
 ghost use Rattle.krates_text.specs.TableRow.{described};
 
+use crate::copies::four_copies;
 use std::alloc::{AllocError, Global};
 use std::fmt;
 
@@ -48,20 +49,25 @@ impl Clone for TargetInfo {
     ghost is_clone = { λ info copy. description_of copy ≡ description_of info };
 
     /// A copy that describes the same. The only error is running out of memory.
-    #[tactic(auto, using(crate::proofs::Copies::texts_copied))]
+    #[tactic(auto, using(crate::proofs::CopiedTexts::texts_copied))]
     fn clone(&self) -> Result<TargetInfo, AllocError> {
+        let named = four_copies(&self.triple, &self.arch, &self.os, &self.env)?;
+        let told = four_copies(&self.abi, &self.vendor, &self.pointer_width, &self.endian)?;
+        let panic = self.panic.clone()?;
+        let families = self.families.clone()?;
+        let atomics = self.atomics.clone()?;
         Ok(TargetInfo {
-            triple: self.triple.clone()?,
-            arch: self.arch.clone()?,
-            os: self.os.clone()?,
-            env: self.env.clone()?,
-            abi: self.abi.clone()?,
-            vendor: self.vendor.clone()?,
-            pointer_width: self.pointer_width.clone()?,
-            endian: self.endian.clone()?,
-            panic: self.panic.clone()?,
-            families: self.families.clone()?,
-            atomics: self.atomics.clone()?,
+            triple: named.0,
+            arch: named.1,
+            os: named.2,
+            env: named.3,
+            abi: told.0,
+            vendor: told.1,
+            pointer_width: told.2,
+            endian: told.3,
+            panic,
+            families,
+            atomics,
         })
     }
 }

@@ -1,7 +1,7 @@
 //! What the words of the program that checks certificates ask for.
 
 use crate::choice::Choice;
-use crate::command::with_choice;
+use crate::command::{push_choice, with_args};
 use crate::error::WordsError;
 use crate::found::choice;
 use crate::known::DOCUMENT;
@@ -36,14 +36,15 @@ pub fn check_words_of(alloc: Global, words: &[String]) -> Result<CheckWords, Wor
 
 /// The command.
 fn command_line<'w>(alloc: Global) -> Result<Command<'w>, AllocError> {
+    let mut args = vec![in alloc; DOCUMENT.arg(alloc).required(true)]?;
+    push_choice(alloc, &mut args)?;
     let command = Command::new(alloc, "krates_check")
         .version("0.22.0")
         .about("Checks a certificate of which crates a workspace needs")
         .after_help(EXPLANATION)
         .no_binary_name(true)
-        .arg_required_else_help(true)
-        .arg(DOCUMENT.arg(alloc).required(true))?;
-    with_choice(alloc, command)
+        .arg_required_else_help(true);
+    with_args(command, args)
 }
 
 /// What is asked for, from what `clap` found in the words.

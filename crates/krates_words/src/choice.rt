@@ -93,7 +93,7 @@ fn copies_of(
 }
 
 /// A copy of a target with its features.
-#[tactic(auto, using(krates_text::proofs::Copies::texts_copied))]
+#[tactic(auto, using(krates_text::proofs::CopiedTexts::texts_copied))]
 fn copy_of(target: &(Target, Vec<String>)) -> Result<(Target, Vec<String>), AllocError>
     ensures { IfOk result (λ copy. asked_of copy ≡ asked_of target.now) }
 {

@@ -29,19 +29,9 @@ const EDGES: [&str; 7] = [
 pub(crate) fn command_line<'w>(alloc: Global) -> Result<Command<'w>, AllocError> {
     let mut command = program(alloc)?;
     for word in &WORDS {
-        command = with_word(alloc, command, word)?;
+        command = command.subcommand(word.subcommand(alloc)?)?;
     }
     Ok(command)
-}
-
-/// With a word.
-fn with_word<'w>(
-    alloc: Global,
-    command: Command<'w>,
-    word: &KnownWord,
-) -> Result<Command<'w>, AllocError> {
-    let word = word.subcommand(alloc)?;
-    command.subcommand(word)
 }
 
 /// The command without words.
@@ -63,52 +53,47 @@ fn program<'w>(alloc: Global) -> Result<Command<'w>, AllocError> {
 impl KnownWord {
     /// The word as a command of its own.
     fn subcommand<'w>(&self, alloc: Global) -> Result<Command<'w>, AllocError> {
-        let command = self.named(alloc)?;
-        let command = self.with_names(alloc, command)?;
-        let command = self.with_form(alloc, command)?;
-        let command = with_choice(alloc, command)?;
-        with_cargo(alloc, command)
-    }
-
-    /// A command with its names.
-    fn named<'w>(&self, alloc: Global) -> Result<Command<'w>, AllocError> {
+        let args = self.args(alloc)?;
         let command = Command::new(alloc, self.name).about(self.about);
-        match self.alias {
-            Some(alias) => command.visible_alias(alias),
-            None => Ok(command),
-        }
-    }
-
-    /// With what stands behind the word.
-    fn with_names<'w>(
-        &self,
-        alloc: Global,
-        command: Command<'w>,
-    ) -> Result<Command<'w>, AllocError> {
-        match self.names {
-            Names::Nothing => Ok(command),
-            Names::Krate => command.arg(krate(alloc).required(true)),
-            Names::MaybeKrate => command.arg(krate(alloc)),
-            Names::Document => command.arg(document(alloc)),
-        }
-    }
-
-    /// With the options for the form of the answer.
-    fn with_form<'w>(
-        &self,
-        alloc: Global,
-        command: Command<'w>,
-    ) -> Result<Command<'w>, AllocError> {
-        let command = match &self.own {
-            Some(own) => command.arg(own.arg(alloc))?,
+        let command = match self.alias {
+            Some(alias) => command.visible_alias(alias)?,
             None => command,
         };
-        if self.has_json {
-            command.arg(JSON.arg(alloc))
-        } else {
-            Ok(command)
-        }
+        with_args(command, args)
     }
+
+    /// What may stand behind the word, in the order of its help.
+    fn args<'w>(&self, alloc: Global) -> Result<Vec<Arg<'w>>, AllocError> {
+        let mut args = Vec::new(alloc);
+        match self.names {
+            Names::Nothing => {}
+            Names::Krate => args.push(krate(alloc).required(true))?,
+            Names::MaybeKrate => args.push(krate(alloc))?,
+            Names::Document => args.push(document(alloc))?,
+        }
+        if let Some(own) = &self.own {
+            args.push(own.arg(alloc))?;
+        }
+        if self.has_json {
+            args.push(JSON.arg(alloc))?;
+        }
+        push_choice(alloc, &mut args)?;
+        push_options(alloc, &mut args, "What cargo is told", &OF_CARGO)?;
+        args.push(input(alloc)?)?;
+        Ok(args)
+    }
+}
+
+/// A command with these arguments, in their order.
+pub(crate) fn with_args<'w>(
+    command: Command<'w>,
+    args: Vec<Arg<'w>>,
+) -> Result<Command<'w>, AllocError> {
+    let mut command = command;
+    for arg in args {
+        command = command.arg(arg)?;
+    }
+    Ok(command)
 }
 
 /// A crate behind a word.
@@ -126,43 +111,31 @@ fn document<'w>(alloc: Global) -> Arg<'w> {
         .action(ArgAction::Set)
 }
 
-/// With the options that cargo is told, or the document in place of cargo's.
-fn with_cargo<'w>(alloc: Global, command: Command<'w>) -> Result<Command<'w>, AllocError> {
-    let command = with_options(alloc, command, "What cargo is told", &OF_CARGO)?;
-    let input = input(alloc)?;
-    command.arg(input)
-}
-
 /// The document in place of cargo's, which leaves cargo nothing to be told.
 fn input<'w>(alloc: Global) -> Result<Arg<'w>, AllocError> {
-    let mut input = METADATA.arg(alloc).help_heading("In place of cargo");
-    for option in &OF_CARGO {
-        input = input.conflicts_with(option.name)?;
-    }
-    Ok(input)
+    METADATA
+        .arg(alloc)
+        .help_heading("In place of cargo")
+        .conflicts_with_all(&OF_CARGO.map(|option| option.name))
 }
 
-/// With the options that choose a part of the document.
-pub(crate) fn with_choice<'w>(
-    alloc: Global,
-    command: Command<'w>,
-) -> Result<Command<'w>, AllocError> {
-    let command = with_options(alloc, command, "Which crates", &OF_CRATES)?;
-    with_options(alloc, command, "Which targets", &OF_TARGETS)
+/// Adds the options that choose a part of the document.
+pub(crate) fn push_choice<'w>(alloc: Global, args: &mut Vec<Arg<'w>>) -> Result<(), AllocError> {
+    push_options(alloc, args, "Which crates", &OF_CRATES)?;
+    push_options(alloc, args, "Which targets", &OF_TARGETS)
 }
 
-/// With options under a heading of help.
-fn with_options<'w>(
+/// Adds options under a heading of help.
+fn push_options<'w>(
     alloc: Global,
-    command: Command<'w>,
+    args: &mut Vec<Arg<'w>>,
     heading: &'static str,
     options: &[KnownOption],
-) -> Result<Command<'w>, AllocError> {
-    let mut command = command;
+) -> Result<(), AllocError> {
     for option in options {
-        command = command.arg(option.arg(alloc).help_heading(heading))?;
+        args.push(option.arg(alloc).help_heading(heading))?;
     }
-    Ok(command)
+    Ok(())
 }
 
 impl KnownOption {

@@ -5,20 +5,22 @@ use Rattle.krates_cm.proofs.copies.DependencyClone.clone.Goals as goal
 
 pub returns : goal.returns
 returns c =
-    let source : option_map text_view c.in_ok-clone-2.field-0 ≡ option_map text_view c.args.self.now.source = search (rules, c.in_ok-clone-2.ensures) in
-    let target : option_map text_view c.in_ok-clone-5.field-0 ≡ option_map text_view c.args.self.now.target = search (rules, c.in_ok-clone-5.ensures) in
-    let rename : option_map text_view c.in_ok-clone-6.field-0 ≡ option_map text_view c.args.self.now.rename = search (rules, c.in_ok-clone-6.ensures) in
-    let registry : option_map text_view c.in_ok-clone-7.field-0 ≡ option_map text_view c.args.self.now.registry = search (rules, c.in_ok-clone-7.ensures) in
-    let path : option_map text_view c.in_ok-clone-8.field-0 ≡ option_map text_view c.args.self.now.path = search (rules, c.in_ok-clone-8.ensures) in
+    let named = c.in_ok-named.ensures in
+    let told = c.in_ok-told.ensures in
+    let source : option_map text_view c.in_ok-named.named.1 ≡ option_map text_view c.args.self.now.source = search (rules, named.1) in
+    let target : option_map text_view c.in_ok-told.told.0 ≡ option_map text_view c.args.self.now.target = search (rules, told.0) in
+    let rename : option_map text_view c.in_ok-told.told.1 ≡ option_map text_view c.args.self.now.rename = search (rules, told.1) in
+    let registry : option_map text_view c.in_ok-told.told.2 ≡ option_map text_view c.args.self.now.registry = search (rules, told.2) in
+    let path : option_map text_view c.in_ok-told.told.3 ≡ option_map text_view c.args.self.now.path = search (rules, told.3) in
     record {
       cases = λ i. record {
-        name = c.in_ok-clone.ensures.cases i;
+        name = named.0 i;
         source = source i;
-        req = same_requirement c.args.self.now.req c.in_ok-clone-3.field-0 c.in_ok-clone-3.ensures.cases i;
+        req = same_requirement c.args.self.now.req c.in_ok-named.named.2 named.2 i;
         kind = c.args.self.now.kind;
         optional = c.args.self.now.optional;
         uses_default_features = c.args.self.now.uses_default_features;
-        features = same_texts c.args.self.now.features c.in_ok-clone-4.field-0 c.in_ok-clone-4.ensures.cases i;
+        features = same_texts c.args.self.now.features c.in_ok-named.named.3 named.3 i;
         target = target i;
         rename = rename i;
         registry = registry i;

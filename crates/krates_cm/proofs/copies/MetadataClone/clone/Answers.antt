@@ -7,18 +7,20 @@ use Rattle.krates_cm.proofs.copies.MetadataClone.clone.Goals as goal
 
 pub returns : goal.returns
 returns c =
-    let resolve : option_map resolve_view c.in_ok-clone-4.field-0 ≡ option_map resolve_view c.args.self.now.resolve = search (rules, c.in_ok-clone-4.ensures) in
-    let build_directory : option_map text_view c.in_ok-clone-7.field-0 ≡ option_map text_view c.args.self.now.build_directory = search (rules, c.in_ok-clone-7.ensures) in
+    let graph = c.in_ok-graph.ensures in
+    let places = c.in_ok-places.ensures in
+    let resolve : option_map resolve_view c.in_ok-graph.graph.3 ≡ option_map resolve_view c.args.self.now.resolve = search (rules, graph.3) in
+    let build_directory : option_map text_view c.in_ok-places.places.2 ≡ option_map text_view c.args.self.now.build_directory = search (rules, places.2) in
     record {
       cases = λ i. record {
-        packages = same_list packages.is_clone package_view (λ x y h. h) c.args.self.now.packages.items c.in_ok-clone.field-0.items c.in_ok-clone.ensures.cases.0 i;
-        workspace_members = same_list ids.is_clone id_view (λ x y h. h) c.args.self.now.workspace_members.items c.in_ok-clone-2.field-0.items c.in_ok-clone-2.ensures.cases.0 i;
-        workspace_default_members = c.in_ok-clone-3.ensures.cases i;
+        packages = same_list packages.is_clone package_view (λ x y h. h) c.args.self.now.packages.items c.in_ok-graph.graph.0.items graph.0.0 i;
+        workspace_members = same_list ids.is_clone id_view (λ x y h. h) c.args.self.now.workspace_members.items c.in_ok-graph.graph.1.items graph.1.0 i;
+        workspace_default_members = graph.2 i;
         resolve = resolve i;
-        workspace_root = c.in_ok-clone-5.ensures.cases i;
-        target_directory = c.in_ok-clone-6.ensures.cases i;
+        workspace_root = places.0 i;
+        target_directory = places.1 i;
         build_directory = build_directory i;
-        workspace_metadata = c.in_ok-clone-8.ensures.cases i;
+        workspace_metadata = places.3 i;
         version = c.args.self.now.version;
       };
     }

@@ -7,23 +7,25 @@ use Rattle.krates_cm.proofs.copies.PackageClone.clone.Goals as goal
 
 pub returns : goal.returns
 returns c =
+    let named = c.in_ok-named.ensures in
+    let parts = c.in_ok-parts.ensures in
     let about = c.in_ok-about.ensures in
     let settings = c.in_ok-settings.ensures in
-    let source : option_map source_view c.in_ok-source.source ≡ option_map source_view c.args.self.now.source = search (rules, c.in_ok-source.ensures) in
+    let source : option_map source_view c.in_ok-named.named.3 ≡ option_map source_view c.args.self.now.source = search (rules, named.3) in
     record {
       cases = λ i. record {
-        name = c.in_ok-name.ensures.cases i;
-        version = same_parts c.args.self.now.version c.in_ok-version.version c.in_ok-version.ensures.cases i;
+        name = named.0 i;
+        version = same_parts c.args.self.now.version c.in_ok-named.named.1 named.1 i;
         authors = (about i).authors;
-        id = c.in_ok-id.ensures.cases i;
+        id = named.2 i;
         source = source i;
         description = (about i).description;
-        dependencies = same_list deps.is_clone dependency_view (λ x y h. h) c.args.self.now.dependencies.items c.in_ok-dependencies.dependencies.items c.in_ok-dependencies.ensures.cases.0 i;
+        dependencies = same_list deps.is_clone dependency_view (λ x y h. h) c.args.self.now.dependencies.items c.in_ok-parts.parts.0.items parts.0.0 i;
         license = (about i).license;
         license_file = (about i).license_file;
-        targets = same_list targets.is_clone target_view (λ x y h. h) c.args.self.now.targets.items c.in_ok-targets.targets.items c.in_ok-targets.ensures.cases.0 i;
-        features = same_features c.args.self.now.features c.in_ok-features.features c.in_ok-features.ensures.cases i;
-        manifest_path = c.in_ok-manifest_path.ensures.cases i;
+        targets = same_list targets.is_clone target_view (λ x y h. h) c.args.self.now.targets.items c.in_ok-parts.parts.1.items parts.1.0 i;
+        features = same_features c.args.self.now.features c.in_ok-parts.parts.2 parts.2 i;
+        manifest_path = parts.3 i;
         categories = (about i).categories;
         keywords = (about i).keywords;
         readme = (about i).readme;
