@@ -24,6 +24,8 @@ LAWS = ("laws.rt", "comparisons.rt")
 SHOWN_BY = {
     # the line that a command reads of what cargo wrote
     "MetadataCommand::json_line": ("first_object_line",),
+    # a cfg expression asks whether a target has a family or a feature
+    "Expression::eval": ("has_text",),
     # a struct of many fields is copied four fields at a time
     "TargetInfo::clone": ("four_copies",),
     # what a setting has is asked of the setting
@@ -37,24 +39,26 @@ SHOWN_BY = {
     "check": ("from_nothing", "from_one", "from_two"),
     # as what an edge is declared: by name, version and source
     "Document::declared": (
-        "version_of declared_of is_name_of folded_order named_places places_under declared_at declared_places"
-        " places_for entry_at parts_of is_same_info"
+        "version_of declared_of is_name_of folded_order named_places places_under declared_at Document::declared_places"
+        " Document::places_for entry_at Document::parts_of is_same_info"
     ).split(),
     # a document that is asked looks its crates, features and names up
-    "Document::new": (
-        "lookup_of node_place child_place crate_number at_number package_place_at package_at node_place_at child_number"
+    "Document::new": ("lookup_of", "at_number"),
+    "Document::is_open": (
+        "Document::node_place Document::child_place Document::crate_number Document::node_number Document::child_number"
+        " Document::child_number_at Document::package_place_at Document::package_at Document::node_place_at"
     ).split(),
-    "Document::is_root": ("is_member", "is_same"),
-    "Document::lists": ("feature_number",),
-    "Document::values": ("feature_values",),
-    "Document::referent": ("referent_of", "is_library_rename"),
-    "Document::referents": ("referents_of",),
-    "Document::roots": ("choice_of",),
-    "Document::presence": ("standing_of",),
-    # a selection is made in look-ups of the document
+    "Document::is_root": ("Document::is_member", "Document::is_root_member", "is_same"),
+    "Document::lists": ("Document::feature_number",),
+    "Document::referent": ("Document::referent_of", "is_library_rename"),
+    "Document::referents": ("Document::referents_of",),
+    "Document::roots": ("Document::root_choice",),
+    "Document::presence": ("Document::standing_of",),
+    # a selection is made of what a document has
     "select": (
         "select_in numbers_of exclusions_of known_standing known_standing_of_child Work::new Work::count_krate"
         " Work::count_feature Reason::by_nothing Reason::by_one Reason::by_two put_krate enable toggle"
+        " Document::packages Document::nodes Document::node_ids Document::crate_ids Document::listed_features Document::agrees"
         " expand expand_entry links_of Links::kept Links::is_asked Links::let_wait kept_edges kept_features"
         " kept_toggled"
     ).split(),
@@ -63,7 +67,7 @@ SHOWN_BY = {
         "records_of count_of given_by meanings_by draw_nodes plan store_edges in_order Krates::new divide handed_over"
     ).split(),
     # the steps that a build keeps, and those of them that lead to a node
-    "facts": ("kept_steps", "Document::lookup"),
+    "facts": ("kept_steps",),
     "why": ("derivation_of", "step_of"),
     # what is read as a document is listed, and what is read as a certificate is judged
     "run": ("listing_of", "CertificateSubject::judge", "CertificateSubject::judge_bytes"),
@@ -71,8 +75,8 @@ SHOWN_BY = {
     "hand_over": ("CallRefusal::status",),
     # what a word of `cargo krates` answers is made of values, which its text and its JSON show
     "Reporter::answer": (
-        "fitting duplicates lacking lost_dependencies materials is_unreachable Links::dependents Links::dependencies"
-        " Links::of Links::leads Links::tree Builds::use_of Builds::uses Packages::one Packages::any Bill::of"
+        "fitting duplicates lacking lost_dependencies materials is_unreachable DirectLinks::dependents DirectLinks::dependencies"
+        " DirectLinks::of DirectLinks::leads DirectLinks::tree Builds::use_of Builds::uses Packages::one Packages::any Bill::of"
         " Changed::between Difference::between Duplicates::of licences Tree::of_dependencies Tree::of_dependents"
         " ExplainedFeatures::of"
     ).split(),

@@ -15,7 +15,6 @@ use Rattle.krates_drawing.specs.Drawing.{PlannedEdge, planned_edges, planned_nod
 use Rattle.krates_drawing.specs.Ends.{EndsStand, HasEnds}
 use Rattle.krates_drawing.specs.Outline as model
 use Rattle.krates_drawing.specs.Outline.{IsCrateRow, IsFeatureRow, IsOutline}
-use Rattle.krates_drawing.specs.OutlineOrder.{IsOrdered}
 use Rattle.krates_drawing.specs.Stored.{IsStoredAs}
 use Rattle.krates_drawing.specs.Views.{crate_row_view, feature_row_view, outline_view}
 use Rattle.krates_drawing.specs.declared.edge.Edge.{Edge}
@@ -25,7 +24,7 @@ use Rattle.krates_drawing.specs.declared.outline.Outline.{Outline}
 use Rattle.krates_graph.specs.Graph.{StoredGraph}
 use Rattle.krates_ids.specs.Identity.{Identity, id_cmp}
 use Rattle.krates_selection.specs.CrateNumbers.{id_at, no_id}
-use Rattle.krates_selection.specs.Selection.{IsSelection, feature_fact}
+use Rattle.krates_selection.specs.Selection.{feature_fact}
 use Rattle.krates_selection.specs.declared.selection.EnabledFeature.{EnabledFeature}
 use Rattle.krates_selection.specs.declared.selection.Selection.{Selection}
 use Rattle.krates_rules.specs.Facts.{Id, Feature}
@@ -61,25 +60,12 @@ use Rattle.krates.proofs.SelectionFacts.{Selects, kept_among}
 -- ---- the outline
 
 pub outline_told : (m : MetadataModel) (s : SettingModel) (x : Selection) (r : Resolved) (t : model.Outline) → Selects m s x → HasGraphWith m (λ g. r ≡ resolved m g)
-    → (IsSelection r s x → IsOutline r s x t) → IsOutlineFor m s t
-outline_told m s x r t sel h f =
-    let selected = selected_in m s x r sel h in
-    record {
-      graph = h.graph;
-      has_graph = h.has_graph;
-      holds = record { selection = x; selected = rw (← h.holds) selected; is_outline = rw (← h.holds) (f selected) };
-    }
-
--- for a call that may be refused
-pub if_outline_told : {E : Type 0} (m : MetadataModel) (s : SettingModel) (x : Selection) (r : Resolved) (result : Result Outline E) → HasGraphWith m (λ g. r ≡ resolved m g)
-    → IfOk result (λ t. IsSelection r s x → IsOutline r s x (outline_view t)) → IfOk result (λ t. Selects m s x → IsOutlineFor m s (outline_view t))
-if_outline_told m s x r (Ok t) h f = λ sel. outline_told m s x r (outline_view t) sel h f
-if_outline_told m s x r (Err e) h f = tt
-
-pub if_ordered : {E : Type 0} (m : MetadataModel) (s : SettingModel) (x : Selection) (r : Resolved) (result : Result Outline E) → HasGraphWith m (λ g. r ≡ resolved m g)
-    → IfOk result (λ t. IsSelection r s x → IsOrdered t) → IfOk result (λ t. Selects m s x → IsOrdered t)
-if_ordered m s x r (Ok t) h f = λ sel. f (selected_in m s x r sel h)
-if_ordered m s x r (Err e) h f = tt
+    → IsOutline r s x t → IsOutlineFor m s t
+outline_told m s x r t sel h is = record {
+  graph = h.graph;
+  has_graph = h.has_graph;
+  holds = record { selection = x; selected = rw (← h.holds) (selected_in m s x r sel h); is_outline = rw (← h.holds) is };
+}
 
 -- the ids of the outline are those of the selection
 ids_same : (r : Resolved) (is : List Identity) (ks : List model.CrateRow) → AllZip (IsCrateRow r) is ks → map id_of is ≡ map (λ (k : model.CrateRow). k.id) ks
@@ -197,9 +183,9 @@ pub builds_outline : ReadsOnce → (m : Metadata) (s : SettingModel) (t : Outlin
 builds_outline once m s t d h div = builds once m s h.holds.selection (outline_ids t.krates.items) d (selected_ids (metadata_view m) s t h) (selects (metadata_view m) s (outline_view t) h) div
 
 -- the ids of the kept packages are those of the outline, place by place
-pub kept_ids : Compares → (m : Metadata) (s : SettingModel) (t : Outline) (d : Division) → IsOutlineFor (metadata_view m) s (outline_view t) → IsOrdered t → Builds m s d
+pub kept_ids : Compares → (m : Metadata) (s : SettingModel) (t : Outline) (d : Division) → IsOutlineFor (metadata_view m) s (outline_view t) → Builds m s d
     → map id_of (krate_ids d.kept.items) ≡ map (λ (k : model.CrateRow). k.id) (outline_view t).krates
-kept_ids o m s t d h ordered b =
+kept_ids o m s t d h b =
     let x = h.holds.selection in
     let ids : List Identity = krate_ids d.kept.items in
     let drawn : List Identity = outline_ids t.krates.items in
@@ -211,17 +197,17 @@ kept_ids o m s t d h ordered b =
     let back : HasLike drawn ids = λ i z.
     (let k = subst (λ js. Contains js i) same (contains_of (map id_of drawn) i z) in
     member_of (map id_of ids) i ((b.kept i).0 ((kept_among (metadata_view m) s x sel i).1 k))) in
-    one_order o.total ids drawn b.packages.ascending ordered.krates there back ∙ viewed_ids t.krates.items
+    one_order o.total ids drawn b.packages.ascending t.ordered.krates there back ∙ viewed_ids t.krates.items
 
 -- the nodes of the graph are sorted
 pub graph_nodes : Compares → {N E : Type 0} (made : Package → N → Type 0) (made_edge : Edge → E → Type 0) (m : Metadata) (s : SettingModel) (t : Outline) (d : Division) (g : StoredGraph (Node N) E)
-    → IsOutlineFor (metadata_view m) s (outline_view t) → IsOrdered t → Builds m s d → IsGraphOf made made_edge (outline_view t) d.kept.items g → length d.kept.items < 2 ^ 32 → length g.nodes < 2 ^ 32 → AreNodes g.nodes
-graph_nodes o made made_edge m s t d g h ordered b w few numbered =
-    let ids : map id_of (crate_ids g.nodes) ≡ map (λ (k : model.CrateRow). k.id) (outline_view t).krates = ap (λ (is : List Identity). map id_of is) w.ids ∙ kept_ids o m s t d h ordered b in
+    → IsOutlineFor (metadata_view m) s (outline_view t) → Builds m s d → IsGraphOf made made_edge (outline_view t) d.kept.items g → length d.kept.items < 2 ^ 32 → length g.nodes < 2 ^ 32 → AreNodes g.nodes
+graph_nodes o made made_edge m s t d g h b w few numbered =
+    let ids : map id_of (crate_ids g.nodes) ≡ map (λ (k : model.CrateRow). k.id) (outline_view t).krates = ap (λ (is : List Identity). map id_of is) w.ids ∙ kept_ids o m s t d h b in
     let ascending = subst (λ (is : List Identity). IsStrictlySortedBy id_cmp is) (sym w.ids) b.packages.ascending in
     let enabled_by = λ (i : Id) (f : Text).
     subst (λ (is : List Identity). IsEnabledIn (crate_ids g.nodes) (crate_features g.nodes) i f ↔ (IsAmong is i × Contains (map named_fact (outline_view t).features) (Feature i f))) (sym w.ids) (w.enabled i f) in
-    are_nodes d.kept.items g.nodes w.ids w.first b.packages.ascending few (are_features o t g.nodes w.drawing.nodes ids ascending ordered enabled_by) numbered
+    are_nodes d.kept.items g.nodes w.ids w.first b.packages.ascending few (are_features o t g.nodes w.drawing.nodes ids ascending enabled_by) numbered
 
 -- both ends of each edge of an outline are nodes
 pub outline_stands : EndsStand → (m : MetadataModel) (s : SettingModel) (t : model.Outline) → IsOutlineFor m s t → All (HasEnds (length (planned_nodes t))) (planned_edges t)

@@ -9,7 +9,6 @@ use Rattle.krates_cm.specs.Document.{Text, text_view}
 use Rattle.krates_drawing.proofs.NodeNumbers.{id_is, id_same}
 use Rattle.krates_drawing.specs.Drawing.{PlannedNode, PlannedCrate, PlannedFeature, crate_number, planned_crate, planned_feature, id_eq, is_crate, place_of, planned_nodes}
 use Rattle.krates_drawing.specs.Outline as outline
-use Rattle.krates_drawing.specs.OutlineOrder.{IsOrdered}
 use Rattle.krates_drawing.specs.Views.{kids_in, crate_row_view, feature_row_view, outline_view}
 use Rattle.krates_drawing.specs.declared.outline.CrateRow.{CrateRow}
 use Rattle.krates_drawing.specs.declared.outline.FeatureRow.{FeatureRow}
@@ -136,17 +135,17 @@ keys_are t (f ∷ fs) h = ap (λ (n : ℕ). (n, text_view f.feature.name) ∷ ma
 -- ---- the features are sorted, and are those enabled for the crates
 
 pub are_features : Compares → {N : Type 0} (t : Outline) (nodes : List (Node N)) → map planned_node nodes ≡ planned_nodes (outline_view t) → map id_of (crate_ids nodes) ≡ map (λ (k : outline.CrateRow). k.id) (outline_view t).krates
-    → IsStrictlySortedBy id_cmp (crate_ids nodes) → IsOrdered t
+    → IsStrictlySortedBy id_cmp (crate_ids nodes)
     → ((i : Id) (f : Text) → IsEnabledIn (crate_ids nodes) (crate_features nodes) i f ↔ (IsAmong (crate_ids nodes) i × Contains (map named_fact (outline_view t).features) (facts.Feature i f)))
     → AreFeatures nodes
-are_features o t nodes drawn ids s ordered enabled =
+are_features o t nodes drawn ids s enabled =
     let seen : feature_names nodes ≡ map (named_key (outline_view t)) (outline_view t).features = names_are (outline_view t) nodes drawn in
     let names : feature_names nodes ≡ map (key_of t) t.features.items = seen ∙ keys_seen t t.features.items in
     let krates = (outline_view t).krates in
-    let home : (f : FeatureRow) → Member t.features.items f → f.feature.krate < length t.krates.items = λ f m. All-contains (λ (n : FeatureRow). HasHome (length t.krates.items) n.feature) t.features.items f ordered.homes (contains_of t.features.items f m) in
+    let home : (f : FeatureRow) → Member t.features.items f → f.feature.krate < length t.krates.items = λ f m. All-contains (λ (n : FeatureRow). HasHome (length t.krates.items) n.feature) t.features.items f t.ordered.homes (contains_of t.features.items f m) in
     let numbers = keys_are t t.features.items (λ f m. own_number t (crate_ids nodes) ids o s f.feature.krate (home f m)) in
     record {
-      ascending = subst (λ (ns : List (ℕ × Text)). IsStrictlySortedBy feature_order ns) (sym (names ∙ numbers)) (sorted_same feature_cmp feature_order numbered (λ a b. refl) (map (λ (f : FeatureRow). f.feature) t.features.items) ordered.features);
+      ascending = subst (λ (ns : List (ℕ × Text)). IsStrictlySortedBy feature_order ns) (sym (names ∙ numbers)) (sorted_same feature_cmp feature_order numbered (λ a b. refl) (map (λ (f : FeatureRow). f.feature) t.features.items) t.ordered.features);
       exactly = λ n name. (
         λ c.
             (let w = mapped_of (key_of t) t.features.items (n, name) (member_of (map (key_of t) t.features.items) (n, name) (subst (λ (ns : List (ℕ × Text)). Contains ns (n, name)) names c)) in

@@ -23,7 +23,6 @@ use Rattle.krates_drawing.specs.declared.division.Division.{Division}
 use Rattle.krates_cm.specs.Document.{metadata_view}
 use Rattle.krates_cm.specs.declared.metadata.Metadata.{Metadata}
 use Rattle.krates_cm.specs.declared.package.Package.{Package}
-use Rattle.krates_drawing.specs.OutlineOrder.{IsOrdered}
 use Rattle.krates_drawing.specs.Views.{outline_view}
 use Rattle.krates_drawing.specs.declared.outline.Outline.{Outline as OutlineOf}
 use Rattle.krates_drawing.specs.declared.node.Node.{Node}
@@ -127,6 +126,6 @@ few_crates nodes n e lt = let le = no_more_crates nodes in omega (arith, e, le, 
 
 -- if the nodes can be numbered, so can the crates, and the nodes are sorted
 pub numbered_graph : Compares → {N E : Type 0} (made : Package → N → Type 0) (made_edge : Edge → E → Type 0) (m : Metadata) (s : SettingModel) (t : OutlineOf) (d : Division) (g : StoredGraph (Node N) E)
-    → IsOutlineFor (metadata_view m) s (outline_view t) → IsOrdered t → Builds m s d → IsGraphOf made made_edge (outline_view t) d.kept.items g → IsNumbered g → AreNodes g.nodes
-numbered_graph o made made_edge m s t d g h ordered b w n =
-    graph_nodes o made made_edge m s t d g h ordered b w (few_crates g.nodes (length d.kept.items) (counted d.kept.items g.nodes w.ids) n.nodes) n.nodes
+    → IsOutlineFor (metadata_view m) s (outline_view t) → Builds m s d → IsGraphOf made made_edge (outline_view t) d.kept.items g → IsNumbered g → AreNodes g.nodes
+numbered_graph o made made_edge m s t d g h b w n =
+    graph_nodes o made made_edge m s t d g h b w (few_crates g.nodes (length d.kept.items) (counted d.kept.items g.nodes w.ids) n.nodes) n.nodes

@@ -7,14 +7,13 @@ ghost use Rattle.krates_document.specs.Ids.{ids_view};
 ghost use Rattle.krates_drawing.specs.Drawing.{planned_edges, planned_nodes};
 ghost use Rattle.krates_drawing.specs.Ends.{HasEnds};
 ghost use Rattle.krates_drawing.specs.Limits.{DrawingRefusal, HasLimits, IsWithin};
-ghost use Rattle.krates_drawing.specs.OutlineOrder.{IsOrdered};
 ghost use Rattle.krates_drawing.specs.Stored.{IsStoredAs};
 ghost use Rattle.krates_drawing.specs.Views.{planned_edge_view, outline_view};
 ghost use Rattle.krates_ids.specs.declared.error.Error.TheVariants.{Memory};
 ghost use Rattle.krates_rules.specs.Admission.{IsAdmitted};
 ghost use Rattle.krates_rules.specs.NamedIds.{NamesReadIds};
 ghost use Rattle.krates_selection.specs.KeptTables.{AreStepsOf};
-ghost use Rattle.krates_questions.specs.DocumentModel.{as_resolved};
+ghost use Rattle.krates_questions.specs.Lookup.{resolved_view};
 ghost use Rattle.krates_selection.specs.Explained.{IsExplained};
 ghost use Rattle.krates_selection.specs.Selection.{IsSelection, RefusesSelection};
 ghost use Rattle.krates_rules.specs.Resolved.{id_of};
@@ -24,13 +23,14 @@ ghost use Rattle.krates.specs.MadeNodes.{IsMade, nodes_in};
 ghost use Rattle.krates.specs.Sketch.{IsSketchOf};
 
 use crate::enabled::enabled_of;
-use crate::nodes::{DrawnNodes, nodes_of, parts_of, store_nodes};
+use crate::nodes::{DrawnNodes, drawn_parts, nodes_of, store_nodes};
 use krates_cm::Metadata;
 use krates_drawing::edge::PlannedEdge;
+use krates_drawing::gather::outline_of;
 use krates_drawing::krate::Krate;
 use krates_drawing::limits::{Limits, Plan, plan_within};
 use krates_drawing::node::Node;
-use krates_drawing::outline::{Outline, outline_of};
+use krates_drawing::outline::Outline;
 use krates_drawing::store::{FromEdge, StoreError, store_edges};
 use krates_graph::graph::Graph;
 use krates_ids::Error;
@@ -50,7 +50,7 @@ pub(crate) struct Sketch {
 
 /// What is selected of a document that was admitted with these ids, as an outline, with its steps. It is refused as `select` is.
 ///
-/// The document is looked up once, for all of that.
+/// The document's tables are made once, for all of that.
 pub(crate) fn sketch_of(
     alloc: Global,
     metadata: &Metadata,
@@ -63,7 +63,7 @@ pub(crate) fn sketch_of(
     ensures named { IfErr result (NamesReadIds (metadata_view metadata.now)) }
 {
     let document = Document::new(alloc, metadata, ids)?;
-    let selection = select_in(alloc, document.lookup(), setting)?;
+    let selection = select_in(alloc, &document, setting)?;
     let work = selection.work;
     let steps = steps_of(alloc, &document, setting, &selection)?;
     let outline = outline_of(alloc, &document, setting, selection)?;
@@ -81,14 +81,14 @@ fn steps_of(
     setting: &Setting,
     selection: &Selection,
 ) -> Result<Vec<KeptStep>, AllocError>
-    requires selected { IsSelection (as_resolved document.now) setting.now selection.now }
-    requires explained { IsExplained (as_resolved document.now) setting.now selection.now }
-    ensures { IfOk result (λ steps. AreStepsOf (as_resolved document.now) setting.now
+    requires selected { IsSelection (resolved_view document.now) setting.now selection.now }
+    requires explained { IsExplained (resolved_view document.now) setting.now selection.now }
+    ensures { IfOk result (λ steps. AreStepsOf (resolved_view document.now) setting.now
         selection.now.krates.items selection.now.steps.items steps.items) }
 {
     let context = Context {
         alloc,
-        lookup: document.lookup(),
+        document,
         setting,
     };
     kept_steps(&context, &selection.krates, &selection.steps)
@@ -142,7 +142,6 @@ pub(crate) fn graph_of<N: FromPackage + Drop, E: FromEdge + Drop>(
     outline: Outline,
     krates: Vec<Krate>,
 ) -> Result<Graph<Node<N>, E>, Error>
-    requires ordered { IsOrdered outline }
     requires ids { map id_of (krate_ids krates.items) ≡ map (λ k. k.id) (outline_view outline).krates }
     requires stand { All (HasEnds (length (planned_nodes (outline_view outline))))
         (planned_edges (outline_view outline)) }
@@ -158,7 +157,7 @@ pub(crate) fn graph_of<N: FromPackage + Drop, E: FromEdge + Drop>(
     } = plan;
     let features = features_in(alloc, outline)?;
     let sets = enabled_of(alloc, krates.len(), features)?;
-    let parts = parts_of(alloc, planned_nodes)?;
+    let parts = drawn_parts(alloc, planned_nodes)?;
     let nodes = nodes_of(alloc, krates, sets, parts)?;
     stored(alloc, limits, nodes, &planned_edges)
 }

@@ -30,12 +30,12 @@ pub(crate) fn seen_through(
     let Some(IndexSource { build }) = index else {
         return Ok(metadata);
     };
-    let names = names_of(alloc, &metadata.packages)?;
+    let names = package_names(alloc, &metadata.packages)?;
     corrected(alloc, &CachingIndex::new(build, names), metadata)
 }
 
 /// The names of the packages.
-fn names_of(alloc: Global, packages: &[Package]) -> Result<PackageNames, AllocError>
+fn package_names(alloc: Global, packages: &[Package]) -> Result<PackageNames, AllocError>
     ensures { IfOk result (HasNames packages.now) }
 {
     let mut names = BTreeSet::new(alloc);

@@ -80,7 +80,6 @@ pub mod index {
 
 /// Which documents can be resolved, what is kept of them, and what they answer to the questions of the rules.
 pub mod resolve {
-    pub use krates_questions::lookup::Lookup;
     pub use krates_resolve::{
         Document, EnabledFeature, Ids, KeptEdge, Need, NumberedFact, NumberedStep, Presence,
         Reason, Selection, Setting, ToggledFeature, Work, admit, select,

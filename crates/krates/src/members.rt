@@ -22,14 +22,18 @@ pub(crate) fn members_of<N>(
     ensures ascending { IfOk result (λ numbers. IsStrictlyIncreasing numbers.items) }
     ensures exactly { IfOk result (λ numbers. AreNumbersOf (crate_ids nodes.now) ids.now numbers.items) }
 {
-    let mut numbers = numbers_of(alloc, nodes, ids)?;
+    let mut numbers = member_numbers(alloc, nodes, ids)?;
     numbers.sort_unstable();
     numbers.dedup();
     Ok(numbers)
 }
 
 /// The number of the crate with each of these ids, in the order of the ids. Ids of other crates are left out.
-fn numbers_of<N>(alloc: Global, nodes: &[Node<N>], ids: &[Kid]) -> Result<Vec<NodeId>, AllocError>
+fn member_numbers<N>(
+    alloc: Global,
+    nodes: &[Node<N>],
+    ids: &[Kid],
+) -> Result<Vec<NodeId>, AllocError>
     requires { AreNodes nodes.now }
     ensures { IfOk result (λ numbers. AreNumbersOf (crate_ids nodes.now) ids.now numbers.items) }
 {

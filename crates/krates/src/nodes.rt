@@ -44,7 +44,7 @@ pub(crate) struct DrawnNodes {
 }
 
 /// The mappings of the crates and the features, each in the order in which they were drawn.
-pub(crate) fn parts_of(
+pub(crate) fn drawn_parts(
     alloc: Global,
     planned_nodes: Vec<PlannedNode>,
 ) -> Result<DrawnParts, AllocError>

@@ -16,7 +16,7 @@ use Rattle.krates_drawing.specs.Node.{crate_ids}
 use Rattle.krates_drawing.specs.declared.node.Node.{Node}
 use Rattle.krates_drawing.specs.declared.node.Node.TheVariants.{Krate, Feature}
 use Rattle.krates_queries.proofs.AllDependentsLemmas.{there_crate}
-use Rattle.krates_answers.specs.Links.{AreExactly, AreLinks, AreStored, IsListed, IsNeededBy, Needs}
+use Rattle.krates_answers.specs.DirectLinks.{AreExactly, AreLinks, AreStored, IsListed, IsNeededBy, Needs}
 use Rattle.krates_answers.proofs.ListedNumbers.{AreEach, each_push, each_same, links_of, stored_of}
 
 -- ---- a dependent is a kept crate

@@ -20,7 +20,7 @@ use Rattle.krates_drawing.specs.declared.node.Node.{Node}
 use Rattle.krates_drawing.specs.declared.node.Node.TheVariants.{Krate, Feature}
 use Rattle.krates_queries.specs.declared.queries.direct.JoinedKrate.{JoinedKrate}
 use Rattle.krates_answers.specs.Difference.{IsLost, IsMissing, Pair, pair_of, pairs_with}
-use Rattle.krates_answers.specs.Links.{Needs}
+use Rattle.krates_answers.specs.DirectLinks.{Needs}
 use Rattle.krates_answers.specs.Those.{AddsThose, AreThose}
 use Rattle.krates_answers.proofs.OrderedParts.{Ascend, AreThose-from_part}
 use Rattle.krates_answers.proofs.ThoseLemmas.{AreThose-adds, AreThose-both, AreThose-like, AreThose-map}

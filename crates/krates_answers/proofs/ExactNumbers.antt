@@ -9,7 +9,7 @@ use Rattle.std.proofs.lemmas.List.Sums.{sum_by-cons}
 use Rattle.std.specs.List.{AllPairs}
 use Rattle.std.specs.List.Sorted.{IsStrictlyIncreasing}
 use Rattle.krates_rules.proofs.Members.{Member, contains_of, member_of}
-use Rattle.krates_answers.specs.Links.{AreExactly}
+use Rattle.krates_answers.specs.DirectLinks.{AreExactly}
 
 -- ---- one number after another
 

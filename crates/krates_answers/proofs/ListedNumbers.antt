@@ -5,7 +5,7 @@ use Rattle.std.proofs.lemmas.List.{get_or-take, get_or_append_left, get_or_push,
 use Rattle.std.proofs.lemmas.List.Elements.{All-from_get_or, All-get_or}
 use Rattle.std.proofs.lemmas.Option.{get_or_from_slice_get, slice_get-get_or, slice_get_within}
 use Rattle.std.specs.List.Sorted.{IsStrictlyIncreasing}
-use Rattle.krates_answers.specs.Links.{AreExactly, AreLinks, AreStored, IsListed}
+use Rattle.krates_answers.specs.DirectLinks.{AreExactly, AreLinks, AreStored, IsListed}
 use Rattle.krates_answers.proofs.ExactNumbers.{exactly_all, exactly_same}
 
 -- the list of each number has exactly the numbers to which that one leads

@@ -5,7 +5,7 @@ use Rattle.krates_queries.specs.Kept.{KeptCrates, IsNotKept, ids_of}
 use Rattle.krates_rules.specs.Facts.{Id}
 use Rattle.krates_rules.specs.Resolved.{StandsAt}
 use Rattle.krates_answers.specs.Difference.{HasDependency}
-use Rattle.krates_answers.specs.Links.{Needs}
+use Rattle.krates_answers.specs.DirectLinks.{Needs}
 
 -- the number of the crate with the id, if there is one
 abbrev pub IsLookedUp : {N E : Type 0} → KeptCrates N E → Id → Option ℕ → Type 0

@@ -6,7 +6,7 @@ use Rattle.std.specs.Global.{Vec}
 use Rattle.std.specs.List.{AllByRecursion, range_with_len, zip}
 use Rattle.krates_queries.specs.Kept.{KeptCrates, ids_of}
 use Rattle.krates_queries.specs.KrateNodes.{Match, crates_of}
-use Rattle.krates_answers.specs.Links.{AreExactly, AreLinks, Needs, items_of}
+use Rattle.krates_answers.specs.DirectLinks.{AreExactly, AreLinks, Needs, items_of}
 use Rattle.krates_answers.specs.Materials.{AreMaterials, Component, IsWhole}
 use Rattle.krates_answers.proofs.ListedNumbers.{each_of}
 

@@ -4,7 +4,7 @@ use Rattle.std.proofs.lemmas.Bool.{cases_eq, false_from_ne_true}
 use Rattle.std.proofs.lemmas.Bool.Decides.{Decides-eqb}
 use Rattle.std.proofs.lemmas.List.{append_assoc, get_or-set_other, get_or-set_same, replicate_more}
 use Rattle.std.proofs.lemmas.List.Sums.{count_by_more_no, count_by_more_yes}
-use Rattle.krates_answers.specs.Links.{ArePushed}
+use Rattle.krates_answers.specs.DirectLinks.{ArePushed}
 
 -- pushed to the lists of some places, and then to that of one more
 pub pushed_more : (number i place : ℕ) (places : List ℕ) (old mid : List (List ℕ)) → i < length places → place ≡ get_or places i place → length mid ≡ length old

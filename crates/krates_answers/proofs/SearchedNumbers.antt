@@ -10,7 +10,7 @@ use Rattle.std.specs.Global.{Vec}
 use Rattle.std.specs.List.Sorted.{IsBinarySearchResult, IsStrictlyIncreasing}
 use Rattle.std.specs.Ordering.{nat_cmp}
 use Rattle.std.specs.Result.{MatchResult}
-use Rattle.krates_answers.specs.Links.{AreStored, IsListed, items_of}
+use Rattle.krates_answers.specs.DirectLinks.{AreStored, IsListed, items_of}
 
 -- ---- in an ascending list
 

@@ -5,7 +5,7 @@ use Rattle.std.proofs.lemmas.List.{get_or_past}
 use Rattle.std.proofs.lemmas.List.Elements.{All-contains}
 use Rattle.std.proofs.lemmas.Option.{get_or_from_slice_get, slice_get-get_or, slice_get_within, unwrap_or-slice_get}
 use Rattle.krates_drawing.specs.Paths.{Reaches, begins, goes_on}
-use Rattle.krates_answers.specs.Links.{AreInside, IsListed}
+use Rattle.krates_answers.specs.DirectLinks.{AreInside, IsListed}
 use Rattle.krates_answers.specs.Tree.{list_of}
 
 pub list_of-none : (lists : List (List ℕ)) (n : ℕ) → slice_get lists n ≡ None → list_of lists n ≡ []

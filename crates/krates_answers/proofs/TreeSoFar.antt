@@ -4,7 +4,7 @@ use Rattle.std.proofs.lemmas.Bool.{cases_lt, false≢true}
 use Rattle.std.proofs.lemmas.List.{get_or-replicate, get_or_past, length-replicate}
 use Rattle.krates_rules.proofs.Members.{contains_of}
 use Rattle.krates_drawing.specs.Paths.{Reaches, begins}
-use Rattle.krates_answers.specs.Links.{IsListed}
+use Rattle.krates_answers.specs.DirectLinks.{IsListed}
 use Rattle.krates_answers.specs.Tree.{IsInPlace, crates_below, crates_in, list_of, root_line}
 use Rattle.krates_answers.specs.declared.tree.TreeLine.{TreeLine}
 use Rattle.krates_answers.proofs.EachAfter.{EachAfter}

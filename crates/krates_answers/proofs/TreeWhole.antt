@@ -4,7 +4,7 @@ use Rattle.std.proofs.lemmas.Bool.{cases_lt}
 use Rattle.std.proofs.lemmas.List.{get_or_past}
 use Rattle.std.specs.List.Sorted.{IsStrictlyIncreasing}
 use Rattle.krates_drawing.specs.Paths.{begins, goes_on}
-use Rattle.krates_answers.specs.Links.{IsListed}
+use Rattle.krates_answers.specs.DirectLinks.{IsListed}
 use Rattle.krates_answers.specs.Tree.{IsTree, crates_below, crates_in, list_of}
 use Rattle.krates_answers.specs.declared.tree.TreeLine.{TreeLine}
 use Rattle.krates_answers.proofs.EachAfter.{EachAfter-at}

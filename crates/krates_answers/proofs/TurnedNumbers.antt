@@ -5,7 +5,7 @@ use Rattle.std.proofs.lemmas.List.Elements.{All-contains, All-get_or}
 use Rattle.std.proofs.lemmas.Option.{get_or_from_slice_get, slice_get_read, slice_get_within}
 use Rattle.std.specs.Global.{Vec}
 use Rattle.std.specs.List.Sorted.{IsStrictlyIncreasing}
-use Rattle.krates_answers.specs.Links.{AreExactly, AreInside, AreLinks, ArePushed, AreStored, IsListed, items_of}
+use Rattle.krates_answers.specs.DirectLinks.{AreExactly, AreInside, AreLinks, ArePushed, AreStored, IsListed, items_of}
 use Rattle.krates_answers.proofs.ExactNumbers.{count_of, exactly_push, exactly_same}
 use Rattle.krates_answers.proofs.ListedNumbers.{AreEach, links_of, listed_at, listed_more, stored_of}
 use Rattle.krates_answers.proofs.SearchedNumbers.{stored_list}

@@ -3,7 +3,7 @@ use Rattle.std.proofs.Common.{◌≡◌, ◌↔◌, ℕ, true, false, Option, So
 use Rattle.krates_queries.specs.Kept.{KeptCrates, IsNotKept, ids_of}
 use Rattle.krates_rules.specs.Facts.{Id}
 use Rattle.krates_rules.specs.Resolved.{StandsAt}
-use Rattle.krates_answers.specs.Uses.{IsKept}
+use Rattle.krates_answers.specs.CrateUses.{IsKept}
 
 -- the answer is the number of the crate with the id
 abbrev pub FindsNumber : {N E : Type 0} → KeptCrates N E → Id → Option ℕ → Type 0

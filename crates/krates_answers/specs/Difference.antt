@@ -7,7 +7,7 @@ use Rattle.krates_queries.specs.KrateNodes.{Match, crates_of, match_view}
 use Rattle.krates_queries.specs.declared.queries.direct.JoinedKrate.{JoinedKrate}
 use Rattle.krates_rules.specs.Facts.{Id}
 use Rattle.krates_rules.specs.Resolved.{StandsAt, id_of}
-use Rattle.krates_answers.specs.Links.{Needs}
+use Rattle.krates_answers.specs.DirectLinks.{Needs}
 use Rattle.krates_answers.specs.Those.{AreThose}
 use Rattle.krates_answers.specs.declared.difference.DependencyEdge.{DependencyEdge}
 

@@ -4,9 +4,9 @@ pub mod Fitting
 pub mod Grouped
 pub mod Labelled
 pub mod Licences
-pub mod Links
+pub mod DirectLinks
 pub mod Materials
 pub mod Those
 pub mod Tree
 pub mod Unreachable
-pub mod Uses
+pub mod CrateUses

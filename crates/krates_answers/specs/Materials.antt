@@ -3,7 +3,7 @@ use Rattle.std.specs.Prelude.{◌≡◌, ℕ, List, All, map}
 use Rattle.krates_cm.specs.declared.package.Package.{Package}
 use Rattle.krates_queries.specs.KrateNodes.{Match, crates_of, match_view}
 use Rattle.krates_queries.specs.Kept.{KeptCrates}
-use Rattle.krates_answers.specs.Links.{AreExactly, Needs}
+use Rattle.krates_answers.specs.DirectLinks.{AreExactly, Needs}
 use Rattle.krates_answers.specs.declared.materials.Material.{Material}
 
 -- a crate with the numbers of those on which it depends

@@ -7,7 +7,7 @@ ghost use Rattle.krates_answers.specs.Difference.{AreLacking, AreLost, HasDepend
 ghost use Rattle.krates_answers.specs.Difference.{dependency_view, pair_of};
 ghost use Rattle.krates_answers.specs.Those.{AddsThose};
 
-use crate::links::Links;
+use crate::direct_links::DirectLinks;
 use crate::pushing::push;
 use krates::{DirectDependent, Edge, Kid, KrateMatch, Krates, Package};
 use std::alloc::{AllocError, Global};
@@ -27,13 +27,13 @@ pub struct DependencyEdge<'a> {
 struct There<'a, N, E> {
     krates: &'a Krates<N, E>,
     /// For each of its crates those that depend on it directly.
-    dependents: Links,
+    dependents: DirectLinks,
 }
 
 impl<'a, N, E> Model for There<'a, N, E> {
     ghost use Rattle.std.specs.Prelude.{length};
     ghost use Rattle.krates_queries.specs.Kept.{KeptCrates, ids_of};
-    ghost use Rattle.krates_answers.specs.Links.{AreLinks, IsNeededBy};
+    ghost use Rattle.krates_answers.specs.DirectLinks.{AreLinks, IsNeededBy};
 
     ghost Value = { KeptCrates N E };
 
@@ -48,7 +48,7 @@ impl<'a, N, E> There<'a, N, E> {
     fn new(alloc: Global, krates: &'a Krates<N, E>) -> Result<There<'a, N, E>, AllocError>
         ensures { IfOk result (λ there. there ≡ krates.now) }
     {
-        let dependents = Links::dependents(alloc, krates)?;
+        let dependents = DirectLinks::dependents(alloc, krates)?;
         Ok(There { krates, dependents })
     }
 

@@ -3,16 +3,16 @@
 #![tactic(auto)]
 
 pub mod changed;
+pub mod crate_uses;
 pub mod difference;
+pub mod direct_links;
 pub mod duplicates;
 pub mod fitting;
 mod grouped;
 mod labelled;
 pub mod licences;
-pub mod links;
 pub mod materials;
 pub mod naming;
 mod pushing;
 pub mod tree;
 pub mod unreachable;
-pub mod uses;

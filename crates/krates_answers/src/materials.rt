@@ -3,7 +3,7 @@
 ghost use Rattle.std.specs.Prelude.{◌≡◌, IfOk, map};
 ghost use Rattle.krates_answers.specs.Materials.{AreMaterials, material_view};
 
-use crate::links::Links;
+use crate::direct_links::DirectLinks;
 use krates::{KrateMatch, Krates, NodeId, Package};
 use std::alloc::{AllocError, Global};
 
@@ -21,7 +21,7 @@ pub struct Material<'a> {
 pub fn materials<'a>(alloc: Global, krates: &'a Krates) -> Result<Vec<Material<'a>>, AllocError>
     ensures { IfOk result (λ found. AreMaterials krates.now (map material_view found.items)) }
 {
-    let dependencies = Links::dependencies(alloc, krates)?;
+    let dependencies = DirectLinks::dependencies(alloc, krates)?;
     krates
         .krate_nodes()
         .zip(dependencies.into_lists())

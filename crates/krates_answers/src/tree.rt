@@ -1,10 +1,10 @@
 //! Trees of crates as lines, each crate opened once.
 
 ghost use Rattle.std.specs.Prelude.{◌≡◌, ◌<◌, ◌++◌, IfOk, OnOk, map, reverse};
-ghost use Rattle.krates_answers.specs.Links.{IsListed};
+ghost use Rattle.krates_answers.specs.DirectLinks.{IsListed};
 ghost use Rattle.krates_answers.specs.Tree.{IsTree, line_below, list_of, root_line, roots_among};
 
-use crate::links::Links;
+use crate::direct_links::DirectLinks;
 use krates::NodeId;
 use std::alloc::{AllocError, Global};
 
@@ -48,7 +48,7 @@ impl TreeLine {
     }
 }
 
-impl Links {
+impl DirectLinks {
     /// The tree below roots: a line for each root and for each edge from a crate that is reached, depth first, in the order of the
     /// numbers. Each crate is opened once, at its first line, so there are as many lines as roots and edges. Roots that
     /// no crate has are left out. The only refusal is running out of memory. Time: O(n + e) for n crates and e edges between them.

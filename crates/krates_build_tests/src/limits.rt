@@ -3,13 +3,11 @@
 //! The section `within` has two numbers: how many nodes there may be, and how many edges. A line is answered with how many there are, or
 //! with the text of the refusal.
 
-ghost use Rattle.std.specs.Prelude.{IfOk};
-ghost use Rattle.krates_drawing.specs.OutlineOrder.{IsOrdered};
-
 use crate::real_documents::metadata_of;
 use krates_cm::Metadata;
+use krates_drawing::gather::outline_of;
 use krates_drawing::limits::{Limits, plan_within};
-use krates_drawing::outline::{Outline, outline_of};
+use krates_drawing::outline::Outline;
 use krates_resolve::{Document, Setting, admit, select};
 use krates_samples::documents::section;
 use krates_samples::table::{Question, Row, hold};
@@ -27,9 +25,7 @@ fn limits_of(line: &str) -> Result<Limits, Fail> {
 }
 
 /// The outline of what is kept of a document without any setting.
-fn outline(alloc: Global, metadata: &Metadata) -> Result<Outline, Fail>
-    ensures { IfOk result IsOrdered }
-{
+fn outline(alloc: Global, metadata: &Metadata) -> Result<Outline, Fail> {
     let ids = admit(alloc, metadata)?;
     let setting = Setting::new(alloc);
     let selection = select(alloc, metadata, &ids, &setting)?;

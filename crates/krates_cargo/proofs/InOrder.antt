@@ -11,7 +11,7 @@ use Rattle.std.specs.String.{string_bytes, string_cmp, string_cmp_total, string_
 use Rattle.std.specs.declared.alloc.Global.{Global}
 use Rattle.std.specs.declared.cmp.Ordering.TheVariants.{Less}
 use Rattle.krates_cm.specs.Document.{Text, text_view}
-use Rattle.krates_cargo.specs.Options.{IsInOrder}
+use Rattle.krates_cargo.specs.CargoOptions.{IsInOrder}
 
 -- ---- elements of a list under a map
 

@@ -1,6 +1,6 @@
 pub mod Command
 pub mod FeatureChoice
-pub mod Options
+pub mod CargoOptions
 pub mod Output
 pub mod Running
 pub mod Setters

@@ -8,11 +8,11 @@ use Rattle.krates_cm.specs.Document.{Text, texts_view}
 use Rattle.krates_cm.specs.declared.error.Error.{Error}
 use Rattle.krates_cm.specs.declared.error.Error.TheVariants as errors
 use Rattle.krates_cargo.specs.Command.{CommandModel}
-use Rattle.krates_cargo.specs.Options.{OptionsModel}
+use Rattle.krates_cargo.specs.CargoOptions.{CargoOptionsModel}
 use Rattle.krates_cargo.specs.declared.command.Features.{Features}
 use Rattle.krates_cargo.specs.declared.command.Features.TheVariants.{All, NoDefault, Selected}
 use Rattle.krates_cargo.specs.contracts.command.MetadataCommand as command
-use Rattle.krates_cargo.specs.contracts.options.Cmd as options
+use Rattle.krates_cargo.specs.contracts.cargo_options.Cmd as options
 
 -- the command with these features chosen
 abbrev pub choosing : CommandModel → Features → CommandModel
@@ -42,10 +42,10 @@ abbrev pub with_variable : CommandModel → Text → Text → CommandModel
 with_variable c name value = record c { variables = insert_entry (slice_cmp nat_cmp) c.variables name value }
 
 -- more features, and more options, than those that are asked for
-abbrev pub with_features : OptionsModel → List Text → OptionsModel
+abbrev pub with_features : CargoOptionsModel → List Text → CargoOptionsModel
 with_features o names = record o { features = o.features ++ names }
 
-abbrev pub with_options : OptionsModel → List Text → OptionsModel
+abbrev pub with_options : CargoOptionsModel → List Text → CargoOptionsModel
 with_options o options = record o { other_options = o.other_options ++ options }
 
 -- ---- after a refusal nothing has changed
@@ -53,5 +53,5 @@ with_options o options = record o { other_options = o.other_options ++ options }
 abbrev pub RestsCommand : {E : Type 0} → MutBor CommandModel → Result (MutBor CommandModel) E → Fml
 RestsCommand c r = RestsIfErr command.the_row c (λ b. b.ghost_name) r (λ new. new ≡ c.now)
 
-abbrev pub RestsOptions : {E : Type 0} → MutBor OptionsModel → Result (MutBor OptionsModel) E → Fml
+abbrev pub RestsOptions : {E : Type 0} → MutBor CargoOptionsModel → Result (MutBor CargoOptionsModel) E → Fml
 RestsOptions c r = RestsIfErr options.the_row c (λ b. b.ghost_name) r (λ new. new ≡ c.now)

@@ -2,7 +2,7 @@
 
 ghost use Rattle.std.specs.Prelude.{◌↔◌, ◌<◌, ◌∷◌, [], IfErr, IfOk, IsTrue, OnOk, Some, length};
 ghost use Rattle.krates_cm.specs.Document.{metadata_view};
-ghost use Rattle.krates_derive.specs.Context.{rules_of};
+ghost use Rattle.krates_questions.specs.Context.{rules_of};
 ghost use Rattle.krates_checkers.specs.CheckRefusals.{IsCheckRefused, IsClosedRefused, IsRefusedThrough, IsStepFault, IsUnread};
 ghost use Rattle.krates_checkers.specs.CheckedDocument.{HoldsOfChecked, answer_of};
 ghost use Rattle.krates_checkers.specs.Using.{using};
@@ -18,11 +18,11 @@ use crate::check_error::CheckError;
 use crate::closed::is_closed;
 use crate::corrected_copy::corrected_copy;
 use krates_cm::Metadata;
-use krates_derive::context::Context;
 use krates_derive::following::{from_nothing, from_one, from_two};
 use krates_document::{Ids, Setting, admit};
 use krates_ids::{CachingIndex, Error};
 use krates_questions::Document;
+use krates_questions::context::Context;
 use krates_rules::{Derivation, Fact, Step};
 use std::alloc::{AllocError, Global};
 

@@ -4,7 +4,7 @@
 //! is asked with the feature, for the edges in the list.
 
 ghost use Rattle.std.specs.Prelude.{◌↔◌, IfOk, IsTrue};
-ghost use Rattle.krates_derive.specs.Context.{rules_of};
+ghost use Rattle.krates_questions.specs.Context.{rules_of};
 ghost use Rattle.krates_derive.specs.ClosureCheck.{document_in, facts_in};
 ghost use Rattle.krates_derive.specs.Giving.{AllIn, FactIn, FeatureIn};
 ghost use Rattle.krates_rules.specs.Derivation.{IsClosed};
@@ -15,10 +15,10 @@ use krates_derive::closing::{
     ClosureCheck, are_asked_in, are_roots_in, are_simple_in, are_toggling_in, is_crate_in,
     is_kept_in,
 };
-use krates_derive::context::Context;
 use krates_derive::fact_ref::EdgeRef;
 use krates_derive::fact_set::FactSet;
 use krates_ids::Kid;
+use krates_questions::context::Context;
 use krates_rules::Fact;
 use std::alloc::AllocError;
 

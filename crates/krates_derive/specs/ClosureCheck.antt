@@ -2,14 +2,14 @@
 use Rattle.std.specs.Prelude.{List}
 use Rattle.krates_rules.specs.StepViews.{facts_view}
 use Rattle.krates_derive.specs.declared.closing.ClosureCheck.{ClosureCheck}
-use Rattle.krates_questions.specs.DocumentModel.{as_resolved}
+use Rattle.krates_questions.specs.Lookup.{resolved_view}
 use Rattle.krates_rules.specs.Facts.{Fact}
 use Rattle.krates_rules.specs.Questions.{questions}
 use Rattle.krates_rules.specs.Resolved.{Resolved}
 use Rattle.krates_rules.specs.Rules.{Questions}
 
 abbrev pub document_in : ClosureCheck → Resolved
-document_in c = as_resolved c.document.now
+document_in c = resolved_view c.document.now
 
 abbrev pub rules_in : ClosureCheck → Questions
 rules_in c = questions (document_in c) c.setting.now

@@ -1,26 +1,27 @@
 //! Whether a fact follows from others by one rule, row by row.
 
-ghost use Rattle.std.specs.Prelude.{◌≡◌, ◌↔◌, ◌∷◌, [], Contains, IfOk, IsTrue, map};
-ghost use Rattle.krates_cm.specs.Document.{dependency_view, text_view};
-ghost use Rattle.krates_derive.specs.Context.{document_of, rules_of};
+ghost use Rattle.std.specs.Prelude.{◌≡◌, ◌↔◌, ◌∷◌, [], IfOk, IsTrue};
+ghost use Rattle.krates_cm.specs.Document.{dependency_view};
+ghost use Rattle.krates_questions.specs.Context.{document_of, rules_of};
 ghost use Rattle.krates_derive.specs.Following.{AsksDefault, AsksFeature, AsksForFeature, IsAskedBy, IsChildWith, IsNamedBy, IsRooted, IsRootedFeature, MayKeep, MustKeep, TogglesOver};
 ghost use Rattle.krates_derive.specs.FactRef.{edge_of_ref, feature_of_ref, toggle_of_ref, fact_of_ref};
-ghost use Rattle.krates_questions.specs.DocumentModel.{as_resolved};
+ghost use Rattle.krates_questions.specs.Lookup.{resolved_view};
 ghost use Rattle.krates_questions.specs.Need.{TellsDeclaration, TellsNeed};
 ghost use Rattle.krates_rules.specs.Facts.{Crate, Feature, Kept};
 ghost use Rattle.krates_rules.specs.Resolved.{id_of};
 ghost use Rattle.krates_rules.specs.Rules.{Rule};
 ghost use Rattle.krates_rules.specs.StepViews.{fact_view};
 
-use crate::context::Context;
 use crate::fact_ref::{EdgeRef, FactRef, FeatureRef, ToggleRef, fact_ref, info_of};
 use crate::referring::{asks, names, toggles};
 use krates_cm::Dependency;
 use krates_document::Setting;
 use krates_ids::Kid;
+use krates_questions::context::Context;
 use krates_questions::questions::is_same;
 use krates_questions::{Document, Need};
 use krates_rules::Fact;
+use krates_text::texts::has_text;
 use std::alloc::{AllocError, Global};
 
 // ---- edges
@@ -32,7 +33,7 @@ pub(crate) fn need_of<'a>(
     setting: &Setting,
     edge: &EdgeRef<'a>,
 ) -> Result<Need<'a>, AllocError>
-    ensures { IfOk result (TellsNeed (as_resolved document.now) setting.now (edge_of_ref edge.now)) }
+    ensures { IfOk result (TellsNeed (resolved_view document.now) setting.now (edge_of_ref edge.now)) }
 {
     let info = info_of(edge)?;
     document.need(alloc, setting, edge.parent, edge.child, &info)
@@ -43,7 +44,7 @@ pub(crate) fn declaration_of<'a>(
     document: &Document<'a>,
     edge: &EdgeRef<'a>,
 ) -> Result<Option<&'a Dependency>, AllocError>
-    ensures { IfOk result (TellsDeclaration (as_resolved document.now) (edge_of_ref edge.now)) }
+    ensures { IfOk result (TellsDeclaration (resolved_view document.now) (edge_of_ref edge.now)) }
 {
     let info = info_of(edge)?;
     Ok(document.declaration(edge.parent, edge.child, &info))
@@ -85,7 +86,7 @@ fn asks_for_feature<'a>(
     name: &str,
 ) -> Result<bool, AllocError>
     ensures { IfOk result
-        (λ b. IsTrue b ↔ AsksForFeature (as_resolved document.now) (edge_of_ref edge.now) name.now) }
+        (λ b. IsTrue b ↔ AsksForFeature (resolved_view document.now) (edge_of_ref edge.now) name.now) }
 {
     match declaration_of(document, edge)? {
         Some(dependency) => Ok(asks_feature(dependency, name)),
@@ -105,18 +106,6 @@ fn asks_default(dependency: &Dependency, name: &str) -> bool
     ensures { IsTrue result ↔ AsksDefault (dependency_view dependency.now) name.now }
 {
     dependency.uses_default_features && name == "default"
-}
-
-/// Whether a list has a text.
-fn has_text(texts: &[String], text: &str) -> bool
-    ensures { IsTrue result ↔ Contains (map text_view texts.now) text.now }
-{
-    for other in texts {
-        if other.as_str() == text {
-            return true;
-        }
-    }
-    false
 }
 
 // ---- the rows
@@ -170,7 +159,7 @@ fn is_named<'a>(
 ) -> bool
     ensures { let f = feature.now in
         let g = other.now in
-        IsTrue result ↔ IsNamedBy (as_resolved document.now) rule (id_of f.krate.now) f.name.now (id_of g.krate.now) g.name.now }
+        IsTrue result ↔ IsNamedBy (resolved_view document.now) rule (id_of f.krate.now) f.name.now (id_of g.krate.now) g.name.now }
 {
     rule == 3
         && is_same(feature.krate, other.krate)
@@ -235,7 +224,7 @@ fn is_child<'a>(
     feature: &FeatureRef<'a>,
 ) -> bool
     ensures { let f = feature.now in
-        IsTrue result ↔ IsChildWith (as_resolved document.now) rule (edge_of_ref edge.now) (id_of f.krate.now) f.name.now }
+        IsTrue result ↔ IsChildWith (resolved_view document.now) rule (edge_of_ref edge.now) (id_of f.krate.now) f.name.now }
 {
     rule == 6 && is_same(edge.child, feature.krate) && document.lists(edge.child, feature.name)
 }

@@ -2,18 +2,18 @@
 
 ghost use Rattle.std.specs.Prelude.{◌↔◌, IsTrue, map};
 ghost use Rattle.krates_cm.specs.Document.{text_view};
-ghost use Rattle.krates_derive.specs.Context.{document_of};
+ghost use Rattle.krates_questions.specs.Context.{document_of};
 ghost use Rattle.krates_derive.specs.Following.{IsToggleOf};
 ghost use Rattle.krates_derive.specs.Referring.{Asks, AsksAmong, AsksBy, HasSimple, Toggles, TogglesAmong, TogglesBy};
-ghost use Rattle.krates_questions.specs.DocumentModel.{as_resolved};
+ghost use Rattle.krates_questions.specs.Lookup.{resolved_view};
 ghost use Rattle.krates_rules.specs.Features.{HasReference};
 ghost use Rattle.krates_rules.specs.Resolved.{id_of};
 ghost use Rattle.krates_text.specs.FeatureReference.{IsReference, simple};
 
-use crate::context::Context;
 use crate::fact_ref::FeatureRef;
 use krates_ids::Kid;
 use krates_questions::Document;
+use krates_questions::context::Context;
 use krates_text::features::{Feature, ParsedFeature};
 use krates_text::laws;
 
@@ -29,7 +29,7 @@ struct FeatureOfDependency<'t> {
 /// Whether a feature of a crate refers to another feature of it.
 pub(crate) fn names<'a>(document: &Document<'a>, krate: &'a Kid, feature: &str, name: &str) -> bool
     ensures { IsTrue result
-        ↔ HasReference (as_resolved document.now) (id_of krate.now) feature.now (simple name.now) }
+        ↔ HasReference (resolved_view document.now) (id_of krate.now) feature.now (simple name.now) }
 {
     has_simple(document.values(krate, feature), name)
 }

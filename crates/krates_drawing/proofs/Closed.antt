@@ -15,7 +15,8 @@ use Rattle.krates_rules.specs.Rules as rules
 use Rattle.krates_rules.specs.Rules.{Questions, default_name}
 use Rattle.krates_rules.specs.Setting.{SettingModel}
 use Rattle.krates_drawing.specs.Drawing.{Endpoint, AtFeature, EdgeModel, is_feature}
-use Rattle.krates_drawing.specs.Outline.{EdgeRow, asked_by, has_text, Meaning, OwnFeature, FeatureOf, FeatureRow, IsMeaning, Names, Outline}
+use Rattle.krates_drawing.specs.Outline.{EdgeRow, asked_by, Meaning, OwnFeature, FeatureOf, FeatureRow, IsMeaning, Names, Outline}
+use Rattle.krates_text.specs.Texts.{has_text}
 use Rattle.krates_drawing.proofs.DrawnEdges.{IsDrawnEdge, dep, dep_feature, toggles, own, names, names_crate, names_feature, KeepsEnds}
 use Rattle.krates_drawing.proofs.Derivations.{one, two, crate_of_feature, child_kept, kept_by}
 use Rattle.krates_drawing.proofs.Holding.{Holds}

@@ -1,5 +1,5 @@
 -- What is gathered from a selection is its outline.
-use Rattle.std.proofs.Common.{◌≡◌, Bool, inl, inr, ℕ, zero, suc, ◌<◌, List, [], ◌∷◌, All, length, map, zip, Option, Some, None, slice_get, refl, sym, ap, ◌∙◌, subst, arith}
+use Rattle.std.proofs.Common.{◌≡◌, Bool, inl, inr, ℕ, zero, suc, ◌<◌, List, [], ◌∷◌, All, length, map, option_map, zip, Option, Some, None, slice_get, refl, sym, ap, ◌∙◌, subst, arith}
 use Rattle.std.proofs.lemmas.List.{length-map}
 use Rattle.std.proofs.lemmas.List.Elements.{All-contains, All-from_recursion}
 use Rattle.std.specs.Global.{Vec}
@@ -7,10 +7,10 @@ use Rattle.std.specs.List.{AllZip}
 use Rattle.std.specs.List.Sorted.{IsStrictlySortedBy}
 use Rattle.std.specs.declared.alloc.Global.{Global}
 use Rattle.std.specs.Prelude.{String}
-use Rattle.krates_cm.specs.Document.{NodeModel, PackageModel, text_view, texts_view}
+use Rattle.krates_cm.specs.Document.{NodeModel, PackageModel, node_view, text_view, texts_view}
 use Rattle.krates_ids.specs.Identity.{Identity, id_cmp}
 use Rattle.krates_questions.specs.Lookup.{IsPackageOf, TellsPackage}
-use Rattle.krates_questions.specs.Contents.{IsNodeOf, TellsNode}
+use Rattle.krates_questions.specs.Contents.{IsNodeOf}
 use Rattle.krates_rules.specs.Admission.{NoneDoubled}
 use Rattle.krates_rules.specs.DeclaredDependency.{dependency_entry}
 use Rattle.krates_rules.specs.Derivation.{Derivable}
@@ -20,20 +20,19 @@ use Rattle.krates_rules.specs.Resolved.{Resolved, id_of, HasNode, HasPackage, No
 use Rattle.krates_selection.specs.CrateNumbers.{HasCrates, HasEnds, HasHome, id_at}
 use Rattle.krates_selection.specs.Selection.{edge_view, IsPlaced, IsSelection, crate_fact, edge_fact, feature_fact}
 use Rattle.krates_rules.specs.Setting.{SettingModel}
-use Rattle.krates_selection.specs.SelectionOrder.{place_cmp, feature_cmp, toggled_cmp}
+use Rattle.krates_selection.specs.SelectionOrder.{place_cmp, feature_cmp}
 use Rattle.krates_selection.specs.declared.selection.EnabledFeature.{EnabledFeature}
 use Rattle.krates_selection.specs.declared.selection.KeptEdge.{KeptEdge}
 use Rattle.krates_selection.specs.declared.selection.Selection.{Selection}
 use Rattle.krates_drawing.specs.Gathered.{MeaningsRecorded, AreMeant, count_in, declared_in, dependency_in, given_in, listed_of, values_in}
 use Rattle.krates_drawing.specs.Outline.{IsCrateRow, IsEdgeRow, IsMeaning, IsFeatureRow, IsOutline, toggle_of}
-use Rattle.krates_drawing.specs.OutlineOrder.{IsOrdered}
+use Rattle.krates_drawing.specs.InOrder.{AreInOrder}
 use Rattle.krates_drawing.specs.CrateRecord.{IsRecordOf, node_at, node_in, of_crate, package_at, package_in}
-use Rattle.krates_drawing.specs.Views.{kids_in, crate_row_view, edge_row_view, meanings_view, feature_row_view, outline_view}
+use Rattle.krates_drawing.specs.Views.{kids_of, crate_row_view, edge_row_view, meanings_view, feature_row_view}
 use Rattle.krates_drawing.specs.declared.outline.CrateRow.{CrateRow}
 use Rattle.krates_drawing.specs.declared.outline.EdgeRow.{EdgeRow}
 use Rattle.krates_drawing.specs.declared.outline.Meaning.{Meaning}
 use Rattle.krates_drawing.specs.declared.outline.FeatureRow.{FeatureRow}
-use Rattle.krates_drawing.specs.declared.outline.Outline.{Outline}
 use Rattle.krates_drawing.specs.declared.crate_record.CrateRecord.{CrateRecord}
 use Rattle.krates_document.proofs.DeclaredOnce.{declared_stands}
 use Rattle.krates_drawing.proofs.ById.{zip_by}
@@ -52,12 +51,25 @@ pub record AreGathered (r : Resolved) (s : SettingModel) (x : Selection) (record
   pub givens : map texts_view gs ≡ map (given_in records) x.edges.items
   pub names : AllZip (MeaningsRecorded r s.all_named records) x.features.items (map meanings_view ms)
 
--- the outline has each item of the selection with what is beside it
-pub record IsMadeOf (x : Selection) (ns : List ℕ) (gs : List (Vec (String Global))) (ms : List (Vec Meaning)) (t : Outline) : Type 0 where
-  pub krates : t.krates.items ≡ map (λ pair. record { id = pair.0; declared = pair.1 }) (zip x.krates.items ns)
-  pub links : t.links.items ≡ map (λ pair. record { edge = pair.0; given = pair.1 }) (zip x.edges.items gs)
-  pub features : t.features.items ≡ map (λ pair. record { feature = pair.0; meanings = pair.1 }) (zip x.features.items ms)
-  pub toggled : t.toggled ≡ x.toggled
+-- what each call gives about the lists that it reads is about those of the selection
+pub gathered_by_reading : (r : Resolved) (s : SettingModel) (x : Selection) (records : List CrateRecord) (ns : List ℕ) (gs : List (Vec (String Global))) (ms : List (Vec Meaning))
+    → {kids : List Identity} {counted edges_from named_from : List CrateRecord} {edges : List KeptEdge} {features : List EnabledFeature}
+    → kids ≡ x.krates.items → counted ≡ records → edges_from ≡ records → edges ≡ x.edges.items → named_from ≡ records → features ≡ x.features.items
+    → AllZip (IsRecordOf r) kids records → ns ≡ map count_in counted → map texts_view gs ≡ map (given_in edges_from) edges → AllZip (MeaningsRecorded r s.all_named named_from) features (map meanings_view ms)
+    → AreGathered r s x records ns gs ms
+gathered_by_reading r s x records ns gs ms {edges = edges} {features = features} krates_read counted_read from_read edges_read named_read features_read each counts givens names = record {
+  each = subst (λ (xs : List Identity). AllZip (IsRecordOf r) xs records) krates_read each;
+  counts = counts ∙ ap (map count_in) counted_read;
+  givens = givens ∙ (ap (λ xs. map (given_in xs) edges) from_read ∙ ap (map (given_in records)) edges_read);
+  names = subst (λ (xs : List EnabledFeature). AllZip (MeaningsRecorded r s.all_named records) xs (map meanings_view ms)) features_read
+      (subst (λ (xs : List CrateRecord). AllZip (MeaningsRecorded r s.all_named xs) features (map meanings_view ms)) named_read names);
+}
+
+-- the lists have each item of the selection with what is beside it
+pub record AreMadeOf (x : Selection) (ns : List ℕ) (gs : List (Vec (String Global))) (ms : List (Vec Meaning)) (ks : List CrateRow) (ls : List EdgeRow) (fs : List FeatureRow) : Type 0 where
+  pub krates : ks ≡ map (λ pair. record { id = pair.0; declared = pair.1 }) (zip x.krates.items ns)
+  pub links : ls ≡ map (λ pair. record { edge = pair.0; given = pair.1 }) (zip x.edges.items gs)
+  pub features : fs ≡ map (λ pair. record { feature = pair.0; meanings = pair.1 }) (zip x.features.items ms)
 
 -- the count beside a crate
 record CountRecorded (r : Resolved) (i : Identity) (n : ℕ) : Type 0 where
@@ -85,7 +97,7 @@ record RecordAt (r : Resolved) (kids : List Identity) (records : List CrateRecor
   at : slice_get records n ≡ Some here
   krate : id_of here.krate.now ≡ id_at kids n
   pkg : TellsPackage r (id_at kids n) here.pkg
-  node : TellsNode r (id_at kids n) here.node
+  node : IsNodeOf r (id_at kids n) (option_map (λ node. node_view node.now) here.node)
 
 record_at : (r : Resolved) (kids : List Identity) (records : List CrateRecord) (n : ℕ) → AllZip (IsRecordOf r) kids records → n < length kids → RecordAt r kids records n
 record_at r [] ts n z lt = absurd (omega (arith, lt))
@@ -195,7 +207,7 @@ make_link e v = record { edge = e; given = v }
 abbrev make_named : EnabledFeature → Vec Meaning → FeatureRow
 make_named f v = record { feature = f; meanings = v }
 
-module _ (r : Resolved) (s : SettingModel) (x : Selection) (records : List CrateRecord) (ns : List ℕ) (gs : List (Vec (String Global))) (ms : List (Vec Meaning)) (t : Outline) (h : IsSelection r s x) (w : AreGathered r s x records ns gs ms) (m : IsMadeOf x ns gs ms t) where
+module _ (r : Resolved) (s : SettingModel) (x : Selection) (records : List CrateRecord) (ns : List ℕ) (gs : List (Vec (String Global))) (ms : List (Vec Meaning)) (ks : Vec CrateRow) (ls : Vec EdgeRow) (fs : Vec FeatureRow) (h : IsSelection r s x) (w : AreGathered r s x records ns gs ms) (m : AreMadeOf x ns gs ms ks.items ls.items fs.items) where
   counts : AllZip (CountRecorded r) x.krates.items ns
   counts = subst (AllZip (CountRecorded r) x.krates.items) (sym w.counts) (counts_recorded r x.krates.items records w.each)
 
@@ -205,17 +217,17 @@ module _ (r : Resolved) (s : SettingModel) (x : Selection) (records : List Crate
   names : AllZip (λ f v. MeaningsRecorded r s.all_named records f (meanings_view v)) x.features.items ms
   names = zip_unmapped (MeaningsRecorded r s.all_named records) meanings_view x.features.items ms w.names
 
-  same_kids : kids_in t ≡ x.krates.items
+  same_kids : kids_of ks.items ≡ x.krates.items
   same_kids = ap (map (λ (k : CrateRow). k.id)) m.krates ∙ first_parts (CountRecorded r) make_krate (λ (k : CrateRow). k.id) x.krates.items ns (λ i n. refl) counts
 
-  same_edges : map (λ (l : EdgeRow). l.edge) t.links.items ≡ x.edges.items
+  same_edges : map (λ (l : EdgeRow). l.edge) ls.items ≡ x.edges.items
   same_edges = ap (map (λ (l : EdgeRow). l.edge)) m.links ∙ first_parts (λ e v. given_in records e ≡ texts_view v) make_link (λ (l : EdgeRow). l.edge) x.edges.items gs (λ e v. refl) givens
 
-  same_features : map (λ (n : FeatureRow). n.feature) t.features.items ≡ x.features.items
+  same_features : map (λ (n : FeatureRow). n.feature) fs.items ≡ x.features.items
   same_features = ap (map (λ (n : FeatureRow). n.feature)) m.features ∙ first_parts (λ f v. MeaningsRecorded r s.all_named records f (meanings_view v)) make_named (λ (n : FeatureRow). n.feature) x.features.items ms (λ f v. refl) names
 
-  as_many : length x.krates.items ≡ length t.krates.items
-  as_many = sym (ap length same_kids) ∙ length-map t.krates.items (λ (k : CrateRow). k.id)
+  as_many : length x.krates.items ≡ length ks.items
+  as_many = sym (ap length same_kids) ∙ length-map ks.items (λ (k : CrateRow). k.id)
 
   -- the lists with what is beside them
   krates_made : AllZip (IsCrateRow r) x.krates.items (map crate_row_view (map (λ pair. make_krate pair.0 pair.1) (zip x.krates.items ns)))
@@ -238,27 +250,32 @@ module _ (r : Resolved) (s : SettingModel) (x : Selection) (records : List Crate
       let kept = crate_of_feature (questions r s) i (text_view f.name) ((h.facts (feature_fact x.krates.items f)).1 (feature_there x f at)) in
       named_recorded r s.all_named x.krates.items records f v w.each home (has_package r s i kept) is)) names
 
-  pub gathered : NoneDoubled r.metadata r.graph → IsOutline r s x (outline_view t)
+  pub gathered : NoneDoubled r.metadata r.graph → IsOutline r s x (record {
+    krates = map crate_row_view ks.items;
+    links = map (edge_row_view (kids_of ks.items)) ls.items;
+    features = map (feature_row_view (kids_of ks.items)) fs.items;
+    toggled = map (toggle_of (kids_of ks.items)) x.toggled.items;
+  })
   gathered none = record {
     krates = subst (λ zs. AllZip (IsCrateRow r) x.krates.items (map crate_row_view zs)) (sym m.krates) krates_made;
-    links = subst (λ ks. AllZip (IsEdgeRow r s x.krates.items) x.edges.items (map (edge_row_view ks) t.links.items)) (sym same_kids)
+    links = subst (λ is. AllZip (IsEdgeRow r s x.krates.items) x.edges.items (map (edge_row_view is) ls.items)) (sym same_kids)
         (subst (λ zs. AllZip (IsEdgeRow r s x.krates.items) x.edges.items (map (edge_row_view x.krates.items) zs)) (sym m.links) (links_made none));
-    features = subst (λ ks. AllZip (IsFeatureRow r s.all_named x.krates.items) x.features.items (map (feature_row_view ks) t.features.items)) (sym same_kids)
+    features = subst (λ is. AllZip (IsFeatureRow r s.all_named x.krates.items) x.features.items (map (feature_row_view is) fs.items)) (sym same_kids)
         (subst (λ zs. AllZip (IsFeatureRow r s.all_named x.krates.items) x.features.items (map (feature_row_view x.krates.items) zs)) (sym m.features) features_made);
-    toggled = ap (λ v. map (toggle_of (kids_in t)) v.items) m.toggled ∙ ap (λ ks. map (toggle_of ks) x.toggled.items) same_kids;
+    toggled = ap (λ is. map (toggle_of is) x.toggled.items) same_kids;
   }
 
   -- ---- the order of the outline
 
-  pub ordered : IsOrdered t
+  pub ordered : AreInOrder ks ls fs x.toggled
   ordered = record {
     krates = subst (IsStrictlySortedBy id_cmp) (sym same_kids) h.krates;
     links = subst (IsStrictlySortedBy place_cmp) (sym same_edges) h.edges;
-    ends = subst (λ n. All (λ (l : EdgeRow). HasEnds n l.edge) t.links.items) as_many
-        (all_under (λ (l : EdgeRow). l.edge) (HasEnds (length x.krates.items)) t.links.items (subst (All (HasEnds (length x.krates.items))) (sym same_edges) h.ends));
+    ends = subst (λ n. All (λ (l : EdgeRow). HasEnds n l.edge) ls.items) as_many
+        (all_under (λ (l : EdgeRow). l.edge) (HasEnds (length x.krates.items)) ls.items (subst (All (HasEnds (length x.krates.items))) (sym same_edges) h.ends));
     features = subst (IsStrictlySortedBy feature_cmp) (sym same_features) h.features;
-    homes = subst (λ k. All (λ (n : FeatureRow). HasHome k n.feature) t.features.items) as_many
-        (all_under (λ (n : FeatureRow). n.feature) (HasHome (length x.krates.items)) t.features.items (subst (All (HasHome (length x.krates.items))) (sym same_features) h.homes));
-    toggled = subst (λ v. IsStrictlySortedBy toggled_cmp v.items) (sym m.toggled) h.toggled;
-    toggled_crates = subst (λ n. All (HasCrates n) t.toggled.items) as_many (subst (λ v. All (HasCrates (length x.krates.items)) v.items) (sym m.toggled) h.toggled_crates);
+    homes = subst (λ k. All (λ (n : FeatureRow). HasHome k n.feature) fs.items) as_many
+        (all_under (λ (n : FeatureRow). n.feature) (HasHome (length x.krates.items)) fs.items (subst (All (HasHome (length x.krates.items))) (sym same_features) h.homes));
+    toggled = h.toggled;
+    toggled_crates = subst (λ n. All (HasCrates n) x.toggled.items) as_many h.toggled_crates;
   }

@@ -3,7 +3,7 @@ use Rattle.std.specs.Prelude.{◌≡◌, ℕ, List, Option, Some, None, option_m
 use Rattle.krates_cm.specs.Document.{NodeModel, PackageModel, node_view, package_view}
 use Rattle.krates_ids.specs.Identity.{Identity}
 use Rattle.krates_questions.specs.Lookup.{TellsPackage}
-use Rattle.krates_questions.specs.Contents.{TellsNode}
+use Rattle.krates_questions.specs.Contents.{IsNodeOf}
 use Rattle.krates_rules.specs.Resolved.{Resolved, id_of}
 use Rattle.krates_drawing.specs.declared.crate_record.CrateRecord.{CrateRecord}
 
@@ -11,7 +11,7 @@ use Rattle.krates_drawing.specs.declared.crate_record.CrateRecord.{CrateRecord}
 pub record IsRecordOf (r : Resolved) (i : Identity) (t : CrateRecord) : Type 0 where
   pub krate : t.krate.now ≡ i
   pub pkg : TellsPackage r (id_of i) t.pkg
-  pub node : TellsNode r (id_of i) t.node
+  pub node : IsNodeOf r (id_of i) (option_map (λ node. node_view node.now) t.node)
 
 abbrev pub package_in : CrateRecord → Option PackageModel
 package_in t = option_map (λ pkg. package_view pkg.now) t.pkg

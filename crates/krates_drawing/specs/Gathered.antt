@@ -6,7 +6,8 @@ use Rattle.krates_rules.specs.Resolved.{Resolved, id_of}
 use Rattle.krates_selection.specs.declared.selection.EnabledFeature.{EnabledFeature}
 use Rattle.krates_selection.specs.declared.selection.KeptEdge.{KeptEdge}
 use Rattle.krates_questions.specs.FeatureValues.{values_of}
-use Rattle.krates_drawing.specs.Outline.{Meaning, IsMeaning, asked_by, has_text}
+use Rattle.krates_drawing.specs.Outline.{Meaning, IsMeaning, asked_by}
+use Rattle.krates_text.specs.Texts.{has_text}
 use Rattle.krates_drawing.specs.CrateRecord.{node_at, package_at, package_in}
 use Rattle.krates_drawing.specs.declared.crate_record.CrateRecord.{CrateRecord}
 

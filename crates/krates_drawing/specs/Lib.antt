@@ -8,6 +8,7 @@ pub mod EdgeSource
 pub mod EdgeText
 pub mod Ends
 pub mod Gathered
+pub mod InOrder
 pub mod Krate
 pub mod Limits
 pub mod LinesFrom

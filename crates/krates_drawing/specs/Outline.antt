@@ -1,11 +1,11 @@
 -- A selection with what drawing has to know: beside each crate, edge and feature what the document says about it.
 use Rattle.std.specs.Prelude.{◌≡◌, ℕ, Bool, List, [], ◌∷◌, ◌++◌, filter, length, map, if◌then◌else◌}
-use Rattle.std.specs.List.{AllZip, list_any}
-use Rattle.std.specs.Str.{bytes_eq}
+use Rattle.std.specs.List.{AllZip}
 use Rattle.krates_cm.specs.Document.{Text, text_view, DependencyModel, PackageModel, NodeModel}
 use Rattle.krates_ids.specs.Identity.{Identity}
 use Rattle.krates_text.specs.FeatureReference.{Reference, IsReference}
 use Rattle.krates_text.specs.FeatureReference as references
+use Rattle.krates_text.specs.Texts.{has_text}
 use Rattle.krates_rules.specs.Facts.{Id, Edge}
 use Rattle.krates_rules.specs.Questions.{IsDeclaredAt}
 use Rattle.krates_rules.specs.Referent.{AreReferents}
@@ -70,10 +70,6 @@ pub record IsCrateRow (r : Resolved) (i : Identity) (k : CrateRow) : Type 0 wher
 -- the features that a declared dependency asks for: those that it names, in order, then `default` by use
 abbrev pub asked_by : DependencyModel → List Text
 asked_by d = d.features ++ (if d.uses_default_features then default_name ∷ [] else [])
-
--- the text is among these
-abbrev pub has_text : List Text → Text → Bool
-has_text texts t = list_any (bytes_eq t) texts
 
 -- Of the features that its declared dependency asks for, the edge gives those that the child's node lists.
 pub record IsEdgeRow (r : Resolved) (s : SettingModel) (kids : List Identity) (e : KeptEdge) (l : EdgeRow) : Type 0 where

@@ -1,10 +1,7 @@
--- The order of the lists of an outline.
+-- What stands where in the lists of an outline.
 use Rattle.std.specs.Prelude.{◌≡◌, ℕ, ◌<◌, ◌≤◌, ◌==◌, Bool, List, Option, Some, All, AllPairs, if◌then◌else◌, filter, length, map, not, option_map, slice_get, take, slice_index_or}
 use Rattle.std.specs.List.{list_any}
-use Rattle.std.specs.List.Sorted.{IsStrictlySortedBy}
-use Rattle.krates_ids.specs.Identity.{id_cmp}
-use Rattle.krates_selection.specs.CrateNumbers.{HasCrates, HasEnds, HasHome}
-use Rattle.krates_selection.specs.SelectionOrder.{place_cmp, feature_cmp, toggled_cmp}
+use Rattle.krates_selection.specs.CrateNumbers.{HasEnds}
 use Rattle.krates_selection.specs.declared.selection.ToggledFeature.{ToggledFeature}
 use Rattle.krates_rules.specs.Facts.{Id}
 use Rattle.krates_drawing.specs.Drawing.{crate_number, id_eq, is_crate, last_from, leads_to}
@@ -13,16 +10,6 @@ use Rattle.krates_drawing.specs.Views.{kids_in, crate_row_view, edge_row_view}
 use Rattle.krates_drawing.specs.declared.outline.EdgeRow.{EdgeRow}
 use Rattle.krates_drawing.specs.declared.outline.FeatureRow.{FeatureRow}
 use Rattle.krates_drawing.specs.declared.outline.Outline.{Outline}
-
--- each list is in the order of the selection's, without doubles, and has by number only crates of the outline
-pub record IsOrdered (t : Outline) : Type 0 where
-  pub krates : IsStrictlySortedBy id_cmp (kids_in t)
-  pub links : IsStrictlySortedBy place_cmp (map (λ l. l.edge) t.links.items)
-  pub ends : All (λ l. HasEnds (length t.krates.items) l.edge) t.links.items
-  pub features : IsStrictlySortedBy feature_cmp (map (λ n. n.feature) t.features.items)
-  pub homes : All (λ n. HasHome (length t.krates.items) n.feature) t.features.items
-  pub toggled : IsStrictlySortedBy toggled_cmp t.toggled.items
-  pub toggled_crates : All (HasCrates (length t.krates.items)) t.toggled.items
 
 -- the feature stands at the place
 pub record IsPlaceOfFeature (t : Outline) (place : ℕ) (n : FeatureRow) : Type 0 where

@@ -5,7 +5,7 @@ use Rattle.std.specs.Cmp.Lexicographic.{slice_cmp}
 use Rattle.std.specs.Ordering.{nat_cmp, on}
 use Rattle.std.specs.Prelude.{◌≡◌, List}
 use Rattle.krates_cm.specs.Document.{Text}
-use Rattle.krates_drawing.specs.Outline.{has_text}
+use Rattle.krates_text.specs.Texts.{has_text}
 
 -- the set has exactly these texts
 abbrev pub HoldsTexts : List Text → BTreeSet (Bor Text) → Type 0

@@ -5,7 +5,7 @@ ghost use Rattle.krates_drawing.specs.Drawing.{AtFeature, PlannedEdge as DrawnEd
 ghost use Rattle.krates_drawing.specs.EdgeSource.{IsDrawnTo, IsCrateSource, AreToggledBy};
 ghost use Rattle.krates_drawing.specs.LinesFrom.{line_from};
 ghost use Rattle.krates_drawing.specs.Outline.{toggle_of};
-ghost use Rattle.krates_drawing.specs.OutlineOrder.{AreByChild, HaveEnds, IsFirstTo, IsOrdered};
+ghost use Rattle.krates_drawing.specs.OutlineOrder.{AreByChild, HaveEnds, IsFirstTo};
 ghost use Rattle.krates_drawing.specs.Views.{kids_in, krate_at, edge_row_view, outline_view, Draws, IsFew};
 
 use crate::edge::{Edge, PlannedEdge};
@@ -27,7 +27,6 @@ fn draw_uses(
     out: &mut Vec<PlannedEdge>,
 ) -> Result<(), AllocError>
     requires few { IsFew outline.now }
-    requires ordered { IsOrdered outline.now }
     requires ends { HasEnds (length outline.now.krates.items) link.now.edge }
     requires source { source ≡ number_of_crate (outline_view outline.now)
         (id_at (kids_in outline.now) link.now.edge.parent) }
@@ -72,7 +71,6 @@ fn draw_kept(
     out: &mut Vec<PlannedEdge>,
 ) -> Result<(), AllocError>
     requires few { IsFew outline.now }
-    requires ordered { IsOrdered outline.now }
     requires ends { HaveEnds outline.now links.now }
     requires source { All (λ l. source ≡ number_of_crate (outline_view outline.now)
         (id_at (kids_in outline.now) l.edge.parent)) links.now }
@@ -94,7 +92,6 @@ fn draw_toggled(
     out: &mut Vec<PlannedEdge>,
 ) -> Result<(), AllocError>
     requires few { IsFew outline.now }
-    requires ordered { IsOrdered outline.now }
     requires within { child < length outline.now.krates.items }
     ensures { OnOk result (Draws out.old out.new (map (λ g. line_from (outline_view outline.now) source
         (AtFeature (id_at (kids_in outline.now) child) g.name))
@@ -121,7 +118,6 @@ fn draw_pair(
     out: &mut Vec<PlannedEdge>,
 ) -> Result<(), AllocError>
     requires few { IsFew outline.now }
-    requires ordered { IsOrdered outline.now }
     requires home { IsCrateSource outline.now from.now }
     requires toggled { AreToggledBy outline.now from.now.krate toggled.now }
     requires within { child < length outline.now.krates.items }
@@ -155,7 +151,6 @@ fn draw_child(
     out: &mut Vec<PlannedEdge>,
 ) -> Result<(), AllocError>
     requires few { IsFew outline.now }
-    requires ordered { IsOrdered outline.now }
     requires home { IsCrateSource outline.now from.now }
     requires toggled { AreToggledBy outline.now from.now.krate toggled.now }
     requires place { place < length from.now.mine.now }
@@ -173,7 +168,6 @@ fn draw_child(
 #[tactic(auto, unfolding(crate::specs::Drawing::crate_lines, crate::specs::Drawing::children_lines))]
 fn draw_crate(outline: &Outline, krate: usize, out: &mut Vec<PlannedEdge>) -> Result<(), AllocError>
     requires few { IsFew outline.now }
-    requires ordered { IsOrdered outline.now }
     requires within { krate < length outline.now.krates.items }
     ensures { OnOk result (Draws out.old out.new (crate_lines (outline_view outline.now)
         (krate_at outline.now krate))) }
@@ -189,7 +183,6 @@ fn draw_crate(outline: &Outline, krate: usize, out: &mut Vec<PlannedEdge>) -> Re
 /// Draws the edges from all crates.
 pub(crate) fn draw_crates(outline: &Outline, out: &mut Vec<PlannedEdge>) -> Result<(), AllocError>
     requires few { IsFew outline.now }
-    requires ordered { IsOrdered outline.now }
     ensures { OnOk result (Draws out.old out.new (flat_map (crate_lines (outline_view outline.now))
         (outline_view outline.now).krates)) }
 {

@@ -2,7 +2,7 @@
 ghost use Rattle.std.specs.Prelude.{◌≡◌, IfOk, option_map};
 ghost use Rattle.std.specs.List.{AllZip};
 ghost use Rattle.krates_cm.specs.Document.{node_view, package_view};
-ghost use Rattle.krates_questions.specs.DocumentModel.{as_resolved};
+ghost use Rattle.krates_questions.specs.Lookup.{resolved_view};
 ghost use Rattle.krates_drawing.specs.CrateRecord.{IsRecordOf, node_at as node_recorded, package_at as package_recorded};
 
 use krates_cm::{Node, Package};
@@ -30,7 +30,7 @@ pub fn records_of<'k, 'a>(
     krates: &'k [Kid],
 ) -> Result<Vec<CrateRecord<'k, 'a>>, AllocError>
     ensures { IfOk result
-        (λ records. AllZip (IsRecordOf (as_resolved document.now)) krates.now records.items) }
+        (λ records. AllZip (IsRecordOf (resolved_view document.now)) krates.now records.items) }
 {
     let mut records = Vec::with_capacity(alloc, krates.len())?;
     for krate in krates {

@@ -41,7 +41,7 @@ pub fn divide(
     laws::comparison();
     let mut krates = with_ids(alloc, packages, ids)?;
     krates.sort_unstable();
-    divided(alloc, krates, selected)
+    division_of(alloc, krates, selected)
 }
 
 /// Each package with the id at its place.
@@ -56,7 +56,7 @@ fn with_ids(alloc: Global, packages: Vec<Package>, ids: Vec<Kid>) -> Result<Vec<
 }
 
 /// Divides crates, and leaves them in their order.
-fn divided(
+fn division_of(
     alloc: Global,
     krates: Vec<Krate>,
     selected: &[outline::CrateRow],

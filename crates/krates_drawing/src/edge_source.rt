@@ -1,7 +1,6 @@
 //! From where edges are drawn.
 ghost use Rattle.std.specs.Prelude.{◌≡◌, ◌<◌, [], MatchOption, length};
 ghost use Rattle.krates_drawing.specs.EdgeSource.{IsCrateSource};
-ghost use Rattle.krates_drawing.specs.OutlineOrder.{IsOrdered};
 
 use crate::equal_ranges::links_from;
 use crate::outline::{EdgeRow, Outline};
@@ -23,7 +22,6 @@ pub(crate) struct FeatureSource<'a> {
 
 /// The crate of the first feature, where there is one.
 pub(crate) fn first_source(outline: &Outline) -> Option<CrateSource<'_>>
-    requires { IsOrdered outline.now }
     ensures { MatchOption result (outline.now.features.items ≡ []) (IsCrateSource outline.now) }
 {
     let first = outline.features.first()?;
@@ -36,7 +34,6 @@ pub(crate) fn source_of<'a>(
     krate: usize,
     before: &CrateSource<'a>,
 ) -> CrateSource<'a>
-    requires ordered { IsOrdered outline.now }
     requires within { krate < length outline.now.krates.items }
     requires before { IsCrateSource outline.now before.now }
     ensures home { IsCrateSource outline.now result }
@@ -50,7 +47,6 @@ pub(crate) fn source_of<'a>(
 
 /// The crate of this number.
 pub(crate) fn source_at(outline: &Outline, krate: usize) -> CrateSource<'_>
-    requires ordered { IsOrdered outline.now }
     requires within { krate < length outline.now.krates.items }
     ensures home { IsCrateSource outline.now result }
     ensures krate { result.krate ≡ krate }

@@ -2,14 +2,13 @@
 ghost use Rattle.std.specs.Prelude.{◌≡◌, ◌<◌, filter, length};
 ghost use Rattle.std.specs.List.{list_any};
 ghost use Rattle.krates_drawing.specs.EdgeSource.{AreLinksFrom, AreToggledBy};
-ghost use Rattle.krates_drawing.specs.OutlineOrder.{AreByChild, AreByKrate, IsOrdered, has_child, has_krate};
+ghost use Rattle.krates_drawing.specs.OutlineOrder.{AreByChild, AreByKrate, has_child, has_krate};
 
 use crate::outline::{EdgeRow, Outline};
 use krates_selection::ToggledFeature;
 
 /// The kept edges from a crate, by child.
 pub(crate) fn links_from(outline: &Outline, parent: usize) -> &[EdgeRow]
-    requires ordered { IsOrdered outline.now }
     requires within { parent < length outline.now.krates.items }
     ensures { AreLinksFrom outline.now parent result.now }
 {
@@ -44,7 +43,6 @@ pub(crate) fn leads_to(mine: &[EdgeRow], child: usize) -> bool
 
 /// The features that a crate toggles, grouped by the crate that they belong to.
 pub(crate) fn toggled_by(outline: &Outline, by: usize) -> &[ToggledFeature]
-    requires ordered { IsOrdered outline.now }
     requires within { by < length outline.now.krates.items }
     ensures { AreToggledBy outline.now by result.now }
 {

@@ -5,20 +5,19 @@ ghost use Rattle.krates_rules.specs.Resolved.{id_of};
 ghost use Rattle.krates_drawing.specs.Drawing.{AtCrate, AtFeature, leads_to as leads, feature_lines};
 ghost use Rattle.krates_drawing.specs.EdgeSource.{IsCrateSource, IsNumberOfChild};
 ghost use Rattle.krates_drawing.specs.LinesFrom.{line_from, meant_from};
-ghost use Rattle.krates_drawing.specs.OutlineOrder.{AreByChild, HaveEnds, IsOrdered, IsPlaceOfFeature};
+ghost use Rattle.krates_drawing.specs.OutlineOrder.{AreByChild, HaveEnds, IsPlaceOfFeature};
 ghost use Rattle.krates_drawing.specs.Views.{kids_in, edge_row_view, meaning_view, feature_row_view, outline_view, Draws, IsFew};
 
 use crate::edge::{Edge, PlannedEdge};
 use crate::edge_source::{CrateSource, FeatureSource, first_source, source_of};
 use crate::equal_ranges::leads_to;
-use crate::numbers::{crate_number, feature_number, number_at, place_of_crate};
+use crate::numbers::{crate_number, feature_node_at, feature_number, place_of_crate};
 use crate::outline::{EdgeRow, FeatureRow, Meaning, Outline};
 use krates_ids::Kid;
 use std::alloc::AllocError;
 
 /// The number of the crate with this id, where one of the edges leads to it.
 fn number_of_child(outline: &Outline, mine: &[EdgeRow], id: &Kid) -> Option<usize>
-    requires ordered { IsOrdered outline.now }
     requires by_child { AreByChild mine.now }
     requires ends { HaveEnds outline.now mine.now }
     ensures { MatchOption result
@@ -41,7 +40,6 @@ fn draw_to_crates(
     out: &mut Vec<PlannedEdge>,
 ) -> Result<(), AllocError>
     requires few { IsFew outline.now }
-    requires ordered { IsOrdered outline.now }
     requires home { IsCrateSource outline.now from.now.home }
     ensures { OnOk result (Draws out.old out.new (map (line_from (outline_view outline.now) from.now.number)
         (map AtCrate (filter (leads (map (edge_row_view (kids_in outline.now)) from.now.home.mine.now))
@@ -69,7 +67,6 @@ fn draw_to_features(
     out: &mut Vec<PlannedEdge>,
 ) -> Result<(), AllocError>
     requires few { IsFew outline.now }
-    requires ordered { IsOrdered outline.now }
     requires home { IsCrateSource outline.now from.now.home }
     ensures { OnOk result (Draws out.old out.new (map (line_from (outline_view outline.now) from.now.number)
         (map (λ q. AtFeature q name.now)
@@ -97,7 +94,6 @@ fn draw_meaning(
     out: &mut Vec<PlannedEdge>,
 ) -> Result<(), AllocError>
     requires few { IsFew outline.now }
-    requires ordered { IsOrdered outline.now }
     requires home { IsCrateSource outline.now from.now.home }
     ensures { OnOk result (Draws out.old out.new (meant_from (outline_view outline.now) from.now.number
         (map (edge_row_view (kids_in outline.now)) from.now.home.mine.now)
@@ -128,7 +124,6 @@ fn draw_meanings(
     out: &mut Vec<PlannedEdge>,
 ) -> Result<(), AllocError>
     requires few { IsFew outline.now }
-    requires ordered { IsOrdered outline.now }
     requires home { IsCrateSource outline.now from.now.home }
     ensures { OnOk result (Draws out.old out.new (flat_map (meant_from (outline_view outline.now)
         from.now.number (map (edge_row_view (kids_in outline.now)) from.now.home.mine.now)
@@ -150,7 +145,6 @@ fn draw_feature(
     out: &mut Vec<PlannedEdge>,
 ) -> Result<(), AllocError>
     requires few { IsFew outline.now }
-    requires ordered { IsOrdered outline.now }
     requires home { IsCrateSource outline.now home.now }
     requires krate { home.now.krate ≡ named.now.feature.krate }
     requires place { IsPlaceOfFeature outline.now place named.now }
@@ -158,7 +152,7 @@ fn draw_feature(
         (feature_row_view (kids_in outline.now) named.now))) }
 {
     let from = FeatureSource {
-        number: number_at(outline, place, named),
+        number: feature_node_at(outline, place, named),
         home: *home,
     };
     out.push(PlannedEdge {
@@ -172,7 +166,6 @@ fn draw_feature(
 /// Draws what all feature nodes lead to.
 pub(crate) fn draw_features(outline: &Outline, out: &mut Vec<PlannedEdge>) -> Result<(), AllocError>
     requires few { IsFew outline.now }
-    requires ordered { IsOrdered outline.now }
     ensures { OnOk result (Draws out.old out.new (flat_map (feature_lines (outline_view outline.now))
         (outline_view outline.now).features)) }
 {

@@ -12,6 +12,7 @@ mod edge_source;
 mod equal_ranges;
 mod feature_edges;
 pub mod filter;
+pub mod gather;
 pub mod krate;
 pub mod laws;
 pub mod limits;

@@ -3,7 +3,6 @@ ghost use Rattle.std.specs.Prelude.{◌≡◌, ◌<◌, ◌≤◌, IfErr, IfOk, 
 ghost use Rattle.std.specs.Bool.{MatchBool};
 ghost use Rattle.krates_drawing.specs.Drawing.{planned_edges, planned_nodes};
 ghost use Rattle.krates_drawing.specs.Limits.{DrawingRefusal, IsWithin};
-ghost use Rattle.krates_drawing.specs.OutlineOrder.{IsOrdered};
 ghost use Rattle.krates_drawing.specs.Views.{planned_edge_view, outline_view, planned_node_view};
 
 use crate::edge::PlannedEdge;
@@ -47,7 +46,6 @@ fn has_room(outline: &Outline, nodes: u32) -> bool
 ///
 /// Time: O(n log n) for n nodes and edges.
 pub fn plan_within(alloc: Global, outline: &Outline, limits: Limits) -> Result<Plan, Error>
-    requires ordered { IsOrdered outline.now }
     ensures nodes { IfOk result (λ p. map planned_node_view p.planned_nodes.items
         ≡ planned_nodes (outline_view outline.now)) }
     ensures edges { IfOk result (λ p. map planned_edge_view p.planned_edges.items

@@ -3,11 +3,12 @@ ghost use Rattle.std.specs.Prelude.{◌≡◌, ◌++◌, map, filter, IfOk, OnOk
 ghost use Rattle.std.specs.List.{AllZip};
 ghost use Rattle.std.specs.Option.{option_map};
 ghost use Rattle.krates_cm.specs.Document.{node_view, dependency_view, text_view};
-ghost use Rattle.krates_questions.specs.DocumentModel.{as_resolved};
+ghost use Rattle.krates_questions.specs.Lookup.{resolved_view};
 ghost use Rattle.krates_rules.specs.Resolved.{id_of};
 ghost use Rattle.krates_questions.specs.ReferentPlace.{referent_id};
 ghost use Rattle.krates_rules.specs.Referent.{AreReferents};
-ghost use Rattle.krates_drawing.specs.Outline.{IsMeaning, asked_by, has_text as has};
+ghost use Rattle.krates_drawing.specs.Outline.{IsMeaning, asked_by};
+ghost use Rattle.krates_text.specs.Texts.{has_text};
 ghost use Rattle.krates_drawing.specs.Views.{meaning_view};
 
 use crate::outline::Meaning;
@@ -18,6 +19,7 @@ use krates_ids::Kid;
 use krates_questions::Document;
 use krates_questions::referent::Referent;
 use krates_text::features::{Feature, ParsedFeature};
+use krates_text::texts::has_text;
 use std::alloc::{AllocError, Global};
 
 /// Fewer features than these are looked for one by one, since a set of what is listed costs more.
@@ -32,7 +34,7 @@ fn referents_of<'a>(
     name: &str,
 ) -> Result<Vec<Kid>, AllocError>
     ensures { let all = setting.now.all_named in
-        IfOk result (λ ids. AreReferents (as_resolved document.now) all (id_of krate.now) name.now
+        IfOk result (λ ids. AreReferents (resolved_view document.now) all (id_of krate.now) name.now
         (map id_of ids.items)) }
 {
     let referents = document.referents(alloc, setting, krate, name)?;
@@ -61,7 +63,7 @@ pub fn meaning_of<'a>(
     text: &str,
 ) -> Result<Meaning, AllocError>
     ensures { let all = setting.now.all_named in
-        IfOk result (λ meaning. IsMeaning (as_resolved document.now) all (id_of krate.now) text.now
+        IfOk result (λ meaning. IsMeaning (resolved_view document.now) all (id_of krate.now) text.now
         (meaning_view meaning)) }
 {
     match ParsedFeature::from(text).feat() {
@@ -97,7 +99,7 @@ pub fn meanings_of<'a>(
     values: &[String],
 ) -> Result<Vec<Meaning>, AllocError>
     ensures { let all = setting.now.all_named in
-        IfOk result (λ meanings. AllZip (IsMeaning (as_resolved document.now) all (id_of krate.now))
+        IfOk result (λ meanings. AllZip (IsMeaning (resolved_view document.now) all (id_of krate.now))
         (map text_view values.now) (map meaning_view meanings.items)) }
 {
     let mut meanings = Vec::with_capacity(alloc, values.len())?;
@@ -107,21 +109,9 @@ pub fn meanings_of<'a>(
     Ok(meanings)
 }
 
-/// Whether the text is in the list.
-fn has_text(texts: &[String], text: &str) -> bool
-    ensures { result ≡ has (map text_view texts.now) text.now }
-{
-    for x in texts {
-        if text == x.as_str() {
-            return true;
-        }
-    }
-    false
-}
-
 /// Those of the features that the node lists, each looked for among all of these.
 fn push_few(node: &Node, features: &[String], given: &mut Vec<String>) -> Result<(), AllocError>
-    ensures { OnOk result (map text_view given.new.items ≡ map text_view given.old.items ++ filter (has
+    ensures { OnOk result (map text_view given.new.items ≡ map text_view given.old.items ++ filter (has_text
         (node_view node.now).features) (map text_view features.now)) }
 {
     for x in features {
@@ -139,7 +129,7 @@ fn push_many<'a>(
     given: &mut Vec<String>,
 ) -> Result<(), AllocError>
     ensures { OnOk result (map text_view given.new.items ≡ map text_view given.old.items
-        ++ filter (has listed.now) (map text_view features.now)) }
+        ++ filter (has_text listed.now) (map text_view features.now)) }
 {
     for x in features {
         if listed.has(x.as_str()) {
@@ -156,7 +146,7 @@ fn push_listed<'a>(
     features: &'a [String],
     given: &mut Vec<String>,
 ) -> Result<(), AllocError>
-    ensures { OnOk result (map text_view given.new.items ≡ map text_view given.old.items ++ filter (has
+    ensures { OnOk result (map text_view given.new.items ≡ map text_view given.old.items ++ filter (has_text
         (node_view node.now).features) (map text_view features.now)) }
 {
     if features.len() < FEW {
@@ -175,7 +165,7 @@ pub fn given_of(
     dependency: &Dependency,
     node: &Node,
 ) -> Result<Vec<String>, AllocError>
-    ensures { IfOk result (λ given. map text_view given.items ≡ filter (has (node_view node.now).features)
+    ensures { IfOk result (λ given. map text_view given.items ≡ filter (has_text (node_view node.now).features)
         (asked_by (dependency_view dependency.now))) }
 {
     let mut given = Vec::new(alloc);

@@ -3,7 +3,7 @@ ghost use Rattle.std.specs.Prelude.{◌≡◌, ◌<◌, ◌++◌, length, map, I
 ghost use Rattle.std.specs.List.{range_with_len};
 ghost use Rattle.krates_selection.specs.CrateNumbers.{HasEnds};
 ghost use Rattle.krates_drawing.specs.Drawing.{planned_crate, planned_feature, mapped, mapping as mapping_of, planned_nodes};
-ghost use Rattle.krates_drawing.specs.OutlineOrder.{AreByChild, HaveEnds, IsClaimed, IsOrdered};
+ghost use Rattle.krates_drawing.specs.OutlineOrder.{AreByChild, HaveEnds, IsClaimed};
 ghost use Rattle.krates_drawing.specs.Views.{IsFew, kids_in, krate_at, edge_row_view, planned_node_view, outline_view};
 
 use crate::equal_ranges::links_from;
@@ -31,7 +31,6 @@ pub enum PlannedNode {
 /// Writes the number of the crate to which the edge leads at the place of its declared dependency.
 fn claim(outline: &Outline, link: &EdgeRow, mapping: &mut [Option<NodeId>])
     requires few { IsFew outline.now }
-    requires ordered { IsOrdered outline.now }
     requires ends { HasEnds (length outline.now.krates.items) link.now.edge }
     ensures { IsClaimed (outline_view outline.now) (edge_row_view (kids_in outline.now) link.now) mapping.old
         mapping.new }
@@ -50,7 +49,6 @@ fn mapping_over(
     count: usize,
 ) -> Result<Vec<Option<NodeId>>, AllocError>
     requires few { IsFew outline.now }
-    requires ordered { IsOrdered outline.now }
     requires by_child { AreByChild mine.now }
     requires ends { HaveEnds outline.now mine.now }
     ensures { IfOk result (λ v. v.items ≡ map (mapped (outline_view outline.now)
@@ -71,7 +69,6 @@ fn mapping(
     krate: usize,
 ) -> Result<Vec<Option<NodeId>>, AllocError>
     requires few { IsFew outline.now }
-    requires ordered { IsOrdered outline.now }
     requires within { krate < length outline.now.krates.items }
     ensures { IfOk result
         (λ v. v.items ≡ mapping_of (outline_view outline.now) (krate_at outline.now krate)) }
@@ -90,7 +87,6 @@ fn push_crates(
     out: &mut Vec<PlannedNode>,
 ) -> Result<(), AllocError>
     requires few { IsFew outline.now }
-    requires ordered { IsOrdered outline.now }
     ensures { OnOk result (map planned_node_view out.new.items ≡ map planned_node_view out.old.items
         ++ map (planned_crate (outline_view outline.now)) (outline_view outline.now).krates) }
 {
@@ -105,7 +101,6 @@ fn push_crates(
 
 fn push_features(outline: &Outline, out: &mut Vec<PlannedNode>) -> Result<(), AllocError>
     requires few { IsFew outline.now }
-    requires ordered { IsOrdered outline.now }
     ensures { OnOk result (map planned_node_view out.new.items ≡ map planned_node_view out.old.items
         ++ map (planned_feature (outline_view outline.now)) (outline_view outline.now).features) }
 {
@@ -125,7 +120,6 @@ fn push_features(outline: &Outline, out: &mut Vec<PlannedNode>) -> Result<(), Al
 /// Time: O(n log n) for n nodes.
 pub fn draw_nodes(alloc: Global, outline: &Outline) -> Result<Vec<PlannedNode>, AllocError>
     requires few { IsFew outline.now }
-    requires ordered { IsOrdered outline.now }
     ensures { IfOk result (λ v. map planned_node_view v.items ≡ planned_nodes (outline_view outline.now)) }
 {
     let mut out = Vec::with_capacity(alloc, outline.krates.len() + outline.features.len())?;

@@ -8,7 +8,7 @@ ghost use Rattle.krates_ids.specs.Identity.{id_cmp};
 ghost use Rattle.krates_selection.specs.CrateNumbers.{id_at};
 ghost use Rattle.krates_rules.specs.Resolved.{id_of};
 ghost use Rattle.krates_drawing.specs.Drawing.{crate_number as number_of_crate, feature_number as number_of_feature, is_crate, is_feature, place_of};
-ghost use Rattle.krates_drawing.specs.OutlineOrder.{IsOrdered, IsPlaceOfFeature};
+ghost use Rattle.krates_drawing.specs.OutlineOrder.{IsPlaceOfFeature};
 ghost use Rattle.krates_drawing.specs.Views.{IsFew, kids_in, kids_of, crate_row_view, feature_row_view, outline_view};
 
 use crate::outline::{CrateRow, FeatureRow, Outline};
@@ -19,7 +19,6 @@ use std::cmp::Ordering;
 /// The number of a crate's node: the crate's own.
 pub(crate) fn crate_number(outline: &Outline, krate: usize) -> NodeId
     requires few { IsFew outline.now }
-    requires ordered { IsOrdered outline.now }
     requires within { krate < length outline.now.krates.items }
     ensures { result ≡ number_of_crate (outline_view outline.now) (id_at (kids_in outline.now) krate) }
 {
@@ -29,7 +28,6 @@ pub(crate) fn crate_number(outline: &Outline, krate: usize) -> NodeId
 /// The number of the feature's node, or the number of nodes where it isn't enabled.
 pub(crate) fn feature_number(outline: &Outline, krate: usize, name: &str) -> NodeId
     requires few { IsFew outline.now }
-    requires ordered { IsOrdered outline.now }
     requires within { krate < length outline.now.krates.items }
     ensures { result ≡ number_of_feature (outline_view outline.now) (id_at (kids_in outline.now) krate)
         name.now }
@@ -39,9 +37,8 @@ pub(crate) fn feature_number(outline: &Outline, krate: usize, name: &str) -> Nod
 }
 
 /// The number of the node of the feature that stands at this place among those of the outline.
-pub(crate) fn number_at(outline: &Outline, place: usize, named: &FeatureRow) -> NodeId
+pub(crate) fn feature_node_at(outline: &Outline, place: usize, named: &FeatureRow) -> NodeId
     requires few { IsFew outline.now }
-    requires ordered { IsOrdered outline.now }
     requires place { IsPlaceOfFeature outline.now place named.now }
     ensures { result ≡ number_of_feature (outline_view outline.now)
         (id_at (kids_in outline.now) named.now.feature.krate) (text_view named.now.feature.name) }
@@ -64,7 +61,6 @@ pub(crate) fn place_of_crate(krates: &[CrateRow], id: &Kid) -> usize
 
 /// The place of the feature, or the number of features.
 fn place_of_feature(outline: &Outline, krate: usize, name: &str) -> usize
-    requires ordered { IsOrdered outline.now }
     requires within { krate < length outline.now.krates.items }
     ensures place { result ≡ place_of (is_feature (id_at (kids_in outline.now) krate) name.now)
         (map (feature_row_view (kids_in outline.now)) outline.now.features.items) }

@@ -1,7 +1,6 @@
 //! All edges of a selection's graph, by number.
 ghost use Rattle.std.specs.Prelude.{◌≡◌, map, IfOk};
 ghost use Rattle.krates_drawing.specs.Drawing.{planned_edges};
-ghost use Rattle.krates_drawing.specs.OutlineOrder.{IsOrdered};
 ghost use Rattle.krates_drawing.specs.Views.{outline_view, planned_edge_view, IsFew};
 
 use crate::crate_edges::draw_crates;
@@ -17,7 +16,6 @@ use std::alloc::{AllocError, Global};
 #[tactic(auto, unfolding(crate::specs::Drawing::planned_edges))]
 pub fn plan(alloc: Global, outline: &Outline) -> Result<Vec<PlannedEdge>, AllocError>
     requires few { IsFew outline.now }
-    requires ordered { IsOrdered outline.now }
     ensures { IfOk result (λ v. map planned_edge_view v.items ≡ planned_edges (outline_view outline.now)) }
 {
     let mut out = Vec::with_capacity(alloc, edges_at_most(outline))?;

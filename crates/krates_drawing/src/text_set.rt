@@ -2,7 +2,7 @@
 
 ghost use Rattle.std.specs.Prelude.{◌≡◌, IfOk, map};
 ghost use Rattle.krates_cm.specs.Document.{text_view};
-ghost use Rattle.krates_drawing.specs.Outline.{has_text};
+ghost use Rattle.krates_text.specs.Texts.{has_text};
 ghost use Rattle.krates_drawing.specs.TextSet.{HoldsTexts};
 
 use std::alloc::{AllocError, Global};

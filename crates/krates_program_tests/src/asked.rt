@@ -11,7 +11,7 @@ use crate::versions::VERSIONS;
 use krates::Metadata;
 use krates::cm::MetadataCommand;
 use krates::target::Target;
-use krates_report::{Report, Reporter};
+use krates_report::{Report, ReportError, Reporter};
 use krates_samples::documents::metadata;
 use krates_samples::table::{Question, Row, hold};
 use krates_words::{Asked, Choice, asked_of};
@@ -45,7 +45,7 @@ pub(crate) fn add_targets(alloc: Global, choice: &mut Choice) -> Result<(), Fail
 }
 
 /// What is printed of documents, with a mark where it is a no; or why there is nothing.
-fn printed_of(alloc: Global, mut asked: Asked, documents: &str) -> Result<String, Fail> {
+fn printed_of(alloc: Global, asked: &mut Asked, documents: &str) -> Result<String, Fail> {
     let (first, second) = match documents.split_once(" // ") {
         Some((first, second)) => (first, Some(second)),
         None => (documents, None),
@@ -53,7 +53,12 @@ fn printed_of(alloc: Global, mut asked: Asked, documents: &str) -> Result<String
     add_targets(alloc, &mut asked.choice)?;
     let other = other_of(alloc, second)?;
     let document = document_of(alloc, first)?;
-    match Reporter::new(alloc, &asked).answer(document, other) {
+    told_of(alloc, Reporter::new(alloc, asked).answer(document, other))
+}
+
+/// The text of an answer, with a mark where it is a no; or why there is none.
+fn told_of(alloc: Global, answer: Result<Report, ReportError>) -> Result<String, Fail> {
+    match answer {
         Ok(Report { text, is_yes: true }) => Ok(text),
         Ok(Report { text, .. }) => Ok(format!(in alloc; "no: {text}")?),
         Err(refusal) => Ok(format!(in alloc; "refused: {refusal}")?),
@@ -64,7 +69,7 @@ fn printed_of(alloc: Global, mut asked: Asked, documents: &str) -> Result<String
 pub(crate) fn answered_of(alloc: Global, line: &str) -> Result<String, Fail> {
     let (words, documents) = line.split_once(" < ").unwrap_or((line, ""));
     match asked_of(alloc, &words_of(alloc, words)?) {
-        Ok(asked) => printed_of(alloc, asked, documents),
+        Ok(mut asked) => printed_of(alloc, &mut asked, documents),
         Err(error) => Ok(format!(in alloc; "{error}")?),
     }
 }

@@ -34,22 +34,31 @@ fn certificates(rt: HostRuntime) -> Result<(), Fail> {
 /// What is written where a certificate holds of what is asked and a document, or why it doesn't.
 fn written(
     alloc: Global,
-    mut asked: CheckWords,
+    asked: &mut CheckWords,
     document: &str,
     certificate: &[u8],
 ) -> Result<String, Fail> {
     add_targets(alloc, &mut asked.choice)?;
-    let metadata = document_of(alloc, document)?;
     let setting = asked.choice.setting(alloc, &[])?;
     let words = asked.choice.words(alloc)?;
+    let metadata = document_of(alloc, document)?;
     let subject = CertificateSubject {
         metadata: &metadata,
         setting: &setting,
         words: &words,
     };
+    judged(alloc, &subject, certificate)
+}
+
+/// What is written where a certificate holds, or why it doesn't.
+fn judged(
+    alloc: Global,
+    subject: &CertificateSubject<'_>,
+    certificate: &[u8],
+) -> Result<String, Fail> {
     let mut input = certificate;
     let mut output = Vec::new(alloc);
-    match run(alloc, &subject, &mut input, &mut output) {
+    match run(alloc, subject, &mut input, &mut output) {
         Ok(()) => Ok(String::from_utf8(output)?),
         Err(refusal) => Ok(format!(in alloc; "refused: {refusal}")?),
     }
@@ -59,7 +68,7 @@ fn written(
 fn checked(alloc: Global, line: &str, certificate: &[u8]) -> Result<String, Fail> {
     let (words, document) = line.split_once(" < ").unwrap_or((line, ""));
     match check_words_of(alloc, &words_of(alloc, words)?) {
-        Ok(asked) => written(alloc, asked, document, certificate),
+        Ok(mut asked) => written(alloc, &mut asked, document, certificate),
         Err(error) => Ok(format!(in alloc; "{error}")?),
     }
 }

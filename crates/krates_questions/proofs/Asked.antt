@@ -1,5 +1,5 @@
 -- What the look-ups behind one question say about the document.
-use Rattle.std.proofs.Common.{◌≡◌, ◌↔◌, ℕ, zero, suc, ◌+◌, ◌<◌, List, [], ◌∷◌, ◌++◌, length, get_or, take, map, Bool, IsTrue, Option, Some, None, option_map, MatchOption, Contains, Bor, refl, sym, ap, ◌∙◌, subst, arith}
+use Rattle.std.proofs.Common.{◌≡◌, ◌↔◌, ℕ, zero, suc, ◌+◌, ◌<◌, List, [], ◌∷◌, ◌++◌, length, get_or, take, map, Bool, Option, Some, None, option_map, MatchOption, Contains, Bor, refl, sym, ap, ◌∙◌, subst, arith}
 use Rattle.std.proofs.lemmas.List.{map-append, take_more}
 use Rattle.std.proofs.lemmas.Option.{slice_get-map, slice_get-get_or, same_Some}
 use Rattle.std.specs.List.{AllZip, slice_get}
@@ -10,21 +10,19 @@ use Rattle.krates_rules.specs.DeclaredDependency.{dependency_entry, IsDeclared, 
 use Rattle.krates_rules.specs.Facts.{Id, Edge}
 use Rattle.krates_questions.specs.Lookup.{resolved_view}
 use Rattle.krates_questions.specs.NodeEntry.{AreParts, IsEntry, IsEntryOf, parent_of, child_of, declared_in, entry_of, edge_for}
-use Rattle.krates_questions.specs.LookedUp.{ArePartsOf, NoDep, IsEntryBetween, IsDeclaredFor, TellsDeclared}
-use Rattle.krates_rules.specs.Questions.{edge_between, Declares, Stands, IsWanted, questions}
+use Rattle.krates_questions.specs.LookedUp.{ArePartsOf, NoDep, IsEntryBetween, TellsDeclared}
+use Rattle.krates_rules.specs.Questions.{edge_between, Declares}
 use Rattle.krates_rules.specs.Resolved.{NodeAt, Resolved, id_of, ReadsAs, HasNode, HasDep, StandsAt}
 use Rattle.krates_questions.specs.RootChoice.{AsksFor}
 use Rattle.krates_questions.specs.RootOrder.{ArePicked, nothing, picked, passed, AreInOrder, of_members}
 use Rattle.krates_rules.specs.Roots.{IsRoot}
-use Rattle.krates_rules.specs.Rules.{Open}
-use Rattle.krates_rules.specs.Setting.{SettingModel, IsIgnored, Passes}
+use Rattle.krates_rules.specs.Setting.{SettingModel}
 use Rattle.krates_questions.specs.CrateTable.{IsPlaceOf}
 use Rattle.krates_questions.specs.declared.lookup.Lookup.{Lookup}
 use Rattle.krates_questions.specs.declared.node_entry.NodeEntry.{NodeEntry}
 use Rattle.krates_questions.specs.declared.node_entry.NodeParts.{NodeParts}
 use Rattle.krates_rules.proofs.Readings.{ReadsOnce, right_of}
 use Rattle.krates_document.proofs.DeclaredOnce.{declared_stands}
-use Rattle.krates_questions.proofs.Entries.{Heeds, wanted}
 use Rattle.krates_rules.proofs.FirstPlaces.{seen_at}
 use Rattle.krates_questions.proofs.Lookups.{one_id}
 use Rattle.krates_questions.proofs.NodeParts.{entry_here}
@@ -79,12 +77,6 @@ between P r p c x k b h = subst (λ (i : Id). P (edge_between i c k)) b.parent (
 pub undeclared_without : (r : Resolved) (p c : Id) (k : DepKindInfoModel) → NoDep r p c → (place : ℕ) (d : DependencyModel) → Declares r (edge_between p c k) place d → ⊥
 undeclared_without r p c k none place d h = none h.lists.node h.dep h.lists.has_node h.lists.has_dep
 
-pub closed_without : (r : Resolved) (s : SettingModel) (p c : Id) (k : DepKindInfoModel) → NoDep r p c → ((d : DependencyModel) × Open (questions r s) (edge_between p c k) d) → ⊥
-unfolding questions
-closed_without r s p c k none (d, o) =
-    let a = o.wanted.declared.declares in
-    none a.lists.node a.dep a.lists.has_node a.lists.has_dep
-
 -- what declares the edge of an entry is what the entry finds
 pub declared_told : (r : Resolved) (x : NodeEntry) (k : DepKindInfoModel) (answer : Option ℕ) → NoneDoubled r.metadata r.graph → IsEntry r x → TellsDeclared x k answer
     → MatchOption answer ((place : ℕ) (d : DependencyModel) → Declares r (edge_for x k) place d → ⊥) (λ place. (d : DependencyModel) × Declares r (edge_for x k) place d)
@@ -107,31 +99,6 @@ declared_told r x k (Some place) none e told =
     )
 
 -- ---- open edges
-
--- an edge of an entry is open if it isn't ignored, is declared and passes, and its child stands
-pub open_told : (r : Resolved) (s : SettingModel) (x : NodeEntry) (k : DepKindInfoModel) (place : ℕ) (b : Bool) → IsEntry r x → (IsIgnored r s (edge_for x k) → ⊥) → IsDeclaredFor x k place → Passes s k.target
-    → IsTrue b ↔ Stands r s (child_of x) → IsTrue b ↔ ((d : DependencyModel) × Open (questions r s) (edge_for x k) d)
-unfolding questions
-open_told r s x k place b e heeded told passes stands =
-    let d = told.dependency in
-    let h : Heeds r s x k = record { at = e; among = told.among; not_ignored = heeded } in (
-      λ t. (d, record { wanted = wanted r s x k place d h told.declared passes; stands = stands.0 t }),
-      λ o. stands.1 o.1.stands,
-    )
-
-pub closed_ignored : (r : Resolved) (s : SettingModel) (e : Edge) → IsIgnored r s e → ((d : DependencyModel) × Open (questions r s) e d) → ⊥
-unfolding questions
-closed_ignored r s e ignored (d, o) = o.wanted.declared.not_ignored ignored
-
-pub closed_barred : (r : Resolved) (s : SettingModel) (e : Edge) → (Passes s e.cfg → ⊥) → ((d : DependencyModel) × Open (questions r s) e d) → ⊥
-unfolding questions
-closed_barred r s e barred (d, o) = barred o.wanted.passes
-
-pub closed_undeclared : (r : Resolved) (s : SettingModel) (e : Edge) → ((place : ℕ) (d : DependencyModel) → Declares r e place d → ⊥) → ((d : DependencyModel) × Open (questions r s) e d) → ⊥
-unfolding questions
-closed_undeclared r s e none (d, o) =
-    let w : IsWanted r s e d = o.wanted in
-    none w.place d w.declared.declares
 
 -- ---- roots
 

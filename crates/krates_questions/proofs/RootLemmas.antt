@@ -11,7 +11,7 @@ use Rattle.krates_rules.specs.Admission.{IsRootId, NoneDoubled, of_member, of_ro
 use Rattle.krates_rules.specs.Facts.{Id}
 use Rattle.krates_rules.specs.NamedIds.{IsReadOf}
 use Rattle.krates_rules.specs.Features.{ListsFeature}
-use Rattle.krates_rules.specs.Resolved.{NodeAt, Resolved, id_of, IsMember, HasPackage, HasNode}
+use Rattle.krates_rules.specs.Resolved.{NodeAt, ReadsAs, Resolved, id_of, IsMember, HasPackage, HasNode}
 use Rattle.krates_questions.specs.Lookup.{IsLookup, resolved_view}
 use Rattle.krates_questions.specs.RootChoice.{AsksFor, AsksForManifests, HasOneOf}
 use Rattle.krates_rules.specs.Roots.{IsRoot, of_graph, of_workspace, of_manifests, by_setting, without_root, by_manifest, HasManifest}
@@ -98,16 +98,21 @@ are_read_members r members z k d lt =
 
 -- ---- the features that a node lists, as the code finds them
 
--- each is a feature of the node at its place
-pub listed_names : (d : Lookup) (i : Id) (place : ℕ) (n : Node) → IsLookup d → NodeAt (resolved_view d) i place → n ≡ get_or d.resolve.now.nodes.items place n
-    → (f : Text) → ListsFeature (resolved_view d) i f ↔ Contains (map text_view n.features.items) f
-listed_names d i place n h at is f =
+-- the node at the place of a crate is that of the crate
+pub node_here : (d : Lookup) (i : Id) (place : ℕ) (n : Node) → NodeAt (resolved_view d) i place → n ≡ get_or d.resolve.now.nodes.items place n → HasNode (resolved_view d) i (node_view n)
+node_here d i place n at is =
     let r = resolved_view d in
     let ns = d.resolve.now.nodes.items in
     let lt = subst (λ (m : ℕ). place < m) (length-map ns node_view) (slice_get_within r.graph.nodes place at.node at.at) in
     let here : slice_get r.graph.nodes place ≡ Some (node_view n) = slice_get-map node_view ns place ∙ ap (option_map node_view) (slice_get_read ns (length ns) place n refl lt is) in
     let same : at.node ≡ node_view n = same_Some at.node (node_view n) (sym at.at ∙ here) in
-    let has : HasNode r i at.node = record { among = contains_at r.graph.nodes place at.node at.at; id = at.id } in (
-      λ lists. subst (λ (m : NodeModel). Contains m.features f) (one_node r i lists.node at.node h.distinct lists.has_node has ∙ same) lists.among,
-      λ among. record { node = at.node; has_node = has; among = subst (λ (m : NodeModel). Contains m.features f) (sym same) among },
+    record { among = contains_at r.graph.nodes place (node_view n) here; id = subst (λ (m : NodeModel). ReadsAs m.id i) same at.id }
+
+-- each is a feature of the node at its place
+pub listed_names : (d : Lookup) (i : Id) (place : ℕ) (n : Node) → IsLookup d → NodeAt (resolved_view d) i place → n ≡ get_or d.resolve.now.nodes.items place n
+    → (f : Text) → ListsFeature (resolved_view d) i f ↔ Contains (map text_view n.features.items) f
+listed_names d i place n h at is f =
+    let has = node_here d i place n at is in (
+      λ lists. subst (λ (m : NodeModel). Contains m.features f) (one_node (resolved_view d) i lists.node (node_view n) h.distinct lists.has_node has) lists.among,
+      λ among. record { node = node_view n; has_node = has; among = among },
     )

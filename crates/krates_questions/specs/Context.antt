@@ -22,7 +22,7 @@ use Rattle.krates_rules.specs.SelectionRefusals.{SelectionRefusal}
 use Rattle.std.specs.Prelude.{Bool, ℕ}
 
 abbrev pub document_of : Context → Resolved
-document_of b = resolved_view b.lookup.now
+document_of b = resolved_view b.document.now
 
 abbrev pub rules_of : Context → Questions
 rules_of b = questions (document_of b) b.setting.now

@@ -2,7 +2,6 @@ pub mod Contents
 pub mod Context
 pub mod CrateTable
 pub mod DocumentAnswers
-pub mod DocumentModel
 pub mod FeatureOrder
 pub mod FeatureTable
 pub mod FeatureValues

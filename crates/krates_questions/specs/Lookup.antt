@@ -1,17 +1,19 @@
 -- What look-ups in a document return.
-use Rattle.std.specs.Prelude.{◌≡◌, ℕ, Bool, Option, MatchOption, MatchBool, map, option_map}
-use Rattle.krates_cm.specs.Document.{PackageModel, metadata_view, node_view, package_view, resolve_view}
+use Rattle.std.specs.Prelude.{◌≡◌, ℕ, Bool, [], Option, MatchOption, MatchBool, map, option_map}
+use Rattle.krates_cm.specs.Document.{MetadataModel, PackageModel, metadata_view, node_view, package_view, resolve_view}
 use Rattle.krates_cm.specs.declared.metadata.Metadata.{Metadata}
 use Rattle.krates_cm.specs.declared.package.Package.{Package}
 use Rattle.krates_cm.specs.declared.resolve.Resolve.{Resolve}
 use Rattle.krates_document.specs.declared.ids.Ids.{Ids}
 use Rattle.std.specs.Borrow.{Bor}
+use denote.Ref.{NamedLft}
+use mir.Syntax.{named}
 use Rattle.krates_rules.specs.Admission.{AreIdsOf, NoneDoubled}
 use Rattle.krates_rules.specs.Facts.{Id}
 use Rattle.krates_questions.specs.FeatureTable.{AreNumbered, listed_in}
 use Rattle.krates_document.specs.Ids.{ids_view}
 use Rattle.krates_questions.specs.ListedFeatures.{features_from}
-use Rattle.krates_rules.specs.Resolved.{Resolved, HasPackage, NoPackage, NoNode, IsMember, NodeAt, PackageAt, id_of}
+use Rattle.krates_rules.specs.Resolved.{HasGraphWith, Resolved, resolved, HasPackage, NoPackage, NoNode, IsMember, NodeAt, PackageAt, id_of}
 use Rattle.krates_questions.specs.CrateTable.{IsNumberOf, IsTable, numbers_in}
 use Rattle.krates_questions.specs.NameIndex.{IsNameIndex, lists_in}
 use Rattle.krates_questions.specs.Renamed.{AreRenamedIn}
@@ -62,3 +64,13 @@ IsNumberIn d i number = IsNumberOf (map id_of d.table.ids.items) i number
 -- the number is that of some crate, or none of one that has none
 abbrev pub IsNumber : Lookup → Option ℕ → Type 0
 IsNumber d number = (i : Id) × IsNumberIn d i number
+
+-- ---- the document
+
+-- it is this document, with its resolved graph
+abbrev pub IsDocumentOf : MetadataModel → Lookup → Type 0
+IsDocumentOf m d = HasGraphWith m (λ g. resolved_view d ≡ resolved m g)
+
+-- a lifetime, which a code doesn't go by
+abbrev pub at_any : NamedLft
+at_any = record { mir = named 0; lft = [] }

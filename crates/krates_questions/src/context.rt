@@ -1,16 +1,16 @@
 //! What a search goes by.
 
-use crate::lookup::Lookup;
+use crate::questions::Document;
 use krates_document::setting::Setting;
 use std::alloc::Global;
 
-/// What a search goes by: a document, looked up, and a setting.
+/// What a search goes by: a document and a setting.
 #[derive(Clone, Copy)]
 pub struct Context<'a, 's> {
     /// What memory comes from.
     pub alloc: Global,
     /// The document.
-    pub lookup: &'s Lookup<'a>,
+    pub document: &'s Document<'a>,
     /// What the caller asks for.
     pub setting: &'s Setting,
 }

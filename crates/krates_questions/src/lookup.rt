@@ -12,6 +12,7 @@ ghost use Rattle.krates_rules.specs.Resolved.{id_of};
 use crate::crate_table::{CrateTable, crate_table, number_of};
 use crate::feature_table::{FeatureTable, feature_table};
 use crate::name_index::{NameIndex, name_index};
+use crate::questions::Document;
 use crate::renamed::{Libraries, renamed_by_name};
 use krates_cm::{Metadata, Package, Resolve};
 use krates_document::ids::Ids;
@@ -70,37 +71,28 @@ pub fn lookup_of<'a>(
     })
 }
 
-/// The package with the id. None where the document has none. Time O(log n) in the crates.
-pub fn package_of<'a>(lookup: &Lookup<'a>, id: &Kid) -> Option<&'a Package>
-    requires { IsLookup lookup.now }
-    ensures { TellsPackage (resolved_view lookup.now) (id_of id.now) result }
-{
-    package_at(lookup, crate_number(lookup, id))
-}
+impl<'a> Document<'a> {
+    /// The place of the node with the id. None where the graph has none. Time O(log n) in the crates.
+    pub fn node_place(&self, id: &Kid) -> Option<usize>
+        ensures { IsNodePlace (resolved_view self.now) (id_of id.now) result }
+    {
+        self.node_place_at(self.crate_number(id))
+    }
 
-/// The place of the node with the id. None where the graph has none. Time O(log n) in the crates.
-pub fn node_place(lookup: &Lookup<'_>, id: &Kid) -> Option<usize>
-    requires { IsLookup lookup.now }
-    ensures { IsNodePlace (resolved_view lookup.now) (id_of id.now) result }
-{
-    node_place_at(lookup, crate_number(lookup, id))
-}
+    /// Whether the crate is a member of the workspace. Time O(log n) in the crates.
+    pub fn is_member(&self, id: &Kid) -> bool
+        ensures { TellsMember (resolved_view self.now) (id_of id.now) result }
+    {
+        self.is_member_at(self.crate_number(id))
+    }
 
-/// Whether the crate is a member of the workspace. Time O(log n) in the crates.
-pub fn is_member(lookup: &Lookup<'_>, id: &Kid) -> bool
-    requires { IsLookup lookup.now }
-    ensures { TellsMember (resolved_view lookup.now) (id_of id.now) result }
-{
-    is_member_at(lookup, crate_number(lookup, id))
-}
-
-/// The number of the crate with the id. None where it has neither package nor node and is no member. Time O(log n) in the
-/// crates.
-pub fn crate_number(lookup: &Lookup<'_>, id: &Kid) -> Option<usize>
-    requires { IsLookup lookup.now }
-    ensures { IsNumberIn lookup.now (id_of id.now) result }
-{
-    number_of(&lookup.table.ids, id)
+    /// The number of the crate with the id. None where it has neither package nor node and is no member. Time O(log n) in the
+    /// crates.
+    pub fn crate_number(&self, id: &Kid) -> Option<usize>
+        ensures { IsNumberIn self.now (id_of id.now) result }
+    {
+        number_of(&self.lookup.table.ids, id)
+    }
 }
 
 /// What a table has at a number; none where there is no number. Time: O(1).
@@ -114,42 +106,40 @@ pub fn at_number(places: &[Option<usize>], number: Option<usize>) -> Option<usiz
     }
 }
 
-/// The place of the package of the crate with the number. None where it has none. Time O(1).
-pub fn package_place_at(lookup: &Lookup<'_>, number: Option<usize>) -> Option<usize>
-    requires lookup { IsLookup lookup.now }
-    requires number { IsNumber lookup.now number }
-    ensures { (i : Id) → IsNumberIn lookup.now i number → IsPackagePlace (resolved_view lookup.now) i result }
-{
-    laws::one_reading();
-    at_number(&lookup.table.packages, number)
-}
+impl<'a> Document<'a> {
+    /// The place of the package of the crate with the number. None where it has none. Time O(1).
+    pub fn package_place_at(&self, number: Option<usize>) -> Option<usize>
+        requires number { IsNumber self.now number }
+        ensures { (i : Id) → IsNumberIn self.now i number → IsPackagePlace (resolved_view self.now) i result }
+    {
+        laws::one_reading();
+        at_number(&self.lookup.table.packages, number)
+    }
 
-/// The package of the crate with the number. None where it has none. Time O(1).
-pub fn package_at<'a>(lookup: &Lookup<'a>, number: Option<usize>) -> Option<&'a Package>
-    requires lookup { IsLookup lookup.now }
-    requires number { IsNumber lookup.now number }
-    ensures { (i : Id) → IsNumberIn lookup.now i number → TellsPackage (resolved_view lookup.now) i result }
-{
-    let place = package_place_at(lookup, number)?;
-    Some(&lookup.metadata.packages[place])
-}
+    /// The package of the crate with the number. None where it has none. Time O(1).
+    pub fn package_at(&self, number: Option<usize>) -> Option<&'a Package>
+        requires number { IsNumber self.now number }
+        ensures { (i : Id) → IsNumberIn self.now i number → TellsPackage (resolved_view self.now) i result }
+    {
+        let place = self.package_place_at(number)?;
+        Some(&self.lookup.metadata.packages[place])
+    }
 
-/// The place of the node of the crate with the number. None where it has none. Time O(1).
-pub fn node_place_at(lookup: &Lookup<'_>, number: Option<usize>) -> Option<usize>
-    requires lookup { IsLookup lookup.now }
-    requires number { IsNumber lookup.now number }
-    ensures { (i : Id) → IsNumberIn lookup.now i number → IsNodePlace (resolved_view lookup.now) i result }
-{
-    laws::one_reading();
-    at_number(&lookup.table.nodes, number)
-}
+    /// The place of the node of the crate with the number. None where it has none. Time O(1).
+    pub fn node_place_at(&self, number: Option<usize>) -> Option<usize>
+        requires number { IsNumber self.now number }
+        ensures { (i : Id) → IsNumberIn self.now i number → IsNodePlace (resolved_view self.now) i result }
+    {
+        laws::one_reading();
+        at_number(&self.lookup.table.nodes, number)
+    }
 
-/// Whether the crate with the number is a member of the workspace.
-pub(crate) fn is_member_at(lookup: &Lookup<'_>, number: Option<usize>) -> bool
-    requires lookup { IsLookup lookup.now }
-    requires number { IsNumber lookup.now number }
-    ensures { (i : Id) → IsNumberIn lookup.now i number → TellsMember (resolved_view lookup.now) i result }
-{
-    laws::one_reading();
-    at_number(&lookup.table.members, number).is_some()
+    /// Whether the crate with the number is a member of the workspace.
+    pub(crate) fn is_member_at(&self, number: Option<usize>) -> bool
+        requires number { IsNumber self.now number }
+        ensures { (i : Id) → IsNumberIn self.now i number → TellsMember (resolved_view self.now) i result }
+    {
+        laws::one_reading();
+        at_number(&self.lookup.table.members, number).is_some()
+    }
 }

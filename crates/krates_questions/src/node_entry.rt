@@ -5,11 +5,9 @@ ghost use Rattle.krates_cm.specs.Document.{dependency_view, dep_kind_info_view};
 ghost use Rattle.krates_questions.specs.Lookup.{IsLookup, IsNodePlace, IsNumber, IsNumberIn, resolved_view};
 ghost use Rattle.krates_questions.specs.NodeEntry.{AreDeclaredBy, AreParts, IsEntry, IsEntryOf, TellsDeclaredPlaces, child_of, parent_of};
 ghost use Rattle.krates_rules.specs.Facts.{Id};
-ghost use Rattle.krates_rules.specs.Resolved.{NodeAt, id_of};
+ghost use Rattle.krates_rules.specs.Resolved.{DepAt, NodeAt, id_of};
 
-use crate::lookup::{
-    Lookup, crate_number, is_member_at, node_place_at, package_at, package_place_at,
-};
+use crate::questions::Document;
 use krates_cm::{DepKindInfo, Dependency, NodeDep};
 use krates_document::named_places::NamedPlace;
 use krates_ids::{Kid, laws};
@@ -66,22 +64,23 @@ pub struct NodeParts<'a> {
     pub is_member: bool,
 }
 
-/// The node at a place, taken apart. Time O(1).
-pub fn parts_of<'a>(lookup: &Lookup<'a>, place: usize) -> NodeParts<'a>
-    requires lookup { IsLookup lookup.now }
-    requires within { place < length (resolved_view lookup.now).graph.nodes }
-    ensures { AreParts (resolved_view lookup.now) place result }
-{
-    let parent = &lookup.ids.nodes[place];
-    let number = node_number(lookup, place);
-    NodeParts {
-        parent,
-        declared: declared_by(lookup, number),
-        deps: &lookup.resolve.nodes[place].deps,
-        children: &lookup.ids.deps[place],
-        versions: &lookup.ids.versions[place],
-        place,
-        is_member: is_member_at(lookup, number),
+impl<'a> Document<'a> {
+    /// The node at a place, taken apart. Time O(1).
+    pub fn parts_of(&self, place: usize) -> NodeParts<'a>
+        requires within { place < length (resolved_view self.now).graph.nodes }
+        ensures { AreParts (resolved_view self.now) place result }
+    {
+        let parent = &self.lookup.ids.nodes[place];
+        let number = self.node_number(place);
+        NodeParts {
+            parent,
+            declared: self.declared_by(number),
+            deps: &self.lookup.resolve.nodes[place].deps,
+            children: &self.lookup.ids.deps[place],
+            versions: &self.lookup.ids.versions[place],
+            place,
+            is_member: self.is_member_at(number),
+        }
     }
 }
 
@@ -112,77 +111,83 @@ pub fn declared_at<'a>(entry: &NodeEntry<'a>, place: usize) -> &'a Dependency
     &entry.declared[place]
 }
 
-/// The dependencies that the package of the crate with the number declares; none where it has no package.
-fn declared_by<'a>(lookup: &Lookup<'a>, number: Option<usize>) -> &'a [Dependency]
-    requires lookup { IsLookup lookup.now }
-    requires number { IsNumber lookup.now number }
-    ensures { (i : Id) → IsNumberIn lookup.now i number
-        → AreDeclaredBy (resolved_view lookup.now) i (map dependency_view result.now) }
-{
-    match package_at(lookup, number) {
-        Some(pkg) => &pkg.dependencies,
-        None => &[],
+impl<'a> Document<'a> {
+    /// The dependencies that the package of the crate with the number declares; none where it has no package.
+    fn declared_by(&self, number: Option<usize>) -> &'a [Dependency]
+        requires number { IsNumber self.now number }
+        ensures { (i : Id) → IsNumberIn self.now i number
+            → AreDeclaredBy (resolved_view self.now) i (map dependency_view result.now) }
+    {
+        self.agrees();
+        match self.package_at(number) {
+            Some(pkg) => &pkg.dependencies,
+            None => &[],
+        }
     }
-}
 
-/// The number of the crate whose node stands at the place.
-fn node_number(lookup: &Lookup<'_>, place: usize) -> Option<usize>
-    requires lookup { IsLookup lookup.now }
-    requires within { place < length (resolved_view lookup.now).graph.nodes }
-    ensures { (i : Id) → NodeAt (resolved_view lookup.now) i place → IsNumberIn lookup.now i result }
-{
-    laws::one_reading();
-    lookup.table.node_numbers[place]
-}
+    /// The number of the crate whose node stands at the place.
+    pub fn node_number(&self, place: usize) -> Option<usize>
+        requires within { place < length (resolved_view self.now).graph.nodes }
+        ensures { (i : Id) → NodeAt (resolved_view self.now) i place → IsNumberIn self.now i result }
+    {
+        laws::one_reading();
+        self.lookup.table.node_numbers[place]
+    }
 
-/// The number of the crate that a dependency leads to. None where it has neither package nor node and is no member.
-/// Time O(1).
-pub fn child_number(lookup: &Lookup<'_>, entry: &NodeEntry<'_>) -> Option<usize>
-    requires lookup { IsLookup lookup.now }
-    requires entry { IsEntry (resolved_view lookup.now) entry.now }
-    ensures { IsNumberIn lookup.now (child_of entry.now) result }
-{
-    laws::one_reading();
-    lookup.table.dep_numbers[entry.place][entry.index]
-}
+    /// The number of the crate that a dependency of a node leads to, by the places of both. None where that has neither
+    /// package nor node and is no member. Time O(1).
+    pub fn child_number_at(&self, place: usize, index: usize) -> Option<usize>
+        requires there { (parent : Id) × (child : Id) × DepAt (resolved_view self.now) parent child place index }
+        ensures { (parent : Id) (child : Id) → DepAt (resolved_view self.now) parent child place index
+            → IsNumberIn self.now child result }
+    {
+        laws::one_reading();
+        self.lookup.table.dep_numbers[place][index]
+    }
 
-/// The place of the node of the crate that a dependency leads to. None where it has none. Time O(1).
-pub fn child_place(lookup: &Lookup<'_>, entry: &NodeEntry<'_>) -> Option<usize>
-    requires lookup { IsLookup lookup.now }
-    requires entry { IsEntry (resolved_view lookup.now) entry.now }
-    ensures { IsNodePlace (resolved_view lookup.now) (child_of entry.now) result }
-{
-    node_place_at(lookup, child_number(lookup, entry))
-}
+    /// The number of the crate that a dependency leads to. None where it has neither package nor node and is no member.
+    /// Time O(1).
+    pub fn child_number(&self, entry: &NodeEntry<'_>) -> Option<usize>
+        requires entry { IsEntry (resolved_view self.now) entry.now }
+        ensures { IsNumberIn self.now (child_of entry.now) result }
+    {
+        self.child_number_at(entry.place, entry.index)
+    }
 
-/// Where what the package of a dependency's parent declares stands by name. Nothing where it has no package. Time O(1).
-pub fn places_for<'a, 's>(lookup: &'s Lookup<'a>, entry: &NodeEntry<'_>) -> &'s [NamedPlace<'a>]
-    requires lookup { IsLookup lookup.now }
-    requires entry { IsEntry (resolved_view lookup.now) entry.now }
-    ensures { TellsDeclaredPlaces (resolved_view lookup.now) (parent_of entry.now) result.now }
-{
-    places_at(lookup, node_number(lookup, entry.place))
-}
+    /// The place of the node of the crate that a dependency leads to. None where it has none. Time O(1).
+    pub fn child_place(&self, entry: &NodeEntry<'_>) -> Option<usize>
+        requires entry { IsEntry (resolved_view self.now) entry.now }
+        ensures { IsNodePlace (resolved_view self.now) (child_of entry.now) result }
+    {
+        self.node_place_at(self.child_number(entry))
+    }
 
-/// Where what the package of a crate declares stands by name. Nothing where it has no package. Time O(log n) in the
-/// crates.
-pub fn declared_places<'a, 's>(lookup: &'s Lookup<'a>, krate: &Kid) -> &'s [NamedPlace<'a>]
-    requires { IsLookup lookup.now }
-    ensures { TellsDeclaredPlaces (resolved_view lookup.now) (id_of krate.now) result.now }
-{
-    places_at(lookup, crate_number(lookup, krate))
-}
+    /// Where what the package of a dependency's parent declares stands by name. Nothing where it has no package. Time O(1).
+    pub fn places_for(&self, entry: &NodeEntry<'_>) -> &[NamedPlace<'a>]
+        requires entry { IsEntry (resolved_view self.now) entry.now }
+        ensures { TellsDeclaredPlaces (resolved_view self.now) (parent_of entry.now) result.now }
+    {
+        self.places_at(self.node_number(entry.place))
+    }
 
-/// Where what the package of the crate with the number declares stands by name.
-fn places_at<'a, 's>(lookup: &'s Lookup<'a>, number: Option<usize>) -> &'s [NamedPlace<'a>]
-    requires lookup { IsLookup lookup.now }
-    requires number { IsNumber lookup.now number }
-    ensures { (i : Id) → IsNumberIn lookup.now i number
-        → TellsDeclaredPlaces (resolved_view lookup.now) i result.now }
-{
-    match package_place_at(lookup, number) {
-        Some(place) => &lookup.names.declared[place],
-        None => &[],
+    /// Where what the package of a crate declares stands by name. Nothing where it has no package. Time O(log n) in the
+    /// crates.
+    pub fn declared_places(&self, krate: &Kid) -> &[NamedPlace<'a>]
+        ensures { TellsDeclaredPlaces (resolved_view self.now) (id_of krate.now) result.now }
+    {
+        self.places_at(self.crate_number(krate))
+    }
+
+    /// Where what the package of the crate with the number declares stands by name.
+    fn places_at(&self, number: Option<usize>) -> &[NamedPlace<'a>]
+        requires number { IsNumber self.now number }
+        ensures { (i : Id) → IsNumberIn self.now i number
+            → TellsDeclaredPlaces (resolved_view self.now) i result.now }
+    {
+        match self.package_place_at(number) {
+            Some(place) => &self.lookup.names.declared[place],
+            None => &[],
+        }
     }
 }
 

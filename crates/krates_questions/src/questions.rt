@@ -1,29 +1,25 @@
 //! What the rules of resolution ask of a document, asked one by one.
 
 ghost use Rattle.std.specs.Prelude.{◌≡◌, ◌↔◌, ◌∷◌, [], All, Contains, IfOk, IsTrue, map};
-ghost use Rattle.krates_questions.specs.Context.{document_of};
 ghost use Rattle.krates_cm.specs.Document.{dep_kind_info_view, metadata_view, node_dep_view};
 ghost use Rattle.krates_rules.specs.Admission.{IsAdmitted};
-ghost use Rattle.krates_questions.specs.DocumentModel.{IsDocumentOf, as_resolved};
 ghost use Rattle.krates_document.specs.Ids.{ids_view};
-ghost use Rattle.krates_questions.specs.Lookup.{IsLookup, resolved_view};
+ghost use Rattle.krates_questions.specs.Lookup.{IsDocumentOf, IsLookup, resolved_view};
 ghost use Rattle.krates_questions.specs.DocumentAnswers.{AreRoots, AreRootsInOrder, IsOpenAs, TellsDeclaredPlace, TellsReferent, TellsReferents, edge_asked};
 ghost use Rattle.krates_questions.specs.LookedUp.{PicksRoots, TellsDeclared, TellsEntry, TellsParts};
 ghost use Rattle.krates_document.specs.NamedPlaces.{places_in};
-ghost use Rattle.krates_questions.specs.NodeEntry.{AreParts, IsEntry, edge_for};
-ghost use Rattle.krates_rules.specs.Questions.{Stands};
+ghost use Rattle.krates_questions.specs.NodeEntry.{AreParts, IsEntry};
 ghost use Rattle.krates_rules.specs.Resolved.{IsMember, StandsAt, id_of};
 ghost use Rattle.krates_questions.specs.RootChoice.{AsksFor};
 ghost use Rattle.krates_questions.specs.CrateTable.{IsPlaceAmong, IsPlaceOf};
 
 mod contents;
 
-use crate::context::Context;
-use crate::lookup::{Lookup, lookup_of, node_place};
-use crate::node_entry::{NodeEntry, NodeParts, declared_places, entry_at, is_same_info, parts_of};
-use crate::referent::{Referent, referent_of, referents_of};
-use crate::root_choice::{RootChoice, choice_of, is_root};
-use crate::standing::{Standing, standing_of};
+use crate::dependency_questions::Need;
+use crate::lookup::{Lookup, lookup_of};
+use crate::node_entry::{NodeEntry, NodeParts, entry_at, is_same_info};
+use crate::referent::Referent;
+use crate::root_choice::RootChoice;
 use krates_cm::{DepKindInfo, Metadata, NodeDep};
 use krates_document::declared_dependency::{Sought, declared_of};
 use krates_document::ids::Ids;
@@ -43,18 +39,17 @@ pub struct Document<'a> {
 }
 
 impl<'a> Model for Document<'a> {
-    ghost use Rattle.krates_questions.specs.DocumentModel.{DocumentModel, looked_up};
-    ghost use Rattle.krates_questions.specs.Lookup.{IsLookup};
+    ghost use Rattle.krates_questions.specs.Lookup.{IsLookup, at_any};
+    ghost use Rattle.krates_questions.specs.declared.lookup.Lookup.{Lookup};
 
-    ghost Value = { DocumentModel };
+    ghost Value = { Lookup };
 
     ghost use Rattle.std.specs.Coded.{codes};
-    ghost use Rattle.krates_cm.specs.contracts.metadata.Metadata as documents;
-    ghost use Rattle.krates_cm.specs.contracts.resolve.Resolve as graphs;
+    ghost use Rattle.krates_questions.specs.contracts.lookup.Lookup as looked_up;
 
-    ghost coded = { Prim.hlevel (codes, documents.the_row.coded, graphs.the_row.coded) };
+    ghost coded = { Prim.hlevel (codes, (looked_up.the_row at_any).coded) };
 
-    ghost view = { λ d. looked_up d.lookup };
+    ghost view = { λ d. d.lookup };
 
     ghost invariant = { λ d. IsLookup d.lookup };
 }
@@ -78,12 +73,11 @@ impl<'a> Document<'a> {
         Ok(Document { lookup })
     }
 
-    /// The document, looked up by number. Time O(1).
-    pub fn lookup(&self) -> &Lookup<'a>
-        ensures lookup { IsLookup result.now }
-        ensures document { resolved_view result.now ≡ as_resolved self.now }
+    /// What always holds of a document: its ids are those that were read of it, no id is doubled, and its tables are right.
+    pub fn agrees(&self)
+        ensures { IsLookup self.now }
     {
-        &self.lookup
+        let _ = &self.lookup;
     }
 
     /// The least that a name means in a feature reference of a crate, as `dep:NAME` or `NAME/FEATURE`: the first, by id, of the
@@ -92,9 +86,15 @@ impl<'a> Document<'a> {
     /// A dependency answers to its own name, and to that of its package where its own is the package's library. In its
     /// own name `_` may stand for `-`. None where no dependency answers. Time: as `kinds`.
     pub fn referent(&self, krate: &Kid, name: &str) -> Option<&'a Kid>
-        ensures { TellsReferent (as_resolved self.now) (id_of krate.now) name.now result }
+        ensures { TellsReferent (resolved_view self.now) (id_of krate.now) name.now result }
     {
-        referent_in(&self.lookup, krate, name)
+        let Some(parts) = self.parts_for(krate) else {
+            return None;
+        };
+        let Some(index) = self.referent_of(&parts, name) else {
+            return None;
+        };
+        Some(entry_at(&parts, index).child)
     }
 
     /// All that a name means in a feature reference of a crate under a setting, in the order of ids: all dependencies of its node
@@ -109,9 +109,15 @@ impl<'a> Document<'a> {
         name: &str,
     ) -> Result<Vec<Referent<'a>>, AllocError>
         ensures { let all = setting.now.all_named in
-            IfOk result (TellsReferents (as_resolved self.now) all (id_of krate.now) name.now) }
+            IfOk result (TellsReferents (resolved_view self.now) all (id_of krate.now) name.now) }
     {
-        referents_in(alloc, &self.lookup, krate, name, setting.is_all_named())
+        match self.parts_for(krate) {
+            Some(parts) => {
+                let all = setting.is_all_named();
+                self.referents_of(alloc, &parts, name, all)
+            }
+            None => Ok(Vec::new(alloc)),
+        }
     }
 
     /// The crates that are kept for themselves under a setting, also those that the setting excludes.
@@ -124,10 +130,25 @@ impl<'a> Document<'a> {
     /// The only error is running out of memory.
     /// Time: O(m log n) for m members and n crates, and as much for each manifest that is asked for.
     pub fn roots(&self, alloc: Global, setting: &Setting) -> Result<Vec<&'a Kid>, AllocError>
-        ensures each { IfOk result (AreRoots (as_resolved self.now) setting.now) }
-        ensures order { IfOk result (AreRootsInOrder (as_resolved self.now) setting.now) }
+        ensures each { IfOk result (AreRoots (resolved_view self.now) setting.now) }
+        ensures order { IfOk result (AreRootsInOrder (resolved_view self.now) setting.now) }
     {
-        roots_in(alloc, &self.lookup, setting)
+        laws::one_reading();
+        match self.root_choice(setting) {
+            RootChoice::Root(root) => alone(alloc, root),
+            RootChoice::Members => self.root_members(
+                alloc,
+                setting,
+                true,
+                &self.lookup.ids.members,
+            ),
+            RootChoice::Manifests => self.root_members(
+                alloc,
+                setting,
+                false,
+                &self.lookup.ids.members,
+            ),
+        }
     }
 
     /// As what a crate declares its dependency on another, of one kind and for one target: the place in the list of its
@@ -139,9 +160,13 @@ impl<'a> Document<'a> {
     /// dependencies that the package declares under the names of the other.
     pub fn declared(&self, parent: &Kid, child: &Kid, info: &DepKindInfo) -> Option<usize>
         ensures { let edge = edge_asked parent.now child.now info.now in
-            TellsDeclaredPlace (as_resolved self.now) edge result }
+            TellsDeclaredPlace (resolved_view self.now) edge result }
     {
-        declared_in(&self.lookup, parent, child, info)
+        self.agrees();
+        match self.entry_between(parent, child) {
+            Some(entry) => self.declared_for(&entry, info),
+            None => None,
+        }
     }
 
     /// Whether a crate's dependency on another, of one kind and for one target, may be kept under a setting: the crate's node
@@ -159,69 +184,38 @@ impl<'a> Document<'a> {
         info: &DepKindInfo,
     ) -> Result<bool, AllocError>
         ensures { let edge = edge_asked parent.now child.now info.now in
-            IfOk result (λ b. IsTrue b ↔ IsOpenAs (as_resolved self.now) setting.now edge) }
+            IfOk result (λ b. IsTrue b ↔ IsOpenAs (resolved_view self.now) setting.now edge) }
     {
-        let context = Context {
-            alloc,
-            lookup: &self.lookup,
-            setting,
+        let need = self.need(alloc, setting, parent, child, info)?;
+        match need {
+            Need::Wanted(_) => Ok(self.stands(setting, child)),
+            Need::Undeclared => Ok(false),
+            Need::Nothing => Ok(false),
+        }
+    }
+}
+
+impl<'a> Document<'a> {
+    /// The node of a crate, taken apart; none where it has no node.
+    pub(crate) fn parts_for(&self, krate: &Kid) -> Option<NodeParts<'a>>
+        ensures { TellsParts (resolved_view self.now) (id_of krate.now) result }
+    {
+        laws::one_reading();
+        let Some(place) = self.node_place(krate) else {
+            return None;
         };
-        is_open_in(&context, parent, child, info)
+        Some(self.parts_of(place))
     }
-}
 
-/// The least that a name means in a reference of a crate.
-pub(crate) fn referent_in<'a>(lookup: &Lookup<'a>, krate: &Kid, name: &str) -> Option<&'a Kid>
-    requires { IsLookup lookup.now }
-    ensures { TellsReferent (resolved_view lookup.now) (id_of krate.now) name.now result }
-{
-    let Some(parts) = parts_for(lookup, krate) else {
-        return None;
-    };
-    let Some(index) = referent_of(lookup, &parts, name) else {
-        return None;
-    };
-    Some(entry_at(&parts, index).child)
-}
-
-/// All that a name means in a reference of a crate.
-fn referents_in<'a>(
-    alloc: Global,
-    lookup: &Lookup<'a>,
-    krate: &Kid,
-    name: &str,
-    all: bool,
-) -> Result<Vec<Referent<'a>>, AllocError>
-    requires { IsLookup lookup.now }
-    ensures { IfOk result (TellsReferents (resolved_view lookup.now) all (id_of krate.now) name.now) }
-{
-    match parts_for(lookup, krate) {
-        Some(parts) => referents_of(alloc, lookup, &parts, name, all),
-        None => Ok(Vec::new(alloc)),
+    /// The place of a node's dependency on a crate: of those whose package has its name, which are found by binary search, that with its id.
+    fn place_of_child(&self, parts: &NodeParts<'a>, child: &Kid) -> Option<usize>
+        requires parts { AreParts (resolved_view self.now) parts.now.place parts.now }
+        ensures { IsPlaceOf parts.now.children.now (id_of child.now) result }
+    {
+        laws::one_reading();
+        let named = places_under(&self.lookup.names.children[parts.place], child.name(), "");
+        place_among(parts.children, named, child)
     }
-}
-
-/// The node of a crate, taken apart; none where it has no node.
-pub(crate) fn parts_for<'a>(lookup: &Lookup<'a>, krate: &Kid) -> Option<NodeParts<'a>>
-    requires { IsLookup lookup.now }
-    ensures { TellsParts (resolved_view lookup.now) (id_of krate.now) result }
-{
-    laws::one_reading();
-    let Some(place) = node_place(lookup, krate) else {
-        return None;
-    };
-    Some(parts_of(lookup, place))
-}
-
-/// The place of a node's dependency on a crate: of those whose package has its name, which are found by binary search, that with its id.
-fn place_of_child<'a>(lookup: &Lookup<'a>, parts: &NodeParts<'a>, child: &Kid) -> Option<usize>
-    requires lookup { IsLookup lookup.now }
-    requires parts { AreParts (resolved_view lookup.now) parts.now.place parts.now }
-    ensures { IsPlaceOf parts.now.children.now (id_of child.now) result }
-{
-    laws::one_reading();
-    let named = places_under(&lookup.names.children[parts.place], child.name(), "");
-    place_among(parts.children, named, child)
 }
 
 /// Of these places of a list, the first at which the id stands.
@@ -254,24 +248,6 @@ pub fn is_same(one: &Kid, other: &Kid) -> bool
     one == other
 }
 
-/// The roots.
-fn roots_in<'a>(
-    alloc: Global,
-    lookup: &Lookup<'a>,
-    setting: &Setting,
-) -> Result<Vec<&'a Kid>, AllocError>
-    requires { IsLookup lookup.now }
-    ensures each { IfOk result (AreRoots (resolved_view lookup.now) setting.now) }
-    ensures order { IfOk result (AreRootsInOrder (resolved_view lookup.now) setting.now) }
-{
-    laws::one_reading();
-    match choice_of(lookup, setting) {
-        RootChoice::Root(root) => alone(alloc, root),
-        RootChoice::Members => root_members(alloc, lookup, setting, true, &lookup.ids.members),
-        RootChoice::Manifests => root_members(alloc, lookup, setting, false, &lookup.ids.members),
-    }
-}
-
 /// The list of one id.
 fn alone<'a>(alloc: Global, id: &'a Kid) -> Result<Vec<&'a Kid>, AllocError>
     ensures { IfOk result (λ ids. map (λ id. id_of id.now) ids.items ≡ id_of id.now ∷ []) }
@@ -281,85 +257,60 @@ fn alone<'a>(alloc: Global, id: &'a Kid) -> Result<Vec<&'a Kid>, AllocError>
     Ok(ids)
 }
 
-/// Those of these members that are roots: all of them, or those with one of the manifests.
-fn root_members<'a>(
-    alloc: Global,
-    lookup: &Lookup<'a>,
-    setting: &Setting,
-    all: bool,
-    members: &'a [Kid],
-) -> Result<Vec<&'a Kid>, AllocError>
-    requires lookup { IsLookup lookup.now }
-    requires asks { AsksFor (resolved_view lookup.now) setting.now all }
-    requires members { All (λ member. IsMember (resolved_view lookup.now) (id_of member)) members.now }
-    ensures { IfOk result (PicksRoots (resolved_view lookup.now) setting.now members.now) }
-{
-    let mut roots = Vec::new(alloc);
-    for member in members {
-        if is_root(lookup, setting, all, member) {
-            roots.push(member)?;
+impl<'a> Document<'a> {
+    /// Those of these members that are roots: all of them, or those with one of the manifests.
+    fn root_members(
+        &self,
+        alloc: Global,
+        setting: &Setting,
+        all: bool,
+        members: &'a [Kid],
+    ) -> Result<Vec<&'a Kid>, AllocError>
+        requires asks { AsksFor (resolved_view self.now) setting.now all }
+        requires members { All (λ member. IsMember (resolved_view self.now) (id_of member)) members.now }
+        ensures { IfOk result (PicksRoots (resolved_view self.now) setting.now members.now) }
+    {
+        let mut roots = Vec::new(alloc);
+        for member in members {
+            if self.is_root_member(setting, all, member) {
+                roots.push(member)?;
+            }
         }
+        Ok(roots)
     }
-    Ok(roots)
-}
 
-/// The place of the declared dependency of an edge between two crates.
-fn declared_in<'a>(
-    lookup: &Lookup<'a>,
-    parent: &Kid,
-    child: &Kid,
-    info: &DepKindInfo,
-) -> Option<usize>
-    requires { IsLookup lookup.now }
-    ensures { let edge = edge_asked parent.now child.now info.now in
-        TellsDeclaredPlace (resolved_view lookup.now) edge result }
-{
-    match entry_between(lookup, parent, child) {
-        Some(entry) => declared_for(lookup, &entry, info),
-        None => None,
+    /// The dependency of a crate's node on another crate; none where there is none.
+    pub(crate) fn entry_between(&self, parent: &Kid, child: &Kid) -> Option<NodeEntry<'a>>
+        ensures { TellsEntry (resolved_view self.now) (id_of parent.now) (id_of child.now) result }
+    {
+        self.agrees();
+        laws::one_reading();
+        let Some(parts) = self.parts_for(parent) else {
+            return None;
+        };
+        let Some(index) = self.place_of_child(&parts, child) else {
+            return None;
+        };
+        Some(entry_at(&parts, index))
     }
-}
 
-/// The dependency of a crate's node on another crate; none where there is none.
-pub(crate) fn entry_between<'a>(
-    lookup: &Lookup<'a>,
-    parent: &Kid,
-    child: &Kid,
-) -> Option<NodeEntry<'a>>
-    requires { IsLookup lookup.now }
-    ensures { TellsEntry (resolved_view lookup.now) (id_of parent.now) (id_of child.now) result }
-{
-    laws::one_reading();
-    let Some(parts) = parts_for(lookup, parent) else {
-        return None;
-    };
-    let Some(index) = place_of_child(lookup, &parts, child) else {
-        return None;
-    };
-    Some(entry_at(&parts, index))
-}
-
-/// The place of the declared dependency of an entry, of a kind and for a target that it lists.
-pub(crate) fn declared_for<'a>(
-    lookup: &Lookup<'a>,
-    entry: &NodeEntry<'a>,
-    info: &DepKindInfo,
-) -> Option<usize>
-    requires lookup { IsLookup lookup.now }
-    requires entry { IsEntry (resolved_view lookup.now) entry.now }
-    ensures { TellsDeclared entry.now (dep_kind_info_view info.now) result }
-{
-    if !lists(entry.dep, info) {
-        return None;
+    /// The place of the declared dependency of an entry, of a kind and for a target that it lists.
+    pub(crate) fn declared_for(&self, entry: &NodeEntry<'a>, info: &DepKindInfo) -> Option<usize>
+        requires entry { IsEntry (resolved_view self.now) entry.now }
+        ensures { TellsDeclared entry.now (dep_kind_info_view info.now) result }
+    {
+        if !lists(entry.dep, info) {
+            return None;
+        }
+        let sought = Sought {
+            dep: entry.dep,
+            kid: entry.child,
+            version: entry.version,
+            info,
+        };
+        let places = self.declared_places(entry.parent);
+        declared_of(entry.declared, places, &sought)
     }
-    let sought = Sought {
-        dep: entry.dep,
-        kid: entry.child,
-        version: entry.version,
-        info,
-    };
-    let places = declared_places(lookup, entry.parent);
-    declared_of(entry.declared, places, &sought)
 }
 
 /// Whether the dependency of a node lists this kind and target.
@@ -372,60 +323,4 @@ pub(crate) fn lists(dep: &NodeDep, info: &DepKindInfo) -> bool
         }
     }
     false
-}
-
-/// Whether an edge between two crates may be kept.
-fn is_open_in<'a>(
-    context: &Context<'a, '_>,
-    parent: &Kid,
-    child: &Kid,
-    info: &DepKindInfo,
-) -> Result<bool, AllocError>
-    requires { IsLookup context.now.lookup.now }
-    ensures { let edge = edge_asked parent.now child.now info.now in
-        IfOk result (λ b. IsTrue b ↔ IsOpenAs (document_of context.now) context.now.setting.now edge) }
-{
-    match entry_between(context.lookup, parent, child) {
-        Some(entry) => is_entry_open(context.alloc, context.lookup, context.setting, &entry, info),
-        None => Ok(false),
-    }
-}
-
-/// Whether the edge of an entry may be kept, of one kind and for one target.
-fn is_entry_open<'a>(
-    alloc: Global,
-    lookup: &Lookup<'a>,
-    setting: &Setting,
-    entry: &NodeEntry<'a>,
-    info: &DepKindInfo,
-) -> Result<bool, AllocError>
-    requires lookup { IsLookup lookup.now }
-    requires entry { IsEntry (resolved_view lookup.now) entry.now }
-    ensures { let edge = edge_for entry.now (dep_kind_info_view info.now) in
-        IfOk result (λ b. IsTrue b ↔ IsOpenAs (resolved_view lookup.now) setting.now edge) }
-{
-    if setting.ignores(info.kind, entry.is_member) {
-        return Ok(false);
-    }
-    let Some(_) = declared_for(lookup, entry, info) else {
-        return Ok(false);
-    };
-    let passes = setting.passes(alloc, &info.target)?;
-    if !passes {
-        return Ok(false);
-    }
-    Ok(stands(lookup, setting, entry.child))
-}
-
-/// Whether a crate has a node and a package that isn't excluded.
-fn stands<'a>(lookup: &Lookup<'a>, setting: &Setting, id: &'a Kid) -> bool
-    requires { IsLookup lookup.now }
-    ensures { IsTrue result ↔ Stands (resolved_view lookup.now) setting.now (id_of id.now) }
-{
-    match standing_of(lookup, setting, id) {
-        Standing::Stands(_) => true,
-        Standing::NoPackage => false,
-        Standing::NoNode => false,
-        Standing::Excluded => false,
-    }
 }

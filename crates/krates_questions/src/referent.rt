@@ -7,8 +7,8 @@ ghost use Rattle.krates_questions.specs.NodeEntry.{AreParts};
 ghost use Rattle.krates_questions.specs.ReferentPlace.{AnswersAs, AnswersBefore, AreReferentsIn, FindsMore, GoesOn, IsBefore, TellsReferent};
 
 use crate::library::is_library_rename;
-use crate::lookup::{Lookup, package_of};
 use crate::node_entry::NodeParts;
+use crate::questions::Document;
 use crate::sorted::in_order;
 use krates_cm::NodeDep;
 use krates_document::dependency_name::is_name_of;
@@ -25,146 +25,142 @@ pub struct Referent<'a> {
     pub place: usize,
 }
 
-/// All that a name means in a reference of a crate, in the order of ids: the dependencies of its node that answer to it, as
-/// `referent_of` has it, or the least of them alone.
-///
-/// Only those are looked at that may answer, which are found by binary search. The only error is running out of memory.
-/// Time: O(log n + k log k) for n dependencies, of which k have the name.
-pub fn referents_of<'a>(
-    alloc: Global,
-    lookup: &Lookup<'a>,
-    parts: &NodeParts<'a>,
-    name: &str,
-    all: bool,
-) -> Result<Vec<Referent<'a>>, AllocError>
-    requires lookup { IsLookup lookup.now }
-    requires parts { AreParts (resolved_view lookup.now) parts.now.place parts.now }
-    ensures { IfOk result (λ found. AreReferentsIn (resolved_view lookup.now) all parts.now name.now
-        found.items) }
-{
-    if all {
-        return all_referents(alloc, lookup, parts, name);
-    }
-    let mut referents = Vec::new(alloc);
-    if let Some(place) = referent_of(lookup, parts, name) {
-        let id = &parts.children[place];
-        referents.push(Referent { id, place })?;
-    }
-    Ok(referents)
-}
-
-/// All dependencies of a node that answer to a name, in the order of ids.
-fn all_referents<'a>(
-    alloc: Global,
-    lookup: &Lookup<'a>,
-    parts: &NodeParts<'a>,
-    name: &str,
-) -> Result<Vec<Referent<'a>>, AllocError>
-    requires lookup { IsLookup lookup.now }
-    requires parts { AreParts (resolved_view lookup.now) parts.now.place parts.now }
-    ensures { IfOk result (λ found. AreReferentsIn (resolved_view lookup.now) true parts.now name.now
-        found.items) }
-{
-    laws::one_reading();
-    laws::comparison();
-    let mut referents = Vec::new(alloc);
-    let own = places_under(&lookup.names.deps[parts.place], name, "");
-    push_answering(lookup, parts, own, name, &mut referents)?;
-    let of_package = places_under(&lookup.renamed[parts.place], name, "");
-    push_answering(lookup, parts, of_package, name, &mut referents)?;
-    in_order(referents)
-}
-
-/// Adds those of these dependencies that answer to a name.
-fn push_answering<'a>(
-    lookup: &Lookup<'a>,
-    parts: &NodeParts<'a>,
-    places: &[NamedPlace<'_>],
-    name: &str,
-    referents: &mut Vec<Referent<'a>>,
-) -> Result<(), AllocError>
-    requires lookup { IsLookup lookup.now }
-    requires parts { AreParts (resolved_view lookup.now) parts.now.place parts.now }
-    ensures { OnOk result (FindsMore (resolved_view lookup.now) parts.now name.now (places_in places.now)
-        referents.old.items referents.new.items) }
-{
-    for there in places {
-        let place = there.place;
-        if is_lesser(lookup, parts, name, place, None) {
+impl<'a> Document<'a> {
+    /// All that a name means in a reference of a crate, in the order of ids: the dependencies of its node that answer to it, as
+    /// `referent_of` has it, or the least of them alone.
+    ///
+    /// Only those are looked at that may answer, which are found by binary search. The only error is running out of memory.
+    /// Time: O(log n + k log k) for n dependencies, of which k have the name.
+    pub fn referents_of(
+        &self,
+        alloc: Global,
+        parts: &NodeParts<'a>,
+        name: &str,
+        all: bool,
+    ) -> Result<Vec<Referent<'a>>, AllocError>
+        requires parts { AreParts (resolved_view self.now) parts.now.place parts.now }
+        ensures { IfOk result (λ found. AreReferentsIn (resolved_view self.now) all parts.now name.now
+            found.items) }
+    {
+        if all {
+            return self.all_referents(alloc, parts, name);
+        }
+        let mut referents = Vec::new(alloc);
+        if let Some(place) = self.referent_of(parts, name) {
             let id = &parts.children[place];
             referents.push(Referent { id, place })?;
         }
+        Ok(referents)
     }
-    Ok(())
-}
 
-/// The place of the least dependency, by id, that a name means in a reference of a crate: of the dependencies of its node
-/// that answer to it, by their own name or by that of their package where their own is the package's library
-/// (Cargo Book, "Features" and "cargo metadata", `resolve`).
-///
-/// Only those are looked at that have the name as their own, or as that of a package whose library they are named as. They are
-/// found by binary search.
-///
-/// Time: O(log n + k) for n dependencies, of which k have the name.
-pub fn referent_of<'a>(lookup: &Lookup<'a>, parts: &NodeParts<'a>, name: &str) -> Option<usize>
-    requires lookup { IsLookup lookup.now }
-    requires parts { AreParts (resolved_view lookup.now) parts.now.place parts.now }
-    ensures { TellsReferent (resolved_view lookup.now) parts.now name.now result }
-{
-    laws::one_reading();
-    let own = places_under(&lookup.names.deps[parts.place], name, "");
-    let least = least_of(lookup, parts, own, name, None);
-    let of_package = places_under(&lookup.renamed[parts.place], name, "");
-    least_of(lookup, parts, of_package, name, least)
-}
+    /// All dependencies of a node that answer to a name, in the order of ids.
+    fn all_referents(
+        &self,
+        alloc: Global,
+        parts: &NodeParts<'a>,
+        name: &str,
+    ) -> Result<Vec<Referent<'a>>, AllocError>
+        requires parts { AreParts (resolved_view self.now) parts.now.place parts.now }
+        ensures { IfOk result (λ found. AreReferentsIn (resolved_view self.now) true parts.now name.now
+            found.items) }
+    {
+        laws::one_reading();
+        laws::comparison();
+        let mut referents = Vec::new(alloc);
+        let own = places_under(&self.lookup.names.deps[parts.place], name, "");
+        self.push_answering(parts, own, name, &mut referents)?;
+        let of_package = places_under(&self.lookup.renamed[parts.place], name, "");
+        self.push_answering(parts, of_package, name, &mut referents)?;
+        in_order(referents)
+    }
 
-/// The place of the least, by id, of these dependencies that answer to a name, or the one before where it is less.
-fn least_of<'a>(
-    lookup: &Lookup<'a>,
-    parts: &NodeParts<'a>,
-    places: &[NamedPlace<'_>],
-    name: &str,
-    before: Option<usize>,
-) -> Option<usize>
-    requires lookup { IsLookup lookup.now }
-    requires parts { AreParts (resolved_view lookup.now) parts.now.place parts.now }
-    requires before { IfSome before (λ at. at < length parts.now.children.now) }
-    ensures { GoesOn (resolved_view lookup.now) parts.now name.now (places_in places.now) before result }
-{
-    laws::comparison();
-    let mut least = before;
-    for there in places {
-        if is_lesser(lookup, parts, name, there.place, least) {
-            least = Some(there.place);
+    /// Adds those of these dependencies that answer to a name.
+    fn push_answering(
+        &self,
+        parts: &NodeParts<'a>,
+        places: &[NamedPlace<'_>],
+        name: &str,
+        referents: &mut Vec<Referent<'a>>,
+    ) -> Result<(), AllocError>
+        requires parts { AreParts (resolved_view self.now) parts.now.place parts.now }
+        ensures { OnOk result (FindsMore (resolved_view self.now) parts.now name.now (places_in places.now)
+            referents.old.items referents.new.items) }
+    {
+        for there in places {
+            let place = there.place;
+            if self.answers_before(parts, name, place, None) {
+                let id = &parts.children[place];
+                referents.push(Referent { id, place })?;
+            }
         }
+        Ok(())
     }
-    least
-}
 
-/// Whether the dependency at this place of the node answers to the name, and its id comes before the one at a place, or there is
-/// no such place.
-fn is_lesser<'a>(
-    lookup: &Lookup<'a>,
-    parts: &NodeParts<'a>,
-    name: &str,
-    index: usize,
-    least: Option<usize>,
-) -> bool
-    requires lookup { IsLookup lookup.now }
-    requires parts { AreParts (resolved_view lookup.now) parts.now.place parts.now }
-    requires least { IfSome least (λ at. at < length parts.now.children.now) }
-    ensures { IsTrue result ↔ AnswersBefore (resolved_view lookup.now) parts.now name.now index least }
-{
-    if index < parts.children.len() {
-        let child = &parts.children[index];
-        let dep = &parts.deps[index];
-        return answers_to(lookup, child, dep, name) && is_before(parts.children, child, least);
+    /// The place of the least dependency, by id, that a name means in a reference of a crate: of the dependencies of its node
+    /// that answer to it, by their own name or by that of their package where their own is the package's library
+    /// (Cargo Book, "Features" and "cargo metadata", `resolve`).
+    ///
+    /// Only those are looked at that have the name as their own, or as that of a package whose library they are named as. They are
+    /// found by binary search.
+    ///
+    /// Time: O(log n + k) for n dependencies, of which k have the name.
+    pub fn referent_of(&self, parts: &NodeParts<'a>, name: &str) -> Option<usize>
+        requires parts { AreParts (resolved_view self.now) parts.now.place parts.now }
+        ensures { TellsReferent (resolved_view self.now) parts.now name.now result }
+    {
+        laws::one_reading();
+        let own = places_under(&self.lookup.names.deps[parts.place], name, "");
+        let least = self.least_answering(parts, own, name, None);
+        let of_package = places_under(&self.lookup.renamed[parts.place], name, "");
+        self.least_answering(parts, of_package, name, least)
     }
-    false
+
+    /// The place of the least, by id, of these dependencies that answer to a name, or the one before where it is less.
+    fn least_answering(
+        &self,
+        parts: &NodeParts<'a>,
+        places: &[NamedPlace<'_>],
+        name: &str,
+        before: Option<usize>,
+    ) -> Option<usize>
+        requires parts { AreParts (resolved_view self.now) parts.now.place parts.now }
+        requires before { IfSome before (λ at. at < length parts.now.children.now) }
+        ensures { GoesOn (resolved_view self.now) parts.now name.now (places_in places.now) before result }
+    {
+        laws::comparison();
+        let mut least = before;
+        for there in places {
+            if self.answers_before(parts, name, there.place, least) {
+                least = Some(there.place);
+            }
+        }
+        least
+    }
+
+    /// Whether the dependency at this place of the node answers to the name, and its id comes before the one at a place, or there is
+    /// no such place.
+    fn answers_before(
+        &self,
+        parts: &NodeParts<'a>,
+        name: &str,
+        index: usize,
+        least: Option<usize>,
+    ) -> bool
+        requires parts { AreParts (resolved_view self.now) parts.now.place parts.now }
+        requires least { IfSome least (λ at. at < length parts.now.children.now) }
+        ensures { IsTrue result ↔ AnswersBefore (resolved_view self.now) parts.now name.now index least }
+    {
+        if index < parts.children.len() {
+            let child = &parts.children[index];
+            let dep = &parts.deps[index];
+            return self.answers_to(child, dep, name) && is_id_before(parts.children, child, least);
+        }
+        false
+    }
 }
 
 /// Whether the id comes before the one at a place, or there is no place.
-fn is_before(ids: &[Kid], id: &Kid, place: Option<usize>) -> bool
+fn is_id_before(ids: &[Kid], id: &Kid, place: Option<usize>) -> bool
     requires { IfSome place (λ at. at < length ids.now) }
     ensures { IsTrue result ↔ IsBefore ids.now id.now place }
 {
@@ -174,19 +170,21 @@ fn is_before(ids: &[Kid], id: &Kid, place: Option<usize>) -> bool
     }
 }
 
-/// Whether a dependency of a node answers to a name.
-pub(crate) fn answers_to<'a>(lookup: &Lookup<'a>, child: &'a Kid, dep: &NodeDep, name: &str) -> bool
-    requires { IsLookup lookup.now }
-    ensures { IsTrue result ↔ AnswersAs (resolved_view lookup.now) child.now dep.now name.now }
-{
-    if is_name_of(dep.name.as_str(), name) {
-        return true;
-    }
-    if child.name() != name {
-        return false;
-    }
-    match package_of(lookup, child) {
-        Some(pkg) => is_library_rename(pkg, dep.name.as_str()),
-        None => false,
+impl<'a> Document<'a> {
+    /// Whether a dependency of a node answers to a name.
+    pub(crate) fn answers_to(&self, child: &'a Kid, dep: &NodeDep, name: &str) -> bool
+        ensures { IsTrue result ↔ AnswersAs (resolved_view self.now) child.now dep.now name.now }
+    {
+        self.agrees();
+        if is_name_of(dep.name.as_str(), name) {
+            return true;
+        }
+        if child.name() != name {
+            return false;
+        }
+        match self.package_of(child) {
+            Some(pkg) => is_library_rename(pkg, dep.name.as_str()),
+            None => false,
+        }
     }
 }

@@ -7,7 +7,7 @@ ghost use Rattle.krates_rules.specs.Resolved.{id_of, IsMember};
 ghost use Rattle.krates_questions.specs.RootChoice.{IsChoice, AsksFor, HasOneOf};
 ghost use Rattle.krates_rules.specs.Roots.{IsRoot, HasManifest, IsWorkspaceManifest};
 
-use crate::lookup::{Lookup, package_of};
+use crate::questions::Document;
 use krates_document::setting::Setting;
 use krates_ids::{Kid, laws};
 use krates_text::path::{parent, same};
@@ -22,22 +22,26 @@ pub enum RootChoice<'a> {
     Manifests,
 }
 
-/// Which crates the setting asks for. Time O(length of the manifests).
-pub fn choice_of<'a>(lookup: &Lookup<'a>, setting: &Setting) -> RootChoice<'a>
-    requires { IsLookup lookup.now }
-    ensures { IsChoice (resolved_view lookup.now) setting.now result }
-{
-    laws::one_reading();
-    if setting.manifests().is_empty() {
-        return match &lookup.ids.root {
-            Some(root) if !setting.is_workspace() => RootChoice::Root(root),
-            _ => RootChoice::Members,
-        };
-    }
-    if asks_for_workspace(setting.manifests(), lookup.metadata.workspace_root.as_str()) {
-        RootChoice::Members
-    } else {
-        RootChoice::Manifests
+impl<'a> Document<'a> {
+    /// Which crates the setting asks for. Time O(length of the manifests).
+    pub fn root_choice(&self, setting: &Setting) -> RootChoice<'a>
+        ensures { IsChoice (resolved_view self.now) setting.now result }
+    {
+        laws::one_reading();
+        if setting.manifests().is_empty() {
+            return match &self.lookup.ids.root {
+                Some(root) if !setting.is_workspace() => RootChoice::Root(root),
+                _ => RootChoice::Members,
+            };
+        }
+        if asks_for_workspace(
+            setting.manifests(),
+            self.lookup.metadata.workspace_root.as_str(),
+        ) {
+            RootChoice::Members
+        } else {
+            RootChoice::Manifests
+        }
     }
 }
 
@@ -54,25 +58,26 @@ fn asks_for_workspace(manifests: &[String], workspace_root: &str) -> bool
     }
 }
 
-/// Whether a member is a root, where all are, or those with one of the manifests. Time O(log n) in the crates, and
-/// the manifests that the setting asks for.
-pub fn is_root<'a>(lookup: &Lookup<'a>, setting: &Setting, all: bool, member: &'a Kid) -> bool
-    requires lookup { IsLookup lookup.now }
-    requires asks { AsksFor (resolved_view lookup.now) setting.now all }
-    requires member { IsMember (resolved_view lookup.now) (id_of member.now) }
-    ensures { IsTrue result ↔ IsRoot (resolved_view lookup.now) setting.now (id_of member.now) }
-{
-    all || has_manifest(lookup, setting, member)
-}
+impl<'a> Document<'a> {
+    /// Whether a member is a root, where all are, or those with one of the manifests. Time O(log n) in the crates, and
+    /// the manifests that the setting asks for.
+    pub fn is_root_member(&self, setting: &Setting, all: bool, member: &'a Kid) -> bool
+        requires asks { AsksFor (resolved_view self.now) setting.now all }
+        requires member { IsMember (resolved_view self.now) (id_of member.now) }
+        ensures { IsTrue result ↔ IsRoot (resolved_view self.now) setting.now (id_of member.now) }
+    {
+        all || self.has_manifest(setting, member)
+    }
 
-/// Whether the package of a crate has one of the manifests that are asked for.
-fn has_manifest<'a>(lookup: &Lookup<'a>, setting: &Setting, id: &'a Kid) -> bool
-    requires { IsLookup lookup.now }
-    ensures { IsTrue result ↔ HasManifest (resolved_view lookup.now) setting.now (id_of id.now) }
-{
-    match package_of(lookup, id) {
-        Some(pkg) => is_one_of(setting.manifests(), pkg.manifest_path.as_str()),
-        None => false,
+    /// Whether the package of a crate has one of the manifests that are asked for.
+    fn has_manifest(&self, setting: &Setting, id: &'a Kid) -> bool
+        ensures { IsTrue result ↔ HasManifest (resolved_view self.now) setting.now (id_of id.now) }
+    {
+        self.agrees();
+        match self.package_of(id) {
+            Some(pkg) => is_one_of(setting.manifests(), pkg.manifest_path.as_str()),
+            None => false,
+        }
     }
 }
 

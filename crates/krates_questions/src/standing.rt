@@ -12,8 +12,8 @@ ghost use Rattle.std.specs.List.{AllZip};
 ghost use Rattle.std.specs.Prelude.{IfOk, map};
 
 use crate::context::Context;
-use crate::lookup::{Lookup, crate_number, node_place_at, package_at, package_place_at};
-use crate::node_entry::{NodeEntry, child_number};
+use crate::node_entry::NodeEntry;
+use crate::questions::Document;
 use krates_cm::Package;
 use krates_document::setting::Setting;
 use krates_ids::Kid;
@@ -32,16 +32,17 @@ pub enum Standing {
     Excluded,
 }
 
-/// Whether a crate can be kept. Time O(log n) in the crates, and the exclusions of the setting.
-pub fn standing_of<'a>(lookup: &Lookup<'a>, setting: &Setting, id: &'a Kid) -> Standing
-    requires { IsLookup lookup.now }
-    ensures { IsStanding (resolved_view lookup.now) setting.now (id_of id.now) result }
-{
-    let number = crate_number(lookup, id);
-    let Some(pkg) = package_at(lookup, number) else {
-        return Standing::NoPackage;
-    };
-    standing_with(lookup, setting.excludes(pkg), number)
+impl<'a> Document<'a> {
+    /// Whether a crate can be kept. Time O(log n) in the crates, and the exclusions of the setting.
+    pub fn standing_of(&self, setting: &Setting, id: &Kid) -> Standing
+        ensures { IsStanding (resolved_view self.now) setting.now (id_of id.now) result }
+    {
+        let number = self.crate_number(id);
+        let Some(pkg) = self.package_at(number) else {
+            return Standing::NoPackage;
+        };
+        self.standing_with(setting.excludes(pkg), number)
+    }
 }
 
 /// Whether each of the packages is excluded, in their order.
@@ -64,11 +65,10 @@ pub fn exclusions_of(
 
 /// Whether a crate can be kept, where it is known which packages are excluded. Time O(log n) in the crates.
 pub fn known_standing(context: &Context<'_, '_>, excluded: &[bool], id: &Kid) -> Standing
-    requires lookup { IsLookup context.now.lookup.now }
     requires excluded { AreExclusions (document_of context.now) context.now.setting.now excluded.now }
     ensures { IsStanding (document_of context.now) context.now.setting.now (id_of id.now) result }
 {
-    standing_among(context, excluded, crate_number(context.lookup, id))
+    standing_among(context, excluded, context.document.crate_number(id))
 }
 
 /// Whether the crate that a dependency leads to can be kept, where it is known which packages are excluded. Time O(1).
@@ -77,41 +77,40 @@ pub fn known_standing_of_child(
     excluded: &[bool],
     entry: &NodeEntry<'_>,
 ) -> Standing
-    requires lookup { IsLookup context.now.lookup.now }
     requires excluded { AreExclusions (document_of context.now) context.now.setting.now excluded.now }
     requires entry { IsEntry (document_of context.now) entry.now }
     ensures { IsStanding (document_of context.now) context.now.setting.now (child_of entry.now) result }
 {
-    standing_among(context, excluded, child_number(context.lookup, entry))
+    standing_among(context, excluded, context.document.child_number(entry))
 }
 
 /// Whether the crate with the number can be kept, where it is known which packages are excluded.
 fn standing_among(context: &Context<'_, '_>, excluded: &[bool], number: Option<usize>) -> Standing
-    requires lookup { IsLookup context.now.lookup.now }
     requires excluded { AreExclusions (document_of context.now) context.now.setting.now excluded.now }
-    requires number { IsNumber context.now.lookup.now number }
-    ensures { (i : Id) → IsNumberIn context.now.lookup.now i number
+    requires number { IsNumber context.now.document.now number }
+    ensures { (i : Id) → IsNumberIn context.now.document.now i number
         → IsStanding (document_of context.now) context.now.setting.now i result }
 {
-    let Some(place) = package_place_at(context.lookup, number) else {
+    let Some(place) = context.document.package_place_at(number) else {
         return Standing::NoPackage;
     };
-    standing_with(context.lookup, excluded[place], number)
+    context.document.standing_with(excluded[place], number)
 }
 
-/// Whether the crate with the number can be kept, which has a package that is excluded or isn't.
-fn standing_with(lookup: &Lookup<'_>, excluded: bool, number: Option<usize>) -> Standing
-    requires lookup { IsLookup lookup.now }
-    requires number { IsNumber lookup.now number }
-    ensures { (s : SettingModel) (i : Id) (p : PackageModel) → IsNumberIn lookup.now i number
-        → HasPackage (resolved_view lookup.now) i p → TellsExcluded s p excluded
-        → IsStanding (resolved_view lookup.now) s i result }
-{
-    if excluded {
-        return Standing::Excluded;
-    }
-    match node_place_at(lookup, number) {
-        Some(place) => Standing::Stands(place),
-        None => Standing::NoNode,
+impl<'a> Document<'a> {
+    /// Whether the crate with the number can be kept, which has a package that is excluded or isn't.
+    fn standing_with(&self, excluded: bool, number: Option<usize>) -> Standing
+        requires number { IsNumber self.now number }
+        ensures { (s : SettingModel) (i : Id) (p : PackageModel) → IsNumberIn self.now i number
+            → HasPackage (resolved_view self.now) i p → TellsExcluded s p excluded
+            → IsStanding (resolved_view self.now) s i result }
+    {
+        if excluded {
+            return Standing::Excluded;
+        }
+        match self.node_place_at(number) {
+            Some(place) => Standing::Stands(place),
+            None => Standing::NoNode,
+        }
     }
 }

@@ -1,7 +1,7 @@
 -- The builds of which answers are made.
 use Rattle.std.specs.Prelude.{◌↔◌, List, [], ◌∷◌, Contains, map}
 use Rattle.krates.specs.Build.{KeepsCrate}
-use Rattle.krates_answers.specs.declared.uses.Builds.{Builds}
+use Rattle.krates_answers.specs.declared.crate_uses.Builds.{Builds}
 use Rattle.krates_cm.specs.Document.{MetadataModel}
 use Rattle.krates_queries.specs.Kept.{KeptCrates, ids_of}
 use Rattle.krates_rules.specs.Facts.{Id}

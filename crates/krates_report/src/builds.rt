@@ -6,7 +6,7 @@ ghost use Rattle.krates_report.specs.Builds.{AreBuildsOf, IsBuildOf};
 
 use crate::error::ReportError;
 use krates::{Builder, DepKind, Krates, Metadata, NoneFilter};
-use krates_answers::uses::Builds;
+use krates_answers::crate_uses::Builds;
 use krates_words::Choice;
 use std::alloc::{AllocError, Global};
 

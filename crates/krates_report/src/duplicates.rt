@@ -5,8 +5,8 @@ use crate::json::{JsonObject, Values};
 use crate::krate_json::{ids_json, krate_json};
 use crate::shown::Shown;
 use krates::{KrateMatch, Krates, NodeId, Package};
+use krates_answers::direct_links::DirectLinks;
 use krates_answers::duplicates::{Duplicate, duplicates};
-use krates_answers::links::Links;
 use serde_json::Value;
 use std::alloc::{AllocError, Global};
 
@@ -18,7 +18,7 @@ pub struct Duplicates<'a> {
     /// The names, in their order.
     pub names: Vec<Duplicate<'a>>,
     /// Who needs each crate directly.
-    pub dependents: Links,
+    pub dependents: DirectLinks,
 }
 
 impl<'a> Duplicates<'a> {
@@ -27,7 +27,7 @@ impl<'a> Duplicates<'a> {
         Ok(Duplicates {
             krates,
             names: duplicates(alloc, krates)?,
-            dependents: Links::dependents(alloc, krates)?,
+            dependents: DirectLinks::dependents(alloc, krates)?,
         })
     }
 

@@ -4,7 +4,7 @@ use crate::crate_name::ShortName;
 use crate::json::{JsonObject, Values};
 use crate::shown::Shown;
 use krates::{Krates, NodeId};
-use krates_answers::links::Links;
+use krates_answers::direct_links::DirectLinks;
 use krates_answers::tree::TreeLine;
 use serde_json::Value;
 use std::alloc::{AllocError, Global};
@@ -15,7 +15,7 @@ pub struct Tree<'a> {
     /// The graph.
     pub krates: &'a Krates,
     /// Which crate leads to which.
-    pub links: Links,
+    pub links: DirectLinks,
     /// The lines.
     pub lines: Vec<TreeLine>,
 }
@@ -27,7 +27,7 @@ impl<'a> Tree<'a> {
         krates: &'a Krates,
         roots: &[NodeId],
     ) -> Result<Tree<'a>, AllocError> {
-        let links = Links::dependencies(alloc, krates)?;
+        let links = DirectLinks::dependencies(alloc, krates)?;
         let lines = links.tree(alloc, roots)?;
         Ok(Tree {
             krates,
@@ -42,7 +42,7 @@ impl<'a> Tree<'a> {
         krates: &'a Krates,
         roots: &[NodeId],
     ) -> Result<Tree<'a>, AllocError> {
-        let links = Links::dependents(alloc, krates)?;
+        let links = DirectLinks::dependents(alloc, krates)?;
         let lines = links.tree(alloc, roots)?;
         Ok(Tree {
             krates,

@@ -4,7 +4,7 @@ use crate::crate_name::ShortName;
 use crate::json::{JsonObject, Values};
 use crate::krate_json::krate_json;
 use crate::shown::Shown;
-use krates_answers::uses::{Builds, Use, UsedKrate};
+use krates_answers::crate_uses::{Builds, Use, UsedKrate};
 use serde_json::Value;
 use std::alloc::{AllocError, Global};
 

@@ -8,14 +8,11 @@ ghost use Rattle.std.specs.Prelude.{◌≡◌, ◌<◌, Contains, IfErr, IfOk, O
 ghost use Rattle.krates_text.specs.FeatureReference.{krate, strong, weak};
 ghost use Rattle.krates_rules.specs.Facts.{Crate, Feature};
 ghost use Rattle.krates_search.specs.Links.{IsMarked};
-ghost use Rattle.krates_questions.specs.Lookup.{IsLookup};
 
 use krates_graph::agenda::Taken;
 use krates_ids::{Error, laws};
 use krates_questions::context::Context;
-use krates_questions::features::feature_values;
-use krates_questions::node_entry::{NodeParts, child_place, entry_at, parts_of};
-use krates_questions::referent::referents_of;
+use krates_questions::node_entry::{NodeParts, entry_at};
 use krates_search::enabling::{KeptNode, NamedFeature, enable, toggle};
 use krates_search::expansion::expand_entry;
 use krates_search::links::Waiting;
@@ -33,7 +30,6 @@ pub(crate) fn follow_references<'a>(
     step: usize,
     found: &mut SearchState<'a>,
 ) -> Result<u64, Error>
-    requires lookup { IsLookup context.now.lookup.now }
     requires sound { IsRight context.now found.old }
     requires put { Contains found.old.features.put taken }
     requires within { taken < found.old.features.size }
@@ -43,10 +39,11 @@ pub(crate) fn follow_references<'a>(
     ensures counted { IfOk result (TakenHasReferences context.now taken) }
     ensures refused { IfErr result (Refuses context.now) }
 {
+    context.document.agrees();
     laws::one_reading();
-    let feature = context.lookup.features.listed[taken.number()];
-    let parts = parts_of(context.lookup, feature.place);
-    let values = feature_values(context.lookup, parts.parent, feature.name);
+    let feature = context.document.listed_features()[taken.number()];
+    let parts = context.document.parts_of(feature.place);
+    let values = context.document.values(parts.parent, feature.name);
     let mut references: u64 = 0;
     for text in values {
         let counts = follow(context, &parts, text.as_str(), step, found)?;
@@ -63,7 +60,6 @@ fn follow<'a>(
     step: usize,
     found: &mut SearchState<'a>,
 ) -> Result<usize, Error>
-    requires lookup { IsLookup context.now.lookup.now }
     requires parts { HasParts context.now parts.now.place parts.now }
     requires sound { IsRight context.now found.old }
     requires kept { Has context.now found.old (Crate (krate_of parts.now)) }
@@ -119,7 +115,6 @@ fn ask<'a>(
     step: usize,
     found: &mut SearchState<'a>,
 ) -> Result<usize, Error>
-    requires lookup { IsLookup context.now.lookup.now }
     requires parts { HasParts context.now parts.now.place parts.now }
     requires sound { IsRight context.now found.old }
     requires may { MayAskFor context.now (krate_of parts.now) name.now }
@@ -131,7 +126,9 @@ fn ask<'a>(
 {
     laws::one_reading();
     let all = context.setting.is_all_named();
-    let referents = referents_of(context.alloc, context.lookup, parts, name, all)?;
+    let referents = context
+        .document
+        .referents_of(context.alloc, parts, name, all)?;
     for referent in &referents {
         ask_once(
             context,
@@ -152,7 +149,6 @@ fn ask_once<'a>(
     reason: Reason,
     found: &mut SearchState<'a>,
 ) -> Result<(), Error>
-    requires lookup { IsLookup context.now.lookup.now }
     requires parts { HasParts context.now parts.now.place parts.now }
     requires sound { IsRight context.now found.old }
     requires within { index < length parts.now.children.now }
@@ -162,6 +158,7 @@ fn ask_once<'a>(
     ensures asked { OnOk result (HasAskedDep context.now found.new parts.now index) }
     ensures refused { IfErr result (Refuses context.now) }
 {
+    context.document.agrees();
     laws::one_reading();
     if found.links.is_asked(parts.place, index) {
         return Ok(());
@@ -179,7 +176,6 @@ fn toggle_strongly<'a>(
     feature: Waiting<'a>,
     found: &mut SearchState<'a>,
 ) -> Result<usize, Error>
-    requires lookup { IsLookup context.now.lookup.now }
     requires parts { HasParts context.now parts.now.place parts.now }
     requires sound { IsRight context.now found.old }
     requires may { MayFollow context.now (krate_of parts.now) (strong name.now feature.name.now) }
@@ -193,7 +189,9 @@ fn toggle_strongly<'a>(
     ensures refused { IfErr result (Refuses context.now) }
 {
     let all = context.setting.is_all_named();
-    let referents = referents_of(context.alloc, context.lookup, parts, name, all)?;
+    let referents = context
+        .document
+        .referents_of(context.alloc, parts, name, all)?;
     for referent in &referents {
         toggle_at(context, parts, referent.place, feature, found)?;
     }
@@ -208,7 +206,6 @@ fn toggle_at<'a>(
     feature: Waiting<'a>,
     found: &mut SearchState<'a>,
 ) -> Result<(), Error>
-    requires lookup { IsLookup context.now.lookup.now }
     requires parts { HasParts context.now parts.now.place parts.now }
     requires sound { IsRight context.now found.old }
     requires within { index < length parts.now.children.now }
@@ -247,7 +244,6 @@ fn wait<'a>(
     feature: Waiting<'a>,
     found: &mut SearchState<'a>,
 ) -> Result<usize, Error>
-    requires lookup { IsLookup context.now.lookup.now }
     requires parts { HasParts context.now parts.now.place parts.now }
     requires sound { IsRight context.now found.old }
     requires may { MayFollow context.now (krate_of parts.now) (weak name.now feature.name.now) }
@@ -259,8 +255,11 @@ fn wait<'a>(
     ensures counted { IfOk result (CountsNameOf context.now (krate_of parts.now) name.now) }
     ensures refused { IfErr result (Refuses context.now) }
 {
+    context.document.agrees();
     let all = context.setting.is_all_named();
-    let referents = referents_of(context.alloc, context.lookup, parts, name, all)?;
+    let referents = context
+        .document
+        .referents_of(context.alloc, parts, name, all)?;
     for referent in &referents {
         wait_at(context, parts, referent.place, feature, found)?;
     }
@@ -275,7 +274,6 @@ fn wait_at<'a>(
     feature: Waiting<'a>,
     found: &mut SearchState<'a>,
 ) -> Result<(), Error>
-    requires lookup { IsLookup context.now.lookup.now }
     requires parts { HasParts context.now parts.now.place parts.now }
     requires sound { IsRight context.now found.old }
     requires within { index < length parts.now.children.now }
@@ -306,7 +304,6 @@ fn toggle_child<'a>(
     feature: NamedFeature<'a>,
     found: &mut SearchState<'a>,
 ) -> Result<(), Error>
-    requires lookup { IsLookup context.now.lookup.now }
     requires parts { HasParts context.now parts.now.place parts.now }
     requires within { index < length parts.now.children.now }
     requires sound { IsRight context.now found.old }
@@ -320,7 +317,7 @@ fn toggle_child<'a>(
 {
     laws::one_reading();
     let entry = entry_at(parts, index);
-    let Some(place) = child_place(context.lookup, &entry) else {
+    let Some(place) = context.document.child_place(&entry) else {
         unreachable!()
     };
     let by = KeptNode {

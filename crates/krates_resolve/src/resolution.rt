@@ -6,7 +6,7 @@ ghost use Rattle.krates_cm.specs.Document.{metadata_view};
 ghost use Rattle.krates_rules.specs.Admission.{IsAdmitted};
 ghost use Rattle.krates_selection.specs.Explained.{IsExplained, IsExplainedOf};
 ghost use Rattle.krates_document.specs.Ids.{ids_view};
-ghost use Rattle.krates_questions.specs.Lookup.{IsLookup, resolved_view};
+ghost use Rattle.krates_questions.specs.Lookup.{resolved_view};
 ghost use Rattle.krates_questions.specs.Context.{document_of};
 ghost use Rattle.krates_resolve.specs.Counting.{HasCountedAll};
 ghost use Rattle.krates_search.specs.SearchState.{IsSound};
@@ -21,9 +21,9 @@ use krates_cm::Metadata;
 use krates_document::ids::Ids;
 use krates_document::setting::Setting;
 use krates_ids::{Error, Kid, laws};
+use krates_questions::Document;
 use krates_questions::context::Context;
 use krates_questions::crate_table::numbers_of;
-use krates_questions::lookup::{Lookup, lookup_of};
 use krates_questions::sorted::in_order;
 use krates_search::kept_edges::kept_edges;
 use krates_search::kept_features::kept_features;
@@ -55,11 +55,8 @@ pub fn select(
     ensures refused { IfErr result (RefusesSelection (metadata_view metadata.now) setting.now) }
     ensures named { IfErr result (NamesReadIds (metadata_view metadata.now)) }
 {
-    let Some(resolve) = &metadata.resolve else {
-        unreachable!()
-    };
-    let lookup = lookup_of(alloc, metadata, resolve, ids)?;
-    select_in(alloc, &lookup, setting)
+    let document = Document::new(alloc, metadata, ids)?;
+    select_in(alloc, &document, setting)
 }
 
 /// What is kept of a document, found in look-ups that were made of it: as [`select`], for a caller that goes on to use them.
@@ -67,23 +64,22 @@ pub fn select(
 /// Time: as of [`select`].
 pub fn select_in<'a>(
     alloc: Global,
-    lookup: &Lookup<'a>,
+    document: &Document<'a>,
     setting: &Setting,
 ) -> Result<Selection, Error>
-    requires lookup { IsLookup lookup.now }
-    ensures selected { IfOk result (IsSelection (resolved_view lookup.now) setting.now) }
-    ensures explained { IfOk result (IsExplained (resolved_view lookup.now) setting.now) }
-    ensures refused { IfErr result (SelectionRefusal (questions (resolved_view lookup.now) setting.now)) }
-    ensures named { IfErr result (NamesIdsOf (resolved_view lookup.now)) }
+    ensures selected { IfOk result (IsSelection (resolved_view document.now) setting.now) }
+    ensures explained { IfOk result (IsExplained (resolved_view document.now) setting.now) }
+    ensures refused { IfErr result (SelectionRefusal (questions (resolved_view document.now) setting.now)) }
+    ensures named { IfErr result (NamesIdsOf (resolved_view document.now)) }
 {
     let mut work = Work::new();
-    let found = saturate(alloc, lookup, setting, &mut work)?;
+    let found = saturate(alloc, document, setting, &mut work)?;
     if found.krates.numbers().is_empty() {
         return Err(Error::NoRootKrates);
     }
     let context = Context {
         alloc,
-        lookup,
+        document,
         setting,
     };
     let mut selection = selection_of(&context, &found, work)?;
@@ -97,26 +93,26 @@ fn selection_of<'a>(
     found: &SearchState<'a>,
     work: Work,
 ) -> Result<Selection, AllocError>
-    requires lookup { IsLookup context.now.lookup.now }
     requires exact { HasExactly (document_of context.now) context.now.setting.now found.now }
     requires sound { IsSound (document_of context.now) context.now.setting.now found.now }
     requires counted { HasCountedAll (document_of context.now) context.now.setting.now found.now work }
     requires some { 0 < length found.now.krates.put }
     ensures { IfOk result (IsSelection (document_of context.now) context.now.setting.now) }
 {
+    context.document.agrees();
     laws::one_reading();
     laws::comparison();
     let alloc = context.alloc;
-    let lookup = context.lookup;
-    let krates = in_order(kids_at(alloc, &lookup.ids.nodes, found.krates.numbers())?)?;
-    let of_nodes = numbers_of(alloc, &krates, &lookup.ids.nodes)?;
+    let document = context.document;
+    let krates = in_order(kids_at(alloc, document.node_ids(), found.krates.numbers())?)?;
+    let of_nodes = numbers_of(alloc, &krates, document.node_ids())?;
     let numbers = KeptNumbers {
         krates: &krates,
         of_nodes: &of_nodes,
     };
     let edges = kept_edges(context, &numbers, &found.edges)?;
-    let features = kept_features(alloc, lookup, &numbers, found.features.numbers())?;
-    let toggled = kept_toggled(alloc, lookup, &numbers, &found.toggled)?;
+    let features = kept_features(alloc, document, &numbers, found.features.numbers())?;
+    let toggled = kept_toggled(alloc, document, &numbers, &found.toggled)?;
     Ok(Selection {
         krates,
         edges,

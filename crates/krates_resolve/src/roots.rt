@@ -6,13 +6,12 @@ ghost use Rattle.krates_resolve.specs.Progress.{HasEachRoot, HasRooted, HasRoote
 ghost use Rattle.std.specs.Prelude.{All, IfErr, OnOk};
 ghost use Rattle.krates_cm.specs.Document.{Text};
 ghost use Rattle.krates_rules.specs.Facts.{Crate};
-ghost use Rattle.krates_questions.specs.Lookup.{IsLookup};
 ghost use Rattle.krates_rules.specs.Resolved.{id_of};
 
 use krates_graph::agenda::Agenda;
 use krates_ids::{Error, Kid, Lost, laws};
 use krates_questions::context::Context;
-use krates_questions::root_choice::{RootChoice, choice_of, is_root};
+use krates_questions::root_choice::RootChoice;
 use krates_questions::standing::{Standing, known_standing};
 use krates_search::enabling::{KeptNode, NamedFeature, enable};
 use krates_search::search_state::SearchState;
@@ -26,21 +25,21 @@ pub(crate) fn put_roots<'a>(
     context: &Context<'a, '_>,
     found: &mut SearchState<'a>,
 ) -> Result<(), Error>
-    requires lookup { IsLookup context.now.lookup.now }
     requires sound { IsRight context.now found.old }
     ensures advanced { OnOk result (Moves context.now found.old found.new) }
     ensures roots { OnOk result (HasEachRoot context.now found.new) }
     ensures refused { IfErr result (Refuses context.now) }
 {
+    context.document.agrees();
     laws::one_reading();
-    let mut places = Agenda::new(context.alloc, context.lookup.resolve.nodes.len())?;
-    match choice_of(context.lookup, context.setting) {
+    let mut places = Agenda::new(context.alloc, context.document.nodes().len())?;
+    match context.document.root_choice(context.setting) {
         RootChoice::Root(root) => put_root(context, root, &mut places, found),
         RootChoice::Members => {
             put_members(
                 context,
                 true,
-                &context.lookup.ids.members,
+                context.document.members(),
                 &mut places,
                 found,
             )
@@ -49,7 +48,7 @@ pub(crate) fn put_roots<'a>(
             put_members(
                 context,
                 false,
-                &context.lookup.ids.members,
+                context.document.members(),
                 &mut places,
                 found,
             )
@@ -65,7 +64,6 @@ fn put_members<'a>(
     places: &mut Agenda,
     found: &mut SearchState<'a>,
 ) -> Result<(), Error>
-    requires lookup { IsLookup context.now.lookup.now }
     requires sound { IsRight context.now found.old }
     requires each { HasRootedEach context.now found.old places.old }
     requires asks { AsksForRoots context.now all }
@@ -88,7 +86,6 @@ fn put_member<'a>(
     places: &mut Agenda,
     found: &mut SearchState<'a>,
 ) -> Result<(), Error>
-    requires lookup { IsLookup context.now.lookup.now }
     requires sound { IsRight context.now found.old }
     requires each { HasRootedEach context.now found.old places.old }
     requires asks { AsksForRoots context.now all }
@@ -98,7 +95,10 @@ fn put_member<'a>(
     ensures each { OnOk result (HasRootedEach context.now found.new places.new) }
     ensures refused { IfErr result (Refuses context.now) }
 {
-    if is_root(context.lookup, context.setting, all, member) {
+    if context
+        .document
+        .is_root_member(context.setting, all, member)
+    {
         return put_root(context, member, places, found);
     }
     Ok(())
@@ -111,7 +111,6 @@ fn put_root<'a>(
     places: &mut Agenda,
     found: &mut SearchState<'a>,
 ) -> Result<(), Error>
-    requires lookup { IsLookup context.now.lookup.now }
     requires sound { IsRight context.now found.old }
     requires each { HasRootedEach context.now found.old places.old }
     requires root { IsRootOf context.now root.now }
@@ -120,6 +119,7 @@ fn put_root<'a>(
     ensures each { OnOk result (HasRootedEach context.now found.new places.new) }
     ensures refused { IfErr result (Refuses context.now) }
 {
+    context.document.agrees();
     laws::one_reading();
     match known_standing(context, &found.excluded, root) {
         Standing::NoPackage => Err(Error::Lost(Lost::Package(root.clone()?))),
@@ -136,7 +136,6 @@ fn put_once<'a>(
     places: &mut Agenda,
     found: &mut SearchState<'a>,
 ) -> Result<(), Error>
-    requires lookup { IsLookup context.now.lookup.now }
     requires node { IsNodeOf context.now node }
     requires sound { IsRight context.now found.old }
     requires each { HasRootedEach context.now found.old places.old }
@@ -160,7 +159,6 @@ fn enable_listed<'a>(
     node: KeptNode<'a>,
     found: &mut SearchState<'a>,
 ) -> Result<(), Error>
-    requires lookup { IsLookup context.now.lookup.now }
     requires node { IsNodeOf context.now node }
     requires sound { IsRight context.now found.old }
     requires kept { Has context.now found.old (Crate (crate_of node)) }
@@ -170,7 +168,8 @@ fn enable_listed<'a>(
     ensures enabled { OnOk result ((f : Text) → HasListed context.now found.new (crate_of node.entry) f) }
     ensures refused { IfErr result (Refuses context.now) }
 {
-    for name in &context.lookup.resolve.nodes[node.place].features {
+    context.document.agrees();
+    for name in context.document.features(node.id) {
         let feature = NamedFeature {
             name: name.as_str(),
             reason: Reason::by_nothing(1),

@@ -7,7 +7,7 @@ ghost use Rattle.krates_resolve.specs.Counting.{HasCountedAll};
 ghost use Rattle.krates_selection.specs.Work.{IsFresh};
 ghost use Rattle.krates_search.specs.SearchState.{IsSound};
 ghost use Rattle.krates_resolve.specs.Saturation.{HasExactly};
-ghost use Rattle.krates_questions.specs.Lookup.{IsLookup, resolved_view};
+ghost use Rattle.krates_questions.specs.Lookup.{resolved_view};
 ghost use Rattle.krates_rules.specs.NamedIds.{NamesIdsOf};
 ghost use Rattle.krates_rules.specs.Questions.{questions};
 ghost use Rattle.krates_rules.specs.SelectionRefusals.{SelectionRefusal};
@@ -17,8 +17,8 @@ use crate::roots::put_roots;
 use krates_document::setting::Setting;
 use krates_graph::agenda::Agenda;
 use krates_ids::Error;
+use krates_questions::Document;
 use krates_questions::context::Context;
-use krates_questions::lookup::Lookup;
 use krates_questions::standing::exclusions_of;
 use krates_search::expansion::expand;
 use krates_search::links::links_of;
@@ -33,23 +33,23 @@ use std::alloc::{AllocError, Global};
 /// features by their places in the list of all.
 pub(crate) fn saturate<'a>(
     alloc: Global,
-    lookup: &Lookup<'a>,
+    document: &Document<'a>,
     setting: &Setting,
     work: &mut Work,
 ) -> Result<SearchState<'a>, Error>
-    requires lookup { IsLookup lookup.now }
     requires fresh { IsFresh work.old }
-    ensures exact { IfOk result (HasExactly (resolved_view lookup.now) setting.now) }
-    ensures sound { IfOk result (λ found. IsSound (resolved_view lookup.now) setting.now found) }
+    ensures exact { IfOk result (HasExactly (resolved_view document.now) setting.now) }
+    ensures sound { IfOk result (λ found. IsSound (resolved_view document.now) setting.now found) }
     ensures counted { IfOk result
-        (λ found. HasCountedAll (resolved_view lookup.now) setting.now found work.new) }
-    ensures refused { IfErr result (SelectionRefusal (questions (resolved_view lookup.now) setting.now)) }
-    ensures named { IfErr result (NamesIdsOf (resolved_view lookup.now)) }
+        (λ found. HasCountedAll (resolved_view document.now) setting.now found work.new) }
+    ensures refused { IfErr result (SelectionRefusal (questions (resolved_view document.now) setting.now)) }
+    ensures named { IfErr result (NamesIdsOf (resolved_view document.now)) }
 {
-    let mut found = nothing_found(alloc, lookup, setting)?;
+    document.agrees();
+    let mut found = nothing_found(alloc, document, setting)?;
     let context = Context {
         alloc,
-        lookup,
+        document,
         setting,
     };
     put_roots(&context, &mut found)?;
@@ -60,18 +60,18 @@ pub(crate) fn saturate<'a>(
 /// Nothing is found yet. The agendas have a place for each node and each feature.
 fn nothing_found<'a>(
     alloc: Global,
-    lookup: &Lookup<'a>,
+    document: &Document<'a>,
     setting: &Setting,
 ) -> Result<SearchState<'a>, AllocError>
-    requires { IsLookup lookup.now }
-    ensures sound { IfOk result (IsSound (resolved_view lookup.now) setting.now) }
+    ensures sound { IfOk result (IsSound (resolved_view document.now) setting.now) }
     ensures krates { IfOk result (λ found. found.krates.taken ≡ 0) }
     ensures features { IfOk result (λ found. found.features.taken ≡ 0) }
 {
-    let krates = Agenda::new(alloc, lookup.resolve.nodes.len())?;
-    let features = Agenda::new(alloc, lookup.features.listed.len())?;
-    let links = links_of(alloc, lookup)?;
-    let excluded = exclusions_of(alloc, &lookup.metadata.packages, setting)?;
+    document.agrees();
+    let krates = Agenda::new(alloc, document.nodes().len())?;
+    let features = Agenda::new(alloc, document.listed_features().len())?;
+    let links = links_of(alloc, document)?;
+    let excluded = exclusions_of(alloc, document.packages(), setting)?;
     Ok(SearchState {
         krates,
         features,
@@ -92,7 +92,6 @@ fn take_next<'a>(
     found: &mut SearchState<'a>,
     work: &mut Work,
 ) -> Result<bool, Error>
-    requires lookup { IsLookup context.now.lookup.now }
     requires done { HasDone context.now found.old }
     requires counted { HasCounted context.now found.old work.old }
     ensures taken { IfOk result (λ more. TakesOne context.now found.old found.new more) }

@@ -1,5 +1,6 @@
 -- The features of a list of numbers.
-use Rattle.std.proofs.Common.{◌≡◌, ◌↔◌, ℕ, ◌<◌, List, length, get_or, map, Some, Contains, option_map, refl, sym, ap, ◌∙◌, subst}
+use Rattle.std.proofs.Common.{◌≡◌, ◌↔◌, ℕ, ◌<◌, List, [], length, get_or, map, Some, Contains, option_map, refl, sym, ap, ◌∙◌, subst}
+use Rattle.std.proofs.lemmas.List.{get_or_default}
 use Rattle.std.proofs.lemmas.Option.{slice_get-map, slice_get-get_or, slice_get_read, same_Some}
 use Rattle.std.specs.List.{AllZip, slice_get}
 use Rattle.krates_cm.specs.Document.{Text, NodeModel, text_view}
@@ -23,6 +24,16 @@ use Rattle.krates_questions.proofs.FeatureNumbers.{one_feature}
 use Rattle.krates_rules.proofs.FirstPlaces.{seen_at}
 use Rattle.krates_rules.proofs.OnlyOne.{place_in}
 use Rattle.krates_rules.proofs.Standings.{contains_at}
+
+-- what stands where no feature is listed
+abbrev pub no_feature : ListedFeature
+no_feature = record { place = 0; name = record { ref_ptr = (0, 0); now = [] } }
+
+-- the listed feature of a number, as it is read of the list
+pub listed_in_place : (d : Lookup) (listed : List ListedFeature) (number : ℕ) → number < length d.features.listed.items → listed ≡ d.features.listed.items
+    → get_or listed number no_feature ≡ get_or d.features.listed.items number (get_or listed number no_feature)
+listed_in_place d listed number lt same =
+    ap (λ (xs : List ListedFeature). get_or xs number no_feature) same ∙ get_or_default d.features.listed.items number no_feature (get_or listed number no_feature) lt
 
 -- a node has only one id
 same_id_at : ReadsOnce → (r : Resolved) (i j : Id) (place other : ℕ) → NodeAt r i place → NodeAt r j other → place ≡ other → i ≡ j

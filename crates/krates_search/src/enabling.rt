@@ -8,7 +8,6 @@ ghost use Rattle.krates_cm.specs.Document.{DepKindInfoModel, dependency_view};
 ghost use Rattle.krates_rules.specs.Facts.{Crate, Feature, Kept};
 ghost use Rattle.krates_search.specs.Kinds.{IsFirstOf};
 ghost use Rattle.krates_search.specs.Links.{IsMarked};
-ghost use Rattle.krates_questions.specs.Lookup.{IsLookup};
 ghost use Rattle.krates_rules.specs.Resolved.{id_of};
 ghost use Rattle.krates_rules.specs.Rules.{default_name};
 
@@ -19,7 +18,6 @@ use crate::tracing::{put_feature, put_krate, put_step};
 use krates_cm::Dependency;
 use krates_ids::{Error, Kid, Lost, laws};
 use krates_questions::context::Context;
-use krates_questions::features::feature_number;
 use krates_questions::node_entry::{EntryEdge, NodeEntry, declared_at};
 use krates_selection::trace::{NumberedFact, NumberedStep, Reason};
 
@@ -61,7 +59,6 @@ pub fn enable<'a>(
     feature: NamedFeature<'a>,
     found: &mut SearchState<'a>,
 ) -> Result<(), Error>
-    requires lookup { IsLookup context.now.lookup.now }
     requires node { IsNodeOf context.now node }
     requires sound { IsRight context.now found.old }
     requires kept { Has context.now found.old (Crate (crate_of node)) }
@@ -73,6 +70,7 @@ pub fn enable<'a>(
     ensures same_links { OnOk result (found.new.links ≡ found.old.links) }
     ensures refused { IfErr result (Refuses context.now) }
 {
+    context.document.agrees();
     let number = listed_number(context, node, feature.name)?;
     put_feature(context, number, feature.reason, found)?;
     Ok(())
@@ -84,14 +82,13 @@ fn listed_number<'a>(
     node: KeptNode<'a>,
     name: &'a str,
 ) -> Result<usize, Error>
-    requires lookup { IsLookup context.now.lookup.now }
     requires node { IsNodeOf context.now node }
     requires may { MayEnable context.now (crate_of node) name.now }
     ensures number { IfOk result (IsNumberOf context.now (crate_of node.entry) name.now) }
     ensures refused { IfErr result (Refuses context.now) }
 {
     laws::one_reading();
-    match feature_number(context.lookup, node.place, name) {
+    match context.document.feature_number(node.place, name) {
         Some(number) => Ok(number),
         None => Err(Error::Lost(Lost::Feature {
             krate: node.id.clone()?,
@@ -107,7 +104,6 @@ fn enable_default<'a>(
     reason: Reason,
     found: &mut SearchState<'a>,
 ) -> Result<(), Error>
-    requires lookup { IsLookup context.now.lookup.now }
     requires node { IsNodeOf context.now node }
     requires sound { IsRight context.now found.old }
     requires kept { Has context.now found.old (Crate (crate_of node)) }
@@ -118,8 +114,9 @@ fn enable_default<'a>(
     ensures same_links { OnOk result (found.new.links ≡ found.old.links) }
     ensures refused { IfErr result (Refuses context.now) }
 {
+    context.document.agrees();
     laws::one_reading();
-    let Some(number) = feature_number(context.lookup, node.place, "default") else {
+    let Some(number) = context.document.feature_number(node.place, "default") else {
         return Ok(());
     };
     put_feature(context, number, reason, found)?;
@@ -134,7 +131,6 @@ pub fn toggle<'a>(
     feature: NamedFeature<'a>,
     found: &mut SearchState<'a>,
 ) -> Result<(), Error>
-    requires lookup { IsLookup context.now.lookup.now }
     requires by { IsNodeOf context.now by }
     requires node { IsNodeOf context.now node }
     requires sound { IsRight context.now found.old }
@@ -147,6 +143,7 @@ pub fn toggle<'a>(
     ensures same_links { OnOk result (found.new.links ≡ found.old.links) }
     ensures refused { IfErr result (Refuses context.now) }
 {
+    context.document.agrees();
     laws::one_reading();
     let number = listed_number(context, node, feature.name)?;
     let step = NumberedStep {
@@ -176,7 +173,6 @@ fn enable_declared<'a>(
     reason: Reason,
     found: &mut SearchState<'a>,
 ) -> Result<(), Error>
-    requires lookup { IsLookup context.now.lookup.now }
     requires node { IsNodeOf context.now node }
     requires sound { IsRight context.now found.old }
     requires kept { Has context.now found.old (Crate (crate_of node)) }
@@ -208,7 +204,6 @@ fn wake<'a>(
     step: usize,
     found: &mut SearchState<'a>,
 ) -> Result<(), Error>
-    requires lookup { IsLookup context.now.lookup.now }
     requires entry { HasEntry context.now entry.now }
     requires node { IsNodeOf context.now node }
     requires of_child { crate_of node ≡ child_of entry.now }
@@ -250,7 +245,6 @@ pub(crate) fn keep<'a>(
     keeping: Keeping,
     found: &mut SearchState<'a>,
 ) -> Result<(), Error>
-    requires lookup { IsLookup context.now.lookup.now }
     requires entry { HasEntry context.now edge.now.entry.now }
     requires first { IsFirstOf edge.now keeping.kind }
     requires node { IsNodeAt context.now (child_of edge.now.entry.now) keeping.node }
@@ -262,6 +256,7 @@ pub(crate) fn keep<'a>(
     ensures kept { OnOk result (Has context.now found.new (Kept (edge_of edge.now))) }
     ensures refused { IfErr result (Refuses context.now) }
 {
+    context.document.agrees();
     laws::one_reading();
     let entry = edge.entry;
     let kept = found_edge(edge, keeping.kind, keeping.declared, keeping.node);

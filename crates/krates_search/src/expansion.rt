@@ -7,7 +7,6 @@ ghost use Rattle.std.specs.Prelude.{◌≡◌, ◌<◌, IfErr, IfOk, OnOk, Some,
 ghost use Rattle.krates_cm.specs.Document.{DepKindInfoModel};
 ghost use Rattle.krates_search.specs.SearchState.{IsAny, TakenWhen};
 ghost use Rattle.krates_search.specs.Kinds.{IsFirstOf};
-ghost use Rattle.krates_questions.specs.Lookup.{IsLookup};
 
 use crate::enabling::{Keeping, keep};
 use crate::kinds::{first_kinds, info_at};
@@ -16,7 +15,7 @@ use krates_document::declared_dependency::{Sought, declared_of};
 use krates_graph::agenda::Taken;
 use krates_ids::{Error, Lost, laws};
 use krates_questions::context::Context;
-use krates_questions::node_entry::{EntryEdge, NodeEntry, entry_at, parts_of, places_for};
+use krates_questions::node_entry::{EntryEdge, NodeEntry, entry_at};
 use krates_questions::standing::{Standing, known_standing_of_child};
 use krates_selection::trace::Reason;
 
@@ -29,7 +28,6 @@ pub fn expand<'a>(
     step: usize,
     found: &mut SearchState<'a>,
 ) -> Result<(), Error>
-    requires lookup { IsLookup context.now.lookup.now }
     requires sound { IsRight context.now found.old }
     requires put { Contains found.old.krates.put taken }
     requires within { taken < found.old.krates.size }
@@ -38,8 +36,9 @@ pub fn expand<'a>(
     ensures expanded { OnOk result (HasExpandedTaken context.now found.new taken) }
     ensures refused { IfErr result (Refuses context.now) }
 {
+    context.document.agrees();
     laws::one_reading();
-    let parts = parts_of(context.lookup, taken.number());
+    let parts = context.document.parts_of(taken.number());
     for index in 0..parts.children.len() {
         let entry = entry_at(&parts, index);
         expand_entry(context, &entry, false, Reason::by_one(5, step), found)?;
@@ -71,7 +70,6 @@ pub fn expand_entry<'a>(
     reason: Reason,
     found: &mut SearchState<'a>,
 ) -> Result<(), Error>
-    requires lookup { IsLookup context.now.lookup.now }
     requires entry { HasEntry context.now entry.now }
     requires sound { IsRight context.now found.old }
     requires may { (k : DepKindInfoModel) → MayKeep context.now (edge_for entry.now k) (TakenWhen asked) }
@@ -81,8 +79,9 @@ pub fn expand_entry<'a>(
     ensures tried { OnOk result (HasTriedEntry context.now found.new entry.now (TakenWhen asked)) }
     ensures refused { IfErr result (Refuses context.now) }
 {
+    context.document.agrees();
     laws::one_reading();
-    let places = places_for(context.lookup, entry);
+    let places = context.document.places_for(entry);
     let standing = known_standing_of_child(context, &found.excluded, entry);
     let infos = entry.dep.dep_kinds.as_slice();
     let kinds = first_kinds(context.alloc, infos)?;
@@ -118,7 +117,6 @@ fn expand_edge<'a>(
     trial: &Trial,
     found: &mut SearchState<'a>,
 ) -> Result<bool, Error>
-    requires lookup { IsLookup context.now.lookup.now }
     requires entry { HasEntry context.now edge.now.entry.now }
     requires places { HasItsPlaces edge.now }
     requires listed { IsListedEdge edge.now }
@@ -133,6 +131,7 @@ fn expand_edge<'a>(
     ensures whole { IfOk result (λ whole. whole ≡ true → HasTried context.now found.new (edge_of edge.now) IsAny) }
     ensures refused { IfErr result (Refuses context.now) }
 {
+    context.document.agrees();
     let entry = edge.entry;
     let info = edge.info;
     if context.setting.ignores(info.kind, entry.is_member) {

@@ -2,17 +2,17 @@
 
 ghost use Rattle.std.specs.Prelude.{All, IfOk};
 ghost use Rattle.std.specs.List.{AllZip};
-ghost use Rattle.krates_questions.specs.Lookup.{IsLookup, resolved_view};
+ghost use Rattle.krates_questions.specs.Lookup.{resolved_view};
 ghost use Rattle.krates_questions.specs.Context.{document_of};
 ghost use Rattle.krates_search.specs.FoundEdge.{IsFoundEdge};
 ghost use Rattle.krates_search.specs.KeptEdges.{AreInOrder, HasKeptNodes, IsCopyOf};
 ghost use Rattle.krates_search.specs.KeptNumbers.{AreKeptNumbers, kids_in};
 
 use crate::found_edge::FoundEdge;
-use crate::kept_numbers::{KeptNumbers, number_at};
+use crate::kept_numbers::{KeptNumbers, kept_number};
 use krates_ids::laws;
+use krates_questions::Document;
 use krates_questions::context::Context;
-use krates_questions::lookup::Lookup;
 use krates_questions::sorted::in_order;
 use krates_selection::selection::KeptEdge;
 use std::alloc::{AllocError, Global};
@@ -25,15 +25,15 @@ pub fn kept_edges(
     numbers: &KeptNumbers<'_>,
     found: &[FoundEdge<'_>],
 ) -> Result<Vec<KeptEdge>, AllocError>
-    requires lookup { IsLookup context.now.lookup.now }
-    requires numbers { AreKeptNumbers context.now.lookup.now numbers.now }
+    requires numbers { AreKeptNumbers context.now.document.now numbers.now }
     requires found { All (IsFoundEdge (document_of context.now) context.now.setting.now) found.now }
     requires kept { All (HasKeptNodes (document_of context.now) (kids_in numbers.now)) found.now }
     ensures { IfOk result (λ kept. AreInOrder (document_of context.now) context.now.setting.now
         (kids_in numbers.now) found.now kept.items) }
 {
+    context.document.agrees();
     laws::comparison();
-    let kept = edge_copies(context.alloc, context.lookup, numbers, found)?;
+    let kept = edge_copies(context.alloc, context.document, numbers, found)?;
     let sorted = in_order(kept)?;
     Ok(sorted)
 }
@@ -41,35 +41,33 @@ pub fn kept_edges(
 /// Copies of the edges, with the numbers of their crates.
 fn edge_copies(
     alloc: Global,
-    lookup: &Lookup<'_>,
+    document: &Document<'_>,
     numbers: &KeptNumbers<'_>,
     edges: &[FoundEdge<'_>],
 ) -> Result<Vec<KeptEdge>, AllocError>
-    requires lookup { IsLookup lookup.now }
-    requires numbers { AreKeptNumbers lookup.now numbers.now }
-    requires kept { All (HasKeptNodes (resolved_view lookup.now) (kids_in numbers.now)) edges.now }
+    requires numbers { AreKeptNumbers document.now numbers.now }
+    requires kept { All (HasKeptNodes (resolved_view document.now) (kids_in numbers.now)) edges.now }
     ensures { IfOk result (λ kept. AllZip (IsCopyOf (kids_in numbers.now)) edges.now kept.items) }
 {
     let mut kept = Vec::with_capacity(alloc, edges.len())?;
     for edge in edges {
-        kept.push(edge_copy(lookup, numbers, edge)?)?;
+        kept.push(edge_copy(document, numbers, edge)?)?;
     }
     Ok(kept)
 }
 
 /// A copy of what an edge says, with the numbers of its crates.
 fn edge_copy(
-    lookup: &Lookup<'_>,
+    document: &Document<'_>,
     numbers: &KeptNumbers<'_>,
     edge: &FoundEdge<'_>,
 ) -> Result<KeptEdge, AllocError>
-    requires lookup { IsLookup lookup.now }
-    requires numbers { AreKeptNumbers lookup.now numbers.now }
-    requires kept { HasKeptNodes (resolved_view lookup.now) (kids_in numbers.now) edge.now }
+    requires numbers { AreKeptNumbers document.now numbers.now }
+    requires kept { HasKeptNodes (resolved_view document.now) (kids_in numbers.now) edge.now }
     ensures { IfOk result (IsCopyOf (kids_in numbers.now) edge.now) }
 {
-    let parent = number_at(lookup, numbers, edge.parent_node);
-    let child = number_at(lookup, numbers, edge.child_node);
+    let parent = kept_number(document, numbers, edge.parent_node);
+    let child = kept_number(document, numbers, edge.child_node);
     let cfg = edge.info.target.clone()?;
     Ok(KeptEdge {
         parent,

@@ -30,7 +30,7 @@ pub(crate) fn first_kinds(alloc: Global, infos: &[DepKindInfo]) -> Result<Vec<us
     let mut seen = BTreeSet::new(alloc);
     let mut places = Vec::new(alloc);
     for (place, info) in infos.iter().enumerate() {
-        if seen.insert(key_of(info))? {
+        if seen.insert(kind_key(info))? {
             places.push(place)?;
         }
     }
@@ -46,7 +46,7 @@ pub(crate) fn info_at(infos: &[DepKindInfo], place: usize) -> &DepKindInfo
 }
 
 /// The kind and the target, as a key.
-fn key_of<'a>(info: &'a DepKindInfo) -> KindKey<'a>
+fn kind_key<'a>(info: &'a DepKindInfo) -> KindKey<'a>
     ensures { kind_view result ≡ dep_kind_info_view info.now }
 {
     KindKey {

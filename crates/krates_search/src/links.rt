@@ -3,10 +3,10 @@
 ghost use Rattle.std.specs.Prelude.{◌↔◌, IfOk, IsTrue, OnOk};
 ghost use Rattle.krates_cm.specs.Document.{node_view};
 ghost use Rattle.krates_search.specs.Links.{AreNew, AreNewLinks, HasLink, HasLinks, HasMarked, HasWaiter, IsMarked, NotesAsked, TellsMark, WasAsked};
-ghost use Rattle.krates_questions.specs.Lookup.{IsLookup, resolved_view};
+ghost use Rattle.krates_questions.specs.Lookup.{resolved_view};
 
 use krates_cm::Node;
-use krates_questions::lookup::Lookup;
+use krates_questions::Document;
 use std::alloc::{AllocError, Global};
 use std::mem;
 
@@ -35,13 +35,12 @@ pub struct Links<'a> {
 }
 
 /// A link for each dependency of each node.
-pub fn links_of<'a>(alloc: Global, lookup: &Lookup<'a>) -> Result<Links<'a>, AllocError>
-    requires { IsLookup lookup.now }
-    ensures has { IfOk result (HasLinks (resolved_view lookup.now)) }
+pub fn links_of<'a>(alloc: Global, document: &Document<'a>) -> Result<Links<'a>, AllocError>
+    ensures has { IfOk result (HasLinks (resolved_view document.now)) }
     ensures new { IfOk result AreNew }
 {
     let mut of_nodes = Vec::new(alloc);
-    for node in &lookup.resolve.nodes {
+    for node in document.nodes() {
         of_nodes.push(links_of_node(alloc, node)?)?;
     }
     Ok(Links { of_nodes })

@@ -1,6 +1,5 @@
 //! What is found is put with the step by which it is found.
 
-ghost use Rattle.krates_questions.specs.Lookup.{IsLookup};
 ghost use Rattle.krates_search.specs.SearchContext.{HasPutStep, IsRight, MayPutFeature, MayPutKrate, MayPutStep, Moves};
 ghost use Rattle.std.specs.Prelude.{◌≡◌, Contains, IfOk, OnOk};
 

@@ -55,25 +55,25 @@ node_has once d i h (n, has) none =
     none there.0 (there.1 ∙ ap (λ (x : Id). Some x) same)
 
 -- and, where it is kept, one among the kept ones
-kept_number : ReadsOnce → (t : KeptTables) (i : Id) (number answer : Option ℕ) → IsTables t → IsKeptWithNode (document_in t) (kids_in t) i → IsNumberIn t.lookup.now i number → answer ≡ at_number t.numbers.now number → HasNumber t.krates.now i answer
-kept_number once t i None answer h kept n is = absurd (node_has once t.lookup.now i h.lookup kept.1 n)
+kept_number : ReadsOnce → (t : KeptTables) (i : Id) (number answer : Option ℕ) → IsTables t → IsKeptWithNode (document_in t) (kids_in t) i → IsNumberIn t.document.now i number → answer ≡ at_number t.numbers.now number → HasNumber t.krates.now i answer
+kept_number once t i None answer h kept n is = absurd (node_has once t.document.now i h.lookup kept.1 n)
 kept_number once t i (Some m) answer h kept n is =
-    let ids = t.lookup.now.table.ids.items in
+    let ids = t.document.now.table.ids.items in
     let kids = map id_of t.krates.now in
     let w = right_of (IsNumberOf kids) (map id_of ids) t.numbers.now m i h.numbers n in
     let answered : w.0 ≡ answer = sym (is ∙ get_or_from_slice_get t.numbers.now m w.0 None w.1) in
     has_number t.krates.now i answer kept.0 (subst (IsNumberOf kids i) answered w.2)
 
-numbers_long : (t : KeptTables) → IsTables t → length t.numbers.now ≡ length t.lookup.now.table.ids.items
+numbers_long : (t : KeptTables) → IsTables t → length t.numbers.now ≡ length t.document.now.table.ids.items
 numbers_long t h =
-    let ids = t.lookup.now.table.ids.items in
+    let ids = t.document.now.table.ids.items in
     zip_long (IsNumberOf (map id_of t.krates.now)) (map id_of ids) t.numbers.now h.numbers ∙ length-map ids id_of
 
 -- each number of the document has a place in the table
-pub number_within : (t : KeptTables) (i : Id) (number : Option ℕ) → IsTables t → IsNumberIn t.lookup.now i number → IfSome number (λ n. n < length t.numbers.now)
+pub number_within : (t : KeptTables) (i : Id) (number : Option ℕ) → IsTables t → IsNumberIn t.document.now i number → IfSome number (λ n. n < length t.numbers.now)
 number_within t i None h n = tt
 number_within t i (Some m) h n =
-    let ids = t.lookup.now.table.ids.items in
+    let ids = t.document.now.table.ids.items in
     omega (arith, slice_get_within (map id_of ids) m i n, length-map ids id_of, numbers_long t h)
 
 -- ---- what stands at a place
@@ -84,7 +84,7 @@ pub record HasNumberAt (t : KeptTables) (place : ℕ) (answer : Option ℕ) : Ty
   pub answered : answer ≡ Some number
   pub is : IsNumberAt t place number
 
-pub number_at : ReadsOnce → (t : KeptTables) (place : ℕ) (number answer : Option ℕ) → IsTables t → (k : IsKeptNode t place) → IsNumberIn t.lookup.now k.krate number → answer ≡ at_number t.numbers.now number → HasNumberAt t place answer
+pub number_at : ReadsOnce → (t : KeptTables) (place : ℕ) (number answer : Option ℕ) → IsTables t → (k : IsKeptNode t place) → IsNumberIn t.document.now k.krate number → answer ≡ at_number t.numbers.now number → HasNumberAt t place answer
 number_at once t place number answer h k n is =
     let r = document_in t in
     let has : (n : NodeModel) × HasNode r k.krate n = (k.node.node, record { among = contains_at r.graph.nodes place k.node.node k.node.at; id = k.node.id }) in
@@ -110,7 +110,7 @@ one_child once r p q c e place index a b =
     let reads = subst (λ (x : NodeDepModel). ReadsAs x.pkg e) (sym d) b.id in
     sym a.id.same ∙ ap id_of (once a.dep.pkg a.id.read reads.read a.id.reads reads.reads) ∙ reads.same
 
-pub child_number : ReadsOnce → (t : KeptTables) (place index : ℕ) (number answer : Option ℕ) → IsTables t → (k : IsKeptChild t place index) → IsNumberIn t.lookup.now k.child number → answer ≡ at_number t.numbers.now number
+pub child_number : ReadsOnce → (t : KeptTables) (place index : ℕ) (number answer : Option ℕ) → IsTables t → (k : IsKeptChild t place index) → IsNumberIn t.document.now k.child number → answer ≡ at_number t.numbers.now number
     → HasNumberFor t place index answer
 child_number once t place index number answer h k n is =
     let w = kept_number once t k.child number answer h k.kept n is in

@@ -26,16 +26,16 @@ use Rattle.krates_rules.specs.Steps.{EachFollows}
 use Rattle.krates_selection.specs.PartOfSteps.{AreBackward}
 
 abbrev pub document_in : KeptTables → Resolved
-document_in t = resolved_view t.lookup.now
+document_in t = resolved_view t.document.now
 
 abbrev pub kids_in : KeptTables → List Identity
 kids_in t = t.krates.now
 
--- the document is looked up, the crates are in order, and those of the document have their numbers among them
+-- the document agrees with its tables, the crates are in order, and those of the document have their numbers among them
 pub record IsTables (t : KeptTables) : Type 0 where
-  pub lookup : IsLookup t.lookup.now
+  pub lookup : IsLookup t.document.now
   pub ascending : AreNumbered (map id_of t.krates.now)
-  pub numbers : AreNumbersOf (map id_of t.krates.now) t.lookup.now.table.ids.items t.numbers.now
+  pub numbers : AreNumbersOf (map id_of t.krates.now) t.document.now.table.ids.items t.numbers.now
 
 -- ---- what is kept
 

@@ -5,7 +5,6 @@ ghost use Rattle.std.specs.List.Sorted.{IsStrictlySortedBy};
 ghost use Rattle.krates_selection.specs.Chosen.{AreChosen};
 ghost use Rattle.krates_selection.specs.KeptTables.{AreStepsOf, IsKeptIn};
 ghost use Rattle.krates_ids.specs.Identity.{id_cmp};
-ghost use Rattle.krates_questions.specs.Lookup.{IsLookup};
 ghost use Rattle.krates_questions.specs.Context.{Derives, document_of};
 ghost use Rattle.krates_selection.specs.Trace.{IsTrace};
 ghost use Rattle.krates_rules.specs.Facts.{Crate, Id};
@@ -15,12 +14,12 @@ use crate::kept::KeptStep;
 use crate::key::{KeptFactKey, fact_of};
 use crate::keys::{KeptTables, keys_of};
 use crate::laws as step_laws;
-use crate::numbering::numbers_of;
+use crate::numbering::fact_numbers;
 use crate::part_of_steps::PartOfSteps;
 use crate::trace::NumberedStep;
 use krates_ids::{Kid, laws};
 use krates_questions::context::Context;
-use krates_questions::crate_table::numbers_of as crate_numbers_of;
+use krates_questions::crate_table::numbers_of;
 use krates_rules::Uses;
 use std::alloc::{AllocError, Global};
 
@@ -32,24 +31,24 @@ pub fn kept_steps<'a>(
     krates: &[Kid],
     steps: &[NumberedStep],
 ) -> Result<Vec<KeptStep>, AllocError>
-    requires lookup { IsLookup context.now.lookup.now }
     requires ascending { IsStrictlySortedBy id_cmp krates.now }
     requires trace { IsTrace (document_of context.now) context.now.setting.now steps.now }
     requires crates { (i : Id) → Derives context.now (Crate i) → IsKeptIn krates.now i }
     ensures { IfOk result (λ kept. AreStepsOf (document_of context.now) context.now.setting.now krates.now
         steps.now kept.items) }
 {
+    context.document.agrees();
     laws::one_reading();
     laws::comparison();
     step_laws::firsts();
-    let krate_numbers = crate_numbers_of(context.alloc, krates, &context.lookup.table.ids)?;
+    let krate_numbers = numbers_of(context.alloc, krates, context.document.crate_ids())?;
     let tables = KeptTables {
-        lookup: context.lookup,
+        document: context.document,
         krates,
         numbers: &krate_numbers,
     };
     let keys = keys_of(context.alloc, &tables, steps)?;
-    let numbers = numbers_of(context.alloc, krates.len(), &keys)?;
+    let numbers = fact_numbers(context.alloc, krates.len(), &keys)?;
     let uses = uses_of(context.alloc, steps)?;
     let part = first_steps(context.alloc, &uses, &numbers, keys.len())?;
     chosen(context.alloc, &keys, steps, &part)

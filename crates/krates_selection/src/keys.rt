@@ -4,7 +4,7 @@ ghost use Rattle.std.specs.Prelude.{◌≡◌, IfOk};
 ghost use Rattle.std.specs.List.{AllZip};
 ghost use Rattle.krates_cm.specs.Document.{dep_kind_info_view};
 ghost use Rattle.krates_selection.specs.KeptTables.{AreKeptFacts, IsChildAt, IsEdgeIn, IsFeatureIn, IsKeptChild, IsKeptEdge, IsKeptFact, IsKeptFeature, IsKeptNode, IsKeyOf, IsNumberAt, IsTables, numbered_facts};
-ghost use Rattle.krates_questions.specs.Lookup.{IsLookup, resolved_view};
+ghost use Rattle.krates_questions.specs.Lookup.{resolved_view};
 ghost use Rattle.krates_selection.specs.Trace.{EdgeAt};
 ghost use Rattle.krates_rules.specs.Facts.{Edge};
 ghost use Rattle.krates_rules.specs.Questions.{kind_info_of};
@@ -13,7 +13,8 @@ use crate::key::{FeatureKey, KeptEdgeKey, KeptFactKey, ToggleKey};
 use crate::trace::{NumberedFact, NumberedStep};
 use krates_cm::DepKindInfo;
 use krates_ids::{Kid, laws};
-use krates_questions::lookup::{Lookup, at_number};
+use krates_questions::Document;
+use krates_questions::lookup::at_number;
 use krates_rules::DepKind;
 use std::alloc::{AllocError, Global};
 
@@ -21,7 +22,7 @@ use std::alloc::{AllocError, Global};
 #[derive(Clone, Copy)]
 pub(crate) struct KeptTables<'a, 's> {
     /// The document.
-    pub lookup: &'s Lookup<'a>,
+    pub document: &'s Document<'a>,
     /// The kept crates.
     pub krates: &'s [Kid],
     /// By the number of a crate in the document, its number among the kept ones, where it is kept.
@@ -55,7 +56,7 @@ fn key_at<'a>(tables: &KeptTables<'a, '_>, fact: NumberedFact) -> KeptFactKey<'a
         NumberedFact::Crate { place } => KeptFactKey::Crate(crate_at(tables, place)),
         NumberedFact::Feature { number } => KeptFactKey::Feature(feature_at(tables, number)),
         NumberedFact::Kept { place, index, kind } => {
-            KeptFactKey::Kept(edge_at(tables, place, index, kind))
+            KeptFactKey::Kept(kept_edge_key(tables, place, index, kind))
         }
         NumberedFact::Toggled { place, number } => {
             KeptFactKey::Toggled(ToggleKey {
@@ -73,7 +74,7 @@ fn crate_at(tables: &KeptTables<'_, '_>, place: usize) -> usize
     ensures { IsNumberAt tables.now place result }
 {
     laws::one_reading();
-    let number = tables.lookup.table.node_numbers[place];
+    let number = tables.document.node_number(place);
     let Some(kept) = at_number(tables.numbers, number) else {
         unreachable!()
     };
@@ -87,7 +88,7 @@ fn child_at(tables: &KeptTables<'_, '_>, place: usize, index: usize) -> usize
     ensures { IsChildAt tables.now place index result }
 {
     laws::one_reading();
-    let number = tables.lookup.table.dep_numbers[place][index];
+    let number = tables.document.child_number_at(place, index);
     let Some(kept) = at_number(tables.numbers, number) else {
         unreachable!()
     };
@@ -100,7 +101,7 @@ fn feature_at<'a>(tables: &KeptTables<'a, '_>, number: usize) -> FeatureKey<'a>
     requires kept { IsKeptFeature tables.now number }
     ensures { IsFeatureIn tables.now number result }
 {
-    let feature = tables.lookup.features.listed[number];
+    let feature = tables.document.listed_features()[number];
     FeatureKey {
         krate: crate_at(tables, feature.place),
         name: feature.name,
@@ -108,7 +109,7 @@ fn feature_at<'a>(tables: &KeptTables<'a, '_>, number: usize) -> FeatureKey<'a>
 }
 
 /// The key of the edge at these places.
-fn edge_at<'a>(
+fn kept_edge_key<'a>(
     tables: &KeptTables<'a, '_>,
     place: usize,
     index: usize,
@@ -118,7 +119,7 @@ fn edge_at<'a>(
     requires kept { IsKeptEdge tables.now place index kind }
     ensures { IsEdgeIn tables.now place index kind result }
 {
-    let info = info_at(tables.lookup, place, index, kind);
+    let info = edge_info(tables.document, place, index, kind);
     KeptEdgeKey {
         parent: crate_at(tables, place),
         child: child_at(tables, place, index),
@@ -128,11 +129,15 @@ fn edge_at<'a>(
 }
 
 /// The kind and target at these places.
-fn info_at<'a>(lookup: &Lookup<'a>, place: usize, index: usize, kind: usize) -> &'a DepKindInfo
-    requires lookup { IsLookup lookup.now }
-    requires there { (e : Edge) × EdgeAt (resolved_view lookup.now) e place index kind }
-    ensures { (e : Edge) → EdgeAt (resolved_view lookup.now) e place index kind
+fn edge_info<'a>(
+    document: &Document<'a>,
+    place: usize,
+    index: usize,
+    kind: usize,
+) -> &'a DepKindInfo
+    requires there { (e : Edge) × EdgeAt (resolved_view document.now) e place index kind }
+    ensures { (e : Edge) → EdgeAt (resolved_view document.now) e place index kind
         → dep_kind_info_view result.now ≡ kind_info_of e }
 {
-    &lookup.resolve.nodes[place].deps[index].dep_kinds[kind]
+    &document.nodes()[place].deps[index].dep_kinds[kind]
 }

@@ -13,7 +13,7 @@ use std::collections::BTreeMap;
 /// A fact is looked for among those of its own crate, which are few beside all.
 ///
 /// Time: O(n log n), with one look-up for each.
-pub(crate) fn numbers_of(
+pub(crate) fn fact_numbers(
     alloc: Global,
     count: usize,
     keys: &[KeptFactKey<'_>],

@@ -5,6 +5,7 @@ pub mod PathLemmas
 pub mod TargetTable
 pub mod RustcCfg
 pub mod CopiedTexts
+pub mod TextList
 pub mod CfgReading
 pub mod CfgFrames
 pub mod CfgSteps

@@ -1,13 +1,9 @@
 -- The value of a cfg expression at a target, and how many words and pairs it has (Rust Reference, "Conditional compilation").
 use Rattle.std.specs.Prelude.{ℕ, ◌+◌, Bool, true, false, not, ◌&&◌, ◌||◌, if◌then◌else◌, List, codes}
-use Rattle.std.specs.List.{list_any}
 use Rattle.std.specs.Str.{bytes_eq}
 use Rattle.krates_text.specs.TargetTable.{DescribedTarget, builtin, unknown}
+use Rattle.krates_text.specs.Texts.{has_text}
 use Rattle.krates_text.specs.CfgGrammar.{Tree, all_of, any_of, not_of, constant, word, pair, Trees, no_trees, tree}
-
--- the text is among these
-abbrev pub has_text : List (List ℕ) → List ℕ → Bool
-has_text texts text = list_any (λ t. bytes_eq t text) texts
 
 -- a word: only `unix` and `windows` can be true
 abbrev pub word_value : DescribedTarget → List ℕ → Bool

@@ -1,4 +1,5 @@
 pub mod Text
+pub mod Texts
 pub mod Cuts
 pub mod FeatureReference
 pub mod JsonLine

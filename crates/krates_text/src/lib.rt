@@ -11,3 +11,4 @@ pub mod passing;
 pub mod path;
 pub mod rustc_cfg;
 pub mod target;
+pub mod texts;

@@ -1,7 +1,7 @@
 //! What cargo is told.
 
 ghost use Rattle.std.specs.Prelude.{◌≡◌, false, Err, None, IfErr, IfOk, OnOk, option_map};
-ghost use Rattle.krates_cargo.specs.Options.{IsCommandOf, IsParentlessOrMemory, LacksParent};
+ghost use Rattle.krates_cargo.specs.CargoOptions.{IsCommandOf, IsParentlessOrMemory, LacksParent};
 ghost use Rattle.krates_cm.specs.Document.{text_view};
 ghost use Rattle.krates_cm.specs.declared.error.Error.TheVariants.{NoManifestParent};
 ghost use Rattle.krates_words.specs.CargoWords.{asked_of_cargo};

@@ -8,7 +8,7 @@ ghost use Rattle.krates_queries.specs.Direct.{id_and_value_at, is_feature_of as 
 ghost use Rattle.krates_queries.specs.Neighbours.{AreInOrder, first_edge};
 
 use crate::queries::krate_nodes::{KrateMatch, krate_at};
-use crate::queries::neighbours::{Neighbour, edge_of};
+use crate::queries::neighbours::{Neighbour, first_edge};
 use krates_drawing::node::Node;
 use krates_graph::graph::{EdgeId, NodeId};
 use krates_ids::Kid;
@@ -51,7 +51,7 @@ fn push_joined<'a, N>(
     let Some(KrateMatch { krate, kid, .. }) = krate_at(nodes, number) else {
         return Ok(());
     };
-    let Some(edge_id) = edge_of(neighbours, number) else {
+    let Some(edge_id) = first_edge(neighbours, number) else {
         return Ok(());
     };
     let joined = JoinedKrate {
@@ -68,7 +68,7 @@ fn push_joined<'a, N>(
 }
 
 /// The crates of these numbers that are neighbours, each with the first edge by which it is one.
-pub(crate) fn joined<'a, N>(
+pub(crate) fn joined_krates<'a, N>(
     alloc: Global,
     nodes: &'a [Node<N>],
     neighbours: &[Neighbour],
@@ -86,7 +86,7 @@ pub(crate) fn joined<'a, N>(
 }
 
 /// The numbers in order, each once.
-pub(crate) fn in_order(mut numbers: Vec<NodeId>) -> Vec<NodeId>
+pub(crate) fn sorted_once(mut numbers: Vec<NodeId>) -> Vec<NodeId>
     ensures ascending { IsStrictlySortedBy nat_cmp result.items }
     ensures same { (n : ℕ) → Contains result.items n ↔ Contains numbers.items n }
 {

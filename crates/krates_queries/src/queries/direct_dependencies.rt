@@ -6,7 +6,7 @@ ghost use Rattle.krates_queries.specs.DirectDependencies.{AreDependencies, home,
 ghost use Rattle.krates_queries.specs.Direct.{joined_view};
 
 use crate::kept::Krates;
-use crate::queries::direct::{JoinedKrate, in_order, joined};
+use crate::queries::direct::{JoinedKrate, joined_krates, sorted_once};
 use crate::queries::neighbours::{Neighbour, ordered};
 use krates_drawing::node::Node;
 use krates_graph::graph::{Direction, EdgeId, Graph, NodeId};
@@ -16,7 +16,7 @@ use std::alloc::{AllocError, Global};
 pub type DirectDependency<'a, N> = JoinedKrate<'a, N>;
 
 /// The numbers that a mapping names.
-fn numbers_of(alloc: Global, mapping: &[Option<NodeId>]) -> Result<Vec<NodeId>, AllocError>
+fn mapped_numbers(alloc: Global, mapping: &[Option<NodeId>]) -> Result<Vec<NodeId>, AllocError>
     ensures { IfOk result (λ numbers. numbers.items ≡ numbers_in mapping.now) }
 {
     let mut numbers = Vec::new(alloc);
@@ -33,7 +33,7 @@ fn named<N>(alloc: Global, node: &Node<N>) -> Result<Vec<NodeId>, AllocError>
     ensures { IfOk result (λ numbers. numbers.items ≡ named_by (Some node.now)) }
 {
     match node {
-        Node::Krate { dep_mapping, .. } => numbers_of(alloc, dep_mapping),
+        Node::Krate { dep_mapping, .. } => mapped_numbers(alloc, dep_mapping),
         Node::Feature { .. } => Ok(Vec::new(alloc)),
     }
 }
@@ -104,8 +104,8 @@ impl<N, E> Krates<N, E> {
     {
         let alloc = self.alloc();
         let graph = self.graph();
-        let numbers = in_order(named(alloc, &graph[node])?);
+        let numbers = sorted_once(named(alloc, &graph[node])?);
         let targets = ordered(targets_of(alloc, graph, node)?);
-        joined(alloc, graph.raw_nodes(), &targets, &numbers)
+        joined_krates(alloc, graph.raw_nodes(), &targets, &numbers)
     }
 }

@@ -5,7 +5,7 @@ ghost use Rattle.krates_queries.specs.DirectDependents.{AreDependents, sources_i
 ghost use Rattle.krates_queries.specs.Direct.{joined_view};
 
 use crate::kept::Krates;
-use crate::queries::direct::{JoinedKrate, in_order, is_feature_of, joined};
+use crate::queries::direct::{JoinedKrate, is_feature_of, joined_krates, sorted_once};
 use crate::queries::neighbours::{Neighbour, ordered};
 use krates_drawing::node::Node;
 use krates_graph::graph::{Direction, EdgeId, Graph, NodeId};
@@ -68,7 +68,7 @@ fn sources_of<N, E>(
 }
 
 /// The numbers of the neighbours.
-fn numbers_of(alloc: Global, neighbours: &[Neighbour]) -> Result<Vec<NodeId>, AllocError>
+fn neighbour_numbers(alloc: Global, neighbours: &[Neighbour]) -> Result<Vec<NodeId>, AllocError>
     ensures { IfOk result (λ numbers. numbers.items ≡ map (λ n. n.krate) neighbours.now) }
 {
     let mut numbers = Vec::new(alloc);
@@ -101,7 +101,7 @@ impl<N, E> Krates<N, E> {
         let alloc = self.alloc();
         let graph = self.graph();
         let sources = ordered(sources_of(alloc, graph, node)?);
-        let numbers = in_order(numbers_of(alloc, &sources)?);
-        joined(alloc, graph.raw_nodes(), &sources, &numbers)
+        let numbers = sorted_once(neighbour_numbers(alloc, &sources)?);
+        joined_krates(alloc, graph.raw_nodes(), &sources, &numbers)
     }
 }

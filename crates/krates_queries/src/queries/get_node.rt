@@ -44,25 +44,29 @@ fn number_in<N>(nodes: &[Node<N>], kid: &Kid, feature: Option<&str>) -> Option<u
         ↔ IsNumberFor nodes.now (id_of kid.now) (option_map (λ name. name.now) feature.entry) n }
 {
     match number_of(nodes, kid) {
-        Some(krate) => number_at(nodes, krate, feature),
+        Some(krate) => crate_or_feature_number(nodes, krate, feature),
         None => None,
     }
 }
 
 /// The number of the node of the crate of a number, or of that of an enabled feature of it.
-fn number_at<N>(nodes: &[Node<N>], krate: usize, feature: Option<&str>) -> Option<usize>
+fn crate_or_feature_number<N>(
+    nodes: &[Node<N>],
+    krate: usize,
+    feature: Option<&str>,
+) -> Option<usize>
     requires { AreNodes nodes.now }
     ensures { (n : ℕ) → (result ≡ Some n)
         ↔ IsNumberIn nodes.now krate (option_map (λ name. name.now) feature.entry) n }
 {
     match feature {
-        Some(name) => feature_number(nodes, krate, name),
+        Some(name) => kept_feature_number(nodes, krate, name),
         None => Some(krate),
     }
 }
 
 /// The number of the enabled feature of this name of a crate.
-fn feature_number<N>(nodes: &[Node<N>], krate: usize, name: &str) -> Option<usize>
+fn kept_feature_number<N>(nodes: &[Node<N>], krate: usize, name: &str) -> Option<usize>
     requires { AreNodes nodes.now }
     ensures { (n : ℕ) → (result ≡ Some n) ↔ IsFeatureAt nodes.now n krate name.now }
 {

@@ -24,7 +24,7 @@ pub(crate) fn ordered(mut neighbours: Vec<Neighbour>) -> Vec<Neighbour>
 }
 
 /// The edge of the first of the neighbours that is the crate of this number.
-pub(crate) fn edge_of(neighbours: &[Neighbour], number: NodeId) -> Option<EdgeId>
+pub(crate) fn first_edge(neighbours: &[Neighbour], number: NodeId) -> Option<EdgeId>
     requires { AreInOrder neighbours.now }
     ensures { result ≡ first_edge neighbours.now number }
 {

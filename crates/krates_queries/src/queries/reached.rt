@@ -9,7 +9,7 @@ ghost use Rattle.krates_graph.specs.Agenda.{IsOrderly};
 ghost use Rattle.krates_graph.specs.Graph.{HasEnds};
 ghost use Rattle.krates_queries.specs.Reached.{Grows, IsFarEnd, IsFarEndOf, IsNext, far_end};
 
-use crate::queries::direct::in_order;
+use crate::queries::direct::sorted_once;
 use krates_drawing::edge::Edge;
 use krates_graph::agenda::Agenda;
 use krates_graph::graph::{Direction, EdgeId, Graph, GraphEdge, NodeId};
@@ -143,5 +143,5 @@ pub(crate) fn nodes_put(alloc: Global, agenda: &Agenda) -> Result<Vec<NodeId>, A
     ensures ascending { IfOk result (λ nodes. IsStrictlySortedBy nat_cmp nodes.items) }
     ensures same { IfOk result (λ nodes. (n : ℕ) → Contains nodes.items n ↔ Contains agenda.now.put n) }
 {
-    Ok(in_order(as_nodes(alloc, agenda.numbers())?))
+    Ok(sorted_once(as_nodes(alloc, agenda.numbers())?))
 }

@@ -9,7 +9,7 @@ use krates_drawing::node::Node;
 use krates_graph::graph::NodeId;
 
 /// The number that a node has at a place of its mapping.
-fn number_at<N>(node: &Node<N>, place: usize) -> Option<NodeId>
+fn mapped_number<N>(node: &Node<N>, place: usize) -> Option<NodeId>
     ensures { result ≡ number_in (Some node.now) place }
 {
     match node {
@@ -31,7 +31,7 @@ impl<N, E> Krates<N, E> {
         ensures { option_map (λ krate. krate.now) result ≡ resolved_at self.now.graph.nodes node place }
     {
         let nodes = self.graph().raw_nodes();
-        let number = number_at(nodes.get(node.index())?, place)?;
+        let number = mapped_number(nodes.get(node.index())?, place)?;
         // What `?` makes of no crate would have to own references.
         let Some(found) = krate_at(nodes, number) else {
             return None;

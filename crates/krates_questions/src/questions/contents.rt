@@ -1,13 +1,12 @@
 //! What a document has for a crate: its package and its node.
 
-ghost use Rattle.std.specs.Prelude.{option_map};
+ghost use Rattle.std.specs.Prelude.{◌≡◌, option_map};
 ghost use Rattle.krates_cm.specs.Document.{node_view, package_view};
-ghost use Rattle.krates_questions.specs.Lookup.{IsLookup, IsPackageOf, TellsPackage, resolved_view};
-ghost use Rattle.krates_questions.specs.Contents.{IsNodeOf, TellsNode};
-ghost use Rattle.krates_questions.specs.DocumentModel.{as_resolved};
+ghost use Rattle.krates_questions.specs.Lookup.{IsPackageOf, resolved_view};
+ghost use Rattle.krates_questions.specs.Contents.{IsNodeOf};
 ghost use Rattle.krates_rules.specs.Resolved.{id_of};
 
-use crate::lookup::{Lookup, node_place, package_of};
+use crate::feature_table::ListedFeature;
 use crate::questions::Document;
 use krates_cm::{Node, Package};
 use krates_ids::Kid;
@@ -15,34 +14,62 @@ use krates_ids::Kid;
 impl<'a> Document<'a> {
     /// The package of a crate; none where the document has none. It is found by binary search. Time O(log n) in the crates.
     pub fn package_of(&self, krate: &Kid) -> Option<&'a Package>
-        ensures { IsPackageOf (as_resolved self.now) (id_of krate.now) (option_map
+        ensures { IsPackageOf (resolved_view self.now) (id_of krate.now) (option_map
             (λ pkg. package_view pkg.now) result) }
     {
-        package_in(&self.lookup, krate)
+        self.package_at(self.crate_number(krate))
     }
 
     /// The node of a crate; none where the graph has none. It is found by binary search. Time O(log n) in the crates.
     pub fn node_of(&self, krate: &Kid) -> Option<&'a Node>
-        ensures { IsNodeOf (as_resolved self.now) (id_of krate.now) (option_map
+        ensures { IsNodeOf (resolved_view self.now) (id_of krate.now) (option_map
             (λ node. node_view node.now) result) }
     {
-        node_in(&self.lookup, krate)
+        match self.node_place(krate) {
+            Some(place) => Some(&self.lookup.resolve.nodes[place]),
+            None => None,
+        }
     }
-}
 
-/// The package of a crate.
-fn package_in<'a>(lookup: &Lookup<'a>, krate: &Kid) -> Option<&'a Package>
-    requires { IsLookup lookup.now }
-    ensures { TellsPackage (resolved_view lookup.now) (id_of krate.now) result }
-{
-    package_of(lookup, krate)
-}
+    /// The packages, in the order of the document. Time O(1).
+    pub fn packages(&self) -> &'a [Package]
+        ensures { result.now ≡ self.now.metadata.now.packages.items }
+    {
+        &self.lookup.metadata.packages
+    }
 
-/// The node of a crate.
-fn node_in<'a>(lookup: &Lookup<'a>, krate: &Kid) -> Option<&'a Node>
-    requires { IsLookup lookup.now }
-    ensures { TellsNode (resolved_view lookup.now) (id_of krate.now) result }
-{
-    let place = node_place(lookup, krate)?;
-    Some(&lookup.resolve.nodes[place])
+    /// The nodes of the graph, in the order of the document. Time O(1).
+    pub fn nodes(&self) -> &'a [Node]
+        ensures { result.now ≡ self.now.resolve.now.nodes.items }
+    {
+        &self.lookup.resolve.nodes
+    }
+
+    /// The ids of the nodes, in their order. Time O(1).
+    pub fn node_ids(&self) -> &'a [Kid]
+        ensures { result.now ≡ self.now.ids.now.nodes.items }
+    {
+        &self.lookup.ids.nodes
+    }
+
+    /// The ids of the members of the workspace, in the order of the document. Time O(1).
+    pub fn members(&self) -> &'a [Kid]
+        ensures { result.now ≡ self.now.ids.now.members.items }
+    {
+        &self.lookup.ids.members
+    }
+
+    /// The ids of all crates, by number: in their order, each once. Time O(1).
+    pub fn crate_ids(&self) -> &[Kid]
+        ensures { result.now ≡ self.now.table.ids.items }
+    {
+        &self.lookup.table.ids
+    }
+
+    /// The features that the nodes list, by number. Time O(1).
+    pub fn listed_features(&self) -> &[ListedFeature<'a>]
+        ensures { result.now ≡ self.now.features.listed.items }
+    {
+        &self.lookup.features.listed
+    }
 }

@@ -1,6 +1,6 @@
 //! The tree of a cfg expression.
 ghost use Rattle.std.specs.Prelude.{◌≡◌, ◌^◌, ◌<◌, IfOk, IfErr, map, string_bytes};
-ghost use Rattle.krates_text.specs.CfgValue.{value, all_true, some_true, word_value, pair_value, described_value, has_text, count, count_among};
+ghost use Rattle.krates_text.specs.CfgValue.{value, all_true, some_true, word_value, pair_value, described_value, count, count_among};
 ghost use Rattle.krates_text.specs.TargetTable.{target_of, description_of, builtin};
 ghost use Rattle.krates_text.specs.CfgGrammar as grammar;
 ghost use Rattle.krates_text.specs.CfgView.{tree_of, trees_of};
@@ -8,6 +8,7 @@ ghost use Rattle.krates_text.specs.declared.cfg.CfgError.TheVariants.{Memory};
 
 use crate::cfg::CfgError;
 use crate::target::{Target, TargetInfo};
+use crate::texts::has_text;
 use std::alloc::Global;
 
 /// A predicate, which may hold other predicates.
@@ -83,18 +84,6 @@ fn any_holds(predicates: &[Predicate], target: &Target, features: &[String]) -> 
 {
     for predicate in predicates {
         if eval(predicate, target, features) {
-            return true;
-        }
-    }
-    false
-}
-
-/// Whether a text is among these.
-fn has_text(texts: &[String], text: &str) -> bool
-    ensures { result ≡ has_text (map string_bytes texts.now) text.now }
-{
-    for t in texts {
-        if t.as_str() == text {
             return true;
         }
     }

@@ -48,7 +48,7 @@ pub divide-requires-clause-distinct : goal.divide-requires-clause-distinct
 divide-requires-clause-distinct g c = rw (c.rest_of-rest.ensures) (ids_distinct (metadata_view c.args.metadata) (ids_view c.args.ids) c.requires.admitted)
 
 pub divide-requires-clause-ascending : goal.divide-requires-clause-ascending
-divide-requires-clause-ascending g c = subst (λ (ks : List CrateRow). IsStrictlySortedBy id_cmp (outline_ids ks)) (sym c.deref.ensures.value) c.in_ok-sketch.ensures.sketched.ordered.krates
+divide-requires-clause-ascending g c = subst (λ (ks : List CrateRow). IsStrictlySortedBy id_cmp (outline_ids ks)) (sym c.deref.ensures.value) c.in_ok-sketch.sketch.outline.ordered.krates
 
 pub returns-in_err-graph-clause-refused : goal.returns-in_err-graph-clause-refused
 returns-in_err-graph-clause-refused g c =
@@ -70,10 +70,7 @@ graph_of-requires-clause-ids g c =
     let division = c.in_ok-division.division in
     let divided = divided_of c.args.metadata c.args.ids c.rest_of-rest.result c.in_ok-sketch.sketch.outline.krates.items c.deref.result.now division c.rest_of-rest.ensures c.deref.ensures.value c.in_ok-division.ensures in
     let b = builds_outline c.one_reading.ensures.once c.args.metadata c.args.setting.now c.in_ok-sketch.sketch.outline division c.in_ok-sketch.ensures.sketched.outline divided in
-    kept_ids o c.args.metadata c.args.setting.now c.in_ok-sketch.sketch.outline division c.in_ok-sketch.ensures.sketched.outline c.in_ok-sketch.ensures.sketched.ordered b
-
-pub graph_of-requires-clause-ordered : goal.graph_of-requires-clause-ordered
-graph_of-requires-clause-ordered g c = c.in_ok-sketch.ensures.sketched.ordered
+    kept_ids o c.args.metadata c.args.setting.now c.in_ok-sketch.sketch.outline division c.in_ok-sketch.ensures.sketched.outline b
 
 pub graph_of-requires-clause-stand : goal.graph_of-requires-clause-stand
 graph_of-requires-clause-stand g c = outline_stands c.ends_stand.ensures (metadata_view c.args.metadata) c.args.setting.now (outline_view c.in_ok-sketch.sketch.outline) c.in_ok-sketch.ensures.sketched.outline
@@ -88,7 +85,7 @@ members_of-found-requires g c =
     let b = builds_outline c.one_reading.ensures.once c.args.metadata c.args.setting.now c.in_ok-sketch.sketch.outline division outline_is divided in
     let n = numbered g.E.FromEdge.made_from_edge (outline_view c.in_ok-sketch.sketch.outline) c.in_ok-graph.graph graph.drawing c.in_ok-graph.ensures.within c.in_ok-graph.ensures.limits in
     let nodes = numbered_graph o g.N.FromPackage.made_from g.E.FromEdge.made_from_edge c.args.metadata c.args.setting.now c.in_ok-sketch.sketch.outline division c.in_ok-graph.graph outline_is
-    c.in_ok-sketch.ensures.sketched.ordered b graph n in
+    b graph n in
     subst (λ ns. AreNodes ns) (sym c.raw_nodes.ensures.nodes) nodes
 
 pub new-requires-clause-nodes : goal.new-requires-clause-nodes
@@ -101,7 +98,7 @@ new-requires-clause-nodes g c =
     let b = builds_outline c.one_reading.ensures.once c.args.metadata c.args.setting.now c.in_ok-sketch.sketch.outline division outline_is divided in
     let n = numbered g.E.FromEdge.made_from_edge (outline_view c.in_ok-sketch.sketch.outline) c.in_ok-graph.graph graph.drawing c.in_ok-graph.ensures.within c.in_ok-graph.ensures.limits in
     numbered_graph o g.N.FromPackage.made_from g.E.FromEdge.made_from_edge c.args.metadata c.args.setting.now c.in_ok-sketch.sketch.outline division c.in_ok-graph.graph outline_is
-    c.in_ok-sketch.ensures.sketched.ordered b graph n
+    b graph n
 
 pub new-requires-clause-members : goal.new-requires-clause-members
 new-requires-clause-members g c =
@@ -128,7 +125,7 @@ new-requires-clause-explained g c =
     let b = builds_outline c.one_reading.ensures.once c.args.metadata c.args.setting.now c.in_ok-sketch.sketch.outline division outline_is divided in
     let n = numbered g.E.FromEdge.made_from_edge (outline_view c.in_ok-sketch.sketch.outline) c.in_ok-graph.graph graph.drawing c.in_ok-graph.ensures.within c.in_ok-graph.ensures.limits in
     let nodes = numbered_graph o g.N.FromPackage.made_from g.E.FromEdge.made_from_edge c.args.metadata c.args.setting.now c.in_ok-sketch.sketch.outline division c.in_ok-graph.graph outline_is
-    c.in_ok-sketch.ensures.sketched.ordered b graph n in
+    b graph n in
     let kids = c.in_ok-explanation.ensures.ids ∙ ap krate_ids c.deref-2.ensures.value in
     explains o g.N.FromPackage.made_from g.E.FromEdge.made_from_edge c.args.metadata c.args.setting.now c.in_ok-sketch.sketch.outline division c.in_ok-graph.graph c.in_ok-sketch.ensures.sketched.selection c.in_ok-explanation.explanation
     c.in_ok-sketch.sketch.steps.items outline_is b graph nodes c.in_ok-sketch.ensures.sketched.selected kids (ap (λ (v : Vec KeptStep). v.items) c.in_ok-explanation.ensures.steps) c.in_ok-sketch.ensures.sketched.steps

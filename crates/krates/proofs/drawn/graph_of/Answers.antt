@@ -19,7 +19,7 @@ use Rattle.krates.proofs.drawn.graph_of.Goals as goal
 pub enabled_of-requires : goal.enabled_of-requires
 enabled_of-requires g c =
     let outline = c.args.outline in
-    let homes = All-map (HasHome (length outline.krates.items)) (λ (n : FeatureRow). n.feature) outline.features.items c.requires.ordered.homes in
+    let homes = All-map (HasHome (length outline.krates.items)) (λ (n : FeatureRow). n.feature) outline.features.items outline.ordered.homes in
     let as_many = as_many_crates c.args.krates.items outline.krates.items c.requires.ids in
     subst (λ n. All (HasHome n) c.in_ok-features.features.items) (as_many ∙ sym (c.len.ensures ∙ c.args.krates.ok.0)) (subst (All (HasHome (length outline.krates.items))) (sym c.in_ok-features.ensures) homes)
 

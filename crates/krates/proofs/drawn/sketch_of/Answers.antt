@@ -1,17 +1,16 @@
-use Rattle.std.proofs.Common.{◌≡◌, refl, ◌∙◌, subst}
+use Rattle.std.proofs.Common.{refl, subst}
 use Rattle.std.proofs.lemmas.Result.{err_from_is_err_and}
 use Rattle.krates_cm.specs.Document.{metadata_view}
 use Rattle.krates_document.specs.Ids.{ids_view}
 use Rattle.krates_drawing.specs.Views.{outline_view}
-use Rattle.krates_questions.specs.DocumentModel.{as_resolved}
-use Rattle.krates_drawing.proofs.DocumentOutlines.{none_doubled_in}
 use Rattle.krates_questions.specs.Lookup.{resolved_view}
+use Rattle.krates_drawing.proofs.DocumentOutlines.{none_doubled_in}
 use Rattle.krates_selection.specs.Explained.{IsExplained, IsExplainedOf}
 use Rattle.krates_selection.specs.Selection.{IsSelection, IsSelectionOf, RefusesSelection}
 use Rattle.krates_questions.proofs.ReadIds.{each_read}
 use Rattle.krates_rules.specs.NamedIds.{NamesIdsOf, named_ids}
 use Rattle.krates_rules.specs.Questions.{questions}
-use Rattle.krates_rules.specs.Resolved.{Resolved, resolved}
+use Rattle.krates_rules.specs.Resolved.{Resolved}
 use Rattle.krates_rules.specs.SelectionRefusals.{SelectionRefusal}
 use Rattle.krates.proofs.DrawnLemmas.{outline_told}
 use Rattle.krates.proofs.ExplainedLemmas.{steps_for}
@@ -23,8 +22,7 @@ returns-in_err-selection-clause-refused c =
     let s = c.args.setting.now in
     let d = c.in_ok-document.ensures in
     let error = c.in_err-selection.field-0.0 in
-    let same : resolved_view c.lookup.result.now ≡ resolved m d.graph = c.lookup.ensures.document ∙ d.holds in
-    let refused : RefusesSelection m s error = record { graph = d.graph; has_graph = d.has_graph; holds = subst (λ (r : Resolved). SelectionRefusal (questions r s) error) same c.in_err-selection.ensures.refused } in
+    let refused : RefusesSelection m s error = record { graph = d.graph; has_graph = d.has_graph; holds = subst (λ (r : Resolved). SelectionRefusal (questions r s) error) d.holds c.in_err-selection.ensures.refused } in
     let p = err_from_is_err_and c.from_residual-in_err-selection.result c.from_residual-in_err-selection.ensures.1 in
     rw (p.1, p.2) refused
 
@@ -33,19 +31,15 @@ returns-in_err-selection-clause-named c =
     let m = metadata_view c.args.metadata.now in
     let d = c.in_ok-document.ensures in
     let error = c.in_err-selection.field-0.0 in
-    let same : resolved_view c.lookup.result.now ≡ resolved m d.graph = c.lookup.ensures.document ∙ d.holds in
-    let named = each_read m d.graph (named_ids error) d.has_graph (subst (λ (r : Resolved). NamesIdsOf r error) same c.in_err-selection.ensures.named) in
+    let named = each_read m d.graph (named_ids error) d.has_graph (subst (λ (r : Resolved). NamesIdsOf r error) d.holds c.in_err-selection.ensures.named) in
     let p = err_from_is_err_and c.from_residual-in_err-selection.result c.from_residual-in_err-selection.ensures.1 in
     rw (p.1, p.2) named
 
-pub steps_of-requires-clause-selected : goal.steps_of-requires-clause-selected
-steps_of-requires-clause-selected c = subst (λ (r : Resolved). IsSelection r c.args.setting.now c.in_ok-selection.selection) c.lookup.ensures.document c.in_ok-selection.ensures.selected
-
-pub steps_of-requires-clause-explained : goal.steps_of-requires-clause-explained
-steps_of-requires-clause-explained c = subst (λ (r : Resolved). IsExplained r c.args.setting.now c.in_ok-selection.selection) c.lookup.ensures.document c.in_ok-selection.ensures.explained
-
 pub outline_of-requires : goal.outline_of-requires
-outline_of-requires c = record { distinct = none_doubled_in (metadata_view c.args.metadata.now) (ids_view c.args.ids.now) (as_resolved c.in_ok-document.document) c.requires.admitted c.in_ok-document.ensures }
+outline_of-requires c = record {
+  distinct = none_doubled_in (metadata_view c.args.metadata.now) (ids_view c.args.ids.now) (resolved_view c.in_ok-document.document) c.requires.admitted c.in_ok-document.ensures;
+  selected = c.in_ok-selection.ensures.selected;
+}
 
 pub returns-clause-sketched : goal.returns-clause-sketched
 returns-clause-sketched c =
@@ -53,16 +47,15 @@ returns-clause-sketched c =
     let s = c.args.setting.now in
     let x = c.in_ok-selection.selection in
     let d = c.in_ok-document.ensures in
-    let r = as_resolved c.in_ok-document.document in
-    let selected = subst (λ (z : Resolved). IsSelection z s x) c.lookup.ensures.document c.in_ok-selection.ensures.selected in
-    let explained = subst (λ (z : Resolved). IsExplained z s x) c.lookup.ensures.document c.in_ok-selection.ensures.explained in
+    let r = resolved_view c.in_ok-document.document in
+    let selected = c.in_ok-selection.ensures.selected in
+    let explained = c.in_ok-selection.ensures.explained in
     let of : IsSelectionOf m s x = record { graph = d.graph; has_graph = d.has_graph; holds = subst (λ (z : Resolved). IsSelection z s x) d.holds selected } in
     let shown : IsExplainedOf m s x = record { graph = d.graph; has_graph = d.has_graph; holds = subst (λ (z : Resolved). IsExplained z s x) d.holds explained } in
     record {
       selection = x;
       selected = of;
-      outline = outline_told m s x r (outline_view c.in_ok-outline.outline) of d c.in_ok-outline.ensures.outline;
-      ordered = c.in_ok-outline.ensures.ordered selected;
+      outline = outline_told m s x r (outline_view c.in_ok-outline.outline) of d c.in_ok-outline.ensures;
       steps = steps_for m s x r c.in_ok-steps.steps.items of shown d c.in_ok-steps.ensures;
       work = refl;
     }

@@ -8,7 +8,7 @@ use Rattle.std.specs.Iterator.Adapters.{zip_second}
 use Rattle.krates_cm.specs.declared.package.Package.{Package}
 use Rattle.krates_queries.specs.KrateNodes.{Match, crates_of, match_view}
 use Rattle.krates_queries.specs.Kept.{ids_of}
-use Rattle.krates_answers.specs.Links.{AreLinks, Needs}
+use Rattle.krates_answers.specs.DirectLinks.{AreLinks, Needs}
 use Rattle.krates_answers.specs.Materials.{AreMaterials, material_view}
 use Rattle.krates_answers.proofs.MaterialLemmas.{are_materials, component_of}
 use Rattle.krates_answers.proofs.materials.materials.Goals as goal

@@ -5,7 +5,7 @@ use Rattle.krates_cm.specs.Document.{metadata_view}
 use Rattle.krates_rules.specs.StepViews.{step_view, steps_view}
 use Rattle.krates_rules.specs.declared.derivation.Step.{Step}
 use Rattle.krates_document.specs.Ids.{ids_view}
-use Rattle.krates_questions.specs.DocumentModel.{as_resolved}
+use Rattle.krates_questions.specs.Lookup.{resolved_view}
 use Rattle.krates_rules.specs.Questions.{questions}
 use Rattle.krates_rules.specs.Steps.{EachFollows, IsAccepted}
 use Rattle.krates_checkers.proofs.Checked.{answering}
@@ -16,7 +16,7 @@ returns-clause-accepted c =
     let m = metadata_view c.args.metadata.now in
     let s = c.args.setting.now in
     let xs = c.args.derivation.now.steps.items in
-    let r = as_resolved c.in_ok-document.document in
+    let r = resolved_view c.in_ok-document.document in
     let long : length (steps_view xs) ≡ length xs = length-map xs step_view in
     let lt : 0 < length xs = search (rules, tests) in
     let some : 0 < length (steps_view xs) = omega (arith, long, lt) in

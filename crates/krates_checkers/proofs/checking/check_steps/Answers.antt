@@ -1,4 +1,4 @@
-use Rattle.krates_derive.specs.Context.{rules_of}
+use Rattle.krates_questions.specs.Context.{rules_of}
 use Rattle.krates_checkers.proofs.Checked.{first_fails, one_more}
 use Rattle.krates_checkers.proofs.checking.check_steps.Goals as goal
 

@@ -2,7 +2,7 @@ use Rattle.std.proofs.Common.{◌≡◌, ℕ, ◌<◌, Some}
 use Rattle.std.specs.List.{slice_get}
 use Rattle.krates_rules.specs.StepViews.{steps_view}
 use Rattle.krates_rules.specs.Steps.{StepModel, StepFollows}
-use Rattle.krates_derive.specs.Context.{rules_of}
+use Rattle.krates_questions.specs.Context.{rules_of}
 use Rattle.krates_checkers.proofs.checking.check_steps.Given as goal
 
 -- each step so far follows

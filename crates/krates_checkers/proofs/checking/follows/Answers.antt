@@ -1,6 +1,6 @@
 use Rattle.std.proofs.Common.{◌↔◌, IsTrue, subst}
 use Rattle.std.proofs.lemmas.Result.{IfOk-weaker}
-use Rattle.krates_derive.specs.Context.{rules_of}
+use Rattle.krates_questions.specs.Context.{rules_of}
 use Rattle.krates_rules.specs.StepViews.{steps_view}
 use Rattle.krates_rules.specs.Steps.{StepModel, StepFollows}
 use Rattle.krates_checkers.proofs.Checked.{one_used, two_used, many_used}

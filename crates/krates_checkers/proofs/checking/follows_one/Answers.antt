@@ -1,5 +1,5 @@
 use Rattle.std.proofs.lemmas.Result.{IfOk-weaker}
-use Rattle.krates_derive.specs.Context.{rules_of}
+use Rattle.krates_questions.specs.Context.{rules_of}
 use Rattle.krates_checkers.proofs.Checked.{one_told}
 use Rattle.krates_checkers.proofs.checking.follows_one.Goals as goal
 

@@ -1,4 +1,4 @@
-use Rattle.krates_derive.specs.Context.{rules_of}
+use Rattle.krates_questions.specs.Context.{rules_of}
 use Rattle.krates_checkers.proofs.Checked.{two_told}
 use Rattle.krates_checkers.proofs.checking.follows_two.Goals as goal
 

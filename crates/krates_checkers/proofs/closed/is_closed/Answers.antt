@@ -1,6 +1,6 @@
 use Rattle.std.proofs.Common.{List, Bor, ap, sym, subst}
 use Rattle.std.proofs.lemmas.Result.{IfOk-weaker}
-use Rattle.krates_derive.specs.Context.{document_of}
+use Rattle.krates_questions.specs.Context.{document_of}
 use Rattle.krates_derive.specs.Giving.{AllIn, TheseRootsIn}
 use Rattle.krates_rules.specs.StepViews.{facts_view}
 use Rattle.krates_ids.specs.Identity.{Identity}

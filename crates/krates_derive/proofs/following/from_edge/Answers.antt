@@ -1,4 +1,4 @@
-use Rattle.krates_derive.specs.Context.{document_of}
+use Rattle.krates_questions.specs.Context.{document_of}
 use Rattle.krates_rules.specs.Questions.{questions}
 use Rattle.krates_rules.specs.Resolved.{id_of}
 use Rattle.krates_derive.specs.FactRef.{edge_of_ref}

@@ -1,4 +1,4 @@
-use Rattle.krates_derive.specs.Context.{document_of}
+use Rattle.krates_questions.specs.Context.{document_of}
 use Rattle.krates_rules.specs.Resolved.{id_of}
 use Rattle.krates_derive.proofs.Rows.{through, rooted, rooted_feature}
 use Rattle.krates_derive.proofs.following.from_nothing.Goals as goal

@@ -1,5 +1,5 @@
 use Rattle.std.proofs.Common.{subst}
-use Rattle.krates_derive.specs.Context.{document_of}
+use Rattle.krates_questions.specs.Context.{document_of}
 use Rattle.krates_questions.specs.Need.{TellsNeed}
 use Rattle.krates_derive.specs.FactRef.{edge_of_ref}
 use Rattle.krates_derive.proofs.following.may_keep.Goals as goal

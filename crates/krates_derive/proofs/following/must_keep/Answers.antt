@@ -1,6 +1,6 @@
 use Rattle.std.proofs.Common.{subst, ap}
 use Rattle.krates_cm.specs.Document.{DependencyModel}
-use Rattle.krates_derive.specs.Context.{document_of}
+use Rattle.krates_questions.specs.Context.{document_of}
 use Rattle.krates_questions.specs.Need.{TellsNeed}
 use Rattle.krates_derive.specs.FactRef.{edge_of_ref}
 use Rattle.krates_derive.proofs.following.must_keep.Goals as goal

@@ -1,7 +1,7 @@
 use Rattle.std.proofs.Common.{String, refl, sym, subst, arith}
 use Rattle.std.specs.Global.{Global}
 use Rattle.krates_cm.specs.Document.{Text, text_view}
-use Rattle.krates_derive.specs.Context.{document_of}
+use Rattle.krates_questions.specs.Context.{document_of}
 use Rattle.krates_rules.specs.Resolved.{id_of}
 use Rattle.krates_derive.specs.Referring.{AsksBy}
 use Rattle.krates_rules.proofs.Elements.{contains_read}

@@ -1,5 +1,5 @@
 use Rattle.krates_cm.specs.Document.{text_view}
-use Rattle.krates_derive.specs.Context.{document_of}
+use Rattle.krates_questions.specs.Context.{document_of}
 use Rattle.krates_rules.specs.Resolved.{id_of}
 use Rattle.krates_derive.specs.Referring.{TogglesBy}
 use Rattle.krates_rules.proofs.Seen.{SeenBelow}

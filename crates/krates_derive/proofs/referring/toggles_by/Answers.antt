@@ -1,5 +1,5 @@
 use Rattle.std.proofs.Common.{subst}
-use Rattle.krates_derive.specs.Context.{document_of}
+use Rattle.krates_questions.specs.Context.{document_of}
 use Rattle.krates_rules.specs.Resolved.{id_of}
 use Rattle.krates_text.specs.FeatureReference.{IsReference, simple, strong, weak}
 use Rattle.krates_derive.proofs.ReferenceForms.{strong_told, weak_told, toggles_nothing}

@@ -16,7 +16,7 @@ returns-in_ok-draw_pair c before drawn =
     let f : model.CrateRow → List PlannedEdge = pair_lines (outline_view t) (id_at (kids_in t) c.args.from.now.krate) (map (edge_row_view (kids_in t)) mine) in
     let seen = children_of t (take c.args.place mine) in
     let new = c.is_first.ensures x ∙ ap not c.if-is_first.true in
-    let more = child_more_at t.krates.items mine c.args.place x c.requires.ordered.krates c.requires.home.mine.ends c.requires.home.mine.by_child c.requires.place new in
+    let more = child_more_at t.krates.items mine c.args.place x c.args.outline.now.ordered.krates c.requires.home.mine.ends c.requires.home.mine.by_child c.requires.place new in
     drawn_more f before (map planned_edge_view c.args.out.now.items) (map planned_edge_view c.draw_pair.new.out.items) seen (krate_at t (get_or mine c.args.place x).edge.child) c.in_ok-draw_pair.ensures drawn
     ∙ ap (λ qs. before ++ flat_map f qs) (sym more)
 
@@ -25,4 +25,4 @@ returns-else-is_first c before drawn =
     let t = c.args.outline.now in
     let mine = c.args.from.now.mine.now in
     let f : model.CrateRow → List PlannedEdge = pair_lines (outline_view t) (id_at (kids_in t) c.args.from.now.krate) (map (edge_row_view (kids_in t)) mine) in
-    drawn ∙ ap (λ qs. before ++ flat_map f qs) (sym (child_again_at t.krates.items mine c.args.place c.requires.ordered.krates c.requires.home.mine.ends c.requires.place (λ d. c.is_first.ensures d ∙ ap not c.if-is_first.false)))
+    drawn ∙ ap (λ qs. before ++ flat_map f qs) (sym (child_again_at t.krates.items mine c.args.place c.args.outline.now.ordered.krates c.requires.home.mine.ends c.requires.place (λ d. c.is_first.ensures d ∙ ap not c.if-is_first.false)))

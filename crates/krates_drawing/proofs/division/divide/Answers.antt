@@ -9,5 +9,5 @@ pub returns : goal.returns
 returns c =
     let perm : IsPermutation (paired c.args.packages.items c.args.ids.items) c.sort_unstable.new.self.items = subst (λ (ks : List Krate). IsPermutation ks c.sort_unstable.new.self.items) c.in_ok-krates.ensures c.sort_unstable.ensures.permutation in
     if_divides (record { total = c.comparison.ensures.total; tells = c.comparison.ensures.order }) c.one_reading.ensures.once
-    c.args.packages.items c.args.ids.items (outline_ids c.args.selected.now) c.sort_unstable.new.self.items c.divided.result
-    c.requires.read c.requires.distinct perm c.sort_unstable.ensures.sorted c.divided.ensures.kept c.divided.ensures.others
+    c.args.packages.items c.args.ids.items (outline_ids c.args.selected.now) c.sort_unstable.new.self.items c.division_of.result
+    c.requires.read c.requires.distinct perm c.sort_unstable.ensures.sorted c.division_of.ensures.kept c.division_of.ensures.others

@@ -14,7 +14,7 @@ use Rattle.krates_drawing.proofs.equal_ranges.links_from.Goals as goal
 pub returns : goal.returns
 returns c =
     let t = c.args.outline.now in
-    let o = c.requires.ordered in
+    let o = t.ordered in
     let xs = t.links.items in
     let p = c.args.parent in
     let low = c.partition_point-below.ensures.partitioned (λ (l : EdgeRow). is_lt (nat_cmp l.edge.parent p)) (always_returns_same _ _ _ (λ a r q called. search rules)) in

@@ -15,7 +15,7 @@ use Rattle.krates_drawing.proofs.equal_ranges.toggled_by.Goals as goal
 pub returns : goal.returns
 returns c =
     let t = c.args.outline.now in
-    let o = c.requires.ordered in
+    let o = t.ordered in
     let xs = t.toggled.items in
     let p = c.args.by in
     let low = c.partition_point-below.ensures.partitioned (λ (t : ToggledFeature). is_lt (nat_cmp t.by p)) (always_returns_same _ _ _ (λ a r q called. search rules)) in

@@ -1,6 +1,6 @@
 use Rattle.std.proofs.Common.{◌≡◌, ◌++◌, map, drop, filter}
 use Rattle.krates_cm.specs.Document.{node_view, text_view}
-use Rattle.krates_drawing.specs.Outline.{has_text}
+use Rattle.krates_text.specs.Texts.{has_text}
 use Rattle.krates_drawing.proofs.meanings.push_few.Given as goal
 
 abbrev pub invariant-loop-x : goal.invariant-loop-x

@@ -19,5 +19,5 @@ loop-link-preserved c =
     let after = c.claim.new.mapping in
     let same_length : length after ≡ l.mapping.len = c.claim.auto.mapping ∙ ap length c.deref_mut.ensures.value ∙ sym l.mapping.ok.0 in
     with_items_is l.mapping after same_length
-    ∙ mapping_more c.args.outline.now c.args.mine.now l.link-index c.link-item.result c.args.count before after c.requires.ordered.krates c.requires.ends c.requires.by_child c.loop-link-test.true c.link-item.is
+    ∙ mapping_more c.args.outline.now c.args.mine.now l.link-index c.link-item.result c.args.count before after c.args.outline.now.ordered.krates c.requires.ends c.requires.by_child c.loop-link-test.true c.link-item.is
     (c.deref_mut.ensures.value ∙ l.invariant) c.claim.ensures

@@ -6,7 +6,7 @@ use Rattle.std.specs.Ordering.{nat_cmp, on}
 use Rattle.std.specs.Str.{bytes_eq}
 use Rattle.std.specs.declared.alloc.Global.{Global}
 use Rattle.krates_cm.specs.Document.{Text, text_view}
-use Rattle.krates_drawing.specs.Outline.{has_text}
+use Rattle.krates_text.specs.Texts.{has_text}
 use Rattle.krates_drawing.proofs.HeldTexts.{put_one}
 use Rattle.krates_drawing.proofs.text_set.held_of.Goals as goal
 

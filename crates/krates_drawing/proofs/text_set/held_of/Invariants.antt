@@ -3,7 +3,7 @@ use Rattle.std.specs.BTreeSet.{contains}
 use Rattle.std.specs.Cmp.Lexicographic.{slice_cmp}
 use Rattle.std.specs.Ordering.{nat_cmp, on}
 use Rattle.krates_cm.specs.Document.{Text, text_view}
-use Rattle.krates_drawing.specs.Outline.{has_text}
+use Rattle.krates_text.specs.Texts.{has_text}
 use Rattle.krates_drawing.proofs.text_set.held_of.Given as goal
 
 -- a text is in the set or among those left exactly where it is among all

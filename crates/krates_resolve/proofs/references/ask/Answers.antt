@@ -17,7 +17,7 @@ use Rattle.krates_resolve.proofs.references.ask.Goals as goal
 
 pub ask_once-requires-clause-within : goal.ask_once-requires-clause-within
 ask_once-requires-clause-within c =
-    let r = resolved_view c.args.context.now.lookup.now in
+    let r = resolved_view c.args.context.now.document.now in
     let s = c.args.context.now.setting.now in
     let parts = c.args.parts.now in
     let name = c.args.name.now in
@@ -29,7 +29,7 @@ ask_once-requires-clause-within c =
 
 pub ask_once-requires-clause-may : goal.ask_once-requires-clause-may
 ask_once-requires-clause-may c =
-    let r = resolved_view c.args.context.now.lookup.now in
+    let r = resolved_view c.args.context.now.document.now in
     let s = c.args.context.now.setting.now in
     let parts = c.args.parts.now in
     let name = c.args.name.now in
@@ -42,7 +42,7 @@ ask_once-requires-clause-may c =
 
 pub ask_once-requires-clause-step : goal.ask_once-requires-clause-step
 ask_once-requires-clause-step c child k there d wanted any stands =
-    let r = resolved_view c.args.context.now.lookup.now in
+    let r = resolved_view c.args.context.now.document.now in
     let s = c.args.context.now.setting.now in
     let parts = c.args.parts.now in
     let name = c.args.name.now in
@@ -61,7 +61,7 @@ ask_once-requires-clause-step c child k there d wanted any stands =
 
 pub loop-referent-preserved : goal.loop-referent-preserved
 loop-referent-preserved c =
-    let r = resolved_view c.args.context.now.lookup.now in
+    let r = resolved_view c.args.context.now.document.now in
     let s = c.args.context.now.setting.now in
     let parts = c.args.parts.now in
     let name = c.args.name.now in
@@ -78,7 +78,7 @@ loop-referent-preserved c =
 
 pub returns-clause-asked : goal.returns-clause-asked
 returns-clause-asked c =
-    let r = resolved_view c.args.context.now.lookup.now in
+    let r = resolved_view c.args.context.now.document.now in
     let s = c.args.context.now.setting.now in
     let parts = c.args.parts.now in
     let name = c.args.name.now in

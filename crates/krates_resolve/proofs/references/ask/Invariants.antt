@@ -9,5 +9,5 @@ use Rattle.krates_resolve.proofs.references.ask.Given as goal
 -- the edges to each referent so far have been tried
 abbrev pub invariant-loop-referent : goal.invariant-loop-referent
 invariant-loop-referent l =
-    Advances (resolved_view l.context.lookup.now) l.context.setting.now l.fn.found l.found
-    × SeenBelow (λ (x : Referent). IsAskedAt (resolved_view l.context.lookup.now) l.context.setting.now l.found (krate_of l.parts) l.parts.place x.place) l.referent-items l.referent-index
+    Advances (resolved_view l.context.document.now) l.context.setting.now l.fn.found l.found
+    × SeenBelow (λ (x : Referent). IsAskedAt (resolved_view l.context.document.now) l.context.setting.now l.found (krate_of l.parts) l.parts.place x.place) l.referent-items l.referent-index

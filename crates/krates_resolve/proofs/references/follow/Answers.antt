@@ -14,7 +14,7 @@ enable-requires-clause-node c = record { at = c.requires.parts.at; read = c.requ
 
 pub enable-requires-clause-may : goal.enable-requires-clause-may
 enable-requires-clause-may c =
-    let r = resolved_view c.args.context.now.lookup.now in
+    let r = resolved_view c.args.context.now.document.now in
     let s = c.args.context.now.setting.now in
     let p = id_of c.args.parts.now.parent.now in
     let name = c.in-Simple.name.now in
@@ -23,7 +23,7 @@ enable-requires-clause-may c =
 
 pub enable-requires-clause-step : goal.enable-requires-clause-step
 enable-requires-clause-step c lists =
-    let r = resolved_view c.args.context.now.lookup.now in
+    let r = resolved_view c.args.context.now.document.now in
     let s = c.args.context.now.setting.now in
     let p = id_of c.args.parts.now.parent.now in
     let name = c.in-Simple.name.now in
@@ -33,49 +33,49 @@ enable-requires-clause-step c lists =
 
 pub ask-requires-clause-may : goal.ask-requires-clause-may
 ask-requires-clause-may c =
-    let r = resolved_view c.args.context.now.lookup.now in
+    let r = resolved_view c.args.context.now.document.now in
     let reference = krate c.in-Krate.krate.now in
     let is = subst (λ (t : Text). IsReference t reference) c.from.ensures c.in-Krate.ensures in
     record { reference = reference; has = value_may r c.args.context.now.setting.now (id_of c.args.parts.now.parent.now) c.args.text.now reference c.requires.value is; asks = refl }
 
 pub ask-requires-clause-step : goal.ask-requires-clause-step
 ask-requires-clause-step c =
-    let r = resolved_view c.args.context.now.lookup.now in
+    let r = resolved_view c.args.context.now.document.now in
     let reference = krate c.in-Krate.krate.now in
     let is = subst (λ (t : Text). IsReference t reference) c.from.ensures c.in-Krate.ensures in
     record { reference = reference; has = referring_step r c.args.found.now.trace.items c.args.step (id_of c.args.parts.now.parent.now) c.args.text.now reference c.requires.step is; asks = refl }
 
 pub toggle_strongly-requires-clause-may : goal.toggle_strongly-requires-clause-may
 toggle_strongly-requires-clause-may c =
-    let r = resolved_view c.args.context.now.lookup.now in
+    let r = resolved_view c.args.context.now.document.now in
     let reference = strong c.in-Strong.krate.now c.in-Strong.feature.now in
     let is = subst (λ (t : Text). IsReference t reference) c.from.ensures c.in-Strong.ensures in
     value_may r c.args.context.now.setting.now (id_of c.args.parts.now.parent.now) c.args.text.now reference c.requires.value is
 
 pub toggle_strongly-requires-clause-step : goal.toggle_strongly-requires-clause-step
 toggle_strongly-requires-clause-step c =
-    let r = resolved_view c.args.context.now.lookup.now in
+    let r = resolved_view c.args.context.now.document.now in
     let reference = strong c.in-Strong.krate.now c.in-Strong.feature.now in
     let is = subst (λ (t : Text). IsReference t reference) c.from.ensures c.in-Strong.ensures in
     referring_step r c.args.found.now.trace.items c.args.step (id_of c.args.parts.now.parent.now) c.args.text.now reference c.requires.step is
 
 pub wait-requires-clause-may : goal.wait-requires-clause-may
 wait-requires-clause-may c =
-    let r = resolved_view c.args.context.now.lookup.now in
+    let r = resolved_view c.args.context.now.document.now in
     let reference = weak c.in-Weak.krate.now c.in-Weak.feature.now in
     let is = subst (λ (t : Text). IsReference t reference) c.from.ensures c.in-Weak.ensures in
     value_may r c.args.context.now.setting.now (id_of c.args.parts.now.parent.now) c.args.text.now reference c.requires.value is
 
 pub wait-requires-clause-step : goal.wait-requires-clause-step
 wait-requires-clause-step c =
-    let r = resolved_view c.args.context.now.lookup.now in
+    let r = resolved_view c.args.context.now.document.now in
     let reference = weak c.in-Weak.krate.now c.in-Weak.feature.now in
     let is = subst (λ (t : Text). IsReference t reference) c.from.ensures c.in-Weak.ensures in
     referring_step r c.args.found.now.trace.items c.args.step (id_of c.args.parts.now.parent.now) c.args.text.now reference c.requires.step is
 
 pub returns-in_ok-enable-in-Simple-clause-followed : goal.returns-in_ok-enable-in-Simple-clause-followed
 returns-in_ok-enable-in-Simple-clause-followed c =
-    let r = resolved_view c.args.context.now.lookup.now in
+    let r = resolved_view c.args.context.now.document.now in
     let s = c.args.context.now.setting.now in
     let text = c.args.text.now in
     let reference = simple c.in-Simple.name.now in
@@ -84,7 +84,7 @@ returns-in_ok-enable-in-Simple-clause-followed c =
 
 pub returns-in-Krate-clause-followed : goal.returns-in-Krate-clause-followed
 returns-in-Krate-clause-followed c =
-    let r = resolved_view c.args.context.now.lookup.now in
+    let r = resolved_view c.args.context.now.document.now in
     let s = c.args.context.now.setting.now in
     let text = c.args.text.now in
     let reference = krate c.in-Krate.krate.now in
@@ -93,7 +93,7 @@ returns-in-Krate-clause-followed c =
 
 pub returns-in-Strong-clause-followed : goal.returns-in-Strong-clause-followed
 returns-in-Strong-clause-followed c =
-    let r = resolved_view c.args.context.now.lookup.now in
+    let r = resolved_view c.args.context.now.document.now in
     let s = c.args.context.now.setting.now in
     let text = c.args.text.now in
     let reference = strong c.in-Strong.krate.now c.in-Strong.feature.now in
@@ -103,7 +103,7 @@ returns-in-Strong-clause-followed c =
 
 pub returns-in-Weak-clause-followed : goal.returns-in-Weak-clause-followed
 returns-in-Weak-clause-followed c =
-    let r = resolved_view c.args.context.now.lookup.now in
+    let r = resolved_view c.args.context.now.document.now in
     let s = c.args.context.now.setting.now in
     let text = c.args.text.now in
     let reference = weak c.in-Weak.krate.now c.in-Weak.feature.now in

@@ -1,4 +1,4 @@
-use Rattle.std.proofs.Common.{ℕ, String, Global, map, refl, sym, subst, arith, string_bytes}
+use Rattle.std.proofs.Common.{ℕ, String, Global, get_or, map, refl, sym, subst, arith, string_bytes}
 use Rattle.krates_cm.specs.Document.{Text, text_view}
 use Rattle.krates_text.specs.FeatureReference.{Reference, IsReference}
 use Rattle.krates_rules.specs.Facts.{Id, Crate, Feature}
@@ -11,70 +11,71 @@ use Rattle.krates_selection.specs.Work.{CountsText, HasReferences}
 use Rattle.krates_rules.specs.Resolved.{id_of}
 use Rattle.krates_search.proofs.Growing.{advances_refl, advances_trans, followed_grows}
 use Rattle.krates_questions.proofs.FeatureNumbers.{listed_place}
-use Rattle.krates_resolve.proofs.ReferenceLemmas.{listed_here, listed_found, one_feature, value_of_enabled, value_of_step, followed_all_here, none_counted, one_counted, references_here}
+use Rattle.krates_resolve.proofs.ReferenceLemmas.{feature_read, listed_found, one_feature, value_of_enabled, value_of_step, followed_all_here, none_counted, one_counted, references_here}
 use Rattle.krates_selection.proofs.ListedFeatures.{value_at}
 use Rattle.krates_rules.proofs.Seen.{seen_more, each_seen}
 use Rattle.krates_rules.proofs.Zips.{zip_all}
+use Rattle.krates_search.proofs.FeaturesAt.{no_feature}
 use Rattle.krates_resolve.proofs.references.follow_references.Goals as goal
 
-pub parts_of-parts-requires-clause-within : goal.parts_of-parts-requires-clause-within
-parts_of-parts-requires-clause-within c =
-    let r = resolved_view c.args.context.now.lookup.now in
-    let feature = c.index-feature.result.now in
-    let at = listed_here c.args.context.now.lookup.now c.args.context.now.setting.now c.args.found.now c.args.taken c.number.result feature c.requires.lookup c.requires.sound c.requires.within c.number.ensures c.index-feature.ensures in
-    listed_place r c.number.result feature.place feature.name.now at
+pub parts_of-parts-requires : goal.parts_of-parts-requires
+parts_of-parts-requires c =
+    let r = resolved_view c.args.context.now.document.now in
+    let feature = get_or c.listed_features.result.now c.number.result no_feature in
+    let at = feature_read c.args.context.now.document.now c.args.context.now.setting.now c.args.found.now c.args.taken c.number.result c.listed_features.result.now c.agrees.ensures c.requires.sound c.requires.within c.number.ensures c.listed_features.ensures in
+    record { within = listed_place r c.number.result feature.place feature.name.now at }
 
 pub loop-text-init : goal.loop-text-init
-loop-text-init c = (advances_refl (resolved_view c.args.context.now.lookup.now) c.args.context.now.setting.now c.args.found.now c.requires.sound, λ k d lt. absurd (omega (arith, lt)), none_counted (resolved_view c.args.context.now.lookup.now) c.args.context.now.setting.now (id_of c.parts_of-parts.result.parent.now) c.feature_values-values.result.now)
+loop-text-init c = (advances_refl (resolved_view c.args.context.now.document.now) c.args.context.now.setting.now c.args.found.now c.requires.sound, λ k d lt. absurd (omega (arith, lt)), none_counted (resolved_view c.args.context.now.document.now) c.args.context.now.setting.now (id_of c.parts_of-parts.result.parent.now) c.values-values.result.now)
 
 pub follow-requires-clause-sound : goal.follow-requires-clause-sound
 follow-requires-clause-sound c = c.loop-text.invariant.0.sound
 
 pub follow-requires-clause-kept : goal.follow-requires-clause-kept
 follow-requires-clause-kept c =
-    let r = resolved_view c.args.context.now.lookup.now in
+    let r = resolved_view c.args.context.now.document.now in
     let x = c.args.found.now in
-    let feature = c.index-feature.result.now in
+    let feature = get_or c.listed_features.result.now c.number.result no_feature in
     let f = feature.name.now in
     let i = id_of c.parts_of-parts.result.parent.now in
-    let at = listed_here c.args.context.now.lookup.now c.args.context.now.setting.now x c.args.taken c.number.result feature c.requires.lookup c.requires.sound c.requires.within c.number.ensures c.index-feature.ensures in
+    let at = feature_read c.args.context.now.document.now c.args.context.now.setting.now x c.args.taken c.number.result c.listed_features.result.now c.agrees.ensures c.requires.sound c.requires.within c.number.ensures c.listed_features.ensures in
     let enabled = listed_found r x c.args.taken c.number.result i feature.place f c.requires.put c.number.ensures at c.parts_of-parts.ensures.at in
     c.loop-text.invariant.0.grows.found (Crate i) (c.requires.sound.enabled i f enabled)
 
 pub follow-requires-clause-value : goal.follow-requires-clause-value
 follow-requires-clause-value c =
-    let r = resolved_view c.args.context.now.lookup.now in
+    let r = resolved_view c.args.context.now.document.now in
     let s = c.args.context.now.setting.now in
     let x = c.args.found.now in
-    let feature = c.index-feature.result.now in
+    let feature = get_or c.listed_features.result.now c.number.result no_feature in
     let f = feature.name.now in
     let i = id_of c.parts_of-parts.result.parent.now in
-    let at = listed_here c.args.context.now.lookup.now s x c.args.taken c.number.result feature c.requires.lookup c.requires.sound c.requires.within c.number.ensures c.index-feature.ensures in
+    let at = feature_read c.args.context.now.document.now s x c.args.taken c.number.result c.listed_features.result.now c.agrees.ensures c.requires.sound c.requires.within c.number.ensures c.listed_features.ensures in
     let enabled = listed_found r x c.args.taken c.number.result i feature.place f c.requires.put c.number.ensures at c.parts_of-parts.ensures.at in
-    let texts = c.feature_values-values.result.now in
+    let texts = c.values-values.result.now in
     let among = value_at texts c.loop-text.text-index c.text-item.result c.loop-text-test.true c.text-item.is in
     subst (λ (t : Text). IsValueOfEnabled r s i t) (sym c.as_str.ensures.value)
-    (value_of_enabled r s i f (map text_view texts) (string_bytes c.text-item.result) (c.requires.sound.derivable (Feature i f) enabled) c.feature_values-values.ensures.values among)
+    (value_of_enabled r s i f (map text_view texts) (string_bytes c.text-item.result) (c.requires.sound.derivable (Feature i f) enabled) c.values-values.ensures.references among)
 
 pub follow-requires-clause-step : goal.follow-requires-clause-step
 follow-requires-clause-step c =
-    let r = resolved_view c.args.context.now.lookup.now in
+    let r = resolved_view c.args.context.now.document.now in
     let x = c.args.found.now in
     let trace = c.loop-text.found.trace.items in
-    let feature = c.index-feature.result.now in
+    let feature = get_or c.listed_features.result.now c.number.result no_feature in
     let f = feature.name.now in
     let i = id_of c.parts_of-parts.result.parent.now in
-    let at = listed_here c.args.context.now.lookup.now c.args.context.now.setting.now x c.args.taken c.number.result feature c.requires.lookup c.requires.sound c.requires.within c.number.ensures c.index-feature.ensures in
+    let at = feature_read c.args.context.now.document.now c.args.context.now.setting.now x c.args.taken c.number.result c.listed_features.result.now c.agrees.ensures c.requires.sound c.requires.within c.number.ensures c.listed_features.ensures in
     let numbered : FeatureAt r i f c.number.result = record { place = feature.place; at = at; node = c.parts_of-parts.ensures.at } in
     let here = c.requires.step i f (subst (λ (n : ℕ). FeatureAt r i f n) c.number.ensures numbered) in
-    let texts = c.feature_values-values.result.now in
+    let texts = c.values-values.result.now in
     let among = value_at texts c.loop-text.text-index c.text-item.result c.loop-text-test.true c.text-item.is in
     subst (λ (t : Text). IsValueStep r trace c.args.step i t) (sym c.as_str.ensures.value)
-    (value_of_step r trace c.args.step i f (map text_view texts) (string_bytes c.text-item.result) (c.loop-text.invariant.0.grows.steps c.args.step (Feature i f) here) c.feature_values-values.ensures.values among)
+    (value_of_step r trace c.args.step i f (map text_view texts) (string_bytes c.text-item.result) (c.loop-text.invariant.0.grows.steps c.args.step (Feature i f) here) c.values-values.ensures.references among)
 
 pub loop-text-preserved : goal.loop-text-preserved
 loop-text-preserved c =
-    let r = resolved_view c.args.context.now.lookup.now in
+    let r = resolved_view c.args.context.now.document.now in
     let s = c.args.context.now.setting.now in
     let i = id_of c.parts_of-parts.result.parent.now in
     let x = c.loop-text.found in
@@ -83,9 +84,9 @@ loop-text-preserved c =
     let step = c.in_ok-counts.ensures in
     let followed = subst (λ (t : Text). (reference : Reference) → IsReference t reference → IsFollowed r s y i reference) c.as_str.ensures.value step.followed in (
       advances_trans r s c.args.found.now x y inv.0 step.advanced,
-      seen_more (λ (text : String Global). (reference : Reference) → IsReference (string_bytes text) reference → IsFollowed r s y i reference) c.feature_values-values.result.now c.loop-text.text-index c.text-item.result c.loop-text-test.true
+      seen_more (λ (text : String Global). (reference : Reference) → IsReference (string_bytes text) reference → IsFollowed r s y i reference) c.values-values.result.now c.loop-text.text-index c.text-item.result c.loop-text-test.true
           c.text-item.is (λ k d lt reference is. followed_grows r s x y i reference step.advanced.grows (inv.1 k d lt reference is)) followed,
-      one_counted r s i c.feature_values-values.result.now c.loop-text.text-index c.loop-text.references c.in_ok-counts.counts _ c.text-item.result c.loop-text-test.true c.text-item.is (subst (λ (t : Text). CountsText r s.all_named i t c.in_ok-counts.counts) c.as_str.ensures.value step.counted) c.saturating_add-references.ensures inv.2,
+      one_counted r s i c.values-values.result.now c.loop-text.text-index c.loop-text.references c.in_ok-counts.counts _ c.text-item.result c.loop-text-test.true c.text-item.is (subst (λ (t : Text). CountsText r s.all_named i t c.in_ok-counts.counts) c.as_str.ensures.value step.counted) c.saturating_add-references.ensures inv.2,
     )
 
 pub returns-clause-advanced : goal.returns-clause-advanced
@@ -93,34 +94,34 @@ returns-clause-advanced c = c.loop-text.invariant.0
 
 pub returns-clause-followed_all : goal.returns-clause-followed_all
 returns-clause-followed_all c krate f there =
-    let r = resolved_view c.args.context.now.lookup.now in
+    let r = resolved_view c.args.context.now.document.now in
     let s = c.args.context.now.setting.now in
     let x = c.loop-text.found in
     let number = c.number.result in
-    let feature = c.index-feature.result.now in
+    let feature = get_or c.listed_features.result.now c.number.result no_feature in
     let i = id_of c.parts_of-parts.result.parent.now in
-    let at = listed_here c.args.context.now.lookup.now s c.args.found.now c.args.taken number feature c.requires.lookup c.requires.sound c.requires.within c.number.ensures c.index-feature.ensures in
+    let at = feature_read c.args.context.now.document.now s c.args.found.now c.args.taken number c.listed_features.result.now c.agrees.ensures c.requires.sound c.requires.within c.number.ensures c.listed_features.ensures in
     let same = one_feature c.one_reading.ensures.once r i krate feature.place number feature.name.now f c.parts_of-parts.ensures.at at (subst (λ (n : ℕ). FeatureAt r krate f n) (sym c.number.ensures) there) in
-    let texts = c.feature_values-values.result.now in
+    let texts = c.values-values.result.now in
     let each = each_seen text_view (λ (t : Text). (reference : Reference) → IsReference t reference → IsFollowed r s x i reference) texts texts c.loop-text.text-index refl (omega arith) c.loop-text.invariant.1 in
-    let followed_all : HasFollowedAll r s x i feature.name.now = followed_all_here r s x i feature.name.now (map text_view texts) c.feature_values-values.ensures.values each in
+    let followed_all : HasFollowedAll r s x i feature.name.now = followed_all_here r s x i feature.name.now (map text_view texts) c.values-values.ensures.references each in
     subst (λ (j : Id). HasFollowedAll r s x j f) same.0 (subst (λ (g : Text). HasFollowedAll r s x i g) same.1 followed_all)
 
 pub returns-clause-counted : goal.returns-clause-counted
 returns-clause-counted c =
-    let r = resolved_view c.args.context.now.lookup.now in
+    let r = resolved_view c.args.context.now.document.now in
     let s = c.args.context.now.setting.now in
     let x = c.args.found.now in
     let number = c.number.result in
-    let feature = c.index-feature.result.now in
+    let feature = get_or c.listed_features.result.now c.number.result no_feature in
     let i = id_of c.parts_of-parts.result.parent.now in
-    let at = listed_here c.args.context.now.lookup.now s x c.args.taken number feature c.requires.lookup c.requires.sound c.requires.within c.number.ensures c.index-feature.ensures in
+    let at = feature_read c.args.context.now.document.now s x c.args.taken number c.listed_features.result.now c.agrees.ensures c.requires.sound c.requires.within c.number.ensures c.listed_features.ensures in
     let enabled = listed_found r x c.args.taken number i feature.place feature.name.now c.requires.put c.number.ensures at c.parts_of-parts.ensures.at in
     let so_far = c.loop-text.invariant.2 in
-    let texts = c.feature_values-values.result.now in
+    let texts = c.values-values.result.now in
     let each = zip_all (CountsText r s.all_named i) text_view texts c.loop-text.text-index so_far.counts (omega arith) so_far.each in
     let n = sum so_far.counts in
-    let here = references_here r s i feature.name.now (map text_view texts) so_far.counts (c.requires.sound.derivable (Feature i feature.name.now) enabled) c.feature_values-values.ensures.named each in
+    let here = references_here r s i feature.name.now (map text_view texts) so_far.counts (c.requires.sound.derivable (Feature i feature.name.now) enabled) c.values-values.ensures.named each in
     record {
       number = n;
       has = λ krate f there. (

@@ -15,12 +15,12 @@ use Rattle.krates_resolve.proofs.references.toggle_at.Goals as goal
 pub ask_once-requires-clause-may : goal.ask_once-requires-clause-may
 ask_once-requires-clause-may c =
     let at = c.requires.referred in
-    may_ask_there c.one_reading.ensures.once (resolved_view c.args.context.now.lookup.now) c.args.context.now.setting.now (id_of c.args.parts.now.parent.now) at.child at.name c.args.parts.now.place c.args.index
+    may_ask_there c.one_reading.ensures.once (resolved_view c.args.context.now.document.now) c.args.context.now.setting.now (id_of c.args.parts.now.parent.now) at.child at.name c.args.parts.now.place c.args.index
     (record { reference = strong at.name c.args.feature.name.now; has = at.may; asks = refl }) at.is at.dep
 
 pub ask_once-requires-clause-step : goal.ask_once-requires-clause-step
 ask_once-requires-clause-step c child k there d wanted any stands =
-    let r = resolved_view c.args.context.now.lookup.now in
+    let r = resolved_view c.args.context.now.document.now in
     let s = c.args.context.now.setting.now in
     let p = id_of c.args.parts.now.parent.now in
     let at = c.requires.referred in
@@ -36,7 +36,7 @@ kept-requires c =
 
 pub returns-in_default-clause-toggled : goal.returns-in_default-clause-toggled
 returns-in_default-clause-toggled c =
-    unmarked_strongly (resolved_view c.args.context.now.lookup.now) c.args.context.now.setting.now c.ask_once.new.found (id_of c.args.parts.now.parent.now) c.args.feature.name.now c.args.parts.now.place c.args.index c.in_ok-ask_once.ensures.advanced.sound
+    unmarked_strongly (resolved_view c.args.context.now.document.now) c.args.context.now.setting.now c.ask_once.new.found (id_of c.args.parts.now.parent.now) c.args.feature.name.now c.args.parts.now.place c.args.index c.in_ok-ask_once.ensures.advanced.sound
     c.in_ok-ask_once.ensures.asked c.in_default.ensures
 
 pub toggle_child-requires-clause-marked : goal.toggle_child-requires-clause-marked
@@ -44,7 +44,7 @@ toggle_child-requires-clause-marked c = (c.in-Some.kept, c.in-Some.ensures)
 
 pub toggle_child-requires-clause-may : goal.toggle_child-requires-clause-may
 toggle_child-requires-clause-may c child there =
-    let r = resolved_view c.args.context.now.lookup.now in
+    let r = resolved_view c.args.context.now.document.now in
     let s = c.args.context.now.setting.now in
     let parent = id_of c.args.parts.now.parent.now in
     let at = c.requires.referred in
@@ -54,7 +54,7 @@ toggle_child-requires-clause-may c child there =
 
 pub toggle_child-requires-clause-step : goal.toggle_child-requires-clause-step
 toggle_child-requires-clause-step c child there lists =
-    let r = resolved_view c.args.context.now.lookup.now in
+    let r = resolved_view c.args.context.now.document.now in
     let s = c.args.context.now.setting.now in
     let p = id_of c.args.parts.now.parent.now in
     let g = c.args.feature.name.now in
@@ -70,11 +70,11 @@ toggle_child-requires-clause-step c child there lists =
 
 pub returns-clause-advanced : goal.returns-clause-advanced
 returns-clause-advanced c =
-    on_ok_weaker c.toggle_child.result (λ a. advances_trans (resolved_view c.args.context.now.lookup.now) c.args.context.now.setting.now c.args.found.now c.ask_once.new.found c.toggle_child.new.found c.in_ok-ask_once.ensures.advanced a) c.toggle_child.ensures.advanced
+    on_ok_weaker c.toggle_child.result (λ a. advances_trans (resolved_view c.args.context.now.document.now) c.args.context.now.setting.now c.args.found.now c.ask_once.new.found c.toggle_child.new.found c.in_ok-ask_once.ensures.advanced a) c.toggle_child.ensures.advanced
 
 pub returns-clause-asked : goal.returns-clause-asked
 returns-clause-asked c =
-    on_ok_weaker c.toggle_child.result (λ a. asked_at_grows (resolved_view c.args.context.now.lookup.now) c.args.context.now.setting.now c.ask_once.new.found c.toggle_child.new.found (id_of c.args.parts.now.parent.now) c.args.parts.now.place c.args.index a.grows
+    on_ok_weaker c.toggle_child.result (λ a. asked_at_grows (resolved_view c.args.context.now.document.now) c.args.context.now.setting.now c.ask_once.new.found c.toggle_child.new.found (id_of c.args.parts.now.parent.now) c.args.parts.now.place c.args.index a.grows
     c.in_ok-ask_once.ensures.asked) c.toggle_child.ensures.advanced
 
 pub returns-clause-toggled : goal.returns-clause-toggled

@@ -11,18 +11,17 @@ use Rattle.krates_selection.proofs.Steps.{one_way}
 use Rattle.krates_resolve.proofs.references.toggle_child.Goals as goal
 
 pub entry_at-entry-requires-clause-lengths : goal.entry_at-entry-requires-clause-lengths
-entry_at-entry-requires-clause-lengths c = sym (deps_long (resolved_view c.args.context.now.lookup.now) c.args.parts.now.place c.args.parts.now c.requires.parts)
+entry_at-entry-requires-clause-lengths c = sym (deps_long (resolved_view c.args.context.now.document.now) c.args.parts.now.place c.args.parts.now c.requires.parts)
 
 pub entry_at-entry-requires-clause-versions : goal.entry_at-entry-requires-clause-versions
-entry_at-entry-requires-clause-versions c = own_long (resolved_view c.args.context.now.lookup.now) c.args.parts.now.place c.args.parts.now c.requires.parts
+entry_at-entry-requires-clause-versions c = own_long (resolved_view c.args.context.now.document.now) c.args.parts.now.place c.args.parts.now c.requires.parts
 
-pub child_place-requires-clause-entry : goal.child_place-requires-clause-entry
-child_place-requires-clause-entry c =
-    entry_here (resolved_view c.args.context.now.lookup.now) c.args.parts.now.place c.args.parts.now c.args.index c.entry_at-entry.result c.requires.parts c.entry_at-entry.ensures
+pub child_place-requires : goal.child_place-requires
+child_place-requires c = record { entry = entry_here (resolved_view c.args.context.now.document.now) c.args.parts.now.place c.args.parts.now c.args.index c.entry_at-entry.result c.requires.parts c.entry_at-entry.ensures }
 
 pub unreachable-requires : goal.unreachable-requires
 unreachable-requires c =
-    let r = resolved_view c.args.context.now.lookup.now in
+    let r = resolved_view c.args.context.now.document.now in
     let parts = c.args.parts.now in
     let entry = c.entry_at-entry.result in
     let is = entry_here r parts.place parts c.args.index entry c.requires.parts c.entry_at-entry.ensures in
@@ -31,7 +30,7 @@ unreachable-requires c =
 
 pub toggle-requires-clause-kept : goal.toggle-requires-clause-kept
 toggle-requires-clause-kept c =
-    let r = resolved_view c.args.context.now.lookup.now in
+    let r = resolved_view c.args.context.now.document.now in
     let parts = c.args.parts.now in
     let entry = c.entry_at-entry.result in
     let is = entry_here r parts.place parts c.args.index entry c.requires.parts c.entry_at-entry.ensures in
@@ -40,7 +39,7 @@ toggle-requires-clause-kept c =
 
 pub toggle-requires-clause-may : goal.toggle-requires-clause-may
 toggle-requires-clause-may c =
-    let r = resolved_view c.args.context.now.lookup.now in
+    let r = resolved_view c.args.context.now.document.now in
     let parts = c.args.parts.now in
     let entry = c.entry_at-entry.result in
     let is = entry_here r parts.place parts c.args.index entry c.requires.parts c.entry_at-entry.ensures in
@@ -48,7 +47,7 @@ toggle-requires-clause-may c =
 
 pub toggle-requires-clause-by : goal.toggle-requires-clause-by
 toggle-requires-clause-by c =
-    let r = resolved_view c.args.context.now.lookup.now in
+    let r = resolved_view c.args.context.now.document.now in
     let parts = c.args.parts.now in
     let entry = c.entry_at-entry.result in
     let is = entry_here r parts.place parts c.args.index entry c.requires.parts c.entry_at-entry.ensures in
@@ -56,12 +55,12 @@ toggle-requires-clause-by c =
 
 pub toggle-requires-clause-node : goal.toggle-requires-clause-node
 toggle-requires-clause-node c =
-    let is = entry_here (resolved_view c.args.context.now.lookup.now) c.args.parts.now.place c.args.parts.now c.args.index c.entry_at-entry.result c.requires.parts c.entry_at-entry.ensures in
+    let is = entry_here (resolved_view c.args.context.now.document.now) c.args.parts.now.place c.args.parts.now c.args.index c.entry_at-entry.result c.requires.parts c.entry_at-entry.ensures in
     record { at = c.in-Some.ensures; read = is.child_read }
 
 pub toggle-requires-clause-step : goal.toggle-requires-clause-step
 toggle-requires-clause-step c lists =
-    let r = resolved_view c.args.context.now.lookup.now in
+    let r = resolved_view c.args.context.now.document.now in
     let parts = c.args.parts.now in
     let entry = c.entry_at-entry.result in
     let is = entry_here r parts.place parts c.args.index entry c.requires.parts c.entry_at-entry.ensures in
@@ -69,7 +68,7 @@ toggle-requires-clause-step c lists =
 
 pub returns-clause-toggled : goal.returns-clause-toggled
 returns-clause-toggled c =
-    let r = resolved_view c.args.context.now.lookup.now in
+    let r = resolved_view c.args.context.now.document.now in
     let parts = c.args.parts.now in
     let parent = id_of parts.parent.now in
     let entry = c.entry_at-entry.result in

@@ -13,7 +13,7 @@ use Rattle.krates_resolve.proofs.references.toggle_strongly.Goals as goal
 
 pub toggle_at-requires-clause-within : goal.toggle_at-requires-clause-within
 toggle_at-requires-clause-within c =
-    let r = resolved_view c.args.context.now.lookup.now in
+    let r = resolved_view c.args.context.now.document.now in
     let s = c.args.context.now.setting.now in
     let parts = c.args.parts.now in
     let name = c.args.name.now in
@@ -25,7 +25,7 @@ toggle_at-requires-clause-within c =
 
 pub toggle_at-requires-clause-referred : goal.toggle_at-requires-clause-referred
 toggle_at-requires-clause-referred c =
-    let r = resolved_view c.args.context.now.lookup.now in
+    let r = resolved_view c.args.context.now.document.now in
     let s = c.args.context.now.setting.now in
     let parts = c.args.parts.now in
     let name = c.args.name.now in
@@ -46,7 +46,7 @@ toggle_at-requires-clause-referred c =
 
 pub loop-referent-preserved : goal.loop-referent-preserved
 loop-referent-preserved c =
-    let r = resolved_view c.args.context.now.lookup.now in
+    let r = resolved_view c.args.context.now.document.now in
     let s = c.args.context.now.setting.now in
     let parts = c.args.parts.now in
     let name = c.args.name.now in
@@ -64,7 +64,7 @@ loop-referent-preserved c =
 
 pub returns-clause-asked : goal.returns-clause-asked
 returns-clause-asked c =
-    let r = resolved_view c.args.context.now.lookup.now in
+    let r = resolved_view c.args.context.now.document.now in
     let s = c.args.context.now.setting.now in
     let parts = c.args.parts.now in
     let name = c.args.name.now in
@@ -76,7 +76,7 @@ returns-clause-asked c =
 
 pub returns-clause-toggled : goal.returns-clause-toggled
 returns-clause-toggled c =
-    let r = resolved_view c.args.context.now.lookup.now in
+    let r = resolved_view c.args.context.now.document.now in
     let s = c.args.context.now.setting.now in
     let parts = c.args.parts.now in
     let name = c.args.name.now in

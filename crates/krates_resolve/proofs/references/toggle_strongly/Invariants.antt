@@ -9,6 +9,6 @@ use Rattle.krates_resolve.proofs.references.toggle_strongly.Given as goal
 -- the edges to each referent so far have been tried, and its feature is toggled if one of them may be kept
 abbrev pub invariant-loop-referent : goal.invariant-loop-referent
 invariant-loop-referent l =
-    Advances (resolved_view l.context.lookup.now) l.context.setting.now l.fn.found l.found
-    × SeenBelow (λ (x : Referent). IsAskedAt (resolved_view l.context.lookup.now) l.context.setting.now l.found (krate_of l.parts) l.parts.place x.place
-    × IsToggledStronglyAt (resolved_view l.context.lookup.now) l.context.setting.now l.found (krate_of l.parts) l.parts.place x.place l.feature.name.now) l.referent-items l.referent-index
+    Advances (resolved_view l.context.document.now) l.context.setting.now l.fn.found l.found
+    × SeenBelow (λ (x : Referent). IsAskedAt (resolved_view l.context.document.now) l.context.setting.now l.found (krate_of l.parts) l.parts.place x.place
+    × IsToggledStronglyAt (resolved_view l.context.document.now) l.context.setting.now l.found (krate_of l.parts) l.parts.place x.place l.feature.name.now) l.referent-items l.referent-index

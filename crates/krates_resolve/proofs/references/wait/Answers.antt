@@ -13,7 +13,7 @@ use Rattle.krates_resolve.proofs.references.wait.Goals as goal
 
 pub wait_at-requires-clause-within : goal.wait_at-requires-clause-within
 wait_at-requires-clause-within c =
-    let r = resolved_view c.args.context.now.lookup.now in
+    let r = resolved_view c.args.context.now.document.now in
     let s = c.args.context.now.setting.now in
     let parts = c.args.parts.now in
     let name = c.args.name.now in
@@ -25,7 +25,7 @@ wait_at-requires-clause-within c =
 
 pub wait_at-requires-clause-referred : goal.wait_at-requires-clause-referred
 wait_at-requires-clause-referred c =
-    let r = resolved_view c.args.context.now.lookup.now in
+    let r = resolved_view c.args.context.now.document.now in
     let s = c.args.context.now.setting.now in
     let parts = c.args.parts.now in
     let name = c.args.name.now in
@@ -46,7 +46,7 @@ wait_at-requires-clause-referred c =
 
 pub loop-referent-preserved : goal.loop-referent-preserved
 loop-referent-preserved c =
-    let r = resolved_view c.args.context.now.lookup.now in
+    let r = resolved_view c.args.context.now.document.now in
     let s = c.args.context.now.setting.now in
     let parts = c.args.parts.now in
     let name = c.args.name.now in
@@ -64,7 +64,7 @@ loop-referent-preserved c =
 
 pub returns-clause-waiting : goal.returns-clause-waiting
 returns-clause-waiting c =
-    let r = resolved_view c.args.context.now.lookup.now in
+    let r = resolved_view c.args.context.now.document.now in
     let s = c.args.context.now.setting.now in
     let parts = c.args.parts.now in
     let name = c.args.name.now in
@@ -72,4 +72,4 @@ returns-clause-waiting c =
     let meant = meant_here r s parts name c.is_all_named-all.result c.in_ok-referents.referents.items xs c.is_all_named-all.ensures c.deref-referent-items.ensures.value c.in_ok-referents.ensures in
     let g = c.args.feature.name.now in
     let x = c.loop-referent.found in
-    waiting_each r s x parts name g xs c.requires.lookup.distinct meant (each_among (λ (z : Referent). IsWaitingAt r x (krate_of parts) parts.place z.place g) xs c.loop-referent.referent-index c.loop-referent-test.false c.loop-referent.invariant.1)
+    waiting_each r s x parts name g xs c.agrees.ensures.distinct meant (each_among (λ (z : Referent). IsWaitingAt r x (krate_of parts) parts.place z.place g) xs c.loop-referent.referent-index c.loop-referent-test.false c.loop-referent.invariant.1)

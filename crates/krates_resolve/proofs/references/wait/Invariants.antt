@@ -9,5 +9,5 @@ use Rattle.krates_resolve.proofs.references.wait.Given as goal
 -- the feature of each referent so far waits or is toggled
 abbrev pub invariant-loop-referent : goal.invariant-loop-referent
 invariant-loop-referent l =
-    Advances (resolved_view l.context.lookup.now) l.context.setting.now l.fn.found l.found
-    × SeenBelow (λ (x : Referent). IsWaitingAt (resolved_view l.context.lookup.now) l.found (krate_of l.parts) l.parts.place x.place l.feature.name.now) l.referent-items l.referent-index
+    Advances (resolved_view l.context.document.now) l.context.setting.now l.fn.found l.found
+    × SeenBelow (λ (x : Referent). IsWaitingAt (resolved_view l.context.document.now) l.found (krate_of l.parts) l.parts.place x.place l.feature.name.now) l.referent-items l.referent-index

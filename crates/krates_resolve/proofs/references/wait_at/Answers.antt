@@ -20,7 +20,7 @@ toggle_child-requires-clause-marked c = (c.in-Some.kept, c.in-Some.ensures)
 
 pub toggle_child-requires-clause-may : goal.toggle_child-requires-clause-may
 toggle_child-requires-clause-may c child there =
-    let r = resolved_view c.args.context.now.lookup.now in
+    let r = resolved_view c.args.context.now.document.now in
     let s = c.args.context.now.setting.now in
     let parent = id_of c.args.parts.now.parent.now in
     let at = c.requires.referred in
@@ -30,7 +30,7 @@ toggle_child-requires-clause-may c child there =
 
 pub toggle_child-requires-clause-step : goal.toggle_child-requires-clause-step
 toggle_child-requires-clause-step c child there lists =
-    let r = resolved_view c.args.context.now.lookup.now in
+    let r = resolved_view c.args.context.now.document.now in
     let s = c.args.context.now.setting.now in
     let p = id_of c.args.parts.now.parent.now in
     let g = c.args.feature.name.now in
@@ -51,7 +51,7 @@ let_wait-requires c =
 
 pub returns-clause-advanced : goal.returns-clause-advanced
 returns-clause-advanced c =
-    let r = resolved_view c.args.context.now.lookup.now in
+    let r = resolved_view c.args.context.now.document.now in
     let s = c.args.context.now.setting.now in
     let at = c.requires.referred in
     let p = id_of c.args.parts.now.parent.now in

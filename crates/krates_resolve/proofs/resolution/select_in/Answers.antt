@@ -30,7 +30,7 @@ returns-clause-explained c =
     let exact = c.in_ok-found.ensures.exact in
     let sound = c.in_ok-found.ensures.sound in
     let chosen = c.in_ok-selection.ensures in
-    let r = resolved_view c.args.lookup.now in
+    let r = resolved_view c.args.document.now in
     let s = c.args.setting.now in
     let same = sym c.trace_of.ensures in
     record {

@@ -18,55 +18,55 @@ use Rattle.krates_resolve.proofs.resolution.selection_of.Goals as goal
 
 pub kids_at-requires : goal.kids_at-requires
 kids_at-requires c =
-    let look = c.args.context.now.lookup.now in
+    let look = c.args.context.now.document.now in
     let found = c.args.found.now in
-    let long = c.requires.sound.krates_size ∙ (nodes_long look c.requires.lookup).0 ∙ ap (λ (ids : List Identity). length ids) (sym c.deref.ensures.value) in
+    let long = c.requires.sound.krates_size ∙ (nodes_long look c.agrees.ensures).0 ∙ ap (λ (ids : List Identity). length ids) (sym c.node_ids.ensures) in
     let below = subst (λ (n : ℕ). All (λ p. p < n) found.krates.put) long c.numbers.ensures.orderly.below in
-    subst (λ (places : List ℕ). All (λ p. p < length c.deref.result.now) places) (sym c.numbers.ensures.put) below
+    subst (λ (places : List ℕ). All (λ p. p < length c.node_ids.result.now) places) (sym c.numbers.ensures.put) below
 
 pub numbers_of-requires : goal.numbers_of-requires
-numbers_of-requires c = subst (λ (kids : List Identity). AreNumbered (map id_of kids)) (sym c.deref-2.ensures.value) (sorted_same id_cmp id_order id_of (λ a b. refl) c.in_ok-krates.krates.items c.in_ok-krates.ensures.ascending)
+numbers_of-requires c = subst (λ (kids : List Identity). AreNumbered (map id_of kids)) (sym c.deref.ensures.value) (sorted_same id_cmp id_order id_of (λ a b. refl) c.in_ok-krates.krates.items c.in_ok-krates.ensures.ascending)
 
 pub kept_edges-requires-clause-kept : goal.kept_edges-requires-clause-kept
 kept_edges-requires-clause-kept c =
-    let whole = whole_of c.args.context.now.lookup.now c.args.context.now.setting.now c.args.found.now c.deref.result.now c.numbers.result.now c.in_ok-kids_at.field-0.items c.in_ok-krates.krates.items c.requires.lookup c.requires.exact c.deref.ensures.value c.numbers.ensures.put
+    let whole = whole_of c.args.context.now.document.now c.args.context.now.setting.now c.args.found.now c.node_ids.result.now c.numbers.result.now c.in_ok-kids_at.field-0.items c.in_ok-krates.krates.items c.agrees.ensures c.requires.exact c.node_ids.ensures c.numbers.ensures.put
     c.in_ok-kids_at.ensures c.requires.some (record { from = c.in_ok-krates.ensures.from; kept = c.in_ok-krates.ensures.kept }) c.in_ok-krates.ensures.ascending in
-    edges_kept c.one_reading.ensures.once c.comparison.ensures.equality (resolved_view c.args.context.now.lookup.now) c.args.context.now.setting.now c.args.context.now.lookup.now.ids.now.nodes.items c.args.found.now c.in_ok-kids_at.field-0.items c.in_ok-krates.krates.items whole c.requires.sound.placed c.deref-4.result.now c.deref-6.result.now c.deref-4.ensures.value c.deref-6.ensures.value
+    edges_kept c.one_reading.ensures.once c.comparison.ensures.equality (resolved_view c.args.context.now.document.now) c.args.context.now.setting.now c.args.context.now.document.now.ids.now.nodes.items c.args.found.now c.in_ok-kids_at.field-0.items c.in_ok-krates.krates.items whole c.requires.sound.placed c.deref-2.result.now c.deref-4.result.now c.deref-2.ensures.value c.deref-4.ensures.value
 
 pub kept_features-requires-clause-kept : goal.kept_features-requires-clause-kept
 kept_features-requires-clause-kept c =
-    let whole = whole_of c.args.context.now.lookup.now c.args.context.now.setting.now c.args.found.now c.deref.result.now c.numbers.result.now c.in_ok-kids_at.field-0.items c.in_ok-krates.krates.items c.requires.lookup c.requires.exact c.deref.ensures.value c.numbers.ensures.put
+    let whole = whole_of c.args.context.now.document.now c.args.context.now.setting.now c.args.found.now c.node_ids.result.now c.numbers.result.now c.in_ok-kids_at.field-0.items c.in_ok-krates.krates.items c.agrees.ensures c.requires.exact c.node_ids.ensures c.numbers.ensures.put
     c.in_ok-kids_at.ensures c.requires.some (record { from = c.in_ok-krates.ensures.from; kept = c.in_ok-krates.ensures.kept }) c.in_ok-krates.ensures.ascending in
     let sound = c.requires.sound in
     let below = subst (λ (n : ℕ). All (λ p. p < n) c.args.found.now.features.put) sound.features_size c.numbers-2.ensures.orderly.below in
-    features_kept c.one_reading.ensures.once c.comparison.ensures.equality (resolved_view c.args.context.now.lookup.now) c.args.context.now.setting.now c.args.context.now.lookup.now.ids.now.nodes.items c.args.found.now c.in_ok-kids_at.field-0.items c.in_ok-krates.krates.items whole below c.deref-4.result.now c.numbers-2.result.now c.deref-4.ensures.value c.numbers-2.ensures.put
+    features_kept c.one_reading.ensures.once c.comparison.ensures.equality (resolved_view c.args.context.now.document.now) c.args.context.now.setting.now c.args.context.now.document.now.ids.now.nodes.items c.args.found.now c.in_ok-kids_at.field-0.items c.in_ok-krates.krates.items whole below c.deref-2.result.now c.numbers-2.result.now c.deref-2.ensures.value c.numbers-2.ensures.put
 
 pub kept_toggled-requires-clause-kept : goal.kept_toggled-requires-clause-kept
 kept_toggled-requires-clause-kept c =
-    let whole = whole_of c.args.context.now.lookup.now c.args.context.now.setting.now c.args.found.now c.deref.result.now c.numbers.result.now c.in_ok-kids_at.field-0.items c.in_ok-krates.krates.items c.requires.lookup c.requires.exact c.deref.ensures.value c.numbers.ensures.put
+    let whole = whole_of c.args.context.now.document.now c.args.context.now.setting.now c.args.found.now c.node_ids.result.now c.numbers.result.now c.in_ok-kids_at.field-0.items c.in_ok-krates.krates.items c.agrees.ensures c.requires.exact c.node_ids.ensures c.numbers.ensures.put
     c.in_ok-kids_at.ensures c.requires.some (record { from = c.in_ok-krates.ensures.from; kept = c.in_ok-krates.ensures.kept }) c.in_ok-krates.ensures.ascending in
-    toggles_kept c.one_reading.ensures.once c.comparison.ensures.equality (resolved_view c.args.context.now.lookup.now) c.args.context.now.setting.now c.args.context.now.lookup.now.ids.now.nodes.items c.args.found.now c.in_ok-kids_at.field-0.items c.in_ok-krates.krates.items whole c.requires.sound.toggles c.deref-4.result.now c.deref-7.result.now c.deref-4.ensures.value c.deref-7.ensures.value
+    toggles_kept c.one_reading.ensures.once c.comparison.ensures.equality (resolved_view c.args.context.now.document.now) c.args.context.now.setting.now c.args.context.now.document.now.ids.now.nodes.items c.args.found.now c.in_ok-kids_at.field-0.items c.in_ok-krates.krates.items whole c.requires.sound.toggles c.deref-2.result.now c.deref-5.result.now c.deref-2.ensures.value c.deref-5.ensures.value
 
 pub returns : goal.returns
 returns c =
     let s = c.args.context.now.setting.now in
-    let r = resolved_view c.args.context.now.lookup.now in
-    let h = c.requires.lookup in
+    let r = resolved_view c.args.context.now.document.now in
+    let h = c.agrees.ensures in
     let found = c.args.found.now in
-    let ids = c.args.context.now.lookup.now.ids.now.nodes.items in
+    let ids = c.args.context.now.document.now.ids.now.nodes.items in
     let put = c.in_ok-kids_at.field-0.items in
     let x : Selection = record { krates = c.in_ok-krates.krates; edges = c.in_ok-edges.edges; features = c.in_ok-features.features; toggled = c.in_ok-toggled.toggled; steps = c.new.result; work = c.args.work } in
     let kids = x.krates.items in
-    let kept = c.deref-4.ensures.value in
-    let whole = whole_of c.args.context.now.lookup.now c.args.context.now.setting.now c.args.found.now c.deref.result.now c.numbers.result.now c.in_ok-kids_at.field-0.items c.in_ok-krates.krates.items c.requires.lookup c.requires.exact c.deref.ensures.value c.numbers.ensures.put
+    let kept = c.deref-2.ensures.value in
+    let whole = whole_of c.args.context.now.document.now c.args.context.now.setting.now c.args.found.now c.node_ids.result.now c.numbers.result.now c.in_ok-kids_at.field-0.items c.in_ok-krates.krates.items c.agrees.ensures c.requires.exact c.node_ids.ensures c.numbers.ensures.put
     c.in_ok-kids_at.ensures c.requires.some (record { from = c.in_ok-krates.ensures.from; kept = c.in_ok-krates.ensures.kept }) c.in_ok-krates.ensures.ascending in
-    let edges = subst (λ (ks : List Identity). AreInOrder r s ks c.deref-6.result.now x.edges.items) kept c.in_ok-edges.ensures in
+    let edges = subst (λ (ks : List Identity). AreInOrder r s ks c.deref-4.result.now x.edges.items) kept c.in_ok-edges.ensures in
     let features = subst (λ (ks : List Identity). AreSorted r ks c.numbers-2.result.now x.features.items) kept c.in_ok-features.ensures in
-    let toggled = subst (λ (ks : List Identity). AreToggled ks c.deref-7.result.now x.toggled.items) kept c.in_ok-toggled.ensures in
+    let toggled = subst (λ (ks : List Identity). AreToggled ks c.deref-5.result.now x.toggled.items) kept c.in_ok-toggled.ensures in
     let order : IsInOrder r s found x = record {
-      edges = subst (λ (es : List FoundEdge). AreInOrder r s kids es x.edges.items) c.deref-6.ensures.value edges;
+      edges = subst (λ (es : List FoundEdge). AreInOrder r s kids es x.edges.items) c.deref-4.ensures.value edges;
       features = subst (λ (ns : List ℕ). AreSorted r kids ns x.features.items) c.numbers-2.ensures.put features;
-      toggled = subst (λ (ts : List FoundToggle). AreToggled kids ts x.toggled.items) c.deref-7.ensures.value toggled;
+      toggled = subst (λ (ts : List FoundToggle). AreToggled kids ts x.toggled.items) c.deref-5.ensures.value toggled;
     } in
     let counted : IsCountedWhole r s ids found put kids x.work = record {
       none_doubled = h.distinct;

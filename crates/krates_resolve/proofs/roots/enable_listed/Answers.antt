@@ -1,4 +1,4 @@
-use Rattle.std.proofs.Common.{ℕ, ◌<◌, Contains, String, Global, map, sym, subst, arith, string_bytes}
+use Rattle.std.proofs.Common.{refl, ℕ, ◌<◌, Contains, String, Global, map, sym, subst, arith, string_bytes}
 use Rattle.std.proofs.lemmas.List.{length-map}
 use Rattle.std.proofs.lemmas.Option.{slice_get_within}
 use Rattle.krates_cm.specs.Document.{Text, node_view, text_view}
@@ -15,15 +15,8 @@ use Rattle.krates_resolve.proofs.Rooted.{listed_may}
 use Rattle.krates_rules.proofs.Seen.{seen_more, each_seen}
 use Rattle.krates_resolve.proofs.roots.enable_listed.Goals as goal
 
-pub index-requires : goal.index-requires
-index-requires c =
-    let nodes = c.args.context.now.lookup.now.resolve.now.nodes in
-    let place = c.args.node.place in
-    let at = c.requires.node.at in
-    within_vec nodes place (subst (λ (n : ℕ). place < n) (length-map nodes.items node_view) (slice_get_within (resolved_view c.args.context.now.lookup.now).graph.nodes place at.node at.at))
-
 pub loop-name-init : goal.loop-name-init
-loop-name-init c = (advances_refl (resolved_view c.args.context.now.lookup.now) c.args.context.now.setting.now c.args.found.now c.requires.sound, λ k d lt. absurd (omega (arith, lt)))
+loop-name-init c = (advances_refl (resolved_view c.args.context.now.document.now) c.args.context.now.setting.now c.args.found.now c.requires.sound, λ k d lt. absurd (omega (arith, lt)))
 
 pub enable-requires-clause-sound : goal.enable-requires-clause-sound
 enable-requires-clause-sound c = c.loop-name.invariant.0.sound
@@ -33,18 +26,18 @@ enable-requires-clause-kept c = c.loop-name.invariant.0.grows.found (Crate (id_o
 
 pub enable-requires-clause-may : goal.enable-requires-clause-may
 enable-requires-clause-may c =
-    let r = resolved_view c.args.context.now.lookup.now in
+    let r = resolved_view c.args.context.now.document.now in
     let s = c.args.context.now.setting.now in
     let i = id_of c.args.node.id.now in
     let f = string_bytes c.name-item.result in
-    let texts = c.deref-name-items.result.now in
-    let names = listed_names c.args.context.now.lookup.now i c.args.node.place c.index.result.now c.requires.lookup c.requires.node.at c.index.ensures f in
-    let among = subst (λ ts. Contains (map text_view ts) f) c.deref-name-items.ensures.value (value_at texts c.loop-name.name-index c.name-item.result c.loop-name-test.true c.name-item.is) in
-    subst (λ (t : Text). MayName r s i t) (sym c.as_str.ensures.value) (listed_may r s i f c.requires.lookup.distinct (names.1 among) (c.requires.may f))
+    let texts = c.features-name-items.result.now in
+    let names = c.features-name-items.ensures f in
+    let among = value_at texts c.loop-name.name-index c.name-item.result c.loop-name-test.true c.name-item.is in
+    subst (λ (t : Text). MayName r s i t) (sym c.as_str.ensures.value) (listed_may r s i f c.agrees.ensures.distinct (names.1 among) (c.requires.may f))
 
 pub enable-requires-clause-step : goal.enable-requires-clause-step
 enable-requires-clause-step c lists =
-    let r = resolved_view c.args.context.now.lookup.now in
+    let r = resolved_view c.args.context.now.document.now in
     let s = c.args.context.now.setting.now in
     let i = id_of c.args.node.id.now in
     let f = c.as_str.result.now in
@@ -53,7 +46,7 @@ enable-requires-clause-step c lists =
 
 pub loop-name-preserved : goal.loop-name-preserved
 loop-name-preserved c =
-    let r = resolved_view c.args.context.now.lookup.now in
+    let r = resolved_view c.args.context.now.document.now in
     let s = c.args.context.now.setting.now in
     let i = id_of c.args.node.id.now in
     let f = string_bytes c.name-item.result in
@@ -61,9 +54,9 @@ loop-name-preserved c =
     let y = c.enable.new.found in
     let inv = c.loop-name.invariant in
     let step = c.in_ok-enable.ensures in
-    let texts = c.deref-name-items.result.now in
-    let names = listed_names c.args.context.now.lookup.now i c.args.node.place c.index.result.now c.requires.lookup c.requires.node.at c.index.ensures f in
-    let among = subst (λ ts. Contains (map text_view ts) f) c.deref-name-items.ensures.value (value_at texts c.loop-name.name-index c.name-item.result c.loop-name-test.true c.name-item.is) in
+    let texts = c.features-name-items.result.now in
+    let names = c.features-name-items.ensures f in
+    let among = value_at texts c.loop-name.name-index c.name-item.result c.loop-name-test.true c.name-item.is in
     let named = subst (λ (t : Text). IsEnabledBySome r y i t) c.as_str.ensures.value step.named in (
       advances_trans r s c.args.found.now x y inv.0 step.advanced,
       seen_more (λ (name : String Global). HasFound r y (Feature i (string_bytes name))) texts c.loop-name.name-index c.name-item.result c.loop-name-test.true c.name-item.is
@@ -75,8 +68,8 @@ returns-clause-advanced c = c.loop-name.invariant.0
 
 pub returns-clause-enabled : goal.returns-clause-enabled
 returns-clause-enabled c f lists =
-    let r = resolved_view c.args.context.now.lookup.now in
+    let r = resolved_view c.args.context.now.document.now in
     let i = id_of c.args.node.id.now in
-    let texts = c.deref-name-items.result.now in
-    let names = listed_names c.args.context.now.lookup.now i c.args.node.place c.index.result.now c.requires.lookup c.requires.node.at c.index.ensures f in
-    each_seen text_view (λ (t : Text). HasFound r c.loop-name.found (Feature i t)) texts c.index.result.now.features.items c.loop-name.name-index c.deref-name-items.ensures.value (omega arith) c.loop-name.invariant.1 f (names.0 lists)
+    let texts = c.features-name-items.result.now in
+    let names = c.features-name-items.ensures f in
+    each_seen text_view (λ (t : Text). HasFound r c.loop-name.found (Feature i t)) texts texts c.loop-name.name-index refl (omega arith) c.loop-name.invariant.1 f (names.0 lists)

@@ -9,5 +9,5 @@ use Rattle.krates_resolve.proofs.roots.enable_listed.Given as goal
 -- each feature so far is enabled
 abbrev pub invariant-loop-name : goal.invariant-loop-name
 invariant-loop-name l =
-    Advances (resolved_view l.context.lookup.now) l.context.setting.now l.fn.found l.found
-    × SeenBelow (λ (name : String Global). HasFound (resolved_view l.context.lookup.now) l.found (Feature (id_of l.node.id.now) (string_bytes name))) l.name-items l.name-index
+    Advances (resolved_view l.context.document.now) l.context.setting.now l.fn.found l.found
+    × SeenBelow (λ (name : String Global). HasFound (resolved_view l.context.document.now) l.found (Feature (id_of l.node.id.now) (string_bytes name))) l.name-items l.name-index

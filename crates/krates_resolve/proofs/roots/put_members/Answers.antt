@@ -9,7 +9,7 @@ use Rattle.krates_rules.proofs.Seen.{seen_more, seen_all}
 use Rattle.krates_resolve.proofs.roots.put_members.Goals as goal
 
 pub loop-member-init : goal.loop-member-init
-loop-member-init c = (advances_refl (resolved_view c.args.context.now.lookup.now) c.args.context.now.setting.now c.args.found.now c.requires.sound, λ k d lt. absurd (omega (arith, lt)), c.requires.each)
+loop-member-init c = (advances_refl (resolved_view c.args.context.now.document.now) c.args.context.now.setting.now c.args.found.now c.requires.sound, λ k d lt. absurd (omega (arith, lt)), c.requires.each)
 
 pub put_member-requires-clause-sound : goal.put_member-requires-clause-sound
 put_member-requires-clause-sound c = c.loop-member.invariant.0.sound
@@ -19,7 +19,7 @@ put_member-requires-clause-each c = c.loop-member.invariant.2
 
 pub loop-member-preserved : goal.loop-member-preserved
 loop-member-preserved c =
-    let r = resolved_view c.args.context.now.lookup.now in
+    let r = resolved_view c.args.context.now.document.now in
     let s = c.args.context.now.setting.now in
     let x = c.loop-member.found in
     let y = c.put_member.new.found in
@@ -36,5 +36,5 @@ returns-clause-advanced c = c.loop-member.invariant.0
 
 pub returns-clause-rooted : goal.returns-clause-rooted
 returns-clause-rooted c =
-    seen_all (λ (member : Identity). IsRoot (resolved_view c.args.context.now.lookup.now) c.args.context.now.setting.now (id_of member) → IsRooted (resolved_view c.args.context.now.lookup.now) c.args.context.now.setting.now c.loop-member.found (id_of member)) c.args.members.now c.args.members.now c.loop-member.member-index refl (omega arith)
+    seen_all (λ (member : Identity). IsRoot (resolved_view c.args.context.now.document.now) c.args.context.now.setting.now (id_of member) → IsRooted (resolved_view c.args.context.now.document.now) c.args.context.now.setting.now c.loop-member.found (id_of member)) c.args.members.now c.args.members.now c.loop-member.member-index refl (omega arith)
     c.loop-member.invariant.1

@@ -16,10 +16,10 @@ pub put-requires : goal.put-requires
 put-requires c =
     let at = c.requires.node.at in
     let node = c.args.node in
-    subst (λ (n : ℕ). node.place < n) (sym c.requires.each.size) (slice_get_within (resolved_view c.args.context.now.lookup.now).graph.nodes node.place at.node at.at)
+    subst (λ (n : ℕ). node.place < n) (sym c.requires.each.size) (slice_get_within (resolved_view c.args.context.now.document.now).graph.nodes node.place at.node at.at)
 
 pub returns-then-not-put-clause-advanced : goal.returns-then-not-put-clause-advanced
-returns-then-not-put-clause-advanced c = advances_refl (resolved_view c.args.context.now.lookup.now) c.args.context.now.setting.now c.args.found.now c.requires.sound
+returns-then-not-put-clause-advanced c = advances_refl (resolved_view c.args.context.now.document.now) c.args.context.now.setting.now c.args.found.now c.requires.sound
 
 pub returns-then-not-put-clause-rooted : goal.returns-then-not-put-clause-rooted
 returns-then-not-put-clause-rooted c =
@@ -30,7 +30,7 @@ returns-then-not-put-clause-each c = each_stays c.args.context.now c.args.found.
 
 pub put_krate-requires-clause-may : goal.put_krate-requires-clause-may
 put_krate-requires-clause-may c =
-    let r = resolved_view c.args.context.now.lookup.now in
+    let r = resolved_view c.args.context.now.document.now in
     let s = c.args.context.now.setting.now in
     let i = id_of c.args.node.id.now in
     let trace = c.args.found.now.trace.items in
@@ -43,17 +43,17 @@ pub enable_listed-requires-clause-kept : goal.enable_listed-requires-clause-kept
 enable_listed-requires-clause-kept c = record { place = c.args.node.place; among = c.in_ok-put_krate.ensures.put; node = c.requires.node.at }
 
 pub enable_listed-requires-clause-may : goal.enable_listed-requires-clause-may
-enable_listed-requires-clause-may c = root_enables (resolved_view c.args.context.now.lookup.now) c.args.context.now.setting.now (id_of c.args.node.id.now) c.requires.root.0 c.requires.root.1
+enable_listed-requires-clause-may c = root_enables (resolved_view c.args.context.now.document.now) c.args.context.now.setting.now (id_of c.args.node.id.now) c.requires.root.0 c.requires.root.1
 
 pub returns-clause-advanced : goal.returns-clause-advanced
 returns-clause-advanced c =
-    let r = resolved_view c.args.context.now.lookup.now in
+    let r = resolved_view c.args.context.now.document.now in
     let s = c.args.context.now.setting.now in
     on_ok_weaker c.enable_listed.result (λ a. advances_trans r s c.args.found.now c.put_krate.new.found c.enable_listed.new.found c.in_ok-put_krate.ensures.advanced a) c.enable_listed.ensures.advanced
 
 pub returns-clause-rooted : goal.returns-clause-rooted
 returns-clause-rooted c =
-    let r = resolved_view c.args.context.now.lookup.now in
+    let r = resolved_view c.args.context.now.document.now in
     let s = c.args.context.now.setting.now in
     let i = id_of c.args.node.id.now in
     let kept : HasFound r c.put_krate.new.found (Crate i) = record { place = c.args.node.place; among = c.in_ok-put_krate.ensures.put; node = c.requires.node.at } in
@@ -61,7 +61,7 @@ returns-clause-rooted c =
 
 pub returns-clause-each : goal.returns-clause-each
 returns-clause-each c =
-    let r = resolved_view c.args.context.now.lookup.now in
+    let r = resolved_view c.args.context.now.document.now in
     let s = c.args.context.now.setting.now in
     let b = c.args.context.now in
     let i = id_of c.args.node.id.now in

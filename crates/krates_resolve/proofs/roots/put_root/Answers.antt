@@ -5,14 +5,14 @@ use Rattle.krates_resolve.proofs.roots.put_root.Goals as goal
 
 pub returns-in_ok-clone-in-NoPackage-clause-refused : goal.returns-in_ok-clone-in-NoPackage-clause-refused
 returns-in_ok-clone-in-NoPackage-clause-refused c =
-    rw c.in_ok-clone-in-NoPackage.ensures.cases (root_package_lost (resolved_view c.args.context.now.lookup.now) c.args.context.now.setting.now (id_of c.args.root.now) c.requires.root.0 c.in-NoPackage.ensures, (c.requires.root.1, tt))
+    rw c.in_ok-clone-in-NoPackage.ensures.cases (root_package_lost (resolved_view c.args.context.now.document.now) c.args.context.now.setting.now (id_of c.args.root.now) c.requires.root.0 c.in-NoPackage.ensures, (c.requires.root.1, tt))
 
 pub returns-in_ok-clone-in-NoNode-clause-refused : goal.returns-in_ok-clone-in-NoNode-clause-refused
 returns-in_ok-clone-in-NoNode-clause-refused c =
-    rw c.in_ok-clone-in-NoNode.ensures.cases (root_node_lost (resolved_view c.args.context.now.lookup.now) c.args.context.now.setting.now (id_of c.args.root.now) c.requires.root.0 c.in-NoNode.ensures, (c.requires.root.1, tt))
+    rw c.in_ok-clone-in-NoNode.ensures.cases (root_node_lost (resolved_view c.args.context.now.document.now) c.args.context.now.setting.now (id_of c.args.root.now) c.requires.root.0 c.in-NoNode.ensures, (c.requires.root.1, tt))
 
 pub returns-in-Excluded-clause-rooted : goal.returns-in-Excluded-clause-rooted
-returns-in-Excluded-clause-rooted c = left_out_rooted (resolved_view c.args.context.now.lookup.now) c.args.context.now.setting.now c.args.found.now (id_of c.args.root.now) c.requires.lookup.distinct c.in-Excluded.ensures
+returns-in-Excluded-clause-rooted c = left_out_rooted (resolved_view c.args.context.now.document.now) c.args.context.now.setting.now c.args.found.now (id_of c.args.root.now) c.agrees.ensures.distinct c.in-Excluded.ensures
 
 pub put_once-requires-clause-root : goal.put_once-requires-clause-root
 put_once-requires-clause-root c = (c.requires.root.0, c.in-Stands.ensures.0)

@@ -12,15 +12,15 @@ use Rattle.krates_resolve.proofs.saturation.nothing_found.Goals as goal
 
 pub returns-clause-sound : goal.returns-clause-sound
 returns-clause-sound c =
-    let look = c.args.lookup.now in
+    let look = c.args.document.now in
     let nodes = look.resolve.now.nodes in
     let listed = look.features.listed in
     let krates = c.in_ok-krates.ensures in
     let features = c.in_ok-features.ensures in
-    let krates_size = ap (λ (a : PutNumbers). a.size) krates ∙ c.len.ensures ∙ nodes.ok.0 ∙ sym (length-map nodes.items node_view) in
-    let features_size = ap (λ (a : PutNumbers). a.size) features ∙ c.len-2.ensures ∙ listed.ok.0 ∙ sym (length-map listed.items listed_view) ∙ ap (λ (fs : List (ℕ × Text)). length fs) c.requires.features in
+    let krates_size = ap (λ (a : PutNumbers). a.size) krates ∙ ap length c.nodes.ensures ∙ sym (length-map nodes.items node_view) in
+    let features_size = ap (λ (a : PutNumbers). a.size) features ∙ ap length c.listed_features.ensures ∙ sym (length-map listed.items listed_view) ∙ ap (λ (fs : List (ℕ × Text)). length fs) c.agrees.ensures.features in
     let told : List Package → Type 0 = λ ps. AllZip (TellsExcluded c.args.setting.now) (map package_view ps) c.in_ok-excluded.excluded.items in
-    let excluded = subst told c.deref.ensures.value c.in_ok-excluded.ensures in
+    let excluded = subst told c.packages.ensures c.in_ok-excluded.ensures in
     sound_start (resolved_view look) c.args.setting.now _ excluded krates_size features_size c.in_ok-links.ensures.has c.in_ok-links.ensures.new
     (record { krates = ap (λ (a : PutNumbers). a.put) krates; features = ap (λ (a : PutNumbers). a.put) features; edges = c.new-3.ensures.items; toggled = c.new-4.ensures.items; trace = c.new-5.ensures.items; krate_steps = c.new-6.ensures.items; feature_steps = c.new-7.ensures.items })
 

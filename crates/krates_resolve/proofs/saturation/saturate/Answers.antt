@@ -7,7 +7,7 @@ use Rattle.krates_resolve.proofs.saturation.saturate.Goals as goal
 pub loop-found-init : goal.loop-found-init
 loop-found-init c =
     let step = c.in_ok-put_roots.ensures in
-    let r = resolved_view c.args.lookup.now in
+    let r = resolved_view c.args.document.now in
     let krates = c.in_ok-found.ensures.krates in
     let features = c.in_ok-found.ensures.features in
     let grows = step.advanced.grows in (
@@ -19,11 +19,11 @@ pub returns-clause-exact : goal.returns-clause-exact
 returns-clause-exact c =
     let taken = c.in_ok-take_next.ensures.taken in
     let none = rw c.if-branch.false at taken.1 in
-    saturated (resolved_view c.args.lookup.now) c.args.setting.now c.take_next.new.found c.requires.lookup.distinct taken.0 none.0 none.1
+    saturated (resolved_view c.args.document.now) c.args.setting.now c.take_next.new.found c.agrees.ensures.distinct taken.0 none.0 none.1
 
 pub returns-clause-counted : goal.returns-clause-counted
 returns-clause-counted c =
     let taken = c.in_ok-take_next.ensures.taken in
     let done = taken.0 in
     let none = rw c.if-branch.false at taken.1 in
-    counted_end (resolved_view c.args.lookup.now) c.args.setting.now c.take_next.new.found c.take_next.new.work c.in_ok-take_next.ensures.counted done.krates_within done.features_within none.0 none.1
+    counted_end (resolved_view c.args.document.now) c.args.setting.now c.take_next.new.found c.take_next.new.work c.in_ok-take_next.ensures.counted done.krates_within done.features_within none.0 none.1

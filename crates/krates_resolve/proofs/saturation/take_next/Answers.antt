@@ -16,7 +16,7 @@ expand-requires-clause-sound c =
     let x = c.args.found.now in
     let n = x.krates.taken + 1 in
     let same = same_agendas x c.take.new.self x.features (record x.krates { taken = n }) x.features c.in-Some.ensures.counted refl in
-    subst (IsSound (resolved_view c.args.context.now.lookup.now) c.args.context.now.setting.now) (sym same) (sound_taken (resolved_view c.args.context.now.lookup.now) c.args.context.now.setting.now x n x.features.taken c.requires.done.sound)
+    subst (IsSound (resolved_view c.args.context.now.document.now) c.args.context.now.setting.now) (sym same) (sound_taken (resolved_view c.args.context.now.document.now) c.args.context.now.setting.now x n x.features.taken c.requires.done.sound)
 
 pub expand-requires-clause-put : goal.expand-requires-clause-put
 expand-requires-clause-put c =
@@ -30,7 +30,7 @@ expand-requires-clause-within c =
 
 pub returns-in-Some-clause-taken : goal.returns-in-Some-clause-taken
 returns-in-Some-clause-taken c =
-    let r = resolved_view c.args.context.now.lookup.now in
+    let r = resolved_view c.args.context.now.document.now in
     let s = c.args.context.now.setting.now in
     let x = c.args.found.now in
     let z = c.expand.new.found in
@@ -42,7 +42,7 @@ returns-in-Some-clause-taken c =
 
 pub returns-in_default-take-clause-taken : goal.returns-in_default-take-clause-taken
 returns-in_default-take-clause-taken c =
-    let r = resolved_view c.args.context.now.lookup.now in
+    let r = resolved_view c.args.context.now.document.now in
     let s = c.args.context.now.setting.now in
     let x = c.args.found.now in
     let still = unchanged x.krates c.take.new.self (x.krates.taken + 0) c.in_default.ensures.counted (omega arith) in
@@ -53,7 +53,7 @@ returns-in_default-take-clause-taken c =
 
 pub follow_references-requires-clause-sound : goal.follow_references-requires-clause-sound
 follow_references-requires-clause-sound c =
-    let r = resolved_view c.args.context.now.lookup.now in
+    let r = resolved_view c.args.context.now.document.now in
     let s = c.args.context.now.setting.now in
     let x = c.args.found.now in
     let m = x.features.taken + 1 in
@@ -73,7 +73,7 @@ follow_references-requires-clause-within c =
 
 pub returns-clause-taken : goal.returns-clause-taken
 returns-clause-taken c =
-    let r = resolved_view c.args.context.now.lookup.now in
+    let r = resolved_view c.args.context.now.document.now in
     let s = c.args.context.now.setting.now in
     let x = c.args.found.now in
     let z = c.follow_references.new.found in
@@ -86,7 +86,7 @@ returns-clause-taken c =
 
 pub returns-in-Some-clause-counted : goal.returns-in-Some-clause-counted
 returns-in-Some-clause-counted c =
-    let r = resolved_view c.args.context.now.lookup.now in
+    let r = resolved_view c.args.context.now.document.now in
     let s = c.args.context.now.setting.now in
     let x = c.args.found.now in
     let z = c.expand.new.found in
@@ -97,7 +97,7 @@ returns-in-Some-clause-counted c =
 
 pub returns-in_default-take-clause-counted : goal.returns-in_default-take-clause-counted
 returns-in_default-take-clause-counted c =
-    let r = resolved_view c.args.context.now.lookup.now in
+    let r = resolved_view c.args.context.now.document.now in
     let x = c.args.found.now in
     let still = unchanged x.krates c.take.new.self (x.krates.taken + 0) c.in_default.ensures.counted (omega arith) in
     let also = unchanged x.features c.take-2.new.self (x.features.taken + 0) c.in_default-take.ensures.counted (omega arith) in
@@ -106,7 +106,7 @@ returns-in_default-take-clause-counted c =
 
 pub returns-clause-counted : goal.returns-clause-counted
 returns-clause-counted c =
-    let r = resolved_view c.args.context.now.lookup.now in
+    let r = resolved_view c.args.context.now.document.now in
     let s = c.args.context.now.setting.now in
     let x = c.args.found.now in
     let z = c.follow_references.new.found in
@@ -121,21 +121,21 @@ returns-clause-counted c =
 
 pub index-step-requires : goal.index-step-requires
 index-step-requires c =
-    let r = resolved_view c.args.context.now.lookup.now in
+    let r = resolved_view c.args.context.now.document.now in
     let x = c.args.found.now in
     let same : c.taken.result - 1 ≡ x.krates.taken = omega (arith, c.taken.ensures.count, ap (λ (a : PutNumbers). a.taken) c.in-Some.ensures.counted) in
     within_vec x.krate_steps (c.taken.result - 1) (taken_within (IsKrateStep r x.trace.items) x.krates.put x.krate_steps.items x.krates.taken c.in-Some.taken (c.taken.result - 1) c.requires.done.sound.numbered.krates (sym c.take.ensures.first ∙ c.in-Some.is) same)
 
 pub expand-requires-clause-step : goal.expand-requires-clause-step
 expand-requires-clause-step c =
-    let r = resolved_view c.args.context.now.lookup.now in
+    let r = resolved_view c.args.context.now.document.now in
     let x = c.args.found.now in
     let same : c.taken.result - 1 ≡ x.krates.taken = omega (arith, c.taken.ensures.count, ap (λ (a : PutNumbers). a.taken) c.in-Some.ensures.counted) in
     taken_step (IsKrateStep r x.trace.items) x.krates.put x.krate_steps.items x.krates.taken c.in-Some.taken (c.taken.result - 1) c.index-step.result.now c.requires.done.sound.numbered.krates (sym c.take.ensures.first ∙ c.in-Some.is) same c.index-step.ensures
 
 pub index-step-requires-2 : goal.index-step-requires-2
 index-step-requires-2 c =
-    let r = resolved_view c.args.context.now.lookup.now in
+    let r = resolved_view c.args.context.now.document.now in
     let x = c.args.found.now in
     let same : c.taken-2.result - 1 ≡ x.features.taken = omega (arith, c.taken-2.ensures.count, ap (λ (a : PutNumbers). a.taken) c.in-Some-take.ensures.counted) in
     within_vec x.feature_steps (c.taken-2.result - 1)
@@ -143,7 +143,7 @@ index-step-requires-2 c =
 
 pub follow_references-requires-clause-step : goal.follow_references-requires-clause-step
 follow_references-requires-clause-step c =
-    let r = resolved_view c.args.context.now.lookup.now in
+    let r = resolved_view c.args.context.now.document.now in
     let x = c.args.found.now in
     let same : c.taken-2.result - 1 ≡ x.features.taken = omega (arith, c.taken-2.ensures.count, ap (λ (a : PutNumbers). a.taken) c.in-Some-take.ensures.counted) in
     taken_step (IsFeatureStep r x.trace.items) x.features.put x.feature_steps.items x.features.taken c.in-Some-take.taken (c.taken-2.result - 1) c.index-step-2.result.now c.requires.done.sound.numbered.features (sym c.take-2.ensures.first ∙ c.in-Some-take.is) same c.index-step-2.ensures

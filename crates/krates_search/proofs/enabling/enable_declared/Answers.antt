@@ -15,7 +15,7 @@ use Rattle.krates_search.proofs.enabling.enable_declared.Goals as goal
 use Rattle.krates_search.proofs.enabling.enable_declared.Goals.{then-dependency+in_ok-enable_default, else-dependency}
 
 pub loop-name-init : goal.loop-name-init
-loop-name-init c = (advances_refl (resolved_view c.args.context.now.lookup.now) c.args.context.now.setting.now c.args.found.now c.requires.sound, λ k d lt. absurd (omega (arith, lt)), refl)
+loop-name-init c = (advances_refl (resolved_view c.args.context.now.document.now) c.args.context.now.setting.now c.args.found.now c.requires.sound, λ k d lt. absurd (omega (arith, lt)), refl)
 
 pub enable-requires-clause-sound : goal.enable-requires-clause-sound
 enable-requires-clause-sound c = c.loop-name.invariant.0.sound
@@ -25,7 +25,7 @@ enable-requires-clause-kept c = c.loop-name.invariant.0.grows.found (Crate (id_o
 
 pub enable-requires-clause-may : goal.enable-requires-clause-may
 enable-requires-clause-may c =
-    let r = resolved_view c.args.context.now.lookup.now in
+    let r = resolved_view c.args.context.now.document.now in
     let s = c.args.context.now.setting.now in
     let i = id_of c.args.node.id.now in
     let g = string_bytes c.name-item.result in
@@ -34,7 +34,7 @@ enable-requires-clause-may c =
 
 pub enable-requires-clause-step : goal.enable-requires-clause-step
 enable-requires-clause-step c lists =
-    let r = resolved_view c.args.context.now.lookup.now in
+    let r = resolved_view c.args.context.now.document.now in
     let s = c.args.context.now.setting.now in
     let i = id_of c.args.node.id.now in
     let g = string_bytes c.name-item.result in
@@ -45,7 +45,7 @@ enable-requires-clause-step c lists =
 
 pub loop-name-preserved : goal.loop-name-preserved
 loop-name-preserved c =
-    let r = resolved_view c.args.context.now.lookup.now in
+    let r = resolved_view c.args.context.now.document.now in
     let s = c.args.context.now.setting.now in
     let i = id_of c.args.node.id.now in
     let x = c.loop-name.found in
@@ -67,12 +67,12 @@ enable_default-requires-clause-kept c = c.loop-name.invariant.0.grows.found (Cra
 pub enable_default-requires-clause-step : goal.enable_default-requires-clause-step
 enable_default-requires-clause-step c lists =
     let old = c.args.found.now in
-    finds_more (resolved_view c.args.context.now.lookup.now) c.args.context.now.setting.now old.trace.items c.loop-name.found.trace.items c.args.reason (Feature (id_of c.args.node.id.now) default_name) c.loop-name.invariant.0.grows.steps
+    finds_more (resolved_view c.args.context.now.document.now) c.args.context.now.setting.now old.trace.items c.loop-name.found.trace.items c.args.reason (Feature (id_of c.args.node.id.now) default_name) c.loop-name.invariant.0.grows.steps
     (c.requires.step.by_default c.if-dependency.true lists)
 
 pub returns-clause-advanced : goal.returns-clause-advanced
 returns-clause-advanced c =
-    let r = resolved_view c.args.context.now.lookup.now in
+    let r = resolved_view c.args.context.now.document.now in
     let s = c.args.context.now.setting.now in
     let x = c.loop-name.found in
     let inv = c.loop-name.invariant in
@@ -83,7 +83,7 @@ returns-clause-advanced c =
 
 pub returns-clause-used : goal.returns-clause-used
 returns-clause-used c =
-    let r = resolved_view c.args.context.now.lookup.now in
+    let r = resolved_view c.args.context.now.document.now in
     let i = id_of c.args.node.id.now in
     let d = dependency_view c.args.dependency.now in
     let x = c.loop-name.found in

@@ -9,6 +9,6 @@ use Rattle.krates_search.proofs.enabling.enable_declared.Given as goal
 -- the features so far are enabled
 abbrev pub invariant-loop-name : goal.invariant-loop-name
 invariant-loop-name l =
-    Advances (resolved_view l.context.lookup.now) l.context.setting.now l.fn.found l.found
-    × SeenBelow (λ (name : String Global). IsEnabledBySome (resolved_view l.context.lookup.now) l.found (id_of l.node.id.now) (text_view name)) l.name-items l.name-index
+    Advances (resolved_view l.context.document.now) l.context.setting.now l.fn.found l.found
+    × SeenBelow (λ (name : String Global). IsEnabledBySome (resolved_view l.context.document.now) l.found (id_of l.node.id.now) (text_view name)) l.name-items l.name-index
     × (l.found.links ≡ l.fn.found.links)

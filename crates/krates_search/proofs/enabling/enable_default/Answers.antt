@@ -8,13 +8,13 @@ use Rattle.krates_search.proofs.enabling.enable_default.Goals as goal
 pub returns-in_default-clause-enabled : goal.returns-in_default-clause-enabled
 returns-in_default-clause-enabled c lists =
     let i = id_of c.args.node.id.now in
-    absurd (not_lacking (resolved_view c.args.context.now.lookup.now) i default_name c.requires.lookup.distinct lists (c.in_default.ensures.number i c.requires.node.at))
+    absurd (not_lacking (resolved_view c.args.context.now.document.now) i default_name c.agrees.ensures.distinct lists (c.in_default.ensures.number i c.requires.node.at))
 
 pub put_feature-requires-clause-may : goal.put_feature-requires-clause-may
 put_feature-requires-clause-may c =
     let i = id_of c.args.node.id.now in
     let at = c.in-Some.ensures.number i c.requires.node.at in
-    record { krate = i; name = default_name; number_of = (at, c.in-Some.ensures.own); kept = c.requires.kept; finds = c.requires.step (listed_at (resolved_view c.args.context.now.lookup.now) i default_name c.in-Some.number at) }
+    record { krate = i; name = default_name; number_of = (at, c.in-Some.ensures.own); kept = c.requires.kept; finds = c.requires.step (listed_at (resolved_view c.args.context.now.document.now) i default_name c.in-Some.number at) }
 
 pub returns-clause-enabled : goal.returns-clause-enabled
 returns-clause-enabled c lists = record { number = c.in-Some.number; among = c.in_ok-put_feature.ensures.put; at = c.in-Some.ensures.number (id_of c.args.node.id.now) c.requires.node.at }

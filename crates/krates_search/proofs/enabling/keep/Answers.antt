@@ -20,19 +20,19 @@ pub put_step-requires-clause-may : goal.put_step-requires-clause-may
 put_step-requires-clause-may c =
     let x = c.args.edge.now.entry.now in
     let k = dep_kind_info_view c.args.edge.now.info.now in
-    record { fact = Kept (edge_for x k); names = entry_edge (resolved_view c.args.context.now.lookup.now) x k c.args.keeping.kind c.requires.lookup.distinct c.requires.entry c.requires.first; finds = c.requires.step }
+    record { fact = Kept (edge_for x k); names = entry_edge (resolved_view c.args.context.now.document.now) x k c.args.keeping.kind c.agrees.ensures.distinct c.requires.entry c.requires.first; finds = c.requires.step }
 
 pub put_krate-requires-clause-sound : goal.put_krate-requires-clause-sound
 put_krate-requires-clause-sound c = c.in_ok-number.ensures.advanced.sound
 
 pub put_krate-requires-clause-may : goal.put_krate-requires-clause-may
 put_krate-requires-clause-may c =
-    let r = resolved_view c.args.context.now.lookup.now in
+    let r = resolved_view c.args.context.now.document.now in
     let s = c.args.context.now.setting.now in
     let x = c.args.edge.now.entry.now in
     let k = dep_kind_info_view c.args.edge.now.info.now in
     let y = c.put_step.new.found in
-    let has = c.in_ok-number.ensures.put (Kept (edge_for x k)) (entry_edge r x k c.args.keeping.kind c.requires.lookup.distinct c.requires.entry c.requires.first) in
+    let has = c.in_ok-number.ensures.put (Kept (edge_for x k)) (entry_edge r x k c.args.keeping.kind c.agrees.ensures.distinct c.requires.entry c.requires.first) in
     record {
       krate = child_of x;
       node = c.requires.node;
@@ -57,7 +57,7 @@ enable_declared-requires-clause-kept c = record { place = c.args.keeping.node; a
 
 pub enable_declared-requires-clause-may : goal.enable_declared-requires-clause-may
 enable_declared-requires-clause-may c =
-    let r = resolved_view c.args.context.now.lookup.now in
+    let r = resolved_view c.args.context.now.document.now in
     let s = c.args.context.now.setting.now in
     let x = c.args.edge.now.entry.now in
     let k = dep_kind_info_view c.args.edge.now.info.now in
@@ -67,7 +67,7 @@ enable_declared-requires-clause-may c =
 
 pub enable_declared-requires-clause-step : goal.enable_declared-requires-clause-step
 enable_declared-requires-clause-step c =
-    let r = resolved_view c.args.context.now.lookup.now in
+    let r = resolved_view c.args.context.now.document.now in
     let b = c.args.context.now in
     let x = c.args.edge.now.entry.now in
     let k = dep_kind_info_view c.args.edge.now.info.now in
@@ -75,7 +75,7 @@ enable_declared-requires-clause-step c =
     let z = c.put_krate.new.found in
     let e = edge_for x k in
     let n = c.in_ok-number.number in
-    let has = c.in_ok-number.ensures.put (Kept e) (entry_edge r x k c.args.keeping.kind c.requires.lookup.distinct c.requires.entry c.requires.first) in
+    let has = c.in_ok-number.ensures.put (Kept e) (entry_edge r x k c.args.keeping.kind c.agrees.ensures.distinct c.requires.entry c.requires.first) in
     let is = declared_seen x.declared.now c.args.keeping.declared d.0 c.declared_at-dependency.result.now (declared_stands (declared_in x) (entry_of x) k c.args.keeping.declared d.0 d.1) c.declared_at-dependency.ensures in
     subst (λ (m : DependencyModel). FindsUsed b z c.by_one-2.result m (child_of x)) (sym is) (finds_used b z c.by_one-2.result n e d.0 c.by_one-2.ensures (c.in_ok-put_krate.ensures.advanced.grows.steps n (Kept e) has) d.2)
 
@@ -87,23 +87,23 @@ wake-requires-clause-kept c = c.in_ok-enable_declared.ensures.advanced.grows.fou
 
 pub wake-requires-clause-step : goal.wake-requires-clause-step
 wake-requires-clause-step c =
-    let r = resolved_view c.args.context.now.lookup.now in
+    let r = resolved_view c.args.context.now.document.now in
     let x = c.args.edge.now.entry.now in
     let k = dep_kind_info_view c.args.edge.now.info.now in
     let e = edge_for x k in
     let n = c.in_ok-number.number in
-    let has = c.in_ok-number.ensures.put (Kept e) (entry_edge r x k c.args.keeping.kind c.requires.lookup.distinct c.requires.entry c.requires.first) in
+    let has = c.in_ok-number.ensures.put (Kept e) (entry_edge r x k c.args.keeping.kind c.agrees.ensures.distinct c.requires.entry c.requires.first) in
     (k, c.in_ok-enable_declared.ensures.advanced.grows.steps n (Kept e) (c.in_ok-put_krate.ensures.advanced.grows.steps n (Kept e) has))
 
 pub returns-clause-advanced : goal.returns-clause-advanced
 returns-clause-advanced c =
-    let r = resolved_view c.args.context.now.lookup.now in
+    let r = resolved_view c.args.context.now.document.now in
     let s = c.args.context.now.setting.now in
     let x = c.args.edge.now.entry.now in
     let k = dep_kind_info_view c.args.edge.now.info.now in
     let e = edge_for x k in
     let d = c.requires.wanted in
-    let none = c.requires.lookup.distinct in
+    let none = c.agrees.ensures.distinct in
     let old = c.args.found.now in
     let n = c.in_ok-number.number in
     let noted = c.in_ok-number.ensures in
@@ -117,7 +117,7 @@ returns-clause-advanced c =
     let y = c.enable_declared.new.found in
     let z = c.wake.new.found in
     let crate_there : HasFound r w (Crate e.child) = record { place = c.args.keeping.node; among = put.put; node = c.requires.node } in
-    let has = noted.put (Kept e) (entry_edge r x k c.args.keeping.kind c.requires.lookup.distinct c.requires.entry c.requires.first) in
+    let has = noted.put (Kept e) (entry_edge r x k c.args.keeping.kind c.agrees.ensures.distinct c.requires.entry c.requires.first) in
     let some : HasSomeStep r z.trace.items (Kept e) = (n, woken.advanced.grows.steps n (Kept e) (enabled.advanced.grows.steps n (Kept e) (put.advanced.grows.steps n (Kept e) has))) in
     let used = used_grows r y z d.0 e.child woken.advanced.grows (subst (λ (m : DependencyModel). HasUsed r y m e.child) is enabled.used) in
     let reached = woken.advanced.grows.found (Crate e.child) (enabled.advanced.grows.found (Crate e.child) crate_there) in

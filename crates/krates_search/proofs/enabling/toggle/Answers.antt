@@ -15,7 +15,7 @@ use Rattle.krates_search.proofs.Waking.{may_name}
 use Rattle.krates_search.proofs.enabling.toggle.Goals as goal
 
 pub listed_number-requires-clause-may : goal.listed_number-requires-clause-may
-listed_number-requires-clause-may c = may_name (resolved_view c.args.context.now.lookup.now) c.args.context.now.setting.now (id_of c.args.by.id.now) (id_of c.args.node.id.now) c.args.feature.name.now c.requires.may
+listed_number-requires-clause-may c = may_name (resolved_view c.args.context.now.document.now) c.args.context.now.setting.now (id_of c.args.by.id.now) (id_of c.args.node.id.now) c.args.feature.name.now c.requires.may
 
 pub put_step-requires-clause-may : goal.put_step-requires-clause-may
 put_step-requires-clause-may c =
@@ -26,12 +26,12 @@ put_step-requires-clause-may c =
     record {
       fact = Toggled p i g;
       names = record { by = p; krate = i; name = g; node = c.requires.by.at; at = at; is = refl };
-      finds = c.requires.step (listed_at (resolved_view c.args.context.now.lookup.now) i g c.in_ok-number.number at);
+      finds = c.requires.step (listed_at (resolved_view c.args.context.now.document.now) i g c.in_ok-number.number at);
     }
 
 pub put_feature-requires-clause-may : goal.put_feature-requires-clause-may
 put_feature-requires-clause-may c =
-    let r = resolved_view c.args.context.now.lookup.now in
+    let r = resolved_view c.args.context.now.document.now in
     let s = c.args.context.now.setting.now in
     let p = id_of c.args.by.id.now in
     let i = id_of c.args.node.id.now in
@@ -49,7 +49,7 @@ put_feature-requires-clause-may c =
 
 pub returns-clause-advanced : goal.returns-clause-advanced
 returns-clause-advanced c =
-    let r = resolved_view c.args.context.now.lookup.now in
+    let r = resolved_view c.args.context.now.document.now in
     let s = c.args.context.now.setting.now in
     let p = id_of c.args.by.id.now in
     let i = id_of c.args.node.id.now in
@@ -71,7 +71,7 @@ returns-clause-advanced c =
 
 pub returns-clause-toggled : goal.returns-clause-toggled
 returns-clause-toggled c =
-    let r = resolved_view c.args.context.now.lookup.now in
+    let r = resolved_view c.args.context.now.document.now in
     let s = c.args.context.now.setting.now in
     let p = id_of c.args.by.id.now in
     let i = id_of c.args.node.id.now in
@@ -87,7 +87,7 @@ returns-clause-toggled c =
     let t : FoundToggle = record { by = c.args.by.id; krate = c.args.node.id; name = c.args.feature.name; by_node = c.args.by.place; krate_node = c.args.node.place } in
     let is : found_toggled t ≡ Toggled p i g = refl in
     let lists = listed_at r i g number at in
-    toggled_here r _ p i g c.requires.lookup.distinct lists
+    toggled_here r _ p i g c.agrees.ensures.distinct lists
     (toggled_advances r s z c.push.new.self t p i g step.advanced.sound c.in_ok-push.ensures.items is (record { by = c.requires.by.at; krate = c.requires.node.at }) enabled (c.requires.may.toggled lists) some).1
 
 pub returns-clause-same_links : goal.returns-clause-same_links

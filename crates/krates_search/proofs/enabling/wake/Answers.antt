@@ -31,7 +31,7 @@ mark-waiters-requires c = c.requires.sound.has_links (parent_of c.args.entry.now
 
 pub loop-waiter-init : goal.loop-waiter-init
 loop-waiter-init c =
-    let r = resolved_view c.args.context.now.lookup.now in
+    let r = resolved_view c.args.context.now.document.now in
     let s = c.args.context.now.setting.now in
     let e = c.args.entry.now in
     let x = c.args.found.now in
@@ -55,11 +55,11 @@ toggle-requires-clause-sound c = c.loop-waiter.invariant.2.sound
 pub toggle-requires-clause-kept : goal.toggle-requires-clause-kept
 toggle-requires-clause-kept c =
     let x = c.loop-waiter.found in
-    subst (λ (i : Id). HasFound (resolved_view c.args.context.now.lookup.now) x (Crate i)) (sym c.requires.of_child) (c.loop-waiter.invariant.2.grows.found (Crate (child_of c.args.entry.now)) c.requires.kept)
+    subst (λ (i : Id). HasFound (resolved_view c.args.context.now.document.now) x (Crate i)) (sym c.requires.of_child) (c.loop-waiter.invariant.2.grows.found (Crate (child_of c.args.entry.now)) c.requires.kept)
 
 pub toggle-requires-clause-may : goal.toggle-requires-clause-may
 toggle-requires-clause-may c =
-    let r = resolved_view c.args.context.now.lookup.now in
+    let r = resolved_view c.args.context.now.document.now in
     let s = c.args.context.now.setting.now in
     let x = c.args.entry.now in
     let items = c.as_slice-waiter-items.result.now in
@@ -71,7 +71,7 @@ toggle-requires-clause-may c =
 
 pub toggle-requires-clause-step : goal.toggle-requires-clause-step
 toggle-requires-clause-step c =
-    let r = resolved_view c.args.context.now.lookup.now in
+    let r = resolved_view c.args.context.now.document.now in
     let s = c.args.context.now.setting.now in
     let x = c.args.entry.now in
     let p = parent_of x in
@@ -92,7 +92,7 @@ toggle-requires-clause-step c =
 
 pub loop-waiter-preserved : goal.loop-waiter-preserved
 loop-waiter-preserved c =
-    let r = resolved_view c.args.context.now.lookup.now in
+    let r = resolved_view c.args.context.now.document.now in
     let s = c.args.context.now.setting.now in
     let e = c.args.entry.now in
     let x = c.loop-waiter.found in
@@ -113,7 +113,7 @@ loop-waiter-preserved c =
 
 pub returns-clause-advanced : goal.returns-clause-advanced
 returns-clause-advanced c =
-    let r = resolved_view c.args.context.now.lookup.now in
+    let r = resolved_view c.args.context.now.document.now in
     let s = c.args.context.now.setting.now in
     let e = c.args.entry.now in
     let x = c.loop-waiter.found in

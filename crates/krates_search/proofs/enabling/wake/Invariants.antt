@@ -14,6 +14,6 @@ abbrev pub invariant-loop-waiter : goal.invariant-loop-waiter
 invariant-loop-waiter l =
     (links : Links)
     × HasMarked l.fn.found.links links l.entry.place l.entry.index l.step l.waiter-items
-    × Advances (resolved_view l.context.lookup.now) l.context.setting.now (with_links l.fn.found links) l.found
-    × SeenBelow (λ (w : Waiting). IsToggledIn (resolved_view l.context.lookup.now) l.found (parent_of l.entry) (child_of l.entry) w.name.now) l.waiter-items l.waiter-index
+    × Advances (resolved_view l.context.document.now) l.context.setting.now (with_links l.fn.found links) l.found
+    × SeenBelow (λ (w : Waiting). IsToggledIn (resolved_view l.context.document.now) l.found (parent_of l.entry) (child_of l.entry) w.name.now) l.waiter-items l.waiter-index
     × (l.found.links ≡ links)

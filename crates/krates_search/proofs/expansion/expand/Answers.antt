@@ -19,18 +19,18 @@ use Rattle.krates_search.proofs.TriedParts.{tried_more, tried_whole, expanded_he
 use Rattle.krates_search.proofs.expansion.expand.Goals as goal
 
 pub entry_at-entry-requires-clause-lengths : goal.entry_at-entry-requires-clause-lengths
-entry_at-entry-requires-clause-lengths c = sym (deps_long (resolved_view c.args.context.now.lookup.now) c.number.result c.parts_of-parts.result c.parts_of-parts.ensures)
+entry_at-entry-requires-clause-lengths c = sym (deps_long (resolved_view c.args.context.now.document.now) c.number.result c.parts_of-parts.result c.parts_of-parts.ensures)
 
 pub entry_at-entry-requires-clause-versions : goal.entry_at-entry-requires-clause-versions
-entry_at-entry-requires-clause-versions c = own_long (resolved_view c.args.context.now.lookup.now) c.number.result c.parts_of-parts.result c.parts_of-parts.ensures
+entry_at-entry-requires-clause-versions c = own_long (resolved_view c.args.context.now.document.now) c.number.result c.parts_of-parts.result c.parts_of-parts.ensures
 
 pub expand_entry-requires-clause-entry : goal.expand_entry-requires-clause-entry
 expand_entry-requires-clause-entry c =
-    entry_here (resolved_view c.args.context.now.lookup.now) c.number.result c.parts_of-parts.result c.loop-index.index c.entry_at-entry.result c.parts_of-parts.ensures c.entry_at-entry.ensures
+    entry_here (resolved_view c.args.context.now.document.now) c.number.result c.parts_of-parts.result c.loop-index.index c.entry_at-entry.result c.parts_of-parts.ensures c.entry_at-entry.ensures
 
 pub expand_entry-requires-clause-may : goal.expand_entry-requires-clause-may
 expand_entry-requires-clause-may c k =
-    let r = resolved_view c.args.context.now.lookup.now in
+    let r = resolved_view c.args.context.now.document.now in
     let s = c.args.context.now.setting.now in
     let parent = c.parts_of-parts.result.parent.now in
     let put = c.args.found.now.krates.put in
@@ -44,7 +44,7 @@ expand_entry-requires-clause-may c k =
 
 pub expand_entry-requires-clause-step : goal.expand_entry-requires-clause-step
 expand_entry-requires-clause-step c k d wanted is_required stands =
-    let r = resolved_view c.args.context.now.lookup.now in
+    let r = resolved_view c.args.context.now.document.now in
     let s = c.args.context.now.setting.now in
     let parent = c.parts_of-parts.result.parent.now in
     let trace = c.loop-index.found.trace.items in
@@ -56,7 +56,7 @@ expand_entry-requires-clause-step c k d wanted is_required stands =
 
 pub loop-index-preserved : goal.loop-index-preserved
 loop-index-preserved c =
-    let r = resolved_view c.args.context.now.lookup.now in
+    let r = resolved_view c.args.context.now.document.now in
     let s = c.args.context.now.setting.now in
     let parts = c.parts_of-parts.result in
     let entry = c.entry_at-entry.result in
@@ -74,7 +74,7 @@ loop-index-preserved c =
 
 pub returns-clause-expanded : goal.returns-clause-expanded
 returns-clause-expanded c krate at =
-    let r = resolved_view c.args.context.now.lookup.now in
+    let r = resolved_view c.args.context.now.document.now in
     let s = c.args.context.now.setting.now in
     let once = c.one_reading.ensures.once in
     let p = c.parts_of-parts.ensures in
@@ -82,4 +82,4 @@ returns-clause-expanded c krate at =
     let parent = id_of parts.parent.now in
     let same : parent ≡ krate = one_id once r parent krate c.number.result p.at (subst (NodeAt r krate) (sym c.number.ensures) at) in
     let all = tried_whole r s c.loop-index.found parent (map node_dep_view parts.deps.now) p.at.node.deps parts.children.now c.loop-index.index p.deps (omega arith) c.loop-index.invariant.1 in
-    subst (IsExpanded r s c.loop-index.found) same (expanded_here once r s c.loop-index.found parent p.at.node parts.children.now c.requires.lookup.distinct p.has_node p.children all)
+    subst (IsExpanded r s c.loop-index.found) same (expanded_here once r s c.loop-index.found parent p.at.node parts.children.now c.agrees.ensures.distinct p.has_node p.children all)

@@ -9,5 +9,5 @@ use Rattle.krates_search.proofs.expansion.expand.Given as goal
 -- the edges of the dependencies so far have been tried
 abbrev pub invariant-loop-index : goal.invariant-loop-index
 invariant-loop-index l =
-    Advances (resolved_view l.context.lookup.now) l.context.setting.now l.fn.found l.found
-    × TriedBelow (resolved_view l.context.lookup.now) l.context.setting.now l.found (id_of l.parts.parent.now) (map node_dep_view l.parts.deps.now) l.parts.children.now l.index
+    Advances (resolved_view l.context.document.now) l.context.setting.now l.fn.found l.found
+    × TriedBelow (resolved_view l.context.document.now) l.context.setting.now l.found (id_of l.parts.parent.now) (map node_dep_view l.parts.deps.now) l.parts.children.now l.index

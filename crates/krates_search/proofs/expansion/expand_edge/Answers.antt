@@ -12,21 +12,21 @@ use Rattle.krates_search.proofs.expansion.expand_edge.Goals as goal
 
 pub returns-then-ignores-clause-tried : goal.returns-then-ignores-clause-tried
 returns-then-ignores-clause-tried c =
-    let r = resolved_view c.args.context.now.lookup.now in
+    let r = resolved_view c.args.context.now.document.now in
     let s = c.args.context.now.setting.now in
     let e = edge_for c.args.edge.now.entry.now (dep_kind_info_view c.args.edge.now.info.now) in
     ignored_tried r s c.args.found.now e (TakenWhen c.args.trial.now.asked) (is_ignored r s e c.args.edge.now.entry.now.is_member c.requires.entry.tells (sym c.ignores.ensures ∙ c.if-ignores.true))
 
 pub returns-then-ignores-clause-whole : goal.returns-then-ignores-clause-whole
 returns-then-ignores-clause-whole c so =
-    let r = resolved_view c.args.context.now.lookup.now in
+    let r = resolved_view c.args.context.now.document.now in
     let s = c.args.context.now.setting.now in
     let e = edge_for c.args.edge.now.entry.now (dep_kind_info_view c.args.edge.now.info.now) in
     ignored_tried r s c.args.found.now e IsAny (is_ignored r s e c.args.edge.now.entry.now.is_member c.requires.entry.tells (sym c.ignores.ensures ∙ c.if-ignores.true))
 
 pub returns-in_default-clause-refused : goal.returns-in_default-clause-refused
 returns-in_default-clause-refused c =
-    let r = resolved_view c.args.context.now.lookup.now in
+    let r = resolved_view c.args.context.now.document.now in
     let k = dep_kind_info_view c.args.edge.now.info.now in
     let h = heeds r c.args.context.now.setting.now c.args.edge.now.entry.now k c.requires.entry c.requires.listed c.ignores.result c.ignores.ensures c.if-ignores.false in
     let read = c.requires.entry in
@@ -37,37 +37,37 @@ returns-then-entry-declared-clause-tried c =
     let k = dep_kind_info_view c.args.edge.now.info.now in
     let d = c.in-Some.ensures.first in
     let is = optional_declared c.args.edge.now.entry.now k c.in-Some.declared d.0 c.index-entry-declared.result d.1 true c.if-entry-declared.true in
-    optional_tried (resolved_view c.args.context.now.lookup.now) c.args.context.now.setting.now c.args.found.now c.args.edge.now.entry.now k c.args.trial.now.asked c.in-Some.declared d.0 c.requires.lookup.distinct c.requires.entry d.1 c.if-not-trial.true is
+    optional_tried (resolved_view c.args.context.now.document.now) c.args.context.now.setting.now c.args.found.now c.args.edge.now.entry.now k c.args.trial.now.asked c.in-Some.declared d.0 c.agrees.ensures.distinct c.requires.entry d.1 c.if-not-trial.true is
 
 pub returns-then-not-passes-clause-tried : goal.returns-then-not-passes-clause-tried
 returns-then-not-passes-clause-tried c =
     let k = dep_kind_info_view c.args.edge.now.info.now in
     let d = c.in-Some.ensures.first in
-    barred_tried (resolved_view c.args.context.now.lookup.now) c.args.context.now.setting.now c.args.found.now c.args.edge.now.entry.now k (TakenWhen c.args.trial.now.asked) c.in-Some.declared d.0 c.requires.lookup.distinct c.requires.entry d.1
+    barred_tried (resolved_view c.args.context.now.document.now) c.args.context.now.setting.now c.args.found.now c.args.edge.now.entry.now k (TakenWhen c.args.trial.now.asked) c.in-Some.declared d.0 c.agrees.ensures.distinct c.requires.entry d.1
     (λ p. absurd (cc (c.in_ok-passes.ensures.1 p, c.if-not-passes.true)))
 
 pub returns-then-not-passes-clause-whole : goal.returns-then-not-passes-clause-whole
 returns-then-not-passes-clause-whole c so =
     let k = dep_kind_info_view c.args.edge.now.info.now in
     let d = c.in-Some.ensures.first in
-    barred_tried (resolved_view c.args.context.now.lookup.now) c.args.context.now.setting.now c.args.found.now c.args.edge.now.entry.now k IsAny c.in-Some.declared d.0 c.requires.lookup.distinct c.requires.entry d.1
+    barred_tried (resolved_view c.args.context.now.document.now) c.args.context.now.setting.now c.args.found.now c.args.edge.now.entry.now k IsAny c.in-Some.declared d.0 c.agrees.ensures.distinct c.requires.entry d.1
     (λ p. absurd (cc (c.in_ok-passes.ensures.1 p, c.if-not-passes.true)))
 
 pub returns-in-Excluded-clause-tried : goal.returns-in-Excluded-clause-tried
 returns-in-Excluded-clause-tried c =
     let k = dep_kind_info_view c.args.edge.now.info.now in
     let d = c.in-Some.ensures.first in
-    left_out_tried (resolved_view c.args.context.now.lookup.now) c.args.context.now.setting.now c.args.found.now c.args.edge.now.entry.now k (TakenWhen c.args.trial.now.asked) c.in-Some.declared d.0 c.requires.lookup.distinct c.requires.entry d.1 (subst (HasStanding c.args.context.now c.args.edge.now.entry.now) c.in-Excluded.is c.requires.standing)
+    left_out_tried (resolved_view c.args.context.now.document.now) c.args.context.now.setting.now c.args.found.now c.args.edge.now.entry.now k (TakenWhen c.args.trial.now.asked) c.in-Some.declared d.0 c.agrees.ensures.distinct c.requires.entry d.1 (subst (HasStanding c.args.context.now c.args.edge.now.entry.now) c.in-Excluded.is c.requires.standing)
 
 pub returns-in-Excluded-clause-whole : goal.returns-in-Excluded-clause-whole
 returns-in-Excluded-clause-whole c so =
     let k = dep_kind_info_view c.args.edge.now.info.now in
     let d = c.in-Some.ensures.first in
-    left_out_tried (resolved_view c.args.context.now.lookup.now) c.args.context.now.setting.now c.args.found.now c.args.edge.now.entry.now k IsAny c.in-Some.declared d.0 c.requires.lookup.distinct c.requires.entry d.1 (subst (HasStanding c.args.context.now c.args.edge.now.entry.now) c.in-Excluded.is c.requires.standing)
+    left_out_tried (resolved_view c.args.context.now.document.now) c.args.context.now.setting.now c.args.found.now c.args.edge.now.entry.now k IsAny c.in-Some.declared d.0 c.agrees.ensures.distinct c.requires.entry d.1 (subst (HasStanding c.args.context.now c.args.edge.now.entry.now) c.in-Excluded.is c.requires.standing)
 
 pub keep-requires-clause-wanted : goal.keep-requires-clause-wanted
 keep-requires-clause-wanted c =
-    let r = resolved_view c.args.context.now.lookup.now in
+    let r = resolved_view c.args.context.now.document.now in
     let s = c.args.context.now.setting.now in
     let k = dep_kind_info_view c.args.edge.now.info.now in
     let d = c.in-Some.ensures.first in
@@ -76,7 +76,7 @@ keep-requires-clause-wanted c =
 
 pub keep-requires-clause-may : goal.keep-requires-clause-may
 keep-requires-clause-may c =
-    let r = resolved_view c.args.context.now.lookup.now in
+    let r = resolved_view c.args.context.now.document.now in
     let s = c.args.context.now.setting.now in
     let k = dep_kind_info_view c.args.edge.now.info.now in
     let d = c.in-Some.ensures.first in
@@ -89,7 +89,7 @@ keep-requires-clause-may c =
 
 pub keep-requires-clause-step : goal.keep-requires-clause-step
 keep-requires-clause-step c =
-    let r = resolved_view c.args.context.now.lookup.now in
+    let r = resolved_view c.args.context.now.document.now in
     let s = c.args.context.now.setting.now in
     let k = dep_kind_info_view c.args.edge.now.info.now in
     let d = c.in-Some.ensures.first in
@@ -102,7 +102,7 @@ keep-requires-clause-step c =
 
 pub returns-in_ok-clone-in-NoPackage-clause-refused : goal.returns-in_ok-clone-in-NoPackage-clause-refused
 returns-in_ok-clone-in-NoPackage-clause-refused c =
-    let r = resolved_view c.args.context.now.lookup.now in
+    let r = resolved_view c.args.context.now.document.now in
     let s = c.args.context.now.setting.now in
     let k = dep_kind_info_view c.args.edge.now.info.now in
     let d = c.in-Some.ensures.first in
@@ -116,7 +116,7 @@ returns-in_ok-clone-in-NoPackage-clause-refused c =
 
 pub returns-in_ok-clone-in-NoNode-clause-refused : goal.returns-in_ok-clone-in-NoNode-clause-refused
 returns-in_ok-clone-in-NoNode-clause-refused c =
-    let r = resolved_view c.args.context.now.lookup.now in
+    let r = resolved_view c.args.context.now.document.now in
     let s = c.args.context.now.setting.now in
     let k = dep_kind_info_view c.args.edge.now.info.now in
     let d = c.in-Some.ensures.first in
@@ -130,18 +130,18 @@ returns-in_ok-clone-in-NoNode-clause-refused c =
 
 pub returns-in_ok-keep-in-Stands-clause-tried : goal.returns-in_ok-keep-in-Stands-clause-tried
 returns-in_ok-keep-in-Stands-clause-tried c =
-    let r = resolved_view c.args.context.now.lookup.now in
+    let r = resolved_view c.args.context.now.document.now in
     let s = c.args.context.now.setting.now in
     let k = dep_kind_info_view c.args.edge.now.info.now in
     let d = c.in-Some.ensures.first in
     let there = subst (HasStanding c.args.context.now c.args.edge.now.entry.now) c.in-Stands.is c.requires.standing in
-    kept_tried r s c.keep.new.found c.args.edge.now.entry.now k (TakenWhen c.args.trial.now.asked) c.in-Some.declared d.0 c.requires.lookup.distinct c.requires.entry d.1 there.0 c.in_ok-keep-in-Stands.ensures.kept
+    kept_tried r s c.keep.new.found c.args.edge.now.entry.now k (TakenWhen c.args.trial.now.asked) c.in-Some.declared d.0 c.agrees.ensures.distinct c.requires.entry d.1 there.0 c.in_ok-keep-in-Stands.ensures.kept
 
 pub returns-in_ok-keep-in-Stands-clause-whole : goal.returns-in_ok-keep-in-Stands-clause-whole
 returns-in_ok-keep-in-Stands-clause-whole c so =
-    let r = resolved_view c.args.context.now.lookup.now in
+    let r = resolved_view c.args.context.now.document.now in
     let s = c.args.context.now.setting.now in
     let k = dep_kind_info_view c.args.edge.now.info.now in
     let d = c.in-Some.ensures.first in
     let there = subst (HasStanding c.args.context.now c.args.edge.now.entry.now) c.in-Stands.is c.requires.standing in
-    kept_tried r s c.keep.new.found c.args.edge.now.entry.now k IsAny c.in-Some.declared d.0 c.requires.lookup.distinct c.requires.entry d.1 there.0 c.in_ok-keep-in-Stands.ensures.kept
+    kept_tried r s c.keep.new.found c.args.edge.now.entry.now k IsAny c.in-Some.declared d.0 c.agrees.ensures.distinct c.requires.entry d.1 there.0 c.in_ok-keep-in-Stands.ensures.kept

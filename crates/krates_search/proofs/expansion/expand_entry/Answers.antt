@@ -18,7 +18,7 @@ use Rattle.krates_search.proofs.TriedKinds.{kinds_in, kinds_more, kinds_whole}
 use Rattle.krates_search.proofs.expansion.expand_entry.Goals as goal
 
 pub loop-kind-init : goal.loop-kind-init
-loop-kind-init c = (advances_refl (resolved_view c.args.context.now.lookup.now) c.args.context.now.setting.now c.args.found.now c.requires.sound, λ k d lt. absurd (omega (arith, lt)), λ so k d lt. absurd (omega (arith, lt)))
+loop-kind-init c = (advances_refl (resolved_view c.args.context.now.document.now) c.args.context.now.setting.now c.args.found.now c.requires.sound, λ k d lt. absurd (omega (arith, lt)), λ so k d lt. absurd (omega (arith, lt)))
 
 -- the place that was taken
 kinds_there : (kinds items : List ℕ) (i : ℕ) → items ≡ kinds → i < length items → Contains kinds (get_or items i 0)
@@ -70,12 +70,12 @@ expand_edge-requires-clause-may c = c.requires.may (dep_kind_info_view c.info_at
 pub expand_edge-requires-clause-step : goal.expand_edge-requires-clause-step
 expand_edge-requires-clause-step c d wanted taken stands =
     let k = dep_kind_info_view c.info_at.result.now in
-    finds_more (resolved_view c.args.context.now.lookup.now) c.args.context.now.setting.now c.args.found.now.trace.items c.loop-kind.found.trace.items c.args.reason (Kept (edge_for c.args.entry.now k)) c.loop-kind.invariant.0.grows.steps
+    finds_more (resolved_view c.args.context.now.document.now) c.args.context.now.setting.now c.args.found.now.trace.items c.loop-kind.found.trace.items c.args.reason (Kept (edge_for c.args.entry.now k)) c.loop-kind.invariant.0.grows.steps
     (c.requires.step k d wanted taken stands)
 
 pub loop-kind-preserved : goal.loop-kind-preserved
 loop-kind-preserved c =
-    let r = resolved_view c.args.context.now.lookup.now in
+    let r = resolved_view c.args.context.now.document.now in
     let s = c.args.context.now.setting.now in
     let entry = c.args.entry.now in
     let x = c.loop-kind.found in
@@ -103,7 +103,7 @@ returns-then-not-whole-clause-advanced c = c.loop-kind.invariant.0
 
 pub returns-then-not-whole-clause-tried : goal.returns-then-not-whole-clause-tried
 returns-then-not-whole-clause-tried c =
-    let r = resolved_view c.args.context.now.lookup.now in
+    let r = resolved_view c.args.context.now.document.now in
     let s = c.args.context.now.setting.now in
     let entry = c.args.entry.now in
     let kinds = c.in_ok-kinds.kinds.items in
@@ -117,7 +117,7 @@ note_asked-requires c =
 
 pub returns-clause-advanced : goal.returns-clause-advanced
 returns-clause-advanced c =
-    let r = resolved_view c.args.context.now.lookup.now in
+    let r = resolved_view c.args.context.now.document.now in
     let s = c.args.context.now.setting.now in
     let entry = c.args.entry.now in
     let x = c.loop-kind.found in
@@ -127,11 +127,11 @@ returns-clause-advanced c =
     let first = same_infos c.as_slice-infos.result.now entry.dep.now.dep_kinds.items kinds c.as_slice-infos.ensures.value c.in_ok-kinds.ensures in
     let tried = kinds_whole r s x entry IsAny c.as_slice-kind-items.result.now kinds c.loop-kind.kind-index first c.as_slice-kind-items.ensures.value (omega arith) (inv.2 c.if-not-whole.false) in
     advances_trans r s c.args.found.now x (with_links x l) inv.0
-    (asked_advances r s x l entry.place entry.index inv.0.sound c.note_asked.ensures (noted_tried c.one_reading.ensures.once r s x entry c.requires.lookup.distinct c.requires.entry tried))
+    (asked_advances r s x l entry.place entry.index inv.0.sound c.note_asked.ensures (noted_tried c.one_reading.ensures.once r s x entry c.agrees.ensures.distinct c.requires.entry tried))
 
 pub returns-clause-tried : goal.returns-clause-tried
 returns-clause-tried c k among =
-    let r = resolved_view c.args.context.now.lookup.now in
+    let r = resolved_view c.args.context.now.document.now in
     let s = c.args.context.now.setting.now in
     let entry = c.args.entry.now in
     let kinds = c.in_ok-kinds.kinds.items in

@@ -7,7 +7,7 @@ use Rattle.krates_selection.proofs.ByNumber.{all_item, zip_more, zip_whole}
 use Rattle.krates_search.proofs.kept_edges.edge_copies.Goals as goal
 
 pub edge_copy-requires-clause-kept : goal.edge_copy-requires-clause-kept
-edge_copy-requires-clause-kept c = all_item (HasKeptNodes (resolved_view c.args.lookup.now) (kids_in c.args.numbers.now)) c.args.edges.now c.loop-edge.edge-index c.edge-item.result c.requires.kept c.loop-edge-test.true c.edge-item.is
+edge_copy-requires-clause-kept c = all_item (HasKeptNodes (resolved_view c.args.document.now) (kids_in c.args.numbers.now)) c.args.edges.now c.loop-edge.edge-index c.edge-item.result c.requires.kept c.loop-edge-test.true c.edge-item.is
 
 pub loop-edge-preserved : goal.loop-edge-preserved
 loop-edge-preserved c =

@@ -5,13 +5,13 @@ use Rattle.krates_search.specs.KeptNumbers.{kids_in}
 use Rattle.krates_rules.specs.Resolved.{id_of}
 use Rattle.krates_search.proofs.kept_edges.edge_copy.Goals as goal
 
-pub number_at-parent-requires-clause-kept : goal.number_at-parent-requires-clause-kept
-number_at-parent-requires-clause-kept c =
+pub kept_number-parent-requires-clause-kept : goal.kept_number-parent-requires-clause-kept
+kept_number-parent-requires-clause-kept c =
     let e = c.args.edge.now in
     record { krate = id_of e.parent.now; node = c.requires.kept.parent; kept = c.requires.kept.parent_kept }
 
-pub number_at-child-requires-clause-kept : goal.number_at-child-requires-clause-kept
-number_at-child-requires-clause-kept c =
+pub kept_number-child-requires-clause-kept : goal.kept_number-child-requires-clause-kept
+kept_number-child-requires-clause-kept c =
     let e = c.args.edge.now in
     record { krate = id_of e.child.now; node = c.requires.kept.child; kept = c.requires.kept.child_kept }
 
@@ -19,7 +19,7 @@ pub returns : goal.returns
 returns c =
     let e = c.args.edge.now in
     let kids = kids_in c.args.numbers.now in
-    let p : id_at kids c.number_at-parent.result ≡ id_of e.parent.now = c.number_at-parent.ensures.is (id_of e.parent.now) c.requires.kept.parent in
-    let q : id_at kids c.number_at-child.result ≡ id_of e.child.now = c.number_at-child.ensures.is (id_of e.child.now) c.requires.kept.child in
+    let p : id_at kids c.kept_number-parent.result ≡ id_of e.parent.now = c.kept_number-parent.ensures.is (id_of e.parent.now) c.requires.kept.parent in
+    let q : id_at kids c.kept_number-child.result ≡ id_of e.child.now = c.kept_number-child.ensures.is (id_of e.child.now) c.requires.kept.child in
     let cfg : option_map text_view c.in_ok-cfg.cfg ≡ option_map text_view e.info.now.target = search rules in
-    record { edge = rw (p, q, cfg) refl; ends = record { parent = c.number_at-parent.ensures.below; child = c.number_at-child.ensures.below }; place = refl; declared = refl }
+    record { edge = rw (p, q, cfg) refl; ends = record { parent = c.kept_number-parent.ensures.below; child = c.kept_number-child.ensures.below }; place = refl; declared = refl }

@@ -7,4 +7,4 @@ use Rattle.krates_search.proofs.kept_features.features_at.Given as goal
 
 -- the features have the numbers so far
 abbrev pub invariant-loop-number : goal.invariant-loop-number
-invariant-loop-number l = AllZip (IsFeatureOf (resolved_view l.lookup) (kids_in l.numbers)) (take l.number-index l.found) l.features.items
+invariant-loop-number l = AllZip (IsFeatureOf (resolved_view l.document) (kids_in l.numbers)) (take l.number-index l.found) l.features.items

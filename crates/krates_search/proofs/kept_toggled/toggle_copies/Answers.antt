@@ -7,7 +7,7 @@ use Rattle.krates_selection.proofs.ByNumber.{all_item, zip_more, zip_whole}
 use Rattle.krates_search.proofs.kept_toggled.toggle_copies.Goals as goal
 
 pub toggle_copy-requires-clause-kept : goal.toggle_copy-requires-clause-kept
-toggle_copy-requires-clause-kept c = all_item (HasKeptCrates (resolved_view c.args.lookup.now) (kids_in c.args.numbers.now)) c.args.toggled.now c.loop-toggle.toggle-index c.toggle-item.result c.requires.kept c.loop-toggle-test.true c.toggle-item.is
+toggle_copy-requires-clause-kept c = all_item (HasKeptCrates (resolved_view c.args.document.now) (kids_in c.args.numbers.now)) c.args.toggled.now c.loop-toggle.toggle-index c.toggle-item.result c.requires.kept c.loop-toggle-test.true c.toggle-item.is
 
 pub loop-toggle-preserved : goal.loop-toggle-preserved
 loop-toggle-preserved c =

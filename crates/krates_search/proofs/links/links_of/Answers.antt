@@ -16,15 +16,15 @@ loop-node-preserved c =
     let l = c.loop-node in
     let links = c.in_ok-links_of_node.field-0 in
     rw (c.in_ok-push.ensures.items, map-append)
-    (zip_next AreNewLinks node_view c.deref-node-items.result.now l.node-index c.node-item.result (map (λ (v : Vec Link). v.items) l.of_nodes.items) links.items (omega arith) c.node-item.is c.in_ok-links_of_node.ensures l.invariant)
+    (zip_next AreNewLinks node_view c.nodes-node-items.result.now l.node-index c.node-item.result (map (λ (v : Vec Link). v.items) l.of_nodes.items) links.items (omega arith) c.node-item.is c.in_ok-links_of_node.ensures l.invariant)
 
 pub returns-clause-has : goal.returns-clause-has
 returns-clause-has c =
     let rows = map (λ (v : Vec Link). v.items) c.loop-node.of_nodes.items in
-    let all = zip_all AreNewLinks node_view c.deref-node-items.result.now c.loop-node.node-index rows (omega arith) c.loop-node.invariant in
-    links_for_all (resolved_view c.args.lookup.now) _ (subst (λ (ns : List Node). AllZip AreNewLinks (map node_view ns) rows) c.deref-node-items.ensures.value all)
+    let all = zip_all AreNewLinks node_view c.nodes-node-items.result.now c.loop-node.node-index rows (omega arith) c.loop-node.invariant in
+    links_for_all (resolved_view c.args.document.now) _ (subst (λ (ns : List Node). AllZip AreNewLinks (map node_view ns) rows) c.nodes-node-items.ensures all)
 
 pub returns-clause-new : goal.returns-clause-new
 returns-clause-new c =
     let rows = map (λ (v : Vec Link). v.items) c.loop-node.of_nodes.items in
-    all_new (map node_view c.deref-node-items.result.now) _ (zip_all AreNewLinks node_view c.deref-node-items.result.now c.loop-node.node-index rows (omega arith) c.loop-node.invariant)
+    all_new (map node_view c.nodes-node-items.result.now) _ (zip_all AreNewLinks node_view c.nodes-node-items.result.now c.loop-node.node-index rows (omega arith) c.loop-node.invariant)

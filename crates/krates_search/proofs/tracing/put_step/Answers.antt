@@ -7,11 +7,11 @@ use Rattle.krates_search.proofs.tracing.put_step.Goals as goal
 pub returns-clause-advanced : goal.returns-clause-advanced
 returns-clause-advanced c =
     let may = c.requires.may in
-    step_advances c.one_reading.ensures.once (resolved_view c.args.context.now.lookup.now) c.args.context.now.setting.now c.args.found.now c.push.new.self c.args.step may.fact c.requires.sound c.in_ok-push.ensures.items may.names may.finds
+    step_advances c.one_reading.ensures.once (resolved_view c.args.context.now.document.now) c.args.context.now.setting.now c.args.found.now c.push.new.self c.args.step may.fact c.requires.sound c.in_ok-push.ensures.items may.names may.finds
 
 pub returns-clause-put : goal.returns-clause-put
 returns-clause-put c f names =
-    let r = resolved_view c.args.context.now.lookup.now in
+    let r = resolved_view c.args.context.now.document.now in
     let x = c.args.found.now in
     let v = c.push.new.self in
     subst (λ (n : ℕ). HasStep r v.items n f) (sym (c.len-number.ensures ∙ x.trace.ok.0)) (put_step_has r x.trace.items v c.args.step f c.in_ok-push.ensures.items names)

@@ -29,66 +29,66 @@ pub keys_of-requires-clause-tables : goal.keys_of-requires-clause-tables
 keys_of-requires-clause-tables c =
     let kids = c.args.krates.now in
     let numbers = c.in_ok-krate_numbers.krate_numbers.items in
-    let among = subst (λ (ids : List Identity). AreNumbersOf (map id_of kids) ids numbers) c.deref.ensures.value c.in_ok-krate_numbers.ensures in
+    let among = subst (λ (ids : List Identity). AreNumbersOf (map id_of kids) ids numbers) c.crate_ids.ensures c.in_ok-krate_numbers.ensures in
     record {
-      lookup = c.requires.lookup;
+      lookup = c.agrees.ensures;
       ascending = sorted_same id_cmp id_order id_of (λ a b. refl) kids c.requires.ascending;
-      numbers = subst (AreNumbersOf (map id_of kids) c.args.context.now.lookup.now.table.ids.items) (sym c.deref-2.ensures.value) among;
+      numbers = subst (AreNumbersOf (map id_of kids) c.args.context.now.document.now.table.ids.items) (sym c.deref.ensures.value) among;
     }
 
 pub keys_of-requires-clause-kept : goal.keys_of-requires-clause-kept
 keys_of-requires-clause-kept c =
-    let t : KeptTables = record { lookup = c.args.context.now.lookup; krates = c.args.krates; numbers = c.deref-2.result } in
+    let t : KeptTables = record { document = c.args.context.now.document; krates = c.args.krates; numbers = c.deref.result } in
     kept_facts t c.args.context.now.setting.now c.args.steps.now c.requires.trace c.requires.crates
 
-pub numbers_of-requires-2 : goal.numbers_of-requires-2
-numbers_of-requires-2 c =
+pub fact_numbers-requires : goal.fact_numbers-requires
+fact_numbers-requires c =
     let steps = c.args.steps.now in
-    let t : KeptTables = record { lookup = c.args.context.now.lookup; krates = c.args.krates; numbers = c.deref-2.result } in
+    let t : KeptTables = record { document = c.args.context.now.document; krates = c.args.krates; numbers = c.deref.result } in
     let low = homes_low t (numbered_facts steps) c.in_ok-keys.keys.items c.in_ok-keys.ensures in
-    subst (λ (ks : List KeptFactKey). All (λ f. home f < length c.args.krates.now) (map key_view ks)) (sym c.deref-3.ensures.value) low
+    subst (λ (ks : List KeptFactKey). All (λ f. home f < length c.args.krates.now) (map key_view ks)) (sym c.deref-2.ensures.value) low
 
 pub first_steps-requires-clause-backward : goal.first_steps-requires-clause-backward
 first_steps-requires-clause-backward c =
     let steps = c.args.steps.now in
-    let same : c.deref-4.result.now ≡ uses_of steps = c.deref-4.ensures.value ∙ c.in_ok-uses.ensures in
+    let same : c.deref-3.result.now ≡ uses_of steps = c.deref-3.ensures.value ∙ c.in_ok-uses.ensures in
     subst AreBackward (sym same) (follow_backward (rules_of c.args.context.now) c.requires.trace.steps (uses_of steps) (shown_uses (document_of c.args.context.now) steps c.requires.trace.steps c.requires.trace.shown) c.requires.trace.follows)
 
 pub first_steps-requires-clause-long : goal.first_steps-requires-clause-long
 first_steps-requires-clause-long c =
     let steps = c.args.steps.now in
-    let t : KeptTables = record { lookup = c.args.context.now.lookup; krates = c.args.krates; numbers = c.deref-2.result } in
-    let same : c.deref-4.result.now ≡ uses_of steps = c.deref-4.ensures.value ∙ c.in_ok-uses.ensures in
+    let t : KeptTables = record { document = c.args.context.now.document; krates = c.args.krates; numbers = c.deref.result } in
+    let same : c.deref-3.result.now ≡ uses_of steps = c.deref-3.ensures.value ∙ c.in_ok-uses.ensures in
     let keys = zip_long (IsKeyOf t) (numbered_facts steps) c.in_ok-keys.keys.items c.in_ok-keys.ensures in
-    ap length c.deref-5.ensures.value ∙ c.in_ok-numbers.ensures.long ∙ length-map c.deref-3.result.now key_view ∙ ap length c.deref-3.ensures.value ∙ keys ∙ length-map steps (λ (x : NumberedStep). x.fact)
+    ap length c.deref-4.ensures.value ∙ c.in_ok-numbers.ensures.long ∙ length-map c.deref-2.result.now key_view ∙ ap length c.deref-2.ensures.value ∙ keys ∙ length-map steps (λ (x : NumberedStep). x.fact)
     ∙ sym (ap length same ∙ length-map steps (λ (x : NumberedStep). x.reason.uses))
 
 pub chosen-requires-clause-long : goal.chosen-requires-clause-long
 chosen-requires-clause-long c =
     let steps = c.args.steps.now in
-    let t : KeptTables = record { lookup = c.args.context.now.lookup; krates = c.args.krates; numbers = c.deref-2.result } in
+    let t : KeptTables = record { document = c.args.context.now.document; krates = c.args.krates; numbers = c.deref.result } in
     let keys = zip_long (IsKeyOf t) (numbered_facts steps) c.in_ok-keys.keys.items c.in_ok-keys.ensures in
-    ap length c.deref-6.ensures.value ∙ keys ∙ length-map steps (λ (x : NumberedStep). x.fact)
+    ap length c.deref-5.ensures.value ∙ keys ∙ length-map steps (λ (x : NumberedStep). x.fact)
 
 pub chosen-requires-clause-within : goal.chosen-requires-clause-within
 chosen-requires-clause-within c =
     let steps = c.args.steps.now in
-    let same : c.deref-4.result.now ≡ uses_of steps = c.deref-4.ensures.value ∙ c.in_ok-uses.ensures in
-    let long : length c.deref-4.result.now ≡ length steps = ap length same ∙ length-map steps (λ (x : NumberedStep). x.reason.uses) in
-    subst (λ m. All (λ n. n < m) c.in_ok-part.part.chosen.items) long (chosen_low (SameFact c.deref-5.result.now) c.deref-4.result.now c.in_ok-part.part.uses.items c.in_ok-part.part.chosen.items c.in_ok-part.ensures.part)
+    let same : c.deref-3.result.now ≡ uses_of steps = c.deref-3.ensures.value ∙ c.in_ok-uses.ensures in
+    let long : length c.deref-3.result.now ≡ length steps = ap length same ∙ length-map steps (λ (x : NumberedStep). x.reason.uses) in
+    subst (λ m. All (λ n. n < m) c.in_ok-part.part.chosen.items) long (chosen_low (SameFact c.deref-4.result.now) c.deref-3.result.now c.in_ok-part.part.uses.items c.in_ok-part.part.chosen.items c.in_ok-part.ensures.part)
 
 pub returns : goal.returns
 returns c =
     let b = c.args.context.now in
     let steps = c.args.steps.now in
-    let t : KeptTables = record { lookup = b.lookup; krates = c.args.krates; numbers = c.deref-2.result } in
+    let t : KeptTables = record { document = b.document; krates = c.args.krates; numbers = c.deref.result } in
     let chosen = c.in_ok-part.part.chosen.items in
     let part = c.in_ok-part.part.uses.items in
-    let keys = c.deref-6.result.now in
-    let keyed = subst (λ (ks : List KeptFactKey). AllZip (IsKeyOf t) (numbered_facts steps) ks) (sym c.deref-6.ensures.value) c.in_ok-keys.ensures in
-    let first : c.deref-3.result.now ≡ keys = c.deref-3.ensures.value ∙ sym c.deref-6.ensures.value in
-    let counted = subst (λ (ns : List ℕ). AreFactNumbers (map key_view keys) ns) (sym c.deref-5.ensures.value) (subst (λ (ks : List KeptFactKey). AreFactNumbers (map key_view ks) c.in_ok-numbers.numbers.items) first c.in_ok-numbers.ensures) in
-    let same : c.deref-4.result.now ≡ uses_of steps = c.deref-4.ensures.value ∙ c.in_ok-uses.ensures in
+    let keys = c.deref-5.result.now in
+    let keyed = subst (λ (ks : List KeptFactKey). AllZip (IsKeyOf t) (numbered_facts steps) ks) (sym c.deref-5.ensures.value) c.in_ok-keys.ensures in
+    let first : c.deref-2.result.now ≡ keys = c.deref-2.ensures.value ∙ sym c.deref-5.ensures.value in
+    let counted = subst (λ (ns : List ℕ). AreFactNumbers (map key_view keys) ns) (sym c.deref-4.ensures.value) (subst (λ (ks : List KeptFactKey). AreFactNumbers (map key_view ks) c.in_ok-numbers.numbers.items) first c.in_ok-numbers.ensures) in
+    let same : c.deref-3.result.now ≡ uses_of steps = c.deref-3.ensures.value ∙ c.in_ok-uses.ensures in
     IfOk-weaker c.chosen.result (λ (kept : Vec KeptStep). AreChosen keys steps chosen part kept.items) (λ (kept : Vec KeptStep). AreStepsOf (document_of b) b.setting.now c.args.krates.now steps kept.items)
-    (λ kept made. steps_are c.comparison.ensures.order t b.setting.now steps keys c.requires.ascending c.requires.trace keyed c.one_reading.ensures.once c.firsts.ensures.follow c.firsts.ensures.own c.deref-5.result.now c.deref-4.result.now part chosen kept.items
+    (λ kept made. steps_are c.comparison.ensures.order t b.setting.now steps keys c.requires.ascending c.requires.trace keyed c.one_reading.ensures.once c.firsts.ensures.follow c.firsts.ensures.own c.deref-4.result.now c.deref-3.result.now part chosen kept.items
     counted same c.in_ok-part.ensures.part c.in_ok-part.ensures.own c.in_ok-part.ensures.each made) c.chosen.ensures

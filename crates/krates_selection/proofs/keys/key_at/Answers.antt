@@ -8,7 +8,7 @@ pub returns-in-Feature : goal.returns-in-Feature
 returns-in-Feature c = rw c.in-Feature.is (key_feature c.args.tables.now c.in-Feature.number c.feature_at.result c.feature_at.ensures)
 
 pub returns-in-Kept : goal.returns-in-Kept
-returns-in-Kept c = rw c.in-Kept.is (key_kept c.args.tables.now c.in-Kept.place c.in-Kept.index c.in-Kept.kind c.edge_at.result c.edge_at.ensures)
+returns-in-Kept c = rw c.in-Kept.is (key_kept c.args.tables.now c.in-Kept.place c.in-Kept.index c.in-Kept.kind c.kept_edge_key.result c.kept_edge_key.ensures)
 
 pub returns-in-Toggled : goal.returns-in-Toggled
 returns-in-Toggled c = rw c.in-Toggled.is (key_toggled c.args.tables.now c.in-Toggled.place c.in-Toggled.number c.crate_at-in-Toggled.result c.feature_at-in-Toggled.result c.crate_at-in-Toggled.ensures c.feature_at-in-Toggled.ensures)

@@ -12,16 +12,16 @@ pub returns : goal.returns
 returns g c =
     let graph = c.graph-graph.result.now in
     let sources = c.ordered-sources.result.items in
-    let numbers = c.in_order-numbers.result.items in
+    let numbers = c.sorted_once-numbers.result.items in
     let led : c.in_ok-sources_of.field-0.items ≡ sources_into graph.nodes graph.edges c.args.node = c.in_ok-sources_of.ensures in
-    let of : c.in_ok-numbers_of.field-0.items ≡ map (λ (n : Neighbour). n.krate) sources = c.in_ok-numbers_of.ensures ∙ ap (map (λ (n : Neighbour). n.krate)) c.deref.ensures.value in
+    let of : c.in_ok-neighbour_numbers.field-0.items ≡ map (λ (n : Neighbour). n.krate) sources = c.in_ok-neighbour_numbers.ensures ∙ ap (map (λ (n : Neighbour). n.krate)) c.deref.ensures.value in
     let are = are_dependents graph.nodes graph.edges c.args.node sources numbers c.graph-graph.ensures.connected c.ordered-sources.ensures.ordered
-    (λ x. subst (λ (xs : List Neighbour). Contains sources x ↔ Contains xs x) led (c.ordered-sources.ensures.same x)) c.in_order-numbers.ensures.ascending
-    (λ n. subst (λ (ns : List ℕ). Contains numbers n ↔ Contains ns n) of (c.in_order-numbers.ensures.same n)) in
+    (λ x. subst (λ (xs : List Neighbour). Contains sources x ↔ Contains xs x) led (c.ordered-sources.ensures.same x)) c.sorted_once-numbers.ensures.ascending
+    (λ n. subst (λ (ns : List ℕ). Contains numbers n ↔ Contains ns n) of (c.sorted_once-numbers.ensures.same n)) in
     let seen = ap (λ (ns : List (Node g.row.N.Denot)). joined_all (id_and_value_at ns) (first_edge c.deref-2.result.now) c.deref-3.result.now) c.raw_nodes.ensures.nodes
     ∙ ap (λ (xs : List Neighbour). joined_all (id_and_value_at graph.nodes) (first_edge xs) c.deref-3.result.now) c.deref-2.ensures.value
     ∙ ap (joined_all (id_and_value_at graph.nodes) (first_edge sources)) c.deref-3.ensures.value in
     rw (← c.graph-graph.ensures.graph)
-    (IfOk-weaker c.joined.result _ _
+    (IfOk-weaker c.joined_krates.result _ _
     (λ found e. subst (λ (js : List (Joined g.row.N.Denot)). AreDependents graph.nodes graph.edges c.args.node js) (sym (e ∙ seen)) are)
-    c.joined.ensures)
+    c.joined_krates.ensures)

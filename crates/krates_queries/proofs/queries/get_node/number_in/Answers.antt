@@ -4,10 +4,10 @@ use Rattle.krates_queries.proofs.queries.get_node.number_in.Goals as goal
 
 pub returns-in-Some : goal.returns-in-Some
 returns-in-Some g c n = (
-  λ e. record { number = c.in-Some.krate; stands = (c.in-Some.ensures c.in-Some.krate).0 refl; is = (c.number_at.ensures n).0 e },
+  λ e. record { number = c.in-Some.krate; stands = (c.in-Some.ensures c.in-Some.krate).0 refl; is = (c.crate_or_feature_number.ensures n).0 e },
   λ h.
       (let same : c.in-Some.krate ≡ h.number = cc ((c.in-Some.ensures h.number).1 h.stands) in
-      (c.number_at.ensures n).1 (subst (λ (k : ℕ). IsNumberIn c.args.nodes.now k (option_map (λ name. name.now) c.args.feature) n) (sym same) h.is)),
+      (c.crate_or_feature_number.ensures n).1 (subst (λ (k : ℕ). IsNumberIn c.args.nodes.now k (option_map (λ name. name.now) c.args.feature) n) (sym same) h.is)),
 )
 
 pub returns-in-None : goal.returns-in-None

@@ -10,4 +10,4 @@ as_nodes-requires c =
 pub returns-clause-same : goal.returns-clause-same
 returns-clause-same c n =
     let put : c.in_ok-as_nodes.field-0.items ≡ c.args.agenda.now.put = c.in_ok-as_nodes.ensures ∙ c.numbers.ensures.put in
-    subst (λ (ns : List ℕ). Contains c.in_order.result.items n ↔ Contains ns n) put (c.in_order.ensures.same n)
+    subst (λ (ns : List ℕ). Contains c.sorted_once.result.items n ↔ Contains ns n) put (c.sorted_once.ensures.same n)

@@ -1,0 +1,142 @@
+//! Which kept crates depend directly on which, as lists of numbers.
+
+ghost use Rattle.std.specs.Prelude.{◌≡◌, ◌↔◌, ◌<◌, ◌^◌, [], All, IfOk, IfSome, IsTrue, OnOk, length, option_map, replicate, slice_get};
+ghost use Rattle.std.specs.List.Sorted.{IsStrictlyIncreasing};
+ghost use Rattle.krates_queries.specs.DirectDependents.{IsDependent};
+ghost use Rattle.krates_queries.specs.Kept.{ids_of};
+ghost use Rattle.krates_answers.specs.DirectLinks.{AreExactly, AreInside, AreLinks, ArePushed, IsListed, IsNeededBy, Needs, items_of};
+
+use krates::{Krates, NodeId};
+use std::alloc::{AllocError, Global};
+use std::marker::Model;
+
+/// For each kept crate, by its number, the numbers of those to which it leads, ascending.
+#[derive(Debug, Drop)]
+pub struct DirectLinks {
+    lists: Vec<Vec<NodeId>>,
+}
+
+impl Model for DirectLinks {
+    ghost use Rattle.std.specs.Prelude.{ℕ, List};
+    ghost use Rattle.krates_answers.specs.DirectLinks.{AreStored, items_of};
+
+    ghost Value = { List (List ℕ) };
+
+    ghost view = { λ links. items_of links.lists.items };
+
+    ghost invariant = { λ links. AreStored (items_of links.lists.items) };
+}
+
+impl DirectLinks {
+    /// For each kept crate those that depend on it directly, as `direct_dependents` tells them. The only refusal is running out
+    /// of memory. Time: O(n + e log e) for n crates and e edges of the graph.
+    pub fn dependents<N, E>(alloc: Global, krates: &Krates<N, E>) -> Result<DirectLinks, AllocError>
+        ensures { IfOk result (AreLinks (length (ids_of krates.now)) (IsNeededBy krates.now)) }
+    {
+        let mut lists = Vec::new(alloc);
+        for found in krates.krate_nodes() {
+            lists.push(dependents_of(alloc, krates, found.node_id)?)?;
+        }
+        Ok(DirectLinks { lists })
+    }
+
+    /// For each kept crate those on which it depends directly: those among whose `direct_dependents` it is. It has the
+    /// crates that `direct_dependencies` lacks, where one declared dependency brings two. The only refusal is running out of
+    /// memory. Time: O(n + e log e) for n crates and e edges of the graph.
+    pub fn dependencies<N, E>(
+        alloc: Global,
+        krates: &Krates<N, E>,
+    ) -> Result<DirectLinks, AllocError>
+        ensures { IfOk result (AreLinks (length (ids_of krates.now)) (Needs krates.now)) }
+    {
+        DirectLinks::dependents(alloc, krates)?.reversed(alloc)
+    }
+
+    /// How many crates there are: at most 4,294,967,295. Time O(1).
+    pub fn len(&self) -> usize
+        ensures count { result ≡ length self.now }
+        ensures numbered { result < 2 ^ 32 }
+        ensures inside { AreInside self.now }
+        ensures ascending { All IsStrictlyIncreasing self.now }
+    {
+        self.lists.len()
+    }
+
+    /// To which crates the one of a number leads, ascending; `None` for a number that no crate has. Time O(1).
+    pub fn of(&self, number: NodeId) -> Option<&[NodeId]>
+        ensures list { option_map (λ list. list.now) result ≡ slice_get self.now number }
+        ensures ascending { IfSome result (λ list. IsStrictlyIncreasing list.now) }
+        ensures below { IfSome result (λ list. All (λ n. n < length self.now) list.now) }
+    {
+        match self.lists.get(number.index()) {
+            Some(list) => Some(list.as_slice()),
+            None => None,
+        }
+    }
+
+    /// Whether a crate leads to another. Takes no memory. Time O(log n) for n crates to which the first leads.
+    pub fn leads(&self, from: NodeId, to: NodeId) -> bool
+        ensures { IsTrue result ↔ IsListed self.now from to }
+    {
+        match self.of(from) {
+            Some(list) => list.binary_search(&to).is_ok(),
+            None => false,
+        }
+    }
+
+    /// The list of each crate, by number.
+    pub(crate) fn into_lists(self) -> Vec<Vec<NodeId>>
+        ensures { items_of result.items ≡ self }
+    {
+        self.lists
+    }
+
+    /// The same the other way round.
+    fn reversed(&self, alloc: Global) -> Result<DirectLinks, AllocError>
+        ensures { IfOk result (AreLinks (length self.now) (λ a b. IsListed self.now b a)) }
+    {
+        let mut lists = empty_lists(alloc, self.lists.len())?;
+        for (number, list) in self.lists.iter().enumerate() {
+            push_to_each(&mut lists, list, NodeId::new(number as u32))?;
+        }
+        Ok(DirectLinks { lists })
+    }
+}
+
+/// The numbers of the crates that depend directly on the one of this number.
+fn dependents_of<N, E>(
+    alloc: Global,
+    krates: &Krates<N, E>,
+    number: NodeId,
+) -> Result<Vec<NodeId>, AllocError>
+    ensures { IfOk result (λ numbers. AreExactly
+        (IsDependent krates.now.graph.nodes krates.now.graph.edges number) numbers.items) }
+{
+    let found = krates.direct_dependents(number)?;
+    found
+        .iter()
+        .map(|dependent| dependent.node_id)
+        .collect(alloc)
+}
+
+/// This many lists without an item.
+fn empty_lists(alloc: Global, count: usize) -> Result<Vec<Vec<NodeId>>, AllocError>
+    ensures { IfOk result (λ lists. items_of lists.items ≡ replicate count []) }
+{
+    let mut lists = Vec::with_capacity(alloc, count)?;
+    for _list in 0..count {
+        lists.push(Vec::new(alloc))?;
+    }
+    Ok(lists)
+}
+
+/// Adds a number to each of the lists that have these numbers.
+fn push_to_each(lists: &mut [Vec<NodeId>], to: &[NodeId], number: NodeId) -> Result<(), AllocError>
+    requires { All (λ place. place < length lists.old) to.now }
+    ensures { OnOk result (ArePushed number to.now (items_of lists.old) (items_of lists.new)) }
+{
+    for place in to {
+        lists[place.index()].push(number)?;
+    }
+    Ok(())
+}

@@ -1,0 +1,237 @@
+//! The outline of a selection, gathered: beside what it keeps, what the document says.
+
+ghost use Rattle.std.specs.Prelude.{◌≡◌, Some, map, length, slice_get, option_map, zip, IfOk};
+ghost use Rattle.std.specs.List.{AllZip};
+ghost use Rattle.krates_cm.specs.Document.{dependency_view, package_view, text_view, texts_view};
+ghost use Rattle.krates_rules.specs.Admission.{NoneDoubled};
+ghost use Rattle.krates_questions.specs.Lookup.{resolved_view};
+ghost use Rattle.krates_selection.specs.Selection.{IsSelection};
+ghost use Rattle.krates_drawing.specs.Outline.{IsOutline};
+ghost use Rattle.krates_drawing.specs.Gathered.{MeaningsRecorded, count_in, dependency_in, given_in, values_in};
+ghost use Rattle.krates_drawing.specs.CrateRecord.{package_at as package_recorded};
+ghost use Rattle.krates_drawing.specs.Views.{meaning_view, meanings_view, outline_view};
+
+use crate::crate_record::{CrateRecord, node_at, package_at, records_of};
+use crate::meanings::{given_of, meanings_of};
+use crate::outline::{CrateRow, EdgeRow, FeatureRow, Meaning, Outline};
+use krates_cm::{Dependency, Package};
+use krates_document::Setting;
+use krates_ids::Kid;
+use krates_questions::Document;
+use krates_selection::{EnabledFeature, KeptEdge, Selection};
+use std::alloc::{AllocError, Global};
+
+/// How many dependencies the package of a crate declares; none where it has no package.
+///
+/// Time: O(1).
+pub fn count_of(krate: &CrateRecord<'_, '_>) -> usize
+    ensures { result ≡ count_in krate.now }
+{
+    match krate.pkg {
+        Some(pkg) => pkg.dependencies.len(),
+        None => 0,
+    }
+}
+
+/// The features that a kept edge gives; none where its declared dependency or its child's node isn't there. The only error is
+/// running out of memory.
+///
+/// Time: O((a + f) log f) for a features that are asked for, and f that the node lists.
+pub fn given_by(
+    alloc: Global,
+    records: &[CrateRecord<'_, '_>],
+    edge: &KeptEdge,
+) -> Result<Vec<String>, AllocError>
+    ensures { IfOk result (λ given. map text_view given.items ≡ given_in records.now edge.now) }
+{
+    let Some(dependency) = dependency_of(records, edge) else {
+        return Ok(Vec::new(alloc));
+    };
+    match node_at(records, edge.child) {
+        Some(node) => given_of(alloc, dependency, node),
+        None => Ok(Vec::new(alloc)),
+    }
+}
+
+/// The declared dependency of an edge.
+fn dependency_of<'a>(records: &[CrateRecord<'_, 'a>], edge: &KeptEdge) -> Option<&'a Dependency>
+    ensures { option_map (λ d. dependency_view d.now) result ≡ dependency_in (package_recorded records.now
+        edge.now.parent) edge.now.declared }
+{
+    match package_at(records, edge.parent) {
+        Some(pkg) => pkg.dependencies.get(edge.declared),
+        None => None,
+    }
+}
+
+/// The references of a feature, as a package has them, in its order; none where it lacks the feature.
+fn values_of<'a>(pkg: &'a Package, name: &str) -> &'a [String]
+    ensures { map text_view result.now ≡ values_in (Some (package_view pkg.now)) name.now }
+{
+    match pkg.features.get(name) {
+        Some(values) => values,
+        None => &[],
+    }
+}
+
+/// What the references of an enabled feature name. The only error is running out of memory.
+///
+/// Time: O(log n) for n crates and dependencies, for each reference and each crate that it names.
+pub fn meanings_by<'a>(
+    alloc: Global,
+    document: &Document<'a>,
+    setting: &Setting,
+    records: &[CrateRecord<'_, 'a>],
+    feature: &EnabledFeature,
+) -> Result<Vec<Meaning>, AllocError>
+    ensures { let all = setting.now.all_named in
+        IfOk result (λ meanings. MeaningsRecorded (resolved_view document.now) all records.now feature.now
+        (map meaning_view meanings.items)) }
+{
+    let Some(krate) = records.get(feature.krate) else {
+        return Ok(Vec::new(alloc));
+    };
+    match krate.pkg {
+        Some(pkg) => meanings_of(
+            alloc,
+            document,
+            setting,
+            krate.krate,
+            values_of(pkg, feature.name.as_str()),
+        ),
+        None => Ok(Vec::new(alloc)),
+    }
+}
+
+/// How many dependencies the packages of the crates declare.
+fn counts_of(alloc: Global, records: &[CrateRecord<'_, '_>]) -> Result<Vec<usize>, AllocError>
+    ensures { IfOk result (λ counts. counts.items ≡ map count_in records.now) }
+{
+    let mut counts = Vec::with_capacity(alloc, records.len())?;
+    for krate in records {
+        counts.push(count_of(krate))?;
+    }
+    Ok(counts)
+}
+
+/// The features that the edges give.
+fn givens_of(
+    alloc: Global,
+    records: &[CrateRecord<'_, '_>],
+    edges: &[KeptEdge],
+) -> Result<Vec<Vec<String>>, AllocError>
+    ensures { IfOk result (λ givens. map texts_view givens.items ≡ map (given_in records.now) edges.now) }
+{
+    let mut givens = Vec::with_capacity(alloc, edges.len())?;
+    for edge in edges {
+        givens.push(given_by(alloc, records, edge)?)?;
+    }
+    Ok(givens)
+}
+
+/// What the references of the features name.
+fn reference_meanings<'a>(
+    alloc: Global,
+    document: &Document<'a>,
+    setting: &Setting,
+    records: &[CrateRecord<'_, 'a>],
+    features: &[EnabledFeature],
+) -> Result<Vec<Vec<Meaning>>, AllocError>
+    ensures { let all = setting.now.all_named in
+        IfOk result (λ names. AllZip (MeaningsRecorded (resolved_view document.now) all records.now)
+        features.now (map meanings_view names.items)) }
+{
+    let mut names = Vec::with_capacity(alloc, features.len())?;
+    for feature in features {
+        names.push(meanings_by(alloc, document, setting, records, feature)?)?;
+    }
+    Ok(names)
+}
+
+/// Each crate with the number at its place.
+fn krates_with(
+    alloc: Global,
+    krates: Vec<Kid>,
+    counts: Vec<usize>,
+) -> Result<Vec<CrateRow>, AllocError>
+    ensures { IfOk result (λ v. v.items ≡ map (λ pair. record { id = pair.0; declared = pair.1 })
+        (zip krates.items counts.items)) }
+{
+    krates
+        .into_iter()
+        .zip(counts)
+        .map(|(id, declared)| CrateRow { id, declared })
+        .collect(alloc)
+}
+
+/// Each edge with the features at its place.
+fn links_with(
+    alloc: Global,
+    edges: Vec<KeptEdge>,
+    givens: Vec<Vec<String>>,
+) -> Result<Vec<EdgeRow>, AllocError>
+    ensures { IfOk result (λ v. v.items ≡ map (λ pair. record { edge = pair.0; given = pair.1 })
+        (zip edges.items givens.items)) }
+{
+    edges
+        .into_iter()
+        .zip(givens)
+        .map(|(edge, given)| EdgeRow { edge, given })
+        .collect(alloc)
+}
+
+/// Each feature with the meanings at its place.
+fn features_with(
+    alloc: Global,
+    features: Vec<EnabledFeature>,
+    names: Vec<Vec<Meaning>>,
+) -> Result<Vec<FeatureRow>, AllocError>
+    ensures { IfOk result (λ v. v.items ≡ map (λ pair. record { feature = pair.0; meanings = pair.1 })
+        (zip features.items names.items)) }
+{
+    features
+        .into_iter()
+        .zip(names)
+        .map(|(feature, meanings)| FeatureRow { feature, meanings })
+        .collect(alloc)
+}
+
+/// The outline of a selection under a setting: beside each crate, edge and feature what the document says of it.
+///
+/// The only error is running out of memory. Time: O(n log n) for n crates, edges, features and references.
+pub fn outline_of<'a>(
+    alloc: Global,
+    document: &Document<'a>,
+    setting: &Setting,
+    selection: Selection,
+) -> Result<Outline, AllocError>
+    requires distinct { NoneDoubled (resolved_view document.now).metadata (resolved_view document.now).graph }
+    requires selected { IsSelection (resolved_view document.now) setting.now selection }
+    ensures { IfOk result (λ outline. IsOutline (resolved_view document.now) setting.now selection
+        (outline_view outline)) }
+{
+    let Selection {
+        krates,
+        edges,
+        features,
+        toggled,
+        steps,
+        work: _,
+    } = selection;
+    // what is made next takes their room
+    drop(steps);
+    let records = records_of(alloc, document, &krates)?;
+    let counts = counts_of(alloc, &records)?;
+    let givens = givens_of(alloc, &records, &edges)?;
+    let names = reference_meanings(alloc, document, setting, &records, &features)?;
+    drop(records);
+    let krates = krates_with(alloc, krates, counts)?;
+    let links = links_with(alloc, edges, givens)?;
+    let features = features_with(alloc, features, names)?;
+    Ok(Outline {
+        krates,
+        links,
+        features,
+        toggled,
+    })
+}

@@ -1,4 +1,0 @@
-use Rattle.krates_questions.proofs.crate_questions.lists_in.Goals as goal
-
-pub returns-in-None : goal.returns-in-None
-returns-in-None c = (λ t. absurd cc, λ l. absurd (c.in-None.ensures l.node l.has_node))

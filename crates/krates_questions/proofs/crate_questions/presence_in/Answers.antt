@@ -1,7 +1,0 @@
-use Rattle.krates_questions.specs.Lookup.{resolved_view}
-use Rattle.krates_rules.specs.Resolved.{id_of}
-use Rattle.krates_questions.proofs.Needs.{presence_told}
-use Rattle.krates_questions.proofs.crate_questions.presence_in.Goals as goal
-
-pub returns-in-Excluded : goal.returns-in-Excluded
-returns-in-Excluded c = presence_told (resolved_view c.args.lookup.now) c.args.setting.now (id_of c.args.krate.now) c.requires.distinct c.in-Excluded.ensures

@@ -1,8 +1,0 @@
-use Rattle.krates_rules.specs.Resolved.{id_of}
-use Rattle.krates_questions.proofs.lookup.node_place.Goals as goal
-
-pub node_place_at-requires-clause-number : goal.node_place_at-requires-clause-number
-node_place_at-requires-clause-number c = (id_of c.args.id.now, c.crate_number.ensures)
-
-pub returns : goal.returns
-returns c = c.node_place_at.ensures (id_of c.args.id.now) c.crate_number.ensures

@@ -1,0 +1,61 @@
+use Rattle.std.proofs.Common.{List, [], ◌++◌, sym, subst}
+use Rattle.krates_document.specs.Ids.{ids_view}
+use Rattle.krates_document.specs.NamedPlaces.{AreInOrder, StandsUnder, no_target, places_in}
+use Rattle.krates_document.specs.declared.named_places.NamedPlace.{NamedPlace}
+use Rattle.krates_questions.specs.Lookup.{resolved_view}
+use Rattle.krates_questions.specs.NameIndex.{AreDepsOf}
+use Rattle.krates_rules.specs.Admission.{AreDepIds}
+use Rattle.krates_rules.proofs.Readings.{right_of}
+use Rattle.krates_questions.proofs.ListPlaces.{names_at, names_within}
+use Rattle.krates_questions.proofs.RenamedPlaces.{renamed_at, renamed_within}
+use Rattle.krates_questions.proofs.AllReferents.{if_ok_three, none_found, same_place, sorted_in}
+use Rattle.krates_questions.proofs.LeastReferents.{AreLookedAt, answers_among}
+use Rattle.krates_questions.proofs.questions.Document.all_referents.Goals as goal
+
+pub index-requires : goal.index-requires
+index-requires c =
+    let d = c.self.inside.lookup in
+    let p = (rw (← c.self.view_is) at c.requires.parts) in
+    names_within AreDepsOf (resolved_view d).graph.nodes d.names.deps c.args.parts.now.place p.at.node c.self.invariant.names.deps p.at.at
+
+pub places_under-own-requires : goal.places_under-own-requires
+places_under-own-requires c =
+    let d = c.self.inside.lookup in
+    let p = (rw (← c.self.view_is) at c.requires.parts) in
+    let own = names_at AreDepsOf (resolved_view d).graph.nodes d.names.deps c.args.parts.now.place p.at.node c.index.result.now c.self.invariant.names.deps p.at.at c.index.ensures in
+    subst AreInOrder (sym c.deref.ensures.value) own.sorted
+
+pub index-requires-2 : goal.index-requires-2
+index-requires-2 c =
+    let d = c.self.inside.lookup in
+    let p = (rw (← c.self.view_is) at c.requires.parts) in
+    let kids = right_of AreDepIds (resolved_view d).graph.nodes (ids_view d.ids.now).deps c.args.parts.now.place p.at.node c.self.invariant.ids.deps p.at.at in
+    renamed_within d c.args.parts.now.place p.at.node kids.0 c.self.invariant p.at.at kids.1
+
+pub places_under-of_package-requires : goal.places_under-of_package-requires
+places_under-of_package-requires c =
+    let d = c.self.inside.lookup in
+    let p = (rw (← c.self.view_is) at c.requires.parts) in
+    let kids = right_of AreDepIds (resolved_view d).graph.nodes (ids_view d.ids.now).deps c.args.parts.now.place p.at.node c.self.invariant.ids.deps p.at.at in
+    let children = renamed_at c.one_reading.ensures.once d c.args.parts.now.place p.at.node kids.0 c.index-2.result.now c.self.invariant p.at.at kids.1 c.index-2.ensures in
+    subst AreInOrder (sym c.deref-2.ensures.value) children.sorted
+
+pub returns : goal.returns
+returns c =
+    rw (← c.self.view_is) (let d = c.self.inside.lookup in
+    let r = resolved_view d in
+    let parts = c.args.parts.now in
+    let name = c.args.name.now in
+    let p = (rw (← c.self.view_is) at c.requires.parts) in
+    let own = names_at AreDepsOf r.graph.nodes d.names.deps parts.place p.at.node c.index.result.now c.self.invariant.names.deps p.at.at c.index.ensures in
+    let kids = right_of AreDepIds r.graph.nodes (ids_view d.ids.now).deps parts.place p.at.node c.self.invariant.ids.deps p.at.at in
+    let children = renamed_at c.one_reading.ensures.once d parts.place p.at.node kids.0 c.index-2.result.now c.self.invariant p.at.at kids.1 c.index-2.ensures in
+    let these = places_in c.places_under-own.result.now in
+    let those = places_in c.places_under-of_package.result.now in
+    let seen : AreLookedAt name c.index.result.now.items these = record { each = λ k s. c.places_under-own.ensures k (subst (λ (all : List NamedPlace). StandsUnder all name no_target k) (sym c.deref.ensures.value) s) } in
+    let shown : AreLookedAt name c.index-2.result.now.items those = record { each = λ k s. c.places_under-of_package.ensures k (subst (λ (all : List NamedPlace). StandsUnder all name no_target k) (sym c.deref-2.ensures.value) s) } in
+    let first = (rw (← c.self.view_is) at c.in_ok-push_answering.ensures) [] (rw c.new-referents.ensures.items (none_found r parts name)) in
+    let whole = (rw (← c.self.view_is) at c.in_ok-push_answering-2.ensures) these first in
+    if_ok_three c.in_order.result (λ items ascending from kept. sorted_in c.one_reading.ensures.once c.comparison.ensures.order r parts name (these ++ those) c.push_answering-2.new.referents.items items.items c.self.invariant.distinct p
+    (λ k kid w. answers_among c.one_reading.ensures.once r parts name kids.0 c.index.result.now.items c.index-2.result.now.items these those k kid p kids.2 own children seen shown w) whole
+    (record { ascending = ascending; from = from; kept = λ x m. (let y = kept x m in (y.0, y.1, same_place x y.0 y.2)) })) c.in_order.ensures.ascending c.in_order.ensures.from c.in_order.ensures.kept)

@@ -1,0 +1,16 @@
+use Rattle.krates_questions.proofs.NodeNumbers.{dep_number_within, dep_numbered, dep_numbers_within}
+use Rattle.krates_questions.proofs.questions.Document.child_number_at.Goals as goal
+
+pub index-requires : goal.index-requires
+index-requires c =
+    let there = (rw (← c.self.view_is) at c.requires.there) in
+    dep_numbers_within c.self.inside.lookup there.0 there.1 c.args.place c.args.index c.self.invariant there.2
+
+pub index-requires-2 : goal.index-requires-2
+index-requires-2 c =
+    let there = (rw (← c.self.view_is) at c.requires.there) in
+    dep_number_within c.one_reading.ensures.once c.self.inside.lookup there.0 there.1 c.args.place c.args.index c.index.result.now c.self.invariant there.2 c.index.ensures
+
+pub returns : goal.returns
+returns c =
+    rw (← c.self.view_is) (λ parent child at. dep_numbered c.one_reading.ensures.once c.self.inside.lookup parent child c.args.place c.args.index c.index.result.now c.index-2.result.now c.self.invariant at c.index.ensures c.index-2.ensures)
